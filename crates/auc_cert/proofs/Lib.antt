@@ -1,0 +1,15 @@
+pub mod Scale
+pub mod Sums
+pub mod PriceSums
+pub mod Duality
+pub mod Values
+pub mod Repeats
+pub mod Flags
+pub mod Judge
+pub mod Marks
+pub mod Words
+pub mod LineLaws
+pub mod Runs
+pub mod CertLines
+pub mod CertLaws
+pub mod Writes

@@ -1,0 +1,47 @@
+-- The values that the code computes fit 128 bits.
+use Rattle.std.proofs.Common.{◌≡◌, ℕ, ◌*◌, ◌<◌, ◌≤◌, ◌^◌, refl, sym, ap, ◌∙◌, arith, w64, pos}
+use Rattle.std.specs.Prelude.{ℤ, ◌+ℤ◌, ◌*ℤ◌, FitsSigned, unsigned_abs}
+use Rattle.std.specs.Int.{w128}
+use Rattle.std.proofs.Common.{lit<}
+use Rattle.std.proofs.lemmas.Int.{ints, fits_signed_mul, unsigned_abs-mul, to_z-of_z}
+use mir.Val.{to_z, of_z}
+use Rattle.std.proofs.Math.Nat.{mul-le-mul_left}
+use Rattle.std.proofs.Common.{true, eqb, List, eq-eqb}
+use Rattle.std.specs.Prelude.{int_le}
+use Rattle.auc_graph.specs.declared.arc.Arc.{Arc}
+use Rattle.auc_cert.specs.Slackness.{value}
+use Rattle.auc_cert.specs.Claim.{bears}
+
+pub wide : (z : ℤ) → FitsSigned w64 z → FitsSigned w128 z
+wide z f = omega (arith, ints, f)
+
+abs_below : (z : ℤ) → FitsSigned w64 z → unsigned_abs z ≤ 2 ^ 63
+abs_below z f = omega (arith, ints, f)
+
+pub product_fits : (s : ℕ) (c : ℤ) → s < 2 ^ 32 → FitsSigned w64 c → FitsSigned w128 (pos s *ℤ c)
+product_fits s c lt f = fits_signed_mul w128 (pos s) c (2 ^ 32) (2 ^ 63) (omega arith) (abs_below c f) (lit< tt)
+
+product_low : (s : ℕ) (c : ℤ) → s < 2 ^ 32 → FitsSigned w64 c → unsigned_abs (pos s *ℤ c) ≤ 2 ^ 95
+product_low s c lt f =
+    let abs : unsigned_abs (pos s *ℤ c) ≡ s * unsigned_abs c = unsigned_abs-mul (pos s) c in
+    let le : s * unsigned_abs c ≤ s * 2 ^ 63 = mul-le-mul_left s (abs_below c f) in
+    omega (arith, abs, le)
+
+pub value_fits : (s : ℕ) (c p : ℤ) → s < 2 ^ 32 → FitsSigned w64 c → FitsSigned w64 p → FitsSigned w128 (pos s *ℤ c +ℤ p)
+value_fits s c p lt f g = omega (arith, ints, product_low s c lt f, g)
+
+pub value_more_fits : (s : ℕ) (c p : ℤ) → s < 2 ^ 32 → FitsSigned w64 c → FitsSigned w64 p → FitsSigned w128 (pos s *ℤ c +ℤ p +ℤ pos 1)
+value_more_fits s c p lt f g = omega (arith, ints, product_low s c lt f, g)
+
+pub bears_is : (s : ℕ) (prices : List ℤ) (c a : Arc) (x y : ℤ) → c.person ≡ a.person → x ≡ value s prices c → y ≡ value s prices a → int_le x (y +ℤ pos 1) ≡ bears s prices c a
+bears_is s prices c a x y person mine theirs =
+    let same : eqb c.person a.person ≡ true = eq-eqb c.person a.person person in
+    rw (same, mine, theirs) refl
+
+-- what a test of two signed numbers says of them
+pub same_bits : (a b : ℤ) → FitsSigned w128 a → FitsSigned w64 b → of_z w128 a ≡ of_z w128 (to_z w64 (of_z w64 b)) → a ≡ b
+same_bits a b f g e =
+    sym (to_z-of_z w128 a f) ∙ ap (to_z w128) (e ∙ ap (of_z w128) (to_z-of_z w64 b g)) ∙ to_z-of_z w128 b (wide b g)
+
+pub other_bits : (a b : ℤ) → FitsSigned w64 b → (of_z w128 a ≡ of_z w128 (to_z w64 (of_z w64 b)) → ⊥) → a ≡ b → ⊥
+other_bits a b g differ same = differ (ap (of_z w128) (same ∙ sym (to_z-of_z w64 b g)))

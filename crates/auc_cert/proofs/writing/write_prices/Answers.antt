@@ -1,0 +1,15 @@
+use Rattle.std.proofs.Common.{arith, pos, rules, w64}
+use Rattle.std.specs.Prelude.{FitsSigned as SFits}
+use Rattle.std.proofs.lemmas.Int.{to_z-of_z}
+use Rattle.auc_cert.specs.Slackness.{price_at}
+use Rattle.auc_cert.specs.Text.{price_line}
+use Rattle.auc_cert.proofs.Writes.{one_more}
+use Rattle.auc_cert.proofs.writing.write_prices.Goals as goal
+
+pub loop-price-preserved : goal.loop-price-preserved
+loop-price-preserved g c = record {
+  counted = omega arith;
+  written =
+      let fits : SFits w64 (price_at c.args.prices.now c.loop-price.price-index) = search rules in
+      one_more price_line c.args.prices.now c.loop-price.price-index c.loop-price.object (pos 0) (g.W.Write.contents c.args.writer.now) (g.W.Write.contents c.loop-price.writer) (g.W.Write.contents c.write_price.new.writer) (omega arith) c.loop-price.invariant.counted c.loop-price.invariant.written (simp to_z-of_z at c.in_ok-write_price.ensures);
+}

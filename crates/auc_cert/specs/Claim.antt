@@ -1,0 +1,79 @@
+-- Which claims the checker lets pass, and which fault it names otherwise.
+use Rattle.std.specs.Prelude.{◌≡◌, ◌≢◌, ℕ, ◌+◌, ◌==◌, Bool, true, false, not, ◌&&◌, ◌||◌, if◌then◌else◌, List, [], ◌∷◌, length, map, Option, Some, None, Result, Ok, Err, ℤ, pos, ◌+ℤ◌, int_le, nat_eq}
+use Rattle.std.specs.List.{position, list_all, list_any}
+use Rattle.std.specs.Ordering.{int_eq}
+use Rattle.auc_graph.specs.declared.arc.Arc.{Arc}
+use Rattle.auc_graph.specs.Problem.{Problem}
+use Rattle.auc_cert.specs.declared.lists.Pick.{Pick}
+use Rattle.auc_cert.specs.declared.cert.CertParts.{CertParts}
+use Rattle.auc_cert.specs.declared.cert.CertParts.TheVariants.{Optimal}
+use Rattle.auc_cert.specs.declared.refused.CertRefused.{CertRefused}
+use Rattle.auc_cert.specs.declared.refused.CertRefused.TheVariants.{WrongSize, NoSuchArc, ObjectTwice, WrongCost, Slack, NoMemory}
+use Rattle.auc_graph.specs.Assignment.{total_cost, IsLeast}
+use Rattle.auc_cert.specs.Slackness.{value}
+
+-- the arc that a pick names
+abbrev pub arc_of : ℕ → Pick → Arc
+arc_of person p = record { person = person; object = p.object; cost = p.cost }
+
+-- the arcs that picks name, for the persons from k on
+abbrev pub chosen : ℕ → List Pick → List Arc
+chosen k [] = []
+chosen k (p ∷ picks) = arc_of k p ∷ chosen (k + 1) picks
+
+abbrev pub same_arc : Arc → Arc → Bool
+same_arc a b = (a.person == b.person) && (a.object == b.object) && int_eq a.cost b.cost
+
+-- no arc of the problem is this one
+abbrev pub is_missing : List Arc → Arc → Bool
+is_missing arcs c = list_all (λ a. not (same_arc c a)) arcs
+
+-- the arc is of another person, or c is worse by 1 at most
+abbrev pub bears : ℕ → List ℤ → Arc → Arc → Bool
+bears s prices c a = not (c.person == a.person) || int_le (value s prices c) (value s prices a +ℤ pos 1)
+
+abbrev pub is_slack_right : ℕ → List ℤ → List Arc → Arc → Bool
+is_slack_right s prices arcs c = list_all (bears s prices c) arcs
+
+-- the first object that stands among earlier ones, where `earlier` stands before all
+abbrev pub repeated : List ℕ → List ℕ → Option ℕ
+repeated earlier [] = None
+repeated earlier (j ∷ js) = if list_any (nat_eq j) earlier then Some j else repeated (j ∷ earlier) js
+
+-- the fault, or what comes next
+abbrev pub fault_or : Option ℕ → (ℕ → CertRefused) → Option CertRefused → Option CertRefused
+fault_or (Some k) fault next = Some (fault k)
+fault_or None fault next = next
+
+abbrev pub refused_if : Bool → CertRefused → Option CertRefused → Option CertRefused
+refused_if b fault next = if b then Some fault else next
+
+abbrev pub optimal_fault : Problem → ℤ → List Pick → List ℤ → Option CertRefused
+optimal_fault p cost choice prices =
+    refused_if (not (length choice == p.persons)) WrongSize
+    (fault_or (position (is_missing p.arcs) (chosen 0 choice)) NoSuchArc
+    (fault_or (repeated [] (map (λ c. c.object) choice)) ObjectTwice
+    (refused_if (not (int_eq cost (total_cost (chosen 0 choice)))) WrongCost
+    (fault_or (position (λ c. not (is_slack_right (p.persons + 1) prices p.arcs c)) (chosen 0 choice)) Slack
+    None))))
+
+-- the first fault of a certificate
+abbrev pub fault_of : Problem → CertParts → Option CertRefused
+fault_of p (Optimal cost choice prices) = optimal_fault p cost choice prices
+
+-- what was answered is this fault, or Ok where there is none
+abbrev pub Answers : {X : Type 0} → Result X CertRefused → Option CertRefused → Type 0
+Answers (Ok x) fault = fault ≡ None
+Answers (Err e) fault = e ≢ NoMemory → fault ≡ Some e
+
+-- what a certificate says of a problem; no price is in it
+abbrev pub IsAllowed : Problem → CertParts → Type 0
+IsAllowed p (Optimal cost choice prices) = IsLeast p (chosen 0 choice) × (total_cost (chosen 0 choice) ≡ cost)
+
+-- a flag for each person: what a test says of the arc that he picked
+abbrev pub AreFlags : (Arc → Bool) → List Pick → List Bool → Type 0
+AreFlags test choice flags = flags ≡ map test (chosen 0 choice)
+
+abbrev pub is_flag : Bool → Bool → Bool
+is_flag true b = b
+is_flag false b = not b

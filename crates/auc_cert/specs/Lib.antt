@@ -1,0 +1,7 @@
+pub mod Slackness
+pub mod Spelled
+pub mod Text
+pub mod Claim
+pub mod CertReading
+pub mod Fields
+pub mod Runs

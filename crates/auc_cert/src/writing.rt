@@ -1,0 +1,141 @@
+//! The text of a certificate, written.
+
+ghost use Rattle.std.specs.Prelude.{◌≡◌, ◌+◌, ◌++◌, ◌<◌, ◌^◌, OnOk, length};
+ghost use Rattle.std.specs.Fmt.{decimal, signed_decimal};
+ghost use Rattle.std.specs.Io.KnownBytes.{Appends};
+ghost use Rattle.auc_cert.specs.Text.{text, head_line, assign_line, price_line, optimal_line, numbered, joined};
+
+use crate::cert::{Cert, CertParts};
+use crate::lists::Pick;
+use itoa::Buffer;
+use std::io::Write;
+
+/// Why a text was not written.
+#[derive(Clone, Copy, Debug, PartialEq, Eq)]
+pub enum WriteFault {
+    /// A write failed.
+    Failed,
+    /// A write took no bytes.
+    Stopped,
+}
+
+/// Writes these bytes, all of them.
+pub fn write_whole<W: Write>(writer: &mut W, bytes: &[u8]) -> Result<(), WriteFault>
+    ensures { OnOk result (Appends (W.contents writer.old) (W.contents writer.new) bytes.now) }
+{
+    let mut rest = bytes;
+    while !rest.is_empty() {
+        match writer.write(rest) {
+            Ok(0) => return Err(WriteFault::Stopped),
+            Ok(taken) => rest = &rest[taken..],
+            Err(_) => return Err(WriteFault::Failed),
+        }
+    }
+    Ok(())
+}
+
+fn write_count<W: Write>(writer: &mut W, count: u64) -> Result<(), WriteFault>
+    ensures { OnOk result (Appends (W.contents writer.old) (W.contents writer.new) (decimal count)) }
+{
+    let mut buffer = Buffer::new();
+    write_whole(writer, buffer.format(count).as_bytes())
+}
+
+fn write_number<W: Write>(writer: &mut W, number: i64) -> Result<(), WriteFault>
+    ensures { OnOk result (Appends (W.contents writer.old) (W.contents writer.new) (signed_decimal number)) }
+{
+    let mut buffer = Buffer::new();
+    write_whole(writer, buffer.format(number).as_bytes())
+}
+
+fn write_head<W: Write>(writer: &mut W, persons: u64, cost: i64) -> Result<(), WriteFault>
+    ensures { OnOk result (Appends (W.contents writer.old) (W.contents writer.new) (head_line ++ optimal_line persons cost)) }
+{
+    write_whole(writer, b"auction 1\noptimal ")?;
+    write_count(writer, persons)?;
+    write_whole(writer, b" ")?;
+    write_number(writer, cost)?;
+    write_whole(writer, b"\n")?;
+    Ok(())
+}
+
+/// Writes the line of a person, who is numbered from 0.
+fn write_pick<W: Write>(writer: &mut W, person: u64, pick: Pick) -> Result<(), WriteFault>
+    requires { person < 2 ^ 32 }
+    ensures { OnOk result (Appends (W.contents writer.old) (W.contents writer.new) (assign_line person pick)) }
+{
+    write_whole(writer, b"assign ")?;
+    write_count(writer, person + 1)?;
+    write_whole(writer, b" ")?;
+    write_count(writer, pick.object as u64 + 1)?;
+    write_whole(writer, b" ")?;
+    write_number(writer, pick.cost)?;
+    write_whole(writer, b"\n")?;
+    Ok(())
+}
+
+/// Writes the line of an object, which is numbered from 0.
+fn write_price<W: Write>(writer: &mut W, object: u64, price: i64) -> Result<(), WriteFault>
+    requires { object < 2 ^ 32 }
+    ensures { OnOk result (Appends (W.contents writer.old) (W.contents writer.new) (price_line object price)) }
+{
+    write_whole(writer, b"price ")?;
+    write_count(writer, object + 1)?;
+    write_whole(writer, b" ")?;
+    write_number(writer, price)?;
+    write_whole(writer, b"\n")?;
+    Ok(())
+}
+
+fn write_picks<W: Write>(writer: &mut W, choice: &[Pick]) -> Result<(), WriteFault>
+    requires { length choice.now < 2 ^ 32 }
+    ensures { OnOk result (Appends (W.contents writer.old) (W.contents writer.new) (joined (numbered assign_line 0 choice.now))) }
+{
+    let mut person: u64 = 0;
+    for pick in choice {
+        write_pick(writer, person, *pick)?;
+        person += 1;
+    }
+    Ok(())
+}
+
+fn write_prices<W: Write>(writer: &mut W, prices: &[i64]) -> Result<(), WriteFault>
+    requires { length prices.now < 2 ^ 32 }
+    ensures { OnOk result (Appends (W.contents writer.old) (W.contents writer.new) (joined (numbered price_line 0 prices.now))) }
+{
+    let mut object: u64 = 0;
+    for price in prices {
+        write_price(writer, object, *price)?;
+        object += 1;
+    }
+    Ok(())
+}
+
+fn write_optimal<W: Write>(
+    writer: &mut W,
+    cost: i64,
+    choice: &[Pick],
+    prices: &[i64],
+) -> Result<(), WriteFault>
+    requires choice { length choice.now < 2 ^ 32 }
+    requires prices { length prices.now < 2 ^ 32 }
+    ensures { OnOk result (Appends (W.contents writer.old) (W.contents writer.new) (text (CertParts.Optimal cost choice.now prices.now))) }
+{
+    write_head(writer, choice.len() as u64, cost)?;
+    write_picks(writer, choice)?;
+    write_prices(writer, prices)?;
+    Ok(())
+}
+
+/// Writes the text of a certificate.
+pub fn write_cert<W: Write>(writer: &mut W, cert: &Cert) -> Result<(), WriteFault>
+    ensures { OnOk result (Appends (W.contents writer.old) (W.contents writer.new) (text cert.now)) }
+{
+    match cert.parts() {
+        CertParts::Optimal {
+            cost,
+            choice,
+            prices,
+        } => write_optimal(writer, *cost, choice.as_slice(), prices.as_slice()),
+    }
+}

@@ -1,0 +1,4 @@
+pub mod TokenLaws
+pub mod MagnitudeLaws
+pub mod NumberLaws
+pub mod ArcLaws

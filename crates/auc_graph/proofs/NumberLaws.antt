@@ -1,0 +1,136 @@
+-- What a token spells, by the parts that the code reads.
+use Rattle.std.proofs.Common.{◌≡◌, ℕ, zero, suc, ◌+◌, ◌-◌, ◌<◌, ◌≤◌, ◌^◌, min, get_or, Bool, true, false, cond, not, length, take, drop, ◌⊎◌, List, [], ◌∷◌, Option, Some, None, refl, sym, ap, ◌∙◌, arith, inl, inr}
+use Rattle.std.specs.Prelude.{ℤ, unsigned_abs}
+use Rattle.std.specs.Char.{is_ascii_digit, digit_value}
+use Rattle.std.specs.List.{list_all, prefix_len, position_or_len}
+use Rattle.std.specs.Prelude.{map, ◌==◌}
+use Rattle.std.specs.Option.{option_map, option_map_or}
+use Rattle.std.proofs.lemmas.Bool.{cases_lt, cases_Bool, and_parts}
+use Rattle.std.proofs.lemmas.Bool.Decides.{nat_tests}
+use Rattle.auc_graph.specs.declared.number.Number.{Number}
+use Rattle.auc_graph.specs.declared.number.Number.TheVariants.{Bad, Value, Huge}
+use Rattle.auc_graph.specs.Tokens.{is_separator}
+use Rattle.auc_graph.specs.Numbers.{number, numbers, numeral, magnitude, is_magnitude, split_sign, signed, sized}
+use Rattle.auc_graph.proofs.MagnitudeLaws.{none_if, magnitude_is_plain}
+use Rattle.auc_graph.proofs.TokenLaws.{no_token, next_token}
+
+pub value_of_digit : (c : ℕ) → is_ascii_digit c ≡ true → (digit_value c ≡ c - 48) × (48 ≤ c)
+value_of_digit c h = (grind (arith, nat_tests), grind (arith, nat_tests))
+
+-- those up to i are digits, and so is the one at i
+pub all_and_next : (bytes : List ℕ) (i : ℕ) → ((k : ℕ) → k < i → is_ascii_digit (get_or bytes k 0) ≡ true) → is_ascii_digit (get_or bytes i 0) ≡ true → (k : ℕ) → k < i + 1 → is_ascii_digit (get_or bytes k 0) ≡ true
+all_and_next bytes i before here k lt =
+    elim (cases_lt k i) [
+      | inl less ↦ before k less
+      | inr more ↦ let same : k ≡ i = omega arith in ap (λ (n : ℕ). is_ascii_digit (get_or bytes n 0)) same ∙ here
+    ]
+
+abs_signed : (negative : Bool) (n : ℕ) → unsigned_abs (signed negative n) ≡ n
+abs_signed true zero = refl
+abs_signed true (suc n) = refl
+abs_signed false n = refl
+
+huge : (negative : Bool) (n : ℕ) → 10 ^ 18 < n → sized (signed negative n) ≡ Huge
+huge negative n lt = rw (abs_signed negative n) (grind (arith, nat_tests))
+
+sized_capped : (negative : Bool) (n : ℕ) → sized (signed negative (min n (10 ^ 18 + 1))) ≡ sized (signed negative n)
+sized_capped negative n =
+    elim (cases_lt (10 ^ 18) n) [
+      | inl lt ↦ huge negative (min n (10 ^ 18 + 1)) (omega arith) ∙ sym (huge negative n lt)
+      | inr le ↦ ap (λ (m : ℕ). sized (signed negative m)) (omega arith)
+    ]
+
+none_from : (negative : Bool) (o : Option ℕ) → option_map (λ n. min n (10 ^ 18 + 1)) o ≡ None → option_map_or sized (option_map (signed negative) o) Bad ≡ Bad
+none_from negative None h = refl
+none_from negative (Some n) h = absurd cc
+
+some_from : (negative : Bool) (o : Option ℕ) (m : ℕ) → option_map (λ n. min n (10 ^ 18 + 1)) o ≡ Some m → option_map_or sized (option_map (signed negative) o) Bad ≡ sized (signed negative m)
+some_from negative None m h = absurd cc
+some_from negative (Some n) m h =
+    let e : min n (10 ^ 18 + 1) ≡ m = cc in
+    sym (sized_capped negative n) ∙ ap (λ (k : ℕ). sized (signed negative k)) e
+
+pub number_none : (token : List ℕ) → option_map (λ n. min n (10 ^ 18 + 1)) (magnitude (split_sign token).1) ≡ None → number token ≡ Bad
+unfolding number numeral
+number_none token h = none_from (split_sign token).0 (magnitude (split_sign token).1) h
+
+pub number_some : (token : List ℕ) (m : ℕ) → option_map (λ n. min n (10 ^ 18 + 1)) (magnitude (split_sign token).1) ≡ Some m → number token ≡ sized (signed (split_sign token).0 m)
+unfolding number numeral
+number_some token m h = some_from (split_sign token).0 (magnitude (split_sign token).1) m h
+
+-- ---- the sign
+
+sign_is : (b : ℕ) (bytes : List ℕ) → ((split_sign (b ∷ bytes)).1 ≡ bytes) × (is_separator b ≡ false) × ((n : ℕ) → split_sign (b ∷ take n bytes) ≡ ((split_sign (b ∷ bytes)).0, take n bytes)) ⊎ ((split_sign (b ∷ bytes) ≡ (false, b ∷ bytes)) × ((more : List ℕ) → split_sign (b ∷ more) ≡ (false, b ∷ more)))
+unfolding split_sign is_separator
+sign_is b bytes =
+    elim (cases_Bool (b == 43)) [
+      | inl plus ↦ inl (rw plus refl, grind (arith, nat_tests), λ n. rw plus refl)
+      | inr no_plus ↦ elim (cases_Bool (b == 45)) [
+        | inl minus ↦ inl (rw (no_plus, minus) refl, grind (arith, nat_tests), λ n. rw (no_plus, minus) refl)
+        | inr no_minus ↦ inr (rw (no_plus, no_minus) refl, λ more. rw (no_plus, no_minus) refl)
+      ]
+    ]
+
+pub sign_len : (bytes rest : List ℕ) (negative : Bool) → (negative, rest) ≡ split_sign bytes → position_or_len is_separator bytes ≡ length bytes - length rest + position_or_len is_separator rest
+unfolding split_sign
+sign_len [] rest negative is =
+    let none : rest ≡ [] = ap (λ x. x.1) is in
+    omega (arith, ap length none, ap (position_or_len is_separator) none)
+sign_len (b ∷ bytes) rest negative is =
+    elim (sign_is b bytes) [
+      | inl sign ↦
+          let rest_is : rest ≡ bytes = ap (λ x. x.1) is ∙ sign.0 in
+          let more : position_or_len is_separator (b ∷ bytes) ≡ suc (position_or_len is_separator bytes) = rw sign.1 (omega arith) in
+          omega (arith, more, ap length rest_is, ap (position_or_len is_separator) rest_is)
+      | inr unsigned ↦
+          let rest_is : rest ≡ b ∷ bytes = ap (λ x. x.1) is ∙ ap (λ x. x.1) unsigned.0 in
+          omega (arith, ap length rest_is, ap (position_or_len is_separator) rest_is)
+    ]
+
+take_nothing : (n : ℕ) → take {A = ℕ} n [] ≡ []
+take_nothing zero = refl
+take_nothing (suc n) = refl
+
+unsigned_text : (b : ℕ) (bytes : List ℕ) (n : ℕ) → ((more : List ℕ) → split_sign (b ∷ more) ≡ (false, b ∷ more)) → split_sign (take n (b ∷ bytes)) ≡ (false, take n (b ∷ bytes))
+unfolding split_sign
+unsigned_text b bytes zero is = refl
+unsigned_text b bytes (suc n) is = is (take n bytes)
+
+pub sign_text : (bytes rest : List ℕ) (negative : Bool) (n : ℕ) → (negative, rest) ≡ split_sign bytes → split_sign (take (length bytes - length rest + n) bytes) ≡ (negative, take n rest)
+unfolding split_sign
+sign_text [] rest negative n is =
+    let front : ◌≡◌ {A = Bool × List ℕ} (negative, take n rest) (false, take n []) = ap (λ x. (x.0, take n x.1)) is in
+    let none : ◌≡◌ {A = Bool × List ℕ} (false, take n []) (false, []) = ap (λ (t : List ℕ). (false, t)) (take_nothing n) in
+    ap split_sign (take_nothing (length {A = ℕ} [] - length rest + n)) ∙ sym (front ∙ none)
+sign_text (b ∷ bytes) rest negative n is =
+    elim (sign_is b bytes) [
+      | inl sign ↦
+          let rest_is : rest ≡ bytes = ap (λ x. x.1) is ∙ sign.0 in
+          let count : suc (length bytes) - length rest + n ≡ suc n = omega (arith, ap length rest_is) in
+          ap (λ (m : ℕ). split_sign (take m (b ∷ bytes))) count ∙ sign.2 n
+          ∙ ap (λ (t : List ℕ). ((split_sign (b ∷ bytes)).0, take n t)) (sym sign.0) ∙ sym (ap (λ x. (x.0, take n x.1)) is)
+      | inr unsigned ↦
+          let rest_is : rest ≡ b ∷ bytes = ap (λ x. x.1) is ∙ ap (λ x. x.1) unsigned.0 in
+          let count : suc (length bytes) - length rest + n ≡ n = omega (arith, ap length rest_is) in
+          ap (λ (m : ℕ). split_sign (take m (b ∷ bytes))) count ∙ unsigned_text b bytes n unsigned.1 ∙ sym (ap (λ x. (x.0, take n x.1)) (is ∙ unsigned.0))
+    ]
+
+-- ---- a token has no separator in it
+
+pub parted_is_bad : (token : List ℕ) → position_or_len is_separator token < length token → number token ≡ Bad
+parted_is_bad token lt =
+    elim (cases_Bool (is_magnitude (split_sign token).1)) [
+      | inl fine ↦ absurd (omega (arith, sign_len token (split_sign token).1 (split_sign token).0 refl, magnitude_is_plain (split_sign token).1 fine))
+      | inr broken ↦ number_none token (ap (λ (o : Option ℕ). option_map (λ n. min n (10 ^ 18 + 1)) o) (none_if (split_sign token).1 broken))
+    ]
+
+-- ---- the numbers of a text
+
+pub numbers_none : (text : List ℕ) → length text ≤ prefix_len is_separator text → numbers text ≡ []
+unfolding numbers
+numbers_none text h = ap (map number) (no_token text h)
+
+pub numbers_next : (text : List ℕ) (s n : ℕ) → s ≡ prefix_len is_separator text → s < length text → n ≡ position_or_len is_separator (drop s text)
+    → (0 < n) × (numbers text ≡ number (take n (drop s text)) ∷ numbers (drop n (drop s text)))
+unfolding numbers
+numbers_next text s n es lt en = let next = next_token text s n es lt en in (next.0, ap (map number) next.1)

@@ -1,0 +1,5 @@
+pub mod Tokens
+pub mod Numbers
+pub mod Problem
+pub mod Reading
+pub mod Assignment

@@ -1,0 +1,51 @@
+-- The number that a token spells.
+use Rattle.std.specs.Prelude.{ℕ, suc, ◌+◌, ◌*◌, ◌^◌, Bool, true, false, ◌&&◌, ◌==◌, nat_le, if◌then◌else◌, List, [], ◌∷◌, Option, Some, None, map, ℤ, pos, neg_ℤ, unsigned_abs}
+use Rattle.std.specs.Option.{option_map, option_map_or}
+use Rattle.std.specs.List.{before_first, after_first, list_all, prefix_len}
+use Rattle.std.specs.Char.{is_ascii_digit}
+use Rattle.std.specs.Str.Parse.{digits_value}
+use Rattle.auc_graph.specs.declared.number.Number.{Number}
+use Rattle.auc_graph.specs.declared.number.Number.TheVariants.{Bad, Value, Huge}
+use Rattle.auc_graph.specs.Tokens.{is_nonempty, tokens}
+
+abbrev pub is_point : ℕ → Bool
+is_point b = b == 46
+
+abbrev pub is_zero : ℕ → Bool
+is_zero b = b == 48
+
+-- one or more digits, and optionally a point that zeros only may follow
+unfoldable pub is_magnitude : List ℕ → Bool
+is_magnitude bytes = is_nonempty (before_first is_point bytes) && list_all is_ascii_digit (before_first is_point bytes) && list_all is_zero (after_first is_point bytes)
+
+-- what such bytes stand for
+unfoldable pub magnitude : List ℕ → Option ℕ
+magnitude bytes = if is_magnitude bytes then Some (digits_value 10 (before_first is_point bytes)) else None
+
+-- whether a minus stands in front, and what stands behind the sign, where there is one
+unfoldable pub split_sign : List ℕ → Bool × List ℕ
+split_sign [] = (false, [])
+split_sign (b ∷ bytes) = if b == 43 then (false, bytes) else (if b == 45 then (true, bytes) else (false, b ∷ bytes))
+
+abbrev pub signed : Bool → ℕ → ℤ
+signed negative n = if negative then neg_ℤ (pos n) else pos n
+
+-- the number that a token spells, of any size: an optional sign and a magnitude
+unfoldable pub numeral : List ℕ → Option ℤ
+numeral token = option_map (signed (split_sign token).0) (magnitude (split_sign token).1)
+
+-- a number by its size: of more than 10 ^ 18 no more is said
+abbrev pub sized : ℤ → Number
+sized z = if nat_le (unsigned_abs z) (10 ^ 18) then Value z else Huge
+
+unfoldable pub number : List ℕ → Number
+number token = option_map_or sized (numeral token) Bad
+
+-- what the tokens of a text are as numbers
+unfoldable pub numbers : List ℕ → List Number
+numbers text = map number (tokens text)
+
+-- how many bytes a point and the zeros behind it take at the front
+abbrev pub fraction_len : List ℕ → ℕ
+fraction_len [] = 0
+fraction_len (b ∷ bytes) = if is_point b then suc (prefix_len is_zero bytes) else 0

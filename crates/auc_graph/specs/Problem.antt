@@ -1,0 +1,24 @@
+-- The assignment problem in sparse form.
+use Rattle.std.specs.Prelude.{◌≡◌, ℕ, ◌≤◌, ◌<◌, ◌^◌, List, length, All, ℤ, pos, neg_ℤ, ◌≤ℤ◌}
+use Rattle.auc_graph.specs.declared.arc.Arc.{Arc}
+use Rattle.auc_graph.specs.declared.limits.TheConstants.{MOST_PERSONS, MOST_ARCS, MOST_COST}
+
+pub record Problem : Type 0 where
+  pub persons : ℕ
+  pub objects : ℕ
+  pub arcs : List Arc
+
+-- an arc of a problem with so many persons and objects
+pub record IsWithin (persons objects : ℕ) (arc : Arc) : Type 0 where
+  pub person : arc.person < persons
+  pub object : arc.object < objects
+  pub low : neg_ℤ MOST_COST ≤ℤ arc.cost
+  pub high : arc.cost ≤ℤ MOST_COST
+
+-- what holds of each problem
+pub record IsProblem (p : Problem) : Type 0 where
+  pub some : 1 ≤ p.persons
+  pub most : p.persons ≤ MOST_PERSONS
+  pub square : p.objects ≡ p.persons
+  pub few : length p.arcs ≤ MOST_ARCS
+  pub within : All (IsWithin p.persons p.objects) p.arcs

@@ -1,0 +1,70 @@
+//! Arcs, and the list of them that makes a problem.
+
+ghost use Rattle.std.specs.Prelude.{◌≡◌, length};
+
+use std::marker::Model;
+
+/// An arc: this person may take this object at this cost, a cost of the file.
+#[derive(Clone, Copy, Debug, PartialEq, Eq)]
+pub struct Arc {
+    // The widest field stands first: so an arc takes 16 bytes.
+    pub cost: i64,
+    pub person: u32,
+    pub object: u32,
+}
+
+/// A problem: its persons, its objects and its arcs, in the order of the text. All numbers are within the limits.
+#[derive(Debug, Drop)]
+pub struct ArcList {
+    persons: u32,
+    objects: u32,
+    arcs: Vec<Arc>,
+}
+
+impl Model for ArcList {
+    ghost use Rattle.auc_graph.specs.Problem.{Problem, IsProblem};
+
+    ghost Value = { Problem };
+
+    ghost view = { λ a. record { persons = a.persons; objects = a.objects; arcs = a.arcs.items } };
+
+    ghost invariant = { λ a. IsProblem (record { persons = a.persons; objects = a.objects; arcs = a.arcs.items }) };
+}
+
+impl ArcList {
+    ghost use Rattle.auc_graph.specs.Problem.{IsProblem};
+
+    /// The problem of as many objects as persons that has these arcs.
+    pub(crate) fn make(persons: u32, arcs: Vec<Arc>) -> Self
+        requires { IsProblem (record { persons = persons; objects = persons; arcs = arcs.items }) }
+        ensures { result ≡ record { persons = persons; objects = persons; arcs = arcs.items } }
+    {
+        ArcList {
+            persons,
+            objects: persons,
+            arcs,
+        }
+    }
+
+    /// The number of persons, who are numbered from 0.
+    pub fn persons(&self) -> u32
+        ensures { result ≡ self.now.persons }
+    {
+        self.persons
+    }
+
+    /// The number of objects, which are numbered from 0.
+    pub fn objects(&self) -> u32
+        ensures { result ≡ self.now.objects }
+    {
+        self.objects
+    }
+
+    /// The arcs, in the order of the text. One that was listed twice stands twice.
+    pub fn arcs(&self) -> &[Arc]
+        ensures arcs { result.now ≡ self.now.arcs }
+        ensures problem { IsProblem self.now }
+    {
+        self.arcs.as_slice()
+    }
+}

@@ -1,0 +1,22 @@
+//! Sparse assignment problems and their reader: a list of arcs is just what the text reads as.
+//!
+//! Reading takes one pass over the bytes of the text, with no copy of it, and 16 bytes of memory an arc. Persons,
+//! objects, tokens and arcs are numbered from 0.
+#![tactic(auto)]
+
+mod arc;
+mod limits;
+mod number;
+mod read_error;
+mod reading;
+mod tokens;
+
+pub use arc::{Arc, ArcList};
+pub use limits::{MOST_ARCS, MOST_COST, MOST_PERSONS, MOST_READS};
+pub use number::{Number, number_of};
+pub use read_error::ReadError;
+pub use reading::{ReadLimits, read_arcs};
+pub use tokens::{Token, token_at};
+
+#[cfg(test)]
+mod tests;

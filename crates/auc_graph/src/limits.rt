@@ -1,0 +1,13 @@
+//! The limits of a problem.
+
+/// The most persons of a problem; there are as many objects.
+pub const MOST_PERSONS: u32 = 10_000;
+
+/// The most arcs of a problem.
+pub const MOST_ARCS: u32 = 33_554_432;
+
+/// The most calls of `read` that reach the end of an input.
+pub const MOST_READS: u32 = 1_073_741_824;
+
+/// The greatest magnitude of a cost.
+pub const MOST_COST: i64 = 1_000_000_000;

@@ -1,15 +1,17 @@
 pub mod Scale
-pub mod Sums
+pub mod CostSums
 pub mod PriceSums
 pub mod Duality
-pub mod Values
-pub mod Repeats
-pub mod Flags
-pub mod Judge
-pub mod Marks
-pub mod Words
+pub mod ValueLaws
+pub mod RepeatLaws
+pub mod FlagLaws
+pub mod ClaimLaws
+pub mod NumberWords
+pub mod WordLaws
 pub mod LineLaws
-pub mod Runs
-pub mod CertLines
+pub mod RunLaws
+pub mod TextLines
+pub mod ChoiceLaws
 pub mod CertLaws
-pub mod Writes
+pub mod WriteLaws
+mod WorkedClaims

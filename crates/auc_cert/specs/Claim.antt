@@ -1,5 +1,6 @@
 -- Which claims the checker lets pass, and which fault it names otherwise.
-use Rattle.std.specs.Prelude.{◌≡◌, ◌≢◌, ℕ, ◌+◌, ◌==◌, Bool, true, false, not, ◌&&◌, ◌||◌, if◌then◌else◌, List, [], ◌∷◌, length, map, Option, Some, None, Result, Ok, Err, ℤ, pos, ◌+ℤ◌, int_le, nat_eq}
+use Rattle.std.specs.Prelude.{◌≡◌, ◌≢◌, ℕ, ◌+◌, ◌==◌, Bool, true, false, not, ◌&&◌, ◌||◌, if◌then◌else◌, List, [], ◌∷◌, ◌++◌, length, map, Option, Some, None, Result, Ok, Err, ℤ, pos, ◌+ℤ◌, int_le, nat_eq}
+use Rattle.std.specs.Option.{option_map}
 use Rattle.std.specs.List.{position, list_all, list_any}
 use Rattle.std.specs.Ordering.{int_eq}
 use Rattle.auc_graph.specs.declared.arc.Arc.{Arc}
@@ -40,26 +41,35 @@ abbrev pub repeated : List ℕ → List ℕ → Option ℕ
 repeated earlier [] = None
 repeated earlier (j ∷ js) = if list_any (nat_eq j) earlier then Some j else repeated (j ∷ earlier) js
 
--- the fault, or what comes next
-abbrev pub fault_or : Option ℕ → (ℕ → CertRefused) → Option CertRefused → Option CertRefused
-fault_or (Some k) fault next = Some (fault k)
-fault_or None fault next = next
+abbrev pub fault_if : Bool → CertRefused → Option CertRefused
+fault_if b fault = if b then Some fault else None
 
-abbrev pub refused_if : Bool → CertRefused → Option CertRefused → Option CertRefused
-refused_if b fault next = if b then Some fault else next
+-- what the tests of a choice find, in their order
+abbrev pub choice_faults : Problem → ℤ → List Pick → List (Option CertRefused)
+choice_faults p cost choice =
+    fault_if (not (length choice == p.persons)) WrongSize
+    ∷ option_map (λ i. NoSuchArc i) (position (is_missing p.arcs) (chosen 0 choice))
+    ∷ option_map (λ j. ObjectTwice j) (repeated [] (map (λ c. c.object) choice))
+    ∷ fault_if (not (int_eq cost (total_cost (chosen 0 choice)))) WrongCost
+    ∷ []
 
-abbrev pub optimal_fault : Problem → ℤ → List Pick → List ℤ → Option CertRefused
-optimal_fault p cost choice prices =
-    refused_if (not (length choice == p.persons)) WrongSize
-    (fault_or (position (is_missing p.arcs) (chosen 0 choice)) NoSuchArc
-    (fault_or (repeated [] (map (λ c. c.object) choice)) ObjectTwice
-    (refused_if (not (int_eq cost (total_cost (chosen 0 choice)))) WrongCost
-    (fault_or (position (λ c. not (is_slack_right (p.persons + 1) prices p.arcs c)) (chosen 0 choice)) Slack
-    None))))
+-- what the test of slackness finds: the first person with a better arc
+abbrev pub slack_fault : Problem → List Pick → List ℤ → Option CertRefused
+slack_fault p choice prices = option_map (λ i. Slack i) (position (λ c. not (is_slack_right (p.persons + 1) prices p.arcs c)) (chosen 0 choice))
 
--- the first fault of a certificate
+-- what the tests of a claim find, in their order
+abbrev pub faults_of : Problem → CertParts → List (Option CertRefused)
+faults_of p (Optimal cost choice prices) = choice_faults p cost choice ++ slack_fault p choice prices ∷ []
+
+-- the first fault that was found
+abbrev pub first_of : List (Option CertRefused) → Option CertRefused
+first_of [] = None
+first_of (None ∷ faults) = first_of faults
+first_of (Some e ∷ faults) = Some e
+
+-- the fault of a claim, or none
 abbrev pub fault_of : Problem → CertParts → Option CertRefused
-fault_of p (Optimal cost choice prices) = optimal_fault p cost choice prices
+fault_of p c = first_of (faults_of p c)
 
 -- what was answered is this fault, or Ok where there is none
 abbrev pub Answers : {X : Type 0} → Result X CertRefused → Option CertRefused → Type 0
@@ -70,7 +80,7 @@ Answers (Err e) fault = e ≢ NoMemory → fault ≡ Some e
 abbrev pub IsAllowed : Problem → CertParts → Type 0
 IsAllowed p (Optimal cost choice prices) = IsLeast p (chosen 0 choice) × (total_cost (chosen 0 choice) ≡ cost)
 
--- a flag for each person: what a test says of the arc that he picked
+-- a flag for each person, by what a test says of the arc that he picked
 abbrev pub AreFlags : (Arc → Bool) → List Pick → List Bool → Type 0
 AreFlags test choice flags = flags ≡ map test (chosen 0 choice)
 

@@ -1,23 +1,30 @@
-//! Certificates, their text and their checker.
+//! Certificates, their text and their checker: what [`check`] accepts is true of the problem, of all its assignments.
+//!
+//! A certificate is a claim with what shows it. It has one spelling, which [`read_cert`] reads and [`write_cert`] writes.
+//! Nobody who made a certificate has to be trusted: a claim that is accepted is proved, whoever found it.
 #![tactic(auto)]
 
 mod cert;
+mod cert_lines;
 mod checking;
+mod choice_reading;
+mod fields;
+mod flags;
+mod laws;
+mod limits;
 mod lists;
+mod picks;
 mod reading;
 mod refused;
 mod text_error;
-mod weak_duality;
 mod writing;
 
 pub use cert::{Cert, CertParts};
 pub use checking::check;
+pub use laws::{faultless_claims_are_allowed, no_spelling_begins_another, slack_right_costs_least};
+pub use limits::HIGHEST_PRICE;
 pub use lists::{Pick, Picks, Prices};
 pub use reading::read_cert;
 pub use refused::CertRefused;
 pub use text_error::CertTextError;
-pub use weak_duality::slack_right_costs_least;
 pub use writing::{WriteFault, write_cert, write_whole};
-
-#[cfg(test)]
-mod tests;

@@ -9,17 +9,20 @@ use crate::cert::{Cert, CertParts};
 use crate::lists::Pick;
 use itoa::Buffer;
 use std::io::Write;
+use thiserror::Error;
 
-/// Why a text was not written.
-#[derive(Clone, Copy, Debug, PartialEq, Eq)]
+/// Why a text was not written. What went out before is not told.
+#[derive(Clone, Copy, Debug, PartialEq, Eq, Error)]
 pub enum WriteFault {
-    /// A write failed.
+    /// A write failed; an interrupted one too.
+    #[error("a write failed")]
     Failed,
     /// A write took no bytes.
+    #[error("a write took no bytes")]
     Stopped,
 }
 
-/// Writes these bytes, all of them.
+/// Writes these bytes, all of them, by as many calls of `write` as that takes. Takes no memory.
 pub fn write_whole<W: Write>(writer: &mut W, bytes: &[u8]) -> Result<(), WriteFault>
     ensures { OnOk result (Appends (W.contents writer.old) (W.contents writer.new) bytes.now) }
 {
@@ -34,6 +37,7 @@ pub fn write_whole<W: Write>(writer: &mut W, bytes: &[u8]) -> Result<(), WriteFa
     Ok(())
 }
 
+/// Writes a number in decimal.
 fn write_count<W: Write>(writer: &mut W, count: u64) -> Result<(), WriteFault>
     ensures { OnOk result (Appends (W.contents writer.old) (W.contents writer.new) (decimal count)) }
 {
@@ -41,6 +45,7 @@ fn write_count<W: Write>(writer: &mut W, count: u64) -> Result<(), WriteFault>
     write_whole(writer, buffer.format(count).as_bytes())
 }
 
+/// Writes a number in decimal, with a minus where it is negative.
 fn write_number<W: Write>(writer: &mut W, number: i64) -> Result<(), WriteFault>
     ensures { OnOk result (Appends (W.contents writer.old) (W.contents writer.new) (signed_decimal number)) }
 {
@@ -48,6 +53,7 @@ fn write_number<W: Write>(writer: &mut W, number: i64) -> Result<(), WriteFault>
     write_whole(writer, buffer.format(number).as_bytes())
 }
 
+/// Writes the first two lines of an optimal certificate.
 fn write_head<W: Write>(writer: &mut W, persons: u64, cost: i64) -> Result<(), WriteFault>
     ensures { OnOk result (Appends (W.contents writer.old) (W.contents writer.new) (head_line ++ optimal_line persons cost)) }
 {
@@ -87,6 +93,7 @@ fn write_price<W: Write>(writer: &mut W, object: u64, price: i64) -> Result<(), 
     Ok(())
 }
 
+/// Writes the lines of all persons.
 fn write_picks<W: Write>(writer: &mut W, choice: &[Pick]) -> Result<(), WriteFault>
     requires { length choice.now < 2 ^ 32 }
     ensures { OnOk result (Appends (W.contents writer.old) (W.contents writer.new) (joined (numbered assign_line 0 choice.now))) }
@@ -99,6 +106,7 @@ fn write_picks<W: Write>(writer: &mut W, choice: &[Pick]) -> Result<(), WriteFau
     Ok(())
 }
 
+/// Writes the lines of all objects.
 fn write_prices<W: Write>(writer: &mut W, prices: &[i64]) -> Result<(), WriteFault>
     requires { length prices.now < 2 ^ 32 }
     ensures { OnOk result (Appends (W.contents writer.old) (W.contents writer.new) (joined (numbered price_line 0 prices.now))) }
@@ -127,7 +135,8 @@ fn write_optimal<W: Write>(
     Ok(())
 }
 
-/// Writes the text of a certificate.
+/// Writes the text of a certificate, the one that [`read_cert`](crate::read_cert) reads. On an error some of it may have
+/// gone out. Takes O(persons) writes and no memory.
 pub fn write_cert<W: Write>(writer: &mut W, cert: &Cert) -> Result<(), WriteFault>
     ensures { OnOk result (Appends (W.contents writer.old) (W.contents writer.new) (text cert.now)) }
 {

@@ -1,5 +1,5 @@
 -- The arcs of a text, one by one.
-use Rattle.std.proofs.Common.{◌≡◌, ℕ, zero, suc, ◌+◌, ◌*◌, ◌-◌, ◌<◌, ◌≤◌, List, [], ◌∷◌, ◌++◌, length, Result, Ok, Err, refl, sym, ap, ◌∙◌, arith, append_assoc}
+use Rattle.std.proofs.Common.{◌≡◌, ℕ, ◌+◌, ◌*◌, ◌<◌, ◌≤◌, List, [], ◌∷◌, ◌++◌, length, Result, Ok, Err, refl, sym, ap, ◌∙◌, arith, append_assoc}
 use Rattle.std.specs.Prelude.{ℤ}
 use Rattle.std.proofs.lemmas.List.{append-nil, length-append}
 use Rattle.std.proofs.lemmas.Bool.Decides.{nat_tests}
@@ -7,7 +7,7 @@ use Rattle.auc_graph.specs.declared.number.Number.{Number}
 use Rattle.auc_graph.specs.declared.arc.Arc.{Arc}
 use Rattle.auc_graph.specs.declared.read_error.ReadError.{ReadError}
 use Rattle.auc_graph.specs.declared.read_error.ReadError.TheVariants.{TooManyArcs, PersonRange, ObjectRange, CostRange, Cut}
-use Rattle.auc_graph.specs.Reading.{◌>>=◌, index, cost, arc_of, room, next, arc_at, arcs_from}
+use Rattle.auc_graph.specs.Reading.{◌>>=◌, index, cost, arc_of, room, arc_at, arcs_from}
 
 abbrev err : {A : Type 0} → ReadError → Result A ReadError
 err e = Err e

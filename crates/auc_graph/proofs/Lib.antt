@@ -2,3 +2,4 @@ pub mod TokenLaws
 pub mod MagnitudeLaws
 pub mod NumberLaws
 pub mod ArcLaws
+mod WorkedTexts

@@ -1,5 +1,5 @@
 -- The magnitude at the front of a text, by the parts that are read: digits, a point with zeros, and what is too much.
-use Rattle.std.proofs.Common.{◌≡◌, ℕ, zero, suc, ◌+◌, ◌-◌, ◌<◌, ◌≤◌, Bool, true, false, not, List, [], ◌∷◌, ◌++◌, length, take, drop, get_or, Option, Some, None, refl, sym, ap, ◌∙◌, arith, inl, inr, ◌⊎◌}
+use Rattle.std.proofs.Common.{◌≡◌, ℕ, zero, suc, ◌+◌, ◌<◌, ◌≤◌, Bool, true, false, not, List, [], ◌∷◌, ◌++◌, length, take, drop, get_or, Some, None, refl, sym, ap, ◌∙◌, arith, inl, inr, ◌⊎◌}
 use Rattle.std.specs.List.{prefix_len, position_or_len, before_first, after_first, list_all}
 use Rattle.std.specs.Char.{is_ascii_digit}
 use Rattle.std.specs.Str.Parse.{digits_value}
@@ -57,7 +57,7 @@ behind p (x ∷ xs) ys h =
     let e : position_or_len p (x ∷ (xs ++ ys)) ≡ suc (position_or_len p (xs ++ ys)) = rw parts.0 (omega arith) in
     e ∙ ap suc (behind p xs ys parts.1) ∙ omega arith
 
-digit_is_no_separator : (c : ℕ) → is_ascii_digit c ≡ true → is_separator c ≡ false
+pub digit_is_no_separator : (c : ℕ) → is_ascii_digit c ≡ true → is_separator c ≡ false
 unfolding is_separator
 digit_is_no_separator c h = grind (arith, nat_tests)
 
@@ -209,7 +209,7 @@ no_digits (b ∷ rest) zero stops is =
 
 -- ---- the whole token, by how long its parts are
 
-digits_pass : (bytes : List ℕ) (d : ℕ) → d ≡ prefix_len is_ascii_digit bytes → list_all is_ascii_digit (take d bytes) ≡ true
+pub digits_pass : (bytes : List ℕ) (d : ℕ) → d ≡ prefix_len is_ascii_digit bytes → list_all is_ascii_digit (take d bytes) ≡ true
 digits_pass bytes d is = ap (λ (n : ℕ). list_all is_ascii_digit (take n bytes)) is ∙ all_taken is_ascii_digit bytes
 
 digits_stop : (bytes : List ℕ) (d : ℕ) → d ≡ prefix_len is_ascii_digit bytes → (c : ℕ) (more : List ℕ) → drop d bytes ≡ c ∷ more → is_ascii_digit c ≡ false
@@ -282,7 +282,7 @@ none_of_parts bytes d f e h (inr some) =
     ∙ ap (λ (n : ℕ). magnitude (take d bytes ++ (take n (drop d bytes) ++ take e (drop n (drop d bytes))))) h.point_is
     ∙ excess_parts (take d bytes) (drop d bytes) e (digits_pass bytes d h.digits_are) (digits_stop bytes d h.digits_are) own some
 
-some_digits : (bytes : List ℕ) (d : ℕ) → 0 < d → d ≤ length bytes → is_nonempty (take d bytes) ≡ true
+pub some_digits : (bytes : List ℕ) (d : ℕ) → 0 < d → d ≤ length bytes → is_nonempty (take d bytes) ≡ true
 some_digits bytes zero some few = absurd (omega arith)
 some_digits [] (suc d) some few = absurd (omega arith)
 some_digits (b ∷ bytes) (suc d) some few = refl

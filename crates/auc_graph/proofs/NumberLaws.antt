@@ -1,18 +1,23 @@
 -- What a token spells, by the parts that the code reads.
-use Rattle.std.proofs.Common.{◌≡◌, ℕ, zero, suc, ◌+◌, ◌-◌, ◌<◌, ◌≤◌, ◌^◌, min, get_or, Bool, true, false, cond, not, length, take, drop, ◌⊎◌, List, [], ◌∷◌, Option, Some, None, refl, sym, ap, ◌∙◌, arith, inl, inr}
-use Rattle.std.specs.Prelude.{ℤ, unsigned_abs}
+use Rattle.std.proofs.Common.{◌≡◌, ℕ, zero, suc, ◌+◌, ◌-◌, ◌<◌, ◌≤◌, ◌^◌, min, get_or, Bool, true, false, length, take, drop, ◌⊎◌, List, [], ◌∷◌, Option, Some, None, refl, sym, ap, ◌∙◌, arith, inl, inr}
+use Rattle.std.specs.Prelude.{unsigned_abs}
 use Rattle.std.specs.Char.{is_ascii_digit, digit_value}
-use Rattle.std.specs.List.{list_all, prefix_len, position_or_len}
+use Rattle.std.specs.List.{prefix_len, position_or_len}
 use Rattle.std.specs.Prelude.{map, ◌==◌}
 use Rattle.std.specs.Option.{option_map, option_map_or}
 use Rattle.std.proofs.lemmas.Bool.{cases_lt, cases_Bool, and_parts}
 use Rattle.std.proofs.lemmas.Bool.Decides.{nat_tests}
-use Rattle.auc_graph.specs.declared.number.Number.{Number}
-use Rattle.auc_graph.specs.declared.number.Number.TheVariants.{Bad, Value, Huge}
-use Rattle.auc_graph.specs.Tokens.{is_separator}
-use Rattle.auc_graph.specs.Numbers.{number, numbers, numeral, magnitude, is_magnitude, split_sign, signed, sized}
-use Rattle.auc_graph.proofs.MagnitudeLaws.{none_if, magnitude_is_plain}
-use Rattle.auc_graph.proofs.TokenLaws.{no_token, next_token}
+use Rattle.auc_graph.specs.declared.number.Number.TheVariants.{Bad, Huge}
+use Rattle.std.specs.Prelude.{nat_le, pos}
+use Rattle.std.specs.List.{list_all}
+use Rattle.auc_graph.specs.declared.number.Number.TheVariants.{Value}
+use Rattle.std.specs.Str.Parse.{digits_value}
+use Rattle.std.proofs.lemmas.List.{append-nil}
+use Rattle.std.proofs.lemmas.List.Sums.{position_or_len_is}
+use Rattle.auc_graph.specs.Tokens.{is_nonempty, is_separator}
+use Rattle.auc_graph.specs.Numbers.{IsPlainToken, number, numbers, numeral, magnitude, is_magnitude, split_sign, signed, sized}
+use Rattle.auc_graph.proofs.MagnitudeLaws.{none_if, magnitude_is_plain, digit_is_no_separator, digits_pass, some_digits, some_parts}
+use Rattle.auc_graph.proofs.TokenLaws.{no_token, next_token, prefix_len_is}
 
 pub value_of_digit : (c : ℕ) → is_ascii_digit c ≡ true → (digit_value c ≡ c - 48) × (48 ≤ c)
 value_of_digit c h = (grind (arith, nat_tests), grind (arith, nat_tests))
@@ -134,3 +139,47 @@ pub numbers_next : (text : List ℕ) (s n : ℕ) → s ≡ prefix_len is_separat
     → (0 < n) × (numbers text ≡ number (take n (drop s text)) ∷ numbers (drop n (drop s text)))
 unfolding numbers
 numbers_next text s n es lt en = let next = next_token text s n es lt en in (next.0, ap (map number) next.1)
+
+-- ---- a token that is a few digits
+
+-- digits, and then a separator
+pub plain_token : (bytes : List ℕ) (value i : ℕ) → 0 < i → i < length bytes → ((k : ℕ) → k < i → is_ascii_digit (get_or bytes k 0) ≡ true) → is_ascii_digit (get_or bytes i 0) ≡ false → is_separator (get_or bytes i 0) ≡ true
+    → value ≡ digits_value 10 (take i bytes) → value < 10 ^ 18 → IsPlainToken bytes value i
+plain_token bytes value i some lt digits stop parted is small =
+    let count : prefix_len is_ascii_digit bytes ≡ i = prefix_len_is is_ascii_digit bytes i (omega arith) digits (λ _. stop) in
+    record {
+      token = sym (position_or_len_is is_separator bytes i 0 (omega arith) (λ k below. digit_is_no_separator (get_or bytes k 0) (digits k below)) (λ _. parted));
+      some = some;
+      few = omega arith;
+      digits = digits_pass bytes i (sym count);
+      value_is = is;
+      small = omega arith;
+    }
+
+no_sign : (token : List ℕ) → is_nonempty token ≡ true → list_all is_ascii_digit token ≡ true → split_sign token ≡ (false, token)
+unfolding split_sign
+no_sign [] some h = absurd cc
+no_sign (b ∷ token) some h =
+    let digit = (and_parts (is_ascii_digit b) (list_all is_ascii_digit token) h).0 in
+    let no_plus : (b == 43) ≡ false = grind (arith, nat_tests) in
+    let no_minus : (b == 45) ≡ false = grind (arith, nat_tests) in
+    rw (no_plus, no_minus) refl
+
+told : (n : ℕ) → n ≤ 10 ^ 18 → sized (pos n) ≡ Value (pos n)
+told n le = let t : nat_le n (10 ^ 18) ≡ true = grind (arith, nat_tests) in rw t refl
+
+some_number : (n : ℕ) → Option ℕ
+some_number n = Some n
+
+pub number_of_plain : (bytes : List ℕ) (value len : ℕ) → IsPlainToken bytes value len → number (take len bytes) ≡ Value (pos value)
+unfolding some_number
+number_of_plain bytes value len is =
+    let token : List ℕ = take len bytes in
+    let some : is_nonempty (take len bytes) ≡ true = some_digits bytes len is.some is.few in
+    let sign : split_sign (take len bytes) ≡ (false, take len bytes) = no_sign (take len bytes) some is.digits in
+    let whole : magnitude (take len bytes) ≡ Some (digits_value 10 (take len bytes)) = ap magnitude (sym (append-nil (take len bytes))) ∙ some_parts (take len bytes) [] is.digits some in
+    let capped : min value (10 ^ 18 + 1) ≡ value = omega (arith, is.small) in
+    let found : option_map (λ n. min n (10 ^ 18 + 1)) (magnitude (split_sign (take len bytes)).1) ≡ Some value =
+    ap (λ (x : Bool × List ℕ). option_map (λ n. min n (10 ^ 18 + 1)) (magnitude x.1)) sign ∙ ap (option_map (λ n. min n (10 ^ 18 + 1))) whole
+    ∙ ap (λ (n : ℕ). some_number (min n (10 ^ 18 + 1))) (sym is.value_is) ∙ ap some_number capped in
+    number_some (take len bytes) value found ∙ ap (λ (x : Bool × List ℕ). sized (signed x.0 value)) sign ∙ told value is.small

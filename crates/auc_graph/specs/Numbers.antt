@@ -1,12 +1,12 @@
 -- The number that a token spells.
-use Rattle.std.specs.Prelude.{ℕ, suc, ◌+◌, ◌*◌, ◌^◌, Bool, true, false, ◌&&◌, ◌==◌, nat_le, if◌then◌else◌, List, [], ◌∷◌, Option, Some, None, map, ℤ, pos, neg_ℤ, unsigned_abs}
+use Rattle.std.specs.Prelude.{ℕ, suc, ◌^◌, Bool, true, false, ◌&&◌, ◌==◌, nat_le, if◌then◌else◌, List, [], ◌∷◌, Option, Some, None, map, ℤ, pos, neg_ℤ, unsigned_abs, ◌≡◌, ◌<◌, ◌≤◌, length, take}
 use Rattle.std.specs.Option.{option_map, option_map_or}
-use Rattle.std.specs.List.{before_first, after_first, list_all, prefix_len}
+use Rattle.std.specs.List.{before_first, after_first, list_all, prefix_len, position_or_len}
 use Rattle.std.specs.Char.{is_ascii_digit}
 use Rattle.std.specs.Str.Parse.{digits_value}
 use Rattle.auc_graph.specs.declared.number.Number.{Number}
 use Rattle.auc_graph.specs.declared.number.Number.TheVariants.{Bad, Value, Huge}
-use Rattle.auc_graph.specs.Tokens.{is_nonempty, tokens}
+use Rattle.auc_graph.specs.Tokens.{is_nonempty, is_separator, tokens}
 
 abbrev pub is_point : ℕ → Bool
 is_point b = b == 46
@@ -49,3 +49,12 @@ numbers text = map number (tokens text)
 abbrev pub fraction_len : List ℕ → ℕ
 fraction_len [] = 0
 fraction_len (b ∷ bytes) = if is_point b then suc (prefix_len is_zero bytes) else 0
+
+-- the token at the front is so many digits of this value, and the value is told
+pub record IsPlainToken (bytes : List ℕ) (value len : ℕ) : Type 0 where
+  pub token : len ≡ position_or_len is_separator bytes
+  pub some : 0 < len
+  pub few : len ≤ length bytes
+  pub digits : list_all is_ascii_digit (take len bytes) ≡ true
+  pub value_is : value ≡ digits_value 10 (take len bytes)
+  pub small : value ≤ 10 ^ 18

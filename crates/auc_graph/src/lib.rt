@@ -17,6 +17,3 @@ pub use number::{Number, number_of};
 pub use read_error::ReadError;
 pub use reading::{ReadLimits, read_arcs};
 pub use tokens::{Token, token_at};
-
-#[cfg(test)]
-mod tests;

@@ -1,14 +1,14 @@
 //! The number that a token spells.
 
-ghost use Rattle.std.specs.Prelude.{◌≡◌, ◌+◌, ◌≤◌, ◌<◌, min, take, length};
+ghost use Rattle.std.specs.Prelude.{◌≡◌, ◌+◌, ◌≤◌, ◌<◌, min, take, length, IfSome};
 ghost use Rattle.std.specs.List.{prefix_len, position_or_len};
 ghost use Rattle.std.specs.Option.{option_map};
 ghost use Rattle.std.specs.Str.Parse.{digits_value};
 ghost use Rattle.std.specs.Char.{is_ascii_digit};
 ghost use Rattle.auc_graph.specs.Tokens.{is_separator};
-ghost use Rattle.auc_graph.specs.Numbers.{is_zero, fraction_len, magnitude, number, sized, signed, split_sign};
+ghost use Rattle.auc_graph.specs.Numbers.{is_zero, fraction_len, magnitude, number, sized, signed, split_sign, IsPlainToken};
 
-use crate::tokens::{from_place, token_len};
+use crate::tokens::{from_place, is_separator_byte, token_len};
 
 /// What a token is as a number.
 #[derive(Clone, Copy, Debug, PartialEq, Eq)]
@@ -115,8 +115,9 @@ fn sized_of(negative: bool, magnitude: u64) -> Number
 }
 
 /// The number that the bytes before the first separator spell, and how many they are.
-#[inline]
-pub(crate) fn number_at(bytes: &[u8]) -> (Number, usize)
+#[cold]
+#[inline(never)]
+fn any_number_at(bytes: &[u8]) -> (Number, usize)
     ensures len { result.1 ≡ position_or_len is_separator bytes.now }
     ensures few { result.1 ≤ length bytes.now }
     ensures number { result.0 ≡ number (take result.1 bytes.now) }
@@ -129,6 +130,41 @@ pub(crate) fn number_at(bytes: &[u8]) -> (Number, usize)
         Some(magnitude) => sized_of(negative, magnitude),
     };
     (number, sign + len)
+}
+
+/// The value and the length of the token at the front, where it is a few digits and a separator stands behind it.
+#[inline(always)]
+fn plain_number_at(bytes: &[u8]) -> Option<(u64, usize)>
+    ensures { IfSome result (λ x. IsPlainToken bytes.now x.0 x.1) }
+{
+    let mut value: u64 = 0;
+    for (i, byte) in bytes.iter().enumerate() {
+        if !byte.is_ascii_digit() {
+            if i > 0 && is_separator_byte(*byte) {
+                return Some((value, i));
+            }
+            return None;
+        }
+        if value >= LARGEST / 10 {
+            return None;
+        }
+        value = 10 * value + (*byte - b'0') as u64;
+    }
+    None
+}
+
+/// The number that the bytes before the first separator spell, and how many they are. Nearly all tokens of a file are
+/// plain, so these are read by a short loop.
+#[inline(always)]
+pub(crate) fn number_at(bytes: &[u8]) -> (Number, usize)
+    ensures len { result.1 ≡ position_or_len is_separator bytes.now }
+    ensures few { result.1 ≤ length bytes.now }
+    ensures number { result.0 ≡ number (take result.1 bytes.now) }
+{
+    match plain_number_at(bytes) {
+        Some((value, len)) => (Number::Value(value as i64), len),
+        None => any_number_at(bytes),
+    }
 }
 
 /// The number that a token spells: an optional sign, digits, and optionally a point that zeros only may follow. A

@@ -33,6 +33,7 @@ impl ReadLimits {
 }
 
 /// The number at the front, and the text behind it.
+#[inline(always)]
 fn next_number(bytes: &[u8]) -> Option<(Number, &[u8])>
     ensures found { IfSome result (λ x. numbers bytes.now ≡ x.0 ∷ numbers x.1.now) }
     ensures shorter { IfSome result (λ x. length x.1.now < length bytes.now) }
@@ -48,6 +49,7 @@ fn next_number(bytes: &[u8]) -> Option<(Number, &[u8])>
 }
 
 /// The number at the front, and the text behind it, or the error for a text that ends here.
+#[inline(always)]
 fn next_or(bytes: &[u8], cut: ReadError) -> Result<(Number, &[u8]), ReadError>
     ensures exact { seen (λ x. (x.0, numbers x.1.now)) result ≡ next cut (numbers bytes.now) }
     ensures shorter { IfOk result (λ x. length x.1.now ≤ length bytes.now) }

@@ -11,16 +11,16 @@ pub struct Token {
     pub end: usize,
 }
 
-#[inline]
+#[inline(always)]
 #[tactic(auto, unfolding(crate::specs::Tokens::is_separator))]
-fn is_separator_byte(byte: u8) -> bool
+pub(crate) fn is_separator_byte(byte: u8) -> bool
     ensures { result ≡ is_separator byte }
 {
     matches!(byte, 9..=13 | 26 | 32)
 }
 
 /// What stands from a place on.
-#[inline]
+#[inline(always)]
 pub(crate) fn from_place(bytes: &[u8], place: usize) -> &[u8]
     requires { place ≤ length bytes.now }
     ensures { result.now ≡ drop place bytes.now }
@@ -29,7 +29,7 @@ pub(crate) fn from_place(bytes: &[u8], place: usize) -> &[u8]
 }
 
 /// How many separators stand at the front.
-#[inline]
+#[inline(always)]
 pub(crate) fn separators_len(bytes: &[u8]) -> usize
     ensures len { result ≡ prefix_len is_separator bytes.now }
     ensures few { result ≤ length bytes.now }
@@ -43,7 +43,7 @@ pub(crate) fn separators_len(bytes: &[u8]) -> usize
 }
 
 /// How many bytes stand before the first separator.
-#[inline]
+#[inline(always)]
 pub(crate) fn token_len(bytes: &[u8]) -> usize
     ensures len { result ≡ position_or_len is_separator bytes.now }
     ensures few { result ≤ length bytes.now }

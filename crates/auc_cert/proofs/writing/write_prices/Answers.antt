@@ -3,7 +3,7 @@ use Rattle.std.specs.Prelude.{FitsSigned as SFits}
 use Rattle.std.proofs.lemmas.Int.{to_z-of_z}
 use Rattle.auc_cert.specs.Slackness.{price_at}
 use Rattle.auc_cert.specs.Text.{price_line}
-use Rattle.auc_cert.proofs.Writes.{one_more}
+use Rattle.auc_cert.proofs.WriteLaws.{one_more}
 use Rattle.auc_cert.proofs.writing.write_prices.Goals as goal
 
 pub loop-price-preserved : goal.loop-price-preserved

@@ -1,5 +1,5 @@
-use Rattle.std.proofs.Common.{◌≡◌, ◌-◌, ◌<◌, ◌≤◌, ℕ, ◌+◌, true, false, length, get_or, sym, ap, ◌∙◌, arith, inl, inr, min}
-use Rattle.std.specs.Char.{is_ascii_digit, digit_value}
+use Rattle.std.proofs.Common.{◌≡◌, true, length, get_or, sym, ◌∙◌, arith}
+use Rattle.std.specs.Char.{is_ascii_digit}
 use Rattle.std.proofs.lemmas.Int.Digits.{digits_value_more}
 use Rattle.auc_graph.proofs.TokenLaws.{prefix_len_is}
 use Rattle.auc_graph.proofs.NumberLaws.{value_of_digit, all_and_next}

@@ -1,4 +1,4 @@
-use Rattle.std.proofs.Common.{◌≡◌, ◌+◌, ◌<◌, ◌⊎◌, inl, inr, sym, ap, ◌∙◌, arith, min, Some, None}
+use Rattle.std.proofs.Common.{◌≡◌, ◌+◌, ◌<◌, ◌⊎◌, inl, inr, sym, ap, ◌∙◌, arith, min, Some}
 use Rattle.std.specs.Option.{option_map}
 use Rattle.auc_graph.specs.declared.number.TheConstants.{LARGEST}
 use Rattle.auc_graph.proofs.MagnitudeLaws.{AreParts, parts_read, token_of_parts, none_of_parts, some_of_parts}

@@ -1,4 +1,4 @@
-use Rattle.std.proofs.Common.{sym, ◌∙◌, arith}
+use Rattle.std.proofs.Common.{sym, arith}
 use Rattle.auc_graph.proofs.NumberLaws.{parted_is_bad}
 use Rattle.auc_graph.proofs.number.number_of.Goals as goal
 

@@ -1,8 +1,7 @@
-use Rattle.std.proofs.Common.{◌≡◌, ◌∷◌, ◌<◌, drop, take, length, sym, ap, ◌∙◌, arith}
+use Rattle.std.proofs.Common.{◌≡◌, drop, length, ap, ◌∙◌, arith}
 use Rattle.std.specs.List.{position_or_len}
 use Rattle.std.proofs.lemmas.List.{length-drop}
 use Rattle.auc_graph.specs.Tokens.{is_separator}
-use Rattle.auc_graph.specs.Numbers.{number, numbers}
 use Rattle.auc_graph.proofs.NumberLaws.{numbers_none, numbers_next}
 use Rattle.auc_graph.proofs.reading.next_number.Goals as goal
 

@@ -1,4 +1,4 @@
-use Rattle.std.proofs.Common.{◌≡◌, true, false, length, get_or, sym, arith}
+use Rattle.std.proofs.Common.{length, sym, arith}
 use Rattle.auc_graph.specs.Tokens.{is_separator}
 use Rattle.auc_graph.proofs.TokenLaws.{prefix_len_is}
 use Rattle.auc_graph.proofs.tokens.separators_len.Goals as goal

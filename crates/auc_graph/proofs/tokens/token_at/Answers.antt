@@ -1,9 +1,8 @@
-use Rattle.std.proofs.Common.{◌≡◌, ◌+◌, ◌≤◌, length, drop, not, ap, ◌∙◌, arith}
+use Rattle.std.proofs.Common.{◌≡◌, ◌+◌, drop, ap, ◌∙◌, arith}
 use Rattle.std.specs.List.{position_or_len, prefix_len}
-use Rattle.std.proofs.lemmas.List.{drop_all, length-drop}
-use Rattle.std.proofs.lemmas.List.Sums.{prefix_len-le-length}
-use Rattle.auc_graph.specs.Tokens.{is_separator, tokens}
-use Rattle.auc_graph.proofs.TokenLaws.{no_token, next_token_from, first_token_is, tail}
+use Rattle.std.proofs.lemmas.List.{length-drop}
+use Rattle.auc_graph.specs.Tokens.{is_separator}
+use Rattle.auc_graph.proofs.TokenLaws.{no_token, next_token_from, first_token_is}
 use Rattle.auc_graph.proofs.tokens.token_at.Goals as goal
 
 pub returns-then-from-bytes-clause-none : goal.returns-then-from-bytes-clause-none

@@ -1,6 +1,5 @@
-use Rattle.std.proofs.Common.{◌≡◌, true, false, not, length, get_or, sym, ap, arith}
+use Rattle.std.proofs.Common.{length, sym, arith}
 use Rattle.std.proofs.lemmas.List.Sums.{position_or_len_is}
-use Rattle.std.proofs.lemmas.Bool.Decides.{nat_tests}
 use Rattle.auc_graph.specs.Tokens.{is_separator}
 use Rattle.auc_graph.proofs.tokens.token_len.Goals as goal
 

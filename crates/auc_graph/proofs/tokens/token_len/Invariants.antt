@@ -1,4 +1,4 @@
-use Rattle.std.proofs.Common.{◌≡◌, ℕ, ◌<◌, true, false, get_or}
+use Rattle.std.proofs.Common.{◌≡◌, ℕ, ◌<◌, false, get_or}
 use Rattle.auc_graph.specs.Tokens.{is_separator}
 use Rattle.auc_graph.proofs.tokens.token_len.Given as goal
 

@@ -1,0 +1,233 @@
+-- What the checker's answers say of the claim.
+use Rattle.std.proofs.Common.{◌≡◌, ℕ, suc, ◌+◌, ◌<◌, Bool, true, false, cond, not, eq-eqb, ◌&&◌, ◌||◌, eqb, nat_lt, List, [], ◌∷◌, ◌++◌, length, map, get_or, Option, Some, None, refl, sym, ap, subst, ◌∙◌, arith, inl, inr, All}
+use Rattle.std.specs.Prelude.{Result, Ok, Err, IsOk, ℤ, pos, ◌+ℤ◌, ◌≤ℤ◌, nat_eq, ◌==◌, Contains, int_le}
+use Rattle.std.specs.List.{position, position_or_len, list_any, list_all, IsDistinct, AllByRecursion, range_with_len}
+use Rattle.std.specs.Int.Signed.{le_z_yes}
+use Rattle.std.specs.Prelude.{T}
+use Rattle.std.specs.Ordering.{int_eq}
+use Rattle.std.proofs.lemmas.Bool.{cases_Bool, cases_lt}
+use Rattle.std.proofs.lemmas.Bool.Decides.{nat_tests, Decides-and, Decides-eqb, Decides-int_eq}
+use Rattle.std.proofs.lemmas.List.{length-map}
+use Rattle.std.proofs.lemmas.List.Sums.{position_or_len_is, fails_before_first}
+use Rattle.std.proofs.lemmas.List.Elements.{All-head, All-tail, All-nil, All-cons}
+use Rattle.auc_graph.specs.declared.arc.Arc.{Arc}
+use Rattle.auc_graph.specs.Problem.{Problem, IsProblem, IsWithin}
+use Rattle.auc_cert.specs.declared.lists.Pick.{Pick}
+use Rattle.std.specs.Option.{option_map}
+use Rattle.auc_cert.specs.declared.cert.CertParts.{CertParts}
+use Rattle.auc_cert.specs.declared.cert.CertParts.TheVariants.{Optimal}
+use Rattle.auc_cert.specs.declared.refused.CertRefused.{CertRefused}
+use Rattle.auc_cert.specs.declared.refused.CertRefused.TheVariants.{WrongSize, NoSuchArc, ObjectTwice, WrongCost, Slack}
+use Rattle.auc_graph.specs.Assignment.{person_of, object_of, total_cost, IsAssignment, IsLeast}
+use Rattle.auc_cert.specs.Slackness.{value, IsSlackRight}
+use mathlib.Core.Bool.{beq}
+use Rattle.auc_cert.specs.Spelled.{IsSpelled}
+use Rattle.auc_cert.specs.Claim.{is_flag, arc_of, chosen, same_arc, is_missing, bears, is_slack_right, repeated, fault_if, choice_faults, slack_fault, first_of, fault_of, IsAllowed, Answers}
+use Rattle.auc_cert.proofs.Duality.{slack_right_is_least}
+
+-- ---- the first place that passes
+
+pub place_is : {X : Type 0} (p : X → Bool) (xs : List X) (i : ℕ) (d : X) → i < length xs → ((k : ℕ) → k < i → p (get_or xs k d) ≡ false) → p (get_or xs i d) ≡ true → Some i ≡ position p xs
+place_is p xs i d lt before here =
+    let e : position_or_len p xs ≡ i = position_or_len_is p xs i d (omega arith) before (λ _. here) in
+    let t : nat_lt (position_or_len p xs) (length xs) ≡ true = grind (arith, nat_tests) in
+    rw (t, e) refl
+
+pub no_place : {X : Type 0} (p : X → Bool) (xs : List X) (d : X) → ((k : ℕ) → k < length xs → p (get_or xs k d) ≡ false) → None ≡ position p xs
+no_place p xs d none =
+    let e : position_or_len p xs ≡ length xs = position_or_len_is p xs (length xs) d (omega arith) none (λ lt. absurd (omega arith)) in
+    let t : nat_lt (position_or_len p xs) (length xs) ≡ false = grind (arith, nat_tests) in
+    rw t refl
+
+pub all_fail : {X : Type 0} (p : X → Bool) (xs : List X) → position p xs ≡ None → All (λ x. p x ≡ false) xs
+all_fail p xs h =
+    elim (cases_lt (position_or_len p xs) (length xs)) [
+      | inl lt ↦ let t : nat_lt (position_or_len p xs) (length xs) ≡ true = grind (arith, nat_tests) in absurd (let k = rw t at h in cc)
+      | inr le ↦ λ k d lt. fails_before_first p xs k d (omega arith)
+    ]
+
+prefix_map : {X Y : Type 0} (p : Y → Bool) (f : X → Y) (xs : List X) → position_or_len p (map f xs) ≡ position_or_len (λ x. p (f x)) xs
+prefix_map p f [] = refl
+prefix_map p f (x ∷ xs) = ap (λ (n : ℕ). cond (not (p (f x))) (1 + n) 0) (prefix_map p f xs)
+
+pub place_in_map : {X Y : Type 0} (p : Y → Bool) (f : X → Y) (xs : List X) → position p (map f xs) ≡ position (λ x. p (f x)) xs
+place_in_map p f xs = rw (prefix_map p f xs, length-map xs f) refl
+
+-- ---- the parts of an accepted claim
+
+pub persons_are : (k : ℕ) (picks : List Pick) → map person_of (chosen k picks) ≡ range_with_len k (length picks)
+persons_are k [] = refl
+persons_are k (p ∷ picks) = ap (λ (js : List ℕ). k ∷ js) (persons_are (k + 1) picks)
+
+pub objects_are : (k : ℕ) (picks : List Pick) → map object_of (chosen k picks) ≡ map (λ c. c.object) picks
+objects_are k [] = refl
+objects_are k (p ∷ picks) = ap (λ (js : List ℕ). p.object ∷ js) (objects_are (k + 1) picks)
+
+abbrev made : ℕ → ℕ → ℤ → Arc
+made i j z = record { person = i; object = j; cost = z }
+
+same_is : (a b : Arc) → same_arc a b ≡ true → a ≡ b
+same_is a b h =
+    let e = (Decides-and ((a.person == b.person) && (a.object == b.object)) (int_eq a.cost b.cost) (Decides-and (a.person == b.person) (a.object == b.object) (Decides-eqb a.person b.person) (Decides-eqb a.object b.object)) (Decides-int_eq a.cost b.cost)).0 h in
+    ap (λ (i : ℕ). made i a.object a.cost) e.0.0 ∙ ap (λ (j : ℕ). made b.person j a.cost) e.0.1 ∙ ap (λ (z : ℤ). made b.person b.object z) e.1
+
+is_there : (arcs : List Arc) (c : Arc) → is_missing arcs c ≡ false → Contains arcs c
+is_there [] c h = absurd cc
+is_there (a ∷ arcs) c h =
+    elim (cases_Bool (same_arc c a)) [
+      | inl same ↦ (0, omega arith, sym (same_is c a same))
+      | inr other ↦ let rest = is_there arcs c (rw other at h) in (suc rest.0, omega (arith, rest.1), rest.2)
+    ]
+
+or_false : (x y : Bool) → (x || y) ≡ false → (x ≡ false) × (y ≡ false)
+or_false true y h = absurd cc
+or_false false y h = (refl, h)
+
+not_among : (j : ℕ) (earlier js : List ℕ) → AllByRecursion (λ i. list_any (nat_eq i) (j ∷ earlier) ≡ false) js → AllByRecursion (λ i. eqb j i ≡ false) js × AllByRecursion (λ i. list_any (nat_eq i) earlier ≡ false) js
+not_among j earlier [] h = (tt, tt)
+not_among j earlier (i ∷ js) h =
+    let here = or_false (eqb i j) (list_any (nat_eq i) earlier) h.0 in
+    let rest = not_among j earlier js h.1 in
+    let turned : eqb j i ≡ false = grind (arith, nat_tests, here.0) in
+    ((turned, rest.0), (here.1, rest.1))
+
+never_seen : (earlier js : List ℕ) → repeated earlier js ≡ None → IsDistinct eqb js × AllByRecursion (λ j. list_any (nat_eq j) earlier ≡ false) js
+unfolding IsDistinct
+never_seen earlier [] h = (tt, tt)
+never_seen earlier (j ∷ js) h =
+    elim (cases_Bool (list_any (nat_eq j) earlier)) [
+      | inl seen ↦ absurd (let k = rw seen at h in cc)
+      | inr fresh ↦
+          let rest = never_seen (j ∷ earlier) js (rw fresh at h) in
+          let both = not_among j earlier js rest.1 in
+          ((both.0, rest.0), (fresh, both.1))
+    ]
+
+not_worse : (s : ℕ) (prices : List ℤ) (c a : Arc) → bears s prices c a ≡ true → a.person ≡ c.person → value s prices c ≤ℤ (value s prices a +ℤ pos 1)
+not_worse s prices c a h person =
+    let same : eqb c.person a.person ≡ true = eq-eqb c.person a.person (sym person) in
+    let le : int_le (value s prices c) (value s prices a +ℤ pos 1) ≡ true = rw same at h in
+    le_z_yes (subst (λ (b : Bool). T b) (sym le) tt)
+
+and_both : (x y : Bool) → (x && y) ≡ true → (x ≡ true) × (y ≡ true)
+and_both true y h = (refl, h)
+and_both false y h = absurd cc
+
+right_at : (s : ℕ) (prices : List ℤ) (arcs : List Arc) (c : Arc) → is_slack_right s prices arcs c ≡ true → IsSlackRight s prices arcs c
+right_at s prices [] c h = All-nil (λ (a : Arc). a.person ≡ c.person → value s prices c ≤ℤ (value s prices a +ℤ pos 1))
+right_at s prices (a ∷ arcs) c h =
+    let both = and_both (bears s prices c a) (list_all (bears s prices c) arcs) h in
+    All-cons (λ (b : Arc). b.person ≡ c.person → value s prices c ≤ℤ (value s prices b +ℤ pos 1)) a arcs (not_worse s prices c a both.0) (right_at s prices arcs c both.1)
+
+not_false : (b : Bool) → not b ≡ false → b ≡ true
+not_false true h = refl
+not_false false h = absurd cc
+
+-- an accepted claim is allowed
+pub accepted : (p : Problem) (choice : List Pick) (prices : List ℤ) → IsProblem p → length choice ≡ p.persons → length prices ≡ length choice
+    → position (is_missing p.arcs) (chosen 0 choice) ≡ None → repeated [] (map (λ c. c.object) choice) ≡ None → position (λ c. not (is_slack_right (p.persons + 1) prices p.arcs c)) (chosen 0 choice) ≡ None
+    → IsLeast p (chosen 0 choice)
+accepted p choice prices is len as_many none_missing none_twice none_worse =
+    let given : IsAssignment p (chosen 0 choice) = record {
+      persons = persons_are 0 choice ∙ ap (range_with_len 0) len;
+      arcs = λ k d lt. is_there p.arcs (get_or (chosen 0 choice) k d) (all_fail (is_missing p.arcs) (chosen 0 choice) none_missing k d lt);
+      objects = rw (objects_are 0 choice) (never_seen [] (map (λ c. c.object) choice) none_twice).0;
+    } in
+    slack_right_is_least p prices (chosen 0 choice) is (as_many ∙ len) given
+    (λ k d lt. right_at (p.persons + 1) prices p.arcs (get_or (chosen 0 choice) k d) (not_false _ (all_fail (λ c. not (is_slack_right (p.persons + 1) prices p.arcs c)) (chosen 0 choice) none_worse k d lt)))
+
+pub flag_hit : (b f : Bool) → beq b f ≡ true → is_flag f b ≡ true
+flag_hit true true h = refl
+flag_hit true false h = absurd cc
+flag_hit false true h = absurd cc
+flag_hit false false h = refl
+
+-- ---- which fault is the first one
+
+pub right_size : (m n : ℕ) → m ≡ n → not (m == n) ≡ false
+right_size m n is = let e : eqb m n ≡ true = eq-eqb m n is in rw e refl
+
+pub right_cost : (a b : ℤ) → a ≡ b → not (int_eq a b) ≡ false
+right_cost a b is = let e : int_eq a b ≡ true = (Decides-int_eq a b).1 is in rw e refl
+
+pub wrong_cost : (a b : ℤ) → (a ≡ b → ⊥) → not (int_eq a b) ≡ true
+wrong_cost a b other =
+    elim (cases_Bool (int_eq a b)) [
+      | inl same ↦ absurd (other ((Decides-int_eq a b).0 same))
+      | inr differs ↦ rw differs refl
+    ]
+
+-- what a choice without a fault is
+pub record IsFaultless (p : Problem) (cost : ℤ) (choice : List Pick) : Type 0 where
+  pub size : length choice ≡ p.persons
+  pub missing : position (is_missing p.arcs) (chosen 0 choice) ≡ None
+  pub twice : repeated [] (map (λ c. c.object) choice) ≡ None
+  pub cost_is : cost ≡ total_cost (chosen 0 choice)
+
+none_if : (b : Bool) (e : CertRefused) (faults : List (Option CertRefused)) → first_of (fault_if b e ∷ faults) ≡ None → (b ≡ false) × (first_of faults ≡ None)
+none_if true e faults h = absurd cc
+none_if false e faults h = (refl, h)
+
+none_map : (o : Option ℕ) (f : ℕ → CertRefused) (faults : List (Option CertRefused)) → first_of (option_map f o ∷ faults) ≡ None → (o ≡ None) × (first_of faults ≡ None)
+none_map (Some k) f faults h = absurd cc
+none_map None f faults h = (refl, h)
+
+pub is_faultless : (p : Problem) (cost : ℤ) (choice : List Pick) → first_of (choice_faults p cost choice) ≡ None → IsFaultless p cost choice
+is_faultless p cost choice h =
+    let size = none_if (not (length choice == p.persons)) WrongSize (option_map (λ i. NoSuchArc i) (position (is_missing p.arcs) (chosen 0 choice)) ∷ option_map (λ j. ObjectTwice j) (repeated [] (map (λ c. c.object) choice)) ∷ fault_if (not (int_eq cost (total_cost (chosen 0 choice)))) WrongCost ∷ []) h in
+    let missing = none_map (position (is_missing p.arcs) (chosen 0 choice)) (λ i. NoSuchArc i) (option_map (λ j. ObjectTwice j) (repeated [] (map (λ c. c.object) choice)) ∷ fault_if (not (int_eq cost (total_cost (chosen 0 choice)))) WrongCost ∷ []) size.1 in
+    let twice = none_map (repeated [] (map (λ c. c.object) choice)) (λ j. ObjectTwice j) (fault_if (not (int_eq cost (total_cost (chosen 0 choice)))) WrongCost ∷ []) missing.1 in
+    let cost_is = none_if (not (int_eq cost (total_cost (chosen 0 choice)))) WrongCost [] twice.1 in
+    record {
+      size = (Decides-eqb (length choice) p.persons).0 (not_false (length choice == p.persons) size.0);
+      missing = missing.0;
+      twice = twice.0;
+      cost_is = (Decides-int_eq cost (total_cost (chosen 0 choice))).0 (not_false (int_eq cost (total_cost (chosen 0 choice))) cost_is.0);
+    }
+
+-- the faults of both parts, one behind the other
+pub behind_none : (xs ys : List (Option CertRefused)) → first_of xs ≡ None → first_of (xs ++ ys) ≡ first_of ys
+behind_none [] ys h = refl
+behind_none (None ∷ xs) ys h = behind_none xs ys h
+behind_none (Some x ∷ xs) ys h = absurd cc
+
+none_in_front : (xs ys : List (Option CertRefused)) → first_of (xs ++ ys) ≡ None → (first_of xs ≡ None) × (first_of ys ≡ None)
+none_in_front [] ys h = (refl, h)
+none_in_front (None ∷ xs) ys h = none_in_front xs ys h
+none_in_front (Some x ∷ xs) ys h = absurd cc
+
+-- what was answered by Ok has no fault
+pub ok_is_none : {X : Type 0} (r : Result X CertRefused) (fault : Option CertRefused) → IsOk r → Answers r fault → fault ≡ None
+ok_is_none (Ok x) fault ok h = h
+ok_is_none (Err e) fault ok h = absurd cc
+
+-- a claim without a fault is allowed
+pub faultless_is_allowed : (p : Problem) (c : CertParts) → IsProblem p → IsSpelled c → fault_of p c ≡ None → IsAllowed p c
+faultless_is_allowed p (Optimal cost choice prices) is spelled none =
+    let parts = none_in_front (choice_faults p cost choice) (slack_fault p choice prices ∷ []) none in
+    let choice_is = is_faultless p cost choice parts.0 in
+    let slack = none_map (position (λ c. not (is_slack_right (p.persons + 1) prices p.arcs c)) (chosen 0 choice)) (λ i. Slack i) [] parts.1 in
+    (accepted p choice prices is choice_is.size spelled.1.as_many choice_is.missing choice_is.twice slack.0, sym choice_is.cost_is)
+
+pub from_flags : (test : Arc → Bool) (xs : List Arc) (slice flags : List Bool) (r : Option ℕ) → slice ≡ flags → flags ≡ map test xs → r ≡ position (is_flag true) slice → position test xs ≡ r
+from_flags test xs slice flags r same are is = sym (place_in_map (λ (b : Bool). b) test xs) ∙ ap (position (λ (b : Bool). b)) (sym (same ∙ are)) ∙ sym is
+
+pub from_flags_not : (test : Arc → Bool) (xs : List Arc) (slice flags : List Bool) (r : Option ℕ) → slice ≡ flags → flags ≡ map test xs → r ≡ position (is_flag false) slice → position (λ x. not (test x)) xs ≡ r
+from_flags_not test xs slice flags r same are is = sym (place_in_map (λ (b : Bool). not b) test xs) ∙ ap (position (λ (b : Bool). not b)) (sym (same ∙ are)) ∙ sym is
+
+length_chosen : (k : ℕ) (picks : List Pick) → length (chosen k picks) ≡ length picks
+length_chosen k [] = refl
+length_chosen k (p ∷ picks) = ap suc (length_chosen (k + 1) picks)
+
+pub some_length : (test : Arc → Bool) (k : ℕ) (picks : List Pick) (slice flags : List Bool) → slice ≡ flags → flags ≡ map test (chosen k picks) → length slice ≡ length picks
+some_length test k picks slice flags same are = ap length (same ∙ are) ∙ length-map (chosen k picks) test ∙ length_chosen k picks
+
+below_from : (p : Problem) (n k : ℕ) (choice : List Pick) → IsProblem p → n ≡ p.persons → All (λ c. is_missing p.arcs c ≡ false) (chosen k choice) → All (λ c. c.object < n) choice
+below_from p n k [] is len all = All-nil (λ (c : Pick). c.object < n)
+below_from p n k (c ∷ choice) is len all =
+    let there = is_there p.arcs (arc_of k c) (All-head (λ (a : Arc). is_missing p.arcs a ≡ false) (arc_of k c) (chosen (k + 1) choice) all) in
+    let within : IsWithin p.persons p.objects (arc_of k c) = subst (IsWithin p.persons p.objects) there.2 (is.within there.0 (arc_of k c) there.1) in
+    All-cons (λ (d : Pick). d.object < n) c choice (omega (arith, within.object, is.square, len)) (below_from p n (k + 1) choice is len (All-tail (λ (a : Arc). is_missing p.arcs a ≡ false) (arc_of k c) (chosen (k + 1) choice) all))
+
+pub objects_below : (p : Problem) (n : ℕ) (choice : List Pick) → IsProblem p → n ≡ p.persons → position (is_missing p.arcs) (chosen 0 choice) ≡ None → All (λ c. c.object < n) choice
+objects_below p n choice is len none = below_from p n 0 choice is len (all_fail (is_missing p.arcs) (chosen 0 choice) none)

@@ -1,0 +1,113 @@
+-- Numbered lines: how a run grows, where it breaks off, and what two runs of one text have in common.
+use Rattle.std.proofs.Common.{◌≡◌, ℕ, suc, ◌+◌, ◌<◌, ◌≤◌, List, [], ◌∷◌, ◌++◌, length, Option, Some, None, refl, sym, ap, subst, ◌∙◌, arith, All, append_assoc}
+use Rattle.std.specs.Prelude.{ℤ}
+use Rattle.std.proofs.lemmas.List.{append-nil, length-append}
+use Rattle.std.proofs.lemmas.List.Concat.{flat_map-append}
+use Rattle.std.proofs.lemmas.List.Elements.{All-nil, All-push, All-head, All-tail}
+use Rattle.auc_cert.specs.declared.lists.Pick.{Pick}
+use Rattle.auc_cert.specs.Spelled.{IsPick, IsPrice}
+use Rattle.auc_cert.specs.Text.{numbered, joined, assign_line, price_line}
+use Rattle.auc_cert.specs.Fields.{pick_at, price_at}
+use Rattle.auc_cert.specs.Runs.{IsRun, BreaksOff}
+use Rattle.auc_cert.proofs.WriteLaws.{numbered_push}
+use Rattle.auc_cert.proofs.WordLaws.{some_is}
+use Rattle.auc_cert.proofs.LineLaws.{pick_again, pick_takes, price_again, price_takes}
+
+length_push : {X : Type 0} (xs : List X) (x : X) → length (xs ++ x ∷ []) ≡ length xs + 1
+length_push xs x = length-append xs (x ∷ [])
+
+pub run_begins : {X : Type 0} (line : ℕ → X → List ℕ) (ok : X → Type 0) (bytes : List ℕ) → IsRun line ok 0 bytes [] bytes
+run_begins line ok bytes = record { text = refl; len = refl; all = All-nil ok }
+
+pub run_more : {X : Type 0} (line : ℕ → X → List ℕ) (ok : X → Type 0) (i : ℕ) (bytes : List ℕ) (xs : List X) (rest : List ℕ) (x : X) (more : List ℕ)
+    → IsRun line ok i bytes xs rest → rest ≡ line i x ++ more → ok x → IsRun line ok (i + 1) bytes (xs ++ x ∷ []) more
+run_more line ok i bytes xs rest x more run is right =
+    let at : line (0 + length xs) x ≡ line i x = ap (λ (m : ℕ). line m x) (omega (arith, run.len)) in
+    let grown : joined (numbered line 0 (xs ++ x ∷ [])) ≡ joined (numbered line 0 xs) ++ line i x =
+    ap joined (numbered_push line 0 xs x) ∙ flat_map-append (λ (l : List ℕ). l) (numbered line 0 xs) (line (0 + length xs) x ∷ [])
+    ∙ ap (λ (r : List ℕ). joined (numbered line 0 xs) ++ r) (append-nil (line (0 + length xs) x) ∙ at) in
+    record {
+      text = run.text ∙ ap (λ (r : List ℕ). joined (numbered line 0 xs) ++ r) is ∙ sym (append_assoc (joined (numbered line 0 xs)) (line i x) more) ∙ ap (λ (r : List ℕ). r ++ more) (sym grown);
+      len = length_push xs x ∙ ap (λ (m : ℕ). m + 1) run.len;
+      all = All-push ok xs x run.all right;
+    }
+
+pub breaks_off : {X : Type 0} (line : ℕ → X → List ℕ) (ok : X → Type 0) (n : ℕ) (bytes : List ℕ) (k : ℕ) (xs : List X) (rest : List ℕ)
+    → IsRun line ok k bytes xs rest → k < n → ((x : X) (more : List ℕ) → ok x → rest ≡ line k x ++ more → ⊥) → BreaksOff line ok n bytes k
+breaks_off line ok n bytes k xs rest run few none = record { front = xs; rest = rest; run = run; few = few; none = none }
+
+pub none_some : {A : Type 0} (x : A) → ◌≡◌ {A = Option A} None (Some x) → ⊥
+none_some x e = cc
+
+pub no_pick : (i : ℕ) (rest : List ℕ) → i < 10000 → None ≡ pick_at i rest → (x : Pick) (more : List ℕ) → IsPick x → rest ≡ assign_line i x ++ more → ⊥
+no_pick i rest lt e x more h is = none_some (x, more) (e ∙ ap (pick_at i) is ∙ pick_again i x more lt h)
+
+pub no_price : (j : ℕ) (rest : List ℕ) → j < 10000 → None ≡ price_at j rest → (z : ℤ) (more : List ℕ) → IsPrice z → rest ≡ price_line j z ++ more → ⊥
+no_price j rest lt e z more h is = none_some (z, more) (e ∙ ap (price_at j) is ∙ price_again j z more lt h)
+
+pub pick_more : (i : ℕ) (bytes : List ℕ) (xs : List Pick) (rest : List ℕ) (x : Pick) (more : List ℕ)
+    → IsRun assign_line IsPick i bytes xs rest → pick_at i rest ≡ Some (x, more) → IsRun assign_line IsPick (i + 1) bytes (xs ++ x ∷ []) more
+pick_more i bytes xs rest x more run e = let t = pick_takes i rest x more e in run_more assign_line IsPick i bytes xs rest x more run t.0 t.1
+
+pub price_more : (j : ℕ) (bytes : List ℕ) (xs : List ℤ) (rest : List ℕ) (z : ℤ) (more : List ℕ)
+    → IsRun price_line IsPrice j bytes xs rest → price_at j rest ≡ Some (z, more) → IsRun price_line IsPrice (j + 1) bytes (xs ++ z ∷ []) more
+price_more j bytes xs rest z more run e = let t = price_takes j rest z more e in run_more price_line IsPrice j bytes xs rest z more run t.0 t.1
+
+-- ---- two runs of one text
+
+-- a line of one value is the line of no other
+abbrev pub TellsApart : (X : Type 0) → (ℕ → X → List ℕ) → (X → Type 0) → Type 0
+TellsApart X line ok = (k : ℕ) (x y : X) → k < 10000 → ok x → ok y → line k x ≡ line k y → x ≡ y
+
+pub picks_apart : TellsApart Pick assign_line IsPick
+picks_apart k x y lt p q e =
+    let pair = some_is (x, []) (y, []) (sym (pick_again k x [] lt p) ∙ ap (λ (l : List ℕ). pick_at k (l ++ [])) e ∙ pick_again k y [] lt q) in
+    ap (λ (t : Pick × List ℕ). t.0) pair
+
+pub prices_apart : TellsApart ℤ price_line IsPrice
+prices_apart k x y lt p q e =
+    let pair = some_is (x, []) (y, []) (sym (price_again k x [] lt p) ∙ ap (λ (l : List ℕ). price_at k (l ++ [])) e ∙ price_again k y [] lt q) in
+    ap (λ (t : ℤ × List ℕ). t.0) pair
+
+-- runs of one length at the front of one list of lines are the same, and so is what follows
+pub same_run : (X : Type 0) (line : ℕ → X → List ℕ) (ok : X → Type 0) (k : ℕ) (xs ys : List X) (t u : List (List ℕ)) → TellsApart X line ok → All ok xs → All ok ys → k + length xs ≤ 10000 → length xs ≡ length ys
+    → numbered line k xs ++ t ≡ numbered line k ys ++ u → (xs ≡ ys) × (t ≡ u)
+same_run X line ok k [] [] t u apart p q le len e = (refl, e)
+same_run X line ok k [] (y ∷ ys) t u apart p q le len e = absurd (omega arith)
+same_run X line ok k (x ∷ xs) [] t u apart p q le len e = absurd (omega arith)
+same_run X line ok k (x ∷ xs) (y ∷ ys) t u apart p q le len e =
+    let here : line k x ≡ line k y = cc in
+    let more : numbered line (k + 1) xs ++ t ≡ numbered line (k + 1) ys ++ u = cc in
+    let r = same_run X line ok (k + 1) xs ys t u apart (All-tail ok x xs p) (All-tail ok y ys q) (omega arith) (omega arith) more in
+    let h : x ≡ y = apart k x y (omega arith) (All-head ok x xs p) (All-head ok y ys q) here in
+    (ap (λ (l : List X). x ∷ l) r.0 ∙ ap (λ (a : X). a ∷ ys) h, r.1)
+
+-- Behind runs of one length the same follows, even where nothing is known of their values.
+pub same_rest : (X : Type 0) (line : ℕ → X → List ℕ) (k : ℕ) (xs ys : List X) (t u : List (List ℕ)) → length xs ≡ length ys → numbered line k xs ++ t ≡ numbered line k ys ++ u → t ≡ u
+same_rest X line k [] [] t u len e = e
+same_rest X line k [] (y ∷ ys) t u len e = absurd (omega arith)
+same_rest X line k (x ∷ xs) [] t u len e = absurd (omega arith)
+same_rest X line k (x ∷ xs) (y ∷ ys) t u len e = same_rest X line (k + 1) xs ys t u (omega arith) cc
+
+-- what follows a shorter run in a longer one
+pub record NextLine (X : Type 0) (line : ℕ → X → List ℕ) (ok : X → Type 0) (k : ℕ) (more : List (List ℕ)) : Type 0 where
+  pub value : X
+  pub right : ok value
+  pub others : List (List ℕ)
+  pub is : more ≡ line k value ∷ others
+
+pub next_of : (X : Type 0) (line : ℕ → X → List ℕ) (ok : X → Type 0) (k : ℕ) (xs ys : List X) (t more : List (List ℕ)) → All ok ys → length xs < length ys → numbered line k ys ++ t ≡ numbered line k xs ++ more → NextLine X line ok (k + length xs) more
+next_of X line ok k xs [] t more all lt e = absurd (omega arith)
+next_of X line ok k [] (y ∷ ys) t more all lt e =
+    let at : k ≡ k + 0 = omega arith in
+    record { value = y; right = All-head ok y ys all; others = numbered line (k + 1) ys ++ t; is = sym e ∙ ap (λ (m : ℕ). line m y ∷ (numbered line (k + 1) ys ++ t)) at }
+next_of X line ok k (x ∷ xs) (y ∷ ys) t more all lt e =
+    let rest : numbered line (k + 1) ys ++ t ≡ numbered line (k + 1) xs ++ more = cc in
+    let r = next_of X line ok (k + 1) xs ys t more (All-tail ok y ys all) (omega arith) rest in
+    let at : k + 1 + length xs ≡ k + suc (length xs) = omega arith in
+    subst (λ (m : ℕ). NextLine X line ok m more) at r
+
+pub numbered_append : {X : Type 0} (line : ℕ → X → List ℕ) (k : ℕ) (xs ys : List X) → numbered line k (xs ++ ys) ≡ numbered line k xs ++ numbered line (k + length xs) ys
+numbered_append line k [] ys = ap (λ (m : ℕ). numbered line m ys) (omega arith)
+numbered_append line k (x ∷ xs) ys =
+    ap (λ (r : List (List ℕ)). line k x ∷ r) (numbered_append line (k + 1) xs ys ∙ ap (λ (m : ℕ). numbered line (k + 1) xs ++ numbered line m ys) (omega arith))

@@ -1,0 +1,67 @@
+-- What some small certificates are spelled and how they are judged, computed by the definitions.
+use Rattle.std.proofs.Common.{◌≡◌, ℕ, [], ◌∷◌, Some, None, refl}
+use Rattle.std.specs.Prelude.{codes, pos, neg_ℤ, ℤ}
+use Rattle.std.specs.Fmt.{digits}
+use Rattle.auc_graph.specs.declared.arc.Arc.{Arc}
+use Rattle.auc_graph.specs.Problem.{Problem}
+use Rattle.auc_cert.specs.declared.lists.Pick.{Pick}
+use Rattle.auc_cert.specs.declared.cert.CertParts.{CertParts}
+use Rattle.auc_cert.specs.declared.cert.CertParts.TheVariants.{Optimal}
+use Rattle.auc_cert.specs.declared.refused.CertRefused.TheVariants.{WrongSize, NoSuchArc, ObjectTwice, WrongCost, Slack}
+use Rattle.auc_cert.specs.Text.{text}
+use Rattle.auc_cert.specs.Claim.{fault_of}
+
+abbrev arc : ℕ → ℕ → ℤ → Arc
+arc person object cost = record { person = person; object = object; cost = cost }
+
+abbrev pick : ℕ → ℤ → Pick
+pick object cost = record { object = object; cost = cost }
+
+abbrev three_persons : Problem
+three_persons = record {
+  persons = 3;
+  objects = 3;
+  arcs = arc 0 0 (pos 4) ∷ arc 0 1 (pos 1) ∷ arc 0 2 (pos 3) ∷ arc 1 0 (pos 2) ∷ arc 1 1 (pos 0) ∷ arc 1 2 (pos 5) ∷ arc 2 0 (pos 3) ∷ arc 2 1 (pos 2) ∷ arc 2 2 (pos 2) ∷ [];
+}
+
+abbrev two_persons : Problem
+two_persons = record { persons = 2; objects = 2; arcs = arc 0 0 (pos 1) ∷ arc 0 1 (pos 2) ∷ arc 1 0 (pos 1) ∷ arc 1 1 (pos 3) ∷ [] }
+
+-- the least assignment of the three persons, with this price of the second object
+abbrev best_at : ℤ → CertParts
+best_at price = Optimal (pos 5) (pick 1 (pos 1) ∷ pick 0 (pos 2) ∷ pick 2 (pos 2) ∷ []) (pos 0 ∷ price ∷ pos 0 ∷ [])
+
+spelled : text (best_at (pos 8)) ≡ codes "auction 1\noptimal 3 5\nassign 1 2 1\nassign 2 1 2\nassign 3 3 2\nprice 1 0\nprice 2 8\nprice 3 0\n"
+unfolding digits
+spelled = refl
+
+spelled_below_zero : text (Optimal (neg_ℤ (pos 7)) (pick 0 (neg_ℤ (pos 7)) ∷ []) (pos 1 ∷ [])) ≡ codes "auction 1\noptimal 1 -7\nassign 1 1 -7\nprice 1 1\n"
+unfolding digits
+spelled_below_zero = refl
+
+valid : fault_of three_persons (best_at (pos 8)) ≡ None
+valid = refl
+
+just_valid : fault_of three_persons (best_at (pos 7)) ≡ None
+just_valid = refl
+
+second_person_has_better : fault_of three_persons (best_at (pos 6)) ≡ Some (Slack 1)
+second_person_has_better = refl
+
+first_person_has_better : fault_of three_persons (best_at (pos 10)) ≡ Some (Slack 0)
+first_person_has_better = refl
+
+not_least : fault_of three_persons (Optimal (pos 6) (pick 0 (pos 4) ∷ pick 1 (pos 0) ∷ pick 2 (pos 2) ∷ []) (pos 0 ∷ pos 8 ∷ pos 0 ∷ [])) ≡ Some (Slack 0)
+not_least = refl
+
+wrong_size : fault_of two_persons (Optimal (neg_ℤ (pos 7)) (pick 0 (neg_ℤ (pos 7)) ∷ []) (pos 1 ∷ [])) ≡ Some WrongSize
+wrong_size = refl
+
+no_such_arc : fault_of two_persons (Optimal (pos 3) (pick 1 (pos 9) ∷ pick 0 (pos 1) ∷ []) (pos 7 ∷ pos 5 ∷ [])) ≡ Some (NoSuchArc 0)
+no_such_arc = refl
+
+object_twice : fault_of two_persons (Optimal (pos 3) (pick 0 (pos 1) ∷ pick 0 (pos 1) ∷ []) (pos 7 ∷ pos 5 ∷ [])) ≡ Some (ObjectTwice 0)
+object_twice = refl
+
+wrong_cost : fault_of two_persons (Optimal (pos 4) (pick 1 (pos 2) ∷ pick 0 (pos 1) ∷ []) (pos 7 ∷ pos 5 ∷ [])) ≡ Some WrongCost
+wrong_cost = refl

@@ -1,0 +1,119 @@
+//! What one pass over the arcs shows of each person's pick: a flag for each person.
+
+ghost use Rattle.std.specs.Prelude.{◌≡◌, ◌<◌, ◌+◌, ◌^◌, not, ◌&&◌, length, All, IfOk, pos, ◌+ℤ◌, ◌*ℤ◌};
+ghost use Rattle.std.specs.List.{position};
+ghost use Rattle.auc_graph.specs.Problem.{IsWithin};
+ghost use Rattle.auc_cert.specs.Claim.{arc_of, chosen, same_arc, is_missing, bears, is_slack_right, AreFlags, is_flag};
+
+use crate::lists::Pick;
+use auc_graph::Arc;
+use std::alloc::{AllocError, Global};
+
+fn both(a: bool, b: bool) -> bool
+    ensures { result ≡ (a && b) }
+{
+    a && b
+}
+
+/// The first person whose flag is this one.
+fn first_person(flags: &[bool], flag: bool) -> Option<u32>
+    requires { length flags.now < 2 ^ 32 }
+    ensures { result ≡ position (is_flag flag) flags.now }
+{
+    for i in 0..flags.len() {
+        if flags[i] == flag {
+            return Some(i as u32);
+        }
+    }
+    None
+}
+
+fn is_same(person: u32, pick: Pick, arc: Arc) -> bool
+    ensures { result ≡ same_arc (arc_of person pick) arc }
+{
+    person == arc.person && pick.object == arc.object && pick.cost == arc.cost
+}
+
+/// For each person, that no arc is his pick.
+fn missing_flags(alloc: Global, choice: &[Pick], arcs: &[Arc]) -> Result<Vec<bool>, AllocError>
+    requires { All (IsWithin (length choice.now) (length choice.now)) arcs.now }
+    ensures { IfOk result (λ v. AreFlags (is_missing arcs.now) choice.now v.items) }
+{
+    let mut flags = vec![in alloc; true; choice.len()]?;
+    for arc in arcs {
+        let person = arc.person as usize;
+        let is_other = !is_same(arc.person, choice[person], *arc);
+        flags[person] = both(flags[person], is_other);
+    }
+    Ok(flags)
+}
+
+/// The first person whose pick is no arc of his.
+pub(crate) fn missing_person(
+    alloc: Global,
+    choice: &[Pick],
+    arcs: &[Arc],
+) -> Result<Option<u32>, AllocError>
+    requires few { length choice.now < 2 ^ 32 }
+    requires within { All (IsWithin (length choice.now) (length choice.now)) arcs.now }
+    ensures { IfOk result (λ o. o ≡ position (is_missing arcs.now) (chosen 0 choice.now)) }
+{
+    let missing = missing_flags(alloc, choice, arcs)?;
+    Ok(first_person(missing.as_slice(), true))
+}
+
+/// The value of an arc: its scaled cost and the price of its object.
+fn value_of(scale: u32, cost: i64, price: i64) -> i128
+    ensures { result ≡ pos scale *ℤ cost +ℤ price }
+{
+    scale as i128 * cost as i128 + price as i128
+}
+
+/// Whether an arc leaves a pick slack-right: it is another person's, or not better by more than 1.
+fn is_bearing(scale: u32, prices: &[i64], person: u32, pick: Pick, arc: Arc) -> bool
+    requires pick { pick.object < length prices.now }
+    requires arc { arc.object < length prices.now }
+    ensures { result ≡ bears scale prices.now (arc_of person pick) arc }
+{
+    person != arc.person
+        || value_of(scale, pick.cost, prices[pick.object as usize])
+            <= value_of(scale, arc.cost, prices[arc.object as usize]) + 1
+}
+
+/// For each person, that his pick is slack-right.
+fn slack_flags(
+    alloc: Global,
+    scale: u32,
+    choice: &[Pick],
+    prices: &[i64],
+    arcs: &[Arc],
+) -> Result<Vec<bool>, AllocError>
+    requires arcs { All (IsWithin (length choice.now) (length prices.now)) arcs.now }
+    requires picks { All (λ p. p.object < length prices.now) choice.now }
+    ensures { IfOk result (λ v. AreFlags (is_slack_right scale prices.now arcs.now) choice.now v.items) }
+{
+    let mut flags = vec![in alloc; true; choice.len()]?;
+    for arc in arcs {
+        let person = arc.person as usize;
+        let is_fine = is_bearing(scale, prices, arc.person, choice[person], *arc);
+        flags[person] = both(flags[person], is_fine);
+    }
+    Ok(flags)
+}
+
+/// The first person who has an arc better than his pick by more than 1.
+pub(crate) fn slack_person(
+    alloc: Global,
+    scale: u32,
+    choice: &[Pick],
+    prices: &[i64],
+    arcs: &[Arc],
+) -> Result<Option<u32>, AllocError>
+    requires few { length choice.now < 2 ^ 32 }
+    requires arcs { All (IsWithin (length choice.now) (length prices.now)) arcs.now }
+    requires picks { All (λ p. p.object < length prices.now) choice.now }
+    ensures { IfOk result (λ o. o ≡ position (λ c. not (is_slack_right scale prices.now arcs.now c)) (chosen 0 choice.now)) }
+{
+    let fine = slack_flags(alloc, scale, choice, prices, arcs)?;
+    Ok(first_person(fine.as_slice(), false))
+}

@@ -1,0 +1,4 @@
+pub mod Lines
+pub mod Statuses
+pub mod Verdicts
+pub mod Said

@@ -1,0 +1,59 @@
+-- The one line that the program writes for a verdict on a claim.
+use Rattle.std.specs.Prelude.{ℕ, ◌+◌, List, ◌++◌, codes, Result, Ok, Err, ℤ}
+use Rattle.std.specs.Fmt.{decimal, signed_decimal}
+use Rattle.auc_graph.specs.declared.read_error.ReadError.{ReadError}
+use Rattle.auc_graph.specs.declared.read_error.ReadError.TheVariants.{Empty, BadNumber, CountRange, TooManyArcs, PersonRange, ObjectRange, CostRange, Cut, NoMemory}
+use Rattle.auc_cert.specs.declared.refused.CertRefused.{CertRefused}
+use Rattle.auc_cert.specs.declared.refused.CertRefused.TheVariants.{WrongSize, NoSuchArc, ObjectTwice, WrongCost, Slack, NoMemory as NoMemoryToCheck}
+use Rattle.auc_cert.specs.declared.text_error.CertTextError.{CertTextError}
+use Rattle.auc_cert.specs.declared.text_error.CertTextError.TheVariants.{Line, NoMemory as NoMemoryForText}
+use Rattle.auc_run.specs.declared.input.ReadFault.{ReadFault}
+use Rattle.auc_run.specs.declared.input.ReadFault.TheVariants.{Failed, TooManyReads, NoMemory as NoMemoryToRead}
+use Rattle.auc_run.specs.declared.refusal.Refusal.{Refusal}
+use Rattle.auc_run.specs.declared.refusal.Refusal.TheVariants.{NotRead, NoProblem, NoCertificate, Invalid}
+
+-- words, a number and the line end
+abbrev pub counted : List ℕ → ℕ → List ℕ
+counted words n = words ++ decimal n ++ codes "\n"
+
+abbrev pub input_line : ReadFault → List ℕ
+input_line Failed = codes "refused read\n"
+input_line TooManyReads = codes "refused reads\n"
+input_line NoMemoryToRead = codes "refused memory\n"
+
+-- tokens and arcs are written from 1 on
+abbrev pub problem_line : ReadError → List ℕ
+problem_line Empty = codes "refused empty\n"
+problem_line (BadNumber token) = counted (codes "refused number ") (token + 1)
+problem_line CountRange = codes "refused count\n"
+problem_line TooManyArcs = codes "refused arcs\n"
+problem_line (PersonRange arc) = counted (codes "refused person ") (arc + 1)
+problem_line (ObjectRange arc) = counted (codes "refused object ") (arc + 1)
+problem_line (CostRange arc) = counted (codes "refused cost ") (arc + 1)
+problem_line (Cut tokens) = counted (codes "refused cut ") tokens
+problem_line NoMemory = codes "refused memory\n"
+
+-- lines are written from 1 on
+abbrev pub certificate_line : CertTextError → List ℕ
+certificate_line (Line k) = counted (codes "refused certificate ") (k + 1)
+certificate_line NoMemoryForText = codes "refused memory\n"
+
+-- persons and objects are written from 1 on
+abbrev pub claim_line : CertRefused → List ℕ
+claim_line WrongSize = codes "invalid size\n"
+claim_line (NoSuchArc person) = counted (codes "invalid arc ") (person + 1)
+claim_line (ObjectTwice object) = counted (codes "invalid twice ") (object + 1)
+claim_line WrongCost = codes "invalid cost\n"
+claim_line (Slack person) = counted (codes "invalid slack ") (person + 1)
+claim_line NoMemoryToCheck = codes "refused memory\n"
+
+abbrev pub refusal_line : Refusal → List ℕ
+refusal_line (NotRead fault) = input_line fault
+refusal_line (NoProblem error) = problem_line error
+refusal_line (NoCertificate error) = certificate_line error
+refusal_line (Invalid error) = claim_line error
+
+-- a valid claim is told by its cost
+abbrev pub verdict_line : Result ℤ Refusal → List ℕ
+verdict_line (Ok cost) = codes "valid optimal " ++ signed_decimal cost ++ codes "\n"
+verdict_line (Err refusal) = refusal_line refusal

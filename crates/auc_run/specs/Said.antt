@@ -1,0 +1,21 @@
+-- What a job may write, and its status, by what it was given to read.
+use Rattle.std.specs.Prelude.{◌≡◌, ℕ, List, Option, Result, ℤ}
+use Rattle.std.specs.Io.KnownBytes.{Appends}
+use Rattle.auc_run.specs.declared.command.Job.{Job}
+use Rattle.auc_run.specs.declared.command.Job.TheVariants.{Check}
+use Rattle.auc_run.specs.declared.refusal.Refusal.{Refusal}
+use Rattle.auc_run.specs.Lines.{verdict_line}
+use Rattle.auc_run.specs.Statuses.{verdict_status}
+use Rattle.auc_run.specs.Verdicts.{BearOut, AreKnown}
+
+-- a check writes the line of a verdict that the bytes of the problem and of the certificate bear out, and gives its status
+abbrev pub Checks : List ℕ → List ℕ → List ℕ → ℕ → Type 0
+Checks file cert out status = (verdict : Result ℤ Refusal) × BearOut file cert verdict × (out ≡ verdict_line verdict) × (status ≡ verdict_status verdict)
+
+-- a job, for the bytes of the two inputs, may write these and give this status
+abbrev pub Says : Job → List ℕ → List ℕ → List ℕ → ℕ → Type 0
+Says Check file cert out status = Checks file cert out status
+
+-- a job wrote behind what the writer had, and gave the status, what it may for the bytes of the two readers; bytes that a reader does not tell are some bytes
+abbrev pub Said : Job → Option (List ℕ) → Option (List ℕ) → Option (List ℕ) → Option (List ℕ) → ℕ → Type 0
+Said job first second before after status = (file : List ℕ) × (cert : List ℕ) × (out : List ℕ) × AreKnown first file × AreKnown second cert × Appends before after out × Says job file cert out status

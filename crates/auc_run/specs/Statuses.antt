@@ -1,0 +1,51 @@
+-- The status that the program gives for a verdict on a claim.
+use Rattle.std.specs.Prelude.{ℕ, Result, Ok, Err, ℤ}
+use Rattle.auc_graph.specs.declared.read_error.ReadError.{ReadError}
+use Rattle.auc_graph.specs.declared.read_error.ReadError.TheVariants.{Empty, BadNumber, CountRange, TooManyArcs, PersonRange, ObjectRange, CostRange, Cut, NoMemory}
+use Rattle.auc_cert.specs.declared.refused.CertRefused.{CertRefused}
+use Rattle.auc_cert.specs.declared.refused.CertRefused.TheVariants.{WrongSize, NoSuchArc, ObjectTwice, WrongCost, Slack, NoMemory as NoMemoryToCheck}
+use Rattle.auc_cert.specs.declared.text_error.CertTextError.{CertTextError}
+use Rattle.auc_cert.specs.declared.text_error.CertTextError.TheVariants.{Line, NoMemory as NoMemoryForText}
+use Rattle.auc_run.specs.declared.input.ReadFault.{ReadFault}
+use Rattle.auc_run.specs.declared.input.ReadFault.TheVariants.{Failed, TooManyReads, NoMemory as NoMemoryToRead}
+use Rattle.auc_run.specs.declared.refusal.Refusal.{Refusal}
+use Rattle.auc_run.specs.declared.refusal.Refusal.TheVariants.{NotRead, NoProblem, NoCertificate, Invalid}
+use Rattle.auc_run.specs.declared.status.TheConstants.{VALID, INVALID, REFUSED, NO_MEMORY}
+
+abbrev pub input_status : ReadFault → ℕ
+input_status Failed = REFUSED
+input_status TooManyReads = REFUSED
+input_status NoMemoryToRead = NO_MEMORY
+
+abbrev pub problem_status : ReadError → ℕ
+problem_status Empty = REFUSED
+problem_status (BadNumber token) = REFUSED
+problem_status CountRange = REFUSED
+problem_status TooManyArcs = REFUSED
+problem_status (PersonRange arc) = REFUSED
+problem_status (ObjectRange arc) = REFUSED
+problem_status (CostRange arc) = REFUSED
+problem_status (Cut tokens) = REFUSED
+problem_status NoMemory = NO_MEMORY
+
+abbrev pub certificate_status : CertTextError → ℕ
+certificate_status (Line k) = REFUSED
+certificate_status NoMemoryForText = NO_MEMORY
+
+abbrev pub claim_status : CertRefused → ℕ
+claim_status WrongSize = INVALID
+claim_status (NoSuchArc person) = INVALID
+claim_status (ObjectTwice object) = INVALID
+claim_status WrongCost = INVALID
+claim_status (Slack person) = INVALID
+claim_status NoMemoryToCheck = NO_MEMORY
+
+abbrev pub refusal_status : Refusal → ℕ
+refusal_status (NotRead fault) = input_status fault
+refusal_status (NoProblem error) = problem_status error
+refusal_status (NoCertificate error) = certificate_status error
+refusal_status (Invalid error) = claim_status error
+
+abbrev pub verdict_status : Result ℤ Refusal → ℕ
+verdict_status (Ok cost) = VALID
+verdict_status (Err refusal) = refusal_status refusal

@@ -1,0 +1,54 @@
+-- Which verdicts are right for a problem and a certificate, and for the bytes of both. A verdict is the cost of a valid claim, or a refusal.
+use Rattle.std.specs.Prelude.{◌≡◌, ◌≢◌, ℕ, List, Option, Some, None, IfSome, Result, Ok, Err, ℤ, ⊤}
+use Rattle.auc_graph.specs.declared.limits.TheConstants.{MOST_ARCS}
+use Rattle.auc_graph.specs.declared.read_error.ReadError.TheVariants.{NoMemory}
+use Rattle.auc_graph.specs.Problem.{Problem}
+use Rattle.auc_graph.specs.Reading.{reading}
+use Rattle.auc_cert.specs.declared.cert.CertParts.{CertParts}
+use Rattle.auc_cert.specs.declared.cert.CertParts.TheVariants.{Optimal}
+use Rattle.auc_cert.specs.declared.refused.CertRefused.TheVariants.{NoMemory as NoMemoryToCheck}
+use Rattle.auc_cert.specs.declared.text_error.CertTextError.TheVariants.{Line, NoMemory as NoMemoryForText}
+use Rattle.auc_cert.specs.Spelled.{IsSpelled}
+use Rattle.auc_cert.specs.Text.{text}
+use Rattle.auc_cert.specs.CertReading.{IsFirstBadLine}
+use Rattle.auc_cert.specs.Claim.{fault_of, IsAllowed}
+use Rattle.auc_run.specs.declared.refusal.Refusal.{Refusal}
+use Rattle.auc_run.specs.declared.refusal.Refusal.TheVariants.{NotRead, NoProblem, NoCertificate, Invalid}
+
+-- the problem that a file reads as
+abbrev pub IsProblemOf : List ℕ → Problem → Type 0
+IsProblemOf file p = reading MOST_ARCS file ≡ Ok p
+
+-- the claim that a certificate spells
+pub record IsClaimOf (cert : List ℕ) (c : CertParts) : Type 0 where
+  pub spelled : IsSpelled c
+  pub text : cert ≡ text c
+
+abbrev pub claimed_cost : CertParts → ℤ
+claimed_cost (Optimal cost choice prices) = cost
+
+-- A verdict on a problem and a claim. A valid claim is true, whatever the prices: its picks are an assignment of this cost, and none costs less. An
+-- invalid one has this first fault.
+abbrev pub Judges : Problem → CertParts → Result ℤ Refusal → Type 0
+Judges p c (Ok cost) = (fault_of p c ≡ None) × IsAllowed p c × (claimed_cost c ≡ cost)
+Judges p c (Err (Invalid error)) = error ≢ NoMemoryToCheck → fault_of p c ≡ Some error
+Judges p c (Err (NotRead fault)) = ⊥
+Judges p c (Err (NoProblem error)) = ⊥
+Judges p c (Err (NoCertificate error)) = ⊥
+
+-- The bytes of a problem and of a certificate bear a verdict out. Of a read that failed, of too many reads and of want of memory nothing is known.
+abbrev pub BearOut : List ℕ → List ℕ → Result ℤ Refusal → Type 0
+BearOut file cert (Ok cost) = (p : Problem) × (c : CertParts) × IsProblemOf file p × IsClaimOf cert c × Judges p c (Ok cost)
+BearOut file cert (Err (Invalid error)) = error ≢ NoMemoryToCheck → (p : Problem) × (c : CertParts) × IsProblemOf file p × IsClaimOf cert c × Judges p c (Err (Invalid error))
+BearOut file cert (Err (NoCertificate (Line k))) = (p : Problem) × IsProblemOf file p × IsFirstBadLine cert k
+BearOut file cert (Err (NoCertificate NoMemoryForText)) = ⊤
+BearOut file cert (Err (NoProblem error)) = error ≢ NoMemory → reading MOST_ARCS file ≡ Err error
+BearOut file cert (Err (NotRead fault)) = ⊤
+
+-- the bytes are these, where they are known
+abbrev pub AreKnown : Option (List ℕ) → List ℕ → Type 0
+AreKnown known bytes = IfSome known (λ xs. bytes ≡ xs)
+
+-- a verdict on what two readers have
+abbrev pub IsVerdict : Option (List ℕ) → Option (List ℕ) → Result ℤ Refusal → Type 0
+IsVerdict first second verdict = (file : List ℕ) × (cert : List ℕ) × AreKnown first file × AreKnown second cert × BearOut file cert verdict

@@ -1,0 +1,90 @@
+//! The jobs.
+
+ghost use Rattle.std.specs.Prelude.{◌≡◌, ◌≢◌, IfSome, IsErr};
+ghost use Rattle.std.specs.Io.KnownBytes.{Appends};
+ghost use Rattle.auc_graph.specs.Reading.{reading};
+ghost use Rattle.auc_cert.specs.Spelled.{IsSpelled};
+ghost use Rattle.auc_run.specs.Lines.{verdict_line};
+ghost use Rattle.auc_run.specs.Statuses.{verdict_status};
+ghost use Rattle.auc_run.specs.Verdicts.{Judges, IsVerdict};
+ghost use Rattle.auc_run.specs.Said.{Said};
+
+use crate::input::read_all;
+use crate::lines::{status_of, write_verdict};
+use crate::refusal::Refusal;
+use crate::status::UNWRITTEN;
+use auc_cert::{Cert, CertParts, check, read_cert};
+use auc_graph::{ArcList, MOST_ARCS, MOST_READS, ReadLimits, read_arcs};
+use std::alloc::Global;
+use std::io::{Read, Write};
+
+/// What the program is to do.
+#[derive(Clone, Copy, Debug, PartialEq, Eq)]
+pub enum Job {
+    /// Reads a problem from the first reader and a certificate from the second, and says whether what the certificate
+    /// claims of the problem holds.
+    Check,
+}
+
+/// The cost that a certificate claims, where all that it claims holds.
+fn judge(alloc: Global, problem: &ArcList, cert: &Cert) -> Result<i64, Refusal>
+    ensures judges { Judges problem.now cert.now result }
+    ensures spelled { IsSpelled cert.now }
+{
+    let CertParts::Optimal { cost, .. } = cert.parts();
+    check(alloc, problem, cert)?;
+    Ok(*cost)
+}
+
+/// The cost that the certificate of the second reader claims, where all that it claims of the first reader's problem
+/// holds. The second reader is read once the problem is accepted.
+fn verdict_of<R: Read, Q: Read>(
+    alloc: Global,
+    reader: &mut R,
+    second: &mut Q,
+) -> Result<i64, Refusal>
+    ensures verdict { IsVerdict (R.remaining reader.old) (Q.remaining second.old) result }
+    ensures unread { IfSome (R.remaining reader.old) (λ file. IsErr (reading MOST_ARCS file) → second.new ≡ second.old) }
+{
+    let bytes = read_all(alloc, reader, MOST_READS)?;
+    let problem = read_arcs(alloc, bytes.as_slice(), ReadLimits::usual())?;
+    // The text of a large problem takes as much memory as its arcs.
+    drop(bytes);
+    let bytes = read_all(alloc, second, MOST_READS)?;
+    let cert = read_cert(alloc, bytes.as_slice())?;
+    judge(alloc, &problem, &cert)
+}
+
+/// Writes the line of a verdict, and gives its status.
+fn answer<W: Write>(writer: &mut W, verdict: Result<i64, Refusal>) -> u8
+    ensures { result ≢ UNWRITTEN → Appends (W.contents writer.old) (W.contents writer.new) (verdict_line verdict) × (result ≡ verdict_status verdict) }
+{
+    match write_verdict(writer, verdict) {
+        Ok(()) => status_of(verdict),
+        Err(_) => UNWRITTEN,
+    }
+}
+
+/// Does a job: reads `reader` and, where the job wants it, `second`, writes the answer to `writer`, and gives the
+/// status, one of [`crate::status`]. Each reader is read to its end, by at most [`MOST_READS`] reads, and a failed read
+/// is never tried again. The writer is not flushed.
+///
+/// Nothing is promised of what was written where the status is [`UNWRITTEN`]: a write failed, or took no bytes.
+///
+/// A check takes O(bytes) time; its memory is that of one input at a time, and 16 bytes an arc.
+pub fn run_command<R: Read, Q: Read, W: Write>(
+    alloc: Global,
+    job: &Job,
+    reader: &mut R,
+    second: &mut Q,
+    writer: &mut W,
+) -> u8
+    // What was written and the status are right for the bytes that were read.
+    ensures said { result ≢ UNWRITTEN → Said job.now (R.remaining reader.old) (Q.remaining second.old) (W.contents writer.old) (W.contents writer.new) result }
+    // A certificate for what is no problem is left unread.
+    ensures unread { IfSome (R.remaining reader.old) (λ file. IsErr (reading MOST_ARCS file) → second.new ≡ second.old) }
+{
+    match job {
+        Job::Check => answer(writer, verdict_of(alloc, reader, second)),
+    }
+}

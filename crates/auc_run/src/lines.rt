@@ -1,0 +1,146 @@
+//! The line that tells a verdict, and its status.
+
+ghost use Rattle.std.specs.Prelude.{◌≡◌, ◌+◌, OnOk, Ok};
+ghost use Rattle.std.specs.Fmt.{signed_decimal};
+ghost use Rattle.std.specs.Io.KnownBytes.{Appends};
+ghost use Rattle.auc_run.specs.Lines.{counted, input_line, problem_line, certificate_line, claim_line, refusal_line, verdict_line};
+ghost use Rattle.auc_run.specs.Statuses.{refusal_status, verdict_status};
+
+use crate::input::ReadFault;
+use crate::refusal::Refusal;
+use crate::status::{INVALID, NO_MEMORY, REFUSED, VALID};
+use auc_cert::{CertRefused, CertTextError, WriteFault, write_whole};
+use auc_graph::ReadError;
+use itoa::Buffer;
+use std::io::Write;
+
+/// Writes words, a number and the line end.
+fn write_counted<W: Write>(writer: &mut W, words: &[u8], number: u128) -> Result<(), WriteFault>
+    ensures { OnOk result (Appends (W.contents writer.old) (W.contents writer.new) (counted words.now number)) }
+{
+    let mut buffer = Buffer::new();
+    write_whole(writer, words)?;
+    write_whole(writer, buffer.format(number).as_bytes())?;
+    write_whole(writer, b"\n")?;
+    Ok(())
+}
+
+/// Writes the number from 1 on of what is numbered from 0.
+fn write_place<W: Write>(writer: &mut W, words: &[u8], place: u64) -> Result<(), WriteFault>
+    ensures { OnOk result (Appends (W.contents writer.old) (W.contents writer.new) (counted words.now (place + 1))) }
+{
+    write_counted(writer, words, place as u128 + 1)
+}
+
+fn write_number<W: Write>(writer: &mut W, number: i64) -> Result<(), WriteFault>
+    ensures { OnOk result (Appends (W.contents writer.old) (W.contents writer.new) (signed_decimal number)) }
+{
+    let mut buffer = Buffer::new();
+    write_whole(writer, buffer.format(number).as_bytes())
+}
+
+fn write_valid<W: Write>(writer: &mut W, cost: i64) -> Result<(), WriteFault>
+    ensures { OnOk result (Appends (W.contents writer.old) (W.contents writer.new) (verdict_line (Ok cost))) }
+{
+    write_whole(writer, b"valid optimal ")?;
+    write_number(writer, cost)?;
+    write_whole(writer, b"\n")?;
+    Ok(())
+}
+
+fn write_input<W: Write>(writer: &mut W, fault: ReadFault) -> Result<(), WriteFault>
+    ensures { OnOk result (Appends (W.contents writer.old) (W.contents writer.new) (input_line fault)) }
+{
+    match fault {
+        ReadFault::Failed => write_whole(writer, b"refused read\n"),
+        ReadFault::TooManyReads => write_whole(writer, b"refused reads\n"),
+        ReadFault::NoMemory => write_whole(writer, b"refused memory\n"),
+    }
+}
+
+fn write_problem<W: Write>(writer: &mut W, error: ReadError) -> Result<(), WriteFault>
+    ensures { OnOk result (Appends (W.contents writer.old) (W.contents writer.new) (problem_line error)) }
+{
+    match error {
+        ReadError::Empty => write_whole(writer, b"refused empty\n"),
+        ReadError::BadNumber { token } => write_place(writer, b"refused number ", token),
+        ReadError::CountRange => write_whole(writer, b"refused count\n"),
+        ReadError::TooManyArcs => write_whole(writer, b"refused arcs\n"),
+        ReadError::PersonRange { arc } => write_place(writer, b"refused person ", arc),
+        ReadError::ObjectRange { arc } => write_place(writer, b"refused object ", arc),
+        ReadError::CostRange { arc } => write_place(writer, b"refused cost ", arc),
+        ReadError::Cut { tokens } => { write_counted(writer, b"refused cut ", tokens as u128) }
+        ReadError::NoMemory => write_whole(writer, b"refused memory\n"),
+    }
+}
+
+fn write_certificate<W: Write>(writer: &mut W, error: CertTextError) -> Result<(), WriteFault>
+    ensures { OnOk result (Appends (W.contents writer.old) (W.contents writer.new) (certificate_line error)) }
+{
+    match error {
+        CertTextError::Line { line } => write_place(writer, b"refused certificate ", line),
+        CertTextError::NoMemory => write_whole(writer, b"refused memory\n"),
+    }
+}
+
+fn write_claim<W: Write>(writer: &mut W, error: CertRefused) -> Result<(), WriteFault>
+    ensures { OnOk result (Appends (W.contents writer.old) (W.contents writer.new) (claim_line error)) }
+{
+    match error {
+        CertRefused::WrongSize => write_whole(writer, b"invalid size\n"),
+        CertRefused::NoSuchArc { person } => { write_place(writer, b"invalid arc ", person as u64) }
+        CertRefused::ObjectTwice { object } => {
+            write_place(writer, b"invalid twice ", object as u64)
+        }
+        CertRefused::WrongCost => write_whole(writer, b"invalid cost\n"),
+        CertRefused::Slack { person } => { write_place(writer, b"invalid slack ", person as u64) }
+        CertRefused::NoMemory => write_whole(writer, b"refused memory\n"),
+    }
+}
+
+fn write_refusal<W: Write>(writer: &mut W, refusal: Refusal) -> Result<(), WriteFault>
+    ensures { OnOk result (Appends (W.contents writer.old) (W.contents writer.new) (refusal_line refusal)) }
+{
+    match refusal {
+        Refusal::NotRead(fault) => write_input(writer, fault),
+        Refusal::NoProblem(error) => write_problem(writer, error),
+        Refusal::NoCertificate(error) => write_certificate(writer, error),
+        Refusal::Invalid(error) => write_claim(writer, error),
+    }
+}
+
+/// Writes the one line of a verdict.
+pub(crate) fn write_verdict<W: Write>(
+    writer: &mut W,
+    verdict: Result<i64, Refusal>,
+) -> Result<(), WriteFault>
+    ensures { OnOk result (Appends (W.contents writer.old) (W.contents writer.new) (verdict_line verdict)) }
+{
+    match verdict {
+        Ok(cost) => write_valid(writer, cost),
+        Err(refusal) => write_refusal(writer, refusal),
+    }
+}
+
+fn status_of_refusal(refusal: Refusal) -> u8
+    ensures { result ≡ refusal_status refusal }
+{
+    match refusal {
+        Refusal::NotRead(ReadFault::NoMemory)
+        | Refusal::NoProblem(ReadError::NoMemory)
+        | Refusal::NoCertificate(CertTextError::NoMemory)
+        | Refusal::Invalid(CertRefused::NoMemory) => NO_MEMORY,
+        Refusal::Invalid(_) => INVALID,
+        Refusal::NotRead(_) | Refusal::NoProblem(_) | Refusal::NoCertificate(_) => REFUSED,
+    }
+}
+
+/// The status of a verdict.
+pub(crate) fn status_of(verdict: Result<i64, Refusal>) -> u8
+    ensures { result ≡ verdict_status verdict }
+{
+    match verdict {
+        Ok(_) => VALID,
+        Err(refusal) => status_of_refusal(refusal),
+    }
+}

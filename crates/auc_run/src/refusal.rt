@@ -1,0 +1,53 @@
+//! Why a claim was not found valid.
+
+ghost use Rattle.std.specs.Prelude.{◌≡◌};
+ghost use Rattle.auc_run.specs.declared.refusal.Refusal.TheVariants.{NotRead, NoProblem, NoCertificate, Invalid};
+
+use crate::input::ReadFault;
+use auc_cert::{CertRefused, CertTextError};
+use auc_graph::ReadError;
+
+/// Why a claim was not found valid. The problem is read and judged first, then the certificate, then the claim.
+#[derive(Clone, Copy, Debug, PartialEq, Eq)]
+pub enum Refusal {
+    /// An input was not read to its end.
+    NotRead(ReadFault),
+    /// The first input is no problem.
+    NoProblem(ReadError),
+    /// The second input is no certificate.
+    NoCertificate(CertTextError),
+    /// What the certificate claims does not hold of the problem.
+    Invalid(CertRefused),
+}
+
+impl From<ReadFault> for Refusal {
+    ghost from_gives = { λ fault r. r ≡ NotRead fault };
+
+    fn from(fault: ReadFault) -> Refusal {
+        Refusal::NotRead(fault)
+    }
+}
+
+impl From<ReadError> for Refusal {
+    ghost from_gives = { λ error r. r ≡ NoProblem error };
+
+    fn from(error: ReadError) -> Refusal {
+        Refusal::NoProblem(error)
+    }
+}
+
+impl From<CertTextError> for Refusal {
+    ghost from_gives = { λ error r. r ≡ NoCertificate error };
+
+    fn from(error: CertTextError) -> Refusal {
+        Refusal::NoCertificate(error)
+    }
+}
+
+impl From<CertRefused> for Refusal {
+    ghost from_gives = { λ error r. r ≡ Invalid error };
+
+    fn from(error: CertRefused) -> Refusal {
+        Refusal::Invalid(error)
+    }
+}

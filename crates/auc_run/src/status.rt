@@ -1,0 +1,19 @@
+//! The statuses of the program.
+
+/// The claim holds.
+pub const VALID: u8 = 0;
+
+/// The words are no command.
+pub const USAGE: u8 = 2;
+
+/// The claim does not hold.
+pub const INVALID: u8 = 3;
+
+/// An input can't be opened or read, or is no problem or no certificate.
+pub const REFUSED: u8 = 5;
+
+/// Memory ran out.
+pub const NO_MEMORY: u8 = 6;
+
+/// The answer was not written, or not all of it.
+pub const UNWRITTEN: u8 = 8;

@@ -1,0 +1,28 @@
+-- What the words of the command line ask for.
+use Rattle.std.specs.Prelude.{◌≡◌, ◌≢◌, ℕ, List, [], ◌∷◌, Option, Some, None, Result, Ok, Err, option_map, codes, ⊤}
+use Rattle.clap.specs.Words.{Row, first_of}
+use Rattle.std.specs.String.{string_bytes}
+use Rattle.auc_run.specs.declared.command.Job.TheVariants.{Check}
+use Rattle.auction.specs.declared.asked.Words.{Words}
+use Rattle.auction.specs.declared.words_error.WordsError.{WordsError}
+use Rattle.auction.specs.declared.words_error.WordsError.TheVariants.{NoMemory}
+
+-- the word is no option: it does not begin with a hyphen
+abbrev pub IsName : List ℕ → Type 0
+IsName [] = ⊤
+IsName (b ∷ bytes) = b ≢ 45
+
+-- the words were read as a check of the files that a subcommand's matches name, unless memory ran out
+abbrev pub HasFilesOf : Result Words WordsError → List Row → Type 0
+HasFilesOf (Ok w) rows = (w.job ≡ Check) × (option_map string_bytes w.first ≡ first_of (codes "file") rows) × (option_map string_bytes w.second ≡ first_of (codes "cert") rows)
+HasFilesOf (Err e) rows = e ≡ NoMemory
+
+-- the words are `check` and the name of a file, and may have the name of a certificate
+abbrev pub AreCheck : List (List ℕ) → List ℕ → Option (List ℕ) → Type 0
+AreCheck words file None = IsName file × (words ≡ codes "check" ∷ file ∷ [])
+AreCheck words file (Some cert) = IsName file × IsName cert × (words ≡ codes "check" ∷ file ∷ cert ∷ [])
+
+-- the words were read as a check of this file by this certificate, unless memory ran out
+abbrev pub AsksToCheck : Result Words WordsError → List ℕ → Option (List ℕ) → Type 0
+AsksToCheck (Ok w) file cert = (w.job ≡ Check) × (option_map string_bytes w.first ≡ Some file) × (option_map string_bytes w.second ≡ cert)
+AsksToCheck (Err e) file cert = e ≡ NoMemory

@@ -1,0 +1,24 @@
+-- The grammar of the command line, as the parser of words sees it.
+use Rattle.std.specs.Prelude.{true, codes}
+use Rattle.clap.specs.Words.{App, Rule, new_app, new_rule, with_rule, with_subcommand}
+use Rattle.clap.specs.Simple.{on_top}
+
+abbrev pub file_rule : Rule
+file_rule = record (new_rule (codes "file")) { required = true }
+
+-- `check FILE [CERT]`
+abbrev pub check_grammar : App
+check_grammar = with_rule (with_rule (on_top (λ s. record s { disable_help_flag = true }) (new_app (codes "check"))) file_rule) (new_rule (codes "cert"))
+
+-- no help, no version, and a command has to be named
+abbrev pub bare_grammar : App
+bare_grammar = on_top (λ s. record s {
+  no_binary_name = true;
+  disable_help_flag = true;
+  disable_version_flag = true;
+  disable_help_subcommand = true;
+  subcommand_required = true;
+}) (new_app (codes "auction"))
+
+abbrev pub grammar : App
+grammar = with_subcommand bare_grammar check_grammar.top

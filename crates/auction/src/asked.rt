@@ -1,0 +1,11 @@
+//! What the words of the command line ask for.
+
+use auc_run::Job;
+
+/// A job, and the names of the files that it reads. A name left out means standard input.
+#[derive(Debug, Drop)]
+pub struct Words {
+    pub job: Job,
+    pub first: Option<String>,
+    pub second: Option<String>,
+}

@@ -1,0 +1,105 @@
+//! The program: the words of its command line, the files that they name, and the job over them.
+#![tactic(auto)]
+
+mod asked;
+#[cfg(test)]
+mod tests;
+mod words;
+mod words_error;
+
+use asked::Words;
+use auc_run::status::{NO_MEMORY, REFUSED, UNWRITTEN, USAGE};
+use auc_run::{Job, run_command};
+use std::fs::File;
+use std::io;
+use std::io::{BufWriter, ErrorKind, Read, Write};
+use std::process::ExitCode;
+use std::rt::{Env, Files};
+use words::read_words;
+use words_error::WordsError;
+
+/// The words that the program was started with. One that is not UTF-8 is at fault.
+fn given_words<R: Env + AllocGlobal>(rt: &R) -> Result<Words, WordsError> {
+    let alloc = rt.alloc();
+    let all = match std::env::args(rt) {
+        Ok(all) => all,
+        Err(error) if error.kind() == ErrorKind::OutOfMemory => {
+            return Err(WordsError::NoMemory);
+        }
+        Err(_) => return Err(WordsError::Usage),
+    };
+    let words: Vec<String> = all.skip(1).collect(alloc)?;
+    read_words(alloc, words.as_slice())
+}
+
+/// Does the job with these readers, and writes to standard output.
+fn answer<R: Print + AllocGlobal, A: Read, B: Read>(
+    rt: &R,
+    job: &Job,
+    first: &mut A,
+    second: &mut B,
+) -> u8 {
+    let alloc = rt.alloc();
+    let Ok(mut writer) = BufWriter::new(alloc, io::writer(rt)) else {
+        return NO_MEMORY;
+    };
+    let status = run_command(alloc, job, first, second, &mut writer);
+    if writer.flush().is_err() {
+        return UNWRITTEN;
+    }
+    status
+}
+
+/// Opens a file, or tells on standard error why not.
+fn open<R: Files + Eprint>(rt: &R, name: &str) -> Option<R::File> {
+    match File::open(rt, name) {
+        Ok(file) => Some(file),
+        Err(error) => {
+            let _ = eprintln!(rt; "auction: {name}: {error}");
+            None
+        }
+    }
+}
+
+/// Opens the second file, and does the job.
+fn with_second<R: Files + Input + Print + Eprint + AllocGlobal, A: Read>(
+    rt: &R,
+    words: &Words,
+    first: &mut A,
+) -> u8 {
+    match &words.second {
+        Some(name) => match open(rt, name.as_str()) {
+            Some(mut second) => answer(rt, &words.job, first, &mut second),
+            None => REFUSED,
+        },
+        None => answer(rt, &words.job, first, &mut rt.reader()),
+    }
+}
+
+/// Opens the first file, then the second, before anything is read, and does the job.
+fn with_files<R: Files + Input + Print + Eprint + AllocGlobal>(rt: &R, words: &Words) -> u8 {
+    match &words.first {
+        Some(name) => match open(rt, name.as_str()) {
+            Some(mut first) => with_second(rt, words, &mut first),
+            None => REFUSED,
+        },
+        None => with_second(rt, words, &mut rt.reader()),
+    }
+}
+
+fn run<R: Env + Files + Input + Print + Eprint + AllocGlobal>(rt: &R) -> u8 {
+    match given_words(rt) {
+        Ok(words) => with_files(rt, &words),
+        Err(error) => {
+            let _ = eprintln!(rt; "{error}");
+            match error {
+                WordsError::Usage => USAGE,
+                WordsError::NoMemory => NO_MEMORY,
+            }
+        }
+    }
+}
+
+fn main(rt: HostRuntime) -> ExitCode {
+    ExitCode::from(run(&rt))
+}

@@ -1,0 +1,66 @@
+use super::*;
+use std::test::*;
+
+/// What a line of words is read as.
+fn read(rt: &HostRuntime, line: &str) -> Result<Words, WordsError> {
+    let alloc = rt.alloc();
+    let mut words = Vec::new(alloc);
+    for word in line.split_ascii_whitespace() {
+        words.push(word.to_string(alloc)?)?;
+    }
+    read_words(alloc, words.as_slice())
+}
+
+#[test]
+fn names_of_files(rt: HostRuntime) -> Result<(), Fail> {
+    for (line, file, cert) in [
+        ("check a", "a", None),
+        ("check a b", "a", Some("b")),
+        ("check - -", "-", Some("-")),
+        ("check -- -a --b", "-a", Some("--b")),
+        ("check a -- -b", "a", Some("-b")),
+        ("check check check", "check", Some("check")),
+    ] {
+        let words = read(&rt, line)?;
+        assert_eq!(rt; words.job, Job::Check, "{line}");
+        assert_eq!(rt;
+            words.first.as_ref().map(|name| name.as_str()),
+            Some(file),
+            "{line}"
+        );
+        assert_eq!(rt;
+            words.second.as_ref().map(|name| name.as_str()),
+            cert,
+            "{line}"
+        );
+    }
+    Ok(())
+}
+
+#[test]
+fn other_words(rt: HostRuntime) {
+    for line in [
+        "",
+        "check",
+        "check --",
+        "check a b c",
+        "check --help",
+        "check -h",
+        "check --file a",
+        "check a -x",
+        "check a b --cert b --cert b",
+        "chec a",
+        "Check a",
+        "solve a",
+        "a check",
+        "-- check a",
+        "--help",
+        "-h",
+        "help",
+        "help check",
+        "--version",
+        "-V",
+    ] {
+        assert_eq!(rt; read(&rt, line).err(), Some(WordsError::Usage), "{line}");
+    }
+}

@@ -1,0 +1,34 @@
+//! Why the words are no job.
+
+ghost use Rattle.std.specs.Prelude.{◌≡◌};
+ghost use Rattle.auction.specs.declared.words_error.WordsError.TheVariants.{NoMemory};
+
+use std::alloc::{AllocError, AllocFailed};
+use thiserror::Error;
+
+/// Why the words are no job. The texts are what the program tells on standard error.
+#[derive(Clone, Copy, Debug, PartialEq, Eq, Error)]
+pub enum WordsError {
+    /// They are none that the program knows.
+    #[error("usage: auction check FILE [CERT]\n\nSays whether the certificate CERT shows a least-cost assignment of the problem FILE.\nWithout CERT the certificate is read from standard input.")]
+    Usage,
+    /// Memory ran out.
+    #[error("auction: out of memory")]
+    NoMemory,
+}
+
+impl From<AllocError> for WordsError {
+    ghost from_gives = { λ _ e. e ≡ NoMemory };
+
+    fn from(_e: AllocError) -> WordsError {
+        WordsError::NoMemory
+    }
+}
+
+impl<T: Drop> From<AllocFailed<T>> for WordsError {
+    ghost from_gives = { λ _ e. e ≡ NoMemory };
+
+    fn from(_e: AllocFailed<T>) -> WordsError {
+        WordsError::NoMemory
+    }
+}

@@ -1,0 +1,11 @@
+//! Worked examples: tests of the crates below by their public calls alone.
+#![tactic(auto)]
+
+#[cfg(test)]
+mod calls;
+#[cfg(test)]
+mod checks;
+#[cfg(test)]
+mod failures;
+#[cfg(test)]
+mod fakes;

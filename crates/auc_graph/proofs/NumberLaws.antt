@@ -156,6 +156,24 @@ plain_token bytes value i some lt digits stop parted is small =
       small = omega arith;
     }
 
+pub some_bytes : (bytes : List ℕ) → (length bytes == 0) ≡ false → 0 < length bytes
+some_bytes [] h = absurd cc
+some_bytes (b ∷ bytes) h = omega arith
+
+-- digits, and then the end
+pub plain_end : (bytes : List ℕ) (value i : ℕ) → 0 < length bytes → length bytes ≤ i → i ≤ length bytes → ((k : ℕ) → k < i → is_ascii_digit (get_or bytes k 0) ≡ true) → value ≡ digits_value 10 (take i bytes) → value < 10 ^ 18 → IsPlainToken bytes value (length bytes)
+plain_end bytes value i some low high digits is small =
+    let all : i ≡ length bytes = omega arith in
+    let count : prefix_len is_ascii_digit bytes ≡ length bytes = prefix_len_is is_ascii_digit bytes (length bytes) (omega arith) (λ k lt. digits k (omega arith)) (λ lt. absurd (omega arith)) in
+    record {
+      token = sym (position_or_len_is is_separator bytes (length bytes) 0 (omega arith) (λ k lt. digit_is_no_separator (get_or bytes k 0) (digits k (omega arith))) (λ lt. absurd (omega arith)));
+      some = some;
+      few = omega arith;
+      digits = digits_pass bytes (length bytes) (sym count);
+      value_is = is ∙ ap (λ (n : ℕ). digits_value 10 (take n bytes)) all;
+      small = omega arith;
+    }
+
 no_sign : (token : List ℕ) → is_nonempty token ≡ true → list_all is_ascii_digit token ≡ true → split_sign token ≡ (false, token)
 unfolding split_sign
 no_sign [] some h = absurd cc

@@ -5,10 +5,13 @@
 #![tactic(auto)]
 
 mod arc;
+mod layout;
 mod limits;
 mod number;
 mod read_error;
 mod reading;
+mod rows;
+mod spread;
 mod tokens;
 
 pub use arc::{Arc, ArcList};
@@ -16,4 +19,5 @@ pub use limits::{MOST_ARCS, MOST_COST, MOST_PERSONS, MOST_READS};
 pub use number::{Number, number_of};
 pub use read_error::ReadError;
 pub use reading::{ReadLimits, read_arcs};
+pub use rows::{RowArc, Rows};
 pub use tokens::{Token, token_at};

@@ -132,7 +132,7 @@ fn any_number_at(bytes: &[u8]) -> (Number, usize)
     (number, sign + len)
 }
 
-/// The value and the length of the token at the front, where it is a few digits and a separator stands behind it.
+/// The value and the length of the token at the front, where it is a few digits and no more.
 #[inline(always)]
 fn plain_number_at(bytes: &[u8]) -> Option<(u64, usize)>
     ensures { IfSome result (λ x. IsPlainToken bytes.now x.0 x.1) }
@@ -150,7 +150,11 @@ fn plain_number_at(bytes: &[u8]) -> Option<(u64, usize)>
         }
         value = 10 * value + (*byte - b'0') as u64;
     }
-    None
+    if bytes.is_empty() {
+        None
+    } else {
+        Some((value, bytes.len()))
+    }
 }
 
 /// The number that the bytes before the first separator spell, and how many they are. Nearly all tokens of a file are

@@ -1,1 +1,3 @@
 pub mod VerdictLaws
+pub mod ScriptLaws
+pub mod ReplyLaws

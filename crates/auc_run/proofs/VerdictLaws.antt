@@ -12,11 +12,11 @@ use Rattle.auc_run.specs.declared.refusal.Refusal.TheVariants.{NotRead, NoProble
 use Rattle.auc_run.specs.Verdicts.{AreKnown, IsVerdict}
 
 -- the known bytes, or none
-abbrev known : Option (List ℕ) → List ℕ
+abbrev pub known : Option (List ℕ) → List ℕ
 known None = []
 known (Some xs) = xs
 
-are_known : (a : Option (List ℕ)) → AreKnown a (known a)
+pub are_known : (a : Option (List ℕ)) → AreKnown a (known a)
 are_known None = tt
 are_known (Some xs) = refl
 

@@ -2,3 +2,6 @@ pub mod Lines
 pub mod Statuses
 pub mod Verdicts
 pub mod Said
+pub mod Script
+pub mod ScriptRanges
+pub mod Replies

@@ -10,7 +10,9 @@ use Rattle.auc_cert.specs.declared.text_error.CertTextError.TheVariants.{Line, N
 use Rattle.auc_run.specs.declared.input.ReadFault.{ReadFault}
 use Rattle.auc_run.specs.declared.input.ReadFault.TheVariants.{Failed, TooManyReads, NoMemory as NoMemoryToRead}
 use Rattle.auc_run.specs.declared.refusal.Refusal.{Refusal}
-use Rattle.auc_run.specs.declared.refusal.Refusal.TheVariants.{NotRead, NoProblem, NoCertificate, Invalid}
+use Rattle.auc_run.specs.declared.refusal.Refusal.TheVariants.{NotRead, NoProblem, NoCertificate, Invalid, NoScript}
+use Rattle.auc_run.specs.declared.script_error.ScriptError.{ScriptError}
+use Rattle.auc_run.specs.declared.script_error.ScriptError.TheVariants.{Word, Range, Cut as CutScript, TooManyCalls, NoMemory as NoMemoryForScript}
 
 -- words, a number and the line end
 abbrev pub counted : List ℕ → ℕ → List ℕ
@@ -47,11 +49,20 @@ claim_line WrongCost = codes "invalid cost\n"
 claim_line (Slack person) = counted (codes "invalid slack ") (person + 1)
 claim_line NoMemoryToCheck = codes "refused memory\n"
 
+-- tokens are written from 1 on
+abbrev pub script_line : ScriptError → List ℕ
+script_line (Word token) = counted (codes "refused word ") (token + 1)
+script_line (Range token) = counted (codes "refused range ") (token + 1)
+script_line (CutScript tokens) = counted (codes "refused cut ") tokens
+script_line TooManyCalls = codes "refused calls\n"
+script_line NoMemoryForScript = codes "refused memory\n"
+
 abbrev pub refusal_line : Refusal → List ℕ
 refusal_line (NotRead fault) = input_line fault
 refusal_line (NoProblem error) = problem_line error
 refusal_line (NoCertificate error) = certificate_line error
 refusal_line (Invalid error) = claim_line error
+refusal_line (NoScript error) = script_line error
 
 -- a valid claim is told by its cost
 abbrev pub verdict_line : Result ℤ Refusal → List ℕ

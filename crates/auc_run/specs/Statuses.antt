@@ -9,7 +9,9 @@ use Rattle.auc_cert.specs.declared.text_error.CertTextError.TheVariants.{Line, N
 use Rattle.auc_run.specs.declared.input.ReadFault.{ReadFault}
 use Rattle.auc_run.specs.declared.input.ReadFault.TheVariants.{Failed, TooManyReads, NoMemory as NoMemoryToRead}
 use Rattle.auc_run.specs.declared.refusal.Refusal.{Refusal}
-use Rattle.auc_run.specs.declared.refusal.Refusal.TheVariants.{NotRead, NoProblem, NoCertificate, Invalid}
+use Rattle.auc_run.specs.declared.refusal.Refusal.TheVariants.{NotRead, NoProblem, NoCertificate, Invalid, NoScript}
+use Rattle.auc_run.specs.declared.script_error.ScriptError.{ScriptError}
+use Rattle.auc_run.specs.declared.script_error.ScriptError.TheVariants.{Word, Range, Cut as CutScript, TooManyCalls, NoMemory as NoMemoryForScript}
 use Rattle.auc_run.specs.declared.status.TheConstants.{VALID, INVALID, REFUSED, NO_MEMORY}
 
 abbrev pub input_status : ReadFault → ℕ
@@ -40,11 +42,19 @@ claim_status WrongCost = INVALID
 claim_status (Slack person) = INVALID
 claim_status NoMemoryToCheck = NO_MEMORY
 
+abbrev pub script_status : ScriptError → ℕ
+script_status (Word token) = REFUSED
+script_status (Range token) = REFUSED
+script_status (CutScript tokens) = REFUSED
+script_status TooManyCalls = REFUSED
+script_status NoMemoryForScript = NO_MEMORY
+
 abbrev pub refusal_status : Refusal → ℕ
 refusal_status (NotRead fault) = input_status fault
 refusal_status (NoProblem error) = problem_status error
 refusal_status (NoCertificate error) = certificate_status error
 refusal_status (Invalid error) = claim_status error
+refusal_status (NoScript error) = script_status error
 
 abbrev pub verdict_status : Result ℤ Refusal → ℕ
 verdict_status (Ok cost) = VALID

@@ -13,7 +13,7 @@ use Rattle.auc_cert.specs.Text.{text}
 use Rattle.auc_cert.specs.CertReading.{IsFirstBadLine}
 use Rattle.auc_cert.specs.Claim.{fault_of, IsAllowed}
 use Rattle.auc_run.specs.declared.refusal.Refusal.{Refusal}
-use Rattle.auc_run.specs.declared.refusal.Refusal.TheVariants.{NotRead, NoProblem, NoCertificate, Invalid}
+use Rattle.auc_run.specs.declared.refusal.Refusal.TheVariants.{NotRead, NoProblem, NoCertificate, Invalid, NoScript}
 
 -- the problem that a file reads as
 abbrev pub IsProblemOf : List ℕ → Problem → Type 0
@@ -35,6 +35,7 @@ Judges p c (Err (Invalid error)) = error ≢ NoMemoryToCheck → fault_of p c �
 Judges p c (Err (NotRead fault)) = ⊥
 Judges p c (Err (NoProblem error)) = ⊥
 Judges p c (Err (NoCertificate error)) = ⊥
+Judges p c (Err (NoScript error)) = ⊥
 
 -- The bytes of a problem and of a certificate bear a verdict out. Of a read that failed, of too many reads and of want of memory nothing is known.
 abbrev pub BearOut : List ℕ → List ℕ → Result ℤ Refusal → Type 0
@@ -44,6 +45,7 @@ BearOut file cert (Err (NoCertificate (Line k))) = (p : Problem) × IsProblemOf 
 BearOut file cert (Err (NoCertificate NoMemoryForText)) = ⊤
 BearOut file cert (Err (NoProblem error)) = error ≢ NoMemory → reading MOST_ARCS file ≡ Err error
 BearOut file cert (Err (NotRead fault)) = ⊤
+BearOut file cert (Err (NoScript error)) = ⊥
 
 -- the bytes are these, where they are known
 abbrev pub AreKnown : Option (List ℕ) → List ℕ → Type 0

@@ -11,6 +11,7 @@ ghost use Rattle.auc_run.specs.Said.{Said};
 
 use crate::input::read_all;
 use crate::lines::{status_of, write_verdict};
+use crate::mail::answer_script;
 use crate::refusal::Refusal;
 use crate::status::UNWRITTEN;
 use auc_cert::{Cert, CertParts, check, read_cert};
@@ -24,6 +25,8 @@ pub enum Job {
     /// Reads a problem from the first reader and a certificate from the second, and says whether what the certificate
     /// claims of the problem holds.
     Check,
+    /// Reads a script from the first reader, makes its calls on a new mail, and tells the replies.
+    Mail,
 }
 
 /// The cost that a certificate claims, where all that it claims holds.
@@ -71,7 +74,8 @@ fn answer<W: Write>(writer: &mut W, verdict: Result<i64, Refusal>) -> u8
 ///
 /// Nothing is promised of what was written where the status is [`UNWRITTEN`]: a write failed, or took no bytes.
 ///
-/// A check takes O(bytes) time; its memory is that of one input at a time, and 16 bytes an arc.
+/// A check takes O(bytes) time; its memory is that of one input at a time, and 16 bytes an arc. A mail takes the time of its
+/// calls, and memory for its lanes, its letters and a reply for each call.
 pub fn run_command<R: Read, Q: Read, W: Write>(
     alloc: Global,
     job: &Job,
@@ -86,5 +90,6 @@ pub fn run_command<R: Read, Q: Read, W: Write>(
 {
     match job {
         Job::Check => answer(writer, verdict_of(alloc, reader, second)),
+        Job::Mail => answer_script(alloc, reader, writer),
     }
 }

@@ -5,11 +5,22 @@
 #![tactic(auto)]
 
 mod command;
+mod command_word;
 mod input;
 mod lines;
+mod mail;
 mod refusal;
+mod replies;
+mod script;
+mod script_error;
+mod script_reading;
 pub mod status;
 
 pub use command::{Job, run_command};
 pub use input::{ReadFault, read_all};
 pub use refusal::Refusal;
+pub use script::{
+    Calls, MOST_CALLS, MOST_ITEM, MOST_SCRIPT_BOXES, MOST_SCRIPT_NODES, MOST_SCRIPT_POSTS, Script,
+};
+pub use script_error::ScriptError;
+pub use script_reading::read_script;

@@ -3,11 +3,12 @@
 ghost use Rattle.std.specs.Prelude.{◌≡◌, ◌+◌, OnOk, Ok};
 ghost use Rattle.std.specs.Fmt.{signed_decimal};
 ghost use Rattle.std.specs.Io.KnownBytes.{Appends};
-ghost use Rattle.auc_run.specs.Lines.{counted, input_line, problem_line, certificate_line, claim_line, refusal_line, verdict_line};
+ghost use Rattle.auc_run.specs.Lines.{counted, input_line, problem_line, certificate_line, claim_line, script_line, refusal_line, verdict_line};
 ghost use Rattle.auc_run.specs.Statuses.{refusal_status, verdict_status};
 
 use crate::input::ReadFault;
 use crate::refusal::Refusal;
+use crate::script_error::ScriptError;
 use crate::status::{INVALID, NO_MEMORY, REFUSED, VALID};
 use auc_cert::{CertRefused, CertTextError, WriteFault, write_whole};
 use auc_graph::ReadError;
@@ -15,7 +16,7 @@ use itoa::Buffer;
 use std::io::Write;
 
 /// Writes words, a number and the line end.
-fn write_counted<W: Write>(writer: &mut W, words: &[u8], number: u128) -> Result<(), WriteFault>
+pub(crate) fn write_counted<W: Write>(writer: &mut W, words: &[u8], number: u128) -> Result<(), WriteFault>
     ensures { OnOk result (Appends (W.contents writer.old) (W.contents writer.new) (counted words.now number)) }
 {
     let mut buffer = Buffer::new();
@@ -32,7 +33,8 @@ fn write_place<W: Write>(writer: &mut W, words: &[u8], place: u64) -> Result<(),
     write_counted(writer, words, place as u128 + 1)
 }
 
-fn write_number<W: Write>(writer: &mut W, number: i64) -> Result<(), WriteFault>
+/// Writes a number in decimal, with a minus where it is negative.
+pub(crate) fn write_number<W: Write>(writer: &mut W, number: i64) -> Result<(), WriteFault>
     ensures { OnOk result (Appends (W.contents writer.old) (W.contents writer.new) (signed_decimal number)) }
 {
     let mut buffer = Buffer::new();
@@ -98,7 +100,20 @@ fn write_claim<W: Write>(writer: &mut W, error: CertRefused) -> Result<(), Write
     }
 }
 
-fn write_refusal<W: Write>(writer: &mut W, refusal: Refusal) -> Result<(), WriteFault>
+fn write_script<W: Write>(writer: &mut W, error: ScriptError) -> Result<(), WriteFault>
+    ensures { OnOk result (Appends (W.contents writer.old) (W.contents writer.new) (script_line error)) }
+{
+    match error {
+        ScriptError::Word { token } => write_place(writer, b"refused word ", token),
+        ScriptError::Range { token } => write_place(writer, b"refused range ", token),
+        ScriptError::Cut { tokens } => write_counted(writer, b"refused cut ", tokens as u128),
+        ScriptError::TooManyCalls => write_whole(writer, b"refused calls\n"),
+        ScriptError::NoMemory => write_whole(writer, b"refused memory\n"),
+    }
+}
+
+/// Writes the one line of a refusal.
+pub(crate) fn write_refusal<W: Write>(writer: &mut W, refusal: Refusal) -> Result<(), WriteFault>
     ensures { OnOk result (Appends (W.contents writer.old) (W.contents writer.new) (refusal_line refusal)) }
 {
     match refusal {
@@ -106,6 +121,7 @@ fn write_refusal<W: Write>(writer: &mut W, refusal: Refusal) -> Result<(), Write
         Refusal::NoProblem(error) => write_problem(writer, error),
         Refusal::NoCertificate(error) => write_certificate(writer, error),
         Refusal::Invalid(error) => write_claim(writer, error),
+        Refusal::NoScript(error) => write_script(writer, error),
     }
 }
 
@@ -122,16 +138,21 @@ pub(crate) fn write_verdict<W: Write>(
     }
 }
 
-fn status_of_refusal(refusal: Refusal) -> u8
+/// The status of a refusal.
+pub(crate) fn status_of_refusal(refusal: Refusal) -> u8
     ensures { result ≡ refusal_status refusal }
 {
     match refusal {
         Refusal::NotRead(ReadFault::NoMemory)
         | Refusal::NoProblem(ReadError::NoMemory)
         | Refusal::NoCertificate(CertTextError::NoMemory)
-        | Refusal::Invalid(CertRefused::NoMemory) => NO_MEMORY,
+        | Refusal::Invalid(CertRefused::NoMemory)
+        | Refusal::NoScript(ScriptError::NoMemory) => NO_MEMORY,
         Refusal::Invalid(_) => INVALID,
-        Refusal::NotRead(_) | Refusal::NoProblem(_) | Refusal::NoCertificate(_) => REFUSED,
+        Refusal::NotRead(_)
+        | Refusal::NoProblem(_)
+        | Refusal::NoCertificate(_)
+        | Refusal::NoScript(_) => REFUSED,
     }
 }
 

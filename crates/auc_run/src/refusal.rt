@@ -1,13 +1,14 @@
-//! Why a claim was not found valid.
+//! Why a job was refused.
 
 ghost use Rattle.std.specs.Prelude.{◌≡◌};
-ghost use Rattle.auc_run.specs.declared.refusal.Refusal.TheVariants.{NotRead, NoProblem, NoCertificate, Invalid};
+ghost use Rattle.auc_run.specs.declared.refusal.Refusal.TheVariants.{NotRead, NoProblem, NoCertificate, Invalid, NoScript};
 
 use crate::input::ReadFault;
+use crate::script_error::ScriptError;
 use auc_cert::{CertRefused, CertTextError};
 use auc_graph::ReadError;
 
-/// Why a claim was not found valid. The problem is read and judged first, then the certificate, then the claim.
+/// Why a job was refused. Of a check the problem is read and judged first, then the certificate, then the claim.
 #[derive(Clone, Copy, Debug, PartialEq, Eq)]
 pub enum Refusal {
     /// An input was not read to its end.
@@ -18,6 +19,8 @@ pub enum Refusal {
     NoCertificate(CertTextError),
     /// What the certificate claims does not hold of the problem.
     Invalid(CertRefused),
+    /// The input is no script.
+    NoScript(ScriptError),
 }
 
 impl From<ReadFault> for Refusal {
@@ -49,5 +52,13 @@ impl From<CertRefused> for Refusal {
 
     fn from(error: CertRefused) -> Refusal {
         Refusal::Invalid(error)
+    }
+}
+
+impl From<ScriptError> for Refusal {
+    ghost from_gives = { λ error r. r ≡ NoScript error };
+
+    fn from(error: ScriptError) -> Refusal {
+        Refusal::NoScript(error)
     }
 }

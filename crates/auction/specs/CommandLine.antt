@@ -2,7 +2,7 @@
 use Rattle.std.specs.Prelude.{◌≡◌, ◌≢◌, ℕ, List, [], ◌∷◌, Option, Some, None, Result, Ok, Err, option_map, codes, ⊤}
 use Rattle.clap.specs.Words.{Row, first_of}
 use Rattle.std.specs.String.{string_bytes}
-use Rattle.auc_run.specs.declared.command.Job.TheVariants.{Check}
+use Rattle.auc_run.specs.declared.command.Job.TheVariants.{Check, Mail}
 use Rattle.auction.specs.declared.asked.Words.{Words}
 use Rattle.auction.specs.declared.words_error.WordsError.{WordsError}
 use Rattle.auction.specs.declared.words_error.WordsError.TheVariants.{NoMemory}
@@ -26,3 +26,18 @@ AreCheck words file (Some cert) = IsName file × IsName cert × (words ≡ codes
 abbrev pub AsksToCheck : Result Words WordsError → List ℕ → Option (List ℕ) → Type 0
 AsksToCheck (Ok w) file cert = (w.job ≡ Check) × (option_map string_bytes w.first ≡ Some file) × (option_map string_bytes w.second ≡ cert)
 AsksToCheck (Err e) file cert = e ≡ NoMemory
+
+-- the words were read as a mail by the script that a subcommand's matches name, unless memory ran out
+abbrev pub HasScriptOf : Result Words WordsError → List Row → Type 0
+HasScriptOf (Ok w) rows = (w.job ≡ Mail) × (option_map string_bytes w.first ≡ first_of (codes "script") rows) × (w.second ≡ None)
+HasScriptOf (Err e) rows = e ≡ NoMemory
+
+-- the words are `mail`, and may have the name of a script
+abbrev pub AreMail : List (List ℕ) → Option (List ℕ) → Type 0
+AreMail words None = words ≡ codes "mail" ∷ []
+AreMail words (Some script) = IsName script × (words ≡ codes "mail" ∷ script ∷ [])
+
+-- the words were read as a mail by this script, unless memory ran out
+abbrev pub AsksForMail : Result Words WordsError → Option (List ℕ) → Type 0
+AsksForMail (Ok w) script = (w.job ≡ Mail) × (option_map string_bytes w.first ≡ script) × (w.second ≡ None)
+AsksForMail (Err e) script = e ≡ NoMemory

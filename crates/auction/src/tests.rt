@@ -38,6 +38,28 @@ fn names_of_files(rt: HostRuntime) -> Result<(), Fail> {
 }
 
 #[test]
+fn names_of_scripts(rt: HostRuntime) -> Result<(), Fail> {
+    for (line, script) in [
+        ("mail", None),
+        ("mail --", None),
+        ("mail a", Some("a")),
+        ("mail -", Some("-")),
+        ("mail -- -a", Some("-a")),
+        ("mail mail", Some("mail")),
+    ] {
+        let words = read(&rt, line)?;
+        assert_eq!(rt; words.job, Job::Mail, "{line}");
+        assert_eq!(rt;
+            words.first.as_ref().map(|name| name.as_str()),
+            script,
+            "{line}"
+        );
+        assert_eq!(rt; words.second, None, "{line}");
+    }
+    Ok(())
+}
+
+#[test]
 fn other_words(rt: HostRuntime) {
     for line in [
         "",
@@ -49,6 +71,13 @@ fn other_words(rt: HostRuntime) {
         "check --file a",
         "check a -x",
         "check a b --cert b --cert b",
+        "mail a b",
+        "mail --help",
+        "mail -h",
+        "mail --script a",
+        "mail -x",
+        "mai a",
+        "help mail",
         "chec a",
         "Check a",
         "solve a",

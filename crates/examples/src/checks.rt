@@ -6,11 +6,13 @@ use std::test::*;
 /// One person, one object.
 pub const ONE: &str = "1\n1 1 -7\n";
 
+/// The certificate of its one assignment.
 pub const ONE_BEST: &str = "auction 1\noptimal 1 -7\nassign 1 1 -7\nprice 1 1\n";
 
 /// Two persons, two objects.
 pub const TWO: &str = "2\n1 1 1\n1 2 2\n2 1 1\n2 2 3\n";
 
+/// The certificate of their least assignment.
 pub const TWO_BEST: &str =
     "auction 1\noptimal 2 3\nassign 1 2 2\nassign 2 1 1\nprice 1 7\nprice 2 5\n";
 

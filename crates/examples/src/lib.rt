@@ -9,3 +9,5 @@ mod checks;
 mod failures;
 #[cfg(test)]
 mod fakes;
+#[cfg(test)]
+mod mails;

@@ -1,7 +1,7 @@
 use Rattle.std.proofs.Common.{◌≡◌, true, false, get_or, sym, ◌∙◌, arith}
 use Rattle.std.specs.Char.{is_ascii_digit}
 use Rattle.std.proofs.lemmas.Int.Digits.{digits_value_more}
-use Rattle.auc_graph.proofs.NumberLaws.{value_of_digit, all_and_next, plain_token}
+use Rattle.auc_graph.proofs.NumberLaws.{value_of_digit, all_and_next, plain_token, plain_end, some_bytes}
 use Rattle.auc_graph.proofs.number.plain_number_at.Goals as goal
 
 pub returns-then-is_separator_byte : goal.returns-then-is_separator_byte
@@ -19,3 +19,7 @@ loop-i-preserved c =
       value = omega (arith, more, own, c.loop-i.invariant.value);
       small = omega (arith, own, c.if-value.false, c.if-not-is_ascii_digit.ensures.cases);
     }
+
+pub returns-else-is_empty : goal.returns-else-is_empty
+returns-else-is_empty c =
+    plain_end c.args.bytes.now c.loop-i.value c.loop-i.i (some_bytes c.args.bytes.now (sym c.is_empty.ensures ∙ c.if-is_empty.false)) c.loop-i-test.false c.loop-i.auto.i-end c.loop-i.invariant.digits c.loop-i.invariant.value c.loop-i.invariant.small

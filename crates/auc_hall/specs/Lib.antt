@@ -1,0 +1,8 @@
+pub mod Assignment
+pub mod HallSet
+pub mod OfProblem
+pub mod Matching
+pub mod Partial
+pub mod Matched
+pub mod Search
+pub mod Listing

@@ -1,0 +1,23 @@
+-- A partial assignment, seen by its persons and by its objects at once.
+use Rattle.std.specs.Prelude.{◌≡◌, ℕ, List, length, Contains, Option, Some, None, slice_index_or}
+use Rattle.auc_graph.specs.declared.rows.RowArc.{RowArc}
+use Rattle.auc_graph.specs.Table.{Table, row_of}
+use Rattle.auc_hall.specs.Partial.{pick}
+
+-- the person who holds an object
+abbrev pub holder_of : List (Option ℕ) → ℕ → Option ℕ
+holder_of holder j = slice_index_or holder j None
+
+abbrev pub IsPlaced : List (Option RowArc) → ℕ → Type 0
+IsPlaced choice i = (a : RowArc) × (pick choice i ≡ Some a)
+
+-- who has an arc holds its object, and who holds an object has an arc to it: so no object has two holders
+pub record AreTied (choice : List (Option RowArc)) (holder : List (Option ℕ)) : Type 0 where
+  pub taken : (i : ℕ) (a : RowArc) → pick choice i ≡ Some a → holder_of holder a.object ≡ Some i
+  pub held : (j i : ℕ) → holder_of holder j ≡ Some i → (a : RowArc) × (pick choice i ≡ Some a) × (a.object ≡ j)
+
+pub record IsMatched (t : Table) (choice : List (Option RowArc)) (holder : List (Option ℕ)) : Type 0 where
+  pub persons : length choice ≡ length t.rows
+  pub objects : length holder ≡ t.objects
+  pub own : (i : ℕ) (a : RowArc) → pick choice i ≡ Some a → Contains (row_of t i) a
+  pub tied : AreTied choice holder

@@ -1,0 +1,26 @@
+-- A partial assignment, as its users see it.
+use Rattle.std.specs.Prelude.{◌≡◌, ◌≢◌, ℕ, List, length, Contains, Option, Some, None, slice_index_or}
+use Rattle.auc_graph.specs.declared.rows.RowArc.{RowArc}
+use Rattle.auc_graph.specs.Table.{Table, row_of}
+
+-- the arc of each person who has one, and how many objects there are
+pub record Placed : Type 0 where
+  pub choice : List (Option RowArc)
+  pub objects : ℕ
+
+-- the arc of a person
+abbrev pub pick : List (Option RowArc) → ℕ → Option RowArc
+pick choice i = slice_index_or choice i None
+
+-- made for these rows: each arc is one of its person's
+pub record IsFor (t : Table) (p : Placed) : Type 0 where
+  pub persons : length p.choice ≡ length t.rows
+  pub objects : p.objects ≡ t.objects
+  pub own : (i : ℕ) (a : RowArc) → pick p.choice i ≡ Some a → Contains (row_of t i) a
+
+-- the arc of this number is the person's, he has none, and nobody has its object
+pub record MayPlace (t : Table) (choice : List (Option RowArc)) (person n : ℕ) (a : RowArc) : Type 0 where
+  pub his : Contains (row_of t person) a
+  pub numbered : a.arc ≡ n
+  pub unplaced : pick choice person ≡ None
+  pub untaken : (i : ℕ) (b : RowArc) → pick choice i ≡ Some b → b.object ≢ a.object

@@ -1,0 +1,94 @@
+//! The completion of a partial assignment.
+
+ghost use Rattle.std.specs.Prelude.{◌≡◌, ◌<◌, ◌^◌, ℕ, length, map, false, slice_index_or, IfOk};
+ghost use Rattle.auc_hall.specs.Assignment.{number_of};
+ghost use Rattle.auc_hall.specs.Partial.{IsFor};
+ghost use Rattle.auc_hall.specs.Matching.{IsMatching};
+ghost use Rattle.auc_hall.specs.Matched.{IsMatched};
+ghost use Rattle.auc_hall.specs.Listing.{chosen};
+
+use crate::exchange::exchange;
+use crate::hall_set::hall_set;
+use crate::matching::Matching;
+use crate::numbers::Numbers;
+use crate::partial::Partial;
+use crate::search::search;
+use auc_graph::{RowArc, Rows};
+use std::alloc::{AllocError, Global};
+
+/// The numbers of the arcs of the persons who have one.
+fn numbers_of(alloc: Global, choice: &[Option<RowArc>]) -> Result<Vec<u32>, AllocError>
+    ensures { IfOk result (λ v. v.items ≡ map number_of (chosen choice.now)) }
+{
+    let mut out = Vec::with_capacity(alloc, choice.len())?;
+    for picked in choice {
+        match picked {
+            None => continue,
+            Some(arc) => {
+                out.push(arc.arc)?;
+            }
+        }
+    }
+    Ok(out)
+}
+
+/// `complete`, over the arcs of the persons and the holders of the objects. No object is marked in `seen`.
+fn complete_parts(
+    alloc: Global,
+    rows: &Rows,
+    choice: &mut [Option<RowArc>],
+    holder: &mut [Option<u32>],
+    seen: &mut [bool],
+) -> Result<Matching, AllocError>
+    requires matched { IsMatched rows.now choice.old holder.old }
+    requires seen { length seen.old ≡ rows.now.objects }
+    requires none { (j : ℕ) → slice_index_or seen.old j false ≡ false }
+    requires few { length seen.old < 2 ^ 32 }
+    ensures { IfOk result (IsMatching rows.now) }
+{
+    let mut queue = Vec::with_capacity(alloc, rows.persons() as usize)?;
+    for person in 0..rows.persons() {
+        if choice[person as usize].is_some() {
+            continue;
+        }
+        match search(rows, choice, holder, seen, &mut queue, person)? {
+            None => {
+                return hall_set(alloc, rows, choice, holder, seen, queue.as_slice());
+            }
+            Some(found) => {
+                exchange(rows, choice, holder, queue.as_slice(), found);
+            }
+        }
+    }
+    Ok(Matching::Full(Numbers::new(numbers_of(alloc, choice)?)))
+}
+
+/// Gives an arc to each person who has none, or names persons who know too few objects.
+///
+/// Persons without an arc take their turns in rising order. Each starts a search, breadth first and over the arcs in
+/// the order of the list, for a free object; along the path to it each person hands his object on to the one before
+/// him. So all who had an object keep one. Where a search finds no free object, the persons whom it reached know only
+/// the objects that it saw, and each of these is held by one of them, but the starting person holds none.
+///
+/// This is the augmenting path method (Kuhn 1955, after Kőnig and Egerváry), and the set is Hall's (1935).
+///
+/// `partial` is used up in every case. O(persons * arcs) time, O(persons + objects) memory, all of it taken before the
+/// first search or after the last.
+///
+/// # Errors
+///
+/// Only where memory was refused.
+pub fn complete(alloc: Global, rows: &Rows, partial: Partial) -> Result<Matching, AllocError>
+    requires { IsFor rows.now partial }
+    ensures { IfOk result (IsMatching rows.now) }
+{
+    let (mut choice, mut holder) = partial.into_parts();
+    let mut seen = vec![in alloc; false; rows.objects() as usize]?;
+    complete_parts(
+        alloc,
+        rows,
+        choice.as_mut_slice(),
+        holder.as_mut_slice(),
+        seen.as_mut_slice(),
+    )
+}

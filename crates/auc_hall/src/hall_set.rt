@@ -1,0 +1,62 @@
+//! The answer of a search without an end: the persons whom it reached, and the objects that it saw.
+
+ghost use Rattle.std.specs.Prelude.{◌≡◌, ◌<◌, ◌^◌, length, IfOk};
+ghost use Rattle.auc_hall.specs.Matching.{IsMatching};
+ghost use Rattle.auc_hall.specs.Search.{IsSearch, AreWalked};
+ghost use Rattle.auc_hall.specs.Listing.{places, AreReached, ArePersons};
+
+use crate::matching::Matching;
+use crate::numbers::Numbers;
+use crate::search::Reached;
+use auc_graph::{RowArc, Rows};
+use std::alloc::{AllocError, Global};
+
+/// The places of the flags that are set, in rising order.
+fn places_of(alloc: Global, flags: &[bool]) -> Result<Vec<u32>, AllocError>
+    requires { length flags.now < 2 ^ 32 }
+    ensures { IfOk result (λ v. v.items ≡ places 0 flags.now) }
+{
+    let mut out = Vec::new(alloc);
+    for i in 0..flags.len() {
+        if !flags[i] {
+            continue;
+        }
+        out.push(i as u32)?;
+    }
+    Ok(out)
+}
+
+/// For each of so many persons, whether he was reached.
+fn reached_flags(alloc: Global, queue: &[Reached], persons: usize) -> Result<Vec<bool>, AllocError>
+    requires { ArePersons queue.now persons }
+    ensures { IfOk result (λ v. AreReached queue.now persons v.items) }
+{
+    let mut flags = vec![in alloc; false; persons]?;
+    for entry in queue {
+        flags[entry.person as usize] = true;
+    }
+    Ok(flags)
+}
+
+/// The persons who were reached, and the objects that were seen.
+pub(crate) fn hall_set(
+    alloc: Global,
+    rows: &Rows,
+    _choice: &[Option<RowArc>],
+    _holder: &[Option<u32>],
+    seen: &[bool],
+    queue: &[Reached],
+) -> Result<Matching, AllocError>
+    requires search { IsSearch rows.now _choice.now _holder.now queue.now seen.now }
+    requires walked { AreWalked rows.now queue.now seen.now (length queue.now) }
+    requires few { length seen.now < 2 ^ 32 }
+    ensures { IfOk result (IsMatching rows.now) }
+{
+    let flags = reached_flags(alloc, queue, rows.persons() as usize)?;
+    let persons = places_of(alloc, flags.as_slice())?;
+    let objects = places_of(alloc, seen)?;
+    Ok(Matching::Hall {
+        persons: Numbers::new(persons),
+        objects: Numbers::new(objects),
+    })
+}

@@ -1,0 +1,22 @@
+//! Gives each person an object by an arc of his, no object twice, or names persons who together know fewer objects than
+//! they are: those whom a planner has to blame where no full assignment exists.
+//!
+//! A person knows the objects of his arcs. `complete` takes O(persons * arcs) time at most, and mostly far less: each
+//! search for a free object looks at an arc at most once and stops at the first one that leads to a free object.
+//! Persons, objects and arcs are numbered from 0.
+#![tactic(auto)]
+
+mod completion;
+mod exchange;
+mod hall_set;
+mod laws;
+mod matching;
+mod numbers;
+mod partial;
+mod search;
+
+pub use completion::complete;
+pub use laws::{hall_sets_leave_no_assignment, matchings_hold_of_the_problem};
+pub use matching::Matching;
+pub use numbers::Numbers;
+pub use partial::Partial;

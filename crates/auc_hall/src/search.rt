@@ -1,0 +1,122 @@
+//! The search for a free object, breadth first.
+//!
+//! The line of reached persons is its own record of the way back: each entry names the place of the person before it.
+
+ghost use Rattle.std.specs.Prelude.{◌≡◌, ◌<◌, ℕ, length, All, Some, None, true, false, slice_index_or, slice_get, IfOk, OnOk, IfSome, IfNone};
+ghost use Rattle.auc_graph.specs.Table.{row_of};
+ghost use Rattle.auc_hall.specs.Partial.{pick};
+ghost use Rattle.auc_hall.specs.Matched.{IsMatched};
+ghost use Rattle.auc_hall.specs.Search.{Reaches, AreWalked, WasSeen, IsSearch, LeadsOut, Grows};
+
+use auc_graph::{RowArc, Rows};
+use std::alloc::AllocError;
+
+/// A person whom the search came to. `arc` leads to the object that he holds; it is an arc of the person at the place
+/// `parent` of the queue. The first person of a queue holds nothing, and there both say nothing.
+#[derive(Clone, Copy, Debug, PartialEq, Eq)]
+pub(crate) struct Reached {
+    pub(crate) arc: RowArc,
+    pub(crate) parent: usize,
+    pub(crate) person: u32,
+}
+
+/// An arc to a free object, and the place in the queue of the person who has it.
+#[derive(Clone, Copy, Debug, PartialEq, Eq)]
+pub(crate) struct Found {
+    pub(crate) arc: RowArc,
+    pub(crate) at: usize,
+}
+
+/// Looks at the arcs of the person at this place of the queue, up to the first that leads to a free object. Each other
+/// object that was not seen yet is marked, and its holder put last into the queue.
+fn walk(
+    rows: &Rows,
+    _choice: &[Option<RowArc>],
+    holder: &[Option<u32>],
+    seen: &mut [bool],
+    queue: &mut Vec<Reached>,
+    at: usize,
+) -> Result<Option<RowArc>, AllocError>
+    requires matched { IsMatched rows.now _choice.now holder.now }
+    requires search { IsSearch rows.now _choice.now holder.now queue.old.items seen.old }
+    requires at { at < length queue.old.items }
+    ensures search { OnOk result (IsSearch rows.now _choice.now holder.now queue.new.items seen.new) }
+    ensures grows { OnOk result (Grows queue.old.items queue.new.items) }
+    ensures kept { (j : ℕ) → WasSeen seen.old j → WasSeen seen.new j }
+    ensures found { IfOk result (λ r. IfSome r (λ a. LeadsOut rows.now holder.now queue.new.items at a)) }
+    ensures walked { IfOk result (λ r. IfNone r ((e : Reached) → slice_get queue.old.items at ≡ Some e → All (λ a. WasSeen seen.new a.object) (row_of rows.now e.person))) }
+{
+    let person = queue[at].person;
+    for arc in rows.row(person) {
+        let object = arc.object as usize;
+        if seen[object] {
+            continue;
+        }
+        match holder[object] {
+            None => return Ok(Some(*arc)),
+            Some(partner) => {
+                seen[object] = true;
+                queue.push(Reached {
+                    arc: *arc,
+                    parent: at,
+                    person: partner,
+                })?;
+            }
+        }
+    }
+    Ok(None)
+}
+
+/// Unmarks what a search has marked: the objects of its queue, so that this costs no more than the search did.
+fn forget(seen: &mut [bool], queue: &[Reached])
+    requires { (j : ℕ) → WasSeen seen.old j → Reaches queue.now j }
+    ensures len { length seen.new ≡ length seen.old }
+    ensures none { (j : ℕ) → slice_index_or seen.new j false ≡ false }
+{
+    for entry in queue {
+        let object = entry.arc.object as usize;
+        if object < seen.len() {
+            seen[object] = false;
+        }
+    }
+}
+
+/// Searches a free object from this person on, the nearest first. `seen` and `queue` are those of the search before.
+pub(crate) fn search(
+    rows: &Rows,
+    choice: &[Option<RowArc>],
+    holder: &[Option<u32>],
+    seen: &mut [bool],
+    queue: &mut Vec<Reached>,
+    start: u32,
+) -> Result<Option<Found>, AllocError>
+    requires matched { IsMatched rows.now choice.now holder.now }
+    requires start { start < length rows.now.rows }
+    requires free { pick choice.now start ≡ None }
+    requires seen { length seen.old ≡ rows.now.objects }
+    requires marks { (j : ℕ) → WasSeen seen.old j → Reaches queue.old.items j }
+    ensures search { OnOk result (IsSearch rows.now choice.now holder.now queue.new.items seen.new) }
+    ensures first { OnOk result ((e : Reached) → slice_get queue.new.items 0 ≡ Some e → e.person ≡ start) }
+    ensures found { IfOk result (λ r. IfSome r (λ f. LeadsOut rows.now holder.now queue.new.items f.at f.arc)) }
+    ensures closed { IfOk result (λ r. IfNone r (AreWalked rows.now queue.new.items seen.new (length queue.new.items))) }
+{
+    forget(seen, queue.as_slice());
+    queue.clear();
+    queue.push(Reached {
+        arc: RowArc {
+            cost: 0,
+            object: 0,
+            arc: 0,
+        },
+        parent: 0,
+        person: start,
+    })?;
+    let mut at = 0;
+    while at < queue.len() {
+        if let Some(arc) = walk(rows, choice, holder, seen, queue, at)? {
+            return Ok(Some(Found { arc, at }));
+        }
+        at += 1;
+    }
+    Ok(None)
+}

@@ -1,0 +1,50 @@
+//! Where a letter goes.
+
+ghost use Rattle.std.specs.Prelude.{◌≡◌, ◌<◌, ◌%◌};
+
+use crate::letter::Letter;
+
+/// Who gets a letter.
+#[derive(Clone, Copy, Debug, PartialEq, Eq)]
+pub enum To {
+    /// This shard of the persons, in the persons' mail.
+    Person { shard: u32 },
+    /// This shard of the objects, in the objects' mail.
+    Object { shard: u32 },
+    /// The hub, in the hub's mail.
+    Hub,
+}
+
+/// A letter to be posted.
+#[derive(Clone, Copy, Debug, PartialEq, Eq)]
+pub struct Out {
+    pub letter: Letter,
+    pub to: To,
+    /// The post is refused where no more than so many places of the mail are free.
+    pub reserve: u32,
+}
+
+/// The blank of a list of letters: a First of object 0 to the hub.
+impl Default for Out {
+    ghost use Rattle.auc_letters.specs.Routing.{to_hub};
+
+    fn default() -> Self
+        ensures { result ≡ to_hub (Letter.First 0) }
+    {
+        Out {
+            letter: Letter::First { object: 0 },
+            to: To::Hub,
+            reserve: 0,
+        }
+    }
+}
+
+/// The shard, of so many, that a person or an object belongs to.
+#[inline]
+pub fn shard_of(number: u32, shards: u32) -> u32
+    requires { 0 < shards }
+    ensures remainder { result ≡ number % shards }
+    ensures below { result < shards }
+{
+    number % shards
+}

@@ -1,0 +1,11 @@
+pub mod Tables
+pub mod Lanes
+pub mod Keeping
+pub mod Changing
+pub mod Posting
+pub mod Taking
+pub mod Counting
+pub mod StepLaws
+pub mod Outcomes
+pub mod RunLaws
+pub mod WorkedRows

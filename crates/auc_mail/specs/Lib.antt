@@ -1,0 +1,7 @@
+pub mod Limits
+pub mod Mail
+pub mod Step
+pub mod Run
+pub mod Letters
+pub mod Backlog
+pub mod Pool

@@ -1,0 +1,25 @@
+//! Mailboxes with a lane for each sender: what a box hands out of one sender's letters is a prefix of what that sender posted
+//! there, and a closed box accepts nothing more.
+//!
+//! A call changes the mail by one step (`specs/Step.antt`); a script of calls is a run of such steps, and keeps both laws.
+#![tactic(auto)]
+
+mod backlog;
+mod call;
+mod error;
+mod laws;
+mod limits;
+mod pool;
+mod script;
+#[cfg(test)]
+mod tests;
+
+pub use call::{Call, PostRefused, Reply, Taken};
+pub use error::MailError;
+pub use laws::{
+    closed_box_accepts_nothing, lanes_keep_their_order, only_the_sender_is_free,
+    runs_keep_mails_sound,
+};
+pub use limits::{MOST_BOXES, MOST_LANES, MOST_NODES, MOST_SENDERS};
+pub use pool::MailPool;
+pub use script::run_script;

@@ -1,0 +1,218 @@
+//! One shard of the objects.
+
+ghost use Rattle.std.specs.Prelude.{◌≡◌, ◌<◌, ◌≤◌, ◌^◌, ◌*◌, pos, ◌+ℤ◌, ◌≤ℤ◌, ◌<ℤ◌, length, replicate, ◌∷◌, [], All, IfOk, Some, None};
+ghost use Rattle.auc_letters.specs.Price.{IsPrice, IsEps};
+ghost use Rattle.auc_letters.specs.Routing.{to_person, to_hub, price_told};
+ghost use Rattle.auc_letters.specs.Award.{least_amount, awards, refusal};
+ghost use Rattle.auc_objects.specs.Objects.{Objects, Owns, SameShape, price_of, holder_of, sold};
+
+use arrayvec::ArrayVec;
+use auc_letters::{Held, Letter, Out, To, shard_of};
+use std::alloc::{AllocError, Global};
+use std::marker::Model;
+
+/// One shard of the objects: the price and the holder of each object that is its own.
+///
+/// Objects belong to the shards by the remainder of their number. The tables have a place for every object, so that an
+/// object is found by its number; the places of other shards' objects are never changed.
+#[derive(Debug, Drop)]
+pub struct ObjectShard {
+    shard: u32,
+    of: u32,
+    person_shards: u32,
+    persons: u32,
+    prices: Vec<i64>,
+    holders: Vec<Option<Held>>,
+}
+
+impl Model for ObjectShard {
+    ghost use Rattle.auc_objects.specs.Objects.{Objects, AreObjects};
+
+    ghost Value = { Objects };
+
+    ghost view = { λ s. record { shard = s.shard; of = s.of; person_shards = s.person_shards; persons = s.persons; prices = s.prices.items; holders = s.holders.items } };
+
+    ghost invariant = { λ s. AreObjects (record { shard = s.shard; of = s.of; person_shards = s.person_shards; persons = s.persons; prices = s.prices.items; holders = s.holders.items }) };
+}
+
+impl ObjectShard {
+    /// Shard number `shard` of `of`, with these prices, in scaled costs, indexed by object, and no holders.
+    ///
+    /// `person_shards` is the number of the persons' shards, and `persons` that of all persons.
+    ///
+    /// Takes O(objects) time and memory, and is the only call that takes memory.
+    ///
+    /// # Errors
+    ///
+    /// Only where memory was refused.
+    pub fn make(
+        alloc: Global,
+        shard: u32,
+        of: u32,
+        person_shards: u32,
+        persons: u32,
+        prices: &[i64],
+    ) -> Result<ObjectShard, AllocError>
+        requires shard { shard < of }
+        requires person_shards { 0 < person_shards }
+        requires persons { 2 * persons < 2 ^ 32 }
+        requires prices { All IsPrice prices.now }
+        ensures { IfOk result (λ s. s ≡ record { shard = shard; of = of; person_shards = person_shards; persons = persons; prices = prices.now; holders = replicate (length prices.now) None }) }
+    {
+        let copied = prices.to_vec(alloc)?;
+        let holders = vec![in alloc; None; prices.len()]?;
+        Ok(ObjectShard {
+            shard,
+            of,
+            person_shards,
+            persons,
+            prices: copied,
+            holders,
+        })
+    }
+
+    /// The present price of an object of the shard, in scaled costs. O(1).
+    pub fn price(&self, object: u32) -> i64
+        requires { Owns self.now object }
+        ensures present { result ≡ price_of self.now object }
+        ensures range { IsPrice result }
+    {
+        self.prices[object as usize]
+    }
+
+    /// The holder of an object of the shard, if it has one. O(1).
+    pub fn holder(&self, object: u32) -> Option<Held>
+        requires { Owns self.now object }
+        ensures { result ≡ holder_of self.now object }
+    {
+        self.holders[object as usize]
+    }
+
+    /// The present price of an object of the shard, as a letter to a shard of the persons. O(1).
+    pub fn tell(&self, object: u32, person_shard: u32) -> Out
+        requires object { Owns self.now object }
+        requires person_shard { person_shard < self.now.person_shards }
+        ensures { result ≡ price_told self.now.persons person_shard object (price_of self.now object) }
+    {
+        Out {
+            letter: Letter::Price {
+                object,
+                price: self.prices[object as usize],
+            },
+            to: To::Person {
+                shard: person_shard,
+            },
+            reserve: 2 * self.persons,
+        }
+    }
+
+    /// Deals with one bid on an object of the shard, and gives the letters that answer it, in order. O(1).
+    ///
+    /// The bid is accepted exactly where `amount` is at least the price and `eps` more. Then the amount is the price, and
+    /// the person holds the object by the arc at place `arc`. A bid that is refused changes nothing. `amount` and `eps` are
+    /// in scaled costs.
+    #[tactic(auto, using(crate::proofs::Shape::shape_sold, crate::proofs::Shape::shape_same))]
+    pub fn on_bid(
+        &mut self,
+        person: u32,
+        arc: u32,
+        object: u32,
+        amount: i64,
+        eps: i64,
+    ) -> ArrayVec<Out, 4>
+        requires object { Owns self.old object }
+        requires amount { IsPrice amount }
+        requires eps { IsEps eps }
+        ensures accepted { least_amount (price_of self.old object) eps ≤ℤ amount → self.new ≡ sold self.old object amount (record { person = person; arc = arc }) }
+        ensures awarded { least_amount (price_of self.old object) eps ≤ℤ amount → result.items ≡ awards self.old.person_shards (holder_of self.old object) person object amount }
+        ensures kept { amount <ℤ least_amount (price_of self.old object) eps → self.new ≡ self.old }
+        ensures refused { amount <ℤ least_amount (price_of self.old object) eps → result.items ≡ refusal self.old.person_shards person object (price_of self.old object) }
+        ensures shape { SameShape self.old self.new }
+    {
+        let price = self.price(object);
+        if amount < price + eps {
+            let refused = Letter::Refused {
+                person,
+                object,
+                price,
+            };
+            return one(self.to_person(person, refused));
+        }
+        let before = self.holder(object);
+        self.sell(object, amount, Held { person, arc });
+        let award = Letter::Award {
+            person,
+            object,
+            price: amount,
+        };
+        let award = self.to_person(person, award);
+        match before {
+            Some(held) => {
+                let outbid = Letter::Outbid {
+                    person: held.person,
+                    object,
+                    price: amount,
+                };
+                two(self.to_person(held.person, outbid), award)
+            }
+            None => two(award, to_hub(Letter::First { object })),
+        }
+    }
+
+    /// Sets the price and the holder of an object.
+    #[inline]
+    fn sell(&mut self, object: u32, price: i64, held: Held)
+        requires object { object < length self.old.prices }
+        requires price { IsPrice price }
+        ensures { self.new ≡ sold self.old object price held }
+    {
+        self.prices[object as usize] = price;
+        self.holders[object as usize] = Some(held);
+    }
+
+    /// A letter to the shard of a person.
+    #[inline]
+    fn to_person(&self, person: u32, letter: Letter) -> Out
+        ensures { result ≡ to_person self.now.person_shards person letter }
+    {
+        let shards = self.person_shards;
+        Out {
+            letter,
+            to: To::Person {
+                shard: shard_of(person, shards),
+            },
+            reserve: 0,
+        }
+    }
+}
+
+/// A letter to the hub.
+#[inline]
+fn to_hub(letter: Letter) -> Out
+    ensures { result ≡ to_hub letter }
+{
+    Out {
+        letter,
+        to: To::Hub,
+        reserve: 0,
+    }
+}
+
+#[inline]
+fn one(first: Out) -> ArrayVec<Out, 4>
+    ensures { result.items ≡ first ∷ [] }
+{
+    let mut letters = ArrayVec::new();
+    letters.push(first);
+    letters
+}
+
+#[inline]
+fn two(first: Out, second: Out) -> ArrayVec<Out, 4>
+    ensures { result.items ≡ first ∷ second ∷ [] }
+{
+    let mut letters = ArrayVec::new();
+    letters.push(first);
+    letters.push(second);
+    letters
+}

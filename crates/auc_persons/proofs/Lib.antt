@@ -1,0 +1,7 @@
+pub mod Scans
+pub mod Amounts
+pub mod Bounds
+pub mod Counts
+pub mod Rise
+pub mod Own
+mod WorkedBids

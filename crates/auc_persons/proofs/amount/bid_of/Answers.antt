@@ -1,0 +1,53 @@
+use Rattle.std.proofs.Common.{◌<◌, length, get_or, pos, w64, arith, rules}
+use Rattle.std.specs.Prelude.{FitsSigned}
+use Rattle.std.proofs.lemmas.Int.{ints, to_z-of_z}
+use Rattle.std.proofs.lemmas.List.Elements.{All-get_or, All-contains}
+use Rattle.auc_graph.specs.Table.{IsRowArc}
+use Rattle.auc_letters.specs.Price.{IsPrice}
+use Rattle.auc_persons.specs.Scan.{copy_in}
+use Rattle.auc_persons.proofs.Bounds.{price_fits}
+use Rattle.auc_persons.proofs.Amounts.{next_bid, only_bid}
+use Rattle.auc_persons.proofs.amount.bid_of.Goals as goal
+
+pub next_amount-amount-requires-clause-price : goal.next_amount-amount-requires-clause-price
+next_amount-amount-requires-clause-price c =
+    let f1 : FitsSigned w64 c.args.scale = c.ranges.scale in
+    let s = simp to_z-of_z at c.in_ok-found.ensures.some in
+    let lt : c.in_ok-found.found.best.object < length c.args.copies.now = (All-contains (IsRowArc (length c.args.copies.now)) c.args.row.now c.in_ok-found.found.best c.requires.row.within s.listed).object in
+    let i = All-get_or IsPrice c.args.copies.now c.in_ok-found.found.best.object (pos 0) lt c.requires.copies in
+    let f : FitsSigned w64 (get_or c.args.copies.now c.in_ok-found.found.best.object (pos 0)) = price_fits (get_or c.args.copies.now c.in_ok-found.found.best.object (pos 0)) i in
+    simp to_z-of_z i
+
+pub only_amount-amount-requires-clause-price : goal.only_amount-amount-requires-clause-price
+only_amount-amount-requires-clause-price c =
+    let f1 : FitsSigned w64 c.args.scale = c.ranges.scale in
+    let s = simp to_z-of_z at c.in_ok-found.ensures.some in
+    let lt : c.in_ok-found.found.best.object < length c.args.copies.now = (All-contains (IsRowArc (length c.args.copies.now)) c.args.row.now c.in_ok-found.found.best c.requires.row.within s.listed).object in
+    let i = All-get_or IsPrice c.args.copies.now c.in_ok-found.found.best.object (pos 0) lt c.requires.copies in
+    let f : FitsSigned w64 (get_or c.args.copies.now c.in_ok-found.found.best.object (pos 0)) = price_fits (get_or c.args.copies.now c.in_ok-found.found.best.object (pos 0)) i in
+    simp to_z-of_z i
+
+pub returns-then-found-lt9223372036854775807-clause-bid : goal.returns-then-found-lt9223372036854775807-clause-bid
+returns-then-found-lt9223372036854775807-clause-bid c =
+    let f1 : FitsSigned w64 c.args.scale = c.ranges.scale in
+    let f2 : FitsSigned w64 c.args.eps = c.ranges.eps in
+    let f3 : FitsSigned w64 c.next_amount-amount.result = search rules in
+    let f4 : FitsSigned w64 c.in_ok-found.found.second = search rules in
+    let f5 : FitsSigned w64 c.in_ok-found.found.value = search rules in
+    let f6 : FitsSigned w64 (get_or c.args.copies.now c.in_ok-found.found.best.object (pos 0)) = search rules in
+    let s = simp to_z-of_z at c.in_ok-found.ensures.some in
+    let e = simp to_z-of_z at c.next_amount-amount.ensures in
+    simp to_z-of_z (next_bid c.args.scale c.args.spread c.args.eps (copy_in c.args.copies.now) c.args.row.now c.in_ok-found.found c.next_amount-amount.result s (omega (arith, ints)) e)
+
+pub returns-clause-bid : goal.returns-clause-bid
+returns-clause-bid c =
+    let f1 : FitsSigned w64 c.args.scale = c.ranges.scale in
+    let f2 : FitsSigned w64 c.args.eps = c.ranges.eps in
+    let f3 : FitsSigned w64 c.only_amount-amount.result = search rules in
+    let f4 : FitsSigned w64 c.scaled.result = search rules in
+    let f5 : FitsSigned w64 c.args.spread = c.ranges.spread in
+    let f6 : FitsSigned w64 (get_or c.args.copies.now c.in_ok-found.found.best.object (pos 0)) = search rules in
+    let s = simp to_z-of_z at c.in_ok-found.ensures.some in
+    let g = simp to_z-of_z at c.scaled.ensures.is in
+    let e = simp to_z-of_z at c.only_amount-amount.ensures in
+    simp to_z-of_z (only_bid c.args.scale c.args.spread c.args.eps (copy_in c.args.copies.now) c.args.row.now c.in_ok-found.found c.only_amount-amount.result s (omega (arith, ints)) (rw g at e))

@@ -1,0 +1,146 @@
+-- A shard of the persons, as callers see it, and what each call leaves of it.
+use Rattle.std.specs.Prelude.{◌≡◌, ◌≢◌, ◌<◌, ◌≤◌, ◌+◌, ◌-◌, ◌%◌, ◌==◌, filter, ℕ, ℤ, pos, ◌≤ℤ◌, ◌<ℤ◌, Bool, true, false, List, [], ◌∷◌, ◌++◌, Result, Ok, Err, length, drop, All, slice_index_or, slice_set, count_by}
+use Rattle.std.specs.List.{range_with_len}
+use Rattle.auc_graph.specs.declared.rows.RowArc.{RowArc}
+use Rattle.auc_graph.specs.declared.limits.TheConstants.{MOST_PERSONS}
+use Rattle.auc_graph.specs.Table.{Table, row_of}
+use Rattle.auc_letters.specs.declared.letter.Letter.{Letter}
+use Rattle.auc_letters.specs.declared.out.Out.{Out}
+use Rattle.auc_letters.specs.declared.letter.Why.{Why}
+use Rattle.auc_letters.specs.declared.state.PersonState.{PersonState}
+use Rattle.auc_letters.specs.declared.state.PersonState.TheVariants.{Free, Waits, Holds}
+use Rattle.auc_persons.specs.declared.bidding.Bidding.{Bidding}
+use Rattle.auc_persons.specs.declared.bidding.PersonFault.{PersonFault}
+use Rattle.auc_letters.specs.declared.limits.TheConstants.{MOST_PRICE}
+use Rattle.auc_letters.specs.Price.{IsPrice}
+use Rattle.auc_letters.specs.Routing.{to_object}
+use Rattle.auc_graph.specs.Bid.{IsBid}
+use Rattle.auc_persons.specs.Scan.{copy_in}
+
+-- The shard's number, of how many; how many shards of objects there are, and how many bids are left; by object the copy of
+-- its price, by person how he stands; and the free persons of the shard, who has been free longest first.
+pub record Persons : Type 0 where
+  pub shard : ℕ
+  pub of : ℕ
+  pub object_shards : ℕ
+  pub bids : ℕ
+  pub copies : List ℤ
+  pub states : List PersonState
+  pub idle : List ℕ
+
+abbrev pub is_free : PersonState → Bool
+is_free Free = true
+is_free (Waits j) = false
+is_free (Holds j) = false
+
+-- what holds of each shard
+pub record ArePersons (s : Persons) : Type 0 where
+  pub known : s.shard < s.of
+  pub shards : 0 < s.object_shards
+  pub few : length s.states ≤ MOST_PERSONS
+  pub copies_are : All IsPrice s.copies
+  pub idle_are : All (λ i. i < length s.states) s.idle
+  pub room : length s.idle ≤ count_by is_free s.states
+
+-- a person of the shard
+pub record Owns (s : Persons) (person : ℕ) : Type 0 where
+  pub known : person < length s.states
+  pub own : person % s.of ≡ s.shard
+
+abbrev pub copy_of : Persons → ℕ → ℤ
+copy_of s object = copy_in s.copies object
+
+abbrev pub state_of : Persons → ℕ → PersonState
+state_of s person = slice_index_or s.states person Free
+
+-- the shard was made for as many persons and objects
+pub record Fits (t : Table) (s : Persons) : Type 0 where
+  pub persons : length t.rows ≡ length s.states
+  pub objects : t.objects ≡ length s.copies
+
+-- who has been free longest
+abbrev pub first_idle : Persons → ℕ
+first_idle s = slice_index_or s.idle 0 0
+
+-- what a person bids, at the copies of the shard
+abbrev pub Bids : Table → ℤ → Persons → ℕ → RowArc → ℤ → Type 0
+Bids t eps s i arc amount = IsBid (pos (length t.rows + 1)) t.spread eps (copy_in s.copies) (row_of t i) arc amount
+
+-- why a person can't bid, in this order: no bid is left, he has no arc, he would bid above the greatest price
+abbrev pub Stops : Table → ℤ → Persons → ℕ → Why → Type 0
+Stops t eps s i Why.Bids = s.bids ≡ 0
+Stops t eps s i Why.Stuck = (s.bids ≢ 0) × (row_of t i ≡ [])
+Stops t eps s i Why.Ceiling = (s.bids ≢ 0) × ((arc : RowArc) × (amount : ℤ) × Bids t eps s i arc amount × (MOST_PRICE <ℤ amount))
+Stops t eps s i Why.Posts = ⊥
+Stops t eps s i Why.Trail = ⊥
+Stops t eps s i Why.Mail = ⊥
+Stops t eps s i Why.Fell = ⊥
+Stops t eps s i Why.Stray = ⊥
+
+abbrev pub bid_letter : Persons → ℕ → RowArc → ℤ → Out
+bid_letter s i arc amount = to_object s.object_shards arc.object (Letter.Bid i arc.arc arc.object amount)
+
+-- the shard when the first of the free persons has bid: he waits, and a bid is used up
+abbrev pub after_bid : Persons → ℕ → ℕ → Persons
+after_bid s i j = record s { idle = drop 1 s.idle; bids = s.bids - 1; states = slice_set s.states i (Waits j) }
+
+-- The next bid: nobody is free; or the person who has been free longest can't bid; or he bids. Only the last changes
+-- the shard.
+abbrev pub NextBid : Table → ℤ → Persons → Bidding → Persons → Type 0
+NextBid t eps s Bidding.Idle n = (s.idle ≡ []) × (n ≡ s)
+NextBid t eps s (Bidding.Stop why) n = (s.idle ≢ []) × Stops t eps s (first_idle s) why × (n ≡ s)
+NextBid t eps s (Bidding.Out out) n = (s.idle ≢ []) × (s.bids ≢ 0) × ((arc : RowArc) × (amount : ℤ) × Bids t eps s (first_idle s) arc amount × (amount ≤ℤ MOST_PRICE) × (out ≡ bid_letter s (first_idle s) arc amount) × (n ≡ after_bid s (first_idle s) arc.object))
+
+-- an answer to a person about an object fits where he stands as it wants
+abbrev pub FitsAnswer : Persons → ℕ → ℕ → ℤ → PersonState → Type 0
+FitsAnswer s i j p wanted = (i < length s.states) × (i % s.of ≡ s.shard) × (j < length s.copies) × IsPrice p × (slice_index_or s.states i Free ≡ wanted)
+
+abbrev pub FitsPrice : Persons → ℕ → ℤ → Type 0
+FitsPrice s j p = (j < length s.copies) × IsPrice p
+
+abbrev pub held_after : Persons → ℕ → ℕ → ℤ → Persons
+held_after s i j p = record s { copies = slice_set s.copies j p; states = slice_set s.states i (Holds j) }
+
+abbrev pub free_after : Persons → ℕ → ℕ → ℤ → Persons
+free_after s i j p = record s { copies = slice_set s.copies j p; states = slice_set s.states i Free; idle = s.idle ++ i ∷ [] }
+
+-- the price is below the copy
+abbrev pub Falls : Persons → ℕ → ℤ → Type 0
+Falls s j p = p <ℤ slice_index_or s.copies j (pos 0)
+
+-- an outcome: it fits and the price is no fall; or it doesn't fit; or it falls
+abbrev pub Outcome : Type 0 → Persons → ℕ → ℤ → Persons → Result (Unit {0}) PersonFault → Persons → Type 0
+Outcome fits s j p after (Ok _) n = fits × (slice_index_or s.copies j (pos 0) ≤ℤ p) × (n ≡ after)
+Outcome fits s j p after (Err PersonFault.Stray) n = (fits → ⊥) × (n ≡ s)
+Outcome fits s j p after (Err PersonFault.Fell) n = fits × Falls s j p × (n ≡ s)
+
+abbrev pub Answered : Persons → ℕ → ℕ → ℤ → PersonState → Persons → Result (Unit {0}) PersonFault → Persons → Type 0
+Answered s i j p wanted after r n = Outcome (FitsAnswer s i j p wanted) s j p after r n
+
+abbrev pub Priced : Persons → ℕ → ℤ → Result (Unit {0}) PersonFault → Persons → Type 0
+Priced s j p r n = Outcome (FitsPrice s j p) s j p (record s { copies = slice_set s.copies j p }) r n
+
+abbrev pub OnLetter : Persons → Letter → Result (Unit {0}) PersonFault → Persons → Type 0
+OnLetter s (Letter.Award i j p) r n = Answered s i j p (Waits j) (held_after s i j p) r n
+OnLetter s (Letter.Refused i j p) r n = Answered s i j p (Waits j) (free_after s i j p) r n
+OnLetter s (Letter.Outbid i j p) r n = Answered s i j p (Holds j) (free_after s i j p) r n
+OnLetter s (Letter.Price j p) r n = Priced s j p r n
+OnLetter s (Letter.Bid i a j p) r n = (r ≡ Err PersonFault.Stray) × (n ≡ s)
+OnLetter s (Letter.First j) r n = (r ≡ Err PersonFault.Stray) × (n ≡ s)
+OnLetter s (Letter.Stop y) r n = (r ≡ Err PersonFault.Stray) × (n ≡ s)
+
+-- the shard has as many persons and objects as before, and the same number among as many shards
+pub record SameShape (s n : Persons) : Type 0 where
+  pub shard : n.shard ≡ s.shard
+  pub of : n.of ≡ s.of
+  pub object_shards : n.object_shards ≡ s.object_shards
+  pub persons : length n.states ≡ length s.states
+  pub objects : length n.copies ≡ length s.copies
+
+-- no copy falls
+abbrev pub Rising : List ℤ → List ℤ → Type 0
+Rising q r = (k : ℕ) → slice_index_or q k (pos 0) ≤ℤ slice_index_or r k (pos 0)
+
+-- the persons of a shard, in rising order
+abbrev pub own : ℕ → ℕ → ℕ → List ℕ
+own shard of persons = filter (λ i. (i % of) == shard) (range_with_len 0 persons)

@@ -1,0 +1,83 @@
+//! The amount of a bid.
+
+ghost use Rattle.std.specs.Prelude.{◌≡◌, ◌*◌, ◌^◌, pos, ◌+ℤ◌, ◌-ℤ◌, ◌*ℤ◌, ◌≤ℤ◌, All, length, IfSome, IfNone, []};
+ghost use Rattle.auc_graph.specs.Bid.{IsBid};
+ghost use Rattle.auc_graph.specs.Table.{IsRow};
+ghost use Rattle.auc_letters.specs.Price.{IsPrice, IsEps};
+ghost use Rattle.auc_persons.specs.Scan.{copy_in, IsValue};
+
+use crate::scan::scan_of;
+use auc_graph::RowArc;
+
+/// The price, what the best other arc costs more, and eps.
+#[inline]
+fn next_amount(price: i64, second: i64, value: i64, eps: i64) -> i64
+    requires price { IsPrice price }
+    requires value { IsValue value }
+    requires second { IsValue second }
+    requires eps { IsEps eps }
+    ensures { result ≡ (price +ℤ (second -ℤ value)) +ℤ eps }
+{
+    price + (second - value) + eps
+}
+
+/// The price, the scaled spread and eps.
+#[inline]
+fn only_amount(price: i64, scaled_spread: i64, eps: i64) -> i64
+    requires price { IsPrice price }
+    requires spread_low { pos 0 ≤ℤ scaled_spread }
+    requires spread_high { scaled_spread ≤ℤ pos (2 ^ 45) }
+    requires eps { IsEps eps }
+    ensures { result ≡ (price +ℤ scaled_spread) +ℤ eps }
+{
+    price + scaled_spread + eps
+}
+
+/// The spread of the costs, scaled.
+#[inline]
+fn scaled(scale: i64, spread: i64) -> i64
+    requires scale_low { pos 1 ≤ℤ scale }
+    requires scale_high { scale ≤ℤ pos 10001 }
+    requires spread_low { pos 0 ≤ℤ spread }
+    requires spread_high { spread ≤ℤ pos (2 * 10 ^ 9) }
+    ensures is { result ≡ scale *ℤ spread }
+    ensures low { pos 0 ≤ℤ result }
+    ensures high { result ≤ℤ pos (2 ^ 45) }
+{
+    scale * spread
+}
+
+/// What is bid: an amount, in scaled costs, and the arc that it is bid by.
+#[derive(Clone, Copy, Debug, PartialEq, Eq)]
+pub struct Bid {
+    pub amount: i64,
+    pub arc: RowArc,
+}
+
+/// What is bid on the best arc of a row, at these copies of the prices, indexed by object; nothing where the row has no arc.
+///
+/// `scale` is one more than the persons, `spread` that of the costs of the file; `eps` and `copies` are in scaled costs.
+///
+/// Takes one pass over the row, O(arcs of the row) time and no memory. The method is the bid of the auction algorithm
+/// (Bertsekas, 1979).
+pub fn bid_of(scale: i64, spread: i64, eps: i64, row: &[RowArc], copies: &[i64]) -> Option<Bid>
+    requires scale_low { pos 1 ≤ℤ scale }
+    requires scale_high { scale ≤ℤ pos 10001 }
+    requires spread_low { pos 0 ≤ℤ spread }
+    requires spread_high { spread ≤ℤ pos (2 * 10 ^ 9) }
+    requires eps { IsEps eps }
+    requires row { IsRow (length copies.now) row.now }
+    requires copies { All IsPrice copies.now }
+    ensures bid { IfSome result (λ b. IsBid scale spread eps (copy_in copies.now) row.now b.arc b.amount) }
+    ensures none { IfNone result (row.now ≡ []) }
+{
+    let found = scan_of(scale, row, copies)?;
+    let price = copies[found.best.object as usize];
+    let arc = found.best;
+    if found.second < i64::MAX {
+        let amount = next_amount(price, found.second, found.value, eps);
+        return Some(Bid { amount, arc });
+    }
+    let amount = only_amount(price, scaled(scale, spread), eps);
+    Some(Bid { amount, arc })
+}

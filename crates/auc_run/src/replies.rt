@@ -1,0 +1,100 @@
+//! The lines that tell the replies of a mail.
+
+ghost use Rattle.std.specs.Prelude.{◌≡◌, ◌+◌, OnOk};
+ghost use Rattle.std.specs.Fmt.{decimal};
+ghost use Rattle.std.specs.Io.KnownBytes.{Appends};
+ghost use Rattle.auc_mail.specs.declared.call.Reply.TheVariants.{Posted, Refused, Took, WasOpen};
+ghost use Rattle.auc_mail.specs.declared.call.Taken.TheVariants.{Letter};
+ghost use Rattle.auc_run.specs.Replies.{reply_line, reply_lines};
+
+use crate::lines::{write_counted, write_number};
+use auc_cert::{WriteFault, write_whole};
+use auc_mail::{PostRefused, Reply, Taken};
+use itoa::Buffer;
+use std::io::Write;
+
+/// Writes a number in decimal.
+fn write_count<W: Write>(writer: &mut W, count: u64) -> Result<(), WriteFault>
+    ensures { OnOk result (Appends (W.contents writer.old) (W.contents writer.new) (decimal count)) }
+{
+    let mut buffer = Buffer::new();
+    write_whole(writer, buffer.format(count).as_bytes())
+}
+
+/// Writes the line of a letter. Its sender is numbered from 0.
+fn write_letter<W: Write>(
+    writer: &mut W,
+    sender: u32,
+    number: u64,
+    item: i64,
+) -> Result<(), WriteFault>
+    ensures { OnOk result (Appends (W.contents writer.old) (W.contents writer.new) (reply_line (Took (Letter sender number item)))) }
+{
+    write_whole(writer, b"letter ")?;
+    write_count(writer, sender as u64 + 1)?;
+    write_whole(writer, b" ")?;
+    write_count(writer, number)?;
+    write_whole(writer, b" ")?;
+    write_number(writer, item)?;
+    write_whole(writer, b"\n")?;
+    Ok(())
+}
+
+fn write_refused<W: Write>(writer: &mut W, refused: PostRefused) -> Result<(), WriteFault>
+    ensures { OnOk result (Appends (W.contents writer.old) (W.contents writer.new) (reply_line (Refused refused))) }
+{
+    match refused {
+        PostRefused::Closed => write_whole(writer, b"closed\n"),
+        PostRefused::Spent => write_whole(writer, b"spent\n"),
+        PostRefused::Full => write_whole(writer, b"full\n"),
+    }
+}
+
+fn write_taken<W: Write>(writer: &mut W, taken: Taken<i64>) -> Result<(), WriteFault>
+    ensures { OnOk result (Appends (W.contents writer.old) (W.contents writer.new) (reply_line (Took taken))) }
+{
+    match taken {
+        Taken::Letter {
+            sender,
+            number,
+            item,
+        } => write_letter(writer, sender, number, item),
+        Taken::Empty => write_whole(writer, b"empty\n"),
+        Taken::Over => write_whole(writer, b"over\n"),
+    }
+}
+
+fn write_closed<W: Write>(writer: &mut W, was_open: bool) -> Result<(), WriteFault>
+    ensures { OnOk result (Appends (W.contents writer.old) (W.contents writer.new) (reply_line (WasOpen was_open))) }
+{
+    if was_open {
+        write_whole(writer, b"was open\n")
+    } else {
+        write_whole(writer, b"was closed\n")
+    }
+}
+
+/// Writes the line of a reply.
+fn write_reply<W: Write>(writer: &mut W, reply: Reply<i64>) -> Result<(), WriteFault>
+    ensures { OnOk result (Appends (W.contents writer.old) (W.contents writer.new) (reply_line reply)) }
+{
+    match reply {
+        Reply::Posted(number) => write_counted(writer, b"ok ", number as u128),
+        Reply::Refused(refused) => write_refused(writer, refused),
+        Reply::Took(taken) => write_taken(writer, taken),
+        Reply::WasOpen(was_open) => write_closed(writer, was_open),
+    }
+}
+
+/// Writes the lines of replies, one for each, in order.
+pub(crate) fn write_replies<W: Write>(
+    writer: &mut W,
+    replies: &[Reply<i64>],
+) -> Result<(), WriteFault>
+    ensures { OnOk result (Appends (W.contents writer.old) (W.contents writer.new) (reply_lines replies.now)) }
+{
+    for reply in replies {
+        write_reply(writer, *reply)?;
+    }
+    Ok(())
+}

@@ -1,0 +1,13 @@
+//! Worked examples of rows, letters and shards: tests of the crates below by their public calls alone.
+#![tactic(auto)]
+
+#[cfg(test)]
+mod desk;
+#[cfg(test)]
+mod objects;
+#[cfg(test)]
+mod persons;
+#[cfg(test)]
+mod rows;
+#[cfg(test)]
+mod stall;

@@ -1,0 +1,71 @@
+//! Bids on objects.
+
+use crate::stall::Stall;
+use auc_letters::{Held, Letter, Out, To, equal_letters_are_same, shard_of};
+use std::test::*;
+
+fn to_person(letter: Letter) -> Out {
+    Out {
+        letter,
+        to: To::Person { shard: 0 },
+        reserve: 0,
+    }
+}
+
+/// The first bid is accepted, one as high is too low, and one above the price by eps outbids.
+#[test]
+fn two_bidders(rt: HostRuntime) {
+    let mut stall = Stall::new(&rt, &[0, 0]).expect(&rt, "memory");
+    let first = stall.bid(0, 0, 0, 4);
+    let award = to_person(Letter::Award {
+        person: 0,
+        object: 0,
+        price: 4,
+    });
+    let counted = Out {
+        letter: Letter::First { object: 0 },
+        to: To::Hub,
+        reserve: 0,
+    };
+    assert_eq!(rt; first.as_slice(), [award, counted].as_slice());
+    let low = stall.bid(1, 2, 0, 4);
+    let refused = to_person(Letter::Refused {
+        person: 1,
+        object: 0,
+        price: 4,
+    });
+    assert_eq!(rt; low.as_slice(), [refused].as_slice());
+    let second = stall.bid(1, 2, 0, 7);
+    let outbid = to_person(Letter::Outbid {
+        person: 0,
+        object: 0,
+        price: 7,
+    });
+    let given = to_person(Letter::Award {
+        person: 1,
+        object: 0,
+        price: 7,
+    });
+    assert_eq!(rt; second.as_slice(), [outbid, given].as_slice());
+    assert_eq!(rt; stall.price(0), Some(7));
+    assert_eq!(rt; stall.price(1), Some(0));
+    assert_eq!(rt; stall.holder(0), Some(Held { person: 1, arc: 2 }));
+    assert_eq!(rt; stall.holder(1), None);
+    let told = Out {
+        letter: Letter::Price {
+            object: 0,
+            price: 7,
+        },
+        to: To::Person { shard: 0 },
+        reserve: 4,
+    };
+    assert_eq!(rt; stall.tell(0), told);
+}
+
+#[test]
+fn letters_and_shards(rt: HostRuntime) {
+    equal_letters_are_same();
+    assert_eq!(rt; shard_of(7, 3), 1);
+    assert_eq!(rt; Out::default().reserve, 0);
+    assert!(rt; Letter::First { object: 0 } != Letter::First { object: 1 });
+}

@@ -1,0 +1,29 @@
+//! Rows of problems that are read from texts.
+
+use crate::desk::rows_of;
+use auc_graph::RowArc;
+use std::test::*;
+
+fn arc(cost: i64, object: u32, arc: u32) -> RowArc {
+    RowArc { cost, object, arc }
+}
+
+/// Arcs of several persons, out of order and one pair twice; one person has none.
+#[test]
+fn rows_in_file_order(rt: HostRuntime) {
+    let rows = rows_of(&rt, "3 2 1 -5 1 3 4 2 1 9 1 1 4").expect(&rt, "rows");
+    assert_eq!(rt; rows.persons(), 3);
+    assert_eq!(rt; rows.objects(), 3);
+    assert_eq!(rt; rows.cost_spread(), 14);
+    assert_eq!(rt; rows.row(0), [arc(4, 2, 1), arc(4, 0, 3)].as_slice());
+    assert_eq!(rt; rows.row(1), [arc(-5, 0, 0), arc(9, 0, 2)].as_slice());
+    assert!(rt; rows.row(2).is_empty());
+}
+
+#[test]
+fn no_arcs(rt: HostRuntime) {
+    let rows = rows_of(&rt, "2").expect(&rt, "rows");
+    assert_eq!(rt; rows.persons(), 2);
+    assert_eq!(rt; rows.cost_spread(), 0);
+    assert!(rt; rows.row(1).is_empty());
+}

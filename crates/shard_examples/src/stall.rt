@@ -1,0 +1,64 @@
+//! An object shard beside the number of its objects.
+
+ghost use Rattle.std.specs.Prelude.{◌≡◌, length, All};
+ghost use Rattle.auc_letters.specs.Price.{IsPrice};
+
+use arrayvec::ArrayVec;
+use auc_letters::{Held, MOST_PRICE, Out};
+use auc_objects::ObjectShard;
+use std::test::*;
+
+/// The only object shard, for two persons in one shard, at eps 1.
+#[derive(Drop)]
+pub struct Stall {
+    objects: usize,
+    shard: ObjectShard,
+    ghost all: { length shard.prices ≡ objects },
+    ghost only: { shard.of ≡ 1 },
+    ghost first: { shard.shard ≡ 0 },
+    ghost persons: { shard.person_shards ≡ 1 },
+}
+
+impl Stall {
+    pub fn new(rt: &HostRuntime, prices: &[i64]) -> Option<Stall>
+        requires { All IsPrice prices.now }
+    {
+        let shard = ObjectShard::make(rt.alloc(), 0, 1, 1, 2, prices).ok()?;
+        Some(Stall {
+            objects: prices.len(),
+            shard,
+        })
+    }
+
+    pub fn bid(&mut self, person: u32, arc: u32, object: u32, amount: i64) -> ArrayVec<Out, 4> {
+        if (object as usize) < self.objects && 0 <= amount && amount <= MOST_PRICE {
+            self.shard.on_bid(person, arc, object, amount, 1)
+        } else {
+            ArrayVec::new()
+        }
+    }
+
+    pub fn price(&self, object: u32) -> Option<i64> {
+        if (object as usize) < self.objects {
+            Some(self.shard.price(object))
+        } else {
+            None
+        }
+    }
+
+    pub fn holder(&self, object: u32) -> Option<Held> {
+        if (object as usize) < self.objects {
+            self.shard.holder(object)
+        } else {
+            None
+        }
+    }
+
+    pub fn tell(&self, object: u32) -> Out {
+        if (object as usize) < self.objects {
+            self.shard.tell(object, 0)
+        } else {
+            Out::default()
+        }
+    }
+}

@@ -10,6 +10,7 @@ const TWO: &str = "2\n1 2 5\n1 1 5\n2 1 7\n";
 #[test]
 fn places_where_it_may_be(rt: HostRuntime) -> Result<(), Fail> {
     let rows = rows_of(&rt, TWO)?;
+    assert_eq!(rt; rows.persons(), 2);
     let mut partial = Partial::new(rt.alloc(), &rows)?;
     // No arc of the second person, no arc at all.
     assert_eq!(rt; partial.place(&rows, 1, 0), false);
@@ -26,6 +27,7 @@ fn places_where_it_may_be(rt: HostRuntime) -> Result<(), Fail> {
 #[test]
 fn keeps_who_was_placed(rt: HostRuntime) -> Result<(), Fail> {
     let rows = rows_of(&rt, "2\n1 1 0 1 2 0\n2 1 0 2 2 0\n")?;
+    assert_eq!(rt; rows.persons(), 2);
     let mut partial = Partial::new(rt.alloc(), &rows)?;
     assert_eq!(rt; partial.place(&rows, 1, 2), true);
     let arcs = full(complete(rt.alloc(), &rows, partial)?).ok_or("there is an assignment")?;

@@ -16,7 +16,11 @@ use itoa::Buffer;
 use std::io::Write;
 
 /// Writes words, a number and the line end.
-pub(crate) fn write_counted<W: Write>(writer: &mut W, words: &[u8], number: u128) -> Result<(), WriteFault>
+pub(crate) fn write_counted<W: Write>(
+    writer: &mut W,
+    words: &[u8],
+    number: u128,
+) -> Result<(), WriteFault>
     ensures { OnOk result (Appends (W.contents writer.old) (W.contents writer.new) (counted words.now number)) }
 {
     let mut buffer = Buffer::new();

@@ -56,12 +56,7 @@ fn number_within(number: Number, place: u64, least: i64, most: i64) -> Result<i6
 }
 
 /// The operand at token `place`, from `least` to `most`, and the text behind it.
-fn operand_of(
-    bytes: &[u8],
-    place: u64,
-    least: i64,
-    most: i64,
-) -> Result<(i64, &[u8]), ScriptError>
+fn operand_of(bytes: &[u8], place: u64, least: i64, most: i64) -> Result<(i64, &[u8]), ScriptError>
     ensures exact { seen (λ x. (x.0, tokens x.1.now)) result ≡ operand least most place (tokens bytes.now) }
     ensures bounds { IfOk result (λ x. (least ≤ℤ x.0) × (x.0 ≤ℤ most)) }
     ensures shorter { IfOk result (λ x. length x.1.now ≤ length bytes.now) }

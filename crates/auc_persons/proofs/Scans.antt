@@ -121,24 +121,6 @@ clash a v f (inl l) (inr b) = omega (arith, ints, l, b.0)
 clash a v f (inr l) (inl b) = omega (arith, ints, l.0, b)
 clash a v f (inr l) (inr b) = omega (arith, l.1, b.1)
 
-pub joined_next : (f : Scan) (a : RowArc) (v : ℤ) → a.object ≢ f.best.object → Loses a v f → v <ℤ f.second → Joined f a v (record { value = f.value; second = v; best = f.best })
-joined_next f a v ne l lt = record {
-  same_wins = λ e _. absurd (ne e);
-  same_loses = λ e _. absurd (ne e);
-  other_wins = λ _ b. absurd (clash a v f l b);
-  other_next = λ _ _ _. refl;
-  other_loses = λ _ _ le. absurd (omega (arith, ints));
-}
-
-pub joined_none : (f : Scan) (a : RowArc) (v : ℤ) → a.object ≢ f.best.object → Loses a v f → f.second ≤ℤ v → Joined f a v f
-joined_none f a v ne l le = record {
-  same_wins = λ e _. absurd (ne e);
-  same_loses = λ e _. absurd (ne e);
-  other_wins = λ _ b. absurd (clash a v f l b);
-  other_next = λ _ _ lt. absurd (omega (arith, ints));
-  other_loses = λ _ _ _. refl;
-}
-
 loses : (val : RowArc → ℤ) (row : List RowArc) (f r : Scan) (a : RowArc) (v : ℤ) → IsScan val row f → v ≡ val a → IsValue v → Joined f a v r → a.object ≢ f.best.object → Loses a v f → IsScan val (row ++ a ∷ []) r
 loses val row f r a v s is ok j other l =
     by_lt_z v f.second

@@ -40,30 +40,29 @@ impl Scan {
     fn with(self, arc: RowArc, value: i64) -> Scan
         ensures { Joined self arc value result }
     {
-        if arc.object == self.best.object {
-            if value < self.value {
-                Scan {
-                    value,
-                    second: self.second,
-                    best: arc,
-                }
+        if self.is_beaten(arc, value) {
+            let second = if arc.object == self.best.object {
+                self.second
             } else {
-                self
-            }
-        } else if self.is_beaten(arc, value) {
-            Scan {
+                self.value
+            };
+            return Scan {
                 value,
-                second: self.value,
+                second,
                 best: arc,
-            }
-        } else if value < self.second {
-            Scan {
-                value: self.value,
-                second: value,
-                best: self.best,
-            }
-        } else {
-            self
+            };
+        }
+        // Most arcs of a long row end here.
+        if self.second <= value {
+            return self;
+        }
+        if arc.object == self.best.object {
+            return self;
+        }
+        Scan {
+            value: self.value,
+            second: value,
+            best: self.best,
         }
     }
 }

@@ -87,6 +87,8 @@ pub fn run_command<R: Read, Q: Read, W: Write>(
     ensures said { result ≢ UNWRITTEN → Said job.now (R.remaining reader.old) (Q.remaining second.old) (W.contents writer.old) (W.contents writer.new) result }
     // A certificate for what is no problem is left unread.
     ensures unread { IfSome (R.remaining reader.old) (λ file. IsErr (reading MOST_ARCS file) → second.new ≡ second.old) }
+    // A mail has one input.
+    ensures script_alone { job.now ≡ Job.Mail → second.new ≡ second.old }
 {
     match job {
         Job::Check => answer(writer, verdict_of(alloc, reader, second)),

@@ -20,6 +20,7 @@ pub struct Stall {
 }
 
 impl Stall {
+    /// The shard with these prices, and no holders.
     pub fn new(rt: &HostRuntime, prices: &[i64]) -> Option<Stall>
         requires { All IsPrice prices.now }
     {
@@ -30,6 +31,7 @@ impl Stall {
         })
     }
 
+    /// What is answered to a bid; nothing where its object or its amount is out of range.
     pub fn bid(&mut self, person: u32, arc: u32, object: u32, amount: i64) -> ArrayVec<Out, 4> {
         if (object as usize) < self.objects && 0 <= amount && amount <= MOST_PRICE {
             self.shard.on_bid(person, arc, object, amount, 1)
@@ -38,6 +40,7 @@ impl Stall {
         }
     }
 
+    /// The present price of an object.
     pub fn price(&self, object: u32) -> Option<i64> {
         if (object as usize) < self.objects {
             Some(self.shard.price(object))
@@ -46,6 +49,7 @@ impl Stall {
         }
     }
 
+    /// The holder of an object.
     pub fn holder(&self, object: u32) -> Option<Held> {
         if (object as usize) < self.objects {
             self.shard.holder(object)
@@ -54,6 +58,7 @@ impl Stall {
         }
     }
 
+    /// The price of an object as a letter to the only shard of the persons; the blank letter where there is no such object.
     pub fn tell(&self, object: u32) -> Out {
         if (object as usize) < self.objects {
             self.shard.tell(object, 0)

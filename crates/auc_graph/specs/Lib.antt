@@ -3,6 +3,7 @@ pub mod Numbers
 pub mod Problem
 pub mod Reading
 pub mod Assignment
+pub mod HallSet
 pub mod Row
 pub mod Table
 pub mod Layout

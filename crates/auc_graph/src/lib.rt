@@ -5,6 +5,7 @@
 #![tactic(auto)]
 
 mod arc;
+mod indices;
 mod layout;
 mod limits;
 mod number;
@@ -15,6 +16,7 @@ mod spread;
 mod tokens;
 
 pub use arc::{Arc, ArcList};
+pub use indices::Indices;
 pub use limits::{MOST_ARCS, MOST_COST, MOST_PERSONS, MOST_READS};
 pub use number::{Number, number_of};
 pub use read_error::ReadError;

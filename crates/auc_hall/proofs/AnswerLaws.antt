@@ -9,7 +9,7 @@ use Rattle.auc_graph.specs.declared.rows.RowArc.{RowArc}
 use Rattle.auc_graph.specs.Table.{Table, row_of}
 use Rattle.auc_hall.specs.declared.search.Reached.{Reached}
 use Rattle.auc_hall.specs.Assignment.{number_of, IsRowAssignment}
-use Rattle.auc_hall.specs.HallSet.{IsHallSet}
+use Rattle.auc_hall.specs.HallSet.{IsRowHallSet}
 use Rattle.auc_hall.specs.Partial.{pick}
 use Rattle.auc_hall.specs.Matched.{IsPlaced, IsMatched}
 use Rattle.auc_hall.specs.Search.{WasSeen, IsTrail, AreWalked, IsSearch}
@@ -74,7 +74,7 @@ no_flags flags persons is =
 
 -- The persons who were reached know the objects that were seen, which are one fewer.
 pub is_hall_set : (t : Table) (choice : List (Option RowArc)) (holder : List (Option ℕ)) (queue : List Reached) (seen flags : List Bool) → IsSearch t choice holder queue seen → AreWalked t queue seen (length queue) → AreReached queue (length t.rows) flags
-    → IsHallSet t (places 0 flags) (places 0 seen)
+    → IsRowHallSet t (places 0 flags) (places 0 seen)
 is_hall_set t choice holder queue seen flags s walked r =
     record {
       within = λ i c.

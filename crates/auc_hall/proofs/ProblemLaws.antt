@@ -18,8 +18,9 @@ use Rattle.auc_graph.specs.Assignment.{person_of, object_of}
 use Rattle.auc_hall.specs.declared.matching.Matching.{Matching}
 use Rattle.auc_hall.specs.declared.matching.Matching.TheVariants.{Full, Hall}
 use Rattle.auc_hall.specs.Assignment.{IsFull, number_of}
-use Rattle.auc_hall.specs.HallSet.{IsHallSet}
-use Rattle.auc_hall.specs.OfProblem.{IsFullOf, IsHallSetOf}
+use Rattle.auc_hall.specs.HallSet.{IsRowHallSet}
+use Rattle.auc_graph.specs.HallSet.{IsHallSet}
+use Rattle.auc_hall.specs.OfProblem.{IsFullOf, AreKnown, IsHallSetOf}
 use Rattle.auc_hall.specs.Matching.{IsMatching, IsMatchingOf}
 use Rattle.auc_hall.proofs.Membership.{first_or_behind, behind, nothing, contains_at, place_of}
 
@@ -95,10 +96,10 @@ length-rows p t h = ap length h.rows ∙ length-map-range_with_len (λ person. r
 row_is : (p : Problem) (t : Table) → IsTableOf p t → (i : ℕ) → i < p.persons → row_of t i ≡ row i p.arcs
 row_is p t h i lt = ap (λ (rows : List (List RowArc)). get_or rows i []) h.rows ∙ get_or-map-range_with_len (λ person. row person p.arcs) 0 p.persons i i [] lt (omega arith)
 
-pub hall_set_of : (p : Problem) (t : Table) (persons objects : List ℕ) → IsTableOf p t → IsHallSet t persons objects → IsHallSetOf p persons objects
+pub hall_set_of : (p : Problem) (t : Table) (persons objects : List ℕ) → IsTableOf p t → IsRowHallSet t persons objects → IsHallSetOf p persons objects
 hall_set_of p t persons objects of s =
     let persons_in : (i : ℕ) → Contains persons i → i < p.persons = λ i c. omega (arith, s.within i c, length-rows p t of) in
-    record {
+    let set : IsHallSet p persons objects = record {
       within = persons_in;
       persons_rise = s.persons_rise;
       objects_rise = s.objects_rise;
@@ -106,12 +107,13 @@ hall_set_of p t persons objects of s =
           let at = place_of p.arcs a c in
           let his_row = subst (λ (r : List RowArc). Contains r (row_arc (at.0, a))) (sym (row_is p t of a.person (persons_in a.person his))) (in_row a.person p.arcs at.0 a at.1 refl) in
           s.all a.person a.object his (row_arc (at.0, a), his_row, refl);
-      only = λ j c.
-          let x = s.only j c in
-          let b = stands_for x.0 p.arcs x.2.0 (subst (λ (r : List RowArc). Contains r x.2.0) (row_is p t of x.0 (persons_in x.0 x.1)) x.2.1) in
-          (b.0, contains_at p.arcs x.2.0.arc b.0 b.1.there, subst (λ (i : ℕ). Contains persons i) (sym b.1.person) x.1, b.1.object ∙ x.2.2);
       fewer = s.fewer;
-    }
+    } in
+    let only : AreKnown p persons objects = λ j c.
+    let x = s.only j c in
+    let b = stands_for x.0 p.arcs x.2.0 (subst (λ (r : List RowArc). Contains r x.2.0) (row_is p t of x.0 (persons_in x.0 x.1)) x.2.1) in
+    (b.0, contains_at p.arcs x.2.0.arc b.0 b.1.there, subst (λ (i : ℕ). Contains persons i) (sym b.1.person) x.1, b.1.object ∙ x.2.2) in
+    (set, only)
 
 -- the arc of the list for which a row arc stands
 abbrev listed : List Arc → RowArc → Arc

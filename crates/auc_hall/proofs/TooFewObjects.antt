@@ -1,4 +1,4 @@
--- Persons who know fewer objects than they are can't all be assigned.
+-- Persons who together know fewer objects than they number can't all be assigned.
 use Rattle.std.proofs.Common.{◌≡◌, ◌≢◌, ℕ, zero, suc, ◌+◌, ◌-◌, ◌<◌, ◌≤◌, false, eqb, List, length, get_or, map, sym, ap, subst, ◌∙◌, arith, inl, inr, Contains, pos}
 use Rattle.std.specs.Prelude.{nat_eq}
 use Rattle.std.specs.List.{remove}
@@ -12,7 +12,7 @@ use Rattle.std.proofs.lemmas.Map.Keys.{apart_from_distinct}
 use Rattle.auc_graph.specs.declared.arc.Arc.{Arc}
 use Rattle.auc_graph.specs.Problem.{Problem}
 use Rattle.auc_graph.specs.Assignment.{IsAssignment, person_of, object_of}
-use Rattle.auc_hall.specs.OfProblem.{IsHallSetOf}
+use Rattle.auc_graph.specs.HallSet.{IsHallSet}
 
 -- what is at another place stays when one is removed
 still_contained : (xs : List ℕ) (k : ℕ) (x : ℕ) → k < length xs → get_or xs k x ≢ x → Contains xs x → Contains (remove xs k) x
@@ -40,7 +40,7 @@ unequal m n h e = grind (arith, nat_tests)
 abbrev no_arc : Arc
 no_arc = record { person = 0; object = 0; cost = pos 0 }
 
-pub no_assignment : (p : Problem) (persons objects : List ℕ) → IsHallSetOf p persons objects → (choice : List Arc) → IsAssignment p choice → ⊥
+pub no_assignment : (p : Problem) (persons objects : List ℕ) → IsHallSet p persons objects → (choice : List Arc) → IsAssignment p choice → ⊥
 no_assignment p persons objects s choice a =
     let person : ℕ → ℕ = λ i. get_or persons i 0 in
     let object : ℕ → ℕ = λ i. (get_or choice (person i) no_arc).object in

@@ -5,7 +5,8 @@ use Rattle.std.proofs.lemmas.Option.{none-some, same_Some}
 use Rattle.auc_graph.specs.declared.rows.RowArc.{RowArc}
 use Rattle.auc_graph.specs.Table.{Table, row_of}
 use Rattle.auc_hall.specs.Assignment.{IsRowAssignment, IsFull}
-use Rattle.auc_hall.specs.HallSet.{IsHallSet, IsRising}
+use Rattle.auc_graph.specs.HallSet.{IsRising}
+use Rattle.auc_hall.specs.HallSet.{IsRowHallSet}
 use Rattle.auc_hall.specs.Partial.{pick, MayPlace}
 use Rattle.auc_hall.specs.Listing.{places, chosen}
 use Rattle.auc_hall.proofs.Membership.{first_or_behind, nothing}
@@ -100,7 +101,7 @@ below_two i c = elim (first_or_behind 0 (1 ∷ []) i c) [
   | inr b ↦ elim (first_or_behind 1 [] i b) [ inl e ↦ omega (arith, e) | inr n ↦ absurd (nothing i n) ]
 ]
 
-both_know_too_few : IsHallSet one_object_for_two (0 ∷ 1 ∷ []) (0 ∷ [])
+both_know_too_few : IsRowHallSet one_object_for_two (0 ∷ 1 ∷ []) (0 ∷ [])
 both_know_too_few = record {
   within = below_two;
   persons_rise = two_rise;
@@ -113,7 +114,7 @@ both_know_too_few = record {
 second_alone : (i : ℕ) → Contains (1 ∷ []) i → i ≡ 1
 second_alone i c = elim (first_or_behind 1 [] i c) [ inl e ↦ sym e | inr n ↦ absurd (nothing i n) ]
 
-second_knows_nothing : IsHallSet nothing_for_the_second (1 ∷ []) []
+second_knows_nothing : IsRowHallSet nothing_for_the_second (1 ∷ []) []
 second_knows_nothing = record {
   within = λ i c. omega (arith, second_alone i c);
   persons_rise = one_number_rises 1;
@@ -123,11 +124,11 @@ second_knows_nothing = record {
   fewer = omega arith;
 }
 
-not_without_an_object : IsHallSet one_object_for_two (0 ∷ 1 ∷ []) [] → ⊥
+not_without_an_object : IsRowHallSet one_object_for_two (0 ∷ 1 ∷ []) [] → ⊥
 not_without_an_object h = absurd (nothing 0 (h.all 0 0 (0, omega arith, refl) (to 0 0, (0, omega arith, refl), refl)))
 
-not_without_a_person : IsHallSet one_object_for_two (0 ∷ []) (0 ∷ []) → ⊥
+not_without_a_person : IsRowHallSet one_object_for_two (0 ∷ []) (0 ∷ []) → ⊥
 not_without_a_person h = absurd (omega (arith, h.fewer))
 
-not_falling : IsHallSet one_object_for_two (1 ∷ 0 ∷ []) (0 ∷ []) → ⊥
+not_falling : IsRowHallSet one_object_for_two (1 ∷ 0 ∷ []) (0 ∷ []) → ⊥
 not_falling h = let lt = h.persons_rise 0 1 0 (omega arith) (omega arith) in absurd (omega (arith, lt))

@@ -10,10 +10,9 @@ ghost use Rattle.auc_hall.specs.Listing.{chosen};
 use crate::exchange::exchange;
 use crate::hall_set::hall_set;
 use crate::matching::Matching;
-use crate::numbers::Numbers;
 use crate::partial::Partial;
 use crate::search::search;
-use auc_graph::{RowArc, Rows};
+use auc_graph::{Indices, RowArc, Rows};
 use std::alloc::{AllocError, Global};
 
 /// The numbers of the arcs of the persons who have one.
@@ -60,7 +59,7 @@ fn complete_parts(
             }
         }
     }
-    Ok(Matching::Full(Numbers::new(numbers_of(alloc, choice)?)))
+    Ok(Matching::Full(Indices::new(numbers_of(alloc, choice)?)))
 }
 
 /// Gives an arc to each person who has none, or names persons who know too few objects.

@@ -6,9 +6,8 @@ ghost use Rattle.auc_hall.specs.Search.{IsSearch, AreWalked};
 ghost use Rattle.auc_hall.specs.Listing.{places, AreReached, ArePersons};
 
 use crate::matching::Matching;
-use crate::numbers::Numbers;
 use crate::search::Reached;
-use auc_graph::{RowArc, Rows};
+use auc_graph::{Indices, RowArc, Rows};
 use std::alloc::{AllocError, Global};
 
 /// The places of the flags that are set, in rising order.
@@ -56,7 +55,7 @@ pub(crate) fn hall_set(
     let persons = places_of(alloc, flags.as_slice())?;
     let objects = places_of(alloc, seen)?;
     Ok(Matching::Hall {
-        persons: Numbers::new(persons),
-        objects: Numbers::new(objects),
+        persons: Indices::new(persons),
+        objects: Indices::new(objects),
     })
 }

@@ -4,10 +4,10 @@ ghost use Rattle.std.specs.Prelude.{ℕ, List};
 ghost use Rattle.auc_graph.specs.declared.arc.Arc.{Arc};
 ghost use Rattle.auc_graph.specs.Problem.{Problem};
 ghost use Rattle.auc_graph.specs.Assignment.{IsAssignment};
+ghost use Rattle.auc_graph.specs.HallSet.{IsHallSet};
 ghost use Rattle.auc_graph.specs.Table.{Table, IsTableOf};
 ghost use Rattle.auc_hall.specs.declared.matching.Matching.{Matching};
 ghost use Rattle.auc_hall.specs.Matching.{IsMatching, IsMatchingOf};
-ghost use Rattle.auc_hall.specs.OfProblem.{IsHallSetOf};
 
 /// What holds of the rows of a problem holds of its arcs: a full assignment of the rows is one of the problem, and
 /// persons who know too few objects by their rows know too few by the arcs of the problem.
@@ -15,7 +15,7 @@ pub fn matchings_hold_of_the_problem()
     ensures { (p : Problem) (t : Table) (m : Matching) → IsTableOf p t → IsMatching t m → IsMatchingOf p m }
 {}
 
-/// Where some persons know fewer objects than they are, there is no assignment.
+/// Where some persons together know fewer objects than they number, there is no assignment.
 pub fn hall_sets_leave_no_assignment()
-    ensures { (p : Problem) (persons objects : List ℕ) → IsHallSetOf p persons objects → (choice : List Arc) → IsAssignment p choice → ⊥ }
+    ensures { (p : Problem) (persons objects : List ℕ) → IsHallSet p persons objects → (choice : List Arc) → IsAssignment p choice → ⊥ }
 {}

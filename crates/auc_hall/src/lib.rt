@@ -11,12 +11,10 @@ mod exchange;
 mod hall_set;
 mod laws;
 mod matching;
-mod numbers;
 mod partial;
 mod search;
 
 pub use completion::complete;
 pub use laws::{hall_sets_leave_no_assignment, matchings_hold_of_the_problem};
 pub use matching::Matching;
-pub use numbers::Numbers;
 pub use partial::Partial;

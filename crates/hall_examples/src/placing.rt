@@ -1,7 +1,8 @@
 //! Placing persons by hand before the completion.
 
 use crate::completions::{full, rows_of};
-use auc_hall::{Numbers, Partial, complete};
+use auc_graph::Indices;
+use auc_hall::{Partial, complete};
 use std::test::*;
 
 /// Two persons who both know the first object; the second person knows no other.
@@ -37,7 +38,7 @@ fn keeps_who_was_placed(rt: HostRuntime) -> Result<(), Fail> {
 
 #[test]
 fn numbers_come_back(rt: HostRuntime) -> Result<(), Fail> {
-    let numbers = Numbers::new(vec![in rt.alloc(); 3, 1]?);
+    let numbers = Indices::new(vec![in rt.alloc(); 3, 1]?);
     assert_eq!(rt; numbers.as_slice(), [3, 1].as_slice());
     assert_eq!(rt; numbers.into_vec().as_slice(), [3, 1].as_slice());
     Ok(())

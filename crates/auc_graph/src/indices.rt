@@ -1,43 +1,43 @@
-//! A list of numbers: of arcs, of persons or of objects.
+//! A list of numbers of arcs, of persons or of objects.
 
 ghost use Rattle.std.specs.Prelude.{◌≡◌};
 
 use std::marker::Model;
 
-/// Numbers of arcs, of persons or of objects. Contracts see them as a list.
+/// Numbers of arcs, of persons or of objects, from 0 on. Contracts see them as a list.
 #[derive(Debug, Drop)]
-pub struct Numbers {
-    numbers: Vec<u32>,
+pub struct Indices {
+    indices: Vec<u32>,
 }
 
-impl Model for Numbers {
+impl Model for Indices {
     ghost use Rattle.std.specs.Prelude.{List, ℕ};
 
     ghost Value = { List ℕ };
 
-    ghost view = { λ a. a.numbers.items };
+    ghost view = { λ a. a.indices.items };
 }
 
-impl Numbers {
+impl Indices {
     /// These numbers. Takes no memory.
-    pub fn new(numbers: Vec<u32>) -> Self
-        ensures { result ≡ numbers.items }
+    pub fn new(indices: Vec<u32>) -> Self
+        ensures { result ≡ indices.items }
     {
-        Numbers { numbers }
+        Indices { indices }
     }
 
     /// The numbers, given back.
     pub fn into_vec(self) -> Vec<u32>
         ensures { result.items ≡ self }
     {
-        let Numbers { numbers } = self;
-        numbers
+        let Indices { indices } = self;
+        indices
     }
 
     /// The numbers, in order.
     pub fn as_slice(&self) -> &[u32]
         ensures { result.now ≡ self.now }
     {
-        self.numbers.as_slice()
+        self.indices.as_slice()
     }
 }

@@ -25,11 +25,11 @@ blank_is_pick = record { object = omega arith; low = omega (arith, ints); high =
 pub zero_is_price : IsPrice (pos 0)
 zero_is_price = record { low = omega (arith, ints); high = omega (arith, ints) }
 
-length_numbered : {X : Type 0} (line : ℕ → X → List ℕ) (k : ℕ) (xs : List X) → length (numbered line k xs) ≡ length xs
+pub length_numbered : {X : Type 0} (line : ℕ → X → List ℕ) (k : ℕ) (xs : List X) → length (numbered line k xs) ≡ length xs
 length_numbered line k [] = refl
 length_numbered line k (x ∷ xs) = ap suc (length_numbered line (k + 1) xs)
 
-joined_append : (a b : List (List ℕ)) → joined (a ++ b) ≡ joined a ++ joined b
+pub joined_append : (a b : List (List ℕ)) → joined (a ++ b) ≡ joined a ++ joined b
 joined_append a b = flat_map-append (λ (l : List ℕ). l) a b
 
 pub choice_are_lines : (choice : List Pick) (prices : List ℤ) → IsChoice choice prices → AreLines (choice_lines choice prices)

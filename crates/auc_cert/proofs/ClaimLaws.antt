@@ -15,14 +15,16 @@ use Rattle.auc_graph.specs.Problem.{Problem, IsProblem, IsWithin}
 use Rattle.auc_cert.specs.declared.lists.Pick.{Pick}
 use Rattle.std.specs.Option.{option_map}
 use Rattle.auc_cert.specs.declared.cert.CertParts.{CertParts}
-use Rattle.auc_cert.specs.declared.cert.CertParts.TheVariants.{Optimal}
+use Rattle.auc_cert.specs.declared.cert.CertParts.TheVariants.{Optimal, Infeasible}
 use Rattle.auc_cert.specs.declared.refused.CertRefused.{CertRefused}
-use Rattle.auc_cert.specs.declared.refused.CertRefused.TheVariants.{WrongSize, NoSuchArc, ObjectTwice, WrongCost, Slack}
+use Rattle.auc_cert.specs.declared.refused.CertRefused.TheVariants.{WrongSize, NoSuchArc, ObjectTwice, WrongCost, Slack, NotHall}
+use Rattle.auc_graph.specs.HallSet.{IsHallSet}
+use Rattle.auc_cert.proofs.HallLaws.{hall_set_is, hall_set_passes}
 use Rattle.auc_graph.specs.Assignment.{person_of, object_of, total_cost, IsAssignment, IsLeast}
 use Rattle.auc_cert.specs.Slackness.{value, IsSlackRight}
 use mathlib.Core.Bool.{beq}
 use Rattle.auc_cert.specs.Spelled.{IsSpelled}
-use Rattle.auc_cert.specs.Claim.{is_flag, arc_of, chosen, same_arc, is_missing, bears, is_slack_right, repeated, fault_if, choice_faults, slack_fault, first_of, fault_of, IsAllowed, Answers}
+use Rattle.auc_cert.specs.Claim.{is_flag, arc_of, chosen, same_arc, is_missing, bears, is_slack_right, repeated, fault_if, choice_faults, slack_fault, first_of, fault_of, IsAllowed, Answers, is_hall}
 use Rattle.auc_cert.proofs.Duality.{slack_right_is_least}
 
 -- ---- the first place that passes
@@ -208,6 +210,13 @@ faultless_is_allowed p (Optimal cost choice prices) is spelled none =
     let choice_is = is_faultless p cost choice parts.0 in
     let slack = none_map (position (λ c. not (is_slack_right (p.persons + 1) prices p.arcs c)) (chosen 0 choice)) (λ i. Slack i) [] parts.1 in
     (accepted p choice prices is choice_is.size spelled.1.as_many choice_is.missing choice_is.twice slack.0, sym choice_is.cost_is)
+faultless_is_allowed p (Infeasible persons objects) is spelled none =
+    let passed = none_if (not (is_hall p persons objects)) NotHall [] none in
+    hall_set_is p persons objects spelled (not_false (is_hall p persons objects) passed.0)
+
+-- in persons who know too few objects the checker finds no fault
+pub hall_sets_faultless : (p : Problem) (persons objects : List ℕ) → IsHallSet p persons objects → ((j : ℕ) → Contains objects j → j < p.objects) → fault_of p (Infeasible persons objects) ≡ None
+hall_sets_faultless p persons objects set within = rw (hall_set_passes p persons objects set within) refl
 
 pub from_flags : (test : Arc → Bool) (xs : List Arc) (slice flags : List Bool) (r : Option ℕ) → slice ≡ flags → flags ≡ map test xs → r ≡ position (is_flag true) slice → position test xs ≡ r
 from_flags test xs slice flags r same are is = sym (place_in_map (λ (b : Bool). b) test xs) ∙ ap (position (λ (b : Bool). b)) (sym (same ∙ are)) ∙ sym is

@@ -5,13 +5,17 @@ pub mod Duality
 pub mod ValueLaws
 pub mod RepeatLaws
 pub mod FlagLaws
+pub mod RisingLaws
+pub mod HallLaws
 pub mod ClaimLaws
 pub mod NumberWords
 pub mod WordLaws
 pub mod LineLaws
 pub mod RunLaws
+pub mod RisingRuns
 pub mod TextLines
 pub mod ChoiceLaws
+pub mod NameLaws
 pub mod CertLaws
 pub mod WriteLaws
 mod WorkedClaims

@@ -6,12 +6,12 @@ use Rattle.std.proofs.lemmas.List.Concat.{flat_map-append}
 use Rattle.std.proofs.lemmas.List.Elements.{All-nil, All-push, All-head, All-tail}
 use Rattle.auc_cert.specs.declared.lists.Pick.{Pick}
 use Rattle.auc_cert.specs.Spelled.{IsPick, IsPrice}
-use Rattle.auc_cert.specs.Text.{numbered, joined, assign_line, price_line}
-use Rattle.auc_cert.specs.Fields.{pick_at, price_at}
-use Rattle.auc_cert.specs.Runs.{IsRun, BreaksOff}
+use Rattle.auc_cert.specs.Text.{numbered, joined, assign_line, price_line, number_line}
+use Rattle.auc_cert.specs.Fields.{pick_at, price_at, number_at}
+use Rattle.auc_cert.specs.Runs.{IsRun, BreaksOff, IsIndex}
 use Rattle.auc_cert.proofs.WriteLaws.{numbered_push}
 use Rattle.auc_cert.proofs.WordLaws.{some_is}
-use Rattle.auc_cert.proofs.LineLaws.{pick_again, pick_takes, price_again, price_takes}
+use Rattle.auc_cert.proofs.LineLaws.{pick_again, pick_takes, price_again, price_takes, number_again}
 
 length_push : {X : Type 0} (xs : List X) (x : X) → length (xs ++ x ∷ []) ≡ length xs + 1
 length_push xs x = length-append xs (x ∷ [])
@@ -69,6 +69,11 @@ prices_apart k x y lt p q e =
     let pair = some_is (x, []) (y, []) (sym (price_again k x [] lt p) ∙ ap (λ (l : List ℕ). price_at k (l ++ [])) e ∙ price_again k y [] lt q) in
     ap (λ (t : ℤ × List ℕ). t.0) pair
 
+pub numbers_apart : (front : List ℕ) → TellsApart ℕ (number_line front) IsIndex
+numbers_apart front k x y lt p q e =
+    let pair = some_is (x, []) (y, []) (sym (number_again front k 0 10000 x [] (omega arith) p (omega arith)) ∙ ap (λ (l : List ℕ). number_at front 0 10000 (l ++ [])) e ∙ number_again front k 0 10000 y [] (omega arith) q (omega arith)) in
+    ap (λ (t : ℕ × List ℕ). t.0) pair
+
 -- runs of one length at the front of one list of lines are the same, and so is what follows
 pub same_run : (X : Type 0) (line : ℕ → X → List ℕ) (ok : X → Type 0) (k : ℕ) (xs ys : List X) (t u : List (List ℕ)) → TellsApart X line ok → All ok xs → All ok ys → k + length xs ≤ 10000 → length xs ≡ length ys
     → numbered line k xs ++ t ≡ numbered line k ys ++ u → (xs ≡ ys) × (t ≡ u)
@@ -111,3 +116,31 @@ pub numbered_append : {X : Type 0} (line : ℕ → X → List ℕ) (k : ℕ) (xs
 numbered_append line k [] ys = ap (λ (m : ℕ). numbered line m ys) (omega arith)
 numbered_append line k (x ∷ xs) ys =
     ap (λ (r : List (List ℕ)). line k x ∷ r) (numbered_append line (k + 1) xs ys ∙ ap (λ (m : ℕ). numbered line (k + 1) xs ++ numbered line m ys) (omega arith))
+
+-- a longer run goes on behind a shorter one
+pub record GoesBeyond (X : Type 0) (line : ℕ → X → List ℕ) (xs ys : List X) (k : ℕ) (more : List (List ℕ)) : Type 0 where
+  pub value : X
+  pub behind : List X
+  pub split : ys ≡ xs ++ value ∷ behind
+  pub others : List (List ℕ)
+  pub is : more ≡ line k value ∷ others
+
+pub goes_beyond : (X : Type 0) (line : ℕ → X → List ℕ) (ok : X → Type 0) (k : ℕ) (xs ys : List X) (t more : List (List ℕ)) → TellsApart X line ok → All ok xs → All ok ys → k + length ys ≤ 10000 → length xs < length ys
+    → numbered line k ys ++ t ≡ numbered line k xs ++ more → GoesBeyond X line xs ys (k + length xs) more
+goes_beyond X line ok k xs [] t more apart p q le lt e = absurd (omega arith)
+goes_beyond X line ok k [] (y ∷ ys) t more apart p q le lt e =
+    let at : k ≡ k + 0 = omega arith in
+    record { value = y; behind = ys; split = refl; others = numbered line (k + 1) ys ++ t; is = sym e ∙ ap (λ (m : ℕ). line m y ∷ (numbered line (k + 1) ys ++ t)) at }
+goes_beyond X line ok k (x ∷ xs) (y ∷ ys) t more apart p q le lt e =
+    let here : line k y ≡ line k x = cc in
+    let rest : numbered line (k + 1) ys ++ t ≡ numbered line (k + 1) xs ++ more = cc in
+    let r = goes_beyond X line ok (k + 1) xs ys t more apart (All-tail ok x xs p) (All-tail ok y ys q) (omega arith) (omega arith) rest in
+    let same : y ≡ x = apart k y x (omega arith) (All-head ok y ys q) (All-head ok x xs p) here in
+    let at : k + 1 + length xs ≡ k + suc (length xs) = omega arith in
+    record {
+      value = r.value;
+      behind = r.behind;
+      split = ap (λ (l : List X). y ∷ l) r.split ∙ ap (λ (a : X). a ∷ (xs ++ r.value ∷ r.behind)) same;
+      others = r.others;
+      is = r.is ∙ ap (λ (m : ℕ). line m r.value ∷ r.others) at;
+    }

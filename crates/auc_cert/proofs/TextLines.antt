@@ -9,13 +9,14 @@ use Rattle.std.proofs.Math.Seq.{take-append_seam}
 use Rattle.std.proofs.lemmas.List.Elements.{All-nil, All-cons, All-append, All-head, All-tail}
 use Rattle.auc_cert.specs.declared.lists.Pick.{Pick}
 use Rattle.auc_cert.specs.Spelled.{IsPick, IsPrice}
-use Rattle.auc_cert.specs.Text.{head_line, optimal_line, assign_line, price_line, numbered, joined}
+use Rattle.auc_cert.specs.Text.{head_line, optimal_line, infeasible_line, assign_line, price_line, number_line, numbered, joined}
+use Rattle.auc_cert.specs.Runs.{IsIndex}
 use Rattle.auc_cert.specs.CertReading.{lines_in, IsFirstBadOf}
 use Rattle.auc_cert.proofs.NumberWords.{number_goes_on}
 
 -- ---- the lines of bytes
 
-abbrev no_lf : List ℕ → Bool
+abbrev pub no_lf : List ℕ → Bool
 no_lf [] = true
 no_lf (b ∷ bs) = not (eqb b 10) && no_lf bs
 
@@ -153,3 +154,22 @@ picks_lines picks le all = numbered_lines Pick assign_line IsPick assign_is_line
 
 pub prices_lines : (prices : List ℤ) → length prices ≤ 10000 → All IsPrice prices → AreLines (numbered price_line 0 prices)
 prices_lines prices le all = numbered_lines ℤ price_line IsPrice price_is_line 0 prices (omega arith) all
+
+pub infeasible_is_line : (persons objects : ℕ) → persons ≤ 10000 → objects ≤ 10000 → IsLine (infeasible_line persons objects)
+infeasible_is_line persons objects most few =
+    let fits : FitsSigned w64 (pos persons) = omega (arith, ints) in
+    let fits_objects : FitsSigned w64 (pos objects) = omega (arith, ints) in
+    let w1 : List ℕ = codes "infeasible " ++ decimal persons in
+    record {
+      word = w1 ++ codes " " ++ decimal objects;
+      text = refl;
+      whole = and_then (w1 ++ codes " ") (decimal objects) (and_then w1 (codes " ") (and_then (codes "infeasible ") (decimal persons) (all_no_lf (codes "infeasible ") refl) (digits (pos persons) fits)) (all_no_lf (codes " ") refl)) (digits (pos objects) fits_objects);
+    }
+
+number_is_line : (front : List ℕ) → no_lf front ≡ true → (place k : ℕ) → place < 10000 → IsIndex k → IsLine (number_line front place k)
+number_is_line front whole place k lt below =
+    let fits : FitsSigned w64 (pos (k + 1)) = omega (arith, ints) in
+    record { word = front ++ decimal (k + 1); text = refl; whole = and_then front (decimal (k + 1)) (all_no_lf front whole) (digits (pos (k + 1)) fits) }
+
+pub numbers_lines : (front : List ℕ) → no_lf front ≡ true → (numbers : List ℕ) → length numbers ≤ 10000 → All IsIndex numbers → AreLines (numbered (number_line front) 0 numbers)
+numbers_lines front whole numbers le all = numbered_lines ℕ (number_line front) IsIndex (number_is_line front whole) 0 numbers (omega arith) all

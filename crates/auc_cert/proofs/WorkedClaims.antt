@@ -6,8 +6,8 @@ use Rattle.auc_graph.specs.declared.arc.Arc.{Arc}
 use Rattle.auc_graph.specs.Problem.{Problem}
 use Rattle.auc_cert.specs.declared.lists.Pick.{Pick}
 use Rattle.auc_cert.specs.declared.cert.CertParts.{CertParts}
-use Rattle.auc_cert.specs.declared.cert.CertParts.TheVariants.{Optimal}
-use Rattle.auc_cert.specs.declared.refused.CertRefused.TheVariants.{WrongSize, NoSuchArc, ObjectTwice, WrongCost, Slack}
+use Rattle.auc_cert.specs.declared.cert.CertParts.TheVariants.{Optimal, Infeasible}
+use Rattle.auc_cert.specs.declared.refused.CertRefused.TheVariants.{WrongSize, NoSuchArc, ObjectTwice, WrongCost, Slack, NotHall}
 use Rattle.auc_cert.specs.Text.{text}
 use Rattle.auc_cert.specs.Claim.{fault_of}
 
@@ -65,3 +65,30 @@ object_twice = refl
 
 wrong_cost : fault_of two_persons (Optimal (pos 4) (pick 1 (pos 2) ∷ pick 0 (pos 1) ∷ []) (pos 7 ∷ pos 5 ∷ [])) ≡ Some WrongCost
 wrong_cost = refl
+
+-- two persons who know the first object alone
+abbrev one_object : Problem
+one_object = record { persons = 2; objects = 2; arcs = arc 0 0 (pos 5) ∷ arc 1 0 (pos 7) ∷ [] }
+
+hall_set_spelled : text (Infeasible (0 ∷ 1 ∷ []) (0 ∷ [])) ≡ codes "auction 1\ninfeasible 2 1\nperson 1\nperson 2\nobject 1\n"
+unfolding digits
+hall_set_spelled = refl
+
+no_objects_spelled : text (Infeasible (1 ∷ []) []) ≡ codes "auction 1\ninfeasible 1 0\nperson 2\n"
+unfolding digits
+no_objects_spelled = refl
+
+both_persons : fault_of one_object (Infeasible (0 ∷ 1 ∷ []) (0 ∷ [])) ≡ None
+both_persons = refl
+
+an_object_left_out : fault_of one_object (Infeasible (1 ∷ []) []) ≡ Some NotHall
+an_object_left_out = refl
+
+as_many_objects : fault_of one_object (Infeasible (0 ∷ 1 ∷ []) (0 ∷ 1 ∷ [])) ≡ Some NotHall
+as_many_objects = refl
+
+no_such_person : fault_of one_object (Infeasible (1 ∷ 2 ∷ []) (0 ∷ [])) ≡ Some NotHall
+no_such_person = refl
+
+no_such_object : fault_of one_object (Infeasible (0 ∷ 1 ∷ []) (2 ∷ [])) ≡ Some NotHall
+no_such_object = refl

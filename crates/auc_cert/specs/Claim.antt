@@ -1,5 +1,5 @@
 -- Which claims the checker lets pass, and which fault it names otherwise.
-use Rattle.std.specs.Prelude.{◌≡◌, ◌≢◌, ℕ, ◌+◌, ◌==◌, Bool, true, false, not, ◌&&◌, ◌||◌, if◌then◌else◌, List, [], ◌∷◌, ◌++◌, length, map, Option, Some, None, Result, Ok, Err, ℤ, pos, ◌+ℤ◌, int_le, nat_eq}
+use Rattle.std.specs.Prelude.{◌≡◌, ◌≢◌, ℕ, ◌+◌, ◌==◌, ◌<◌, Bool, true, false, not, ◌&&◌, ◌||◌, nat_lt, if◌then◌else◌, List, [], ◌∷◌, ◌++◌, length, map, Option, Some, None, Result, Ok, Err, ℤ, pos, ◌+ℤ◌, int_le, nat_eq, slice_index_or}
 use Rattle.std.specs.Option.{option_map}
 use Rattle.std.specs.List.{position, list_all, list_any}
 use Rattle.std.specs.Ordering.{int_eq}
@@ -7,10 +7,11 @@ use Rattle.auc_graph.specs.declared.arc.Arc.{Arc}
 use Rattle.auc_graph.specs.Problem.{Problem}
 use Rattle.auc_cert.specs.declared.lists.Pick.{Pick}
 use Rattle.auc_cert.specs.declared.cert.CertParts.{CertParts}
-use Rattle.auc_cert.specs.declared.cert.CertParts.TheVariants.{Optimal}
+use Rattle.auc_cert.specs.declared.cert.CertParts.TheVariants.{Optimal, Infeasible}
 use Rattle.auc_cert.specs.declared.refused.CertRefused.{CertRefused}
-use Rattle.auc_cert.specs.declared.refused.CertRefused.TheVariants.{WrongSize, NoSuchArc, ObjectTwice, WrongCost, Slack, NoMemory}
+use Rattle.auc_cert.specs.declared.refused.CertRefused.TheVariants.{WrongSize, NoSuchArc, ObjectTwice, WrongCost, Slack, NotHall, NoMemory}
 use Rattle.auc_graph.specs.Assignment.{total_cost, IsLeast}
+use Rattle.auc_graph.specs.HallSet.{IsHallSet}
 use Rattle.auc_cert.specs.Slackness.{value}
 
 -- the arc that a pick names
@@ -57,9 +58,24 @@ choice_faults p cost choice =
 abbrev pub slack_fault : Problem → List Pick → List ℤ → Option CertRefused
 slack_fault p choice prices = option_map (λ i. Slack i) (position (λ c. not (is_slack_right (p.persons + 1) prices p.arcs c)) (chosen 0 choice))
 
+abbrev pub are_below : ℕ → List ℕ → Bool
+are_below n numbers = list_all (λ k. nat_lt k n) numbers
+
+abbrev pub is_listed : List ℕ → ℕ → Bool
+is_listed numbers k = list_any (nat_eq k) numbers
+
+-- the arc is of a person who is not listed, or leads to a listed object
+abbrev pub stays_within : List ℕ → List ℕ → Arc → Bool
+stays_within persons objects a = not (is_listed persons a.person) || is_listed objects a.object
+
+-- fewer objects than persons, all of the problem, and no arc of a listed person leads to another object
+abbrev pub is_hall : Problem → List ℕ → List ℕ → Bool
+is_hall p persons objects = (are_below p.persons persons && are_below p.objects objects) && (nat_lt (length objects) (length persons) && list_all (stays_within persons objects) p.arcs)
+
 -- what the tests of a claim find, in their order
 abbrev pub faults_of : Problem → CertParts → List (Option CertRefused)
 faults_of p (Optimal cost choice prices) = choice_faults p cost choice ++ slack_fault p choice prices ∷ []
+faults_of p (Infeasible persons objects) = fault_if (not (is_hall p persons objects)) NotHall ∷ []
 
 -- the first fault that was found
 abbrev pub first_of : List (Option CertRefused) → Option CertRefused
@@ -79,10 +95,15 @@ Answers (Err e) fault = e ≢ NoMemory → fault ≡ Some e
 -- what a certificate says of a problem; no price is in it
 abbrev pub IsAllowed : Problem → CertParts → Type 0
 IsAllowed p (Optimal cost choice prices) = IsLeast p (chosen 0 choice) × (total_cost (chosen 0 choice) ≡ cost)
+IsAllowed p (Infeasible persons objects) = IsHallSet p persons objects
 
 -- a flag for each person, by what a test says of the arc that he picked
 abbrev pub AreFlags : (Arc → Bool) → List Pick → List Bool → Type 0
 AreFlags test choice flags = flags ≡ map test (chosen 0 choice)
+
+-- a flag for each number, whether it is listed
+abbrev pub AreListed : List ℕ → List Bool → Type 0
+AreListed numbers flags = (k : ℕ) → k < length flags → slice_index_or flags k false ≡ is_listed numbers k
 
 abbrev pub is_flag : Bool → Bool → Bool
 is_flag true b = b

@@ -1,7 +1,7 @@
 //! The lines of a certificate, read one by one.
 
 ghost use Rattle.std.specs.Prelude.{◌≡◌, ◌<◌, ◌≤◌, IfSome};
-ghost use Rattle.auc_cert.specs.Fields.{seen, after, pick_at, price_at, optimal_at};
+ghost use Rattle.auc_cert.specs.Fields.{seen, after, pick_at, price_at, optimal_at, infeasible_at, number_at};
 ghost use Rattle.auc_cert.specs.Text.{head_line};
 
 use crate::fields::{field_of, index_of};
@@ -45,6 +45,34 @@ pub(crate) fn optimal_of(bytes: &[u8]) -> Option<((u32, i64), &[u8])>
     let (persons, rest) = field_of(bytes, b"optimal ", 1, MOST_PERSONS as i64, b' ')?;
     let (cost, rest) = field_of(rest, b"", i64::MIN, i64::MAX, b'\n')?;
     Some(((persons as u32, cost), rest))
+}
+
+/// How many persons and objects the line at the front announces, and what stands behind the line.
+#[tactic(auto, unfolding(crate::specs::Fields::infeasible_at))]
+pub(crate) fn infeasible_of(bytes: &[u8]) -> Option<((u32, u32), &[u8])>
+    ensures persons { IfSome result (λ x. (1 ≤ x.0.0) × (x.0.0 ≤ 10000)) }
+    ensures objects { IfSome result (λ x. x.0.1 ≤ 10000) }
+    ensures exact { seen (λ x. (x.0, x.1.now)) result ≡ infeasible_at bytes.now }
+{
+    let (persons, rest) = field_of(bytes, b"infeasible ", 1, MOST_PERSONS as i64, b' ')?;
+    let (objects, rest) = field_of(rest, b"", 0, MOST_PERSONS as i64, b'\n')?;
+    Some(((persons as u32, objects as u32), rest))
+}
+
+/// The number, from `least` to below `end`, on the line at the front, and what stands behind the line.
+#[tactic(auto, unfolding(crate::specs::Fields::number_at))]
+pub(crate) fn number_of<'a>(
+    bytes: &'a [u8],
+    front: &[u8],
+    least: u32,
+    end: u32,
+) -> Option<(u32, &'a [u8])>
+    requires { end ≤ 10000 }
+    ensures bounds { IfSome result (λ x. (least ≤ x.0) × (x.0 < end)) }
+    ensures exact { seen (λ x. (x.0, x.1.now)) result ≡ number_at front.now least end bytes.now }
+{
+    let (number, rest) = field_of(bytes, front, least as i64 + 1, end as i64, b'\n')?;
+    Some((index_of(number), rest))
 }
 
 /// What stands behind the first line.

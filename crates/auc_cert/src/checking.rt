@@ -2,11 +2,12 @@
 
 ghost use Rattle.std.specs.Prelude.{◌≡◌, ◌≤◌, ◌<◌, ◌+◌, ◌∷◌, [], All, IsOk, length};
 ghost use Rattle.auc_graph.specs.Problem.{IsProblem};
-ghost use Rattle.auc_cert.specs.Spelled.{IsPick, IsChoice};
+ghost use Rattle.auc_cert.specs.Spelled.{IsPick, IsChoice, AreNamed};
 ghost use Rattle.auc_cert.specs.Claim.{choice_faults, slack_fault, fault_of, first_of, Answers, IsAllowed};
 
 use crate::cert::{Cert, CertParts};
 use crate::flags::{missing_person, slack_person};
+use crate::hall::is_hall;
 use crate::lists::Pick;
 use crate::picks::{cost_of, repeated_object};
 use crate::refused::CertRefused;
@@ -76,16 +77,36 @@ fn check_optimal(
     check_slack(alloc, problem, choice, prices)
 }
 
+fn check_infeasible(
+    alloc: Global,
+    problem: &ArcList,
+    persons: &[u32],
+    objects: &[u32],
+) -> Result<(), CertRefused>
+    requires { AreNamed persons.now objects.now }
+    ensures exact { Answers result (fault_of problem.now (CertParts.Infeasible persons.now objects.now)) }
+    ensures allowed { IsOk result → IsAllowed problem.now (CertParts.Infeasible persons.now objects.now) }
+{
+    if !is_hall(alloc, problem, persons, objects)? {
+        return Err(CertRefused::NotHall);
+    }
+    Ok(())
+}
+
 /// Whether the claim of a certificate holds of a problem, or else its first fault.
 ///
 /// An optimal claim that is answered `Ok` is a least-cost assignment: no assignment of the problem costs less than
 /// `cost`. That is weak duality: prices by which no pick is worse than another arc of its person by more than 1, where
 /// costs are multiplied by persons + 1, bound the cost of every assignment from below.
 ///
+/// An infeasible claim that is answered `Ok` names persons who together know fewer objects than they number, so that there
+/// is no assignment (Hall 1935).
+///
 /// # Errors
 ///
-/// In this order: [`CertRefused::WrongSize`], [`CertRefused::NoSuchArc`], [`CertRefused::ObjectTwice`],
-/// [`CertRefused::WrongCost`], [`CertRefused::Slack`]. [`CertRefused::NoMemory`] may stand in place of any other answer,
+/// Of an optimal claim, in this order: [`CertRefused::WrongSize`], [`CertRefused::NoSuchArc`],
+/// [`CertRefused::ObjectTwice`], [`CertRefused::WrongCost`], [`CertRefused::Slack`]. Of an infeasible one only
+/// [`CertRefused::NotHall`]. [`CertRefused::NoMemory`] may stand in place of any other answer,
 /// where memory was refused.
 ///
 /// Takes O(arcs + persons) time, two passes over the arcs, and O(persons) memory.
@@ -99,5 +120,8 @@ pub fn check(alloc: Global, problem: &ArcList, cert: &Cert) -> Result<(), CertRe
             choice,
             prices,
         } => { check_optimal(alloc, problem, *cost, choice.as_slice(), prices.as_slice()) }
+        CertParts::Infeasible { persons, objects } => {
+            check_infeasible(alloc, problem, persons.as_slice(), objects.as_slice())
+        }
     }
 }

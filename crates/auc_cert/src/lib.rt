@@ -10,9 +10,11 @@ mod checking;
 mod choice_reading;
 mod fields;
 mod flags;
+mod hall;
 mod laws;
 mod limits;
 mod lists;
+mod name_reading;
 mod picks;
 mod reading;
 mod refused;
@@ -21,10 +23,13 @@ mod writing;
 
 pub use cert::{Cert, CertParts};
 pub use checking::check;
-pub use laws::{faultless_claims_are_allowed, no_spelling_begins_another, slack_right_costs_least};
+pub use laws::{
+    faultless_claims_are_allowed, hall_sets_pass, no_spelling_begins_another,
+    slack_right_costs_least,
+};
 pub use limits::HIGHEST_PRICE;
 pub use lists::{Pick, Picks, Prices};
 pub use reading::read_cert;
 pub use refused::CertRefused;
 pub use text_error::CertTextError;
-pub use writing::{WriteFault, write_cert, write_whole};
+pub use writing::{WriteFault, write_cert, write_picks, write_whole};

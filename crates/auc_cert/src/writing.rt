@@ -3,7 +3,7 @@
 ghost use Rattle.std.specs.Prelude.{◌≡◌, ◌+◌, ◌++◌, ◌<◌, ◌^◌, OnOk, length};
 ghost use Rattle.std.specs.Fmt.{decimal, signed_decimal};
 ghost use Rattle.std.specs.Io.KnownBytes.{Appends};
-ghost use Rattle.auc_cert.specs.Text.{text, head_line, assign_line, price_line, optimal_line, numbered, joined};
+ghost use Rattle.auc_cert.specs.Text.{text, head_line, assign_line, price_line, optimal_line, infeasible_line, number_line, numbered, joined};
 
 use crate::cert::{Cert, CertParts};
 use crate::lists::Pick;
@@ -65,6 +65,22 @@ fn write_head<W: Write>(writer: &mut W, persons: u64, cost: i64) -> Result<(), W
     Ok(())
 }
 
+/// Writes the first two lines of an infeasible certificate.
+fn write_infeasible_head<W: Write>(
+    writer: &mut W,
+    persons: u64,
+    objects: u64,
+) -> Result<(), WriteFault>
+    ensures { OnOk result (Appends (W.contents writer.old) (W.contents writer.new) (head_line ++ infeasible_line persons objects)) }
+{
+    write_whole(writer, b"auction 1\ninfeasible ")?;
+    write_count(writer, persons)?;
+    write_whole(writer, b" ")?;
+    write_count(writer, objects)?;
+    write_whole(writer, b"\n")?;
+    Ok(())
+}
+
 /// Writes the line of a person, who is numbered from 0.
 fn write_pick<W: Write>(writer: &mut W, person: u64, pick: Pick) -> Result<(), WriteFault>
     requires { person < 2 ^ 32 }
@@ -93,8 +109,9 @@ fn write_price<W: Write>(writer: &mut W, object: u64, price: i64) -> Result<(), 
     Ok(())
 }
 
-/// Writes the lines of all persons.
-fn write_picks<W: Write>(writer: &mut W, choice: &[Pick]) -> Result<(), WriteFault>
+/// Writes the lines of all persons: `assign I J C` for the pick of person I, who takes object J at cost C, both numbered
+/// from 1.
+pub fn write_picks<W: Write>(writer: &mut W, choice: &[Pick]) -> Result<(), WriteFault>
     requires { length choice.now < 2 ^ 32 }
     ensures { OnOk result (Appends (W.contents writer.old) (W.contents writer.new) (joined (numbered assign_line 0 choice.now))) }
 {
@@ -135,6 +152,31 @@ fn write_optimal<W: Write>(
     Ok(())
 }
 
+/// Writes the lines of numbers, each behind this front.
+fn write_numbers<W: Write>(writer: &mut W, front: &[u8], numbers: &[u32]) -> Result<(), WriteFault>
+    ensures { OnOk result (Appends (W.contents writer.old) (W.contents writer.new) (joined (numbered (number_line front.now) 0 numbers.now))) }
+{
+    for number in numbers {
+        write_whole(writer, front)?;
+        write_count(writer, *number as u64 + 1)?;
+        write_whole(writer, b"\n")?;
+    }
+    Ok(())
+}
+
+fn write_infeasible<W: Write>(
+    writer: &mut W,
+    persons: &[u32],
+    objects: &[u32],
+) -> Result<(), WriteFault>
+    ensures { OnOk result (Appends (W.contents writer.old) (W.contents writer.new) (text (CertParts.Infeasible persons.now objects.now))) }
+{
+    write_infeasible_head(writer, persons.len() as u64, objects.len() as u64)?;
+    write_numbers(writer, b"person ", persons)?;
+    write_numbers(writer, b"object ", objects)?;
+    Ok(())
+}
+
 /// Writes the text of a certificate, the one that [`read_cert`](crate::read_cert) reads. On an error some of it may have
 /// gone out. Takes O(persons) writes and no memory.
 pub fn write_cert<W: Write>(writer: &mut W, cert: &Cert) -> Result<(), WriteFault>
@@ -146,5 +188,8 @@ pub fn write_cert<W: Write>(writer: &mut W, cert: &Cert) -> Result<(), WriteFaul
             choice,
             prices,
         } => write_optimal(writer, *cost, choice.as_slice(), prices.as_slice()),
+        CertParts::Infeasible { persons, objects } => {
+            write_infeasible(writer, persons.as_slice(), objects.as_slice())
+        }
     }
 }

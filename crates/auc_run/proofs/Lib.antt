@@ -1,3 +1,4 @@
 pub mod VerdictLaws
 pub mod ScriptLaws
 pub mod ReplyLaws
+pub mod CompletionLaws

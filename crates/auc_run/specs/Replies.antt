@@ -1,5 +1,5 @@
 -- The replies of a mail's calls: which are right for a script, and the lines that the program writes for them.
-use Rattle.std.specs.Prelude.{◌≡◌, ◌≢◌, ℕ, ◌+◌, Bool, true, false, List, [], ◌++◌, length, codes, Option, Result, Ok, Err, ℤ, ⊤}
+use Rattle.std.specs.Prelude.{◌≡◌, ◌≢◌, ℕ, ◌+◌, true, false, List, ◌++◌, length, codes, Option, Result, Ok, Err, ℤ, ⊤}
 use Rattle.std.specs.List.{flat_map, zip}
 use Rattle.std.specs.Fmt.{decimal, signed_decimal}
 use Rattle.std.specs.Io.KnownBytes.{Appends}
@@ -11,10 +11,10 @@ use Rattle.auc_mail.specs.declared.call.Taken.TheVariants.{Letter, Empty, Over}
 use Rattle.auc_mail.specs.declared.call.Reply.{Reply}
 use Rattle.auc_mail.specs.declared.call.Reply.TheVariants.{Posted, Refused, Took, WasOpen}
 use Rattle.auc_run.specs.declared.refusal.Refusal.{Refusal}
-use Rattle.auc_run.specs.declared.refusal.Refusal.TheVariants.{NotRead, NoProblem, NoCertificate, Invalid, NoScript}
+use Rattle.auc_run.specs.declared.refusal.Refusal.TheVariants.{NotRead, NoProblem, NoCertificate, Invalid, NoScript, NoMemory as NoMemoryForJob}
 use Rattle.auc_run.specs.declared.script.Script.{Script}
 use Rattle.auc_run.specs.declared.script_error.ScriptError.TheVariants.{NoMemory}
-use Rattle.auc_run.specs.declared.status.TheConstants.{VALID}
+use Rattle.auc_run.specs.declared.status.TheConstants.{REPLIED}
 use Rattle.auc_run.specs.Lines.{counted, refusal_line}
 use Rattle.auc_run.specs.Statuses.{refusal_status}
 use Rattle.auc_run.specs.Script.{script_in}
@@ -52,6 +52,7 @@ BearOutReplies file (Err (NotRead fault)) = ⊤
 BearOutReplies file (Err (NoProblem error)) = ⊥
 BearOutReplies file (Err (NoCertificate error)) = ⊥
 BearOutReplies file (Err (Invalid error)) = ⊥
+BearOutReplies file (Err NoMemoryForJob) = ⊥
 
 -- replies on what a reader has
 abbrev pub AreReplies : Option (List ℕ) → Result (List (Reply ℤ)) Refusal → Type 0
@@ -63,7 +64,7 @@ replies_text (Ok replies) = reply_lines replies
 replies_text (Err refusal) = refusal_line refusal
 
 abbrev pub replies_status : Result (List (Reply ℤ)) Refusal → ℕ
-replies_status (Ok replies) = VALID
+replies_status (Ok replies) = REPLIED
 replies_status (Err refusal) = refusal_status refusal
 
 -- the replies of the code, as a list

@@ -6,14 +6,16 @@ ghost use Rattle.auc_graph.specs.Reading.{reading};
 ghost use Rattle.auc_cert.specs.Spelled.{IsSpelled};
 ghost use Rattle.auc_run.specs.Lines.{verdict_line};
 ghost use Rattle.auc_run.specs.Statuses.{verdict_status};
-ghost use Rattle.auc_run.specs.Verdicts.{Judges, IsVerdict};
+ghost use Rattle.auc_run.specs.Verdicts.{Judges, IsVerdict, said_by};
 ghost use Rattle.auc_run.specs.Said.{Said};
 
+use crate::hall::answer_hall;
 use crate::input::read_all;
 use crate::lines::{status_of, write_verdict};
 use crate::mail::answer_script;
 use crate::refusal::Refusal;
 use crate::status::UNWRITTEN;
+use crate::valid::Valid;
 use auc_cert::{Cert, CertParts, check, read_cert};
 use auc_graph::{ArcList, MOST_ARCS, MOST_READS, ReadLimits, read_arcs};
 use std::alloc::Global;
@@ -25,27 +27,44 @@ pub enum Job {
     /// Reads a problem from the first reader and a certificate from the second, and says whether what the certificate
     /// claims of the problem holds.
     Check,
+    /// Reads a problem from the first reader, and finds an arc for each person, no object twice, or persons who together
+    /// know too few objects.
+    Hall,
     /// Reads a script from the first reader, makes its calls on a new mail, and tells the replies.
     Mail,
 }
 
-/// The cost that a certificate claims, where all that it claims holds.
-fn judge(alloc: Global, problem: &ArcList, cert: &Cert) -> Result<i64, Refusal>
+/// What a certificate says, if its claim holds.
+fn said_by(cert: &Cert) -> Valid
+    ensures is { result ≡ said_by cert.now }
+    ensures spelled { IsSpelled cert.now }
+{
+    match cert.parts() {
+        CertParts::Optimal { cost, .. } => Valid::Optimal { cost: *cost },
+        CertParts::Infeasible { persons, objects } => Valid::Infeasible {
+            persons: persons.as_slice().len(),
+            objects: objects.as_slice().len(),
+        },
+    }
+}
+
+/// What a certificate says, where its claim holds of the problem.
+fn judge(alloc: Global, problem: &ArcList, cert: &Cert) -> Result<Valid, Refusal>
     ensures judges { Judges problem.now cert.now result }
     ensures spelled { IsSpelled cert.now }
 {
-    let CertParts::Optimal { cost, .. } = cert.parts();
+    let valid = said_by(cert);
     check(alloc, problem, cert)?;
-    Ok(*cost)
+    Ok(valid)
 }
 
-/// The cost that the certificate of the second reader claims, where all that it claims of the first reader's problem
-/// holds. The second reader is read once the problem is accepted.
+/// What the certificate of the second reader says, where its claim holds of the first reader's problem. The second reader
+/// is read once the problem is accepted.
 fn verdict_of<R: Read, Q: Read>(
     alloc: Global,
     reader: &mut R,
     second: &mut Q,
-) -> Result<i64, Refusal>
+) -> Result<Valid, Refusal>
     ensures verdict { IsVerdict (R.remaining reader.old) (Q.remaining second.old) result }
     ensures unread { IfSome (R.remaining reader.old) (λ file. IsErr (reading MOST_ARCS file) → second.new ≡ second.old) }
 {
@@ -59,7 +78,7 @@ fn verdict_of<R: Read, Q: Read>(
 }
 
 /// Writes the line of a verdict, and gives its status.
-fn answer<W: Write>(writer: &mut W, verdict: Result<i64, Refusal>) -> u8
+fn answer<W: Write>(writer: &mut W, verdict: Result<Valid, Refusal>) -> u8
     ensures { result ≢ UNWRITTEN → Appends (W.contents writer.old) (W.contents writer.new) (verdict_line verdict) × (result ≡ verdict_status verdict) }
 {
     match write_verdict(writer, verdict) {
@@ -74,7 +93,8 @@ fn answer<W: Write>(writer: &mut W, verdict: Result<i64, Refusal>) -> u8
 ///
 /// Nothing is promised of what was written where the status is [`UNWRITTEN`]: a write failed, or took no bytes.
 ///
-/// A check takes O(bytes) time; its memory is that of one input at a time, and 16 bytes an arc. A mail takes the time of its
+/// A check takes O(bytes) time; its memory is that of one input at a time, and 16 bytes an arc. A hall takes that and the
+/// time of its search, see [`auc_hall::complete`], and 32 bytes an arc. A mail takes the time of its
 /// calls, and memory for its lanes, its letters and a reply for each call.
 pub fn run_command<R: Read, Q: Read, W: Write>(
     alloc: Global,
@@ -87,11 +107,12 @@ pub fn run_command<R: Read, Q: Read, W: Write>(
     ensures said { result ≢ UNWRITTEN → Said job.now (R.remaining reader.old) (Q.remaining second.old) (W.contents writer.old) (W.contents writer.new) result }
     // A certificate for what is no problem is left unread.
     ensures unread { IfSome (R.remaining reader.old) (λ file. IsErr (reading MOST_ARCS file) → second.new ≡ second.old) }
-    // A mail has one input.
-    ensures script_alone { job.now ≡ Job.Mail → second.new ≡ second.old }
+    // Only a check has a second input.
+    ensures alone { job.now ≢ Job.Check → second.new ≡ second.old }
 {
     match job {
         Job::Check => answer(writer, verdict_of(alloc, reader, second)),
+        Job::Hall => answer_hall(alloc, reader, writer),
         Job::Mail => answer_script(alloc, reader, writer),
     }
 }

@@ -6,6 +6,8 @@
 
 mod command;
 mod command_word;
+mod found;
+mod hall;
 mod input;
 mod lines;
 mod mail;
@@ -15,8 +17,10 @@ mod script;
 mod script_error;
 mod script_reading;
 pub mod status;
+mod valid;
 
 pub use command::{Job, run_command};
+pub use found::Found;
 pub use input::{ReadFault, read_all};
 pub use refusal::Refusal;
 pub use script::{
@@ -24,3 +28,4 @@ pub use script::{
 };
 pub use script_error::ScriptError;
 pub use script_reading::read_script;
+pub use valid::Valid;

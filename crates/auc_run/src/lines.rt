@@ -1,15 +1,17 @@
 //! The line that tells a verdict, and its status.
 
-ghost use Rattle.std.specs.Prelude.{◌≡◌, ◌+◌, OnOk, Ok};
-ghost use Rattle.std.specs.Fmt.{signed_decimal};
+ghost use Rattle.std.specs.Prelude.{◌≡◌, ◌+◌, OnOk};
+ghost use Rattle.std.specs.Fmt.{decimal, signed_decimal};
 ghost use Rattle.std.specs.Io.KnownBytes.{Appends};
-ghost use Rattle.auc_run.specs.Lines.{counted, input_line, problem_line, certificate_line, claim_line, script_line, refusal_line, verdict_line};
+ghost use Rattle.auc_run.specs.declared.valid.Valid.TheVariants.{Optimal, Infeasible};
+ghost use Rattle.auc_run.specs.Lines.{counted, input_line, problem_line, certificate_line, claim_line, script_line, refusal_line, valid_line, verdict_line};
 ghost use Rattle.auc_run.specs.Statuses.{refusal_status, verdict_status};
 
 use crate::input::ReadFault;
 use crate::refusal::Refusal;
 use crate::script_error::ScriptError;
 use crate::status::{INVALID, NO_MEMORY, REFUSED, VALID};
+use crate::valid::Valid;
 use auc_cert::{CertRefused, CertTextError, WriteFault, write_whole};
 use auc_graph::ReadError;
 use itoa::Buffer;
@@ -45,13 +47,43 @@ pub(crate) fn write_number<W: Write>(writer: &mut W, number: i64) -> Result<(), 
     write_whole(writer, buffer.format(number).as_bytes())
 }
 
-fn write_valid<W: Write>(writer: &mut W, cost: i64) -> Result<(), WriteFault>
-    ensures { OnOk result (Appends (W.contents writer.old) (W.contents writer.new) (verdict_line (Ok cost))) }
+/// Writes a number in decimal.
+pub(crate) fn write_count<W: Write>(writer: &mut W, count: u64) -> Result<(), WriteFault>
+    ensures { OnOk result (Appends (W.contents writer.old) (W.contents writer.new) (decimal count)) }
+{
+    let mut buffer = Buffer::new();
+    write_whole(writer, buffer.format(count).as_bytes())
+}
+
+fn write_optimal<W: Write>(writer: &mut W, cost: i64) -> Result<(), WriteFault>
+    ensures { OnOk result (Appends (W.contents writer.old) (W.contents writer.new) (valid_line (Optimal cost))) }
 {
     write_whole(writer, b"valid optimal ")?;
     write_number(writer, cost)?;
     write_whole(writer, b"\n")?;
     Ok(())
+}
+
+fn write_infeasible<W: Write>(writer: &mut W, persons: u64, objects: u64) -> Result<(), WriteFault>
+    ensures { OnOk result (Appends (W.contents writer.old) (W.contents writer.new) (valid_line (Infeasible persons objects))) }
+{
+    write_whole(writer, b"valid infeasible ")?;
+    write_count(writer, persons)?;
+    write_whole(writer, b" ")?;
+    write_count(writer, objects)?;
+    write_whole(writer, b"\n")?;
+    Ok(())
+}
+
+fn write_valid<W: Write>(writer: &mut W, valid: Valid) -> Result<(), WriteFault>
+    ensures { OnOk result (Appends (W.contents writer.old) (W.contents writer.new) (valid_line valid)) }
+{
+    match valid {
+        Valid::Optimal { cost } => write_optimal(writer, cost),
+        Valid::Infeasible { persons, objects } => {
+            write_infeasible(writer, persons as u64, objects as u64)
+        }
+    }
 }
 
 fn write_input<W: Write>(writer: &mut W, fault: ReadFault) -> Result<(), WriteFault>
@@ -100,6 +132,7 @@ fn write_claim<W: Write>(writer: &mut W, error: CertRefused) -> Result<(), Write
         }
         CertRefused::WrongCost => write_whole(writer, b"invalid cost\n"),
         CertRefused::Slack { person } => { write_place(writer, b"invalid slack ", person as u64) }
+        CertRefused::NotHall => write_whole(writer, b"invalid hall\n"),
         CertRefused::NoMemory => write_whole(writer, b"refused memory\n"),
     }
 }
@@ -126,18 +159,19 @@ pub(crate) fn write_refusal<W: Write>(writer: &mut W, refusal: Refusal) -> Resul
         Refusal::NoCertificate(error) => write_certificate(writer, error),
         Refusal::Invalid(error) => write_claim(writer, error),
         Refusal::NoScript(error) => write_script(writer, error),
+        Refusal::NoMemory => write_whole(writer, b"refused memory\n"),
     }
 }
 
 /// Writes the one line of a verdict.
 pub(crate) fn write_verdict<W: Write>(
     writer: &mut W,
-    verdict: Result<i64, Refusal>,
+    verdict: Result<Valid, Refusal>,
 ) -> Result<(), WriteFault>
     ensures { OnOk result (Appends (W.contents writer.old) (W.contents writer.new) (verdict_line verdict)) }
 {
     match verdict {
-        Ok(cost) => write_valid(writer, cost),
+        Ok(valid) => write_valid(writer, valid),
         Err(refusal) => write_refusal(writer, refusal),
     }
 }
@@ -151,7 +185,8 @@ pub(crate) fn status_of_refusal(refusal: Refusal) -> u8
         | Refusal::NoProblem(ReadError::NoMemory)
         | Refusal::NoCertificate(CertTextError::NoMemory)
         | Refusal::Invalid(CertRefused::NoMemory)
-        | Refusal::NoScript(ScriptError::NoMemory) => NO_MEMORY,
+        | Refusal::NoScript(ScriptError::NoMemory)
+        | Refusal::NoMemory => NO_MEMORY,
         Refusal::Invalid(_) => INVALID,
         Refusal::NotRead(_)
         | Refusal::NoProblem(_)
@@ -161,7 +196,7 @@ pub(crate) fn status_of_refusal(refusal: Refusal) -> u8
 }
 
 /// The status of a verdict.
-pub(crate) fn status_of(verdict: Result<i64, Refusal>) -> u8
+pub(crate) fn status_of(verdict: Result<Valid, Refusal>) -> u8
     ensures { result ≡ verdict_status verdict }
 {
     match verdict {

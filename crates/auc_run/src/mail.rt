@@ -14,7 +14,7 @@ use crate::replies::write_replies;
 use crate::script::Script;
 use crate::script_error::ScriptError;
 use crate::script_reading::read_script;
-use crate::status::{UNWRITTEN, VALID};
+use crate::status::{REPLIED, UNWRITTEN};
 use auc_graph::MOST_READS;
 use auc_mail::{MailPool, Reply, run_script};
 use std::alloc::Global;
@@ -56,7 +56,7 @@ fn answer_mail<W: Write>(writer: &mut W, replies: Result<Vec<Reply<i64>>, Refusa
 {
     match replies {
         Ok(replies) => match write_replies(writer, replies.as_slice()) {
-            Ok(()) => VALID,
+            Ok(()) => REPLIED,
             Err(_) => UNWRITTEN,
         },
         Err(refusal) => match write_refusal(writer, refusal) {

@@ -1,12 +1,13 @@
 //! Why a job was refused.
 
 ghost use Rattle.std.specs.Prelude.{◌≡◌};
-ghost use Rattle.auc_run.specs.declared.refusal.Refusal.TheVariants.{NotRead, NoProblem, NoCertificate, Invalid, NoScript};
+ghost use Rattle.auc_run.specs.declared.refusal.Refusal.TheVariants.{NotRead, NoProblem, NoCertificate, Invalid, NoScript, NoMemory};
 
 use crate::input::ReadFault;
 use crate::script_error::ScriptError;
 use auc_cert::{CertRefused, CertTextError};
 use auc_graph::ReadError;
+use std::alloc::AllocError;
 
 /// Why a job was refused. Of a check the problem is read and judged first, then the certificate, then the claim.
 #[derive(Clone, Copy, Debug, PartialEq, Eq)]
@@ -21,6 +22,8 @@ pub enum Refusal {
     Invalid(CertRefused),
     /// The input is no script.
     NoScript(ScriptError),
+    /// Memory ran out, when the inputs had been read.
+    NoMemory,
 }
 
 impl From<ReadFault> for Refusal {
@@ -60,5 +63,13 @@ impl From<ScriptError> for Refusal {
 
     fn from(error: ScriptError) -> Refusal {
         Refusal::NoScript(error)
+    }
+}
+
+impl From<AllocError> for Refusal {
+    ghost from_gives = { λ _ r. r ≡ NoMemory };
+
+    fn from(_e: AllocError) -> Refusal {
+        Refusal::NoMemory
     }
 }

@@ -7,19 +7,11 @@ ghost use Rattle.auc_mail.specs.declared.call.Reply.TheVariants.{Posted, Refused
 ghost use Rattle.auc_mail.specs.declared.call.Taken.TheVariants.{Letter};
 ghost use Rattle.auc_run.specs.Replies.{reply_line, reply_lines};
 
-use crate::lines::{write_counted, write_number};
+use crate::lines::{write_count, write_counted, write_number};
 use auc_cert::{WriteFault, write_whole};
 use auc_mail::{PostRefused, Reply, Taken};
 use itoa::Buffer;
 use std::io::Write;
-
-/// Writes a number in decimal.
-fn write_count<W: Write>(writer: &mut W, count: u64) -> Result<(), WriteFault>
-    ensures { OnOk result (Appends (W.contents writer.old) (W.contents writer.new) (decimal count)) }
-{
-    let mut buffer = Buffer::new();
-    write_whole(writer, buffer.format(count).as_bytes())
-}
 
 /// Writes the line of a letter. Its sender is numbered from 0.
 fn write_letter<W: Write>(

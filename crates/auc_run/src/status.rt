@@ -3,13 +3,22 @@
 /// The claim holds.
 pub const VALID: u8 = 0;
 
+/// Each person has an arc to an object of his own.
+pub const FULL: u8 = 0;
+
+/// The calls of the script were made.
+pub const REPLIED: u8 = 0;
+
 /// The words are no command.
 pub const USAGE: u8 = 2;
 
 /// The claim does not hold.
 pub const INVALID: u8 = 3;
 
-/// An input can't be opened or read, or is no problem or no certificate.
+/// There is no assignment.
+pub const INFEASIBLE: u8 = 3;
+
+/// An input can't be opened or read, or is no problem, no certificate or no script.
 pub const REFUSED: u8 = 5;
 
 /// Memory ran out.

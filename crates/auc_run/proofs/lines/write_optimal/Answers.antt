@@ -3,7 +3,7 @@ use Rattle.std.specs.Prelude.{FitsSigned as SFits, codes}
 use Rattle.std.specs.Fmt.{signed_decimal}
 use Rattle.std.proofs.KnownBytes.{Appends-trans}
 use Rattle.std.proofs.lemmas.Int.{to_z-of_z}
-use Rattle.auc_run.proofs.lines.write_valid.Goals as goal
+use Rattle.auc_run.proofs.lines.write_optimal.Goals as goal
 
 pub returns : goal.returns
 returns g c =

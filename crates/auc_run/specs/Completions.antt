@@ -1,0 +1,85 @@
+-- What a search for a full assignment may find in a problem, the text that tells it, and which findings are right for the bytes of a problem.
+use Rattle.std.specs.Prelude.{◌≡◌, ◌≢◌, ℕ, List, ◌++◌, ◌≤◌, length, codes, slice_index_or, Option, None, Result, Ok, Err, ⊤, pos}
+use Rattle.std.specs.Io.KnownBytes.{Appends}
+use Rattle.auc_graph.specs.declared.limits.TheConstants.{MOST_ARCS, MOST_PERSONS}
+use Rattle.auc_graph.specs.declared.read_error.ReadError.TheVariants.{NoMemory}
+use Rattle.auc_graph.specs.declared.arc.Arc.{Arc}
+use Rattle.auc_cert.specs.declared.lists.Pick.{Pick}
+use Rattle.auc_graph.specs.Problem.{Problem}
+use Rattle.auc_graph.specs.Reading.{reading}
+use Rattle.auc_graph.specs.Assignment.{IsAssignment}
+use Rattle.auc_hall.specs.OfProblem.{IsHallSetOf}
+use Rattle.auc_cert.specs.declared.cert.CertParts.{CertParts}
+use Rattle.auc_cert.specs.declared.cert.CertParts.TheVariants.{Infeasible}
+use Rattle.auc_cert.specs.Spelled.{IsSpelled}
+use Rattle.auc_cert.specs.Text.{text, assign_line, numbered, joined}
+use Rattle.auc_cert.specs.Claim.{chosen, fault_of}
+use Rattle.auc_run.specs.declared.found.Found.{Found}
+use Rattle.auc_run.specs.declared.found.Found.TheVariants.{Full, Hall}
+use Rattle.auc_run.specs.declared.refusal.Refusal.{Refusal}
+use Rattle.auc_run.specs.declared.refusal.Refusal.TheVariants.{NotRead, NoProblem, NoCertificate, Invalid, NoScript, NoMemory as NoMemoryForJob}
+use Rattle.auc_run.specs.declared.status.TheConstants.{FULL, INFEASIBLE}
+use Rattle.auc_run.specs.Lines.{counted, refusal_line}
+use Rattle.auc_run.specs.Statuses.{refusal_status}
+use Rattle.auc_run.specs.Verdicts.{IsProblemOf, AreKnown}
+
+-- A certificate that names persons who together know too few objects, and of the objects just those that they know. The checker finds no fault in it.
+pub record Blames (p : Problem) (cert : CertParts) : Type 0 where
+  pub persons : List ℕ
+  pub objects : List ℕ
+  pub is : cert ≡ Infeasible persons objects
+  pub spelled : IsSpelled cert
+  pub set : IsHallSetOf p persons objects
+  pub faultless : fault_of p cert ≡ None
+
+-- the pick by an arc
+abbrev pub pick_by : Arc → Pick
+pick_by a = record { object = a.object; cost = a.cost }
+
+-- the pick by the arc of this number
+abbrev pub pick_at : List Arc → ℕ → Pick
+pick_at arcs n = pick_by (slice_index_or arcs n (record { person = 0; object = 0; cost = pos 0 }))
+
+abbrev pub IsFound : Problem → Found → Type 0
+IsFound p (Full choice) = IsAssignment p (chosen 0 choice)
+IsFound p (Hall cert) = Blames p cert
+
+-- The bytes of a problem bear out what was found, or the refusal. Of a read that failed, of too many reads and of want of memory nothing is known.
+abbrev pub BearOutFound : List ℕ → Result Found Refusal → Type 0
+BearOutFound file (Ok found) = (p : Problem) × IsProblemOf file p × IsFound p found
+BearOutFound file (Err (NoProblem error)) = error ≢ NoMemory → reading MOST_ARCS file ≡ Err error
+BearOutFound file (Err (NotRead fault)) = ⊤
+BearOutFound file (Err NoMemoryForJob) = ⊤
+BearOutFound file (Err (NoCertificate error)) = ⊥
+BearOutFound file (Err (Invalid error)) = ⊥
+BearOutFound file (Err (NoScript error)) = ⊥
+
+-- what was found in the problem that a reader has
+abbrev pub IsFoundIn : Option (List ℕ) → Result Found Refusal → Type 0
+IsFoundIn reader found = (file : List ℕ) × AreKnown reader file × BearOutFound file found
+
+-- no more picks than a problem can have persons
+abbrev pub IsSmall : Found → Type 0
+IsSmall (Full choice) = length choice ≤ MOST_PERSONS
+IsSmall (Hall cert) = ⊤
+
+abbrev pub found_text : Found → List ℕ
+found_text (Full choice) = counted (codes "full ") (length choice) ++ joined (numbered assign_line 0 choice)
+found_text (Hall cert) = text cert
+
+abbrev pub found_status : Found → ℕ
+found_status (Full choice) = FULL
+found_status (Hall cert) = INFEASIBLE
+
+-- the text for what was found, or for a refusal, and its status
+abbrev pub completion_text : Result Found Refusal → List ℕ
+completion_text (Ok found) = found_text found
+completion_text (Err refusal) = refusal_line refusal
+
+abbrev pub completion_status : Result Found Refusal → ℕ
+completion_status (Ok found) = found_status found
+completion_status (Err refusal) = refusal_status refusal
+
+-- behind what the writer had stands the text of what was found in the problem that the reader had, or of a refusal, and the status is its own
+abbrev pub AnswersHall : Option (List ℕ) → Option (List ℕ) → Option (List ℕ) → ℕ → Type 0
+AnswersHall reader before after status = (found : Result Found Refusal) × IsFoundIn reader found × Appends before after (completion_text found) × (status ≡ completion_status found)

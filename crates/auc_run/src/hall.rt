@@ -1,0 +1,123 @@
+//! The job of a hall: a problem is read, and each person gets an arc, or persons are named who know too few objects.
+
+ghost use Rattle.std.specs.Prelude.{◌≡◌, ◌≢◌, ◌<◌, ◌≤◌, ⊤, length, map, All, IfOk, OnOk};
+ghost use Rattle.std.specs.Io.KnownBytes.{Appends};
+ghost use Rattle.auc_cert.specs.Spelled.{AreNamed};
+ghost use Rattle.auc_run.specs.Completions.{IsFound, IsFoundIn, IsSmall, AnswersHall, found_text, found_status, completion_text, completion_status, pick_at};
+
+use crate::found::Found;
+use crate::input::read_all;
+use crate::lines::{status_of_refusal, write_counted, write_refusal};
+use crate::refusal::Refusal;
+use crate::status::{FULL, INFEASIBLE, UNWRITTEN};
+use auc_cert::{Cert, CertParts, Pick, Picks, WriteFault, write_cert, write_picks};
+use auc_graph::{Arc, ArcList, Indices, MOST_READS, ReadLimits, Rows, read_arcs};
+use auc_hall::{Matching, Partial, complete};
+use std::alloc::{AllocError, Global};
+use std::io::{Read, Write};
+
+/// The picks by the arcs of these numbers.
+fn picks_of(alloc: Global, arcs: &[Arc], numbers: &[u32]) -> Result<Vec<Pick>, AllocError>
+    requires { All (λ n. n < length arcs.now) numbers.now }
+    ensures { IfOk result (λ v. v.items ≡ map (pick_at arcs.now) numbers.now) }
+{
+    let mut picks = Vec::with_capacity(alloc, numbers.len())?;
+    for number in numbers {
+        let arc = arcs[*number as usize];
+        picks.push(Pick {
+            object: arc.object,
+            cost: arc.cost,
+        })?;
+    }
+    Ok(picks)
+}
+
+/// The certificate that names these persons and objects.
+fn blame_of(persons: Indices, objects: Indices) -> Cert
+    requires { AreNamed persons objects }
+    ensures { result ≡ CertParts.Infeasible persons objects }
+{
+    match Cert::make(CertParts::Infeasible { persons, objects }) {
+        Ok(cert) => cert,
+        Err(_) => unreachable!("the numbers rise, and are those of a problem"),
+    }
+}
+
+/// An arc for each person of the problem, or persons who together know too few objects.
+fn found_in(alloc: Global, problem: &ArcList) -> Result<Found, AllocError>
+    ensures found { IfOk result (IsFound problem.now) }
+    ensures small { IfOk result IsSmall }
+{
+    let arcs = problem.arcs();
+    let rows = Rows::build(alloc, problem)?;
+    let partial = Partial::new(alloc, &rows)?;
+    match complete(alloc, &rows, partial)? {
+        Matching::Full(numbers) => {
+            let picks = picks_of(alloc, arcs, numbers.as_slice())?;
+            Ok(Found::Full(Picks::new(picks)))
+        }
+        Matching::Hall { persons, objects } => Ok(Found::Hall(blame_of(persons, objects))),
+    }
+}
+
+/// What is found in the problem that the reader has.
+fn found_of<R: Read>(alloc: Global, reader: &mut R) -> Result<Found, Refusal>
+    ensures found { IsFoundIn (R.remaining reader.old) result }
+    ensures small { IfOk result IsSmall }
+{
+    let bytes = read_all(alloc, reader, MOST_READS)?;
+    let problem = read_arcs(alloc, bytes.as_slice(), ReadLimits::usual())?;
+    // The text of a large problem takes as much memory as its arcs.
+    drop(bytes);
+    let found = found_in(alloc, &problem)?;
+    Ok(found)
+}
+
+/// Writes what was found.
+fn write_found<W: Write>(writer: &mut W, found: &Found) -> Result<(), WriteFault>
+    requires { IsSmall found.now }
+    ensures { OnOk result (Appends (W.contents writer.old) (W.contents writer.new) (found_text found.now)) }
+{
+    match found {
+        Found::Full(choice) => {
+            let choice = choice.as_slice();
+            write_counted(writer, b"full ", choice.len() as u128)?;
+            write_picks(writer, choice)
+        }
+        Found::Hall(cert) => write_cert(writer, cert),
+    }
+}
+
+fn status_of_found(found: &Found) -> u8
+    ensures { result ≡ found_status found.now }
+{
+    match found {
+        Found::Full(_) => FULL,
+        Found::Hall(_) => INFEASIBLE,
+    }
+}
+
+/// Writes what was found, or the line of a refusal, and gives the status.
+fn answer_found<W: Write>(writer: &mut W, found: Result<Found, Refusal>) -> u8
+    requires { IfOk found IsSmall }
+    ensures { result ≢ UNWRITTEN → Appends (W.contents writer.old) (W.contents writer.new) (completion_text found) × (result ≡ completion_status found) }
+{
+    match found {
+        Ok(found) => match write_found(writer, &found) {
+            Ok(()) => status_of_found(&found),
+            Err(_) => UNWRITTEN,
+        },
+        Err(refusal) => match write_refusal(writer, refusal) {
+            Ok(()) => status_of_refusal(refusal),
+            Err(_) => UNWRITTEN,
+        },
+    }
+}
+
+/// Reads a problem, searches an arc for each person, writes what is found, and gives the status.
+pub(crate) fn answer_hall<R: Read, W: Write>(alloc: Global, reader: &mut R, writer: &mut W) -> u8
+    ensures { result ≢ UNWRITTEN → AnswersHall (R.remaining reader.old) (W.contents writer.old) (W.contents writer.new) result }
+{
+    let found = found_of(alloc, reader);
+    answer_found(writer, found)
+}

@@ -1,0 +1,10 @@
+//! What a claim that holds says.
+
+/// What a claim that holds says, in short.
+#[derive(Clone, Copy, Debug, PartialEq, Eq)]
+pub enum Valid {
+    /// That this is the least cost of an assignment.
+    Optimal { cost: i64 },
+    /// That so many persons together know only so many objects, fewer than they.
+    Infeasible { persons: usize, objects: usize },
+}

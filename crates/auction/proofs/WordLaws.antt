@@ -1,4 +1,4 @@
--- What the grammar makes of the words of a check and of a mail.
+-- What the grammar makes of the words of each command.
 use Rattle.std.proofs.Common.{◌≡◌, ◌==◌, true, false, List, [], ◌∷◌, Option, Some, None, Result, Ok, Err, codes, option_map, unwrap_or, refl, ap, ◌∙◌}
 use Rattle.std.proofs.lemmas.Bool.{ne_eqb}
 use Rattle.std.specs.Prelude.{Box}
@@ -8,10 +8,11 @@ use Rattle.clap.specs.declared.parser.matches.ArgMatches.{ArgMatches}
 use Rattle.clap.specs.declared.parser.matches.ArgMatches.TheViews.{out-ArgMatches, out-SubCommand}
 use Rattle.clap.specs.declared.parser.matches.SubCommand.{SubCommand}
 use Rattle.clap.proofs.OnLiterals.{clap_on_literals}
+use Rattle.auc_run.specs.declared.command.Job.{Job}
 use Rattle.auction.specs.declared.asked.Words.{Words}
 use Rattle.auction.specs.declared.words_error.WordsError.{WordsError}
 use Rattle.auction.specs.Grammar.{grammar}
-use Rattle.auction.specs.CommandLine.{IsName, AreCheck, AreMail, HasFilesOf, HasScriptOf, AsksToCheck, AsksForMail}
+use Rattle.auction.specs.CommandLine.{IsName, AreCheck, AreJob, HasFilesOf, HasNameOf, AsksToCheck, AsksFor}
 
 -- the command, and the file and the certificate among its matches
 abbrev pub files_in : Option (Text × List Row) → Option (Text × Option Text × Option Text)
@@ -84,51 +85,77 @@ name_of_rows m = go (out-ArgMatches m).subcommand
     go None = refl
     go (Some b) = refl
 
--- the command, and the script among its matches
-abbrev pub script_in : Option (Text × List Row) → Option (Text × Option Text)
-script_in = option_map (λ p. (p.0, first_of (codes "script") p.1))
+-- the command, and the name that an argument has among its matches
+abbrev pub name_in : Text → Option (Text × List Row) → Option (Text × Option Text)
+name_in id = option_map (λ p. (p.0, first_of id p.1))
 
-takes_script : (script : Text) → IsName script → takes grammar (codes "mail" ∷ script ∷ []) ≡ true
+takes_hall : (name : Text) → IsName name → takes grammar (codes "hall" ∷ name ∷ []) ≡ true
 unfolding clap_on_literals
-takes_script [] h = refl
-takes_script (b ∷ bytes) h = let e : (b == 45) ≡ false = ne_eqb b 45 h in simp e
+takes_hall [] h = refl
+takes_hall (b ∷ bytes) h = let e : (b == 45) ≡ false = ne_eqb b 45 h in simp e
 
-names_script : (script : Text) → IsName script → script_in (subcommand_of grammar (codes "mail" ∷ script ∷ [])) ≡ Some (codes "mail", Some script)
+names_hall : (name : Text) → IsName name → name_in (codes "file") (subcommand_of grammar (codes "hall" ∷ name ∷ [])) ≡ Some (codes "hall", Some name)
 unfolding clap_on_literals
-names_script [] h = refl
-names_script (b ∷ bytes) h = let e : (b == 45) ≡ false = ne_eqb b 45 h in simp e
+names_hall [] h = refl
+names_hall (b ∷ bytes) h = let e : (b == 45) ≡ false = ne_eqb b 45 h in simp e
 
-takes_bare : takes grammar (codes "mail" ∷ []) ≡ true
+takes_bare_hall : takes grammar (codes "hall" ∷ []) ≡ true
 unfolding clap_on_literals
-takes_bare = refl
+takes_bare_hall = refl
 
-names_bare : script_in (subcommand_of grammar (codes "mail" ∷ [])) ≡ Some (codes "mail", None)
+names_bare_hall : name_in (codes "file") (subcommand_of grammar (codes "hall" ∷ [])) ≡ Some (codes "hall", None)
 unfolding clap_on_literals
-names_bare = refl
+names_bare_hall = refl
 
-pub takes_mail : (words : List Text) (script : Option Text) → AreMail words script → takes grammar words ≡ true
-takes_mail words None h = ap (takes grammar) h ∙ takes_bare
-takes_mail words (Some script) h = ap (takes grammar) h.1 ∙ takes_script script h.0
+pub hall_taken : (words : List Text) (name : Option Text) → AreJob (codes "hall") words name → takes grammar words ≡ true
+hall_taken words None h = ap (takes grammar) h ∙ takes_bare_hall
+hall_taken words (Some name) h = ap (takes grammar) h.1 ∙ takes_hall name h.0
 
-pub names_mail : (words : List Text) (script : Option Text) → AreMail words script → script_in (subcommand_of grammar words) ≡ Some (codes "mail", script)
-names_mail words None h = ap (λ (w : List Text). script_in (subcommand_of grammar w)) h ∙ names_bare
-names_mail words (Some script) h = ap (λ (w : List Text). script_in (subcommand_of grammar w)) h.1 ∙ names_script script h.0
+pub hall_named : (words : List Text) (name : Option Text) → AreJob (codes "hall") words name → name_in (codes "file") (subcommand_of grammar words) ≡ Some (codes "hall", name)
+hall_named words None h = ap (λ (w : List Text). name_in (codes "file") (subcommand_of grammar w)) h ∙ names_bare_hall
+hall_named words (Some name) h = ap (λ (w : List Text). name_in (codes "file") (subcommand_of grammar w)) h.1 ∙ names_hall name h.0
 
--- the script of the matches is the one that was asked for
-pub asks_mail : (r : Result Words WordsError) (rows : List Row) (sub : Option (Text × List Row)) (script : Option Text) → HasScriptOf r rows → Some rows ≡ option_map (λ p. p.1) sub
-    → script_in sub ≡ Some (codes "mail", script) → AsksForMail r script
-asks_mail (Err e) rows sub script h same is = h
-asks_mail (Ok w) rows None script h same is = cc
-asks_mail (Ok w) rows (Some p) script h same is =
+takes_mail : (name : Text) → IsName name → takes grammar (codes "mail" ∷ name ∷ []) ≡ true
+unfolding clap_on_literals
+takes_mail [] h = refl
+takes_mail (b ∷ bytes) h = let e : (b == 45) ≡ false = ne_eqb b 45 h in simp e
+
+names_mail : (name : Text) → IsName name → name_in (codes "script") (subcommand_of grammar (codes "mail" ∷ name ∷ [])) ≡ Some (codes "mail", Some name)
+unfolding clap_on_literals
+names_mail [] h = refl
+names_mail (b ∷ bytes) h = let e : (b == 45) ≡ false = ne_eqb b 45 h in simp e
+
+takes_bare_mail : takes grammar (codes "mail" ∷ []) ≡ true
+unfolding clap_on_literals
+takes_bare_mail = refl
+
+names_bare_mail : name_in (codes "script") (subcommand_of grammar (codes "mail" ∷ [])) ≡ Some (codes "mail", None)
+unfolding clap_on_literals
+names_bare_mail = refl
+
+pub mail_taken : (words : List Text) (name : Option Text) → AreJob (codes "mail") words name → takes grammar words ≡ true
+mail_taken words None h = ap (takes grammar) h ∙ takes_bare_mail
+mail_taken words (Some name) h = ap (takes grammar) h.1 ∙ takes_mail name h.0
+
+pub mail_named : (words : List Text) (name : Option Text) → AreJob (codes "mail") words name → name_in (codes "script") (subcommand_of grammar words) ≡ Some (codes "mail", name)
+mail_named words None h = ap (λ (w : List Text). name_in (codes "script") (subcommand_of grammar w)) h ∙ names_bare_mail
+mail_named words (Some name) h = ap (λ (w : List Text). name_in (codes "script") (subcommand_of grammar w)) h.1 ∙ names_mail name h.0
+
+-- the name of the matches is the one that was asked for
+pub asks_for : (job : Job) (command id : Text) (r : Result Words WordsError) (rows : List Row) (sub : Option (Text × List Row)) (name : Option Text) → HasNameOf job id r rows → Some rows ≡ option_map (λ p. p.1) sub
+    → name_in id sub ≡ Some (command, name) → AsksFor job r name
+asks_for job command id (Err e) rows sub name h same is = h
+asks_for job command id (Ok w) rows None name h same is = cc
+asks_for job command id (Ok w) rows (Some p) name h same is =
     let rows_are : rows ≡ p.1 = ap (λ (o : Option (List Row)). unwrap_or o rows) same in
-    let parts_are : (p.0, first_of (codes "script") p.1) ≡ (codes "mail", script) = ap (λ (o : Option (Text × Option Text)). unwrap_or o (codes "mail", script)) is in (
+    let parts_are : (p.0, first_of id p.1) ≡ (command, name) = ap (λ (o : Option (Text × Option Text)). unwrap_or o (command, name)) is in (
       h.0,
-      h.1 ∙ ap (first_of (codes "script")) rows_are ∙ ap (λ (q : Text × Option Text). q.1) parts_are,
+      h.1 ∙ ap (first_of id) rows_are ∙ ap (λ (q : Text × Option Text). q.1) parts_are,
       h.2,
     )
 
--- a command was named, and it is `mail`
-pub named_mail : (name : Option Text) (sub : Option (Text × List Row)) (script : Option Text) → name ≡ option_map (λ p. p.0) sub → script_in sub ≡ Some (codes "mail", script) → name ≡ Some (codes "mail")
-named_mail name None script same is = cc
-named_mail name (Some p) script same is =
-    same ∙ ap (λ (o : Option (Text × Option Text)). Some (unwrap_or o (codes "mail", script)).0) is
+-- a command was named, and it is this one
+pub command_is : (command id : Text) (found : Option Text) (sub : Option (Text × List Row)) (name : Option Text) → found ≡ option_map (λ p. p.0) sub → name_in id sub ≡ Some (command, name) → found ≡ Some command
+command_is command id found None name same is = cc
+command_is command id found (Some p) name same is =
+    same ∙ ap (λ (o : Option (Text × Option Text)). Some (unwrap_or o (command, name)).0) is

@@ -2,7 +2,8 @@
 use Rattle.std.specs.Prelude.{◌≡◌, ◌≢◌, ℕ, List, [], ◌∷◌, Option, Some, None, Result, Ok, Err, option_map, codes, ⊤}
 use Rattle.clap.specs.Words.{Row, first_of}
 use Rattle.std.specs.String.{string_bytes}
-use Rattle.auc_run.specs.declared.command.Job.TheVariants.{Check, Mail}
+use Rattle.auc_run.specs.declared.command.Job.{Job}
+use Rattle.auc_run.specs.declared.command.Job.TheVariants.{Check}
 use Rattle.auction.specs.declared.asked.Words.{Words}
 use Rattle.auction.specs.declared.words_error.WordsError.{WordsError}
 use Rattle.auction.specs.declared.words_error.WordsError.TheVariants.{NoMemory}
@@ -27,17 +28,17 @@ abbrev pub AsksToCheck : Result Words WordsError → List ℕ → Option (List �
 AsksToCheck (Ok w) file cert = (w.job ≡ Check) × (option_map string_bytes w.first ≡ Some file) × (option_map string_bytes w.second ≡ cert)
 AsksToCheck (Err e) file cert = e ≡ NoMemory
 
--- the words were read as a mail by the script that a subcommand's matches name, unless memory ran out
-abbrev pub HasScriptOf : Result Words WordsError → List Row → Type 0
-HasScriptOf (Ok w) rows = (w.job ≡ Mail) × (option_map string_bytes w.first ≡ first_of (codes "script") rows) × (w.second ≡ None)
-HasScriptOf (Err e) rows = e ≡ NoMemory
+-- the words were read as this job on the input that an argument of a subcommand's matches names, unless memory ran out
+abbrev pub HasNameOf : Job → List ℕ → Result Words WordsError → List Row → Type 0
+HasNameOf job id (Ok w) rows = (w.job ≡ job) × (option_map string_bytes w.first ≡ first_of id rows) × (w.second ≡ None)
+HasNameOf job id (Err e) rows = e ≡ NoMemory
 
--- the words are `mail`, and may have the name of a script
-abbrev pub AreMail : List (List ℕ) → Option (List ℕ) → Type 0
-AreMail words None = words ≡ codes "mail" ∷ []
-AreMail words (Some script) = IsName script × (words ≡ codes "mail" ∷ script ∷ [])
+-- the words are this command, and may have the name of its input
+abbrev pub AreJob : List ℕ → List (List ℕ) → Option (List ℕ) → Type 0
+AreJob command words None = words ≡ command ∷ []
+AreJob command words (Some name) = IsName name × (words ≡ command ∷ name ∷ [])
 
--- the words were read as a mail by this script, unless memory ran out
-abbrev pub AsksForMail : Result Words WordsError → Option (List ℕ) → Type 0
-AsksForMail (Ok w) script = (w.job ≡ Mail) × (option_map string_bytes w.first ≡ script) × (w.second ≡ None)
-AsksForMail (Err e) script = e ≡ NoMemory
+-- the words were read as this job on this input, unless memory ran out
+abbrev pub AsksFor : Job → Result Words WordsError → Option (List ℕ) → Type 0
+AsksFor job (Ok w) name = (w.job ≡ job) × (option_map string_bytes w.first ≡ name) × (w.second ≡ None)
+AsksFor job (Err e) name = e ≡ NoMemory

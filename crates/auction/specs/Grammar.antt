@@ -10,6 +10,10 @@ file_rule = record (new_rule (codes "file")) { required = true }
 abbrev pub check_grammar : App
 check_grammar = with_rule (with_rule (on_top (λ s. record s { disable_help_flag = true }) (new_app (codes "check"))) file_rule) (new_rule (codes "cert"))
 
+-- `hall [FILE]`
+abbrev pub hall_grammar : App
+hall_grammar = with_rule (on_top (λ s. record s { disable_help_flag = true }) (new_app (codes "hall"))) (new_rule (codes "file"))
+
 -- `mail [SCRIPT]`
 abbrev pub mail_grammar : App
 mail_grammar = with_rule (on_top (λ s. record s { disable_help_flag = true }) (new_app (codes "mail"))) (new_rule (codes "script"))
@@ -25,4 +29,4 @@ bare_grammar = on_top (λ s. record s {
 }) (new_app (codes "auction"))
 
 abbrev pub grammar : App
-grammar = with_subcommand (with_subcommand bare_grammar check_grammar.top) mail_grammar.top
+grammar = with_subcommand (with_subcommand (with_subcommand bare_grammar check_grammar.top) hall_grammar.top) mail_grammar.top

@@ -60,6 +60,28 @@ fn names_of_scripts(rt: HostRuntime) -> Result<(), Fail> {
 }
 
 #[test]
+fn names_of_problems(rt: HostRuntime) -> Result<(), Fail> {
+    for (line, file) in [
+        ("hall", None),
+        ("hall --", None),
+        ("hall a", Some("a")),
+        ("hall -", Some("-")),
+        ("hall -- -a", Some("-a")),
+        ("hall hall", Some("hall")),
+    ] {
+        let words = read(&rt, line)?;
+        assert_eq!(rt; words.job, Job::Hall, "{line}");
+        assert_eq!(rt;
+            words.first.as_ref().map(|name| name.as_str()),
+            file,
+            "{line}"
+        );
+        assert_eq!(rt; words.second, None, "{line}");
+    }
+    Ok(())
+}
+
+#[test]
 fn other_words(rt: HostRuntime) {
     for line in [
         "",
@@ -71,6 +93,13 @@ fn other_words(rt: HostRuntime) {
         "check --file a",
         "check a -x",
         "check a b --cert b --cert b",
+        "hall a b",
+        "hall --help",
+        "hall -h",
+        "hall --file a",
+        "hall -x",
+        "hal a",
+        "help hall",
         "mail a b",
         "mail --help",
         "mail -h",

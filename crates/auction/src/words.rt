@@ -1,11 +1,11 @@
 //! The words of the command line.
 
-ghost use Rattle.std.specs.Prelude.{◌≡◌, ℕ, List, Option, IfOk, map, option_map, false};
+ghost use Rattle.std.specs.Prelude.{◌≡◌, ℕ, List, Option, IfOk, map, option_map, codes, false};
 ghost use Rattle.std.specs.String.{string_bytes};
 ghost use Rattle.clap.specs.declared.builder.command.Command.TheViews.{out-Command as fields_of};
 ghost use Rattle.clap.specs.Words.{app_of, first_value, found_of, rows_of};
-ghost use Rattle.auction.specs.CommandLine.{AreCheck, AreMail, HasFilesOf, HasScriptOf, AsksToCheck, AsksForMail};
-ghost use Rattle.auction.specs.Grammar.{check_grammar, mail_grammar, grammar};
+ghost use Rattle.auction.specs.CommandLine.{AreCheck, AreJob, HasFilesOf, HasNameOf, AsksToCheck, AsksFor};
+ghost use Rattle.auction.specs.Grammar.{check_grammar, hall_grammar, mail_grammar, bare_grammar, grammar};
 
 use crate::asked::Words;
 use crate::words_error::WordsError;
@@ -25,6 +25,16 @@ fn check_command<'a>(alloc: Global) -> Result<Command<'a>, AllocError>
         .arg(Arg::new(alloc, "cert"))
 }
 
+/// `hall [FILE]`.
+fn hall_command<'a>(alloc: Global) -> Result<Command<'a>, AllocError>
+    ensures shape { IfOk result (λ c. app_of c ≡ hall_grammar) }
+    ensures local { IfOk result (λ c. (fields_of c).has_globals ≡ false) }
+{
+    Command::new(alloc, "hall")
+        .disable_help_flag(true)
+        .arg(Arg::new(alloc, "file"))
+}
+
 /// `mail [SCRIPT]`.
 fn mail_command<'a>(alloc: Global) -> Result<Command<'a>, AllocError>
     ensures shape { IfOk result (λ c. app_of c ≡ mail_grammar) }
@@ -35,19 +45,28 @@ fn mail_command<'a>(alloc: Global) -> Result<Command<'a>, AllocError>
         .arg(Arg::new(alloc, "script"))
 }
 
-/// All commands. Words that ask for help or for the version are at fault like others.
-fn all_commands<'a>(alloc: Global) -> Result<Command<'a>, AllocError>
-    ensures { IfOk result (λ c. app_of c ≡ grammar) }
+/// No command yet. Words that ask for help or for the version are at fault like others.
+fn bare_command<'a>(alloc: Global) -> Command<'a>
+    ensures { app_of result ≡ bare_grammar }
 {
-    let check = check_command(alloc)?;
-    let mail = mail_command(alloc)?;
     Command::new(alloc, "auction")
         .no_binary_name(true)
         .disable_help_flag(true)
         .disable_version_flag(true)
         .disable_help_subcommand(true)
         .subcommand_required(true)
+}
+
+/// All commands.
+fn all_commands<'a>(alloc: Global) -> Result<Command<'a>, AllocError>
+    ensures { IfOk result (λ c. app_of c ≡ grammar) }
+{
+    let check = check_command(alloc)?;
+    let hall = hall_command(alloc)?;
+    let mail = mail_command(alloc)?;
+    bare_command(alloc)
         .subcommand(check)?
+        .subcommand(hall)?
         .subcommand(mail)
 }
 
@@ -72,13 +91,13 @@ fn check_of(alloc: Global, matches: &ArgMatches<'_>) -> Result<Words, WordsError
     })
 }
 
-/// A mail by the script that is named.
-fn mail_of(alloc: Global, matches: &ArgMatches<'_>) -> Result<Words, WordsError>
-    ensures { HasScriptOf result (rows_of (found_of matches.now)) }
+/// A job with one input, the one that this argument names.
+fn job_of(alloc: Global, matches: &ArgMatches<'_>, job: Job, id: &str) -> Result<Words, WordsError>
+    ensures { HasNameOf job id.now result (rows_of (found_of matches.now)) }
 {
     Ok(Words {
-        job: Job::Mail,
-        first: name_of(alloc, matches, "script")?,
+        job,
+        first: name_of(alloc, matches, id)?,
         second: None,
     })
 }
@@ -91,8 +110,10 @@ fn mail_of(alloc: Global, matches: &ArgMatches<'_>) -> Result<Words, WordsError>
 pub fn read_words(alloc: Global, words: &[String]) -> Result<Words, WordsError>
     // A check that is asked for is read as that check, unless memory runs out.
     ensures check { (file : List ℕ) (cert : Option (List ℕ)) → AreCheck (map string_bytes words.now) file cert → AsksToCheck result file cert }
+    // A hall that is asked for is read as that hall, unless memory runs out.
+    ensures hall { (file : Option (List ℕ)) → AreJob (codes "hall") (map string_bytes words.now) file → AsksFor Job.Hall result file }
     // A mail that is asked for is read as that mail, unless memory runs out.
-    ensures mail { (script : Option (List ℕ)) → AreMail (map string_bytes words.now) script → AsksForMail result script }
+    ensures mail { (script : Option (List ℕ)) → AreJob (codes "mail") (map string_bytes words.now) script → AsksFor Job.Mail result script }
 {
     let matches = match all_commands(alloc)?.try_get_matches_from(words) {
         Ok(matches) => matches,
@@ -103,7 +124,8 @@ pub fn read_words(alloc: Global, words: &[String]) -> Result<Words, WordsError>
     };
     match matches.subcommand() {
         Some(("check", matches)) => check_of(alloc, matches),
-        Some(("mail", matches)) => mail_of(alloc, matches),
+        Some(("hall", matches)) => job_of(alloc, matches, Job::Hall, "file"),
+        Some(("mail", matches)) => job_of(alloc, matches, Job::Mail, "script"),
         _ => Err(WordsError::Usage),
     }
 }

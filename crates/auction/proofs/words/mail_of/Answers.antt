@@ -1,8 +1,0 @@
-use Rattle.std.proofs.Common.{codes, refl, ◌∙◌}
-use Rattle.clap.specs.Words.{found_of}
-use Rattle.clap.proofs.WalkLemmas.{first_value-rows}
-use Rattle.auction.proofs.words.mail_of.Goals as goal
-
-pub returns : goal.returns
-returns c =
-    (refl, c.in_ok-name_of.ensures ∙ first_value-rows (found_of c.args.matches.now) (codes "script"), refl)

@@ -63,7 +63,10 @@ fn certificates(rt: HostRuntime) -> Result<(), Fail> {
         cost,
         choice,
         prices,
-    } = read.parts();
+    } = read.parts()
+    else {
+        return Err(Fail::new("it is an optimal one"));
+    };
     assert_eq!(rt; *cost, 3);
     assert_eq!(rt; choice.as_slice().len(), 2);
     assert_eq!(rt; prices.as_slice(), [7, 5].as_slice());
@@ -79,9 +82,10 @@ fn parts_without_a_text(rt: HostRuntime) -> Result<(), Fail> {
         choice: Picks::new(Vec::new(alloc)),
         prices: Prices::new(vec![in alloc; 4]?),
     };
-    let CertParts::Optimal { choice, prices, .. } = Cert::make(parts)
-        .err()
-        .ok_or("nobody is in it")?;
+    let handed_back = Cert::make(parts).err().ok_or("nobody is in it")?;
+    let CertParts::Optimal { choice, prices, .. } = handed_back else {
+        return Err(Fail::new("it is an optimal one"));
+    };
     assert_eq!(rt; choice.into_vec().len(), 0);
     assert_eq!(rt; prices.into_vec().as_slice(), [4].as_slice());
     Ok(())

@@ -20,7 +20,7 @@ pub const TWO_BEST: &str =
 const THREE: &str = "3\n1 1 4 1 2 1 1 3 3\n2 1 2 2 2 0 2 3 5\n3 1 3 3 2 2 3 3 2\n";
 
 /// What a check of these texts writes, and its status.
-fn checked(rt: &HostRuntime, file: &str, cert: &str) -> (Vec<u8>, u8) {
+pub fn checked(rt: &HostRuntime, file: &str, cert: &str) -> (Vec<u8>, u8) {
     let alloc = rt.alloc();
     let mut out = Vec::new(alloc);
     let status = run_command(

@@ -10,4 +10,6 @@ mod failures;
 #[cfg(test)]
 mod fakes;
 #[cfg(test)]
+mod halls;
+#[cfg(test)]
 mod mails;

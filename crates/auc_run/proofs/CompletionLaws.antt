@@ -28,7 +28,7 @@ use Rattle.auc_run.specs.declared.input.ReadFault.{ReadFault}
 use Rattle.auc_run.specs.declared.found.Found.{Found}
 use Rattle.auc_run.specs.declared.refusal.Refusal.{Refusal}
 use Rattle.auc_run.specs.declared.refusal.Refusal.TheVariants.{NotRead}
-use Rattle.auc_run.specs.Completions.{Blames, IsFoundIn, AnswersHall, completion_text, pick_at}
+use Rattle.auc_run.specs.Completions.{IsHallCertificate, IsFoundIn, AnswersHall, completion_text, pick_at}
 use Rattle.auc_run.specs.Said.{Said}
 use Rattle.auc_run.proofs.VerdictLaws.{known, are_known}
 
@@ -102,9 +102,9 @@ known_within p persons objects is set j c =
 pub are_named : (p : Problem) (persons objects : List ℕ) → IsProblem p → IsHallSetOf p persons objects → AreNamed persons objects
 are_named p persons objects is set = hall_set_named p persons objects is set.0 (known_within p persons objects is set)
 
-pub blames : (p : Problem) (persons objects : List ℕ) (cert : CertParts) → IsProblem p → IsHallSetOf p persons objects → cert ≡ Infeasible persons objects → Blames p cert
-blames p persons objects cert is set same =
-    let here : Blames p (Infeasible persons objects) = record {
+pub is_hall_certificate : (p : Problem) (persons objects : List ℕ) (cert : CertParts) → IsProblem p → IsHallSetOf p persons objects → cert ≡ Infeasible persons objects → IsHallCertificate p cert
+is_hall_certificate p persons objects cert is set same =
+    let here : IsHallCertificate p (Infeasible persons objects) = record {
       persons = persons;
       objects = objects;
       is = refl;
@@ -112,7 +112,7 @@ blames p persons objects cert is set same =
       set = set;
       faultless = hall_sets_faultless p persons objects set.0 (known_within p persons objects is set);
     } in
-    subst (Blames p) (sym same) here
+    subst (IsHallCertificate p) (sym same) here
 
 -- ---- at the exits of the job
 

@@ -24,7 +24,7 @@ use Rattle.auc_run.specs.Statuses.{refusal_status}
 use Rattle.auc_run.specs.Verdicts.{IsProblemOf, AreKnown}
 
 -- A certificate that names persons who together know too few objects, and of the objects just those that they know. The checker finds no fault in it.
-pub record Blames (p : Problem) (cert : CertParts) : Type 0 where
+pub record IsHallCertificate (p : Problem) (cert : CertParts) : Type 0 where
   pub persons : List ℕ
   pub objects : List ℕ
   pub is : cert ≡ Infeasible persons objects
@@ -42,7 +42,7 @@ pick_at arcs n = pick_by (slice_index_or arcs n (record { person = 0; object = 0
 
 abbrev pub IsFound : Problem → Found → Type 0
 IsFound p (Full choice) = IsAssignment p (chosen 0 choice)
-IsFound p (Hall cert) = Blames p cert
+IsFound p (Hall cert) = IsHallCertificate p cert
 
 -- The bytes of a problem bear out what was found, or the refusal. Of a read that failed, of too many reads and of want of memory nothing is known.
 abbrev pub BearOutFound : List ℕ → Result Found Refusal → Type 0

@@ -33,7 +33,7 @@ fn picks_of(alloc: Global, arcs: &[Arc], numbers: &[u32]) -> Result<Vec<Pick>, A
 }
 
 /// The certificate that names these persons and objects.
-fn blame_of(persons: Indices, objects: Indices) -> Cert
+fn certificate_of(persons: Indices, objects: Indices) -> Cert
     requires { AreNamed persons objects }
     ensures { result ≡ CertParts.Infeasible persons objects }
 {
@@ -56,7 +56,7 @@ fn found_in(alloc: Global, problem: &ArcList) -> Result<Found, AllocError>
             let picks = picks_of(alloc, arcs, numbers.as_slice())?;
             Ok(Found::Full(Picks::new(picks)))
         }
-        Matching::Hall { persons, objects } => Ok(Found::Hall(blame_of(persons, objects))),
+        Matching::Hall { persons, objects } => Ok(Found::Hall(certificate_of(persons, objects))),
     }
 }
 

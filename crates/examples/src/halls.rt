@@ -13,13 +13,13 @@ use std::test::*;
 /// Two persons who both know the first object alone.
 const ONE_OBJECT: &str = "2\n1 1 5\n2 1 7\n";
 
-/// The certificate that blames them.
-const ONE_OBJECT_BLAME: &str = "auction 1\ninfeasible 2 1\nperson 1\nperson 2\nobject 1\n";
+/// The certificate that names them.
+const ONE_OBJECT_CERT: &str = "auction 1\ninfeasible 2 1\nperson 1\nperson 2\nobject 1\n";
 
 /// The second person has no arc.
 const NO_OBJECT: &str = "2\n1 1 1\n";
 
-const NO_OBJECT_BLAME: &str = "auction 1\ninfeasible 1 0\nperson 2\n";
+const NO_OBJECT_CERT: &str = "auction 1\ninfeasible 1 0\nperson 2\n";
 
 /// What a hall of this problem writes, and its status.
 fn completed(rt: &HostRuntime, file: &str) -> (Vec<u8>, u8) {
@@ -67,8 +67,8 @@ fn completions(rt: HostRuntime) {
             "full 2\nassign 1 2 6\nassign 2 1 7\n",
             0,
         ),
-        (ONE_OBJECT, ONE_OBJECT_BLAME, 3),
-        (NO_OBJECT, NO_OBJECT_BLAME, 3),
+        (ONE_OBJECT, ONE_OBJECT_CERT, 3),
+        (NO_OBJECT, NO_OBJECT_CERT, 3),
         ("", "refused empty\n", 5),
         ("3 1 1", "refused cut 3\n", 5),
         ("2 1 3 4", "refused object 1\n", 5),
@@ -81,14 +81,14 @@ fn completions(rt: HostRuntime) {
 
 /// What a hall writes of these passes the check.
 #[test]
-fn blame_passes(rt: HostRuntime) {
+fn certificates_of_halls(rt: HostRuntime) {
     for (file, line) in [
         (ONE_OBJECT, "valid infeasible 2 1\n"),
         (NO_OBJECT, "valid infeasible 1 0\n"),
         ("3\n1 3 5\n2 1 6\n3 1 7\n3 1 8\n", "valid infeasible 2 1\n"),
     ] {
-        let (blame, _) = completed(&rt, file);
-        let text = str::from_utf8(blame.as_slice()).unwrap_or("");
+        let (cert, _) = completed(&rt, file);
+        let text = str::from_utf8(cert.as_slice()).unwrap_or("");
         let (out, status) = checked(&rt, file, text);
         assert_eq!(rt; out.as_slice(), line.as_bytes(), "{file}");
         assert_eq!(rt; status, 0, "{file}");
@@ -97,10 +97,10 @@ fn blame_passes(rt: HostRuntime) {
 
 /// Persons who know enough, and texts that are no certificate.
 #[test]
-fn wrong_blame(rt: HostRuntime) {
+fn claims_at_fault(rt: HostRuntime) {
     for (file, cert, line, status) in [
-        (ONE_OBJECT, NO_OBJECT_BLAME, "invalid hall\n", 3),
-        (TWO, ONE_OBJECT_BLAME, "invalid hall\n", 3),
+        (ONE_OBJECT, NO_OBJECT_CERT, "invalid hall\n", 3),
+        (TWO, ONE_OBJECT_CERT, "invalid hall\n", 3),
         (
             ONE_OBJECT,
             "auction 1\ninfeasible 2 2\nperson 1\nperson 2\nobject 1\nobject 2\n",
@@ -151,7 +151,7 @@ fn inputs_and_outputs(rt: HostRuntime) {
         run_command(alloc, &Job::Hall, &mut slow, &mut none, &mut out),
         3
     );
-    assert_eq!(rt; out.as_slice(), ONE_OBJECT_BLAME.as_bytes());
+    assert_eq!(rt; out.as_slice(), ONE_OBJECT_CERT.as_bytes());
     let mut out = Vec::new(alloc);
     let mut broken = Broken {
         rest: ONE_OBJECT.as_bytes(),
@@ -188,11 +188,11 @@ fn certificates(rt: HostRuntime) -> Result<(), Fail> {
     let made = Cert::make(parts).ok().ok_or("it has a text")?;
     let mut text = Vec::new(alloc);
     write_cert(&mut text, &made).ok().ok_or("a Vec takes it")?;
-    assert_eq!(rt; text.as_slice(), ONE_OBJECT_BLAME.as_bytes());
+    assert_eq!(rt; text.as_slice(), ONE_OBJECT_CERT.as_bytes());
     let read = read_cert(alloc, text.as_slice())?;
     let problem = read_arcs(alloc, ONE_OBJECT.as_bytes(), ReadLimits::usual())?;
     assert_eq!(rt; check(alloc, &problem, &read), Ok(()));
-    let other = read_cert(alloc, NO_OBJECT_BLAME.as_bytes())?;
+    let other = read_cert(alloc, NO_OBJECT_CERT.as_bytes())?;
     assert_eq!(rt; check(alloc, &problem, &other), Err(CertRefused::NotHall));
     assert_eq!(rt;
         read_cert(alloc, b"auction 1\ninfeasible 0 0\n").err(),

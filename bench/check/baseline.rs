@@ -3,167 +3,21 @@
 //! It reads each file whole, looks for the same faults in the same order, and gives the same texts and statuses, but for
 //! want of memory, which ends it, and too many reads, which it does not count. Built by `rustc --edition 2021 -O`.
 
+#[path = "../arc_file.rs"]
+mod arc_file;
+
+use arc_file::{read_problem, refused, Problem, Refusal, MOST_COST, MOST_PERSONS};
 use std::fs::File;
 use std::io::{self, Read, Write};
 use std::process::ExitCode;
 
-const MOST_PERSONS: i64 = 10_000;
-const MOST_ARCS: usize = 33_554_432;
-const MOST_COST: i64 = 1_000_000_000;
 const MOST_PRICE: i64 = 1 << 61;
 
-/// What a number beyond every limit counts as. Ten times as much is an i64 too.
-const HUGE: i64 = 100_000_000_000_000_000;
-
 const USAGE: &str = "usage: auction check FILE [CERT]";
-
-/// An answer that isn't `valid`: its line and its status.
-struct Refusal {
-    line: String,
-    status: u8,
-}
-
-#[cold]
-fn refused(what: impl std::fmt::Display) -> Refusal {
-    Refusal { line: format!("refused {what}"), status: 5 }
-}
 
 #[cold]
 fn invalid(what: impl std::fmt::Display) -> Refusal {
     Refusal { line: format!("invalid {what}"), status: 3 }
-}
-
-/// Sixteen bytes: the cost first, so that nothing is padded.
-#[derive(Clone, Copy)]
-struct Arc {
-    cost: i64,
-    object: u32,
-    person: u32,
-}
-
-struct Problem {
-    persons: usize,
-    arcs: Vec<Arc>,
-}
-
-// ---- the arc file ----
-
-fn is_separator(byte: u8) -> bool {
-    matches!(byte, 9..=13 | 26 | 32)
-}
-
-/// The tokens of a text, read from front to end.
-struct Tokens<'a> {
-    text: &'a [u8],
-    at: usize,
-    /// How many tokens were read.
-    count: usize,
-}
-
-impl Tokens<'_> {
-    /// Whether another token stands here; what parts tokens is passed over.
-    #[inline]
-    fn has_next(&mut self) -> bool {
-        while let Some(byte) = self.text.get(self.at) {
-            if !is_separator(*byte) {
-                return true;
-            }
-            self.at += 1;
-        }
-        false
-    }
-
-    /// The number at this place, up to `HUGE`. The caller has asked for a token.
-    #[inline(always)]
-    fn number(&mut self) -> Result<i64, Refusal> {
-        let rest = &self.text[self.at..];
-        let mut value = 0u64;
-        let mut digits = 0;
-        while let Some(byte @ b'0'..=b'9') = rest.get(digits) {
-            value = value.wrapping_mul(10).wrapping_add(u64::from(byte - b'0'));
-            digits += 1;
-        }
-        // Nearly all tokens are a few digits and nothing else.
-        if (1..=18).contains(&digits) && rest.get(digits).is_none_or(|byte| is_separator(*byte)) {
-            self.at += digits;
-            self.count += 1;
-            return Ok(value as i64);
-        }
-        self.unusual_number()
-    }
-
-    /// A number with a sign, a point or many digits, or a token that is no number.
-    #[inline(never)]
-    fn unusual_number(&mut self) -> Result<i64, Refusal> {
-        let rest = &self.text[self.at..];
-        let token = &rest[..rest.iter().position(|byte| is_separator(*byte)).unwrap_or(rest.len())];
-        self.at += token.len();
-        self.count += 1;
-        value_of(token).ok_or_else(|| refused(format_args!("number {}", self.count)))
-    }
-}
-
-/// The value of a token, up to `HUGE`: a sign, digits, and a point with zeros behind.
-fn value_of(token: &[u8]) -> Option<i64> {
-    let (negative, unsigned) = match token {
-        [b'-', rest @ ..] => (true, rest),
-        [b'+', rest @ ..] => (false, rest),
-        _ => (false, token),
-    };
-    let digits = unsigned.iter().take_while(|byte| byte.is_ascii_digit()).count();
-    let is_whole = match &unsigned[digits..] {
-        [] => true,
-        [b'.', zeros @ ..] => zeros.iter().all(|byte| *byte == b'0'),
-        _ => false,
-    };
-    if digits == 0 || !is_whole {
-        return None;
-    }
-    let value = unsigned[..digits].iter().fold(0, |value: i64, digit| (value * 10 + i64::from(digit - b'0')).min(HUGE));
-    Some(if negative { -value } else { value })
-}
-
-fn read_problem(text: &[u8]) -> Result<Problem, Refusal> {
-    let mut tokens = Tokens { text, at: 0, count: 0 };
-    if !tokens.has_next() {
-        return Err(refused("empty"));
-    }
-    let persons = tokens.number()?;
-    if !(1..=MOST_PERSONS).contains(&persons) {
-        return Err(refused("count"));
-    }
-    let mut arcs = Vec::new();
-    while tokens.has_next() {
-        if arcs.len() == MOST_ARCS {
-            return Err(refused("arcs"));
-        }
-        arcs.push(read_arc(&mut tokens, persons, arcs.len() + 1)?);
-    }
-    Ok(Problem { persons: persons as usize, arcs })
-}
-
-/// The arc of this place among all arcs, from 1.
-#[inline(always)]
-fn read_arc(tokens: &mut Tokens, persons: i64, place: usize) -> Result<Arc, Refusal> {
-    let person = tokens.number()?;
-    if !(1..=persons).contains(&person) {
-        return Err(refused(format_args!("person {place}")));
-    }
-    if !tokens.has_next() {
-        return Err(refused(format_args!("cut {}", tokens.count)));
-    }
-    let object = tokens.number()?;
-    if !(1..=persons).contains(&object) {
-        return Err(refused(format_args!("object {place}")));
-    }
-    if !tokens.has_next() {
-        return Err(refused(format_args!("cut {}", tokens.count)));
-    }
-    let cost = tokens.number()?;
-    if !(-MOST_COST..=MOST_COST).contains(&cost) {
-        return Err(refused(format_args!("cost {place}")));
-    }
-    Ok(Arc { cost, object: object as u32 - 1, person: person as u32 - 1 })
 }
 
 // ---- the certificate ----
@@ -174,10 +28,21 @@ struct Pick {
     object: u32,
 }
 
-struct Certificate {
+struct Optimal {
     cost: i64,
     choice: Vec<Pick>,
     prices: Vec<i64>,
+}
+
+/// Both rise.
+struct Infeasible {
+    persons: Vec<u32>,
+    objects: Vec<u32>,
+}
+
+enum Certificate {
+    Optimal(Optimal),
+    Infeasible(Infeasible),
 }
 
 /// The words of the next line: what stands before its line end, parted by single spaces.
@@ -226,6 +91,19 @@ fn plain_number(bytes: &[u8]) -> Option<(i64, usize)> {
 fn read_certificate(text: &[u8]) -> Result<Certificate, Refusal> {
     let mut lines = Lines { rest: text, count: 0 };
     lines.numbers(b"auction ", [(1, 1)])?;
+    let certificate = if lines.rest.starts_with(b"infeasible ") {
+        Certificate::Infeasible(read_infeasible(&mut lines)?)
+    } else {
+        Certificate::Optimal(read_optimal(&mut lines)?)
+    };
+    if !lines.rest.is_empty() {
+        lines.count += 1;
+        return Err(lines.fault());
+    }
+    Ok(certificate)
+}
+
+fn read_optimal(lines: &mut Lines) -> Result<Optimal, Refusal> {
     let [persons, cost] = lines.numbers(b"optimal ", [(1, MOST_PERSONS), (i64::MIN, i64::MAX)])?;
     let mut choice = Vec::with_capacity(persons as usize);
     for person in 1..=persons {
@@ -238,42 +116,86 @@ fn read_certificate(text: &[u8]) -> Result<Certificate, Refusal> {
         let [_, price] = lines.numbers(b"price ", [(object, object), (0, MOST_PRICE)])?;
         prices.push(price);
     }
-    if !lines.rest.is_empty() {
-        lines.count += 1;
-        return Err(lines.fault());
+    Ok(Optimal { cost, choice, prices })
+}
+
+fn read_infeasible(lines: &mut Lines) -> Result<Infeasible, Refusal> {
+    let [persons, objects] = lines.numbers(b"infeasible ", [(1, MOST_PERSONS), (0, MOST_PERSONS)])?;
+    Ok(Infeasible { persons: read_rising(lines, b"person ", persons)?, objects: read_rising(lines, b"object ", objects)? })
+}
+
+/// So many numbers, a line each. Each one is above the one before it, and leaves room for those behind it.
+fn read_rising(lines: &mut Lines, front: &[u8], count: i64) -> Result<Vec<u32>, Refusal> {
+    let mut numbers = Vec::with_capacity(count as usize);
+    let mut least = 1;
+    for behind in (0..count).rev() {
+        let [number] = lines.numbers(front, [(least, MOST_PERSONS - behind)])?;
+        numbers.push(number as u32 - 1);
+        least = number + 1;
     }
-    Ok(Certificate { cost, choice, prices })
+    Ok(numbers)
 }
 
 // ---- the claim ----
 
-/// The cost of the claim, where all that it says holds.
-fn check(problem: &Problem, certificate: &Certificate) -> Result<i64, Refusal> {
-    if certificate.choice.len() != problem.persons {
+/// What the claim says, where all of it holds.
+fn check(problem: &Problem, certificate: &Certificate) -> Result<String, Refusal> {
+    match certificate {
+        Certificate::Optimal(claim) => check_optimal(problem, claim),
+        Certificate::Infeasible(claim) => check_infeasible(problem, claim),
+    }
+}
+
+fn check_optimal(problem: &Problem, claim: &Optimal) -> Result<String, Refusal> {
+    if claim.choice.len() != problem.persons {
         return Err(invalid("size"));
     }
-    let picks_found = find_picks(problem, certificate);
+    let picks_found = find_picks(problem, claim);
     if let Some(person) = picks_found.iter().position(|found| !found) {
         return Err(invalid(format_args!("arc {}", person + 1)));
     }
-    if let Some(object) = repeated_object(certificate) {
+    if let Some(object) = repeated_object(claim) {
         return Err(invalid(format_args!("twice {}", object + 1)));
     }
-    let cost: i128 = certificate.choice.iter().map(|pick| i128::from(pick.cost)).sum();
-    if cost != i128::from(certificate.cost) {
+    let cost: i128 = claim.choice.iter().map(|pick| i128::from(pick.cost)).sum();
+    if cost != i128::from(claim.cost) {
         return Err(invalid("cost"));
     }
-    if let Some(person) = find_bettered(problem, certificate).iter().position(|bettered| *bettered) {
+    if let Some(person) = find_bettered(problem, claim).iter().position(|bettered| *bettered) {
         return Err(invalid(format_args!("slack {}", person + 1)));
     }
-    Ok(certificate.cost)
+    Ok(format!("optimal {}", claim.cost))
+}
+
+fn check_infeasible(problem: &Problem, claim: &Infeasible) -> Result<String, Refusal> {
+    let (persons, objects) = (claim.persons.len(), claim.objects.len());
+    match (flags_of(&claim.persons, problem.persons), flags_of(&claim.objects, problem.persons)) {
+        (Some(blamed), Some(known)) if objects < persons && know_only(problem, &blamed, &known) => {
+            Ok(format!("infeasible {persons} {objects}"))
+        }
+        _ => Err(invalid("hall")),
+    }
+}
+
+/// Of each number below this one, whether it is listed; `None` where another one is.
+fn flags_of(numbers: &[u32], count: usize) -> Option<Vec<bool>> {
+    let mut flags = vec![false; count];
+    for number in numbers {
+        *flags.get_mut(*number as usize)? = true;
+    }
+    Some(flags)
+}
+
+/// Whether these persons' arcs lead to these objects alone.
+fn know_only(problem: &Problem, persons: &[bool], objects: &[bool]) -> bool {
+    problem.arcs.iter().all(|arc| !persons[arc.person as usize] || objects[arc.object as usize])
 }
 
 /// Of each person, whether the pick is one of the person's arcs.
-fn find_picks(problem: &Problem, certificate: &Certificate) -> Vec<bool> {
+fn find_picks(problem: &Problem, claim: &Optimal) -> Vec<bool> {
     let mut found = vec![false; problem.persons];
     for arc in &problem.arcs {
-        let pick = certificate.choice[arc.person as usize];
+        let pick = claim.choice[arc.person as usize];
         if pick.object == arc.object && pick.cost == arc.cost {
             found[arc.person as usize] = true;
         }
@@ -282,17 +204,17 @@ fn find_picks(problem: &Problem, certificate: &Certificate) -> Vec<bool> {
 }
 
 /// The object of the first person whose object an earlier one has.
-fn repeated_object(certificate: &Certificate) -> Option<u32> {
-    let mut taken = vec![false; certificate.choice.len()];
-    let objects = certificate.choice.iter().map(|pick| pick.object);
+fn repeated_object(claim: &Optimal) -> Option<u32> {
+    let mut taken = vec![false; claim.choice.len()];
+    let objects = claim.choice.iter().map(|pick| pick.object);
     objects.into_iter().find(|object| std::mem::replace(&mut taken[*object as usize], true))
 }
 
 /// Of each person, whether an arc is better than the pick by more than one unit of the scaled cost.
-fn find_bettered(problem: &Problem, certificate: &Certificate) -> Vec<bool> {
+fn find_bettered(problem: &Problem, claim: &Optimal) -> Vec<bool> {
     let scale = problem.persons as i64 + 1;
-    let value = |cost: i64, object: u32| scale * cost + certificate.prices[object as usize];
-    let picked: Vec<i64> = certificate.choice.iter().map(|pick| value(pick.cost, pick.object)).collect();
+    let value = |cost: i64, object: u32| scale * cost + claim.prices[object as usize];
+    let picked: Vec<i64> = claim.choice.iter().map(|pick| value(pick.cost, pick.object)).collect();
     let mut bettered = vec![false; problem.persons];
     for arc in &problem.arcs {
         if picked[arc.person as usize] > value(arc.cost, arc.object) + 1 {
@@ -337,7 +259,7 @@ fn read_whole(reader: &mut dyn Read) -> Result<Vec<u8>, Refusal> {
     Ok(bytes)
 }
 
-fn check_files(first: &mut File, second: &mut dyn Read) -> Result<i64, Refusal> {
+fn check_files(first: &mut File, second: &mut dyn Read) -> Result<String, Refusal> {
     // A block, so that the text is given back before the certificate is read.
     let problem = {
         let mut text = Vec::with_capacity(first.metadata().map_or(0, |data| data.len() as usize + 1));
@@ -363,7 +285,7 @@ fn main() -> ExitCode {
         Some(None) => return ExitCode::from(5),
     };
     let (line, status) = match check_files(&mut file, &mut certificate) {
-        Ok(cost) => (format!("valid optimal {cost}"), 0),
+        Ok(claim) => (format!("valid {claim}"), 0),
         Err(refusal) => (refusal.line, refusal.status),
     };
     match io::stdout().write_all(format!("{line}\n").as_bytes()).and_then(|()| io::stdout().flush()) {

@@ -1,0 +1,27 @@
+-- A turn of the world, and a schedule of turns.
+use Rattle.std.specs.Prelude.{◌≡◌, List, [], ◌∷◌}
+use Rattle.auc_model.specs.declared.turn.Turn.{Turn}
+use Rattle.auc_model.specs.declared.turn.TurnReply.{TurnReply}
+use Rattle.auc_model.specs.World.{Phase, World}
+use Rattle.auc_model.specs.Mails.{Shard}
+use Rattle.auc_model.specs.Bidding.{BidTurn}
+use Rattle.auc_model.specs.Posting.{PostTurn}
+use Rattle.auc_model.specs.Hearing.{PersonTakeTurn}
+use Rattle.auc_model.specs.Selling.{ObjectTakeTurn, TellTurn}
+use Rattle.auc_model.specs.Hub.{HubTakeTurn, HubCloseTurn}
+
+-- From w, the turn may be answered by r and lead to v. Only the sender of a letter that is taken is left free.
+abbrev pub Turned : Phase → World → Turn → TurnReply → World → Type 0
+Turned g w (Turn.Bid s) r v = BidTurn g w s r v
+Turned g w (Turn.PersonPost s) r v = PostTurn g w (Shard.PersonShard s) r v
+Turned g w (Turn.ObjectPost q) r v = PostTurn g w (Shard.ObjectShard q) r v
+Turned g w (Turn.PersonTake s) r v = PersonTakeTurn g w s r v
+Turned g w (Turn.ObjectTake q) r v = ObjectTakeTurn g w q r v
+Turned g w (Turn.Tell q j s) r v = TellTurn g w q j s r v
+Turned g w Turn.HubTake r v = HubTakeTurn g w r v
+Turned g w (Turn.HubClose name at) r v = HubCloseTurn w name at r v
+
+-- the turns, one after another and however answered, lead from w to v
+abbrev pub Schedule : Phase → World → List Turn → World → Type 0
+Schedule g w [] v = v ≡ w
+Schedule g w (t ∷ ts) v = (m : World) × (r : TurnReply) × Turned g w t r m × Schedule g m ts v

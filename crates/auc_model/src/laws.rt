@@ -1,0 +1,45 @@
+//! What holds over every schedule, from every world that a phase begins with. The functions do nothing: their contracts are
+//! theorems, and crates above cite them.
+
+ghost use Rattle.std.specs.Prelude.{ℕ, ◌<◌, ◌≤◌, ◌≤ℤ◌, ◌≡◌, ◌≢◌, List, Some, Contains};
+ghost use Rattle.auc_graph.specs.declared.rows.RowArc.{RowArc};
+ghost use Rattle.auc_letters.specs.declared.letter.Why.{Why};
+ghost use Rattle.auc_letters.specs.declared.state.Held.{Held};
+ghost use Rattle.auc_model.specs.declared.turn.End.{End};
+ghost use Rattle.auc_model.specs.declared.turn.Turn.{Turn};
+ghost use Rattle.auc_model.specs.World.{Phase, World};
+ghost use Rattle.auc_model.specs.Schedule.{Schedule};
+ghost use Rattle.auc_model.specs.Start.{Lawful, Starts, UsualNodes};
+ghost use Rattle.auc_model.specs.Slack.{SlackRight};
+ghost use Rattle.auc_model.specs.Counts.{held_objects};
+
+/// No copy of a price falls over a schedule, whatever the world it begins with.
+pub fn copies_never_fall()
+    ensures { (g : Phase) (w v : World) (ts : List Turn) → Schedule g w ts v → (s j : ℕ) → w.copy s j ≤ℤ v.copy s j }
+{}
+
+/// Over every schedule no guard is hit: no letter tells a price below a copy, none comes that doesn't fit, and, where the
+/// mails have the usual room, none but a Price meets a full mail.
+pub fn no_guard()
+    ensures fell { (g : Phase) (w v : World) (ts : List Turn) → Lawful g → Starts g w → Schedule g w ts v → v.end ≢ Some (End.Stopped Why.Fell) }
+    ensures stray { (g : Phase) (w v : World) (ts : List Turn) → Lawful g → Starts g w → Schedule g w ts v → v.end ≢ Some (End.Stopped Why.Stray) }
+    ensures trail { (g : Phase) (w v : World) (ts : List Turn) → Lawful g → Starts g w → Schedule g w ts v → v.end ≢ Some (End.Stopped Why.Trail) }
+    ensures mail { (g : Phase) (w v : World) (ts : List Turn) → Lawful g → Starts g w → UsualNodes g w → Schedule g w ts v → v.end ≢ Some (End.Stopped Why.Mail) }
+{}
+
+/// Over every schedule: no copy is above the true price, no person holds two objects, and each holder's arc is one of his to
+/// that object, slack-right at eps at the true prices. The hub counts no more than there are persons, and no more objects are
+/// held; where it has counted as many, each person holds an object.
+pub fn every_schedule()
+    ensures copies_low { (g : Phase) (w v : World) (ts : List Turn) → Lawful g → Starts g w → Schedule g w ts v → (s j : ℕ) → v.copy s j ≤ℤ v.price j }
+    ensures held_once { (g : Phase) (w v : World) (ts : List Turn) → Lawful g → Starts g w → Schedule g w ts v → (j k : ℕ) (a b : Held) → v.holder j ≡ Some a → v.holder k ≡ Some b → a.person ≡ b.person → j ≡ k }
+    ensures slack { (g : Phase) (w v : World) (ts : List Turn) → Lawful g → Starts g w → Schedule g w ts v → (j : ℕ) (h : Held) → v.holder j ≡ Some h → (a : RowArc) × Contains (g.row h.person) a × (a.object ≡ j) × (a.arc ≡ h.arc) × SlackRight g v.price h.person a }
+    ensures counted { (g : Phase) (w v : World) (ts : List Turn) → Lawful g → Starts g w → Schedule g w ts v → v.count ≤ g.persons }
+    ensures held { (g : Phase) (w v : World) (ts : List Turn) → Lawful g → Starts g w → Schedule g w ts v → held_objects g v ≤ g.persons }
+    ensures everyone { (g : Phase) (w v : World) (ts : List Turn) → Lawful g → Starts g w → Schedule g w ts v → v.count ≡ g.persons → (i : ℕ) → i < g.persons → (j : ℕ) × (h : Held) × (v.holder j ≡ Some h) × (h.person ≡ i) }
+{}
+
+/// The premises of the other laws can be met, by a world of one person.
+pub fn premises_can_be_met()
+    ensures { (g : Phase) × (w : World) × Lawful g × Starts g w × UsualNodes g w }
+{}

@@ -43,10 +43,10 @@ in_range zero zero d l = omega arith
 in_range zero (suc k) d l = absurd (omega arith)
 in_range (suc i) k d l = absurd (let e : length (small.row (suc i)) ≡ 0 = grind (arith, nat_tests) in omega (arith, e))
 
-lawful : Lawful small
+pub lawful : Lawful small
 lawful = record { some_shards = omega arith; eps_above = omega (arith, ints); spread_above = omega (arith, ints); arcs_in_range = in_range }
 
-starts : Starts small beginning
+pub starts : Starts small beginning
 starts = record {
   price_range = (λ j. record { low = omega (arith, ints); high = omega (arith, ints) });
   copies_above = (λ s j. omega (arith, ints));
@@ -63,5 +63,5 @@ starts = record {
   no_end = refl;
 }
 
-pub can_be_met : (g : Phase) × (w : World) × Lawful g × Starts g w × UsualNodes g w
-can_be_met = (small, beginning, lawful, starts, record { objects = refl; persons = refl; hub = refl })
+pub usual : UsualNodes small beginning
+usual = record { objects = refl; persons = refl; hub = refl }

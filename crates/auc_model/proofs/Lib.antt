@@ -26,3 +26,6 @@ pub mod RoomTurns
 pub mod Starting
 pub mod Theorems
 pub mod Example
+pub mod Ends
+pub mod Tables
+pub mod WorkedRun

@@ -80,21 +80,21 @@ same_with_outbox : (w : World) (h : Shard) (os : List Out) → SameTables w (wit
 same_with_outbox w (PersonShard s) os = record { price = refl; copy = refl; state = refl; holder = refl; idle = refl }
 same_with_outbox w (ObjectShard s) os = record { price = refl; copy = refl; state = refl; holder = refl; idle = refl }
 
-end_with_mail : (w : World) (t : To) (m : Mail Letter) → (with_mail w t m).end ≡ w.end
+pub end_with_mail : (w : World) (t : To) (m : Mail Letter) → (with_mail w t m).end ≡ w.end
 end_with_mail w (To.Person s) m = refl
 end_with_mail w (To.Object s) m = refl
 end_with_mail w To.Hub m = refl
 
-end_with_outbox : (w : World) (h : Shard) (os : List Out) → (with_outbox w h os).end ≡ w.end
+pub end_with_outbox : (w : World) (h : Shard) (os : List Out) → (with_outbox w h os).end ≡ w.end
 end_with_outbox w (PersonShard s) os = refl
 end_with_outbox w (ObjectShard s) os = refl
 
-count_with_mail : (w : World) (t : To) (m : Mail Letter) → (with_mail w t m).count ≡ w.count
+pub count_with_mail : (w : World) (t : To) (m : Mail Letter) → (with_mail w t m).count ≡ w.count
 count_with_mail w (To.Person s) m = refl
 count_with_mail w (To.Object s) m = refl
 count_with_mail w To.Hub m = refl
 
-count_with_outbox : (w : World) (h : Shard) (os : List Out) → (with_outbox w h os).count ≡ w.count
+pub count_with_outbox : (w : World) (h : Shard) (os : List Out) → (with_outbox w h os).count ≡ w.count
 count_with_outbox w (PersonShard s) os = refl
 count_with_outbox w (ObjectShard s) os = refl
 

@@ -1,15 +1,18 @@
 //! What holds over every schedule, from every world that a phase begins with. The functions do nothing: their contracts are
 //! theorems, and crates above cite them.
 
-ghost use Rattle.std.specs.Prelude.{ℕ, ◌<◌, ◌≤◌, ◌≤ℤ◌, ◌≡◌, ◌≢◌, List, Some, Contains};
+ghost use Rattle.std.specs.Prelude.{ℕ, ℤ, ◌<◌, ◌≤◌, ◌≤ℤ◌, ◌≡◌, ◌≢◌, List, Some, Contains};
 ghost use Rattle.auc_graph.specs.declared.rows.RowArc.{RowArc};
+ghost use Rattle.auc_graph.specs.Table.{Table, IsTable};
+ghost use Rattle.auc_letters.specs.Price.{IsEps};
 ghost use Rattle.auc_letters.specs.declared.letter.Why.{Why};
 ghost use Rattle.auc_letters.specs.declared.state.Held.{Held};
+ghost use Rattle.auc_letters.specs.declared.state.PersonState.{PersonState};
 ghost use Rattle.auc_model.specs.declared.turn.End.{End};
 ghost use Rattle.auc_model.specs.declared.turn.Turn.{Turn};
-ghost use Rattle.auc_model.specs.World.{Phase, World};
+ghost use Rattle.auc_model.specs.World.{Phase, World, phase_of};
 ghost use Rattle.auc_model.specs.Schedule.{Schedule};
-ghost use Rattle.auc_model.specs.Start.{Lawful, Starts, UsualNodes};
+ghost use Rattle.auc_model.specs.Start.{Lawful, Starts, UsualNodes, occurs, free_in, persons_of};
 ghost use Rattle.auc_model.specs.Slack.{SlackRight};
 ghost use Rattle.auc_model.specs.Counts.{held_objects};
 
@@ -39,7 +42,19 @@ pub fn every_schedule()
     ensures everyone { (g : Phase) (w v : World) (ts : List Turn) → Lawful g → Starts g w → Schedule g w ts v → v.count ≡ g.persons → (i : ℕ) → i < g.persons → (j : ℕ) × (h : Held) × (v.holder j ≡ Some h) × (h.person ≡ i) }
 {}
 
-/// The premises of the other laws can be met, by a world of one person.
+/// An end stays once it is set, and it is `All` only where the hub has counted every person.
+pub fn ends_stay()
+    ensures stays { (g : Phase) (w v : World) (ts : List Turn) (e : End) → Schedule g w ts v → w.end ≡ Some e → v.end ≡ Some e }
+    ensures all { (g : Phase) (w v : World) (ts : List Turn) → Starts g w → Schedule g w ts v → v.end ≡ Some End.All → v.count ≡ g.persons }
+{}
+
+/// The rows of a problem make a lawful phase, and the lists of all persons by shards are those that a phase begins with.
+pub fn problems_make_phases()
+    ensures lawful { (t : Table) (shards : ℕ) (eps : ℤ) → IsTable t → 0 < shards → IsEps eps → Lawful (phase_of t shards eps) }
+    ensures idle { (g : Phase) (s i : ℕ) → occurs i (persons_of s g.shards g.persons) ≡ free_in g PersonState.Free s i }
+{}
+
+/// The premises of the other laws can be met, by a world of one person; and from that world some schedule ends with `All`.
 pub fn premises_can_be_met()
-    ensures { (g : Phase) × (w : World) × Lawful g × Starts g w × UsualNodes g w }
+    ensures { (g : Phase) × (w : World) × Lawful g × Starts g w × UsualNodes g w × ((ts : List Turn) × (v : World) × Schedule g w ts v × (v.end ≡ Some End.All)) }
 {}

@@ -9,5 +9,8 @@
 mod laws;
 mod turn;
 
-pub use laws::{copies_never_fall, every_schedule, no_guard, premises_can_be_met};
+pub use laws::{
+    copies_never_fall, ends_stay, every_schedule, no_guard, premises_can_be_met,
+    problems_make_phases,
+};
 pub use turn::{End, MailName, Turn, TurnReply};

@@ -29,3 +29,4 @@ pub mod Example
 pub mod Ends
 pub mod Tables
 pub mod WorkedRun
+pub mod Small

@@ -17,6 +17,7 @@ use Rattle.auc_mail.specs.declared.call.Reply.{Reply}
 use Rattle.auc_mail.specs.declared.call.Taken.{Taken}
 use Rattle.auc_model.specs.Bidding.{BidTurn, after_bid, after_stop, bid_letter}
 use Rattle.auc_model.specs.Counts.{Counts}
+use Rattle.auc_model.specs.Fair.{FairLetter}
 use Rattle.auc_model.specs.Hearing.{Falls, FitsLetter, PersonTakeTurn, after_letter, free_after, held_after}
 use Rattle.auc_model.specs.Hub.{HubCloseTurn, HubTakeTurn, hub_after}
 use Rattle.auc_model.specs.Invariants.{Inv, Kept, Open, Shapes, Sound}
@@ -27,7 +28,6 @@ use Rattle.auc_model.specs.Posting.{PostTurn, reason}
 use Rattle.auc_model.specs.Put.{put, put2}
 use Rattle.auc_model.specs.Schedule.{Schedule, Turned}
 use Rattle.auc_model.specs.Selling.{ObjectTakeTurn, TellTurn, sold}
-use Rattle.auc_model.specs.Slack.{FairLetter}
 use Rattle.auc_model.specs.Start.{Lawful}
 use Rattle.auc_model.specs.Ways.{Lost, Routed, Ways, send, set_way, ways}
 use Rattle.auc_model.specs.World.{Phase, World, ended, first_end, senders}

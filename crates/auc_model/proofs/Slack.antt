@@ -8,9 +8,9 @@ use Rattle.auc_graph.specs.declared.rows.RowArc.{RowArc}
 use Rattle.auc_letters.specs.declared.letter.Letter.{Letter}
 use Rattle.auc_letters.specs.declared.out.Out.{Out}
 use Rattle.auc_letters.specs.declared.out.To.{To}
+use Rattle.auc_model.specs.Fair.{AllWays, Fair}
 use Rattle.auc_model.specs.Letters.{letters_to, same_to}
 use Rattle.auc_model.specs.Put.{put}
-use Rattle.auc_model.specs.Slack.{AllWays, Fair}
 use Rattle.auc_model.specs.Start.{Lawful}
 use Rattle.auc_model.specs.Ways.{Each, Ways, send, set_way}
 use Rattle.auc_model.specs.World.{Phase, scale}

@@ -12,6 +12,7 @@ use Rattle.auc_letters.specs.declared.state.Held.{Held}
 use Rattle.auc_letters.specs.declared.state.PersonState.{PersonState}
 use Rattle.auc_mail.specs.Mail.{Mail}
 use Rattle.auc_model.specs.Counts.{Counts}
+use Rattle.auc_model.specs.Fair.{AllWays, Fair, FairHolders, FairLetter}
 use Rattle.auc_model.specs.Hearing.{FitsLetter}
 use Rattle.auc_model.specs.Hub.{counted}
 use Rattle.auc_model.specs.Invariants.{Inv}
@@ -21,7 +22,6 @@ use Rattle.auc_model.specs.Posting.{is_price}
 use Rattle.auc_model.specs.Prices.{NeverFalls}
 use Rattle.auc_model.specs.Put.{put, put2}
 use Rattle.auc_model.specs.Selling.{FitsBid}
-use Rattle.auc_model.specs.Slack.{AllWays, Fair, FairHolders, FairLetter}
 use Rattle.auc_model.specs.Start.{Lawful, is_free}
 use Rattle.auc_model.specs.Ways.{AllRouted, Routed, ToPerson, Ways, answer_to, bid_by, places, prices, send, set_way}
 use Rattle.auc_model.specs.World.{Phase, World, senders}

@@ -11,9 +11,9 @@ use Rattle.auc_letters.specs.declared.out.Out.{Out}
 use Rattle.auc_letters.specs.declared.out.To.{To}
 use Rattle.auc_letters.specs.declared.state.PersonState.{PersonState}
 use Rattle.auc_model.specs.Bidding.{Bids, Stops, after_bid, after_stop, bid_letter}
+use Rattle.auc_model.specs.Fair.{FairLetter}
 use Rattle.auc_model.specs.Invariants.{Inv}
 use Rattle.auc_model.specs.Put.{put}
-use Rattle.auc_model.specs.Slack.{FairLetter}
 use Rattle.auc_model.specs.Start.{Lawful}
 use Rattle.auc_model.specs.Ways.{Lost, Routed, Ways, prices, send, ways}
 use Rattle.auc_model.specs.World.{Phase, World, scale}

@@ -14,7 +14,7 @@ use Rattle.auc_model.specs.Places.{InPlace}
 use Rattle.auc_model.specs.Prices.{NeverFalls}
 use Rattle.auc_model.specs.Ways.{Lost, Ways, ways, places, prices, AllRouted}
 use Rattle.auc_model.specs.Counts.{Counts}
-use Rattle.auc_model.specs.Slack.{FairLetter, AllWays, FairHolders}
+use Rattle.auc_model.specs.Fair.{FairLetter, AllWays, FairHolders}
 
 -- no guard was hit
 abbrev pub Sound : Option End → Type 0

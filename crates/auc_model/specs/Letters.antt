@@ -1,4 +1,4 @@
--- What a letter says, for the counts of letters that are under way: whom it is for, what it tells, and of which kind it is.
+-- What a letter says: whom it is for, what it tells, and of which kind it is.
 use Rattle.std.specs.Prelude.{ℕ, ◌==◌, ℤ, Bool, true, false, List, [], ◌∷◌, Option, Some, None, if◌then◌else◌}
 use Rattle.auc_letters.specs.declared.letter.Letter.{Letter}
 use Rattle.auc_letters.specs.declared.out.To.{To}

@@ -1,3 +1,4 @@
+-- the world, its turns and schedules, and what a phase begins with
 pub mod Put
 pub mod World
 pub mod Mails
@@ -6,13 +7,15 @@ pub mod Posting
 pub mod Hearing
 pub mod Selling
 pub mod Hub
-pub mod Schedule
 pub mod Start
+pub mod Schedule
 pub mod Slack
+-- what every turn keeps
 pub mod Letters
-pub mod Ways
 pub mod Places
 pub mod Prices
+pub mod Ways
 pub mod Counts
-pub mod Room
+pub mod Fair
 pub mod Invariants
+pub mod Room

@@ -1,9 +1,15 @@
 -- A turn of the world, and a schedule of turns.
-use Rattle.std.specs.Prelude.{◌≡◌, List, [], ◌∷◌}
+use Rattle.std.specs.Prelude.{◌≡◌, ◌≢◌, ◌⊎◌, List, [], ◌∷◌}
+use Rattle.auc_mail.specs.Step.{Step}
+use Rattle.auc_mail.specs.declared.call.Call.{Call}
+use Rattle.auc_mail.specs.declared.call.Reply.{Reply}
+use Rattle.auc_letters.specs.declared.letter.Letter.{Letter}
+use Rattle.auc_model.specs.declared.turn.MailName.{MailName}
+use Rattle.auc_model.specs.Start.{Starts}
 use Rattle.auc_model.specs.declared.turn.Turn.{Turn}
 use Rattle.auc_model.specs.declared.turn.TurnReply.{TurnReply}
 use Rattle.auc_model.specs.World.{Phase, World}
-use Rattle.auc_model.specs.Mails.{Shard}
+use Rattle.auc_model.specs.Mails.{Shard, mail_named}
 use Rattle.auc_model.specs.Bidding.{BidTurn}
 use Rattle.auc_model.specs.Posting.{PostTurn}
 use Rattle.auc_model.specs.Hearing.{PersonTakeTurn}
@@ -25,3 +31,12 @@ Turned g w (Turn.HubClose name at) r v = HubCloseTurn w name at r v
 abbrev pub Schedule : Phase → World → List Turn → World → Type 0
 Schedule g w [] v = v ≡ w
 Schedule g w (t ∷ ts) v = (m : World) × (r : TurnReply) × Turned g w t r m × Schedule g m ts v
+
+-- of the three mails this one may have made a step, and the others are as they were
+pub record StepsIn (w v : World) (name : MailName) : Type 0 where
+  pub this : (mail_named v name ≡ mail_named w name) ⊎ ((c : Call Letter) × (r : Reply Letter) × Step (mail_named w name) c r (mail_named v name))
+  pub others : (other : MailName) → other ≢ name → mail_named v other ≡ mail_named w other
+
+-- v is reached from a world that a phase begins with
+abbrev pub Reached : Phase → World → Type 0
+Reached g v = (w : World) × (ts : List Turn) × Starts g w × Schedule g w ts v

@@ -1,7 +1,7 @@
 //! What holds over every schedule, from every world that a phase begins with. The functions do nothing: their contracts are
 //! theorems, and crates above cite them.
 
-ghost use Rattle.std.specs.Prelude.{ℕ, ℤ, ◌<◌, ◌≤◌, ◌≤ℤ◌, ◌≡◌, ◌≢◌, List, Some, Contains};
+ghost use Rattle.std.specs.Prelude.{ℕ, ℤ, ◌<◌, ◌≤◌, ◌≤ℤ◌, ◌≡◌, ◌≢◌, List, [], ◌∷◌, ◌++◌, Some, Contains};
 ghost use Rattle.auc_graph.specs.declared.rows.RowArc.{RowArc};
 ghost use Rattle.auc_graph.specs.Table.{Table, IsTable};
 ghost use Rattle.auc_letters.specs.Price.{IsEps};
@@ -9,12 +9,28 @@ ghost use Rattle.auc_letters.specs.declared.letter.Why.{Why};
 ghost use Rattle.auc_letters.specs.declared.state.Held.{Held};
 ghost use Rattle.auc_letters.specs.declared.state.PersonState.{PersonState};
 ghost use Rattle.auc_model.specs.declared.turn.End.{End};
+ghost use Rattle.auc_model.specs.declared.turn.MailName.{MailName};
 ghost use Rattle.auc_model.specs.declared.turn.Turn.{Turn};
+ghost use Rattle.auc_model.specs.declared.turn.TurnReply.{TurnReply};
 ghost use Rattle.auc_model.specs.World.{Phase, World, phase_of};
-ghost use Rattle.auc_model.specs.Schedule.{Schedule};
+ghost use Rattle.auc_model.specs.Schedule.{Turned, Schedule, StepsIn};
 ghost use Rattle.auc_model.specs.Start.{Lawful, Starts, UsualNodes, occurs, free_in, persons_of};
 ghost use Rattle.auc_model.specs.Slack.{SlackRight};
 ghost use Rattle.auc_model.specs.Counts.{held_objects};
+ghost use Rattle.auc_model.specs.Invariants.{Kept};
+ghost use Rattle.auc_model.specs.Room.{Room};
+
+/// A turn that is answered by Nothing leaves the world as it was, and each turn is at most one step of one mail.
+pub fn turns_are_small()
+    ensures nothing { (g : Phase) (w v : World) (t : Turn) → Turned g w t TurnReply.Nothing v → v ≡ w }
+    ensures one_step { (g : Phase) (w v : World) (t : Turn) (r : TurnReply) → Turned g w t r v → (name : MailName) × StepsIn w v name }
+{}
+
+/// Schedules go on: one turn is a schedule, and one schedule after another is one.
+pub fn schedules_go_on()
+    ensures one { (g : Phase) (w v : World) (t : Turn) (r : TurnReply) → Turned g w t r v → Schedule g w (t ∷ []) v }
+    ensures more { (g : Phase) (w u v : World) (ts us : List Turn) → Schedule g w ts u → Schedule g u us v → Schedule g w (ts ++ us) v }
+{}
 
 /// No copy of a price falls over a schedule, whatever the world it begins with.
 pub fn copies_never_fall()
@@ -40,6 +56,14 @@ pub fn every_schedule()
     ensures counted { (g : Phase) (w v : World) (ts : List Turn) → Lawful g → Starts g w → Schedule g w ts v → v.count ≤ g.persons }
     ensures held { (g : Phase) (w v : World) (ts : List Turn) → Lawful g → Starts g w → Schedule g w ts v → held_objects g v ≤ g.persons }
     ensures everyone { (g : Phase) (w v : World) (ts : List Turn) → Lawful g → Starts g w → Schedule g w ts v → v.count ≡ g.persons → (i : ℕ) → i < g.persons → (j : ℕ) × (h : Held) × (v.holder j ≡ Some h) × (h.person ≡ i) }
+{}
+
+/// What the laws of every schedule rest on: what a phase begins with is kept by each turn.
+pub fn turns_keep_invariants()
+    ensures begins { (g : Phase) (w : World) → Starts g w → Kept g w }
+    ensures keeps { (g : Phase) (w v : World) (t : Turn) (r : TurnReply) → Lawful g → Kept g w → Turned g w t r v → Kept g v }
+    ensures begins_with_room { (g : Phase) (w : World) → Starts g w → UsualNodes g w → Room g w }
+    ensures keeps_room { (g : Phase) (w v : World) (t : Turn) (r : TurnReply) → Lawful g → Kept g w → Room g w → Turned g w t r v → Room g v }
 {}
 
 /// An end stays once it is set, and it is `All` only where the hub has counted every person.

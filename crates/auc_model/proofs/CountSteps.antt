@@ -14,8 +14,9 @@ use Rattle.auc_model.specs.Places.{Allows, Answer, Award, Outbid, Refused, heard
 use Rattle.auc_model.specs.Put.{put}
 use Rattle.auc_model.specs.Ways.{Ways, send, set_way}
 use Rattle.auc_model.specs.World.{Phase, World, senders}
-use Rattle.auc_model.proofs.Same.{same_answer}
-use Rattle.auc_model.proofs.Totals.{IsBox, everywhere_sent, everywhere_set, total_put}
+use Rattle.auc_model.proofs.SameAnswers.{same_answer}
+use Rattle.auc_model.proofs.Sums.{total_put}
+use Rattle.auc_model.proofs.Totals.{IsBox, everywhere_sent, everywhere_set}
 
 -- the sums after one letter more, or one less
 pub record Plus (g : Phase) (l : Letter) (c d : Ways) : Type 0 where

@@ -1,7 +1,9 @@
-use Rattle.std.proofs.Common.{ℕ, zero, suc, ◌+◌, ◌%◌, ◌<◌, ◌≤◌, ◌≡◌, refl, arith, Bool, true, false, List, [], ◌∷◌, Some, None, length, filter_map, sum_by, inl, inr, ap, sym, ◌∙◌}
+-- Where the hub has counted every person, every person holds an object; and where nothing is under way and nobody is free, it
+-- has counted every person.
+use Rattle.std.proofs.Common.{ℕ, zero, suc, ◌+◌, ◌%◌, ◌<◌, ◌≤◌, ◌≡◌, refl, arith, Bool, true, false, List, [], ◌∷◌, Some, None, length, filter_map, sum_by, ap, sym, ◌∙◌}
 use Rattle.std.specs.Prelude.{if◌then◌else◌, ◌==◌, ◌&&◌}
 use Rattle.std.specs.List.{cons_option}
-use Rattle.std.proofs.lemmas.Bool.{cases_eq, eq-eqb}
+use Rattle.std.proofs.lemmas.Bool.{eq-eqb}
 use Rattle.std.proofs.lemmas.Bool.Decides.{nat_tests}
 use Rattle.std.proofs.lemmas.List.Sums.{sum_by-cons}
 use Rattle.auc_letters.specs.declared.letter.Letter.{Letter}
@@ -16,23 +18,9 @@ use Rattle.auc_model.specs.Start.{Lawful, free_in, occurs}
 use Rattle.auc_model.specs.Ways.{Each, Ways, answer_to, answers_in, bid_by, bids_in, person_of}
 use Rattle.auc_model.specs.World.{Phase, World, senders}
 use Rattle.auc_model.proofs.Bounds.{all_told, no_stall}
+use Rattle.auc_model.proofs.Places.{replay-Wrong}
+use Rattle.auc_model.proofs.Sums.{full_at, total_add, total_zero, zero_at}
 use Rattle.auc_model.proofs.Totals.{IsBox}
-
-zero_at : (f : ℕ → ℕ) (n k : ℕ) → total f n ≡ 0 → k < n → f k ≡ 0
-zero_at f zero k e l = absurd (omega arith)
-zero_at f (suc n) k e l = elim (cases_eq k n) [ inl p ↦ rw p (omega arith) | inr p ↦ zero_at f n k (omega arith) (omega arith) ]
-
-full_at : (f : ℕ → ℕ) (n k : ℕ) → ((m : ℕ) → f m ≤ 1) → total f n ≡ n → k < n → f k ≡ 1
-full_at f zero k le e l = absurd (omega arith)
-full_at f (suc n) k le e l = elim (cases_eq k n) [ inl p ↦ rw p (omega (arith, le n, below f n le)) | inr p ↦ full_at f n k le (omega (arith, le n, below f n le)) (omega arith) ]
-  where
-    below : (f : ℕ → ℕ) (n : ℕ) → ((m : ℕ) → f m ≤ 1) → total f n ≤ n
-    below f zero le = omega arith
-    below f (suc n) le = omega (arith, below f n le, le n)
-
-total_both : (f h : ℕ → ℕ) (n : ℕ) → total (λ k. f k + h k) n ≡ total f n + total h n
-total_both f h zero = refl
-total_both f h (suc n) = let a = total_both f h n in omega (arith, a)
 
 -- nothing of a kind is under way, so nothing of it is on a way
 way_zero : (g : Phase) (f : Letter → ℕ) (c : Ways) → everywhere g f c ≡ 0 → (t : To) (x : ℕ) → IsBox g t → x < senders g → sum_by f (c t x) ≡ 0
@@ -69,14 +57,10 @@ awards_seen i j (Letter.First y ∷ xs) e f = awards_seen i j xs (let s = sum_by
 awards_seen i j (Letter.Stop y ∷ xs) e f = awards_seen i j xs (let s = sum_by-cons refused_one (Letter.Stop y) xs in omega (arith, s)) (let s = sum_by-cons outbid_one (Letter.Stop y) xs in omega (arith, s))
 
 -- who waits or holds, with no bid, refusal or outbid under way, holds at the object's side
-wrong_on : (xs : List Answer) → replay Wrong xs ≡ Wrong
-wrong_on [] = refl
-wrong_on (x ∷ xs) = wrong_on xs
-
 settled_holding : (xs : List Answer) (h : Bool) → AllAwards xs → Agree Holding xs (believed h 0) → h ≡ true
 settled_holding xs true p a = refl
 settled_holding [] false p a = absurd (cc (a.same))
-settled_holding (x ∷ xs) false p a = absurd (let e = wrong_on xs in let f : replay Wrong xs ≡ Apart = rw p.0 at a.same in cc (e, f))
+settled_holding (x ∷ xs) false p a = absurd (let e = replay-Wrong xs in let f : replay Wrong xs ≡ Apart = rw p.0 at a.same in cc (e, f))
 
 settled_waiting : (xs : List Answer) (h : Bool) → AllAwards xs → Agree Waiting xs (believed h 0) → h ≡ true
 settled_waiting xs true p a = refl
@@ -88,7 +72,7 @@ module _ (g : Phase) (w : World) (c : Ways) (law : Lawful g) (inv : Inv g w c) w
   module _ (all : w.count ≡ g.persons) (i : ℕ) (known : i < g.persons) where
     busy_here : waits_one (w.state i) + holds_one (w.state i) ≡ 1
     busy_here =
-        let t = total_both (λ k. waits_one (w.state k)) (λ k. holds_one (w.state k)) g.persons in
+        let t = total_add (λ k. waits_one (w.state k)) (λ k. holds_one (w.state k)) g.persons in
         let a = all_told g w c inv.counts all in
         full_at (λ k. waits_one (w.state k) + holds_one (w.state k)) g.persons i (λ m. one (w.state m)) (omega (arith, t, a.4)) known
       where
@@ -122,22 +106,18 @@ module _ (g : Phase) (w : World) (c : Ways) (law : Lawful g) (inv : Inv g w c) w
   total_ones f zero e = refl
   total_ones f (suc n) e = let a = total_ones f n (λ k l. e k (omega arith)) in let b = e n (omega arith) in omega (arith, a, b)
 
-  nothing_total : (f : ℕ → ℕ) (n : ℕ) → ((k : ℕ) → f k ≡ 0) → total f n ≡ 0
-  nothing_total f zero e = refl
-  nothing_total f (suc n) e = let a = nothing_total f n e in let b = e n in omega (arith, a, b)
-
   nothing_there : (f : Letter → ℕ) → ((t : To) (x : ℕ) → c t x ≡ []) → everywhere g f c ≡ 0
   nothing_there f none =
       let z : (t : To) (x : ℕ) → sum_by f (c t x) ≡ 0 = λ t x. ap (λ (ls : List Letter). sum_by f ls) (none t x) in
-      let a = nothing_total (λ q. total (λ x. sum_by f (c (To.Object q) x)) (senders g)) g.shards (λ q. nothing_total (λ x. sum_by f (c (To.Object q) x)) (senders g) (z (To.Object q))) in
-      let b = nothing_total (λ q. total (λ x. sum_by f (c (To.Person q) x)) (senders g)) g.shards (λ q. nothing_total (λ x. sum_by f (c (To.Person q) x)) (senders g) (z (To.Person q))) in
-      let d = nothing_total (λ x. sum_by f (c To.Hub x)) (senders g) (z To.Hub) in
+      let a = total_zero (λ q. total (λ x. sum_by f (c (To.Object q) x)) (senders g)) g.shards (λ q. total_zero (λ x. sum_by f (c (To.Object q) x)) (senders g) (z (To.Object q))) in
+      let b = total_zero (λ q. total (λ x. sum_by f (c (To.Person q) x)) (senders g)) g.shards (λ q. total_zero (λ x. sum_by f (c (To.Person q) x)) (senders g) (z (To.Person q))) in
+      let d = total_zero (λ x. sum_by f (c To.Hub x)) (senders g) (z To.Hub) in
       omega (arith, a, b, d)
 
   -- where no letter is under way and no shard has a free person, the hub has counted every person
   pub all_counted : ((s : ℕ) → s < g.shards → w.idle s ≡ []) → ((t : To) (x : ℕ) → c t x ≡ []) → w.count ≡ g.persons
   all_counted idle none =
-      let t = total_both (λ k. waits_one (w.state k)) (λ k. holds_one (w.state k)) g.persons in
+      let t = total_add (λ k. waits_one (w.state k)) (λ k. holds_one (w.state k)) g.persons in
       let a = total_ones (λ k. waits_one (w.state k) + holds_one (w.state k)) g.persons busy in
       no_stall g w c inv.counts (omega (arith, t, a)) (nothing_there bid_one none) (nothing_there award_one none) (nothing_there refused_one none) (nothing_there outbid_one none) (nothing_there first_one none)
     where

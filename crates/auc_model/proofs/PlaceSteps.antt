@@ -13,7 +13,7 @@ use Rattle.auc_model.specs.Put.{put, put2}
 use Rattle.auc_model.specs.Ways.{Ways, answer_to, answers_in, bid_by, bids_in, person_of, places, send, set_way}
 use Rattle.auc_model.specs.World.{Phase, World}
 use Rattle.auc_model.proofs.Places.{keeps_award, keeps_bid, keeps_hear, keeps_pass_on, keeps_refuse}
-use Rattle.auc_model.proofs.Steps.{answers_head, answers_popped, answers_sent, bids_head, bids_popped, bids_sent, in_place_like}
+use Rattle.auc_model.proofs.Pairs.{answers_head, answers_popped, answers_sent, bids_head, bids_popped, bids_sent, in_place_like}
 use Rattle.auc_model.proofs.Views.{view-send_none, view-set_same, view_drop_none, view_pop_none}
 
 holder_put : (f : ℕ → Option Held) (j : ℕ) (h : Held) (k : ℕ) → person_of (put f j (Some h) k) ≡ put (λ x. person_of (f x)) j (Some h.person) k

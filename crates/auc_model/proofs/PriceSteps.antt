@@ -9,7 +9,7 @@ use Rattle.auc_model.specs.Put.{put, put2}
 use Rattle.auc_model.specs.Ways.{Ways, price_about, prices, send, set_way}
 use Rattle.auc_model.specs.World.{Phase, World}
 use Rattle.auc_model.proofs.Prices.{keeps_learn, keeps_lose, keeps_raise, keeps_tell, no_fell}
-use Rattle.auc_model.proofs.Steps.{never_falls_like, news_dropped, news_head, news_middle, news_popped, news_sent}
+use Rattle.auc_model.proofs.Pairs.{never_falls_like, news_dropped, news_head, news_middle, news_popped, news_sent}
 use Rattle.auc_model.proofs.Views.{view-send_none, view-set_same, view_pop_none}
 
 -- a letter with no price

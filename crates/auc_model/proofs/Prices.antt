@@ -74,7 +74,7 @@ keeps_learn w s j p ps n r t k =
       | inr e ↦ learn_other w s j p ps t k (λ q. e q.0) (r t k)
     ]
 
--- no Fell
+-- the first price on its way is no less than the copy
 pub no_fell : (w : Prices) (s j : ℕ) (p : ℤ) (ps : List ℤ) → w.news s j ≡ p ∷ ps → NeverFalls w → w.copy s j ≤ℤ p
 no_fell w s j p ps n r = (rw n at (r s j)).0
 

@@ -1,218 +1,450 @@
--- How much the letters that wait weigh, against all that are under way; and that a bid and an answer find room.
-use Rattle.std.proofs.Common.{ℕ, zero, suc, ◌+◌, ◌*◌, ◌<◌, ◌≤◌, ◌≡◌, ◌≢◌, refl, arith, List, [], ◌∷◌, ◌++◌, length, get_or, sum_by, inl, inr, ap, sym, ◌∙◌}
-use Rattle.std.proofs.Math.Nat.{suc-mul}
-use Rattle.std.proofs.lemmas.Bool.{cases_eq}
-use Rattle.std.proofs.lemmas.List.Sums.{sum_by-append, sum_by-cons}
+-- Every turn keeps the room of the mails, and so does every schedule.
+use Rattle.std.proofs.Common.{ℕ, ℤ, ◌+◌, ◌*◌, ◌<◌, ◌≤◌, ◌≡◌, ◌≢◌, refl, arith, true, false, List, [], ◌∷◌, Option, Some, None, sum_by, inl, inr, ap, sym, ◌∙◌}
+use Rattle.std.specs.Prelude.{if◌then◌else◌, ◌==◌, nat_lt}
+use Rattle.std.proofs.lemmas.Bool.{cases_eq, cond_both}
+use Rattle.std.proofs.lemmas.List.Sums.{sum_by-cons}
+use Rattle.auc_letters.specs.Award.{awards, refusal}
+use Rattle.auc_letters.specs.Routing.{price_told, to_hub}
 use Rattle.auc_letters.specs.declared.letter.Letter.{Letter}
+use Rattle.auc_letters.specs.declared.letter.Why.{Why}
 use Rattle.auc_letters.specs.declared.out.Out.{Out}
 use Rattle.auc_letters.specs.declared.out.To.{To}
-use Rattle.auc_mail.specs.Mail.{Lane, Mail, blank_lane, free_of}
-use Rattle.auc_model.specs.Counts.{everywhere, total}
-use Rattle.auc_model.specs.Invariants.{Inv, Shaped}
-use Rattle.auc_model.specs.Letters.{award_one, bid_one, letters_to, outbid_one, price_one, refused_one}
-use Rattle.auc_model.specs.Mails.{Shard, box_of, mail_of, number, outbox, sender}
-use Rattle.auc_model.specs.Room.{weight}
-use Rattle.auc_model.specs.Ways.{Each, Lost, Routed, Ways, out_of, waiting, ways}
-use Rattle.auc_model.specs.World.{Phase, World, senders}
-use Rattle.auc_model.proofs.Bounds.{answers_le, bids_le}
-use Rattle.auc_model.proofs.Mails.{waiting_there, weight_ones}
-use Rattle.auc_model.proofs.Totals.{total_same}
-use Rattle.auc_model.proofs.Ways.{first_out, same_to_self}
+use Rattle.auc_letters.specs.declared.state.Held.{Held}
+use Rattle.auc_mail.specs.Mail.{Mail, with_closed}
+use Rattle.auc_mail.specs.declared.call.PostRefused.{PostRefused}
+use Rattle.auc_model.specs.Bidding.{BidTurn, bid_letter}
+use Rattle.auc_model.specs.Counts.{total}
+use Rattle.auc_model.specs.Hearing.{PersonTakeTurn, after_letter, free_after, held_after}
+use Rattle.auc_model.specs.Hub.{HubCloseTurn, HubTakeTurn, hub_after}
+use Rattle.auc_model.specs.Invariants.{Kept}
+use Rattle.auc_model.specs.Letters.{price_one, stop_one}
+use Rattle.auc_model.specs.Mails.{ObjectShard, PersonShard, Shard, Takes, mail_named, mail_of, number, outbox, sender, with_mail, with_mail_named, with_outbox}
+use Rattle.auc_model.specs.Posting.{PostTurn, Posts, Refuses, is_price, reason}
+use Rattle.auc_model.specs.Put.{put, put2}
+use Rattle.auc_model.specs.Room.{Reserved, Room, one_if, stops_out, weight}
+use Rattle.auc_model.specs.Schedule.{Schedule, Turned}
+use Rattle.auc_model.specs.Selling.{ObjectTakeTurn, TellTurn, sold}
+use Rattle.auc_model.specs.Start.{Lawful}
+use Rattle.auc_model.specs.Ways.{Each, Routed, ways}
+use Rattle.auc_model.specs.World.{Phase, World, ended, first_end}
+use Rattle.auc_model.specs.declared.turn.End.{End}
+use Rattle.auc_model.specs.declared.turn.MailName.{MailName}
+use Rattle.auc_model.specs.declared.turn.Turn.{Turn}
+use Rattle.auc_model.specs.declared.turn.TurnReply.{TurnReply}
+use Rattle.auc_model.proofs.FindsRoom.{finds_room, routed_head}
+use Rattle.auc_model.proofs.Places.{put_at, put_off, put_self}
+use Rattle.auc_model.proofs.Routes.{routed_first}
+use Rattle.auc_model.proofs.Schedule.{kept_turn}
+use Rattle.auc_model.proofs.Sums.{total_put}
+use Rattle.auc_model.proofs.Ways.{left_behind, way_taken}
+use Rattle.auc_model.proofs.WeightSteps.{few_prices_posted, weight_posted, weight_taken}
 
-total_shift : (f : ℕ → ℕ) (n : ℕ) → total f (suc n) ≡ f 0 + total (λ k. f (suc k)) n
-total_shift f zero = omega arith
-total_shift f (suc n) = let e = total_shift f n in omega (arith, e)
+each_put : (g : Phase) (f : ℕ → List Out) (s : ℕ) (os : List Out) → Each (Reserved g) os → ((k : ℕ) → Each (Reserved g) (f k)) → (k : ℕ) → Each (Reserved g) (put f s os k)
+each_put g f s os new all k = elim (cases_eq k s) [ inl e ↦ rw (put_at f s os k e) new | inr n ↦ rw (put_off f s os k n) (all k) ]
 
--- a sum over a list, by places
-sum_by-total : {X : Type 0} (f : X → ℕ) (d : X) (xs : List X) → sum_by f xs ≡ total (λ k. f (get_or xs k d)) (length xs)
-sum_by-total f d [] = refl
-sum_by-total f d (x ∷ xs) = let e = sum_by-total f d xs in let s = total_shift (λ k. f (get_or (x ∷ xs) k d)) (length xs) in let c = sum_by-cons f x xs in omega (arith, e, s, c)
-
-pub total_le : (f h : ℕ → ℕ) (n : ℕ) → ((k : ℕ) → k < n → f k ≤ h k) → total f n ≤ total h n
-total_le f h zero e = omega arith
-total_le f h (suc n) e = let a = total_le f h n (λ k l. e k (omega arith)) in let b = e n (omega arith) in omega (arith, a, b)
-
--- and by one more at one place
-total_more : (f h : ℕ → ℕ) (n k d : ℕ) → k < n → ((m : ℕ) → m < n → f m ≤ h m) → f k + d ≤ h k → total f n + d ≤ total h n
-total_more f h zero k d l e m = absurd (omega arith)
-total_more f h (suc n) k d l e m = elim (cases_eq n k) [ inl p ↦ at n k d e m p | inr p ↦ below n k d l e m p (total_more f h n k d) ]
+not_mail : (d : Option End) (y : Why) → y ≢ Why.Mail → d ≢ Some (End.Stopped Why.Mail) → first_end d (End.Stopped y) ≢ Some (End.Stopped Why.Mail)
+not_mail None y n d e = n (stopped_same y e)
   where
-    at : (n k d : ℕ) → ((m : ℕ) → m < suc n → f m ≤ h m) → f k + d ≤ h k → n ≡ k → total f (suc n) + d ≤ total h (suc n)
-    at n k d e m p = let a = total_le f h n (λ i l. e i (omega arith)) in let b : f n + d ≤ h n = rw p m in omega (arith, a, b)
+    stopped_same : (y : Why) → (let a : Option End = Some (End.Stopped y) in let b : Option End = Some (End.Stopped Why.Mail) in a ≡ b) → y ≡ Why.Mail
+    stopped_same y e = cc
+not_mail (Some x) y n d e = d e
 
-    below : (n k d : ℕ) → k < suc n → ((m : ℕ) → m < suc n → f m ≤ h m) → f k + d ≤ h k → n ≢ k → (k < n → ((m : ℕ) → m < n → f m ≤ h m) → f k + d ≤ h k → total f n + d ≤ total h n) → total f (suc n) + d ≤ total h (suc n)
-    below n k d l e m p ih = let a = ih (omega arith) (λ i j. e i (omega arith)) m in let b = e n (omega arith) in omega (arith, a, b)
+reserve_of : (g : Phase) (o : Out) (rest : List Out) (os : List Out) → os ≡ o ∷ rest → Each (Reserved g) os → Reserved g o
+reserve_of g o rest os e p = (rw e at p).0
 
-total_cong : (f h : ℕ → ℕ) (n : ℕ) → ((k : ℕ) → k < n → h k ≡ f k) → total h n ≡ total f n
-total_cong f h zero e = refl
-total_cong f h (suc n) e = rw (total_cong f h n (λ k l. e k (omega arith)), e n (omega arith))
+reserve_rest : (g : Phase) (o : Out) (rest : List Out) (os : List Out) → os ≡ o ∷ rest → Each (Reserved g) os → Each (Reserved g) rest
+reserve_rest g o rest os e p = (rw e at p).1
 
-total_join : (f : ℕ → ℕ) (m n : ℕ) → total f (m + n) ≡ total f m + total (λ x. f (m + x)) n
-total_join f m zero = let e : m + 0 ≡ m = omega arith in rw e (omega arith)
-total_join f m (suc n) = let e : m + suc n ≡ suc (m + n) = omega arith in let a = total_join f m n in rw e (omega (arith, a))
+module _ (g : Phase) (w : World) (law : Lawful g) (k : Kept g w) (room : Room g w) where
+  head_reserve : (h : Shard) (o : Out) (rest : List Out) → outbox w h ≡ o ∷ rest → Reserved g o
+  head_reserve (PersonShard s) o rest e = reserve_of g o rest (w.person_out s) e (room.person_reserves s)
+  head_reserve (ObjectShard q) o rest e = reserve_of g o rest (w.object_out q) e (room.object_reserves q)
 
--- a sum over k rows of n places each
-total_grid : (f : ℕ → ℕ) (k n : ℕ) → total f (k * n) ≡ total (λ b. total (λ x. f (b * n + x)) n) k
-total_grid f zero n = let e : 0 * n ≡ 0 = omega arith in rw e
-total_grid f (suc k) n = let e : suc k * n ≡ k * n + n = suc-mul k n in let a = total_grid f k n in let b = total_join f (k * n) n in rw e (omega (arith, a, b))
+  -- a letter leaves an outbox: it is no stop, or one stop less stands there
+  less_stops : (s : ℕ) (o : Out) (rest : List Out) → s < g.shards → w.person_out s ≡ o ∷ rest → total (λ x. sum_by (λ o. stop_one o.letter) (put w.person_out s rest x)) g.shards + stop_one o.letter ≡ stops_out g w
+  less_stops s o rest l e =
+      let a = total_put (λ (os : List Out). sum_by (λ o. stop_one o.letter) os) w.person_out s rest g.shards l in
+      let b : sum_by (λ o. stop_one o.letter) (w.person_out s) ≡ sum_by (λ o. stop_one o.letter) (o ∷ rest) = ap (λ (os : List Out). sum_by (λ o. stop_one o.letter) os) e in
+      let d = sum_by-cons (λ (o : Out). stop_one o.letter) o rest in
+      omega (arith, a, b, d)
 
--- the weight of a mail, by boxes and senders
-pub weight-total : (g : Phase) (m : Mail Letter) (n : ℕ) (f : Letter → ℕ) → Shaped g m n → weight f m ≡ total (λ b. total (λ x. sum_by f (waiting m b x)) (senders g)) n
-weight-total g m n f s =
-    let of_lane = λ (l : Lane Letter). sum_by f l.waiting in
-    let at = λ (k : ℕ). of_lane (get_or m.lanes k blank_lane) in
-    let size : length m.lanes ≡ n * senders g = s.whole ∙ (ap (λ (k : ℕ). k * m.senders) s.boxes_are ∙ ap (λ (k : ℕ). n * k) s.senders_are) in
-    sum_by-total of_lane blank_lane m.lanes
-    ∙ (ap (total at) size ∙ (total_grid at n (senders g)
-    ∙ total_same (λ b. total (λ x. sum_by f (waiting m b x)) (senders g)) (λ b. total (λ x. at (b * senders g + x)) (senders g)) n
-    (λ b. total_cong (λ x. sum_by f (waiting m b x)) (λ x. at (b * senders g + x)) (senders g) (λ x l. lane_weight b x l))))
-  where
-    lane_weight : (b x : ℕ) → x < senders g → sum_by f (get_or m.lanes (b * senders g + x) blank_lane).waiting ≡ sum_by f (waiting m b x)
-    lane_weight b x l =
-        ap (λ (k : ℕ). sum_by f (get_or m.lanes (b * k + x) blank_lane).waiting) (sym s.senders_are)
-        ∙ sym (ap (λ (ls : List Letter). sum_by f ls) (waiting_there m b x (rw s.senders_are l)))
+  room_dropped : (h : Shard) (o : Out) (rest : List Out) → number h < g.shards → outbox w h ≡ o ∷ rest → Room g (with_outbox w h rest)
+  room_dropped (PersonShard s) o rest l e =
+      let a = less_stops s o rest l e in
+      record {
+        objects_nodes = room.objects_nodes;
+        persons_nodes = room.persons_nodes;
+        hub_nodes = room.hub_nodes;
+        few_prices = room.few_prices;
+        few_stops = omega (arith, a, room.few_stops);
+        person_reserves = each_put g w.person_out s rest (reserve_rest g o rest (w.person_out s) e (room.person_reserves s)) room.person_reserves;
+        object_reserves = room.object_reserves;
+        no_mail = room.no_mail;
+      }
+  room_dropped (ObjectShard q) o rest l e =
+      record {
+        objects_nodes = room.objects_nodes;
+        persons_nodes = room.persons_nodes;
+        hub_nodes = room.hub_nodes;
+        few_prices = room.few_prices;
+        few_stops = room.few_stops;
+        person_reserves = room.person_reserves;
+        object_reserves = each_put g w.object_out q rest (reserve_rest g o rest (w.object_out q) e (room.object_reserves q)) room.object_reserves;
+        no_mail = room.no_mail;
+      }
 
--- where g weighs as f on each letter
-pub sum_by_like : (P : Letter → Type 0) (f h : Letter → ℕ) → ((l : Letter) → P l → h l ≡ f l) → (xs : List Letter) → Each P xs → sum_by h xs ≡ sum_by f xs
-sum_by_like P f h e [] p = refl
-sum_by_like P f h e (x ∷ xs) p = let a = sum_by_like P f h e xs p.1 in let b = e x p.0 in let c = sum_by-cons f x xs in let d = sum_by-cons h x xs in omega (arith, a, b, c, d)
-
-pub each_front : (P : Letter → Type 0) (xs ys : List Letter) → Each P (xs ++ ys) → Each P xs
-each_front P [] ys p = tt
-each_front P (x ∷ xs) ys p = (p.0, each_front P xs ys p.1)
-
-only_bids : (g : Phase) (q x : ℕ) (l : Letter) → Routed g (To.Object q) x l → 1 ≡ bid_one l
-only_bids g q x (Letter.Bid i a j p) r = refl
-only_bids g q x (Letter.Award i j p) r = absurd r
-only_bids g q x (Letter.Refused i j p) r = absurd r
-only_bids g q x (Letter.Outbid i j p) r = absurd r
-only_bids g q x (Letter.Price j p) r = absurd r
-only_bids g q x (Letter.First j) r = absurd r
-only_bids g q x (Letter.Stop y) r = absurd r
-
--- A bid at the front of its outbox finds a free node, where the mail has one for each person
-module _ (g : Phase) (w : World) (lost : Lost) (inv : Inv g w (ways g w lost)) (h : Shard) (o : Out) (rest : List Out) (in_range : number h < g.shards) (full : outbox w h ≡ o ∷ rest) where
-  abbrev c : Ways
-  c = ways g w lost
-
-  sender_there : sender g h < senders g
-  sender_there = by h in_range
+  -- a letter that is not a price never meets Full, so the world does not end by the mail
+  room_kept : (h : Shard) (o : Out) (rest : List Out) (y : PostRefused) → number h < g.shards → outbox w h ≡ o ∷ rest → y ≢ PostRefused.Closed → Refuses g w h o y → is_price o.letter ≡ false → Room g (ended w (reason y))
+  room_kept h o rest y l e n p i =
+      record {
+        objects_nodes = room.objects_nodes;
+        persons_nodes = room.persons_nodes;
+        hub_nodes = room.hub_nodes;
+        few_prices = room.few_prices;
+        few_stops = room.few_stops;
+        person_reserves = room.person_reserves;
+        object_reserves = room.object_reserves;
+        no_mail = by y n p;
+      }
     where
-      by : (h : Shard) → number h < g.shards → sender g h < senders g
-      by (Shard.PersonShard s) l = omega arith
-      by (Shard.ObjectShard q) l = omega arith
+      by : (y : PostRefused) → y ≢ PostRefused.Closed → Refuses g w h o y → first_end w.end (End.Stopped (reason y)) ≢ Some (End.Stopped Why.Mail)
+      by PostRefused.Closed n p = absurd (n refl)
+      by PostRefused.Spent n p = not_mail w.end Why.Posts (λ q. cc) room.no_mail
+      by PostRefused.Full n p =
+          let f = finds_room g w k.lost law k.inv k.shapes room h o rest l e i in
+          let r : o.reserve ≡ 0 = head_reserve h o rest e ∙ rw i in
+          absurd (omega (arith, f, r, p.2))
 
-  -- what waits weighs no more than what is under way
-  pub front_le : (f : Letter → ℕ) (t : To) (x : ℕ) → sum_by f (waiting (mail_of w t) (box_of t) x) ≤ sum_by f (c t x)
-  front_le f t x = let e = sum_by-append f (waiting (mail_of w t) (box_of t) x) (lost t x ++ letters_to t (out_of g w x)) in omega (arith, e)
+  module _ (h : Shard) (o : Out) (rest : List Out) (in_range : number h < g.shards) (full : outbox w h ≡ o ∷ rest) where
+    -- the numbers that a post may move
+    record Moved (v : World) : Type 0 where
+      objects_nodes : v.objects_mail.nodes ≡ g.persons
+      persons_nodes : v.persons_mail.nodes ≡ 4 * g.persons
+      hub_nodes : v.hub_mail.nodes ≡ g.persons + 2 * g.shards
+      few_prices : weight price_one v.persons_mail ≤ 2 * g.persons
+      stops : weight stop_one v.hub_mail ≤ weight stop_one w.hub_mail + stop_one o.letter
+      same_persons : v.person_out ≡ w.person_out
+      same_objects : v.object_out ≡ w.object_out
+      same_stopped : v.has_stopped ≡ w.has_stopped
+      same_end : v.end ≡ w.end
 
-  -- and the letter in the outbox comes on top
-  front_more : (f : Letter → ℕ) → sum_by f (waiting (mail_of w o.to) (box_of o.to) (sender g h)) + f o.letter ≤ sum_by f (c o.to (sender g h))
-  front_more f =
-      let x = sender g h in
-      let outs : letters_to o.to (out_of g w x) ≡ o.letter ∷ letters_to o.to rest = rw (first_out g w h o rest in_range full x refl, same_to_self o.to) in
-      let a = sum_by-append f (waiting (mail_of w o.to) (box_of o.to) x) (lost o.to x ++ letters_to o.to (out_of g w x)) in
-      let b = sum_by-append f (lost o.to x) (letters_to o.to (out_of g w x)) in
-      let d = ap (λ (ls : List Letter). sum_by f ls) outs in
-      let k = sum_by-cons f o.letter (letters_to o.to rest) in
-      omega (arith, a, b, d, k)
+    nodes_posted : (n : ℕ) (m : Mail Letter) → Posts g w h o n m → m.nodes ≡ (mail_of w o.to).nodes
+    nodes_posted n m p = ap (λ (z : Mail Letter). z.nodes) p.5
 
-  object_weight : (f : Letter → ℕ) (q : ℕ) → o.to ≡ To.Object q → q < g.shards → Shaped g w.objects_mail g.shards → weight f w.objects_mail + f o.letter ≤ everywhere g f c
-  object_weight f q e l s =
-      let row = λ (b : ℕ). total (λ x. sum_by f (waiting w.objects_mail b x)) (senders g) in
-      let way = λ (b : ℕ). total (λ x. sum_by f (c (To.Object b) x)) (senders g) in
-      let here : row q + f o.letter ≤ way q = total_more (λ x. sum_by f (waiting w.objects_mail q x)) (λ x. sum_by f (c (To.Object q) x)) (senders g) (sender g h) (f o.letter) sender_there (λ x m. front_le f (To.Object q) x) (rw e at (front_more f)) in
-      let all = total_more row way g.shards q (f o.letter) l (λ b m. total_le (λ x. sum_by f (waiting w.objects_mail b x)) (λ x. sum_by f (c (To.Object b) x)) (senders g) (λ x k. front_le f (To.Object b) x)) here in
-      let t = weight-total g w.objects_mail g.shards f s in
-      omega (arith, all, t)
+    moved : (t : To) (n : ℕ) (m : Mail Letter) → o.to ≡ t → Posts g w h o n m → Moved (with_mail w t m)
+    moved (To.Object q) n m e p =
+        record {
+          objects_nodes = nodes_posted n m p ∙ rw e room.objects_nodes;
+          persons_nodes = room.persons_nodes;
+          hub_nodes = room.hub_nodes;
+          few_prices = room.few_prices;
+          stops = omega arith;
+          same_persons = refl;
+          same_objects = refl;
+          same_stopped = refl;
+          same_end = refl;
+        }
+    moved (To.Person s) n m e p =
+        record {
+          objects_nodes = room.objects_nodes;
+          persons_nodes = nodes_posted n m p ∙ rw e room.persons_nodes;
+          hub_nodes = room.hub_nodes;
+          few_prices = few_prices_posted w.persons_mail m (sender g h) s o.reserve n g.persons o.letter k.shapes.persons.whole (rw e at p) room.persons_nodes (head_reserve h o rest full) room.few_prices;
+          stops = omega arith;
+          same_persons = refl;
+          same_objects = refl;
+          same_stopped = refl;
+          same_end = refl;
+        }
+    moved To.Hub n m e p =
+        record {
+          objects_nodes = room.objects_nodes;
+          persons_nodes = room.persons_nodes;
+          hub_nodes = nodes_posted n m p ∙ rw e room.hub_nodes;
+          few_prices = room.few_prices;
+          stops = (let a = weight_posted w.hub_mail m (sender g h) 0 o.reserve n o.letter stop_one k.shapes.hub.whole (rw e at p) in omega (arith, a));
+          same_persons = refl;
+          same_objects = refl;
+          same_stopped = refl;
+          same_end = refl;
+        }
 
-  ones : Shaped g w.objects_mail g.shards → weight (λ _. 1) w.objects_mail ≡ weight bid_one w.objects_mail
-  ones s =
-      weight-total g w.objects_mail g.shards (λ _. 1) s
-      ∙ (total_same (λ b. total (λ x. sum_by bid_one (waiting w.objects_mail b x)) (senders g)) (λ b. total (λ x. sum_by (λ _. 1) (waiting w.objects_mail b x)) (senders g)) g.shards
-      (λ b. total_same (λ x. sum_by bid_one (waiting w.objects_mail b x)) (λ x. sum_by (λ _. 1) (waiting w.objects_mail b x)) (senders g)
-      (λ x. sum_by_like (Routed g (To.Object b) x) bid_one (λ _. 1) (only_bids g b x) (waiting w.objects_mail b x) (each_front (Routed g (To.Object b) x) (waiting w.objects_mail b x) (lost (To.Object b) x ++ letters_to (To.Object b) (out_of g w x)) (inv.routed (To.Object b) x))))
-      ∙ sym (weight-total g w.objects_mail g.shards bid_one s))
+    no_stop : (q : ℕ) → h ≡ ObjectShard q → (t : To) (l : Letter) → Routed g t (sender g h) l → stop_one l ≡ 0
+    no_stop q e t (Letter.Bid i a j p) r = refl
+    no_stop q e t (Letter.Award i j p) r = refl
+    no_stop q e t (Letter.Refused i j p) r = refl
+    no_stop q e t (Letter.Outbid i j p) r = refl
+    no_stop q e t (Letter.Price j p) r = refl
+    no_stop q e t (Letter.First j) r = refl
+    no_stop q e (To.Person s) (Letter.Stop y) r = absurd r
+    no_stop q e (To.Object s) (Letter.Stop y) r = absurd r
+    no_stop q e To.Hub (Letter.Stop y) r = absurd (let f = by_shard y r in let d : sender g h ≡ g.shards + q = ap (λ (x : Shard). sender g x) e in omega (arith, f, d))
+      where
+        by_shard : (y : Why) → Routed g To.Hub (sender g h) (Letter.Stop y) → sender g h < g.shards
+        by_shard Why.Bids r = r
+        by_shard Why.Stuck r = r
+        by_shard Why.Ceiling r = r
+        by_shard Why.Posts r = absurd r
+        by_shard Why.Trail r = absurd r
+        by_shard Why.Mail r = absurd r
+        by_shard Why.Fell r = absurd r
+        by_shard Why.Stray r = absurd r
 
-  pub room_for_bid : (q : ℕ) → o.to ≡ To.Object q → q < g.shards → Shaped g w.objects_mail g.shards → w.objects_mail.nodes ≡ g.persons → bid_one o.letter ≡ 1 → 0 < free_of w.objects_mail
-  room_for_bid q e l s nodes one =
-      let a = object_weight bid_one q e l s in
-      let b = ones s in
-      let d = bids_le g w c inv.counts in
-      let u = weight_ones w.objects_mail in
-      omega (arith, a, b, d, u, nodes, one)
+    after_person : (s : ℕ) (u : World) → h ≡ PersonShard s → Moved u → Room g (with_outbox u (PersonShard s) rest)
+    after_person s u e m =
+        let a = less_stops s o rest (rw e at in_range) (rw e at full) in
+        record {
+          objects_nodes = m.objects_nodes;
+          persons_nodes = m.persons_nodes;
+          hub_nodes = m.hub_nodes;
+          few_prices = m.few_prices;
+          few_stops = rw (m.same_persons, m.same_stopped) (omega (arith, a, m.stops, room.few_stops));
+          person_reserves = rw m.same_persons (each_put g w.person_out s rest (reserve_rest g o rest (w.person_out s) (rw e at full) (room.person_reserves s)) room.person_reserves);
+          object_reserves = rw m.same_objects room.object_reserves;
+          no_mail = rw m.same_end room.no_mail;
+        }
 
-sum_by_add : {X : Type 0} (f h : X → ℕ) (xs : List X) → sum_by (λ x. f x + h x) xs ≡ sum_by f xs + sum_by h xs
-sum_by_add f h [] = refl
-sum_by_add f h (x ∷ xs) = let a = sum_by_add f h xs in let b = sum_by-cons (λ x. f x + h x) x xs in let c = sum_by-cons f x xs in let d = sum_by-cons h x xs in omega (arith, a, b, c, d)
+    after_object : (q : ℕ) (u : World) → h ≡ ObjectShard q → stop_one o.letter ≡ 0 → Moved u → Room g (with_outbox u (ObjectShard q) rest)
+    after_object q u e z m =
+        record {
+          objects_nodes = m.objects_nodes;
+          persons_nodes = m.persons_nodes;
+          hub_nodes = m.hub_nodes;
+          few_prices = m.few_prices;
+          few_stops = rw (m.same_persons, m.same_stopped) (omega (arith, z, m.stops, room.few_stops));
+          person_reserves = rw m.same_persons room.person_reserves;
+          object_reserves = rw m.same_objects (each_put g w.object_out q rest (reserve_rest g o rest (w.object_out q) (rw e at full) (room.object_reserves q)) room.object_reserves);
+          no_mail = rw m.same_end room.no_mail;
+        }
 
-total_add : (f h : ℕ → ℕ) (n : ℕ) → total (λ k. f k + h k) n ≡ total f n + total h n
-total_add f h zero = refl
-total_add f h (suc n) = let a = total_add f h n in omega (arith, a)
+    room_posted : (n : ℕ) (m : Mail Letter) → Posts g w h o n m → Room g (with_outbox (with_mail w o.to m) h rest)
+    room_posted n m p = by h refl
+      where
+        by : (j : Shard) → h ≡ j → Room g (with_outbox (with_mail w o.to m) j rest)
+        by (PersonShard s) e = after_person s (with_mail w o.to m) e (moved o.to n m refl p)
+        by (ObjectShard q) e = after_object q (with_mail w o.to m) e (no_stop q e o.to o.letter (routed_head g w k.lost law k.inv k.shapes room h o rest in_range full)) (moved o.to n m refl p)
 
-abbrev pub answer_one : Letter → ℕ
-answer_one l = (award_one l + refused_one l) + outbid_one l
+  pub room_post : (h : Shard) (r : TurnReply) (v : World) → PostTurn g w h r v → Room g v
+  room_post h r v (PostTurn.no_letter q e1 e) = rw e room
+  room_post h r v (PostTurn.posts o rest n m may p e1 e) = rw e (room_posted h o rest may.known may.first n m p)
+  room_post h r v (PostTurn.meets_closed o rest may p e1 e) = rw e (room_dropped h o rest may.known may.first)
+  room_post h r v (PostTurn.drops_price o rest y may p n i e1 e) = rw e (room_dropped h o rest may.known may.first)
+  room_post h r v (PostTurn.keeps_letter o rest y may p n i e1 e) = rw e (room_kept h o rest y may.known may.first n p i)
 
-row_add : (f h : Letter → ℕ) (rows : ℕ → List Letter) (n : ℕ) → total (λ x. sum_by (λ l. f l + h l) (rows x)) n ≡ total (λ x. sum_by f (rows x)) n + total (λ x. sum_by h (rows x)) n
-row_add f h rows n = total_same (λ x. sum_by f (rows x) + sum_by h (rows x)) (λ x. sum_by (λ l. f l + h l) (rows x)) n (λ x. sum_by_add f h (rows x)) ∙ total_add (λ x. sum_by f (rows x)) (λ x. sum_by h (rows x)) n
+  -- Bid(s)
+  stops_put : (s : ℕ) (o : Out) → s < g.shards → w.person_out s ≡ [] → total (λ x. sum_by (λ o. stop_one o.letter) (put w.person_out s (o ∷ []) x)) g.shards ≡ stops_out g w + stop_one o.letter
+  stops_put s o l e =
+      let a = total_put (λ (os : List Out). sum_by (λ o. stop_one o.letter) os) w.person_out s (o ∷ []) g.shards l in
+      let b : sum_by (λ o. stop_one o.letter) (w.person_out s) ≡ 0 = ap (λ (os : List Out). sum_by (λ o. stop_one o.letter) os) e in
+      let d = sum_by-cons (λ (o : Out). stop_one o.letter) o [] in
+      omega (arith, a, b, d)
 
-grid_add : (f h : Letter → ℕ) (rows : ℕ → ℕ → List Letter) (k n : ℕ) → total (λ b. total (λ x. sum_by (λ l. f l + h l) (rows b x)) n) k ≡ total (λ b. total (λ x. sum_by f (rows b x)) n) k + total (λ b. total (λ x. sum_by h (rows b x)) n) k
-grid_add f h rows k n =
-    total_same (λ b. total (λ x. sum_by f (rows b x)) n + total (λ x. sum_by h (rows b x)) n) (λ b. total (λ x. sum_by (λ l. f l + h l) (rows b x)) n) k (λ b. row_add f h (rows b) n)
-    ∙ total_add (λ b. total (λ x. sum_by f (rows b x)) n) (λ b. total (λ x. sum_by h (rows b x)) n) k
+  pub room_bid : (s : ℕ) (r : TurnReply) (v : World) → BidTurn g w s r v → Room g v
+  room_bid s r v (BidTurn.barred h e1 e) = rw e room
+  room_bid s r v (BidTurn.stops i rest y may why e1 e) =
+      let o : Out = to_hub (Letter.Stop y) in
+      let a = stops_put s o may.known may.empty in
+      let b = total_put one_if w.has_stopped s true g.shards may.known in
+      let d : one_if (w.has_stopped s) ≡ 0 = rw may.going in
+      rw e (record {
+        objects_nodes = room.objects_nodes;
+        persons_nodes = room.persons_nodes;
+        hub_nodes = room.hub_nodes;
+        few_prices = room.few_prices;
+        few_stops = omega (arith, a, b, d, room.few_stops);
+        person_reserves = each_put g w.person_out s (o ∷ []) (refl, tt) room.person_reserves;
+        object_reserves = room.object_reserves;
+        no_mail = room.no_mail;
+      })
+  room_bid s r v (BidTurn.bids i rest a amount may left best low e1 e) =
+      let o : Out = bid_letter g i a amount in
+      let x = stops_put s o may.known may.empty in
+      rw e (record {
+        objects_nodes = room.objects_nodes;
+        persons_nodes = room.persons_nodes;
+        hub_nodes = room.hub_nodes;
+        few_prices = room.few_prices;
+        few_stops = omega (arith, x, room.few_stops);
+        person_reserves = each_put g w.person_out s (o ∷ []) (refl, tt) room.person_reserves;
+        object_reserves = room.object_reserves;
+        no_mail = room.no_mail;
+      })
 
-everywhere_add : (g : Phase) (f h : Letter → ℕ) (c : Ways) → everywhere g (λ l. f l + h l) c ≡ everywhere g f c + everywhere g h c
-everywhere_add g f h c =
-    let a = grid_add f h (λ b x. c (To.Object b) x) g.shards (senders g) in
-    let b = grid_add f h (λ b x. c (To.Person b) x) g.shards (senders g) in
-    let d = row_add f h (λ x. c To.Hub x) (senders g) in
-    omega (arith, a, b, d)
+  -- Tell(q, j, s)
+  pub room_tell : (q j s : ℕ) (r : TurnReply) (v : World) → TellTurn g w q j s r v → Room g v
+  room_tell q j s r v (TellTurn.silent h e1 e) = rw e room
+  room_tell q j s r v (TellTurn.tells h1 h2 h3 h4 h5 e1 e) =
+      rw e (record {
+        objects_nodes = room.objects_nodes;
+        persons_nodes = room.persons_nodes;
+        hub_nodes = room.hub_nodes;
+        few_prices = room.few_prices;
+        few_stops = room.few_stops;
+        person_reserves = room.person_reserves;
+        object_reserves = each_put g w.object_out q (price_told g.persons s j (w.price j) ∷ []) (refl, tt) room.object_reserves;
+        no_mail = room.no_mail;
+      })
 
-pub weight_add : (g : Phase) (m : Mail Letter) (n : ℕ) (f h : Letter → ℕ) → Shaped g m n → weight (λ l. f l + h l) m ≡ weight f m + weight h m
-weight_add g m n f h s =
-    let a = weight-total g m n (λ l. f l + h l) s in
-    let b = weight-total g m n f s in
-    let d = weight-total g m n h s in
-    let e = grid_add f h (λ b x. waiting m b x) n (senders g) in
-    omega (arith, a, b, d, e)
+  -- a take
+  nodes_taken : (m n : Mail Letter) (b x i : ℕ) (l : Letter) → Takes m b x i l n → n.nodes ≡ m.nodes
+  nodes_taken m n b x i l t = ap (λ (z : Mail Letter). z.nodes) t.3.2
 
-only_answers : (g : Phase) (s x : ℕ) (l : Letter) → Routed g (To.Person s) x l → 1 ≡ answer_one l + price_one l
-only_answers g q x (Letter.Award i j p) r = refl
-only_answers g q x (Letter.Refused i j p) r = refl
-only_answers g q x (Letter.Outbid i j p) r = refl
-only_answers g q x (Letter.Price j p) r = refl
-only_answers g q x (Letter.Bid i a j p) r = absurd r
-only_answers g q x (Letter.First j) r = absurd r
-only_answers g q x (Letter.Stop y) r = absurd r
+  -- the persons mail was taken from, and the tables are as they may be
+  room_persons : (v : World) (s x n : ℕ) (l : Letter) → Takes w.persons_mail s x n l v.persons_mail → v.objects_mail ≡ w.objects_mail → v.hub_mail ≡ w.hub_mail → v.person_out ≡ w.person_out → v.object_out ≡ w.object_out → v.has_stopped ≡ w.has_stopped
+      → v.end ≢ Some (End.Stopped Why.Mail) → Room g v
+  room_persons v s x n l t e1 e2 e3 e4 e5 end =
+      let a = weight_taken w.persons_mail v.persons_mail s x n l price_one k.shapes.persons.whole t in
+      record {
+        objects_nodes = rw e1 room.objects_nodes;
+        persons_nodes = nodes_taken w.persons_mail v.persons_mail s x n l t ∙ room.persons_nodes;
+        hub_nodes = rw e2 room.hub_nodes;
+        few_prices = omega (arith, a, room.few_prices);
+        few_stops = rw (e2, e3, e5) room.few_stops;
+        person_reserves = rw e3 room.person_reserves;
+        object_reserves = rw e4 room.object_reserves;
+        no_mail = end;
+      }
 
-module _ (g : Phase) (w : World) (lost : Lost) (inv : Inv g w (ways g w lost)) (h : Shard) (o : Out) (rest : List Out) (in_range : number h < g.shards) (full : outbox w h ≡ o ∷ rest) where
-  person_weight : (f : Letter → ℕ) (s : ℕ) → o.to ≡ To.Person s → s < g.shards → Shaped g w.persons_mail g.shards → weight f w.persons_mail + f o.letter ≤ everywhere g f (ways g w lost)
-  person_weight f q e l s =
-      let c : Ways = ways g w lost in
-      let row = λ (b : ℕ). total (λ x. sum_by f (waiting w.persons_mail b x)) (senders g) in
-      let way = λ (b : ℕ). total (λ x. sum_by f (c (To.Person b) x)) (senders g) in
-      let le = front_le g w lost inv h o rest in_range full f in
-      let here : row q + f o.letter ≤ way q = total_more (λ x. sum_by f (waiting w.persons_mail q x)) (λ x. sum_by f (c (To.Person q) x)) (senders g) (sender g h) (f o.letter) (sender_there g w lost inv h o rest in_range full) (λ x m. le (To.Person q) x) (rw e at (front_more g w lost inv h o rest in_range full f)) in
-      let all = total_more row way g.shards q (f o.letter) l (λ b m. total_le (λ x. sum_by f (waiting w.persons_mail b x)) (λ x. sum_by f (c (To.Person b) x)) (senders g) (λ x k. le (To.Person b) x)) here in
-      let t = weight-total g w.persons_mail g.shards f s in
-      omega (arith, all, t)
+  room_hears : (s x n : ℕ) (l : Letter) (m : Mail Letter) → Takes w.persons_mail s x n l m → Room g (after_letter (record w { persons_mail = m }) s l)
+  room_hears s x n (Letter.Award i j p) m t = room_persons (held_after (record w { persons_mail = m }) s i j p) s x n (Letter.Award i j p) t refl refl refl refl refl room.no_mail
+  room_hears s x n (Letter.Refused i j p) m t = room_persons (free_after (record w { persons_mail = m }) s i j p) s x n (Letter.Refused i j p) t refl refl refl refl refl room.no_mail
+  room_hears s x n (Letter.Outbid i j p) m t = room_persons (free_after (record w { persons_mail = m }) s i j p) s x n (Letter.Outbid i j p) t refl refl refl refl refl room.no_mail
+  room_hears s x n (Letter.Price j p) m t = room_persons (record w { persons_mail = m; copy = put2 w.copy s j p }) s x n (Letter.Price j p) t refl refl refl refl refl room.no_mail
+  room_hears s x n (Letter.Bid i a j p) m t = room_persons (record w { persons_mail = m }) s x n (Letter.Bid i a j p) t refl refl refl refl refl room.no_mail
+  room_hears s x n (Letter.First j) m t = room_persons (record w { persons_mail = m }) s x n (Letter.First j) t refl refl refl refl refl room.no_mail
+  room_hears s x n (Letter.Stop y) m t = room_persons (record w { persons_mail = m }) s x n (Letter.Stop y) t refl refl refl refl refl room.no_mail
 
-  person_ones : Shaped g w.persons_mail g.shards → weight (λ _. 1) w.persons_mail ≡ weight answer_one w.persons_mail + weight price_one w.persons_mail
-  person_ones s =
-      weight-total g w.persons_mail g.shards (λ _. 1) s
-      ∙ (total_same (λ b. total (λ x. sum_by (λ l. answer_one l + price_one l) (waiting w.persons_mail b x)) (senders g)) (λ b. total (λ x. sum_by (λ _. 1) (waiting w.persons_mail b x)) (senders g)) g.shards
-      (λ b. total_same (λ x. sum_by (λ l. answer_one l + price_one l) (waiting w.persons_mail b x)) (λ x. sum_by (λ _. 1) (waiting w.persons_mail b x)) (senders g)
-      (λ x. sum_by_like (Routed g (To.Person b) x) (λ l. answer_one l + price_one l) (λ _. 1) (only_answers g b x) (waiting w.persons_mail b x) (each_front (Routed g (To.Person b) x) (waiting w.persons_mail b x) (lost (To.Person b) x ++ letters_to (To.Person b) (out_of g w x)) (inv.routed (To.Person b) x))))
-      ∙ (sym (weight-total g w.persons_mail g.shards (λ l. answer_one l + price_one l) s) ∙ weight_add g w.persons_mail g.shards answer_one price_one s))
+  pub room_person_take : (s : ℕ) (r : TurnReply) (v : World) → PersonTakeTurn g w s r v → Room g v
+  room_person_take s r v (PersonTakeTurn.no_letter h e1 e) = rw e room
+  room_person_take s r v (PersonTakeTurn.hears x n l m h1 t fits low e1 e) = rw e (room_hears s x n l m t)
+  room_person_take s r v (PersonTakeTurn.strays x n l m h1 t bad e1 e) =
+      rw e (room_persons (ended (record w { persons_mail = m }) Why.Stray) s x n l t refl refl refl refl refl (not_mail w.end Why.Stray (λ q. cc) room.no_mail))
+  room_person_take s r v (PersonTakeTurn.falls x n l m h1 t fits low e1 e) =
+      rw e (room_persons (ended (record w { persons_mail = m }) Why.Fell) s x n l t refl refl refl refl refl (not_mail w.end Why.Fell (λ q. cc) room.no_mail))
 
-  -- An answer at the front of its outbox finds a free node, where the mail has four for each person and at most two of them hold a price
-  pub room_for_answer : (s : ℕ) → o.to ≡ To.Person s → s < g.shards → Shaped g w.persons_mail g.shards → w.persons_mail.nodes ≡ 4 * g.persons → weight price_one w.persons_mail ≤ 2 * g.persons → answer_one o.letter ≡ 1 → 0 < free_of w.persons_mail
-  room_for_answer s e l shape nodes few one =
-      let c : Ways = ways g w lost in
-      let a = person_weight answer_one s e l shape in
-      let b = person_ones shape in
-      let d = answers_le g w c inv.counts in
-      let x = everywhere_add g (λ l. award_one l + refused_one l) outbid_one c in
-      let y = everywhere_add g award_one refused_one c in
-      let u = weight_ones w.persons_mail in
-      omega (arith, a, b, d, x, y, u, nodes, few, one)
+  awards_reserved : (h : Option Held) (i j : ℕ) (p : ℤ) → Each (Reserved g) (awards g.shards h i j p)
+  awards_reserved None i j p = (refl, (refl, tt))
+  awards_reserved (Some h) i j p = (refl, (refl, tt))
+
+  room_objects : (v : World) (q x n : ℕ) (l : Letter) (os : List Out) → Takes w.objects_mail q x n l v.objects_mail → v.persons_mail ≡ w.persons_mail → v.hub_mail ≡ w.hub_mail → v.person_out ≡ w.person_out → v.object_out ≡ put w.object_out q os → v.has_stopped ≡ w.has_stopped
+      → Each (Reserved g) os → v.end ≢ Some (End.Stopped Why.Mail) → Room g v
+  room_objects v q x n l os t e1 e2 e3 e4 e5 reserved end =
+      record {
+        objects_nodes = nodes_taken w.objects_mail v.objects_mail q x n l t ∙ room.objects_nodes;
+        persons_nodes = rw e1 room.persons_nodes;
+        hub_nodes = rw e2 room.hub_nodes;
+        few_prices = rw e1 room.few_prices;
+        few_stops = rw (e2, e3, e5) room.few_stops;
+        person_reserves = rw e3 room.person_reserves;
+        object_reserves = rw e4 (each_put g w.object_out q os reserved room.object_reserves);
+        no_mail = end;
+      }
+
+  pub room_object_take : (q : ℕ) (r : TurnReply) (v : World) → ObjectTakeTurn g w q r v → Room g v
+  room_object_take q r v (ObjectTakeTurn.no_letter h e1 e) = rw e room
+  room_object_take q r v (ObjectTakeTurn.accepts x n i a j amount m h1 h2 t fits enough e1 e) =
+      let outs : List Out = awards g.shards (w.holder j) i j amount in
+      rw e (room_objects (sold w q m j amount (record { person = i; arc = a }) outs) q x n (Letter.Bid i a j amount) outs t refl refl refl refl refl (awards_reserved (w.holder j) i j amount) room.no_mail)
+  room_object_take q r v (ObjectTakeTurn.declines x n i a j amount m h1 h2 t fits low e1 e) =
+      let outs : List Out = refusal g.shards i j (w.price j) in
+      rw e (room_objects (record w { objects_mail = m; object_out = put w.object_out q outs }) q x n (Letter.Bid i a j amount) outs t refl refl refl refl refl (refl, tt) room.no_mail)
+  room_object_take q r v (ObjectTakeTurn.strays x n l m h1 h2 t bad e1 e) =
+      rw e (room_objects (ended (record w { objects_mail = m }) Why.Stray) q x n l (w.object_out q) t refl refl refl (sym (put_self w.object_out q)) refl (room.object_reserves q) (not_mail w.end Why.Stray (λ z. cc) room.no_mail))
+
+  room_hub : (v : World) (x n : ℕ) (l : Letter) → Takes w.hub_mail 0 x n l v.hub_mail → v.objects_mail ≡ w.objects_mail → v.persons_mail ≡ w.persons_mail → v.person_out ≡ w.person_out → v.object_out ≡ w.object_out → v.has_stopped ≡ w.has_stopped
+      → v.end ≢ Some (End.Stopped Why.Mail) → Room g v
+  room_hub v x n l t e1 e2 e3 e4 e5 end =
+      let a = weight_taken w.hub_mail v.hub_mail 0 x n l stop_one k.shapes.hub.whole t in
+      record {
+        objects_nodes = rw e1 room.objects_nodes;
+        persons_nodes = rw e2 room.persons_nodes;
+        hub_nodes = nodes_taken w.hub_mail v.hub_mail 0 x n l t ∙ room.hub_nodes;
+        few_prices = rw e2 room.few_prices;
+        few_stops = rw (e3, e5) (omega (arith, a, room.few_stops));
+        person_reserves = rw e3 room.person_reserves;
+        object_reserves = rw e4 room.object_reserves;
+        no_mail = end;
+      }
+
+  first_everyone : (d : Option End) → d ≢ Some (End.Stopped Why.Mail) → first_end d End.All ≢ Some (End.Stopped Why.Mail)
+  first_everyone None n e = cc
+  first_everyone (Some x) n e = n e
+
+  hub_room : (x n : ℕ) (l : Letter) (m : Mail Letter) → Takes w.hub_mail 0 x n l m → Routed g To.Hub x l → Room g (hub_after g l (record w { hub_mail = m }))
+  hub_room x n (Letter.First j) m t r =
+      let b : World = record w { hub_mail = m } in
+      let u : World = record b { count = w.count + 1; end = if (w.count + 1) == g.persons then first_end w.end End.All else w.end } in
+      cond_both (nat_lt w.count g.persons) u b (λ (z : World). Room g z)
+      (λ f. room_hub u x n (Letter.First j) t refl refl refl refl refl
+      (cond_both ((w.count + 1) == g.persons) (first_end w.end End.All) w.end (λ (y : Option End). y ≢ Some (End.Stopped Why.Mail)) (λ h. first_everyone w.end room.no_mail) (λ h. room.no_mail)))
+      (λ f. room_hub b x n (Letter.First j) t refl refl refl refl refl room.no_mail)
+  hub_room x n (Letter.Stop y) m t r = room_hub (ended (record w { hub_mail = m }) y) x n (Letter.Stop y) t refl refl refl refl refl (not_mail w.end y (other y r) room.no_mail)
+    where
+      other : (y : Why) → Routed g To.Hub x (Letter.Stop y) → y ≢ Why.Mail
+      other Why.Bids r e = cc
+      other Why.Stuck r e = cc
+      other Why.Ceiling r e = cc
+      other Why.Posts r e = cc
+      other Why.Trail r e = cc
+      other Why.Mail r e = r
+      other Why.Fell r e = cc
+      other Why.Stray r e = cc
+  hub_room x n (Letter.Bid i a j p) m t r = absurd r
+  hub_room x n (Letter.Award i j p) m t r = absurd r
+  hub_room x n (Letter.Refused i j p) m t r = absurd r
+  hub_room x n (Letter.Outbid i j p) m t r = absurd r
+  hub_room x n (Letter.Price j p) m t r = absurd r
+
+  pub room_hub_take : (r : TurnReply) (v : World) → HubTakeTurn g w r v → Room g v
+  room_hub_take r v (HubTakeTurn.no_letter h e1 e) = rw e room
+  room_hub_take r v (HubTakeTurn.takes x n l m t e1 e) =
+      let whole = k.shapes.hub.whole in
+      rw e (hub_room x n l m t (routed_first g (ways g w k.lost) k.inv.routed To.Hub x l (left_behind g w k.lost To.Hub x n l m whole t) (way_taken g w k.lost To.Hub x n l m whole t)))
+
+  -- a box that closes keeps its letters
+  room_closed : (name : MailName) (b : ℕ) → Room g (with_mail_named w name (with_closed (mail_named w name) b))
+  room_closed MailName.Objects b = record {
+    objects_nodes = room.objects_nodes;
+    persons_nodes = room.persons_nodes;
+    hub_nodes = room.hub_nodes;
+    few_prices = room.few_prices;
+    few_stops = room.few_stops;
+    person_reserves = room.person_reserves;
+    object_reserves = room.object_reserves;
+    no_mail = room.no_mail;
+  }
+  room_closed MailName.Persons b = record {
+    objects_nodes = room.objects_nodes;
+    persons_nodes = room.persons_nodes;
+    hub_nodes = room.hub_nodes;
+    few_prices = room.few_prices;
+    few_stops = room.few_stops;
+    person_reserves = room.person_reserves;
+    object_reserves = room.object_reserves;
+    no_mail = room.no_mail;
+  }
+  room_closed MailName.Hub b = record {
+    objects_nodes = room.objects_nodes;
+    persons_nodes = room.persons_nodes;
+    hub_nodes = room.hub_nodes;
+    few_prices = room.few_prices;
+    few_stops = room.few_stops;
+    person_reserves = room.person_reserves;
+    object_reserves = room.object_reserves;
+    no_mail = room.no_mail;
+  }
+
+  pub room_turn : (t : Turn) (r : TurnReply) (v : World) → Turned g w t r v → Room g v
+  room_turn (Turn.Bid s) r v h = room_bid s r v h
+  room_turn (Turn.PersonPost s) r v h = room_post (PersonShard s) r v h
+  room_turn (Turn.ObjectPost q) r v h = room_post (ObjectShard q) r v h
+  room_turn (Turn.PersonTake s) r v h = room_person_take s r v h
+  room_turn (Turn.ObjectTake q) r v h = room_object_take q r v h
+  room_turn (Turn.Tell q j s) r v h = room_tell q j s r v h
+  room_turn Turn.HubTake r v h = room_hub_take r v h
+  room_turn (Turn.HubClose name b) r v (HubCloseTurn.leaves h e1 e) = rw e room
+  room_turn (Turn.HubClose name b) r v (HubCloseTurn.closes m h1 h2 h3 e1 e) = rw (e, h3.1) (room_closed name b)
+
+pub room_schedule : (g : Phase) (w : World) (ts : List Turn) (v : World) → Lawful g → Kept g w → Room g w → Schedule g w ts v → Room g v
+room_schedule g w [] v law k room e = rw e room
+room_schedule g w (t ∷ ts) v law k room h = room_schedule g h.0 ts v law (kept_turn g w law k t h.1 h.0 h.2) (room_turn g w law k room t h.1 h.0 h.2) h.3

@@ -31,9 +31,9 @@ use Rattle.auc_model.proofs.PlaceSteps.{place_award, place_dropped, place_hear, 
 use Rattle.auc_model.proofs.Places.{no_stray, put_at, put_off}
 use Rattle.auc_model.proofs.PriceSteps.{learns_no_less, price_is_told, price_kept, price_learned, price_lost, price_raised, price_sent, price_taken}
 use Rattle.auc_model.proofs.Routes.{routed_dropped, routed_first, routed_middle, routed_popped, routed_sent}
-use Rattle.auc_model.proofs.Same.{from_some, same_answer}
+use Rattle.auc_model.proofs.SameAnswers.{from_some, same_answer}
 use Rattle.auc_model.proofs.Slack.{all_gone, all_sent, each_map, fair_rises}
-use Rattle.auc_model.proofs.Steps.{answers_head}
+use Rattle.auc_model.proofs.Pairs.{answers_head}
 use Rattle.auc_model.proofs.Views.{cases_both, put2_at, put2_off, send_two}
 
 -- what the way says of an answer

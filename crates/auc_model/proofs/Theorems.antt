@@ -19,9 +19,9 @@ use Rattle.auc_model.proofs.Everyone.{holds_some}
 use Rattle.auc_model.proofs.Example.{usual}
 use Rattle.auc_model.proofs.Places.{held_once, put_self}
 use Rattle.auc_model.proofs.Prices.{copy_low}
-use Rattle.auc_model.proofs.RoomTurns.{room_schedule}
+use Rattle.auc_model.proofs.Room.{room_schedule}
 use Rattle.auc_model.proofs.Schedule.{kept_schedule}
-use Rattle.auc_model.proofs.Starting.{kept_start, room_start}
+use Rattle.auc_model.proofs.Start.{kept_start, room_start}
 use Rattle.auc_model.proofs.WorkedRun.{run}
 
 sound_no_guard : (e : Option End) → Sound e → (e ≢ Some (End.Stopped Why.Fell)) × (e ≢ Some (End.Stopped Why.Stray)) × (e ≢ Some (End.Stopped Why.Trail))

@@ -1,5 +1,5 @@
 -- Sums over numbers and over all ways, and how one change moves them.
-use Rattle.std.proofs.Common.{ℕ, zero, suc, ◌+◌, ◌<◌, ◌≡◌, ◌≢◌, refl, arith, true, false, List, [], ◌∷◌, sum_by, inl, inr, ap, ◌∙◌}
+use Rattle.std.proofs.Common.{ℕ, ◌+◌, ◌<◌, ◌≡◌, ◌≢◌, refl, arith, true, false, List, [], ◌∷◌, sum_by, inl, inr, ap, ◌∙◌}
 use Rattle.std.specs.Prelude.{◌==◌}
 use Rattle.std.proofs.lemmas.Bool.{cases_eq, eq-eqb, ne_eqb, and_left, and_right}
 use Rattle.std.proofs.lemmas.List.Sums.{sum_by-append, sum_by_push}
@@ -8,10 +8,9 @@ use Rattle.auc_letters.specs.declared.out.Out.{Out}
 use Rattle.auc_letters.specs.declared.out.To.{To}
 use Rattle.auc_model.specs.Counts.{everywhere, total}
 use Rattle.auc_model.specs.Letters.{same_to}
-use Rattle.auc_model.specs.Put.{put}
 use Rattle.auc_model.specs.Ways.{Ways, send, set_way}
 use Rattle.auc_model.specs.World.{Phase, senders}
-use Rattle.auc_model.proofs.Places.{put_at, put_off}
+use Rattle.auc_model.proofs.Sums.{total_change, total_same}
 use Rattle.auc_model.proofs.Ways.{both_hold, set_way_here, set_way_off}
 
 -- the box of a mail is there
@@ -19,31 +18,6 @@ abbrev pub IsBox : Phase → To → Type 0
 IsBox g (To.Person s) = s < g.shards
 IsBox g (To.Object q) = q < g.shards
 IsBox g To.Hub = Unit {0}
-
-pub total_same : (f h : ℕ → ℕ) (n : ℕ) → ((k : ℕ) → h k ≡ f k) → total h n ≡ total f n
-total_same f h zero e = refl
-total_same f h (suc n) e = rw (total_same f h n e, e n)
-
--- a change at one place below n
-pub total_change : (f h : ℕ → ℕ) (n k : ℕ) → k < n → ((m : ℕ) → m ≢ k → h m ≡ f m) → total h n + f k ≡ total f n + h k
-total_change f h zero k l e = absurd (omega arith)
-total_change f h (suc n) k l e = elim (cases_eq n k) [ inl p ↦ at n k p e | inr p ↦ below n k l p e (total_change f h n k) ]
-  where
-    same_below : (n : ℕ) → ((m : ℕ) → m < n → h m ≡ f m) → total h n ≡ total f n
-    same_below zero e = refl
-    same_below (suc n) e = rw (same_below n (λ m l. e m (omega arith)), e n (omega arith))
-
-    at : (n k : ℕ) → n ≡ k → ((m : ℕ) → m ≢ k → h m ≡ f m) → total h (suc n) + f k ≡ total f (suc n) + h k
-    at n k p e = let s = same_below n (λ m l. e m (omega arith)) in rw (s, p) (omega arith)
-
-    below : (n k : ℕ) → k < suc n → n ≢ k → ((m : ℕ) → m ≢ k → h m ≡ f m) → (k < n → ((m : ℕ) → m ≢ k → h m ≡ f m) → total h n + f k ≡ total f n + h k) → total h (suc n) + f k ≡ total f (suc n) + h k
-    below n k l p e ih = let i = ih (omega arith) e in let s = e n p in omega (arith, i, s)
-
-pub total_put : {X : Type 0} (f : X → ℕ) (t : ℕ → X) (k : ℕ) (v : X) (n : ℕ) → k < n → total (λ m. f (put t k v m)) n + f (t k) ≡ total (λ m. f (t m)) n + f v
-total_put f t k v n l =
-    let e = total_change (λ m. f (t m)) (λ m. f (put t k v m)) n k l (λ m p. ap f (put_off t k v m p)) in
-    let s : f (put t k v k) ≡ f v = ap f (put_at t k v k refl) in
-    omega (arith, e, s)
 
 -- one letter is sent, to a box that is there, by a sender that is there
 module _ (g : Phase) (f : Letter → ℕ) (c : Ways) (x : ℕ) (o : Out) (in_range : x < senders g) where

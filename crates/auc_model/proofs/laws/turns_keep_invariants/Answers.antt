@@ -1,6 +1,6 @@
-use Rattle.auc_model.proofs.Starting.{kept_start, room_start}
+use Rattle.auc_model.proofs.Start.{kept_start, room_start}
 use Rattle.auc_model.proofs.Schedule.{kept_turn}
-use Rattle.auc_model.proofs.RoomTurns.{room_turn}
+use Rattle.auc_model.proofs.Room.{room_turn}
 use Rattle.auc_model.proofs.laws.turns_keep_invariants.Goals as goal
 
 pub returns : goal.returns

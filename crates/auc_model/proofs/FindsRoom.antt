@@ -15,10 +15,10 @@ use Rattle.auc_model.specs.Ways.{Lost, Routed, Ways, out_of, waiting, ways}
 use Rattle.auc_model.specs.World.{Phase, World, senders}
 use Rattle.auc_model.proofs.Bounds.{firsts_le}
 use Rattle.auc_model.proofs.Mails.{weight_ones}
-use Rattle.auc_model.proofs.Room.{each_front, front_le, room_for_answer, room_for_bid, sum_by_like, total_le, weight-total, weight_add}
 use Rattle.auc_model.proofs.Routes.{routed_middle}
-use Rattle.auc_model.proofs.Totals.{total_same}
+use Rattle.auc_model.proofs.Sums.{total_le, total_same}
 use Rattle.auc_model.proofs.Ways.{ahead, way_full}
+use Rattle.auc_model.proofs.Weights.{each_front, front_le, room_for_answer, room_for_bid, sum_by_like, weight-total, weight_add}
 
 only_hub : (g : Phase) (x : ℕ) (l : Letter) → Routed g To.Hub x l → 1 ≡ first_one l + stop_one l
 only_hub g x (Letter.First j) r = refl

@@ -1,5 +1,5 @@
 -- How much the waiting letters weigh after a post and a take; and that prices take at most half of the room.
-use Rattle.std.proofs.Common.{ℕ, ◌+◌, ◌*◌, ◌≤◌, ◌≡◌, refl, arith, Bool, true, false, List, [], ◌∷◌, sum_by, ap, ◌∙◌}
+use Rattle.std.proofs.Common.{ℕ, ◌+◌, ◌*◌, ◌≤◌, ◌≡◌, refl, arith, Bool, true, false, List, ◌∷◌, sum_by, ap, ◌∙◌}
 use Rattle.std.specs.Prelude.{if◌then◌else◌}
 use Rattle.std.proofs.lemmas.List.Sums.{sum_by-cons, sum_by_push}
 use Rattle.auc_letters.specs.declared.letter.Letter.{Letter}
@@ -13,10 +13,7 @@ use Rattle.auc_model.specs.Posting.{is_price}
 use Rattle.auc_model.specs.Room.{weight}
 use Rattle.auc_model.specs.Ways.{waiting}
 use Rattle.auc_model.proofs.Mails.{waiting_there, weight-set, weight_ones}
-
-sum_by_le : {X : Type 0} (f h : X → ℕ) → ((x : X) → f x ≤ h x) → (xs : List X) → sum_by f xs ≤ sum_by h xs
-sum_by_le f h e [] = omega arith
-sum_by_le f h e (x ∷ xs) = let a = sum_by_le f h e xs in let b = e x in let c = sum_by-cons f x xs in let d = sum_by-cons h x xs in omega (arith, a, b, c, d)
+use Rattle.auc_model.proofs.Sums.{sum_by_le}
 
 weight_le : (m : Mail Letter) (f h : Letter → ℕ) → ((l : Letter) → f l ≤ h l) → weight f m ≤ weight h m
 weight_le m f h e = sum_by_le (λ (l : Lane Letter). sum_by f l.waiting) (λ (l : Lane Letter). sum_by h l.waiting) (λ l. sum_by_le f h e l.waiting) m.lanes

@@ -1,5 +1,5 @@
 -- The world that a phase begins with keeps what every turn keeps.
-use Rattle.std.proofs.Common.{ℕ, zero, suc, ◌-◌, ◌*◌, ◌≡◌, refl, arith, true, List, [], length, sum_by, ap, sym, ◌∙◌, subst}
+use Rattle.std.proofs.Common.{ℕ, ◌-◌, ◌*◌, ◌≡◌, refl, arith, true, List, [], length, sum_by, ap, sym, ◌∙◌, subst}
 use Rattle.std.specs.Prelude.{nat_lt}
 use Rattle.std.proofs.lemmas.Bool.{cond_both}
 use Rattle.std.proofs.lemmas.List.{length-replicate}
@@ -17,6 +17,8 @@ use Rattle.auc_model.specs.Room.{Room, stops_out, weight}
 use Rattle.auc_model.specs.Start.{IsNew, Starts, UsualNodes}
 use Rattle.auc_model.specs.Ways.{Ways, out_of, waiting, ways}
 use Rattle.auc_model.specs.World.{Phase, World, senders}
+use Rattle.auc_model.proofs.Example.{usual}
+use Rattle.auc_model.proofs.Sums.{total_zero}
 use Rattle.auc_model.proofs.Ways.{same_ways}
 
 -- a new mail
@@ -43,10 +45,6 @@ module _ (g : Phase) (m : Mail Letter) (boxes : ℕ) (new : IsNew g m boxes) whe
       let a = sum_by-replicate (λ (l : Lane Letter). sum_by f l.waiting) (boxes * senders g) blank_lane in
       let e = ap (λ (z : Mail Letter). weight f z) new in
       omega (arith, a, e)
-
-pub total_zero : (f : ℕ → ℕ) (n : ℕ) → ((k : ℕ) → f k ≡ 0) → total f n ≡ 0
-total_zero f zero e = refl
-total_zero f (suc n) e = rw (total_zero f n e, e n) (omega arith)
 
 everywhere_empty : (g : Phase) (f : Letter → ℕ) → everywhere g f (λ t x. []) ≡ 0
 everywhere_empty g f =

@@ -36,7 +36,7 @@ plus_sent g c x o h b =
       firsts = everywhere_sent g first_one c x o h b;
     }
 
-less : (g : Phase) (f : Letter → ℕ) (c : Ways) (t : To) (x : ℕ) (hs : List Letter) (l : Letter) (ls : List Letter) → c t x ≡ hs ++ l ∷ ls → x < senders g → IsBox g t
+pub less : (g : Phase) (f : Letter → ℕ) (c : Ways) (t : To) (x : ℕ) (hs : List Letter) (l : Letter) (ls : List Letter) → c t x ≡ hs ++ l ∷ ls → x < senders g → IsBox g t
     → everywhere g f c ≡ everywhere g f (set_way c t x (hs ++ ls)) + f l
 less g f c t x hs l ls e h b =
     let a = everywhere_set g f c x (hs ++ ls) h t b in

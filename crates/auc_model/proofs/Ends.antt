@@ -1,8 +1,8 @@
 -- How a turn may move the end and the hub's count: the first cause sets the end, it then stays, and it is All only where
 -- every person was counted.
-use Rattle.std.proofs.Common.{ℕ, ◌+◌, ◌<◌, ◌≡◌, refl, arith, true, false, List, [], ◌∷◌, Option, Some, None, inl, inr, ap, sym, ◌∙◌}
+use Rattle.std.proofs.Common.{ℕ, ◌+◌, ◌<◌, ◌≡◌, ◌≢◌, refl, arith, true, false, List, [], ◌∷◌, Option, Some, None, inl, inr, ap, sym, ◌∙◌}
 use Rattle.std.specs.Prelude.{if◌then◌else◌, ◌==◌, nat_lt}
-use Rattle.std.proofs.lemmas.Bool.{cond_both, eqb-true, cases_Bool, cases_lt}
+use Rattle.std.proofs.lemmas.Bool.{cond_both, eqb-true, eq-eqb, cases_Bool, cases_lt}
 use Rattle.std.proofs.lemmas.Bool.Decides.{nat_tests}
 use Rattle.auc_letters.specs.Award.{awards, refusal}
 use Rattle.auc_letters.specs.Routing.{price_told}
@@ -23,8 +23,9 @@ use Rattle.auc_model.specs.declared.turn.MailName.{MailName}
 use Rattle.auc_model.specs.declared.turn.Turn.{Turn}
 use Rattle.auc_model.specs.declared.turn.TurnReply.{TurnReply}
 use Rattle.auc_model.proofs.Schedule.{count_with_mail, count_with_outbox, end_with_mail, end_with_outbox}
+use Rattle.auc_model.proofs.WorkedRun.{run}
 
-data EndMove (g : Phase) (w v : World) : Type 0 where
+pub data EndMove (g : Phase) (w v : World) : Type 0 where
   stays : v.end ≡ w.end → v.count ≡ w.count → EndMove g w v
   stops : (y : Why) → v.end ≡ first_end w.end (End.Stopped y) → v.count ≡ w.count → EndMove g w v
   counts : w.count < g.persons → v.count ≡ w.count + 1 → v.end ≡ (if (w.count + 1) == g.persons then first_end w.end End.All else w.end) → EndMove g w v
@@ -81,7 +82,7 @@ module _ (g : Phase) (w : World) where
   post_end h r v (PostTurn.drops_price o rest y may p n i e1 e) = stays_as g w v (with_outbox w h rest) e (end_with_outbox w h rest) (count_with_outbox w h rest)
   post_end h r v (PostTurn.keeps_letter o rest y may p n i e1 e) = stops_as g w v w (reason y) e refl refl
 
-  turn_end : (t : Turn) (r : TurnReply) (v : World) → Turned g w t r v → EndMove g w v
+  pub turn_end : (t : Turn) (r : TurnReply) (v : World) → Turned g w t r v → EndMove g w v
   turn_end (Turn.Bid s) r v (BidTurn.barred h e1 e) = stays_as g w v w e refl refl
   turn_end (Turn.Bid s) r v (BidTurn.stops i rest y may why e1 e) = stays_as g w v (after_stop w s y) e refl refl
   turn_end (Turn.Bid s) r v (BidTurn.bids i rest a amount may left best low e1 e) = stays_as g w v (after_bid g w s i rest a amount) e refl refl
@@ -141,3 +142,30 @@ all_counted_move g w v (EndMove.counts l c e) h all =
 pub all_schedule : (g : Phase) (w : World) (ts : List Turn) (v : World) → Schedule g w ts v → AllCounted g w → AllCounted g v
 all_schedule g w [] v e h all = ap (λ (x : World). x.count) e ∙ h (sym (ap (λ (x : World). x.end) e) ∙ all)
 all_schedule g w (t ∷ ts) v run h all = all_schedule g run.0 ts v run.3 (all_counted_move g w run.0 (turn_end g w t run.1 run.0 run.2) h) all
+
+-- where every person was counted, the end is set
+abbrev pub EndsCounted : Phase → World → Type 0
+EndsCounted g w = w.count ≡ g.persons → w.end ≢ None
+
+set_first : (o : Option End) (d : End) → first_end o d ≢ None
+set_first None d e = cc
+set_first (Some x) d e = cc
+
+ends_counted_move : (g : Phase) (w v : World) → EndMove g w v → EndsCounted g w → EndsCounted g v
+ends_counted_move g w v (EndMove.stays e c) h all none = h (sym c ∙ all) (sym e ∙ none)
+ends_counted_move g w v (EndMove.stops y e c) h all none = set_first w.end (End.Stopped y) (sym e ∙ none)
+ends_counted_move g w v (EndMove.counts l c e) h all none =
+    let t : ((w.count + 1) == g.persons) ≡ true = eq-eqb (w.count + 1) g.persons (sym c ∙ all) in
+    set_first w.end End.All (sym (e ∙ rw t) ∙ none)
+
+pub ends_counted_schedule : (g : Phase) (w : World) (ts : List Turn) (v : World) → Schedule g w ts v → EndsCounted g w → EndsCounted g v
+ends_counted_schedule g w [] v e h all none = h (sym (ap (λ (x : World). x.count) e) ∙ all) (sym (ap (λ (x : World). x.end) e) ∙ none)
+ends_counted_schedule g w (t ∷ ts) v run h all none = ends_counted_schedule g run.0 ts v run.3 (ends_counted_move g w run.0 (turn_end g w t run.1 run.0 run.2) h) all none
+
+-- an end that is not set was not set before
+pub end_back : (g : Phase) (w v : World) → EndMove g w v → v.end ≡ None → w.end ≡ None
+end_back g w v m none = by w.end refl
+  where
+    by : (o : Option End) → w.end ≡ o → w.end ≡ None
+    by None e = e
+    by (Some d) e = absurd (let s = end_move_stays g w v d e m in cc (s, none))

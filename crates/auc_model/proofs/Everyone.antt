@@ -19,8 +19,8 @@ use Rattle.auc_model.specs.Ways.{Each, Ways, answer_to, answers_in, bid_by, bids
 use Rattle.auc_model.specs.World.{Phase, World, senders}
 use Rattle.auc_model.proofs.Bounds.{all_told, no_stall}
 use Rattle.auc_model.proofs.Places.{replay-Wrong}
-use Rattle.auc_model.proofs.Sums.{full_at, total_add, total_zero, zero_at}
-use Rattle.auc_model.proofs.Totals.{IsBox}
+use Rattle.auc_model.proofs.Sums.{full_at, total_add, zero_at}
+use Rattle.auc_model.proofs.Totals.{IsBox, everywhere_nothing}
 
 -- nothing of a kind is under way, so nothing of it is on a way
 way_zero : (g : Phase) (f : Letter → ℕ) (c : Ways) → everywhere g f c ≡ 0 → (t : To) (x : ℕ) → IsBox g t → x < senders g → sum_by f (c t x) ≡ 0
@@ -106,20 +106,12 @@ module _ (g : Phase) (w : World) (c : Ways) (law : Lawful g) (inv : Inv g w c) w
   total_ones f zero e = refl
   total_ones f (suc n) e = let a = total_ones f n (λ k l. e k (omega arith)) in let b = e n (omega arith) in omega (arith, a, b)
 
-  nothing_there : (f : Letter → ℕ) → ((t : To) (x : ℕ) → c t x ≡ []) → everywhere g f c ≡ 0
-  nothing_there f none =
-      let z : (t : To) (x : ℕ) → sum_by f (c t x) ≡ 0 = λ t x. ap (λ (ls : List Letter). sum_by f ls) (none t x) in
-      let a = total_zero (λ q. total (λ x. sum_by f (c (To.Object q) x)) (senders g)) g.shards (λ q. total_zero (λ x. sum_by f (c (To.Object q) x)) (senders g) (z (To.Object q))) in
-      let b = total_zero (λ q. total (λ x. sum_by f (c (To.Person q) x)) (senders g)) g.shards (λ q. total_zero (λ x. sum_by f (c (To.Person q) x)) (senders g) (z (To.Person q))) in
-      let d = total_zero (λ x. sum_by f (c To.Hub x)) (senders g) (z To.Hub) in
-      omega (arith, a, b, d)
-
   -- where no letter is under way and no shard has a free person, the hub has counted every person
   pub all_counted : ((s : ℕ) → s < g.shards → w.idle s ≡ []) → ((t : To) (x : ℕ) → c t x ≡ []) → w.count ≡ g.persons
   all_counted idle none =
       let t = total_add (λ k. waits_one (w.state k)) (λ k. holds_one (w.state k)) g.persons in
       let a = total_ones (λ k. waits_one (w.state k) + holds_one (w.state k)) g.persons busy in
-      no_stall g w c inv.counts (omega (arith, t, a)) (nothing_there bid_one none) (nothing_there award_one none) (nothing_there refused_one none) (nothing_there outbid_one none) (nothing_there first_one none)
+      no_stall g w c inv.counts (omega (arith, t, a)) (everywhere_nothing g bid_one c none) (everywhere_nothing g award_one c none) (everywhere_nothing g refused_one c none) (everywhere_nothing g outbid_one c none) (everywhere_nothing g first_one c none)
     where
       not_free : (s : PersonState) (i : ℕ) → 0 ≡ free_in g s (i % g.shards) i → i < g.persons → waits_one s + holds_one s ≡ 1
       not_free Free i e l = absurd (grind (arith, nat_tests))

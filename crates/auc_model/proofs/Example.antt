@@ -54,6 +54,7 @@ starts = record {
   nobody_holds = (λ j. refl);
   all_free = (λ i. refl);
   idle_is = idle_is;
+  none_stopped = (λ s. refl);
   no_person_out = (λ s. refl);
   no_object_out = (λ q. refl);
   objects_mail = refl;

@@ -28,6 +28,10 @@ pub mod Theorems
 pub mod Copies
 pub mod Ends
 pub mod Small
+pub mod Opening
+pub mod Stall
+pub mod Still
+pub mod Rests
 pub mod Tables
 pub mod Dealt
 pub mod Example

@@ -105,11 +105,11 @@ to_step w v (To.Person s) m c r h e = named_step w v MailName.Persons m c r h e
 to_step w v (To.Object q) m c r h e = named_step w v MailName.Objects m c r h e
 to_step w v To.Hub m c r h e = named_step w v MailName.Hub m c r h e
 
-same_outbox : (w : World) (h : Shard) (os : List Out) → SameMails w (with_outbox w h os)
+pub same_outbox : (w : World) (h : Shard) (os : List Out) → SameMails w (with_outbox w h os)
 same_outbox w (PersonShard s) os = record { objects = refl; persons = refl; hub = refl }
 same_outbox w (ObjectShard q) os = record { objects = refl; persons = refl; hub = refl }
 
-same_heard : (w : World) (s : ℕ) (l : Letter) → SameMails w (after_letter w s l)
+pub same_heard : (w : World) (s : ℕ) (l : Letter) → SameMails w (after_letter w s l)
 same_heard w s (Letter.Award i j p) = record { objects = refl; persons = refl; hub = refl }
 same_heard w s (Letter.Refused i j p) = record { objects = refl; persons = refl; hub = refl }
 same_heard w s (Letter.Outbid i j p) = record { objects = refl; persons = refl; hub = refl }
@@ -118,7 +118,7 @@ same_heard w s (Letter.Bid i a j p) = record { objects = refl; persons = refl; h
 same_heard w s (Letter.First j) = record { objects = refl; persons = refl; hub = refl }
 same_heard w s (Letter.Stop y) = record { objects = refl; persons = refl; hub = refl }
 
-same_hub : (g : Phase) (l : Letter) (w : World) → SameMails w (hub_after g l w)
+pub same_hub : (g : Phase) (l : Letter) (w : World) → SameMails w (hub_after g l w)
 same_hub g (Letter.First j) w =
     cond_both (nat_lt w.count g.persons) _ w (λ (x : World). SameMails w x) (λ e. record { objects = refl; persons = refl; hub = refl }) (λ e. record { objects = refl; persons = refl; hub = refl })
 same_hub g (Letter.Stop y) w = record { objects = refl; persons = refl; hub = refl }

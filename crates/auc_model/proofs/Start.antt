@@ -1,15 +1,15 @@
 -- The world that a phase begins with keeps what every turn keeps.
-use Rattle.std.proofs.Common.{ℕ, ◌-◌, ◌*◌, ◌≡◌, refl, arith, true, List, [], length, sum_by, ap, sym, ◌∙◌, subst}
+use Rattle.std.proofs.Common.{ℕ, ◌-◌, ◌*◌, ◌<◌, ◌≡◌, refl, arith, true, false, List, [], length, sum_by, ap, sym, ◌∙◌, subst}
 use Rattle.std.specs.Prelude.{nat_lt}
 use Rattle.std.proofs.lemmas.Bool.{cond_both}
-use Rattle.std.proofs.lemmas.List.{length-replicate}
+use Rattle.std.proofs.lemmas.List.{length-replicate, get_or-replicate}
 use Rattle.std.proofs.lemmas.List.Folds.{sum_by-replicate}
 use Rattle.auc_letters.specs.declared.letter.Letter.{Letter}
 use Rattle.auc_letters.specs.declared.out.Out.{Out}
 use Rattle.auc_letters.specs.declared.out.To.{To}
 use Rattle.auc_mail.proofs.RunLaws.{empty_lane, empty_sound}
-use Rattle.auc_mail.specs.Mail.{IsEmpty, Lane, Mail, blank_lane, empty_mail, lane_of}
-use Rattle.auc_model.specs.Counts.{Counts, everywhere, held_one, holds_one, total, waits_one}
+use Rattle.auc_mail.specs.Mail.{IsEmpty, IsOpen, Lane, Mail, blank_lane, empty_mail, is_open, lane_of}
+use Rattle.auc_model.specs.Counts.{Counts, held_one, holds_one, waits_one}
 use Rattle.auc_model.specs.Invariants.{Inv, Kept, Shaped}
 use Rattle.auc_model.specs.Letters.{award_one, bid_one, first_one, outbid_one, price_one, refused_one, stop_one}
 use Rattle.auc_model.specs.Mails.{box_of, mail_of}
@@ -19,6 +19,7 @@ use Rattle.auc_model.specs.Ways.{Ways, out_of, waiting, ways}
 use Rattle.auc_model.specs.World.{Phase, World, senders}
 use Rattle.auc_model.proofs.Example.{usual}
 use Rattle.auc_model.proofs.Sums.{total_zero}
+use Rattle.auc_model.proofs.Totals.{everywhere_nothing}
 use Rattle.auc_model.proofs.Ways.{same_ways}
 
 -- a new mail
@@ -40,32 +41,29 @@ module _ (g : Phase) (m : Mail Letter) (boxes : ℕ) (new : IsNew g m boxes) whe
       cond_both (nat_lt x m.senders) (lane_of m b x).waiting [] (λ (ls : List Letter). ls ≡ [])
       (λ e. ap (λ (l : Lane Letter). l.waiting) (empty_lane m b x empty)) (λ e. refl)
 
+  pub new_open : (b : ℕ) → b < boxes → IsOpen m b
+  new_open b l = ap (λ (z : Mail Letter). is_open z b) new ∙ get_or-replicate boxes b true false l
+
   pub new_weight : (f : Letter → ℕ) → weight f m ≡ 0
   new_weight f =
       let a = sum_by-replicate (λ (l : Lane Letter). sum_by f l.waiting) (boxes * senders g) blank_lane in
       let e = ap (λ (z : Mail Letter). weight f z) new in
       omega (arith, a, e)
 
-everywhere_empty : (g : Phase) (f : Letter → ℕ) → everywhere g f (λ t x. []) ≡ 0
-everywhere_empty g f =
-    let a = total_zero (λ q. total (λ x. 0) (senders g)) g.shards (λ q. total_zero (λ x. 0) (senders g) (λ x. refl)) in
-    let b = total_zero (λ x. 0) (senders g) (λ x. refl) in
-    omega (arith, a, b)
-
 module _ (g : Phase) (w : World) (s : Starts g w) where
-  no_letters : (t : To) (x : ℕ) → waiting (mail_of w t) (box_of t) x ≡ []
+  pub no_letters : (t : To) (x : ℕ) → waiting (mail_of w t) (box_of t) x ≡ []
   no_letters (To.Person q) x = new_waits g w.persons_mail g.shards s.persons_mail q x
   no_letters (To.Object q) x = new_waits g w.objects_mail g.shards s.objects_mail q x
   no_letters To.Hub x = new_waits g w.hub_mail 1 s.hub_mail 0 x
 
-  no_outs : (x : ℕ) → out_of g w x ≡ []
-  no_outs x =
+  pub no_outs_start : (x : ℕ) → out_of g w x ≡ []
+  no_outs_start x =
       cond_both (nat_lt x g.shards) (w.person_out x) _ (λ (os : List Out). os ≡ []) (λ e. s.no_person_out x)
       (λ e. cond_both (nat_lt x (2 * g.shards)) (w.object_out (x - g.shards)) [] (λ (os : List Out). os ≡ []) (λ f. s.no_object_out (x - g.shards)) (λ f. refl))
 
   starting_counts : Counts g w (λ t x. [])
   starting_counts =
-      let e = everywhere_empty g in
+      let e = λ (f : Letter → ℕ). everywhere_nothing g f (λ t x. []) (λ t x. refl) in
       let a = total_zero (λ i. waits_one (w.state i)) g.persons (λ i. rw (s.all_free i)) in
       let b = total_zero (λ i. holds_one (w.state i)) g.persons (λ i. rw (s.all_free i)) in
       let h = total_zero (λ j. held_one (w.holder j)) g.objects (λ j. rw (s.nobody_holds j)) in
@@ -100,7 +98,7 @@ module _ (g : Phase) (w : World) (s : Starts g w) where
     };
     lost = (λ t x. []);
     only_closed = (λ t x e. refl);
-    inv = subst (λ (c : Ways). Inv g w c) (sym (same_ways (ways g w (λ t x. [])) (λ t x. []) (λ t x. rw (no_letters t x, no_outs x)))) starting_inv;
+    inv = subst (λ (c : Ways). Inv g w c) (sym (same_ways (ways g w (λ t x. [])) (λ t x. []) (λ t x. rw (no_letters t x, no_outs_start x)))) starting_inv;
   }
 
   pub room_start : UsualNodes g w → Room g w

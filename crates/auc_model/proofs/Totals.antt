@@ -10,7 +10,7 @@ use Rattle.auc_model.specs.Counts.{everywhere, total}
 use Rattle.auc_model.specs.Letters.{same_to}
 use Rattle.auc_model.specs.Ways.{Ways, send, set_way}
 use Rattle.auc_model.specs.World.{Phase, senders}
-use Rattle.auc_model.proofs.Sums.{total_change, total_same}
+use Rattle.auc_model.proofs.Sums.{total_change, total_same, total_zero}
 use Rattle.auc_model.proofs.Ways.{both_hold, set_way_here, set_way_off}
 
 -- the box of a mail is there
@@ -113,3 +113,12 @@ module _ (g : Phase) (f : Letter → ℕ) (c : Ways) (x : ℕ) (ls : List Letter
       let a = total_same (λ r. total (λ y. sum_by f (c (To.Object r) y)) (senders g)) (λ r. total (λ y. sum_by f (d (To.Object r) y)) (senders g)) g.shards (λ r. set_row_off To.Hub (To.Object r) refl) in
       let b = total_same (λ r. total (λ y. sum_by f (c (To.Person r) y)) (senders g)) (λ r. total (λ y. sum_by f (d (To.Person r) y)) (senders g)) g.shards (λ r. set_row_off To.Hub (To.Person r) refl) in
       omega (arith, a, b, there)
+
+-- nothing is on any way
+pub everywhere_nothing : (g : Phase) (f : Letter → ℕ) (c : Ways) → ((t : To) (x : ℕ) → c t x ≡ []) → everywhere g f c ≡ 0
+everywhere_nothing g f c none =
+    let z : (t : To) (x : ℕ) → sum_by f (c t x) ≡ 0 = λ t x. ap (λ (ls : List Letter). sum_by f ls) (none t x) in
+    let a = total_zero (λ q. total (λ x. sum_by f (c (To.Object q) x)) (senders g)) g.shards (λ q. total_zero (λ x. sum_by f (c (To.Object q) x)) (senders g) (z (To.Object q))) in
+    let b = total_zero (λ q. total (λ x. sum_by f (c (To.Person q) x)) (senders g)) g.shards (λ q. total_zero (λ x. sum_by f (c (To.Person q) x)) (senders g) (z (To.Person q))) in
+    let d = total_zero (λ x. sum_by f (c To.Hub x)) (senders g) (z To.Hub) in
+    omega (arith, a, b, d)

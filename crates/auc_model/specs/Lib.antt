@@ -10,6 +10,7 @@ pub mod Hub
 pub mod Start
 pub mod Schedule
 pub mod Slack
+pub mod Still
 -- what every turn keeps
 pub mod Letters
 pub mod Places

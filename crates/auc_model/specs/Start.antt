@@ -37,7 +37,7 @@ abbrev pub IsNew : Phase → Mail Letter → ℕ → Type 0
 IsNew g m boxes = m ≡ empty_mail boxes (senders g) m.nodes m.most
 
 -- The world that a phase begins with, at any prices in range: no copy is above its price, nobody holds anything, every
--- person is free and stands once in the list of his shard, nothing was sent, counted or ended.
+-- person is free and stands once in the list of his shard, and nothing was sent, stopped, counted or ended.
 pub record Starts (g : Phase) (w : World) : Type 0 where
   pub price_range : (j : ℕ) → IsPrice (w.price j)
   pub copies_above : (s j : ℕ) → pos 0 ≤ℤ w.copy s j
@@ -45,6 +45,7 @@ pub record Starts (g : Phase) (w : World) : Type 0 where
   pub nobody_holds : (j : ℕ) → w.holder j ≡ None
   pub all_free : (i : ℕ) → w.state i ≡ PersonState.Free
   pub idle_is : (s i : ℕ) → occurs i (w.idle s) ≡ free_in g PersonState.Free s i
+  pub none_stopped : (s : ℕ) → w.has_stopped s ≡ false
   pub no_person_out : (s : ℕ) → w.person_out s ≡ []
   pub no_object_out : (q : ℕ) → w.object_out q ≡ []
   pub objects_mail : IsNew g w.objects_mail g.shards

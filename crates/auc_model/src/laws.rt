@@ -1,7 +1,7 @@
 //! What holds over every schedule, from every world that a phase begins with. The functions do nothing: their contracts are
 //! theorems, and crates above cite them.
 
-ghost use Rattle.std.specs.Prelude.{ℕ, ℤ, ◌<◌, ◌≤◌, ◌≤ℤ◌, ◌≡◌, ◌≢◌, List, [], ◌∷◌, ◌++◌, Some, Contains};
+ghost use Rattle.std.specs.Prelude.{ℕ, ℤ, ◌<◌, ◌≤◌, ◌≤ℤ◌, ◌≡◌, ◌≢◌, List, [], ◌∷◌, ◌++◌, Some, None, Contains};
 ghost use Rattle.auc_graph.specs.declared.rows.RowArc.{RowArc};
 ghost use Rattle.auc_graph.specs.Table.{Table, IsTable};
 ghost use Rattle.auc_letters.specs.Price.{IsEps};
@@ -16,6 +16,7 @@ ghost use Rattle.auc_model.specs.World.{Phase, World, phase_of};
 ghost use Rattle.auc_model.specs.Schedule.{Turned, Schedule, StepsIn};
 ghost use Rattle.auc_model.specs.Start.{Lawful, Starts, UsualNodes, occurs, free_in, persons_of};
 ghost use Rattle.auc_model.specs.Slack.{SlackRight};
+ghost use Rattle.auc_model.specs.Still.{IsStill, Rests};
 ghost use Rattle.auc_model.specs.Counts.{held_objects};
 ghost use Rattle.auc_model.specs.Invariants.{Kept};
 ghost use Rattle.auc_model.specs.Room.{Room};
@@ -70,6 +71,13 @@ pub fn turns_keep_invariants()
 pub fn ends_stay()
     ensures stays { (g : Phase) (w v : World) (ts : List Turn) (e : End) → Schedule g w ts v → w.end ≡ Some e → v.end ≡ Some e }
     ensures all { (g : Phase) (w v : World) (ts : List Turn) → Starts g w → Schedule g w ts v → v.end ≡ Some End.All → v.count ≡ g.persons }
+{}
+
+/// Where nothing can move, the end is set: from what a phase begins with, no schedule leads to a world in which all outboxes and
+/// mails are empty and nobody bids, and none to one in which no bid, post or take moves anything, before the end.
+pub fn no_stall()
+    ensures still { (g : Phase) (w v : World) (ts : List Turn) → Lawful g → 0 < g.persons → Starts g w → Schedule g w ts v → IsStill g v → v.end ≢ None }
+    ensures rests { (g : Phase) (w v : World) (ts : List Turn) → Lawful g → 0 < g.persons → Starts g w → Schedule g w ts v → Rests g v → v.end ≢ None }
 {}
 
 /// The rows of a problem make a lawful phase, and the lists of all persons by shards are those that a phase begins with.

@@ -10,7 +10,7 @@ mod laws;
 mod turn;
 
 pub use laws::{
-    copies_never_fall, ends_stay, every_schedule, no_guard, premises_can_be_met,
+    copies_never_fall, ends_stay, every_schedule, no_guard, no_stall, premises_can_be_met,
     problems_make_phases, schedules_go_on, turns_are_small, turns_keep_invariants,
 };
 pub use turn::{End, MailName, Turn, TurnReply};

@@ -182,7 +182,7 @@ module _ (g : Phase) (w : World) (law : Lawful g) (k : Kept g w) (room : Room g 
       where
         by_shard : (y : Why) → Routed g To.Hub (sender g h) (Letter.Stop y) → sender g h < g.shards
         by_shard Why.Bids r = r
-        by_shard Why.Stuck r = r
+        by_shard Why.Stuck r = r.0
         by_shard Why.Ceiling r = r
         by_shard Why.Posts r = absurd r
         by_shard Why.Trail r = absurd r

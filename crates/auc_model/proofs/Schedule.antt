@@ -55,7 +55,7 @@ record SameTables (w v : World) : Type 0 where
   holder : v.holder ≡ w.holder
   idle : v.idle ≡ w.idle
 
-inv_same : (g : Phase) (w v : World) (c : Ways) → SameTables w v → v.count ≡ w.count → Sound v.end → Inv g w c → Inv g v c
+inv_same : (g : Phase) (w v : World) (c : Ways) → SameTables w v → v.count ≡ w.count → Sound g v.end → Inv g w c → Inv g v c
 inv_same g w v c e n sound inv =
     record {
       routed = inv.routed;
@@ -99,9 +99,9 @@ count_with_outbox w (PersonShard s) os = refl
 count_with_outbox w (ObjectShard s) os = refl
 
 -- a cause that is no guard
-sound_ended : (d : Option End) (y : Why) → Sound (Some (End.Stopped y)) → Sound d → Sound (first_end d (End.Stopped y))
-sound_ended None y h s = h
-sound_ended (Some e) y h s = s
+sound_ended : (g : Phase) (d : Option End) (y : Why) → Sound g (Some (End.Stopped y)) → Sound g d → Sound g (first_end d (End.Stopped y))
+sound_ended g None y h s = h
+sound_ended g (Some e) y h s = s
 
 module _ (g : Phase) (w : World) (law : Lawful g) (k : Kept g w) where
   abbrev c : Ways
@@ -124,7 +124,7 @@ module _ (g : Phase) (w : World) (law : Lawful g) (k : Kept g w) where
       (kept_by u (kept_shapes u refl refl refl) k.lost (send c s (o ∷ []))
       (open_by w u k.lost (λ t q. sym (opens_same w u refl refl refl t) ∙ q) k.only_closed)
       (ways_other g (with_outbox w (PersonShard s) (o ∷ [])) u k.lost refl refl refl refl refl ∙ ways_sent g w k.lost (PersonShard s) (o ∷ []) may.known may.empty)
-      (inv_stops g w c law k.inv s i y why may.known))
+      (inv_stops g w c law k.inv s i rest y why may.known may.first))
   kept_bid s r v (BidTurn.bids i rest a amount may left best low e1 e) =
       let u : World = after_bid g w s i rest a amount in
       let o : Out = bid_letter g i a amount in
@@ -145,7 +145,7 @@ module _ (g : Phase) (w : World) (law : Lawful g) (k : Kept g w) where
       (ways_other g (with_outbox w (ObjectShard q) (o ∷ [])) u k.lost refl refl refl refl refl ∙ ways_sent g w k.lost (ObjectShard q) (o ∷ []) h1 h5)
       (inv_tells g w c law k.inv q j s h3 h4 h2))
 
-  sound_reason : (y : PostRefused) → Sound (Some (End.Stopped (reason y)))
+  sound_reason : (y : PostRefused) → Sound g (Some (End.Stopped (reason y)))
   sound_reason PostRefused.Closed = tt
   sound_reason PostRefused.Spent = tt
   sound_reason PostRefused.Full = tt
@@ -196,7 +196,7 @@ module _ (g : Phase) (w : World) (law : Lawful g) (k : Kept g w) where
       (kept_by u (kept_shapes u refl refl refl) k.lost c
       (open_by w u k.lost (λ t z. sym (opens_same w u refl refl refl t) ∙ z) k.only_closed)
       (ways_other g w u k.lost refl refl refl refl refl)
-      (inv_same g w u c (same_ended (reason y)) refl (sound_ended w.end (reason y) (sound_reason y) k.inv.sound) k.inv))
+      (inv_same g w u c (same_ended (reason y)) refl (sound_ended g w.end (reason y) (sound_reason y) k.inv.sound) k.inv))
 
   -- a take from one of the mails: where its letters come to stand
   taken_open : (t : To) (x n : ℕ) (l : Letter) (m : Mail Letter) → Takes (mail_of w t) (box_of t) x n l m → Open (with_mail w t m) k.lost
@@ -310,9 +310,9 @@ module _ (g : Phase) (w : World) (law : Lawful g) (k : Kept g w) where
   kept_object_take q r v (ObjectTakeTurn.strays x n l m h1 h2 t bad e1 e) =
       absurd (bad (bid_letter_fits g w c law k.inv q x l (bids_left_behind q x n l m h1 h2 t) (bid_head q x n l m h1 h2 t)))
 
-sound_first : (d : Option End) → Sound d → Sound (first_end d End.All)
-sound_first None s = tt
-sound_first (Some e) s = s
+sound_first : (g : Phase) (d : Option End) → Sound g d → Sound g (first_end d End.All)
+sound_first g None s = tt
+sound_first g (Some e) s = s
 
 module _ (g : Phase) (w : World) (law : Lawful g) (k : Kept g w) where
   module _ (x n : ℕ) (l : Letter) (m : Mail Letter) (t : Takes w.hub_mail 0 x n l m) where
@@ -327,7 +327,7 @@ module _ (g : Phase) (w : World) (law : Lawful g) (k : Kept g w) where
 
     -- what is left to show of the world after: its counts and its end
     hub_taken : (v : World) → Priceless l → Unseen l → SameTables w v → v.objects_mail ≡ w.objects_mail → v.persons_mail ≡ w.persons_mail → v.hub_mail ≡ m → v.person_out ≡ w.person_out → v.object_out ≡ w.object_out
-        → Counts g v hub_ways → Sound v.end → Kept g v
+        → Counts g v hub_ways → Sound g v.end → Kept g v
     hub_taken v p u same e1 e2 e3 e4 e5 counts sound =
         let b : World = with_mail w To.Hub m in
         let c : Ways = ways g w k.lost in
@@ -358,7 +358,7 @@ module _ (g : Phase) (w : World) (law : Lawful g) (k : Kept g w) where
       cond_both (nat_lt w.count g.persons) u b (λ (z : World). Kept g z)
       (λ f. hub_taken x n (Letter.First j) m t u (λ i. refl) (λ i j. (refl, refl)) (record { price = refl; copy = refl; state = refl; holder = refl; idle = refl }) refl refl refl refl refl
       (counts_first_gone g w u (ways g w k.lost) d k.inv.counts refl refl refl j e)
-      (cond_both ((w.count + 1) == g.persons) (first_end w.end End.All) w.end (λ (y : Option End). Sound y) (λ h. sound_first w.end k.inv.sound) (λ h. k.inv.sound)))
+      (cond_both ((w.count + 1) == g.persons) (first_end w.end End.All) w.end (λ (y : Option End). Sound g y) (λ h. sound_first g w.end k.inv.sound) (λ h. k.inv.sound)))
       (λ f. let past = ltb-false w.count g.persons f in absurd (omega (arith, past, bound, e)))
   hub_letter x n (Letter.Stop y) m t r =
       let b : World = with_mail w To.Hub m in
@@ -366,11 +366,11 @@ module _ (g : Phase) (w : World) (law : Lawful g) (k : Kept g w) where
       let e : Plus g (Letter.Stop y) d (ways g w k.lost) = plus_gone g (ways g w k.lost) To.Hub x [] (Letter.Stop y) (hub_left x n (Letter.Stop y) m t) (hub_head x n (Letter.Stop y) m t) (sender_stop y r) tt in
       hub_taken x n (Letter.Stop y) m t (ended b y) (λ i. refl) (λ i j. (refl, refl)) (record { price = refl; copy = refl; state = refl; holder = refl; idle = refl }) refl refl refl refl refl
       (counts_stop_gone g w (ended b y) (ways g w k.lost) d k.inv.counts refl refl refl y e)
-      (sound_ended w.end y (sound_stop y r) k.inv.sound)
+      (sound_ended g w.end y (sound_stop y r) k.inv.sound)
     where
       sender_stop : (y : Why) → Routed g To.Hub x (Letter.Stop y) → x < senders g
       sender_stop Why.Bids r = omega arith
-      sender_stop Why.Stuck r = omega arith
+      sender_stop Why.Stuck r = let l = r.0 in omega (arith, l)
       sender_stop Why.Ceiling r = omega arith
       sender_stop Why.Posts r = absurd r
       sender_stop Why.Trail r = absurd r
@@ -378,9 +378,9 @@ module _ (g : Phase) (w : World) (law : Lawful g) (k : Kept g w) where
       sender_stop Why.Fell r = absurd r
       sender_stop Why.Stray r = absurd r
 
-      sound_stop : (y : Why) → Routed g To.Hub x (Letter.Stop y) → Sound (Some (End.Stopped y))
+      sound_stop : (y : Why) → Routed g To.Hub x (Letter.Stop y) → Sound g (Some (End.Stopped y))
       sound_stop Why.Bids r = tt
-      sound_stop Why.Stuck r = tt
+      sound_stop Why.Stuck r = r.1
       sound_stop Why.Ceiling r = tt
       sound_stop Why.Posts r = absurd r
       sound_stop Why.Trail r = absurd r

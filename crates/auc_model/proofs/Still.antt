@@ -60,7 +60,7 @@ module _ (g : Phase) (w : World) (law : Lawful g) (going : Going g w) (still : I
     where
       by : (y : Why) → Routed g To.Hub x (Letter.Stop y) → x < senders g
       by Why.Bids r = omega (arith, r)
-      by Why.Stuck r = omega (arith, r)
+      by Why.Stuck r = let l = r.0 in omega (arith, l)
       by Why.Ceiling r = omega (arith, r)
       by Why.Posts r = absurd r
       by Why.Trail r = absurd r

@@ -4,6 +4,7 @@ use Rattle.std.proofs.lemmas.Bool.{eqb-true}
 use Rattle.auc_graph.specs.declared.rows.RowArc.{RowArc}
 use Rattle.auc_letters.specs.declared.letter.Why.{Why}
 use Rattle.auc_letters.specs.declared.state.Held.{Held}
+use Rattle.auc_model.specs.Bidding.{SomeoneStuck}
 use Rattle.auc_model.specs.Counts.{held_objects}
 use Rattle.auc_model.specs.Invariants.{Sound}
 use Rattle.auc_model.specs.Places.{is_held_by}
@@ -24,8 +25,8 @@ use Rattle.auc_model.proofs.Schedule.{kept_schedule}
 use Rattle.auc_model.proofs.Start.{kept_start, room_start}
 use Rattle.auc_model.proofs.WorkedRun.{run}
 
-sound_no_guard : (e : Option End) → Sound e → (e ≢ Some (End.Stopped Why.Fell)) × (e ≢ Some (End.Stopped Why.Stray)) × (e ≢ Some (End.Stopped Why.Trail))
-sound_no_guard e s = ((λ h. rw h at s), (λ h. rw h at s), (λ h. rw h at s))
+sound_no_guard : (g : Phase) (e : Option End) → Sound g e → (e ≢ Some (End.Stopped Why.Fell)) × (e ≢ Some (End.Stopped Why.Stray)) × (e ≢ Some (End.Stopped Why.Trail))
+sound_no_guard g e s = ((λ h. rw h at s), (λ h. rw h at s), (λ h. rw h at s))
 
 -- Over every schedule: no guard is hit, no copy is above the true price, and no person is held twice
 pub of_every_schedule : (g : Phase) (w v : World) (ts : List Turn) → Lawful g → Starts g w → Schedule g w ts v
@@ -35,7 +36,7 @@ pub of_every_schedule : (g : Phase) (w v : World) (ts : List Turn) → Lawful g 
 of_every_schedule g w v ts law s h =
     let k = kept_schedule g w ts v law h (kept_start g w s) in
     let c = ways g v k.lost in (
-      sound_no_guard v.end k.inv.sound,
+      sound_no_guard g v.end k.inv.sound,
       (λ s j. copy_low (prices g v c) s j k.inv.never_falls),
       (λ j l a b e f same. held_once (places g v c) a.person j l (ap person_of e) (ap person_of f ∙ ap Some (sym same)) k.inv.in_place),
     )
@@ -70,3 +71,7 @@ everyone_holds g w v ts law s run all i l =
 -- with the usual nodes no letter but a Price meets Full
 pub no_mail_stop : (g : Phase) (w v : World) (ts : List Turn) → Lawful g → Starts g w → UsualNodes g w → Schedule g w ts v → v.end ≢ Some (End.Stopped Why.Mail)
 no_mail_stop g w v ts law s usual run = (room_schedule g w ts v law (kept_start g w s) (room_start g w s usual) run).no_mail
+
+-- the world stops for want of an arc only where somebody has none
+pub stuck_only : (g : Phase) (w v : World) (ts : List Turn) → Lawful g → Starts g w → Schedule g w ts v → v.end ≡ Some (End.Stopped Why.Stuck) → SomeoneStuck g
+stuck_only g w v ts law s run e = rw e at ((kept_schedule g w ts v law run (kept_start g w s)).inv.sound)

@@ -84,7 +84,7 @@ module _ (g : Phase) (w : World) (c : Ways) (law : Lawful g) (inv : Inv g w c) w
         }
 
   -- Bid(s), a stop
-  module _ (s i : ℕ) (y : Why) (why : Stops g w s i y) (here : s < g.shards) where
+  module _ (s i : ℕ) (rest : List ℕ) (y : Why) (why : Stops g w s i y) (here : s < g.shards) (first : w.idle s ≡ i ∷ rest) where
     abbrev pub stopping : World
     stopping = after_stop w s y
 
@@ -93,7 +93,7 @@ module _ (g : Phase) (w : World) (c : Ways) (law : Lawful g) (inv : Inv g w c) w
 
     routed_stop : (y : Why) → Stops g w s i y → Routed g To.Hub s (Letter.Stop y)
     routed_stop Why.Bids h = here
-    routed_stop Why.Stuck h = here
+    routed_stop Why.Stuck h = (here, (i, (bid_facts g w.state w.idle inv.idle_is s i 0 rest first).2, h.1))
     routed_stop Why.Ceiling h = here
     routed_stop Why.Posts h = h
     routed_stop Why.Trail h = h

@@ -27,6 +27,10 @@ Stops g w s i Why.Mail = ⊥
 Stops g w s i Why.Fell = ⊥
 Stops g w s i Why.Stray = ⊥
 
+-- a person has no arc
+abbrev pub SomeoneStuck : Phase → Type 0
+SomeoneStuck g = (i : ℕ) × (i < g.persons) × (g.row i ≡ [])
+
 -- the bid of person i by an arc, as a letter to the shard of its object
 abbrev pub bid_letter : Phase → ℕ → RowArc → ℤ → Out
 bid_letter g i arc amount = to_object g.shards arc.object (Letter.Bid i arc.arc arc.object amount)

@@ -9,6 +9,7 @@ use Rattle.auc_letters.specs.Price.{IsPrice}
 use Rattle.auc_model.specs.declared.turn.End.{End}
 use Rattle.auc_model.specs.World.{Phase, World, senders}
 use Rattle.auc_model.specs.Mails.{mail_of, box_of}
+use Rattle.auc_model.specs.Bidding.{SomeoneStuck}
 use Rattle.auc_model.specs.Start.{occurs, free_in}
 use Rattle.auc_model.specs.Places.{InPlace}
 use Rattle.auc_model.specs.Prices.{NeverFalls}
@@ -16,18 +17,18 @@ use Rattle.auc_model.specs.Ways.{Lost, Ways, ways, places, prices, AllRouted}
 use Rattle.auc_model.specs.Counts.{Counts}
 use Rattle.auc_model.specs.Fair.{FairLetter, AllWays, FairHolders}
 
--- no guard was hit
-abbrev pub Sound : Option End → Type 0
-Sound None = Unit {0}
-Sound (Some End.All) = Unit {0}
-Sound (Some (End.Stopped Why.Bids)) = Unit {0}
-Sound (Some (End.Stopped Why.Ceiling)) = Unit {0}
-Sound (Some (End.Stopped Why.Stuck)) = Unit {0}
-Sound (Some (End.Stopped Why.Posts)) = Unit {0}
-Sound (Some (End.Stopped Why.Mail)) = Unit {0}
-Sound (Some (End.Stopped Why.Trail)) = ⊥
-Sound (Some (End.Stopped Why.Fell)) = ⊥
-Sound (Some (End.Stopped Why.Stray)) = ⊥
+-- no guard was hit, and the world stopped for want of an arc only where somebody has none
+abbrev pub Sound : Phase → Option End → Type 0
+Sound g None = Unit {0}
+Sound g (Some End.All) = Unit {0}
+Sound g (Some (End.Stopped Why.Bids)) = Unit {0}
+Sound g (Some (End.Stopped Why.Ceiling)) = Unit {0}
+Sound g (Some (End.Stopped Why.Stuck)) = SomeoneStuck g
+Sound g (Some (End.Stopped Why.Posts)) = Unit {0}
+Sound g (Some (End.Stopped Why.Mail)) = Unit {0}
+Sound g (Some (End.Stopped Why.Trail)) = ⊥
+Sound g (Some (End.Stopped Why.Fell)) = ⊥
+Sound g (Some (End.Stopped Why.Stray)) = ⊥
 
 -- of a world and the letters under way in it
 pub record Inv (g : Phase) (w : World) (c : Ways) : Type 0 where
@@ -41,7 +42,7 @@ pub record Inv (g : Phase) (w : World) (c : Ways) : Type 0 where
   pub counts : Counts g w c
   pub fair : AllWays (FairLetter g w.price) c
   pub fair_holders : FairHolders g w
-  pub sound : Sound w.end
+  pub sound : Sound g w.end
 
 -- letters are lost at closed boxes alone
 abbrev pub Open : World → Lost → Type 0

@@ -10,6 +10,7 @@ use Rattle.auc_letters.specs.Price.{IsPrice}
 use Rattle.auc_mail.specs.Mail.{Mail, lane_of}
 use Rattle.auc_model.specs.World.{Phase, World}
 use Rattle.auc_model.specs.Mails.{mail_of, box_of}
+use Rattle.auc_model.specs.Bidding.{SomeoneStuck}
 use Rattle.auc_model.specs.Letters.{same_to, letters_to}
 use Rattle.auc_model.specs.Places.{Answer, Award, Refused, Outbid, Places}
 use Rattle.auc_model.specs.Prices.{Prices}
@@ -97,7 +98,7 @@ places g w c = record { state = w.state; holder = λ j. person_of (w.holder j); 
 abbrev pub prices : Phase → World → Ways → Prices
 prices g w c = record { price = w.price; copy = w.copy; news = news_in g c }
 
--- each letter is on the right way, and its numbers are in range
+-- Each letter is on the right way, and its numbers are in range; and who stops for want of an arc tells the truth.
 abbrev pub ToPerson : Phase → ℕ → ℕ → ℕ → ℕ → ℤ → Type 0
 ToPerson g s x i j p = (i < g.persons) × (i % g.shards ≡ s) × (j < g.objects) × (x ≡ g.shards + j % g.shards) × IsPrice p
 
@@ -118,7 +119,7 @@ Routed g (To.Object q) x (Letter.First j) = ⊥
 Routed g (To.Object q) x (Letter.Stop y) = ⊥
 Routed g To.Hub x (Letter.First j) = (j < g.objects) × (x ≡ g.shards + j % g.shards)
 Routed g To.Hub x (Letter.Stop Why.Bids) = x < g.shards
-Routed g To.Hub x (Letter.Stop Why.Stuck) = x < g.shards
+Routed g To.Hub x (Letter.Stop Why.Stuck) = (x < g.shards) × SomeoneStuck g
 Routed g To.Hub x (Letter.Stop Why.Ceiling) = x < g.shards
 Routed g To.Hub x (Letter.Stop Why.Posts) = ⊥
 Routed g To.Hub x (Letter.Stop Why.Trail) = ⊥

@@ -13,6 +13,7 @@ ghost use Rattle.auc_model.specs.declared.turn.MailName.{MailName};
 ghost use Rattle.auc_model.specs.declared.turn.Turn.{Turn};
 ghost use Rattle.auc_model.specs.declared.turn.TurnReply.{TurnReply};
 ghost use Rattle.auc_model.specs.World.{Phase, World, phase_of};
+ghost use Rattle.auc_model.specs.Bidding.{SomeoneStuck};
 ghost use Rattle.auc_model.specs.Schedule.{Turned, Schedule, StepsIn};
 ghost use Rattle.auc_model.specs.Start.{Lawful, Starts, UsualNodes, occurs, free_in, persons_of};
 ghost use Rattle.auc_model.specs.Slack.{SlackRight};
@@ -45,6 +46,11 @@ pub fn no_guard()
     ensures stray { (g : Phase) (w v : World) (ts : List Turn) → Lawful g → Starts g w → Schedule g w ts v → v.end ≢ Some (End.Stopped Why.Stray) }
     ensures trail { (g : Phase) (w v : World) (ts : List Turn) → Lawful g → Starts g w → Schedule g w ts v → v.end ≢ Some (End.Stopped Why.Trail) }
     ensures mail { (g : Phase) (w v : World) (ts : List Turn) → Lawful g → Starts g w → UsualNodes g w → Schedule g w ts v → v.end ≢ Some (End.Stopped Why.Mail) }
+{}
+
+/// Over every schedule the world stops for want of an arc only where a person has none.
+pub fn stuck_is_true()
+    ensures { (g : Phase) (w v : World) (ts : List Turn) → Lawful g → Starts g w → Schedule g w ts v → v.end ≡ Some (End.Stopped Why.Stuck) → SomeoneStuck g }
 {}
 
 /// Over every schedule: no copy is above the true price, no person holds two objects, and each holder's arc is one of his to

@@ -1,0 +1,50 @@
+-- What the counts say together: how many letters of each kind can be under way.
+use Rattle.std.proofs.Common.{ℕ, zero, suc, ◌+◌, ◌*◌, ◌≤◌, ◌≡◌, arith}
+use Rattle.auc_letters.specs.declared.state.PersonState.{PersonState}
+use Rattle.auc_letters.specs.declared.state.PersonState.TheVariants.{Free, Holds, Waits}
+use Rattle.auc_model.specs.Counts.{Counts, everywhere, held_objects, holding_persons, holds_one, total, waiting_persons, waits_one}
+use Rattle.auc_model.specs.Letters.{award_one, bid_one, first_one, outbid_one, refused_one}
+use Rattle.auc_model.specs.Ways.{Ways}
+use Rattle.auc_model.specs.World.{Phase, World}
+
+one_of_both : (t : PersonState) → waits_one t + holds_one t ≤ 1
+one_of_both Free = omega arith
+one_of_both (Waits j) = omega arith
+one_of_both (Holds j) = omega arith
+
+busy_le : (f : ℕ → PersonState) (n : ℕ) → total (λ i. waits_one (f i)) n + total (λ i. holds_one (f i)) n ≤ n
+busy_le f zero = omega arith
+busy_le f (suc n) = omega (arith, busy_le f n, one_of_both (f n))
+
+module _ (g : Phase) (w : World) (c : Ways) (counts : Counts g w c) where
+  busy : waiting_persons g w + holding_persons g w ≤ g.persons
+  busy = busy_le w.state g.persons
+
+  -- at most one bid for each person, and two answers
+  pub bids_le : everywhere g bid_one c ≤ g.persons
+  bids_le = let b = busy in omega (arith, b, counts.who_waits)
+
+  pub answers_le : everywhere g award_one c + everywhere g refused_one c + everywhere g outbid_one c ≤ 2 * g.persons
+  answers_le = let b = busy in omega (arith, b, counts.who_waits, counts.who_holds)
+
+  -- no more objects are held than there are persons, whatever the number of objects
+  pub held_le : held_objects g w ≤ g.persons
+  held_le = let b = busy in omega (arith, b, counts.who_waits, counts.who_holds)
+
+  pub firsts_le : w.count + everywhere g first_one c ≤ g.persons
+  firsts_le = let h = held_le in omega (arith, h, counts.who_told)
+
+  -- where the hub has counted everyone, everyone waits for an award or holds, and nobody else has a letter under way
+  pub all_told : w.count ≡ g.persons → (held_objects g w ≡ g.persons) × (everywhere g bid_one c ≡ 0) × (everywhere g refused_one c ≡ 0) × (everywhere g outbid_one c ≡ 0) × (waiting_persons g w + holding_persons g w ≡ g.persons)
+  all_told e =
+      let b = busy in let f = firsts_le in (
+        omega (arith, b, f, e, counts.who_waits, counts.who_holds, counts.who_told),
+        omega (arith, b, f, e, counts.who_waits, counts.who_holds, counts.who_told),
+        omega (arith, b, f, e, counts.who_waits, counts.who_holds, counts.who_told),
+        omega (arith, b, f, e, counts.who_waits, counts.who_holds, counts.who_told),
+        omega (arith, b, f, e, counts.who_waits, counts.who_holds, counts.who_told),
+      )
+
+  -- where nothing is under way and nobody is free, the hub has counted everyone: no stall
+  pub no_stall : waiting_persons g w + holding_persons g w ≡ g.persons → everywhere g bid_one c ≡ 0 → everywhere g award_one c ≡ 0 → everywhere g refused_one c ≡ 0 → everywhere g outbid_one c ≡ 0 → everywhere g first_one c ≡ 0 → w.count ≡ g.persons
+  no_stall e e1 e2 e3 e4 e5 = omega (arith, e, e1, e2, e3, e4, e5, counts.who_waits, counts.who_holds, counts.who_told)

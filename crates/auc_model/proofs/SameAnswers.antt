@@ -1,0 +1,12 @@
+-- Answers that are equal have equal parts.
+use Rattle.std.proofs.Common.{ℕ, ℤ, ◌≡◌, Option, Some, None, ap}
+use Rattle.auc_model.specs.Places.{Answer}
+
+abbrev pub from_some : {X : Type 0} → X → Option X → X
+from_some d None = d
+from_some d (Some x) = x
+
+pub same_answer : (a b : Answer) (i j k l : ℕ) (p q : ℤ) → (let x : Option (Answer × ℕ × ℕ × ℤ) = Some (a, i, j, p) in let y : Option (Answer × ℕ × ℕ × ℤ) = Some (b, k, l, q) in x ≡ y) → (a ≡ b) × (i ≡ k) × (j ≡ l) × (p ≡ q)
+same_answer a b i j k l p q e =
+    let t = ap (from_some {X = Answer × ℕ × ℕ × ℤ} (a, i, j, p)) e in
+    (ap (λ (z : Answer × ℕ × ℕ × ℤ). z.0) t, ap (λ (z : Answer × ℕ × ℕ × ℤ). z.1) t, ap (λ (z : Answer × ℕ × ℕ × ℤ). z.2) t, ap (λ (z : Answer × ℕ × ℕ × ℤ). z.3) t)

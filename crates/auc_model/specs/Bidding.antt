@@ -1,0 +1,64 @@
+-- Bid: a shard of the persons asks its person that has been free longest for a bid, and puts a letter into its outbox.
+use Rattle.std.specs.Prelude.{ℕ, ◌-◌, ◌<◌, ◌≤◌, ◌≡◌, ◌≢◌, ◌⊎◌, ℤ, ◌≤ℤ◌, ◌<ℤ◌, true, false, List, [], ◌∷◌}
+use Rattle.auc_graph.specs.declared.rows.RowArc.{RowArc}
+use Rattle.auc_graph.specs.Bid.{IsBid}
+use Rattle.auc_letters.specs.declared.letter.Letter.{Letter}
+use Rattle.auc_letters.specs.declared.letter.Why.{Why}
+use Rattle.auc_letters.specs.declared.limits.TheConstants.{MOST_PRICE}
+use Rattle.auc_letters.specs.declared.out.Out.{Out}
+use Rattle.auc_letters.specs.declared.state.PersonState.{PersonState}
+use Rattle.auc_letters.specs.Routing.{to_object, to_hub}
+use Rattle.auc_model.specs.declared.turn.TurnReply.{TurnReply}
+use Rattle.auc_model.specs.Put.{put}
+use Rattle.auc_model.specs.World.{Phase, World, scale}
+
+-- what person i bids, at the copies of the shard s
+abbrev pub Bids : Phase → World → ℕ → ℕ → RowArc → ℤ → Type 0
+Bids g w s i arc amount = IsBid (scale g) g.spread g.eps (w.copy s) (g.row i) arc amount
+
+-- why person i can't bid, in this order: no bid is left, he has no arc, he would bid above the greatest price
+abbrev pub Stops : Phase → World → ℕ → ℕ → Why → Type 0
+Stops g w s i Why.Bids = w.bids_left s ≡ 0
+Stops g w s i Why.Stuck = (w.bids_left s ≢ 0) × (g.row i ≡ [])
+Stops g w s i Why.Ceiling = (w.bids_left s ≢ 0) × ((arc : RowArc) × (amount : ℤ) × Bids g w s i arc amount × (MOST_PRICE <ℤ amount))
+Stops g w s i Why.Posts = ⊥
+Stops g w s i Why.Trail = ⊥
+Stops g w s i Why.Mail = ⊥
+Stops g w s i Why.Fell = ⊥
+Stops g w s i Why.Stray = ⊥
+
+-- a person has no arc
+abbrev pub SomeoneStuck : Phase → Type 0
+SomeoneStuck g = (i : ℕ) × (i < g.persons) × (g.row i ≡ [])
+
+-- the bid of person i by an arc, as a letter to the shard of its object
+abbrev pub bid_letter : Phase → ℕ → RowArc → ℤ → Out
+bid_letter g i arc amount = to_object g.shards arc.object (Letter.Bid i arc.arc arc.object amount)
+
+-- the world when the shard s has made a Stop
+abbrev pub after_stop : World → ℕ → Why → World
+after_stop w s y = record w { has_stopped = put w.has_stopped s true; person_out = put w.person_out s (to_hub (Letter.Stop y) ∷ []) }
+
+-- the world when person i of the shard s has bid: he waits, rest are the free persons, and a bid is used up
+abbrev pub after_bid : Phase → World → ℕ → ℕ → List ℕ → RowArc → ℤ → World
+after_bid g w s i rest arc amount = record w {
+  state = put w.state i (PersonState.Waits arc.object);
+  idle = put w.idle s rest;
+  bids_left = put w.bids_left s (w.bids_left s - 1);
+  person_out = put w.person_out s (bid_letter g i arc amount ∷ []);
+}
+
+-- The shard s may bid: it is there, its outbox is empty, and it has made no Stop; i has been free longest, before rest.
+pub record MayBid (g : Phase) (w : World) (s i : ℕ) (rest : List ℕ) : Type 0 where
+  pub known : s < g.shards
+  pub empty : w.person_out s ≡ []
+  pub going : w.has_stopped s ≡ false
+  pub first : w.idle s ≡ i ∷ rest
+
+-- Bid(s)
+pub data BidTurn (g : Phase) (w : World) (s : ℕ) (r : TurnReply) (v : World) : Type 0 where
+  barred : ((g.shards ≤ s) ⊎ (w.person_out s ≢ []) ⊎ (w.has_stopped s ≡ true) ⊎ (w.idle s ≡ [])) → r ≡ TurnReply.Nothing → v ≡ w → BidTurn g w s r v
+  stops : (i : ℕ) (rest : List ℕ) (y : Why) → MayBid g w s i rest → Stops g w s i y → r ≡ TurnReply.Moved → v ≡ after_stop w s y → BidTurn g w s r v
+  bids : (i : ℕ) (rest : List ℕ) (arc : RowArc) (amount : ℤ) → MayBid g w s i rest
+      → w.bids_left s ≢ 0 → Bids g w s i arc amount → amount ≤ℤ MOST_PRICE
+      → r ≡ TurnReply.Moved → v ≡ after_bid g w s i rest arc amount → BidTurn g w s r v

@@ -1,0 +1,106 @@
+-- What a letter says: whom it is for, what it tells, and of which kind it is.
+use Rattle.std.specs.Prelude.{ℕ, ◌==◌, ℤ, Bool, true, false, List, [], ◌∷◌, Option, Some, None, if◌then◌else◌}
+use Rattle.auc_letters.specs.declared.letter.Letter.{Letter}
+use Rattle.auc_letters.specs.declared.out.To.{To}
+use Rattle.auc_letters.specs.declared.out.Out.{Out}
+use Rattle.auc_model.specs.Places.{Answer}
+
+abbrev pub same_to : To → To → Bool
+same_to (To.Person s) (To.Person t) = s == t
+same_to (To.Person s) (To.Object t) = false
+same_to (To.Person s) To.Hub = false
+same_to (To.Object s) (To.Object t) = s == t
+same_to (To.Object s) (To.Person t) = false
+same_to (To.Object s) To.Hub = false
+same_to To.Hub To.Hub = true
+same_to To.Hub (To.Person t) = false
+same_to To.Hub (To.Object t) = false
+
+-- the letters of an outbox that go there, in order
+abbrev pub letters_to : To → List Out → List Letter
+letters_to t [] = []
+letters_to t (o ∷ os) = if same_to t o.to then o.letter ∷ letters_to t os else letters_to t os
+
+-- the object and the price that a letter tells to a shard of the persons
+abbrev pub price_of : Letter → Option (ℕ × ℤ)
+price_of (Letter.Award i j p) = Some (j, p)
+price_of (Letter.Refused i j p) = Some (j, p)
+price_of (Letter.Outbid i j p) = Some (j, p)
+price_of (Letter.Price j p) = Some (j, p)
+price_of (Letter.Bid i a j p) = None
+price_of (Letter.First j) = None
+price_of (Letter.Stop y) = None
+
+-- the answer to a person about an object, with its price
+abbrev pub answer_of : Letter → Option (Answer × ℕ × ℕ × ℤ)
+answer_of (Letter.Award i j p) = Some (Answer.Award, i, j, p)
+answer_of (Letter.Refused i j p) = Some (Answer.Refused, i, j, p)
+answer_of (Letter.Outbid i j p) = Some (Answer.Outbid, i, j, p)
+answer_of (Letter.Price j p) = None
+answer_of (Letter.Bid i a j p) = None
+answer_of (Letter.First j) = None
+answer_of (Letter.Stop y) = None
+
+-- one for a letter of the kind, and none for any other
+abbrev pub bid_one : Letter → ℕ
+bid_one (Letter.Bid i a j p) = 1
+bid_one (Letter.Award i j p) = 0
+bid_one (Letter.Refused i j p) = 0
+bid_one (Letter.Outbid i j p) = 0
+bid_one (Letter.Price j p) = 0
+bid_one (Letter.First j) = 0
+bid_one (Letter.Stop y) = 0
+
+abbrev pub award_one : Letter → ℕ
+award_one (Letter.Bid i a j p) = 0
+award_one (Letter.Award i j p) = 1
+award_one (Letter.Refused i j p) = 0
+award_one (Letter.Outbid i j p) = 0
+award_one (Letter.Price j p) = 0
+award_one (Letter.First j) = 0
+award_one (Letter.Stop y) = 0
+
+abbrev pub refused_one : Letter → ℕ
+refused_one (Letter.Bid i a j p) = 0
+refused_one (Letter.Award i j p) = 0
+refused_one (Letter.Refused i j p) = 1
+refused_one (Letter.Outbid i j p) = 0
+refused_one (Letter.Price j p) = 0
+refused_one (Letter.First j) = 0
+refused_one (Letter.Stop y) = 0
+
+abbrev pub outbid_one : Letter → ℕ
+outbid_one (Letter.Bid i a j p) = 0
+outbid_one (Letter.Award i j p) = 0
+outbid_one (Letter.Refused i j p) = 0
+outbid_one (Letter.Outbid i j p) = 1
+outbid_one (Letter.Price j p) = 0
+outbid_one (Letter.First j) = 0
+outbid_one (Letter.Stop y) = 0
+
+abbrev pub price_one : Letter → ℕ
+price_one (Letter.Bid i a j p) = 0
+price_one (Letter.Award i j p) = 0
+price_one (Letter.Refused i j p) = 0
+price_one (Letter.Outbid i j p) = 0
+price_one (Letter.Price j p) = 1
+price_one (Letter.First j) = 0
+price_one (Letter.Stop y) = 0
+
+abbrev pub first_one : Letter → ℕ
+first_one (Letter.Bid i a j p) = 0
+first_one (Letter.Award i j p) = 0
+first_one (Letter.Refused i j p) = 0
+first_one (Letter.Outbid i j p) = 0
+first_one (Letter.Price j p) = 0
+first_one (Letter.First j) = 1
+first_one (Letter.Stop y) = 0
+
+abbrev pub stop_one : Letter → ℕ
+stop_one (Letter.Bid i a j p) = 0
+stop_one (Letter.Award i j p) = 0
+stop_one (Letter.Refused i j p) = 0
+stop_one (Letter.Outbid i j p) = 0
+stop_one (Letter.Price j p) = 0
+stop_one (Letter.First j) = 0
+stop_one (Letter.Stop y) = 1

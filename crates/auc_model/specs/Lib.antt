@@ -1,0 +1,22 @@
+-- the world, its turns and schedules, and what a phase begins with
+pub mod Put
+pub mod World
+pub mod Mails
+pub mod Bidding
+pub mod Posting
+pub mod Hearing
+pub mod Selling
+pub mod Hub
+pub mod Start
+pub mod Schedule
+pub mod Slack
+pub mod Still
+-- what every turn keeps
+pub mod Letters
+pub mod Places
+pub mod Prices
+pub mod Ways
+pub mod Counts
+pub mod Fair
+pub mod Invariants
+pub mod Room

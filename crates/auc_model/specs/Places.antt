@@ -1,0 +1,103 @@
+-- Persons and objects without shards: how each person stands to each object, by his own state, by the answers that are under
+-- way to him, and by what the object's side knows.
+use Rattle.std.specs.Prelude.{ℕ, zero, suc, ◌+◌, ◌==◌, ◌≡◌, ◌≢◌, Bool, true, false, List, [], ◌∷◌, ◌++◌, Option, Some, None, if◌then◌else◌}
+use Rattle.auc_letters.specs.declared.state.PersonState.{PersonState}
+use Rattle.auc_letters.specs.declared.state.PersonState.TheVariants.{Free, Waits, Holds}
+use Rattle.auc_model.specs.Put.{put, put2}
+
+-- an answer to a person about an object
+pub data Answer : Type 0 where
+  Award : Answer
+  Refused : Answer
+  Outbid : Answer
+
+-- how a person stands to one object
+pub data Stand : Type 0 where
+  Apart : Stand
+  Waiting : Stand
+  Holding : Stand
+  Wrong : Stand
+
+abbrev pub told : Stand → Answer → Stand
+told Waiting Award = Holding
+told Waiting Refused = Apart
+told Holding Outbid = Apart
+told Waiting Outbid = Wrong
+told Holding Award = Wrong
+told Holding Refused = Wrong
+told Apart a = Wrong
+told Wrong a = Wrong
+
+-- the stand after the answers under way
+abbrev pub replay : Stand → List Answer → Stand
+replay s [] = s
+replay s (a ∷ xs) = replay (told s a) xs
+
+-- the stand by the state that the person's shard keeps
+abbrev pub stand : PersonState → ℕ → Stand
+stand Free j = Apart
+stand (Waits k) j = if k == j then Waiting else Apart
+stand (Holds k) j = if k == j then Holding else Apart
+
+-- the stand that the object's side knows: whether the object is held by the person, and how many of the person's bids on it are under way
+abbrev pub believed : Bool → ℕ → Stand
+believed true zero = Holding
+believed true (suc n) = Wrong
+believed false zero = Apart
+believed false (suc zero) = Waiting
+believed false (suc (suc n)) = Wrong
+
+abbrev pub is_held_by : Option ℕ → ℕ → Bool
+is_held_by None i = false
+is_held_by (Some k) i = k == i
+
+-- what the answers under way make of the person's own state is what the object's side knows
+pub record Agree (s : Stand) (answers : List Answer) (known : Stand) : Type 0 where
+  pub same : replay s answers ≡ known
+  pub right : known ≢ Wrong
+
+-- persons and objects, without shards: by person, by object, or by both
+pub record Places : Type 0 where
+  pub state : ℕ → PersonState
+  pub holder : ℕ → Option ℕ
+  pub bids : ℕ → ℕ → ℕ
+  pub answers : ℕ → ℕ → List Answer
+
+abbrev pub InPlace : Places → Type 0
+InPlace w = (i j : ℕ) → Agree (stand (w.state i) j) (w.answers i j) (believed (is_held_by (w.holder j) i) (w.bids i j))
+
+abbrev pub answered : Places → ℕ → ℕ → Answer → ℕ → ℕ → List Answer
+answered w i j a = put2 w.answers i j (w.answers i j ++ a ∷ [])
+
+-- person i bids on object j
+abbrev pub bid : Places → ℕ → ℕ → Places
+bid w i j = record { state = put w.state i (Waits j); holder = w.holder; bids = put2 w.bids i j (w.bids i j + 1); answers = w.answers }
+
+-- object j refuses one of person i's bids, of which n more are under way
+abbrev pub refuse : Places → ℕ → ℕ → ℕ → Places
+refuse w i j n = record { state = w.state; holder = w.holder; bids = put2 w.bids i j n; answers = answered w i j Refused }
+
+-- object j, held by nobody, goes to person i
+abbrev pub award : Places → ℕ → ℕ → ℕ → Places
+award w i j n = record { state = w.state; holder = put w.holder j (Some i); bids = put2 w.bids i j n; answers = answered w i j Award }
+
+-- object j goes from person k to person i
+abbrev pub pass_on : Places → ℕ → ℕ → ℕ → ℕ → Places
+pass_on w i j n k =
+    record { state = w.state; holder = put w.holder j (Some i); bids = put2 w.bids i j n; answers = put2 (answered w k j Outbid) i j (answered w k j Outbid i j ++ Award ∷ []) }
+
+-- the state after an answer
+abbrev pub heard : Answer → ℕ → PersonState
+heard Award j = Holds j
+heard Refused j = Free
+heard Outbid j = Free
+
+-- the state allows the answer
+abbrev pub Allows : PersonState → Answer → ℕ → Type 0
+Allows s Award j = s ≡ Waits j
+Allows s Refused j = s ≡ Waits j
+Allows s Outbid j = s ≡ Holds j
+
+-- person i hears the first answer about object j, and xs are left
+abbrev pub hear : Places → ℕ → ℕ → Answer → List Answer → Places
+hear w i j a xs = record { state = put w.state i (heard a j); holder = w.holder; bids = w.bids; answers = put2 w.answers i j xs }

@@ -1,0 +1,42 @@
+-- A turn of the world, and a schedule of turns.
+use Rattle.std.specs.Prelude.{◌≡◌, ◌≢◌, ◌⊎◌, List, [], ◌∷◌}
+use Rattle.auc_mail.specs.Step.{Step}
+use Rattle.auc_mail.specs.declared.call.Call.{Call}
+use Rattle.auc_mail.specs.declared.call.Reply.{Reply}
+use Rattle.auc_letters.specs.declared.letter.Letter.{Letter}
+use Rattle.auc_model.specs.declared.turn.MailName.{MailName}
+use Rattle.auc_model.specs.Start.{Starts}
+use Rattle.auc_model.specs.declared.turn.Turn.{Turn}
+use Rattle.auc_model.specs.declared.turn.TurnReply.{TurnReply}
+use Rattle.auc_model.specs.World.{Phase, World}
+use Rattle.auc_model.specs.Mails.{Shard, mail_named}
+use Rattle.auc_model.specs.Bidding.{BidTurn}
+use Rattle.auc_model.specs.Posting.{PostTurn}
+use Rattle.auc_model.specs.Hearing.{PersonTakeTurn}
+use Rattle.auc_model.specs.Selling.{ObjectTakeTurn, TellTurn}
+use Rattle.auc_model.specs.Hub.{HubTakeTurn, HubCloseTurn}
+
+-- From w, the turn may be answered by r and lead to v. Only the sender of a letter that is taken is left free.
+abbrev pub Turned : Phase → World → Turn → TurnReply → World → Type 0
+Turned g w (Turn.Bid s) r v = BidTurn g w s r v
+Turned g w (Turn.PersonPost s) r v = PostTurn g w (Shard.PersonShard s) r v
+Turned g w (Turn.ObjectPost q) r v = PostTurn g w (Shard.ObjectShard q) r v
+Turned g w (Turn.PersonTake s) r v = PersonTakeTurn g w s r v
+Turned g w (Turn.ObjectTake q) r v = ObjectTakeTurn g w q r v
+Turned g w (Turn.Tell q j s) r v = TellTurn g w q j s r v
+Turned g w Turn.HubTake r v = HubTakeTurn g w r v
+Turned g w (Turn.HubClose name at) r v = HubCloseTurn w name at r v
+
+-- the turns, one after another and however answered, lead from w to v
+abbrev pub Schedule : Phase → World → List Turn → World → Type 0
+Schedule g w [] v = v ≡ w
+Schedule g w (t ∷ ts) v = (m : World) × (r : TurnReply) × Turned g w t r m × Schedule g m ts v
+
+-- of the three mails this one may have made a step, and the others are as they were
+pub record StepsIn (w v : World) (name : MailName) : Type 0 where
+  pub this : (mail_named v name ≡ mail_named w name) ⊎ ((c : Call Letter) × (r : Reply Letter) × Step (mail_named w name) c r (mail_named v name))
+  pub others : (other : MailName) → other ≢ name → mail_named v other ≡ mail_named w other
+
+-- v is reached from a world that a phase begins with
+abbrev pub Reached : Phase → World → Type 0
+Reached g v = (w : World) × (ts : List Turn) × Starts g w × Schedule g w ts v

@@ -1,0 +1,16 @@
+//! The world of the auction as a plain machine, and what holds of it over every schedule of turns.
+//!
+//! Shards of persons bid, shards of objects sell, a hub counts, and letters go between them through three mails
+//! (`specs/World.antt`). A turn is one step of one shard or of the hub, with at most one step of one mail; a schedule is any
+//! list of turns, in any order (`specs/Schedule.antt`). There is no code here but the types of the turns: the functions do
+//! nothing, and their contracts are theorems about all schedules.
+#![tactic(auto)]
+
+mod laws;
+mod turn;
+
+pub use laws::{
+    copies_never_fall, ends_stay, every_schedule, no_guard, no_stall, premises_can_be_met,
+    problems_make_phases, schedules_go_on, stuck_is_true, turns_are_small, turns_keep_invariants,
+};
+pub use turn::{End, MailName, Turn, TurnReply};

@@ -32,6 +32,7 @@ pub mod Opening
 pub mod Stall
 pub mod Still
 pub mod Rests
+pub mod Chosen
 pub mod Tables
 pub mod Dealt
 pub mod Example

@@ -11,6 +11,7 @@ pub mod Start
 pub mod Schedule
 pub mod Slack
 pub mod Still
+pub mod Chosen
 -- what every turn keeps
 pub mod Letters
 pub mod Places

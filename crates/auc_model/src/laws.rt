@@ -1,9 +1,12 @@
 //! What holds over every schedule, from every world that a phase begins with. The functions do nothing: their contracts are
 //! theorems, and crates above cite them.
 
-ghost use Rattle.std.specs.Prelude.{ℕ, ℤ, ◌<◌, ◌≤◌, ◌≤ℤ◌, ◌≡◌, ◌≢◌, List, [], ◌∷◌, ◌++◌, Some, None, Contains};
+ghost use Rattle.std.specs.Prelude.{ℕ, ℤ, ◌<◌, ◌≤◌, ◌≤ℤ◌, ◌≡◌, ◌≢◌, List, [], ◌∷◌, ◌++◌, Some, None, Contains, All, length};
 ghost use Rattle.auc_graph.specs.declared.rows.RowArc.{RowArc};
-ghost use Rattle.auc_graph.specs.Table.{Table, IsTable};
+ghost use Rattle.auc_graph.specs.declared.arc.Arc.{Arc};
+ghost use Rattle.auc_graph.specs.Assignment.{IsAssignment};
+ghost use Rattle.auc_graph.specs.Problem.{Problem};
+ghost use Rattle.auc_graph.specs.Table.{Table, IsTable, IsTableOf};
 ghost use Rattle.auc_letters.specs.Price.{IsEps};
 ghost use Rattle.auc_letters.specs.declared.letter.Why.{Why};
 ghost use Rattle.auc_letters.specs.declared.state.Held.{Held};
@@ -18,6 +21,7 @@ ghost use Rattle.auc_model.specs.Schedule.{Turned, Schedule, StepsIn};
 ghost use Rattle.auc_model.specs.Start.{Lawful, Starts, UsualNodes, occurs, free_in, persons_of};
 ghost use Rattle.auc_model.specs.Slack.{SlackRight};
 ghost use Rattle.auc_model.specs.Still.{IsStill, Rests};
+ghost use Rattle.auc_model.specs.Chosen.{IsHeldArc};
 ghost use Rattle.auc_model.specs.Counts.{held_objects};
 ghost use Rattle.auc_model.specs.Invariants.{Kept};
 ghost use Rattle.auc_model.specs.Room.{Room};
@@ -49,7 +53,7 @@ pub fn no_guard()
 {}
 
 /// Over every schedule the world stops for want of an arc only where a person has none.
-pub fn stuck_is_true()
+pub fn stuck_has_its_cause()
     ensures { (g : Phase) (w v : World) (ts : List Turn) → Lawful g → Starts g w → Schedule g w ts v → v.end ≡ Some (End.Stopped Why.Stuck) → SomeoneStuck g }
 {}
 
@@ -63,6 +67,12 @@ pub fn every_schedule()
     ensures counted { (g : Phase) (w v : World) (ts : List Turn) → Lawful g → Starts g w → Schedule g w ts v → v.count ≤ g.persons }
     ensures held { (g : Phase) (w v : World) (ts : List Turn) → Lawful g → Starts g w → Schedule g w ts v → held_objects g v ≤ g.persons }
     ensures everyone { (g : Phase) (w v : World) (ts : List Turn) → Lawful g → Starts g w → Schedule g w ts v → v.count ≡ g.persons → (i : ℕ) → i < g.persons → (j : ℕ) × (h : Held) × (v.holder j ≡ Some h) × (h.person ≡ i) }
+{}
+
+/// In a phase of a problem, over every schedule: where the hub has counted as many as there are persons, the holders' arcs are
+/// an assignment of the problem.
+pub fn counted_holders_are_assigned()
+    ensures { (p : Problem) (t : Table) (shards : ℕ) (eps : ℤ) → IsTable t → IsTableOf p t → 0 < shards → IsEps eps → (w v : World) (ts : List Turn) → Starts (phase_of t shards eps) w → Schedule (phase_of t shards eps) w ts v → v.count ≡ length t.rows → (choice : List Arc) × IsAssignment p choice × All (IsHeldArc p v) choice }
 {}
 
 /// What the laws of every schedule rest on: what a phase begins with is kept by each turn.

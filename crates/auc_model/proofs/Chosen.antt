@@ -1,0 +1,137 @@
+-- Where the hub has counted every person, the holders' arcs are an assignment of the problem.
+use Rattle.std.proofs.Common.{ℕ, ℤ, zero, suc, ◌+◌, ◌<◌, ◌≤◌, ◌≡◌, ◌≢◌, refl, arith, true, false, List, [], ◌∷◌, Option, Some, length, get_or, map, Contains, All, inl, inr, ap, sym, ◌∙◌, subst}
+use Rattle.std.specs.Prelude.{filter, nat_eq, ◌==◌}
+use Rattle.std.specs.List.{range_with_len, enumerate_from, IsDistinct, AllByRecursion}
+use Rattle.std.proofs.lemmas.Bool.{cases_Bool, eqb-true, ne_eqb}
+use Rattle.std.proofs.lemmas.List.FromFn.{get_or-map-range_with_len, length-map-range_with_len}
+use Rattle.auc_graph.specs.Assignment.{IsAssignment, object_of, person_of}
+use Rattle.auc_graph.specs.Problem.{Problem}
+use Rattle.auc_graph.specs.Row.{is_of, row, row_arc}
+use Rattle.auc_graph.specs.Table.{IsTable, IsTableOf, Table, row_of}
+use Rattle.auc_graph.specs.declared.arc.Arc.{Arc}
+use Rattle.auc_graph.specs.declared.rows.RowArc.{RowArc}
+use Rattle.auc_letters.specs.Price.{IsEps}
+use Rattle.auc_letters.specs.declared.state.Held.{Held}
+use Rattle.auc_model.specs.Chosen.{IsHeldArc}
+use Rattle.auc_model.specs.Schedule.{Schedule}
+use Rattle.auc_model.specs.Start.{Lawful, Starts}
+use Rattle.auc_model.specs.Ways.{Each}
+use Rattle.auc_model.specs.World.{Phase, World, phase_of}
+use Rattle.auc_model.specs.declared.turn.Turn.{Turn}
+use Rattle.auc_model.proofs.SameAnswers.{from_some}
+use Rattle.auc_model.proofs.Tables.{table_lawful}
+use Rattle.auc_model.proofs.Theorems.{everyone_holds, holders_slack}
+
+some_same : {a b : Held} → ◌≡◌ {A = Option Held} (Some a) (Some b) → a ≡ b
+some_same {a} {b} e = ap (λ (o : Option Held). from_some a o) e
+
+-- an arc of a person's row stands at its place in the list
+Found : ℕ → RowArc → ℕ → List Arc → Type 0
+Found i a n arcs = (k : ℕ) × (k < length arcs) × (a.arc ≡ n + k) × ((d : Arc) → get_or arcs k d ≡ record { cost = a.cost; person = i; object = a.object })
+
+row_arc_listed : (i n : ℕ) (arcs : List Arc) (a : RowArc) → Contains (map row_arc (filter (is_of i) (enumerate_from n arcs))) a → Found i a n arcs
+unfolding Found
+row_arc_listed i n [] a c = absurd (omega (arith, c.1))
+row_arc_listed i n (x ∷ xs) a c = elim (cases_Bool (x.person == i)) [ inl t ↦ his t c.0 (rw t at c.1) (rw t at c.2) (row_arc_listed i (n + 1) xs a) | inr f ↦ later (row_arc_listed i (n + 1) xs a (rw f at c)) ]
+  where
+    later : Found i a (n + 1) xs → Found i a n (x ∷ xs)
+    later f = (suc f.0, omega (arith, f.1), omega (arith, f.2), f.3)
+
+    his : (x.person == i) ≡ true → (k : ℕ) → k < length (row_arc (n, x) ∷ map row_arc (filter (is_of i) (enumerate_from (n + 1) xs))) → get_or (row_arc (n, x) ∷ map row_arc (filter (is_of i) (enumerate_from (n + 1) xs))) k a ≡ a
+        → (Contains (map row_arc (filter (is_of i) (enumerate_from (n + 1) xs))) a → Found i a (n + 1) xs) → Found i a n (x ∷ xs)
+    his t zero l e ih = (0, omega arith, sym (ap (λ (b : RowArc). b.arc) e) ∙ omega arith, λ d. λ q. record { cost = (ap (λ (b : RowArc). b.cost) e) q; person = (eqb-true x.person i t) q; object = (ap (λ (b : RowArc). b.object) e) q })
+    his t (suc k) l e ih = later (ih (k, omega (arith, l), e))
+
+module _ (p : Problem) (t : Table) (shards : ℕ) (eps : ℤ) (table : IsTable t) (its : IsTableOf p t) (some : 0 < shards) (is_eps : IsEps eps) where
+  abbrev g : Phase
+  g = phase_of t shards eps
+
+  law : Lawful g
+  law = table_lawful t shards eps table some is_eps
+
+  -- the rows are those of the problem
+  row_is : (i : ℕ) → i < p.persons → row_of t i ≡ map row_arc (filter (is_of i) (enumerate_from 0 p.arcs))
+  unfolding row
+  row_is i l = ap (λ (rows : List (List RowArc)). get_or rows i []) its.rows ∙ get_or-map-range_with_len (λ person. row person p.arcs) 0 p.persons i i [] l (omega arith)
+
+  persons_are : length t.rows ≡ p.persons
+  persons_are = ap length its.rows ∙ length-map-range_with_len (λ person. row person p.arcs) 0 p.persons
+
+  module _ (w v : World) (ts : List Turn) (s : Starts g w) (run : Schedule g w ts v) (all : v.count ≡ g.persons) where
+    -- the arc of a person
+    Chosen : ℕ → Type 0
+    Chosen i = (arc : Arc) × (arc.person ≡ i) × Contains p.arcs arc × IsHeldArc p v arc
+
+    by_holder : (i j : ℕ) (h : Held) (a : RowArc) → v.holder j ≡ Some h → h.person ≡ i → a.object ≡ j → a.arc ≡ h.arc → Found i a 0 p.arcs → Chosen i
+    unfolding Chosen Found
+    by_holder i j h a holds who leads stands found =
+        let arc : Arc = record { cost = a.cost; person = i; object = a.object } in
+        let place : h.arc ≡ found.0 = let e = found.2 in omega (arith, e, stands) in (
+          arc,
+          refl,
+          (found.0, found.1, found.3 arc),
+          record { held = h; holds = ap v.holder leads ∙ holds; person = who; place = ap (λ (n : ℕ). get_or p.arcs n arc) place ∙ found.3 arc },
+        )
+
+    chosen : (i : ℕ) → i < p.persons → Chosen i
+    chosen i l =
+        let e = everyone_holds g w v ts law s run all i (rw persons_are l) in
+        let f = holders_slack g w v ts law s run e.0 e.1 e.2 in
+        let listed : Contains (row_of t i) f.0 = subst (λ (n : ℕ). Contains (row_of t n) f.0) e.3 f.1 in
+        by_holder i e.0 e.1 f.0 e.2 e.3 f.2 f.3 (row_arc_listed i 0 p.arcs f.0 (rw (row_is i l) at listed))
+
+    -- arcs of persons from a on
+    Later : ℕ → Arc → Type 0
+    Later a arc = (a ≤ arc.person) × Contains p.arcs arc × IsHeldArc p v arc
+
+    weaker : (a : ℕ) (arcs : List Arc) → Each (Later (a + 1)) arcs → Each (Later a) arcs
+    unfolding Later
+    weaker a [] e = tt
+    weaker a (x ∷ xs) e = ((let l = e.0.0 in omega (arith, l), e.0.1, e.0.2), weaker a xs e.1)
+
+    -- later arcs go to other objects
+    apart : (a : ℕ) (arc : Arc) → arc.person ≡ a → IsHeldArc p v arc → (arcs : List Arc) → Each (Later (a + 1)) arcs → AllByRecursion (λ j. nat_eq arc.object j ≡ false) (map object_of arcs)
+    unfolding Later
+    apart a arc own held [] e = tt
+    apart a arc own held (x ∷ xs) e = (ne_eqb arc.object x.object other, apart a arc own held xs e.1)
+      where
+        other : arc.object ≢ x.object
+        other same =
+            let h = e.0.2 in
+            let who : held.held ≡ h.held = some_same (sym held.holds ∙ (ap v.holder same ∙ h.holds)) in
+            let k = ap (λ (z : Held). z.person) who in
+            let l = e.0.0 in
+            let m = held.person in
+            let n = h.person in
+            absurd (omega (arith, k, l, m, n, own))
+
+    record Choice (a n : ℕ) : Type 0 where
+      arcs : List Arc
+      persons : map person_of arcs ≡ range_with_len a n
+      each : Each (Later a) arcs
+      distinct : IsDistinct nat_eq (map object_of arcs)
+
+    choice : (n a : ℕ) → a + n ≡ p.persons → Choice a n
+    unfolding Later Chosen IsDistinct
+    choice zero a e = record { arcs = []; persons = refl; each = tt; distinct = tt }
+    choice (suc n) a e =
+        let x = chosen a (omega (arith, e)) in
+        let rest = choice n (a + 1) (omega (arith, e)) in
+        let own = x.1 in
+        record {
+          arcs = x.0 ∷ rest.arcs;
+          persons = λ q. own q ∷ rest.persons q;
+          each = ((omega (arith, own), x.2, x.3), weaker a rest.arcs rest.each);
+          distinct = (apart a x.0 own x.3 rest.arcs rest.each, rest.distinct);
+        }
+
+    all_of : (P : Arc → Type 0) (arcs : List Arc) → ((x : Arc) → Later 0 x → P x) → Each (Later 0) arcs → All P arcs
+    all_of P [] f e k d l = absurd (omega arith)
+    all_of P (x ∷ xs) f e zero d l = f x e.0
+    all_of P (x ∷ xs) f e (suc k) d l = all_of P xs f e.1 k d (omega (arith, l))
+
+    pub holders_are_assignment : (arcs : List Arc) × IsAssignment p arcs × All (IsHeldArc p v) arcs
+    unfolding Later
+    holders_are_assignment =
+        let c = choice p.persons 0 (omega arith) in
+        (c.arcs, record { persons = c.persons; arcs = all_of (Contains p.arcs) c.arcs (λ x l. l.1) c.each; objects = c.distinct }, all_of (IsHeldArc p v) c.arcs (λ x l. l.2) c.each)

@@ -1,7 +1,8 @@
 -- Where the hub has counted every person, the holders' arcs are an assignment of the problem.
 use Rattle.std.proofs.Common.{ℕ, ℤ, zero, suc, ◌+◌, ◌<◌, ◌≤◌, ◌≡◌, ◌≢◌, refl, arith, true, false, List, [], ◌∷◌, Option, Some, length, get_or, map, Contains, All, inl, inr, ap, sym, ◌∙◌, subst}
 use Rattle.std.specs.Prelude.{filter, nat_eq, ◌==◌}
-use Rattle.std.specs.List.{range_with_len, enumerate_from, IsDistinct, AllByRecursion}
+use Rattle.std.proofs.lemmas.Option.{slice_get-get_or}
+use Rattle.std.specs.List.{slice_get, range_with_len, enumerate_from, IsDistinct, AllByRecursion}
 use Rattle.std.proofs.lemmas.Bool.{cases_Bool, eqb-true, ne_eqb}
 use Rattle.std.proofs.lemmas.List.FromFn.{get_or-map-range_with_len, length-map-range_with_len}
 use Rattle.auc_graph.specs.Assignment.{IsAssignment, object_of, person_of}
@@ -70,7 +71,7 @@ module _ (p : Problem) (t : Table) (shards : ℕ) (eps : ℤ) (table : IsTable t
           arc,
           refl,
           (found.0, found.1, found.3 arc),
-          record { held = h; holds = ap v.holder leads ∙ holds; person = who; place = ap (λ (n : ℕ). get_or p.arcs n arc) place ∙ found.3 arc },
+          record { held = h; holds = ap v.holder leads ∙ holds; person = who; place = ap (slice_get p.arcs) place ∙ slice_get-get_or p.arcs found.0 arc found.1 ∙ ap Some (found.3 arc) },
         )
 
     chosen : (i : ℕ) → i < p.persons → Chosen i

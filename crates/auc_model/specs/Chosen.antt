@@ -1,5 +1,5 @@
 -- The arcs of the holders.
-use Rattle.std.specs.Prelude.{◌≡◌, Some, slice_index_or}
+use Rattle.std.specs.Prelude.{◌≡◌, Some, slice_get}
 use Rattle.auc_graph.specs.declared.arc.Arc.{Arc}
 use Rattle.auc_graph.specs.Problem.{Problem}
 use Rattle.auc_letters.specs.declared.state.Held.{Held}
@@ -10,4 +10,4 @@ pub record IsHeldArc (p : Problem) (w : World) (arc : Arc) : Type 0 where
   pub held : Held
   pub holds : w.holder arc.object ≡ Some held
   pub person : held.person ≡ arc.person
-  pub place : slice_index_or p.arcs held.arc arc ≡ arc
+  pub place : slice_get p.arcs held.arc ≡ Some arc

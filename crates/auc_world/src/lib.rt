@@ -7,6 +7,10 @@
 
 mod eps;
 mod limits;
+mod making;
+mod turns;
+mod world;
 
 pub use eps::{first_eps, next_eps};
 pub use limits::Limits;
+pub use world::World;

@@ -1,7 +1,8 @@
 -- What holds of each world holds still when a shard, an outbox or a mail is another.
 use Rattle.std.proofs.Common.{ℕ, ◌%◌, ◌<◌, ◌≡◌, ◌≢◌, List, [], ◌∷◌, drop, length, get_or, set, inl, inr, refl, ap, sym, subst, ◌∙◌, arith, length-set}
-use Rattle.std.specs.Prelude.{ℤ, All, Result, Ok, Err}
-use Rattle.std.proofs.lemmas.Bool.{cases_eq}
+use Rattle.std.specs.Prelude.{ℤ, pos, negsuc, ◌≤ℤ◌, ◌<ℤ◌, ◌⊎◌, Option, Some, None, All, Result, Ok, Err}
+use Rattle.std.proofs.lemmas.Bool.{cases_eq, cases_lt}
+use Rattle.std.proofs.lemmas.Int.{ints}
 use Rattle.std.proofs.lemmas.List.{get_or-set_same, get_or-set_other}
 use Rattle.arrayvec.specs.ArrayVec.{ArrayVec}
 use Rattle.auc_graph.specs.Table.{Table}
@@ -12,7 +13,10 @@ use Rattle.auc_mail.specs.Step.{Step}
 use Rattle.auc_mail.specs.declared.call.Call.{Call}
 use Rattle.auc_mail.specs.declared.call.Reply.{Reply}
 use Rattle.auc_mail.proofs.StepLaws.{step_shape}
-use Rattle.auc_objects.specs.Objects.{Objects, SameShape as SameObjects}
+use Rattle.auc_letters.specs.declared.state.Held.{Held}
+use Rattle.auc_letters.specs.Award.{awards, refusal}
+use Rattle.auc_letters.specs.Routing.{to_person, to_hub}
+use Rattle.auc_objects.specs.Objects.{Objects, SameShape as SameObjects, sold}
 use Rattle.std.proofs.lemmas.List.Elements.{All-get_or, All-weaker, All-drop, All-push}
 use Rattle.auc_model.proofs.Tables.{first_and_rest}
 use Rattle.auc_letters.specs.declared.state.PersonState.{PersonState}
@@ -76,14 +80,42 @@ persons_shape t n s x y same own is = record {
   idle_own = own;
 }
 
-pub objects_shape : (t : Table) (n q : ℕ) (x y : Objects) → SameObjects x y → IsObjectShard t n q x → IsObjectShard t n q y
-objects_shape t n q x y same is = record {
+pub objects_shape : (t : Table) (n q : ℕ) (x y : Objects) → SameObjects x y → length y.holders ≡ length x.holders → IsObjectShard t n q x → IsObjectShard t n q y
+objects_shape t n q x y same holders is = record {
   number = same.shard ∙ is.number;
   of = same.of ∙ is.of;
   person_shards = same.person_shards ∙ is.person_shards;
   persons = same.persons ∙ is.persons;
   objects = same.objects ∙ is.objects;
+  holders = holders ∙ is.holders;
 }
+
+pub either : (a b : ℤ) → (a ≤ℤ b) ⊎ (b <ℤ a)
+either (pos m) (pos n) = elim (cases_lt n m) [ inl l ↦ inr (omega (arith, ints)) | inr l ↦ inl (omega (arith, ints)) ]
+either (pos m) (negsuc n) = inr (omega (arith, ints))
+either (negsuc m) (pos n) = inl (omega (arith, ints))
+either (negsuc m) (negsuc n) = elim (cases_lt m n) [ inl l ↦ inr (omega (arith, ints)) | inr l ↦ inl (omega (arith, ints)) ]
+
+-- what a bid leaves of a shard, and the letters that answer it
+module _ (x y : Objects) (j : ℕ) (amount least : ℤ) (held : Held) (accepted : least ≤ℤ amount → y ≡ sold x j amount held) (kept : amount <ℤ least → y ≡ x) where
+  pub holders_stay : length y.holders ≡ length x.holders
+  holders_stay = elim (either least amount) [ inl l ↦ ap (λ (z : Objects). length z.holders) (accepted l) ∙ length-set x.holders j (Some held) | inr l ↦ ap (λ (z : Objects). length z.holders) (kept l) ]
+
+one_reach : (n : ℕ) (o : Out) → Reaches n o → All (Reaches n) (o ∷ [])
+one_reach n o r = All-push (Reaches n) [] o (λ k d l. absurd (omega arith)) r
+
+two_reach : (n : ℕ) (o u : Out) → Reaches n o → Reaches n u → All (Reaches n) (o ∷ u ∷ [])
+two_reach n o u r t = All-push (Reaches n) (o ∷ []) u (one_reach n o r) t
+
+awards_reach : (n : ℕ) (before : Option Held) (i j : ℕ) (p : ℤ) → 0 < n → All (Reaches n) (awards n before i j p)
+awards_reach n None i j p some = two_reach n (to_person n i (Letter.Award i j p)) (to_hub (Letter.First j)) (omega arith) (omega arith)
+awards_reach n (Some held) i j p some = two_reach n (to_person n held.person (Letter.Outbid held.person j p)) (to_person n i (Letter.Award i j p)) (omega arith) (omega arith)
+
+refusal_reaches : (n i j : ℕ) (p : ℤ) → 0 < n → All (Reaches n) (refusal n i j p)
+refusal_reaches n i j p some = one_reach n (to_person n i (Letter.Refused i j p)) (omega arith)
+
+pub answers_reach : (n : ℕ) (os : List Out) (before : Option Held) (i j : ℕ) (p amount least : ℤ) → 0 < n → (least ≤ℤ amount → os ≡ awards n before i j amount) → (amount <ℤ least → os ≡ refusal n i j p) → All (Reaches n) os
+answers_reach n os before i j p amount least some accepted refused = elim (either least amount) [ inl l ↦ rw (accepted l) (awards_reach n before i j amount some) | inr l ↦ rw (refused l) (refusal_reaches n i j p some) ]
 
 pub mail_shape : (n : ℕ) (x y : Mail Letter) (c : Call Letter) (r : Reply Letter) (boxes : ℕ) → Step x c r y → IsMail n x boxes → IsMail n y boxes
 mail_shape n x y c r boxes step is =
@@ -121,8 +153,8 @@ module _ (p : Parts) (are : AreParts p) where
       let is : IsPersonShard p.table p.shards s x = rw e (are.each_persons s known) in
       keeps_persons s new known (persons_shape p.table p.shards s x new same (hears_own x new l r hears same is.idle_own) is)
 
-  pub keeps_objects : (q : ℕ) (new : Objects) → q < p.shards → SameObjects (objects_at p q) new → AreParts (record p { objects = set p.objects q new })
-  keeps_objects q new known same = record {
+  pub keeps_objects : (q : ℕ) (new : Objects) → q < p.shards → IsObjectShard p.table p.shards q new → AreParts (record p { objects = set p.objects q new })
+  keeps_objects q new known is = record {
     some = are.some;
     few = are.few;
     eps_is = are.eps_is;
@@ -133,7 +165,7 @@ module _ (p : Parts) (are : AreParts p) where
     object_outs_are = are.object_outs_are;
     stopped_are = are.stopped_are;
     each_persons = are.each_persons;
-    each_objects = each_set (IsObjectShard p.table p.shards) p.objects no_objects p.shards q new are.objects_are known (objects_shape p.table p.shards q (objects_at p q) new same (are.each_objects q known)) are.each_objects;
+    each_objects = each_set (IsObjectShard p.table p.shards) p.objects no_objects p.shards q new are.objects_are known is are.each_objects;
     each_person_out = are.each_person_out;
     each_object_out = are.each_object_out;
     objects_mail_is = are.objects_mail_is;
@@ -141,8 +173,14 @@ module _ (p : Parts) (are : AreParts p) where
     hub_mail_is = are.hub_mail_is;
   }
 
-  pub on_bid_keeps : (q : ℕ) (x new : Objects) → q < p.shards → x ≡ objects_at p q → SameObjects x new → AreParts (record p { objects = set p.objects q new })
-  on_bid_keeps q x new known e same = keeps_objects q new known (rw e at same)
+  pub on_bid_keeps : (q : ℕ) (x new : Objects) → q < p.shards → x ≡ objects_at p q → SameObjects x new → length new.holders ≡ length x.holders → AreParts (record p { objects = set p.objects q new })
+  on_bid_keeps q x new known e same holders = keeps_objects q new known (objects_shape p.table p.shards q x new same holders (rw e (are.each_objects q known)))
+
+  pub reach_by : (q : ℕ) (x : Objects) → q < p.shards → x ≡ objects_at p q → (os : List Out) (before : Option Held) (i j : ℕ) (price amount least : ℤ) → (least ≤ℤ amount → os ≡ awards x.person_shards before i j amount)
+      → (amount <ℤ least → os ≡ refusal x.person_shards i j price) → All (Reaches p.shards) os
+  reach_by q x known e os before i j price amount least accepted refused =
+      let is : IsObjectShard p.table p.shards q x = rw e (are.each_objects q known) in
+      subst (λ n. All (Reaches n) os) is.person_shards (answers_reach x.person_shards os before i j price amount least (subst (λ n. 0 < n) (sym is.person_shards) are.some) accepted refused)
 
   pub keeps_person_outs : (s : ℕ) (new : ArrayVec Out) → s < p.shards → All (Reaches p.shards) new.items → AreParts (record p { person_outs = set p.person_outs s new })
   keeps_person_outs s new known reach = record {

@@ -3,4 +3,8 @@ pub mod Keeping
 pub mod Seen
 pub mod Bidding
 pub mod Hearing
+pub mod Selling
+pub mod Posting
+pub mod Hub
 pub mod Made
+pub mod TurnByTurn

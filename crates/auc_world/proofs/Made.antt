@@ -85,7 +85,7 @@ module _ (t : Table) (limits : Limits) (prices : List ℤ) (eps : ℤ) (p : Part
   persons_here s l = rw (made.table, made.shards, made.each_persons s l) (new_persons_are t limits.shards limits.bids prices s are.each)
 
   objects_here : (q : ℕ) → q < limits.shards → IsObjectShard p.table p.shards q (get_or p.objects q no_objects)
-  objects_here q l = rw (made.table, made.shards, made.each_objects q l) (record { number = refl; of = refl; person_shards = refl; persons = refl; objects = are.each })
+  objects_here q l = rw (made.table, made.shards, made.each_objects q l) (record { number = refl; of = refl; person_shards = refl; persons = refl; objects = are.each; holders = length-replicate (length prices) None ∙ are.each })
 
   pub made_are : AreParts p
   made_are = record {

@@ -97,6 +97,7 @@ pub record IsObjectShard (table : Table) (shards q : ℕ) (x : Objects) : Type 0
   pub person_shards : x.person_shards ≡ shards
   pub persons : x.persons ≡ length table.rows
   pub objects : length x.prices ≡ table.objects
+  pub holders : length x.holders ≡ table.objects
 
 -- how many boxes there are in the mail that a letter goes into
 abbrev pub boxes_of : ℕ → To → ℕ
@@ -150,6 +151,14 @@ without_first_person_out p s = record p { person_outs = slice_set p.person_outs 
 
 abbrev pub without_first_object_out : Parts → ℕ → Parts
 without_first_object_out p q = record p { object_outs = slice_set p.object_outs q (record { items = drop 1 (object_out p q) }) }
+
+-- a mail alone may be another
+pub record MailAlone (p n : Parts) : Type 0 where
+  pub shards : n.shards ≡ p.shards
+  pub table : n.table ≡ p.table
+  pub eps : n.eps ≡ p.eps
+  pub person_outs : n.person_outs ≡ p.person_outs
+  pub object_outs : n.object_outs ≡ p.object_outs
 
 -- the phase stays the same
 pub record SamePhase (p n : Parts) : Type 0 where

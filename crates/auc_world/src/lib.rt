@@ -8,9 +8,11 @@
 mod eps;
 mod limits;
 mod making;
+mod playing;
 mod turns;
 mod world;
 
 pub use eps::{first_eps, next_eps};
 pub use limits::Limits;
+pub use playing::play;
 pub use world::World;

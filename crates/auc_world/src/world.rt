@@ -2,7 +2,7 @@
 
 ghost use Rattle.std.specs.Prelude.{◌≡◌, ◌≢◌, ◌<◌, ◌≤◌, ◌+◌, ◌*◌, ◌⊎◌, ◌↔◌, true, [], ◌∷◌, drop, slice_set, length, All, IsTrue, IfSome, IfNone, IfOk};
 ghost use Rattle.auc_persons.specs.Persons.{NextBid, OnLetter};
-ghost use Rattle.auc_world.specs.Parts.{AreParts, Reaches, MayAskForBid, MayAnswer, OwnsObject, Accepts, Declines, IsOpenBox, persons_at, objects_at, person_out, object_out, without_first_person_out, without_first_object_out, with_mail_at, name_of, boxes_in, counted_at, TakesOne, phase, seen};
+ghost use Rattle.auc_world.specs.Parts.{AreParts, Reaches, MayAskForBid, MayAnswer, OwnsObject, Accepts, Declines, IsOpenBox, MailAlone, persons_at, objects_at, person_out, object_out, without_first_person_out, without_first_object_out, with_mail_at, name_of, boxes_in, counted_at, TakesOne, phase, seen};
 ghost use Rattle.auc_letters.specs.Price.{IsPrice};
 ghost use Rattle.auc_letters.specs.Routing.{price_told};
 ghost use Rattle.auc_letters.specs.Award.{awards, refusal};
@@ -12,6 +12,8 @@ ghost use Rattle.auc_mail.specs.declared.call.Reply.{Reply};
 ghost use Rattle.auc_mail.specs.Step.{Step, reply_to_post};
 ghost use Rattle.auc_model.specs.Mails.{mail_of, box_of, mail_named, TakesNone};
 ghost use Rattle.auc_model.specs.World.{first_end, phase_of};
+ghost use Rattle.auc_letters.specs.declared.letter.Letter.{Letter};
+ghost use Rattle.auc_model.specs.Selling.{FitsBid};
 ghost use Rattle.auc_model.specs.Start.{Lawful, Starts, UsualNodes};
 ghost use Rattle.auc_letters.specs.Price.{IsEps};
 ghost use Rattle.auc_world.specs.Making.{AreLimits, ArePrices, IsMade};
@@ -20,13 +22,22 @@ use crate::limits::Limits;
 use crate::making::{new_mail, new_object_shards, new_outboxes, new_person_shards, nodes_or};
 use arrayvec::ArrayVec;
 use auc_graph::Rows;
-use auc_letters::{Letter, Out, To, shard_of};
+use auc_letters::{Letter, MOST_PRICE, Out, To, shard_of};
 use auc_mail::{MailPool, PostRefused, Taken};
 use auc_model::{End, MailName};
 use auc_objects::ObjectShard;
 use auc_persons::{Bidding, PersonFault, PersonShard};
 use std::alloc::{AllocError, Global};
 use std::marker::Model;
+
+/// A bid that a shard of the objects deals with.
+#[derive(Clone, Copy)]
+pub(crate) struct Offer {
+    pub(crate) person: u32,
+    pub(crate) arc: u32,
+    pub(crate) object: u32,
+    pub(crate) amount: i64,
+}
 
 /// The world of one phase: its shards, their outboxes, three mails and the hub.
 #[derive(Drop)]
@@ -138,11 +149,13 @@ impl<'a> World<'a> {
         shard < self.shards
     }
 
-    /// The number of persons.
-    pub(crate) fn persons(&self) -> u32
-        ensures { result ≡ length self.now.table.rows }
+    /// Which sender of each mail a shard of the objects is.
+    pub(crate) fn object_sender(&self, shard: u32) -> u32
+        requires { shard < self.now.shards }
+        ensures is { result ≡ self.now.shards + shard }
+        ensures there { result < 2 * self.now.shards + 1 }
     {
-        self.rows.persons()
+        self.shards + shard
     }
 
     /// Whether a shard of the persons may bid: it is there, its outbox is empty, and it has made no Stop.
@@ -216,7 +229,8 @@ impl<'a> World<'a> {
     pub(crate) fn drop_person_out(&mut self, shard: u32)
         requires known { shard < self.old.shards }
         requires some { person_out self.old shard ≢ [] }
-        ensures { self.new ≡ without_first_person_out self.old shard }
+        ensures rest { self.new ≡ without_first_person_out self.old shard }
+        ensures there { shard < length self.old.person_outs }
     {
         let letters = &mut self.person_outs[shard as usize];
         let _ = letters.remove(0);
@@ -242,7 +256,8 @@ impl<'a> World<'a> {
     pub(crate) fn drop_object_out(&mut self, shard: u32)
         requires known { shard < self.old.shards }
         requires some { object_out self.old shard ≢ [] }
-        ensures { self.new ≡ without_first_object_out self.old shard }
+        ensures rest { self.new ≡ without_first_object_out self.old shard }
+        ensures there { shard < length self.old.object_outs }
     {
         let letters = &mut self.object_outs[shard as usize];
         let _ = letters.remove(0);
@@ -287,6 +302,7 @@ impl<'a> World<'a> {
         ensures accepted { Accepts self.old shard object amount → (objects_at self.new shard ≡ sold (objects_at self.old shard) object amount (record { person = person; arc = arc })) × (result.items ≡ awards self.old.shards (holder_of (objects_at self.old shard) object) person object amount) }
         ensures declined { Declines self.old shard object amount → (objects_at self.new shard ≡ objects_at self.old shard) × (result.items ≡ refusal self.old.shards person object (price_of (objects_at self.old shard) object)) }
         ensures rest { self.new ≡ record self.old { objects = slice_set self.old.objects shard (objects_at self.new shard) } }
+        ensures reach { All (Reaches self.old.shards) result.items }
     {
         let eps = self.eps;
         let objects = &mut self.object_shards[shard as usize];
@@ -330,6 +346,7 @@ impl<'a> World<'a> {
         requires reaches { Reaches self.old.shards out }
         ensures step { Step (mail_of (seen self.old) out.to) (Call.Post sender (box_of out.to) out.letter out.reserve) (reply_to_post result) (mail_of (seen self.new) out.to) }
         ensures rest { self.new ≡ with_mail_at self.old (name_of out.to) (mail_of (seen self.new) out.to) }
+        ensures alone { MailAlone self.old self.new }
     {
         match out.to {
             To::Person { shard } => {
@@ -415,5 +432,38 @@ impl<'a> World<'a> {
         ensures { result ≡ (seen self.now).end }
     {
         self.end
+    }
+
+    /// The bid that a letter to a shard of the objects is, where it fits: the object is the shard's, and the amount is in range.
+    pub(crate) fn offer_in(&self, shard: u32, letter: Letter) -> Option<Offer>
+        ensures some { IfSome result (λ b. (letter ≡ Letter.Bid b.person b.arc b.object b.amount) × FitsBid (phase self.now) shard letter) }
+        ensures owns { IfSome result (λ b. OwnsObject self.now shard b.object) }
+        ensures amount { IfSome result (λ b. IsPrice b.amount) }
+        ensures none { IfNone result (FitsBid (phase self.now) shard letter → ⊥) }
+    {
+        match letter {
+            Letter::Bid {
+                person,
+                arc,
+                object,
+                amount,
+            } => {
+                if !self.owns(shard, object) || amount < 0 || amount > MOST_PRICE {
+                    return None;
+                }
+                Some(Offer {
+                    person,
+                    arc,
+                    object,
+                    amount,
+                })
+            }
+            Letter::Award { .. } => None,
+            Letter::Refused { .. } => None,
+            Letter::Outbid { .. } => None,
+            Letter::Price { .. } => None,
+            Letter::First { .. } => None,
+            Letter::Stop { .. } => None,
+        }
     }
 }

@@ -1,0 +1,75 @@
+-- Bid turns.
+use Rattle.std.proofs.Common.{ℕ, ◌<◌, ◌≡◌, ◌≢◌, [], ◌∷◌, true, List, drop, length, set, refl, ap, ◌∙◌, inr, arith}
+use Rattle.std.proofs.lemmas.List.{set-get_or}
+use Rattle.std.proofs.lemmas.List.Elements.{All-get_or}
+use Rattle.arrayvec.specs.ArrayVec.{ArrayVec}
+use Rattle.auc_letters.specs.declared.letter.Letter.{Letter}
+use Rattle.auc_letters.specs.declared.letter.Why.{Why}
+use Rattle.auc_letters.specs.declared.out.Out.{Out}
+use Rattle.auc_letters.specs.Routing.{to_hub, to_object}
+use Rattle.auc_persons.specs.declared.bidding.Bidding.{Bidding}
+use Rattle.auc_persons.specs.Persons.{NextBid, Owns, Persons, after_bid, first_idle, Stops as Stopped}
+use Rattle.auc_model.specs.Bidding.{BidTurn, MayBid, Stops, barred, bids, stops}
+use Rattle.auc_model.specs.Bidding as bidding
+use Rattle.auc_model.specs.declared.turn.TurnReply.{TurnReply}
+use Rattle.auc_model.proofs.Tables.{first_and_rest}
+use Rattle.auc_world.specs.Parts.{AreParts, IsPersonShard, MayAskForBid, Parts, no_persons, persons_at, phase, seen}
+use Rattle.auc_world.proofs.Seen.{seen_bid, seen_stop}
+
+-- the shard is as it was, and so are all parts
+pub same_persons : (p : Parts) (s : ℕ) (n : Persons) → n ≡ persons_at p s → set p.persons s n ≡ p.persons
+same_persons p s n e = ap (λ (x : Persons). set p.persons s x) e ∙ set-get_or p.persons s no_persons
+
+stops_same : (p : Parts) (s i : ℕ) (why : Why) → Stopped p.table p.eps (persons_at p s) i why → Stops (phase p) (seen p) s i why
+stops_same p s i Why.Bids h = h
+stops_same p s i Why.Stuck h = h
+stops_same p s i Why.Ceiling h = h
+stops_same p s i Why.Posts h = h
+stops_same p s i Why.Trail h = h
+stops_same p s i Why.Mail h = h
+stops_same p s i Why.Fell h = h
+stops_same p s i Why.Stray h = h
+
+module _ (p : Parts) (s : ℕ) (are : AreParts p) (may : MayAskForBid p s) where
+  there : s < length p.persons
+  there = let k = may.known in omega (arith, are.persons_are)
+
+  is : IsPersonShard p.table p.shards s (persons_at p s)
+  is = are.each_persons s may.known
+
+  may_bid : (persons_at p s).idle ≢ [] → MayBid (phase p) (seen p) s (first_idle (persons_at p s)) (drop 1 (persons_at p s).idle)
+  may_bid some = record { known = may.known; empty = may.empty; going = may.going; first = first_and_rest (persons_at p s).idle 0 some }
+
+  owns_first : (persons_at p s).idle ≢ [] → Owns (persons_at p s) (first_idle (persons_at p s))
+  owns_first some = All-get_or (Owns (persons_at p s)) (persons_at p s).idle 0 0 (not_empty (persons_at p s).idle some) is.idle_own
+    where
+      not_empty : (xs : List ℕ) → xs ≢ [] → 0 < length xs
+      not_empty [] n = absurd (n refl)
+      not_empty (x ∷ xs) n = omega arith
+
+  pub bid_idle : (n : Parts) → NextBid p.table p.eps (persons_at p s) Bidding.Idle (persons_at n s) → n ≡ record p { persons = set p.persons s (persons_at n s) } → BidTurn (phase p) (seen p) s TurnReply.Nothing (seen n)
+  bid_idle n h e = barred (inr (inr (inr h.0))) refl (ap seen (e ∙ ap (λ (xs : List Persons). record p { persons = xs }) (same_persons p s (persons_at n s) h.1)))
+
+  pub bid_stops : (n m v : Parts) (why : Why) → NextBid p.table p.eps (persons_at p s) (Bidding.Stop why) (persons_at n s) → n ≡ record p { persons = set p.persons s (persons_at n s) } → m ≡ record n { stopped = set n.stopped s true }
+      → v ≡ record m { person_outs = set m.person_outs s (record { items = to_hub (Letter.Stop why) ∷ [] }) } → BidTurn (phase p) (seen p) s TurnReply.Moved (seen v)
+  bid_stops n m v why h e1 e2 e3 =
+      let new : ArrayVec Out = record { items = to_hub (Letter.Stop why) ∷ [] } in
+      let same : n ≡ p = e1 ∙ ap (λ (xs : List Persons). record p { persons = xs }) (same_persons p s (persons_at n s) h.2) in
+      let after : v ≡ record p { stopped = set p.stopped s true; person_outs = set p.person_outs s new } = e3 ∙ (ap (λ (z : Parts). record z { person_outs = set z.person_outs s new }) e2 ∙ ap (λ (z : Parts). record z { stopped = set z.stopped s true; person_outs = set z.person_outs s new }) same) in
+      let k = may.known in
+      stops (first_idle (persons_at p s)) (drop 1 (persons_at p s).idle) why (may_bid h.0) (stops_same p s (first_idle (persons_at p s)) why h.1) refl
+      (ap seen after ∙ seen_stop p s new (omega (arith, are.stopped_are)) (omega (arith, are.person_outs_are)))
+
+  pub bid_goes_out : (n v : Parts) (out : Out) → NextBid p.table p.eps (persons_at p s) (Bidding.Out out) (persons_at n s) → n ≡ record p { persons = set p.persons s (persons_at n s) }
+      → v ≡ record n { person_outs = set n.person_outs s (record { items = out ∷ [] }) } → BidTurn (phase p) (seen p) s TurnReply.Moved (seen v)
+  bid_goes_out n v out h e1 e2 =
+      let x = persons_at p s in
+      let i = first_idle x in
+      let arc = h.2.0 in
+      let amount = h.2.1 in
+      let letter : out ≡ bidding.bid_letter (phase p) i arc amount = h.2.4 ∙ ap (λ (n : ℕ). to_object n arc.object (Letter.Bid i arc.arc arc.object amount)) is.object_shards in
+      let new : ArrayVec Out = record { items = bidding.bid_letter (phase p) i arc amount ∷ [] } in
+      let after : v ≡ record p { persons = set p.persons s (after_bid x i arc.object); person_outs = set p.person_outs s new } = e2 ∙ (ap (λ (o : Out). record n { person_outs = set n.person_outs s (record { items = o ∷ [] }) }) letter ∙ (ap (λ (z : Parts). record z { person_outs = set z.person_outs s new }) e1 ∙ ap (λ (y : Persons). record p { persons = set p.persons s y; person_outs = set p.person_outs s new }) h.2.5)) in
+      let k = may.known in
+      bids i (drop 1 x.idle) arc amount (may_bid h.0) h.1 h.2.2 h.2.3 refl
+      (ap seen after ∙ seen_bid p s there is i arc.object new (owns_first h.0) (omega (arith, are.person_outs_are)))

@@ -1,0 +1,291 @@
+-- What holds of each world holds still when a shard, an outbox or a mail is another.
+use Rattle.std.proofs.Common.{ℕ, ◌%◌, ◌<◌, ◌≡◌, ◌≢◌, List, [], ◌∷◌, drop, length, get_or, set, inl, inr, refl, ap, sym, subst, ◌∙◌, arith, length-set}
+use Rattle.std.specs.Prelude.{ℤ, pos, negsuc, ◌≤ℤ◌, ◌<ℤ◌, ◌⊎◌, Option, Some, None, All, Result, Ok, Err}
+use Rattle.std.proofs.lemmas.Bool.{cases_eq, cases_lt}
+use Rattle.std.proofs.lemmas.Int.{ints}
+use Rattle.std.proofs.lemmas.List.{get_or-set_same, get_or-set_other}
+use Rattle.arrayvec.specs.ArrayVec.{ArrayVec}
+use Rattle.auc_graph.specs.Table.{Table}
+use Rattle.auc_letters.specs.declared.letter.Letter.{Letter}
+use Rattle.auc_letters.specs.declared.out.Out.{Out}
+use Rattle.auc_mail.specs.Mail.{Mail}
+use Rattle.auc_mail.specs.Step.{Step}
+use Rattle.auc_mail.specs.declared.call.Call.{Call}
+use Rattle.auc_mail.specs.declared.call.Reply.{Reply}
+use Rattle.auc_mail.proofs.StepLaws.{step_shape}
+use Rattle.auc_letters.specs.declared.state.Held.{Held}
+use Rattle.auc_letters.specs.Award.{awards, refusal}
+use Rattle.auc_letters.specs.Routing.{to_person, to_hub}
+use Rattle.auc_objects.specs.Objects.{Objects, SameShape as SameObjects, sold}
+use Rattle.std.proofs.lemmas.List.Elements.{All-get_or, All-weaker, All-drop, All-push}
+use Rattle.auc_model.proofs.Tables.{first_and_rest}
+use Rattle.auc_letters.specs.declared.state.PersonState.{PersonState}
+use Rattle.auc_persons.specs.declared.bidding.Bidding.{Bidding}
+use Rattle.auc_persons.specs.declared.bidding.PersonFault.{PersonFault}
+use Rattle.auc_persons.specs.Persons.{Persons, SameShape as SamePersons, Owns as OwnsPerson, NextBid, OnLetter, Answered, free_after}
+use Rattle.auc_world.specs.Parts.{AreParts, IsMail, IsObjectShard, IsPersonShard, Parts, Reaches, no_letters, no_objects, no_persons, objects_at, persons_at}
+
+-- a fact about each element stays where it holds of the new one
+pub each_set : {X : Type 0} (P : ℕ → X → Type 0) (xs : List X) (d : X) (n k : ℕ) (new : X) → length xs ≡ n → k < n → P k new → ((s : ℕ) → s < n → P s (get_or xs s d)) → (s : ℕ) → s < n → P s (get_or (set xs k new) s d)
+each_set P xs d n k new e known here each s l =
+    elim (cases_eq s k) [
+      | inl h ↦ rw (h, get_or-set_same xs k new d (omega arith)) here
+      | inr ne ↦ rw (get_or-set_other xs k s new d ne) (each s l)
+    ]
+
+-- what a shard's own persons are stays
+own_same : (x y : Persons) → SamePersons x y → (i : ℕ) → OwnsPerson x i → OwnsPerson y i
+own_same x y same i own = record { known = subst (λ n. i < n) (sym same.persons) own.known; own = ap (λ n. i % n) same.of ∙ (own.own ∙ sym same.shard) }
+
+own_shape : (x y : Persons) → SamePersons x y → (xs : List ℕ) → All (OwnsPerson x) xs → All (OwnsPerson y) xs
+own_shape x y same xs own = All-weaker (OwnsPerson x) (OwnsPerson y) (own_same x y same) xs own
+
+own_idle : (y : Persons) (xs : List ℕ) → y.idle ≡ xs → All (OwnsPerson y) xs → All (OwnsPerson y) y.idle
+own_idle y xs e own = subst (λ zs. All (OwnsPerson y) zs) (sym e) own
+
+-- the free persons of a shard stay its own, where it has bid or heard a letter
+unchanged_own : (x y : Persons) → y ≡ x → All (OwnsPerson x) x.idle → All (OwnsPerson y) y.idle
+unchanged_own x y e own = subst (λ (z : Persons). All (OwnsPerson z) z.idle) (sym e) own
+
+pub next_bid_own : (t : Table) (eps : ℤ) (x y : Persons) (r : Bidding) → NextBid t eps x r y → SamePersons x y → All (OwnsPerson x) x.idle → All (OwnsPerson y) y.idle
+next_bid_own t eps x y Bidding.Idle h same own = unchanged_own x y h.1 own
+next_bid_own t eps x y (Bidding.Stop why) h same own = unchanged_own x y h.2 own
+next_bid_own t eps x y (Bidding.Out o) h same own = own_idle y _ (ap (λ (z : Persons). z.idle) h.2.5) (All-drop (OwnsPerson y) 1 x.idle (own_shape x y same x.idle own))
+
+freed_own : (x y : Persons) (i j : ℕ) (p : ℤ) (wanted : PersonState) (r : Result (Unit {0}) PersonFault) → Answered x i j p wanted (free_after x i j p) r y → SamePersons x y → All (OwnsPerson x) x.idle → All (OwnsPerson y) y.idle
+freed_own x y i j p wanted (Ok u) h same own =
+    own_idle y _ (ap (λ (z : Persons). z.idle) h.2) (All-push (OwnsPerson y) x.idle i (own_shape x y same x.idle own) (own_same x y same i (record { known = h.0.0; own = h.0.1 })))
+freed_own x y i j p wanted (Err PersonFault.Stray) h same own = unchanged_own x y h.1 own
+freed_own x y i j p wanted (Err PersonFault.Fell) h same own = unchanged_own x y h.2 own
+
+pub hears_own : (x y : Persons) (l : Letter) (r : Result (Unit {0}) PersonFault) → OnLetter x l r y → SamePersons x y → All (OwnsPerson x) x.idle → All (OwnsPerson y) y.idle
+hears_own x y (Letter.Award i j p) (Ok u) h same own = own_idle y _ (ap (λ (z : Persons). z.idle) h.2) (own_shape x y same x.idle own)
+hears_own x y (Letter.Award i j p) (Err PersonFault.Stray) h same own = unchanged_own x y h.1 own
+hears_own x y (Letter.Award i j p) (Err PersonFault.Fell) h same own = unchanged_own x y h.2 own
+hears_own x y (Letter.Refused i j p) r h same own = freed_own x y i j p (PersonState.Waits j) r h same own
+hears_own x y (Letter.Outbid i j p) r h same own = freed_own x y i j p (PersonState.Holds j) r h same own
+hears_own x y (Letter.Price j p) (Ok u) h same own = own_idle y _ (ap (λ (z : Persons). z.idle) h.2) (own_shape x y same x.idle own)
+hears_own x y (Letter.Price j p) (Err PersonFault.Stray) h same own = unchanged_own x y h.1 own
+hears_own x y (Letter.Price j p) (Err PersonFault.Fell) h same own = unchanged_own x y h.2 own
+hears_own x y (Letter.Bid i a j p) r h same own = unchanged_own x y h.1 own
+hears_own x y (Letter.First j) r h same own = unchanged_own x y h.1 own
+hears_own x y (Letter.Stop y') r h same own = unchanged_own x y h.1 own
+
+pub persons_shape : (t : Table) (n s : ℕ) (x y : Persons) → SamePersons x y → All (OwnsPerson y) y.idle → IsPersonShard t n s x → IsPersonShard t n s y
+persons_shape t n s x y same own is = record {
+  number = same.shard ∙ is.number;
+  of = same.of ∙ is.of;
+  object_shards = same.object_shards ∙ is.object_shards;
+  fits = record { persons = is.fits.persons ∙ sym same.persons; objects = is.fits.objects ∙ sym same.objects };
+  idle_own = own;
+}
+
+pub objects_shape : (t : Table) (n q : ℕ) (x y : Objects) → SameObjects x y → length y.holders ≡ length x.holders → IsObjectShard t n q x → IsObjectShard t n q y
+objects_shape t n q x y same holders is = record {
+  number = same.shard ∙ is.number;
+  of = same.of ∙ is.of;
+  person_shards = same.person_shards ∙ is.person_shards;
+  persons = same.persons ∙ is.persons;
+  objects = same.objects ∙ is.objects;
+  holders = holders ∙ is.holders;
+}
+
+pub either : (a b : ℤ) → (a ≤ℤ b) ⊎ (b <ℤ a)
+either (pos m) (pos n) = elim (cases_lt n m) [ inl l ↦ inr (omega (arith, ints)) | inr l ↦ inl (omega (arith, ints)) ]
+either (pos m) (negsuc n) = inr (omega (arith, ints))
+either (negsuc m) (pos n) = inl (omega (arith, ints))
+either (negsuc m) (negsuc n) = elim (cases_lt m n) [ inl l ↦ inr (omega (arith, ints)) | inr l ↦ inl (omega (arith, ints)) ]
+
+-- what a bid leaves of a shard, and the letters that answer it
+module _ (x y : Objects) (j : ℕ) (amount least : ℤ) (held : Held) (accepted : least ≤ℤ amount → y ≡ sold x j amount held) (kept : amount <ℤ least → y ≡ x) where
+  pub holders_stay : length y.holders ≡ length x.holders
+  holders_stay = elim (either least amount) [ inl l ↦ ap (λ (z : Objects). length z.holders) (accepted l) ∙ length-set x.holders j (Some held) | inr l ↦ ap (λ (z : Objects). length z.holders) (kept l) ]
+
+one_reach : (n : ℕ) (o : Out) → Reaches n o → All (Reaches n) (o ∷ [])
+one_reach n o r = All-push (Reaches n) [] o (λ k d l. absurd (omega arith)) r
+
+two_reach : (n : ℕ) (o u : Out) → Reaches n o → Reaches n u → All (Reaches n) (o ∷ u ∷ [])
+two_reach n o u r t = All-push (Reaches n) (o ∷ []) u (one_reach n o r) t
+
+awards_reach : (n : ℕ) (before : Option Held) (i j : ℕ) (p : ℤ) → 0 < n → All (Reaches n) (awards n before i j p)
+awards_reach n None i j p some = two_reach n (to_person n i (Letter.Award i j p)) (to_hub (Letter.First j)) (omega arith) (omega arith)
+awards_reach n (Some held) i j p some = two_reach n (to_person n held.person (Letter.Outbid held.person j p)) (to_person n i (Letter.Award i j p)) (omega arith) (omega arith)
+
+refusal_reaches : (n i j : ℕ) (p : ℤ) → 0 < n → All (Reaches n) (refusal n i j p)
+refusal_reaches n i j p some = one_reach n (to_person n i (Letter.Refused i j p)) (omega arith)
+
+pub answers_reach : (n : ℕ) (os : List Out) (before : Option Held) (i j : ℕ) (p amount least : ℤ) → 0 < n → (least ≤ℤ amount → os ≡ awards n before i j amount) → (amount <ℤ least → os ≡ refusal n i j p) → All (Reaches n) os
+answers_reach n os before i j p amount least some accepted refused = elim (either least amount) [ inl l ↦ rw (accepted l) (awards_reach n before i j amount some) | inr l ↦ rw (refused l) (refusal_reaches n i j p some) ]
+
+pub mail_shape : (n : ℕ) (x y : Mail Letter) (c : Call Letter) (r : Reply Letter) (boxes : ℕ) → Step x c r y → IsMail n x boxes → IsMail n y boxes
+mail_shape n x y c r boxes step is =
+    let shape = step_shape x y c r step in
+    record { boxes_are = shape.boxes ∙ is.boxes_are; senders_are = shape.senders ∙ is.senders_are }
+
+module _ (p : Parts) (are : AreParts p) where
+  pub keeps_persons : (s : ℕ) (new : Persons) → s < p.shards → IsPersonShard p.table p.shards s new → AreParts (record p { persons = set p.persons s new })
+  keeps_persons s new known is = record {
+    some = are.some;
+    few = are.few;
+    eps_is = are.eps_is;
+    table_is = are.table_is;
+    persons_are = length-set p.persons s new ∙ are.persons_are;
+    objects_are = are.objects_are;
+    person_outs_are = are.person_outs_are;
+    object_outs_are = are.object_outs_are;
+    stopped_are = are.stopped_are;
+    each_persons = each_set (IsPersonShard p.table p.shards) p.persons no_persons p.shards s new are.persons_are known is are.each_persons;
+    each_objects = are.each_objects;
+    each_person_out = are.each_person_out;
+    each_object_out = are.each_object_out;
+    objects_mail_is = are.objects_mail_is;
+    persons_mail_is = are.persons_mail_is;
+    hub_mail_is = are.hub_mail_is;
+  }
+
+  pub next_bid_keeps : (s : ℕ) (x new : Persons) (r : Bidding) → s < p.shards → x ≡ persons_at p s → NextBid p.table p.eps x r new → SamePersons x new → AreParts (record p { persons = set p.persons s new })
+  next_bid_keeps s x new r known e next same =
+      let is : IsPersonShard p.table p.shards s x = rw e (are.each_persons s known) in
+      keeps_persons s new known (persons_shape p.table p.shards s x new same (next_bid_own p.table p.eps x new r next same is.idle_own) is)
+
+  pub hearing_keeps : (s : ℕ) (x new : Persons) (l : Letter) (r : Result (Unit {0}) PersonFault) → s < p.shards → x ≡ persons_at p s → OnLetter x l r new → SamePersons x new → AreParts (record p { persons = set p.persons s new })
+  hearing_keeps s x new l r known e hears same =
+      let is : IsPersonShard p.table p.shards s x = rw e (are.each_persons s known) in
+      keeps_persons s new known (persons_shape p.table p.shards s x new same (hears_own x new l r hears same is.idle_own) is)
+
+  pub keeps_objects : (q : ℕ) (new : Objects) → q < p.shards → IsObjectShard p.table p.shards q new → AreParts (record p { objects = set p.objects q new })
+  keeps_objects q new known is = record {
+    some = are.some;
+    few = are.few;
+    eps_is = are.eps_is;
+    table_is = are.table_is;
+    persons_are = are.persons_are;
+    objects_are = length-set p.objects q new ∙ are.objects_are;
+    person_outs_are = are.person_outs_are;
+    object_outs_are = are.object_outs_are;
+    stopped_are = are.stopped_are;
+    each_persons = are.each_persons;
+    each_objects = each_set (IsObjectShard p.table p.shards) p.objects no_objects p.shards q new are.objects_are known is are.each_objects;
+    each_person_out = are.each_person_out;
+    each_object_out = are.each_object_out;
+    objects_mail_is = are.objects_mail_is;
+    persons_mail_is = are.persons_mail_is;
+    hub_mail_is = are.hub_mail_is;
+  }
+
+  pub on_bid_keeps : (q : ℕ) (x new : Objects) → q < p.shards → x ≡ objects_at p q → SameObjects x new → length new.holders ≡ length x.holders → AreParts (record p { objects = set p.objects q new })
+  on_bid_keeps q x new known e same holders = keeps_objects q new known (objects_shape p.table p.shards q x new same holders (rw e (are.each_objects q known)))
+
+  pub reach_by : (q : ℕ) (x : Objects) → q < p.shards → x ≡ objects_at p q → (os : List Out) (before : Option Held) (i j : ℕ) (price amount least : ℤ) → (least ≤ℤ amount → os ≡ awards x.person_shards before i j amount)
+      → (amount <ℤ least → os ≡ refusal x.person_shards i j price) → All (Reaches p.shards) os
+  reach_by q x known e os before i j price amount least accepted refused =
+      let is : IsObjectShard p.table p.shards q x = rw e (are.each_objects q known) in
+      subst (λ n. All (Reaches n) os) is.person_shards (answers_reach x.person_shards os before i j price amount least (subst (λ n. 0 < n) (sym is.person_shards) are.some) accepted refused)
+
+  pub keeps_person_outs : (s : ℕ) (new : ArrayVec Out) → s < p.shards → All (Reaches p.shards) new.items → AreParts (record p { person_outs = set p.person_outs s new })
+  keeps_person_outs s new known reach = record {
+    some = are.some;
+    few = are.few;
+    eps_is = are.eps_is;
+    table_is = are.table_is;
+    persons_are = are.persons_are;
+    objects_are = are.objects_are;
+    person_outs_are = length-set p.person_outs s new ∙ are.person_outs_are;
+    object_outs_are = are.object_outs_are;
+    stopped_are = are.stopped_are;
+    each_persons = are.each_persons;
+    each_objects = are.each_objects;
+    each_person_out = each_set (λ _ x. All (Reaches p.shards) x.items) p.person_outs no_letters p.shards s new are.person_outs_are known reach are.each_person_out;
+    each_object_out = are.each_object_out;
+    objects_mail_is = are.objects_mail_is;
+    persons_mail_is = are.persons_mail_is;
+    hub_mail_is = are.hub_mail_is;
+  }
+
+  pub keeps_object_outs : (q : ℕ) (new : ArrayVec Out) → q < p.shards → All (Reaches p.shards) new.items → AreParts (record p { object_outs = set p.object_outs q new })
+  keeps_object_outs q new known reach = record {
+    some = are.some;
+    few = are.few;
+    eps_is = are.eps_is;
+    table_is = are.table_is;
+    persons_are = are.persons_are;
+    objects_are = are.objects_are;
+    person_outs_are = are.person_outs_are;
+    object_outs_are = length-set p.object_outs q new ∙ are.object_outs_are;
+    stopped_are = are.stopped_are;
+    each_persons = are.each_persons;
+    each_objects = are.each_objects;
+    each_person_out = are.each_person_out;
+    each_object_out = each_set (λ _ x. All (Reaches p.shards) x.items) p.object_outs no_letters p.shards q new are.object_outs_are known reach are.each_object_out;
+    objects_mail_is = are.objects_mail_is;
+    persons_mail_is = are.persons_mail_is;
+    hub_mail_is = are.hub_mail_is;
+  }
+
+  pub keeps_objects_mail : (n : Mail Letter) (c : Call Letter) (r : Reply Letter) → Step p.objects_mail c r n → AreParts (record p { objects_mail = n })
+  keeps_objects_mail n c r step = record {
+    some = are.some;
+    few = are.few;
+    eps_is = are.eps_is;
+    table_is = are.table_is;
+    persons_are = are.persons_are;
+    objects_are = are.objects_are;
+    person_outs_are = are.person_outs_are;
+    object_outs_are = are.object_outs_are;
+    stopped_are = are.stopped_are;
+    each_persons = are.each_persons;
+    each_objects = are.each_objects;
+    each_person_out = are.each_person_out;
+    each_object_out = are.each_object_out;
+    objects_mail_is = mail_shape p.shards p.objects_mail n c r p.shards step are.objects_mail_is;
+    persons_mail_is = are.persons_mail_is;
+    hub_mail_is = are.hub_mail_is;
+  }
+
+  pub keeps_persons_mail : (n : Mail Letter) (c : Call Letter) (r : Reply Letter) → Step p.persons_mail c r n → AreParts (record p { persons_mail = n })
+  keeps_persons_mail n c r step = record {
+    some = are.some;
+    few = are.few;
+    eps_is = are.eps_is;
+    table_is = are.table_is;
+    persons_are = are.persons_are;
+    objects_are = are.objects_are;
+    person_outs_are = are.person_outs_are;
+    object_outs_are = are.object_outs_are;
+    stopped_are = are.stopped_are;
+    each_persons = are.each_persons;
+    each_objects = are.each_objects;
+    each_person_out = are.each_person_out;
+    each_object_out = are.each_object_out;
+    objects_mail_is = are.objects_mail_is;
+    persons_mail_is = mail_shape p.shards p.persons_mail n c r p.shards step are.persons_mail_is;
+    hub_mail_is = are.hub_mail_is;
+  }
+
+  pub keeps_hub_mail : (n : Mail Letter) (c : Call Letter) (r : Reply Letter) → Step p.hub_mail c r n → AreParts (record p { hub_mail = n })
+  keeps_hub_mail n c r step = record {
+    some = are.some;
+    few = are.few;
+    eps_is = are.eps_is;
+    table_is = are.table_is;
+    persons_are = are.persons_are;
+    objects_are = are.objects_are;
+    person_outs_are = are.person_outs_are;
+    object_outs_are = are.object_outs_are;
+    stopped_are = are.stopped_are;
+    each_persons = are.each_persons;
+    each_objects = are.each_objects;
+    each_person_out = are.each_person_out;
+    each_object_out = are.each_object_out;
+    objects_mail_is = are.objects_mail_is;
+    persons_mail_is = are.persons_mail_is;
+    hub_mail_is = mail_shape p.shards p.hub_mail n c r 1 step are.hub_mail_is;
+  }
+
+not_empty : {X : Type 0} (xs : List X) → xs ≢ [] → 0 < length xs
+not_empty [] n = absurd (n refl)
+not_empty (x ∷ xs) n = omega arith
+
+-- an outbox that isn't empty has a first letter, and that goes to a box that is there
+pub first_letter : (xs ys : List Out) (d : Out) (n : ℕ) → ys ≡ xs → xs ≢ [] → All (Reaches n) ys → (ys ≡ get_or xs 0 d ∷ drop 1 ys) × Reaches n (get_or xs 0 d)
+first_letter xs ys d n e some reach = rw e (first_and_rest xs d some, All-get_or (Reaches n) xs 0 d (not_empty xs some) (rw e at reach))

@@ -1,0 +1,10 @@
+mod WorkedEps
+pub mod Keeping
+pub mod Seen
+pub mod Bidding
+pub mod Hearing
+pub mod Selling
+pub mod Posting
+pub mod Hub
+pub mod Made
+pub mod TurnByTurn

@@ -1,0 +1,162 @@
+-- A new world is one that a phase begins with.
+use Rattle.std.proofs.Common.{ℕ, ◌+◌, ◌*◌, ◌%◌, ◌<◌, ◌≤◌, ◌≡◌, true, false, List, [], length, get_or, replicate, refl, ap, sym, ◌∙◌, subst, inl, inr, arith}
+use Rattle.std.specs.Prelude.{ℤ, pos, All, None, ◌==◌}
+use Rattle.std.proofs.lemmas.Bool.{cases_lt, ne_eqb}
+use Rattle.std.proofs.lemmas.Bool.Decides.{nat_tests}
+use Rattle.std.proofs.lemmas.Int.{ints}
+use Rattle.std.proofs.lemmas.List.{get_or-replicate, get_or_past, length-replicate}
+use Rattle.std.specs.List.{range_with_len}
+use Rattle.std.proofs.lemmas.List.FromFn.{get_or-range_with_len, length-range_with_len}
+use Rattle.std.proofs.lemmas.List.Elements.{All-get_or, All-weaker, All-filter, filter_passes}
+use Rattle.arrayvec.specs.ArrayVec.{ArrayVec}
+use Rattle.auc_graph.specs.Table.{IsTable, Table}
+use Rattle.auc_letters.specs.declared.letter.Letter.{Letter}
+use Rattle.auc_letters.specs.declared.out.Out.{Out}
+use Rattle.auc_letters.specs.declared.state.PersonState.{PersonState}
+use Rattle.auc_letters.specs.Price.{IsEps, IsPrice}
+use Rattle.auc_mail.specs.Mail.{Mail, empty_mail}
+use Rattle.auc_objects.specs.Objects.{Objects, holder_of, price_of}
+use Rattle.auc_persons.specs.Persons.{Owns, Persons, copy_of, own, state_of}
+use Rattle.auc_model.specs.Start.{Lawful, Starts, UsualNodes, free_in, occurs}
+use Rattle.auc_model.specs.World.{phase_of}
+use Rattle.auc_model.proofs.Tables.{occurs_persons, table_lawful}
+use Rattle.auc_world.specs.declared.limits.Limits.{Limits}
+use Rattle.auc_world.specs.Making.{AreLimits, ArePrices, IsMade, new_persons, nodes_or}
+use Rattle.auc_world.specs.Parts.{AreParts, IsMail, IsObjectShard, IsPersonShard, Parts, Reaches, no_letters, no_objects, no_persons, phase, seen}
+
+-- the persons of a shard are its own
+below : (n : ℕ) → All (λ i. i < n) (range_with_len 0 n)
+below n k d l =
+    let few : k < n = rw length-range_with_len at l in
+    rw (get_or-range_with_len 0 n k d few) (omega arith)
+
+own_are : (shard of persons : ℕ) → All (λ i. (i < persons) × (i % of ≡ shard)) (own shard of persons)
+own_are shard of persons k d l =
+    let inside = All-filter (λ i. (i % of) == shard) (λ i. i < persons) (range_with_len 0 persons) (below persons) k d l in
+    let passes = filter_passes (λ i. (i % of) == shard) (range_with_len 0 persons) k d l in
+    (inside, eqb-true (get_or (own shard of persons) k d % of) shard passes)
+  where
+    eqb-true : (a b : ℕ) → (a == b) ≡ true → a ≡ b
+    eqb-true a b e = grind (arith, nat_tests)
+
+empty_at : (xs : List (ArrayVec Out)) → All (λ x. x.items ≡ []) xs → (s : ℕ) → (get_or xs s no_letters).items ≡ []
+empty_at xs all s =
+    elim (cases_lt s (length xs)) [
+      | inl l ↦ all s no_letters l
+      | inr n ↦ ap (λ (x : ArrayVec Out). x.items) (get_or_past xs s no_letters n)
+    ]
+
+reach_none : (n : ℕ) (xs : List Out) → xs ≡ [] → All (Reaches n) xs
+reach_none n xs e = rw e (λ k d l. absurd (omega arith))
+
+replicate_default : {X : Type 0} (n i : ℕ) (a : X) → get_or (replicate n a) i a ≡ a
+replicate_default n i a = elim (cases_lt i n) [ inl l ↦ get_or-replicate n i a a l | inr past ↦ get_or_past (replicate n a) i a (rw length-replicate past) ]
+
+price_at : (prices : List ℤ) → All IsPrice prices → (j : ℕ) → IsPrice (get_or prices j (pos 0))
+price_at prices all j =
+    elim (cases_lt j (length prices)) [
+      | inl l ↦ All-get_or IsPrice prices j (pos 0) l all
+      | inr n ↦ rw (get_or_past prices j (pos 0) n) (record { low = omega (arith, ints); high = omega (arith, ints) })
+    ]
+
+new_mail_is : (n : ℕ) (m : Mail Letter) (boxes nodes most : ℕ) → m ≡ empty_mail boxes (2 * n + 1) nodes most → IsMail n m boxes
+new_mail_is n m boxes nodes most e = record {
+  boxes_are = ap (λ (x : Mail Letter). length x.accepting) e ∙ length-replicate boxes true;
+  senders_are = ap (λ (x : Mail Letter). x.senders) e;
+}
+
+new_mail_new : (m : Mail Letter) (boxes count nodes most : ℕ) → m ≡ empty_mail boxes count nodes most → m ≡ empty_mail boxes count m.nodes m.most
+new_mail_new m boxes count nodes most e = subst (λ (x : Mail Letter). x ≡ empty_mail boxes count x.nodes x.most) (sym e) refl
+
+new_persons_are : (t : Table) (shards bids : ℕ) (prices : List ℤ) (s : ℕ) → length prices ≡ t.objects → IsPersonShard t shards s (new_persons shards (length t.rows) bids prices s)
+new_persons_are t shards bids prices s each = record {
+  number = refl;
+  of = refl;
+  object_shards = refl;
+  fits = record { persons = sym (length-replicate (length t.rows) PersonState.Free); objects = sym each };
+  idle_own = All-weaker (λ i. (i < length t.rows) × (i % shards ≡ s)) (Owns (new_persons shards (length t.rows) bids prices s)) (λ i h. record { known = rw length-replicate h.0; own = h.1 }) (own s shards (length t.rows)) (own_are s shards (length t.rows));
+}
+
+module _ (t : Table) (limits : Limits) (prices : List ℤ) (eps : ℤ) (p : Parts) (made : IsMade t limits prices eps p) (table : IsTable t) (ok : AreLimits limits) (are : ArePrices t prices) (eps_is : IsEps eps) where
+  at_shard : (s : ℕ) → s < p.shards → s < limits.shards
+  at_shard s l = rw made.shards at l
+
+  persons_here : (s : ℕ) → s < limits.shards → IsPersonShard p.table p.shards s (get_or p.persons s no_persons)
+  persons_here s l = rw (made.table, made.shards, made.each_persons s l) (new_persons_are t limits.shards limits.bids prices s are.each)
+
+  objects_here : (q : ℕ) → q < limits.shards → IsObjectShard p.table p.shards q (get_or p.objects q no_objects)
+  objects_here q l = rw (made.table, made.shards, made.each_objects q l) (record { number = refl; of = refl; person_shards = refl; persons = refl; objects = are.each; holders = length-replicate (length prices) None ∙ are.each })
+
+  pub made_are : AreParts p
+  made_are = record {
+    some = rw made.shards ok.some;
+    few = rw made.shards ok.few;
+    eps_is = rw made.eps_is eps_is;
+    table_is = rw made.table table;
+    persons_are = made.persons_are ∙ sym made.shards;
+    objects_are = made.objects_are ∙ sym made.shards;
+    person_outs_are = made.person_outs_are ∙ sym made.shards;
+    object_outs_are = made.object_outs_are ∙ sym made.shards;
+    stopped_are = ap (λ bs. length bs) made.stopped_are ∙ (length-replicate limits.shards false ∙ sym made.shards);
+    each_persons = λ s l. persons_here s (at_shard s l);
+    each_objects = λ q l. objects_here q (at_shard q l);
+    each_person_out = λ s l. reach_none p.shards _ (empty_at p.person_outs made.each_person_out s);
+    each_object_out = λ q l. reach_none p.shards _ (empty_at p.object_outs made.each_object_out q);
+    objects_mail_is = rw made.shards (new_mail_is limits.shards p.objects_mail limits.shards _ _ made.objects_mail);
+    persons_mail_is = rw made.shards (new_mail_is limits.shards p.persons_mail limits.shards _ _ made.persons_mail);
+    hub_mail_is = rw made.shards (new_mail_is limits.shards p.hub_mail 1 _ _ made.hub_mail);
+  }
+
+  own_shard : (i : ℕ) → i % p.shards < limits.shards
+  own_shard i = let some = ok.some in rw made.shards (omega arith)
+
+  -- the price of each object, and each copy of it
+  price_is : (j : ℕ) → (seen p).price j ≡ get_or prices j (pos 0)
+  price_is j = ap (λ (x : Objects). price_of x j) (made.each_objects (j % p.shards) (own_shard j))
+
+  copy_is : (s j : ℕ) → s < limits.shards → (seen p).copy s j ≡ get_or prices j (pos 0)
+  copy_is s j l = ap (λ (x : Persons). copy_of x j) (made.each_persons s l)
+
+  copy_past : (s j : ℕ) → limits.shards ≤ s → (seen p).copy s j ≡ pos 0
+  copy_past s j l = ap (λ (x : Persons). copy_of x j) (get_or_past p.persons s no_persons (rw made.persons_are l))
+
+  idle_here : (s i : ℕ) → occurs i ((seen p).idle s) ≡ free_in (phase p) PersonState.Free s i
+  idle_here s i =
+      elim (cases_lt s limits.shards) [
+        | inl l ↦ rw (ap (λ (x : Persons). x.idle) (made.each_persons s l), made.table, made.shards) (occurs_persons (phase_of t limits.shards eps) s i)
+        | inr n ↦ (
+            let other : i % p.shards ≡ s → ⊥ = (let h = own_shard i in λ e. omega arith) in
+            rw (ap (λ (x : Persons). x.idle) (get_or_past p.persons s no_persons (rw made.persons_are n))) (rw (ne_eqb (i % p.shards) s other) refl)
+            )
+      ]
+
+  pub made_starts : Starts (phase p) (seen p)
+  made_starts = record {
+    price_range = λ j. rw (price_is j) (price_at prices are.within j);
+    copies_above = λ s j. elim (cases_lt s limits.shards) [ inl l ↦ rw (copy_is s j l) (price_at prices are.within j).low | inr n ↦ rw (copy_past s j n) (omega (arith, ints)) ];
+    copies_low = λ s j. elim (cases_lt s limits.shards) [ inl l ↦ rw (copy_is s j l, price_is j) (omega (arith, ints)) | inr n ↦ rw (copy_past s j n, price_is j) (price_at prices are.within j).low ];
+    nobody_holds = λ j. ap (λ (x : Objects). holder_of x j) (made.each_objects (j % p.shards) (own_shard j)) ∙ replicate_default (length prices) j None;
+    all_free = λ i. ap (λ (x : Persons). state_of x i) (made.each_persons (i % p.shards) (own_shard i)) ∙ replicate_default (length t.rows) i PersonState.Free;
+    idle_is = idle_here;
+    none_stopped = λ s. rw made.stopped_are (replicate_default limits.shards s false);
+    no_person_out = λ s. empty_at p.person_outs made.each_person_out s;
+    no_object_out = λ q. empty_at p.object_outs made.each_object_out q;
+    objects_mail = rw made.shards (new_mail_new p.objects_mail limits.shards (2 * limits.shards + 1) _ _ made.objects_mail);
+    persons_mail = rw made.shards (new_mail_new p.persons_mail limits.shards (2 * limits.shards + 1) _ _ made.persons_mail);
+    hub_mail = rw made.shards (new_mail_new p.hub_mail 1 (2 * limits.shards + 1) _ _ made.hub_mail);
+    none_counted = made.count;
+    no_end = made.end;
+  }
+
+  pub made_usual : limits.nodes ≡ 0 → UsualNodes (phase p) (seen p)
+  made_usual none = record {
+    objects = rw made.table (ap (λ (x : Mail Letter). x.nodes) made.objects_mail ∙ ap (λ n. nodes_or n (length t.rows)) none);
+    persons = rw made.table (ap (λ (x : Mail Letter). x.nodes) made.persons_mail ∙ ap (λ n. nodes_or n (4 * length t.rows)) none);
+    hub = rw (made.table, made.shards) (ap (λ (x : Mail Letter). x.nodes) made.hub_mail ∙ ap (λ n. nodes_or n (length t.rows + 2 * limits.shards)) none);
+  }
+
+  pub made_phase : phase p ≡ phase_of t limits.shards eps
+  made_phase = rw (made.table, made.shards, made.eps_is) refl
+
+  pub made_lawful : Lawful (phase p)
+  made_lawful = rw made_phase (table_lawful t limits.shards eps table ok.some eps_is)

@@ -1,0 +1,16 @@
+use Rattle.std.proofs.Common.{take, ◌∙◌}
+use Rattle.auc_model.proofs.Copies.{copy_schedule}
+use Rattle.auc_world.specs.Parts.{phase, seen}
+use Rattle.auc_world.proofs.TurnByTurn.{same_phase, turn_more}
+use Rattle.auc_world.proofs.playing.play.Goals as goal
+
+pub loop-turn-preserved : goal.loop-turn-preserved
+loop-turn-preserved c =
+    let before = c.loop-turn.invariant in
+    record {
+      schedule = turn_more c.args.world.now c.loop-turn.world c.turn.new.self c.args.turns.now c.loop-turn.turn-index _ c.turn.result before.schedule before.phase c.loop-turn-test.true c.turn.ensures.turn;
+      phase = same_phase c.loop-turn.world c.turn.new.self c.turn.ensures.phase ∙ before.phase;
+    }
+
+pub returns-clause-copies : goal.returns-clause-copies
+returns-clause-copies c = λ s j. copy_schedule (phase c.args.world.now) (seen c.args.world.now) (take c.loop-turn.turn-index c.args.turns.now) (seen c.loop-turn.world) s j c.loop-turn.invariant.schedule

@@ -1,0 +1,39 @@
+use Rattle.std.proofs.Common.{◌≡◌, ◌+◌, ◌*◌, length, arith, refl, ap, ◌∙◌, w64}
+use Rattle.std.proofs.lemmas.Grind.{common_steps}
+use Rattle.std.proofs.lemmas.Int.{to_z-of_z}
+use Rattle.auc_mail.specs.Mail.{empty_mail}
+use Rattle.auc_world.specs.Making.{nodes_or}
+use Rattle.auc_world.proofs.Made.{made_are}
+use Rattle.auc_world.proofs.world.World.assemble.Goals as goal
+
+pub returns : goal.returns
+returns c =
+    let shards = c.args.limits.now.shards in
+    let nodes = c.args.limits.now.nodes in
+    let posts = c.args.limits.now.posts in
+    let persons : c.persons-persons.result ≡ length c.args.rows.now.rows = c.persons-persons.ensures.persons in
+    let objects_nodes : c.nodes_or-objects_nodes.result ≡ nodes_or nodes (length c.args.rows.now.rows) = c.nodes_or-objects_nodes.ensures ∙ ap (λ n. nodes_or nodes n) persons in
+    let persons_nodes : c.nodes_or-persons_nodes.result ≡ nodes_or nodes (4 * length c.args.rows.now.rows) = c.nodes_or-persons_nodes.ensures ∙ ap (λ n. nodes_or nodes (4 * n)) persons in
+    let hub_nodes : c.nodes_or-hub_nodes.result ≡ nodes_or nodes (length c.args.rows.now.rows + 2 * shards) = c.nodes_or-hub_nodes.ensures ∙ ap (λ n. nodes_or nodes (n + 2 * shards)) persons in
+    record {
+      table = refl;
+      shards = refl;
+      eps_is = to_z-of_z w64 c.args.eps c.ranges.eps;
+      persons_are = c.in_ok-new_person_shards.ensures.many;
+      each_persons = c.in_ok-new_person_shards.ensures.each;
+      objects_are = c.in_ok-new_object_shards.ensures.many;
+      each_objects = c.in_ok-new_object_shards.ensures.each;
+      person_outs_are = c.in_ok-new_outboxes.ensures.many;
+      each_person_out = c.in_ok-new_outboxes.ensures.each;
+      object_outs_are = c.in_ok-new_outboxes-2.ensures.many;
+      each_object_out = c.in_ok-new_outboxes-2.ensures.each;
+      stopped_are = grind (arith, common_steps);
+      objects_mail = c.in_ok-new_mail.ensures ∙ ap (λ n. empty_mail shards (2 * shards + 1) n posts) objects_nodes;
+      persons_mail = c.in_ok-new_mail-2.ensures ∙ ap (λ n. empty_mail shards (2 * shards + 1) n posts) persons_nodes;
+      hub_mail = c.in_ok-new_mail-3.ensures ∙ ap (λ n. empty_mail 1 (2 * shards + 1) n posts) hub_nodes;
+      count = refl;
+      end = refl;
+    }
+
+pub invariant_of-result : goal.invariant_of-result
+invariant_of-result c = made_are c.args.rows.now c.args.limits.now c.args.prices.now c.args.eps _ (returns c) c.persons-persons.ensures.table c.requires.limits c.requires.prices c.requires.eps

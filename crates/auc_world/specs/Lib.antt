@@ -1,0 +1,3 @@
+pub mod Eps
+pub mod Parts
+pub mod Making

@@ -1,0 +1,18 @@
+//! The world of one phase: shards of persons and of objects, their outboxes, three mails and a hub, and the turns by which
+//! they move.
+//!
+//! Each turn is one of the plain machine of `auc_model`, so its laws over all schedules hold of this code. No call takes
+//! memory but those that make a world or gather its answer.
+#![tactic(auto)]
+
+mod eps;
+mod limits;
+mod making;
+mod playing;
+mod turns;
+mod world;
+
+pub use eps::{first_eps, next_eps};
+pub use limits::Limits;
+pub use playing::play;
+pub use world::World;

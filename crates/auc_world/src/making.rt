@@ -1,0 +1,100 @@
+//! The lists and mails of a new world.
+
+ghost use Rattle.std.specs.Prelude.{ℕ, ◌≡◌, ◌<◌, ◌≤◌, ◌+◌, ◌*◌, [], length, All, slice_index_or, IfOk};
+ghost use Rattle.auc_graph.specs.Table.{IsTable};
+ghost use Rattle.auc_letters.specs.Price.{IsPrice};
+ghost use Rattle.auc_mail.specs.Mail.{empty_mail};
+ghost use Rattle.auc_mail.specs.Limits.{LanesFit, NodesFit};
+ghost use Rattle.auc_world.specs.Making.{new_persons, new_objects, nodes_or};
+ghost use Rattle.auc_world.specs.Parts.{no_persons, no_objects};
+
+use arrayvec::ArrayVec;
+use auc_graph::Rows;
+use auc_letters::{Letter, MOST_SHARDS, Out};
+use auc_mail::{MOST_NODES, MailPool};
+use auc_objects::ObjectShard;
+use auc_persons::PersonShard;
+use std::alloc::{AllocError, Global};
+
+/// New shards of the persons.
+pub(crate) fn new_person_shards(
+    alloc: Global,
+    shards: u32,
+    rows: &Rows,
+    bids: u64,
+    prices: &[i64],
+) -> Result<Vec<PersonShard>, AllocError>
+    requires some { 0 < shards }
+    requires prices { All IsPrice prices.now }
+    ensures many { IfOk result (λ v. length v.items ≡ shards) }
+    ensures each { IfOk result (λ v. (s : ℕ) → s < shards → slice_index_or v.items s no_persons ≡ new_persons shards (length rows.now.rows) bids prices.now s) }
+{
+    let persons = rows.persons();
+    let mut made = Vec::with_capacity(alloc, shards as usize)?;
+    for shard in 0..shards {
+        let one = PersonShard::make(alloc, shard, shards, shards, persons, prices, bids)?;
+        made.push(one)?;
+    }
+    Ok(made)
+}
+
+/// New shards of the objects.
+pub(crate) fn new_object_shards(
+    alloc: Global,
+    shards: u32,
+    rows: &Rows,
+    prices: &[i64],
+) -> Result<Vec<ObjectShard>, AllocError>
+    requires some { 0 < shards }
+    requires prices { All IsPrice prices.now }
+    ensures many { IfOk result (λ v. length v.items ≡ shards) }
+    ensures each { IfOk result (λ v. (q : ℕ) → q < shards → slice_index_or v.items q no_objects ≡ new_objects shards (length rows.now.rows) prices.now q) }
+{
+    let persons = rows.persons();
+    let mut made = Vec::with_capacity(alloc, shards as usize)?;
+    for shard in 0..shards {
+        let one = ObjectShard::make(alloc, shard, shards, shards, persons, prices)?;
+        made.push(one)?;
+    }
+    Ok(made)
+}
+
+/// Empty outboxes.
+pub(crate) fn new_outboxes(alloc: Global, shards: u32) -> Result<Vec<ArrayVec<Out, 4>>, AllocError>
+    ensures many { IfOk result (λ v. length v.items ≡ shards) }
+    ensures each { IfOk result (λ v. All (λ x. x.items ≡ []) v.items) }
+{
+    let mut made = Vec::with_capacity(alloc, shards as usize)?;
+    for shard in 0..shards {
+        made.push(ArrayVec::new())?;
+    }
+    Ok(made)
+}
+
+/// A mail with no letters, from the shards of both kinds and the hub.
+pub(crate) fn new_mail(
+    alloc: Global,
+    boxes: u32,
+    shards: u32,
+    nodes: u32,
+    posts: u64,
+) -> Result<MailPool<Letter>, AllocError>
+    requires boxes { boxes ≤ MOST_SHARDS }
+    requires shards { shards ≤ MOST_SHARDS }
+    requires nodes { nodes ≤ MOST_NODES }
+    ensures { IfOk result (λ mail. mail ≡ empty_mail boxes (2 * shards + 1) nodes posts) }
+{
+    let blank = Letter::First { object: 0 };
+    // All numbers are in range, so that memory alone can fail.
+    match MailPool::make(alloc, boxes, 2 * shards + 1, nodes, posts, blank) {
+        Ok(mail) => Ok(mail),
+        Err(_) => Err(AllocError),
+    }
+}
+
+/// How many letters may wait, where 0 stands for the usual number.
+pub(crate) fn nodes_or(nodes: u32, usual: u32) -> u32
+    ensures { result ≡ nodes_or nodes usual }
+{
+    if nodes == 0 { usual } else { nodes }
+}

@@ -1,0 +1,20 @@
+//! Schedules of turns.
+
+ghost use Rattle.std.specs.Prelude.{ℕ, ◌≡◌, ◌≤ℤ◌};
+ghost use Rattle.auc_model.specs.Schedule.{Schedule};
+ghost use Rattle.auc_world.specs.Parts.{phase, seen};
+
+use crate::world::World;
+use auc_model::Turn;
+
+/// Takes these turns, one after another, whatever each is answered. No copy of a price falls. Takes the time of its turns, and
+/// no memory.
+pub fn play(world: &mut World, turns: &[Turn])
+    ensures schedule { Schedule (phase world.old) (seen world.old) turns.now (seen world.new) }
+    ensures phase { phase world.new ≡ phase world.old }
+    ensures copies { (s j : ℕ) → (seen world.old).copy s j ≤ℤ (seen world.new).copy s j }
+{
+    for turn in turns {
+        let _ = world.turn(*turn);
+    }
+}

@@ -3,6 +3,7 @@
 ghost use Rattle.std.specs.Prelude.{◌≡◌, ◌≢◌, ◌<◌, ◌≤◌, ◌+◌, ◌*◌, ◌⊎◌, ◌↔◌, true, [], ◌∷◌, drop, slice_set, length, All, IsTrue, IfSome, IfNone, IfOk};
 ghost use Rattle.auc_persons.specs.Persons.{NextBid, OnLetter};
 ghost use Rattle.auc_world.specs.Parts.{AreParts, Reaches, MayAskForBid, MayAnswer, OwnsObject, Accepts, Declines, IsOpenBox, MailAlone, persons_at, objects_at, person_out, object_out, without_first_person_out, without_first_object_out, with_mail_at, name_of, boxes_in, counted_at, TakesOne, phase, seen};
+ghost use Rattle.auc_graph.specs.Table.{IsTable};
 ghost use Rattle.auc_letters.specs.Price.{IsPrice};
 ghost use Rattle.auc_letters.specs.Routing.{price_told};
 ghost use Rattle.auc_letters.specs.Award.{awards, refusal};
@@ -94,9 +95,7 @@ impl<'a> World<'a> {
         ensures starts { IfOk result (λ w. Starts (phase w) (seen w)) }
         ensures usual { limits.now.nodes ≡ 0 → IfOk result (λ w. UsualNodes (phase w) (seen w)) }
     {
-        let persons = rows.persons();
         let world = World::assemble(alloc, rows, limits, prices, eps)?;
-        let _ = persons;
         Ok(world)
     }
 
@@ -111,7 +110,8 @@ impl<'a> World<'a> {
         requires limits { AreLimits limits.now }
         requires prices { ArePrices rows.now prices.now }
         requires eps { IsEps eps }
-        ensures { IfOk result (IsMade rows.now limits.now prices.now eps) }
+        ensures made { IfOk result (IsMade rows.now limits.now prices.now eps) }
+        ensures table { IsTable rows.now }
     {
         let Limits {
             shards,

@@ -6,8 +6,8 @@ use Rattle.auc_world.specs.Making.{nodes_or}
 use Rattle.auc_world.proofs.Made.{made_are}
 use Rattle.auc_world.proofs.world.World.assemble.Goals as goal
 
-pub returns : goal.returns
-returns c =
+pub returns-clause-made : goal.returns-clause-made
+returns-clause-made c =
     let shards = c.args.limits.now.shards in
     let nodes = c.args.limits.now.nodes in
     let posts = c.args.limits.now.posts in
@@ -36,4 +36,4 @@ returns c =
     }
 
 pub invariant_of-result : goal.invariant_of-result
-invariant_of-result c = made_are c.args.rows.now c.args.limits.now c.args.prices.now c.args.eps _ (returns c) c.persons-persons.ensures.table c.requires.limits c.requires.prices c.requires.eps
+invariant_of-result c = made_are c.args.rows.now c.args.limits.now c.args.prices.now c.args.eps _ (returns-clause-made c) c.persons-persons.ensures.table c.requires.limits c.requires.prices c.requires.eps

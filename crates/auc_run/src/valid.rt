@@ -5,6 +5,6 @@
 pub enum Valid {
     /// That this is the least cost of an assignment.
     Optimal { cost: i64 },
-    /// That so many persons together know only so many objects, fewer than they.
+    /// That so many persons together know at most so many objects, fewer than they.
     Infeasible { persons: usize, objects: usize },
 }

@@ -36,4 +36,6 @@ pub mod Chosen
 pub mod Tables
 pub mod Dealt
 pub mod Example
+pub mod WorkSteps
+pub mod Work
 pub mod WorkedRun

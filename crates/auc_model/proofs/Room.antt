@@ -293,7 +293,7 @@ module _ (g : Phase) (w : World) (law : Lawful g) (k : Kept g w) (room : Room g 
   room_persons : (v : World) (s x n : ℕ) (l : Letter) → Takes w.persons_mail s x n l v.persons_mail → v.objects_mail ≡ w.objects_mail → v.hub_mail ≡ w.hub_mail → v.person_out ≡ w.person_out → v.object_out ≡ w.object_out → v.has_stopped ≡ w.has_stopped
       → v.end ≢ Some (End.Stopped Why.Mail) → Room g v
   room_persons v s x n l t e1 e2 e3 e4 e5 end =
-      let a = weight_taken w.persons_mail v.persons_mail s x n l price_one k.shapes.persons.whole t in
+      let a = weight_taken w.persons_mail v.persons_mail s x n l price_one t in
       record {
         objects_nodes = rw e1 room.objects_nodes;
         persons_nodes = nodes_taken w.persons_mail v.persons_mail s x n l t ∙ room.persons_nodes;
@@ -354,7 +354,7 @@ module _ (g : Phase) (w : World) (law : Lawful g) (k : Kept g w) (room : Room g 
   room_hub : (v : World) (x n : ℕ) (l : Letter) → Takes w.hub_mail 0 x n l v.hub_mail → v.objects_mail ≡ w.objects_mail → v.persons_mail ≡ w.persons_mail → v.person_out ≡ w.person_out → v.object_out ≡ w.object_out → v.has_stopped ≡ w.has_stopped
       → v.end ≢ Some (End.Stopped Why.Mail) → Room g v
   room_hub v x n l t e1 e2 e3 e4 e5 end =
-      let a = weight_taken w.hub_mail v.hub_mail 0 x n l stop_one k.shapes.hub.whole t in
+      let a = weight_taken w.hub_mail v.hub_mail 0 x n l stop_one t in
       record {
         objects_nodes = rw e1 room.objects_nodes;
         persons_nodes = rw e2 room.persons_nodes;

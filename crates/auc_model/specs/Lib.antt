@@ -21,3 +21,5 @@ pub mod Counts
 pub mod Fair
 pub mod Invariants
 pub mod Room
+-- what the turns of a round use up
+pub mod Work

@@ -1,7 +1,7 @@
 //! What holds over every schedule, from every world that a phase begins with. The functions do nothing: their contracts are
 //! theorems, and crates above cite them.
 
-ghost use Rattle.std.specs.Prelude.{ℕ, ℤ, ◌<◌, ◌≤◌, ◌≤ℤ◌, ◌≡◌, ◌≢◌, List, [], ◌∷◌, ◌++◌, Some, None, Contains, All, length};
+ghost use Rattle.std.specs.Prelude.{ℕ, ℤ, ◌<◌, ◌≤◌, ◌≤ℤ◌, ◌≡◌, ◌≢◌, ◌⊎◌, List, [], ◌∷◌, ◌++◌, Some, None, Contains, All, length};
 ghost use Rattle.auc_graph.specs.declared.rows.RowArc.{RowArc};
 ghost use Rattle.auc_graph.specs.declared.arc.Arc.{Arc};
 ghost use Rattle.auc_graph.specs.Assignment.{IsAssignment};
@@ -25,6 +25,7 @@ ghost use Rattle.auc_model.specs.Chosen.{IsHeldArc};
 ghost use Rattle.auc_model.specs.Counts.{held_objects};
 ghost use Rattle.auc_model.specs.Invariants.{Kept};
 ghost use Rattle.auc_model.specs.Room.{Room};
+ghost use Rattle.auc_model.specs.Work.{IsOfRound, work};
 
 /// A turn that is answered by Nothing leaves the world as it was, and each turn is at most one step of one mail.
 pub fn turns_are_small()
@@ -94,6 +95,13 @@ pub fn ends_stay()
 pub fn no_stall()
     ensures still { (g : Phase) (w v : World) (ts : List Turn) → Lawful g → 0 < g.persons → Starts g w → Schedule g w ts v → IsStill g v → v.end ≢ None }
     ensures rests { (g : Phase) (w v : World) (ts : List Turn) → Lawful g → 0 < g.persons → Starts g w → Schedule g w ts v → Rests g v → v.end ≢ None }
+{}
+
+/// The turns of a round use up work: none makes more of it, and one that moves leaves less, or the phase has ended behind it. So
+/// rounds come to an end.
+pub fn rounds_use_up_work()
+    ensures never_more { (g : Phase) (w v : World) (t : Turn) (r : TurnReply) → IsOfRound t → Turned g w t r v → work g v ≤ work g w }
+    ensures less { (g : Phase) (w v : World) (t : Turn) → IsOfRound t → Turned g w t TurnReply.Moved v → (v.end ≢ None) ⊎ (work g v < work g w) }
 {}
 
 /// The rows of a problem make a lawful phase, and the lists of all persons by shards are those that a phase begins with.

@@ -1,5 +1,8 @@
 -- What taking a letter makes of a pool's parts.
 use Rattle.std.proofs.Common.{◌≡◌, ◌≢◌, ℕ, suc, ◌+◌, ◌<◌, ◌≤◌, Bool, List, [], ◌∷◌, ◌++◌, length, get_or, set, refl, ap, sym, ◌∙◌, subst, arith, All, take, drop, drop-cons, length-set, length-append}
+use Rattle.std.specs.Prelude.{Option, None, Some, IsSome, IfSome, OnSome, MatchOption}
+use Rattle.std.specs.List.{remove}
+use Rattle.std.proofs.lemmas.Bool.{false≢true}
 use Rattle.std.proofs.lemmas.List.{take-append-drop}
 use Rattle.std.proofs.lemmas.List.Elements.{All-append, All-weaker, All-tail, All-head, All-cons}
 use Rattle.auc_mail.specs.Mail.{Lane, Mail, NothingWaits, lane_of, with_lane}
@@ -37,6 +40,13 @@ removes_first {T} at xs i l f read =
       first = subst (λ (b : ℕ). All (λ (w : Waiting T). w.to ≢ b) (take i xs)) (sym to) f.before;
       to = to;
     }
+
+-- what the queue's `remove` answers there, and leaves
+pub removed_first : {T : Type 0} (at : ℕ) (old new : List (Waiting T)) (i : ℕ) (r : Option (Waiting T)) (P : Type 0) → IsFirstOf at old i
+    → (i < length old → IsSome r) → IfSome r (λ l. l ≡ get_or old i l) → OnSome r (new ≡ remove old i)
+    → MatchOption r P (λ l. TakesFirst at old l new)
+removed_first at old new i None P f some read left = absurd (false≢true (some f.here))
+removed_first at old new i (Some l) P f some read left = rw left (removes_first at old i l f read)
 
 -- a letter l is taken from between front and back, where front has no letter to its box, and its lane's counts were x
 module _ {T : Type 0} {senders nodes most : ℕ} {accepting : List Bool} {counts : List Counts} {capacity : ℕ}

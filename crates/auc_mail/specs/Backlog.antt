@@ -16,3 +16,7 @@ pub record TakesFirst {T : Type 0} (at : ℕ) (old : List (Waiting T)) (l : Wait
   pub after : new ≡ front ++ back
   pub first : All (λ f. f.to ≢ l.to) front
   pub to : l.to ≡ at
+
+-- the first letter to the box has come to the front, and the others have kept their order
+abbrev pub ComesToFront : {T : Type 0} → ℕ → List (Waiting T) → List (Waiting T) → Type 0
+ComesToFront at old new = (l : Waiting _) × (rest : List _) × TakesFirst at old l rest × (new ≡ l ∷ rest)

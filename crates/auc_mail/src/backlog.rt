@@ -1,5 +1,8 @@
-ghost use Rattle.std.specs.Prelude.{vec_capacity, count_by, ◌==◌, ◌≡◌, ◌≢◌, All, MatchOption};
-ghost use Rattle.auc_mail.specs.Backlog.{IsFirstOf, TakesFirst};
+ghost use Rattle.std.specs.Prelude.{count_by, ◌==◌, ◌≡◌, ◌≢◌, All, MatchOption, IsTrue, false};
+ghost use Rattle.std.specs.VecDeque.{deque_capacity};
+ghost use Rattle.auc_mail.specs.Backlog.{IsFirstOf, TakesFirst, ComesToFront};
+
+use std::collections::VecDeque;
 
 // A letter that waits.
 #[derive(Clone, Copy)]
@@ -21,20 +24,61 @@ fn first_of<T: Copy>(letters: &[Waiting<T>], at: u32) -> Option<usize>
     None
 }
 
-// Takes the first letter to the box out of the list.
-pub(crate) fn take_first<T: Copy>(letters: &mut Vec<Waiting<T>>, at: u32) -> Option<Waiting<T>>
-    ensures found { MatchOption result (All (λ l. l.to ≢ at) letters.old.items × (letters.new ≡ letters.old)) (λ l. TakesFirst at letters.old.items l letters.new.items) }
-    ensures capacity { vec_capacity letters.new ≡ vec_capacity letters.old }
+// The same in the whole queue, which lies in two slices.
+fn place_of<T: Copy>(letters: &VecDeque<Waiting<T>>, at: u32) -> Option<usize>
+    ensures { MatchOption result (All (λ l. l.to ≢ at) letters.now.items) (λ i. IsFirstOf at letters.now.items i) }
 {
-    match first_of(letters.as_slice(), at) {
-        None => None,
-        Some(place) => Some(letters.remove(place)),
+    let (front, back) = letters.as_slices();
+    if let Some(place) = first_of(front, at) {
+        return Some(place);
+    }
+    let place = first_of(back, at)?;
+    Some(front.len() + place)
+}
+
+// Takes the first letter to the box out of the queue, wherever it stands. The others keep their order.
+fn take_from_within<T: Copy>(letters: &mut VecDeque<Waiting<T>>, at: u32) -> Option<Waiting<T>>
+    ensures found { MatchOption result (All (λ l. l.to ≢ at) letters.old.items × (letters.new ≡ letters.old)) (λ l. TakesFirst at letters.old.items l letters.new.items) }
+    ensures capacity { deque_capacity letters.new ≡ deque_capacity letters.old }
+{
+    let place = place_of(letters, at)?;
+    letters.remove(place)
+}
+
+// Brings the first letter to the box to the front of the queue, and answers whether there is one. The others keep their order.
+// This is long code, so it stays out of the callers of `take_first`.
+#[inline(never)]
+fn bring_to_front<T: Copy>(letters: &mut VecDeque<Waiting<T>>, at: u32) -> bool
+    ensures found { IsTrue result → ComesToFront at letters.old.items letters.new.items }
+    ensures none { result ≡ false → All (λ l. l.to ≢ at) letters.old.items × (letters.new ≡ letters.old) }
+    ensures capacity { deque_capacity letters.new ≡ deque_capacity letters.old }
+{
+    match take_from_within(letters, at) {
+        None => false,
+        Some(letter) => {
+            letters.push_front_reserved(letter);
+            true
+        }
+    }
+}
+
+// Takes the first letter to the box out of the queue. Where that is the front letter, as always with one box, no other is read.
+#[inline]
+pub(crate) fn take_first<T: Copy>(letters: &mut VecDeque<Waiting<T>>, at: u32) -> Option<Waiting<T>>
+    ensures found { MatchOption result (All (λ l. l.to ≢ at) letters.old.items × (letters.new ≡ letters.old)) (λ l. TakesFirst at letters.old.items l letters.new.items) }
+    ensures capacity { deque_capacity letters.new ≡ deque_capacity letters.old }
+{
+    let front = letters.front()?;
+    if front.to == at || bring_to_front(letters, at) {
+        letters.pop_front()
+    } else {
+        None
     }
 }
 
 // How many letters to the box there are.
-pub(crate) fn count_of<T: Copy>(letters: &[Waiting<T>], at: u32) -> usize
-    ensures { result ≡ count_by (λ l. l.to == at) letters.now }
+pub(crate) fn count_of<T: Copy>(letters: &VecDeque<Waiting<T>>, at: u32) -> usize
+    ensures { result ≡ count_by (λ l. l.to == at) letters.now.items }
 {
     letters.iter().filter(|letter| letter.to == at).count()
 }

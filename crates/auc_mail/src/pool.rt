@@ -1,4 +1,5 @@
-ghost use Rattle.std.specs.Prelude.{vec_capacity, true, [], replicate, ◌≡◌, ◌+◌, ◌*◌, ◌≤◌, ◌↔◌, IfOk, IfErr, OnOk, IsTrue};
+ghost use Rattle.std.specs.Prelude.{true, [], replicate, ◌≡◌, ◌+◌, ◌*◌, ◌≤◌, ◌↔◌, IfOk, IfErr, OnOk, IsTrue};
+ghost use Rattle.std.specs.VecDeque.{deque_capacity};
 ghost use Rattle.auc_mail.specs.Limits.{LanesFit, NodesFit, IsRefusedFor};
 ghost use Rattle.auc_mail.specs.Mail.{HasBox, HasLane, IsClosed, IsSound, empty_mail, free_of, lane_of, posted_of, waiting_at};
 ghost use Rattle.auc_mail.specs.Step.{Fits, Step, reply_to_post};
@@ -9,6 +10,7 @@ use crate::call::{Call, PostRefused, Reply, Taken};
 use crate::error::MailError;
 use crate::limits::{MOST_BOXES, MOST_LANES, MOST_NODES, MOST_SENDERS};
 use std::alloc::{AllocError, Global};
+use std::collections::VecDeque;
 use std::marker::Model;
 
 // How many letters of a lane were posted and taken.
@@ -26,7 +28,7 @@ pub struct Counts {
 /// Contracts see a mail as the `Mail` of `specs/Mail.antt`. They leave open which sender's letter a take gives.
 #[derive(Drop)]
 pub struct MailPool<T: Copy> {
-    letters: Vec<Waiting<T>>,
+    letters: VecDeque<Waiting<T>>,
     counts: Vec<Counts>,
     accepting: Vec<bool>,
     most: u64,
@@ -35,7 +37,7 @@ pub struct MailPool<T: Copy> {
 }
 
 impl<T: Copy> Model for MailPool<T> {
-    ghost use Rattle.std.specs.Prelude.{vec_capacity};
+    ghost use Rattle.std.specs.VecDeque.{deque_capacity};
     ghost use Rattle.auc_mail.specs.Mail.{Mail};
 
     ghost Value = { Mail T };
@@ -44,10 +46,11 @@ impl<T: Copy> Model for MailPool<T> {
 
     ghost view = { λ p. mail_of p.senders p.nodes p.most p.accepting.items p.counts.items p.letters.items };
 
-    ghost invariant = { λ p. IsKept p.senders p.nodes p.most p.accepting.items p.counts.items p.letters.items (vec_capacity p.letters) };
+    ghost invariant = { λ p. IsKept p.senders p.nodes p.most p.accepting.items p.counts.items p.letters.items (deque_capacity p.letters) };
 }
 
 // The number of the lane of a box and a sender.
+#[inline]
 fn lane_number(senders: u32, to: u32, sender: u32) -> usize
     ensures { result ≡ to * senders + sender }
 {
@@ -60,12 +63,12 @@ fn new_lists<T: Copy>(
     boxes: usize,
     lanes: usize,
     nodes: usize,
-) -> Result<(Vec<Waiting<T>>, Vec<Counts>, Vec<bool>), AllocError>
-    ensures letters { IfOk result (λ lists. (lists.0.items ≡ []) × (nodes ≤ vec_capacity lists.0)) }
+) -> Result<(VecDeque<Waiting<T>>, Vec<Counts>, Vec<bool>), AllocError>
+    ensures letters { IfOk result (λ lists. (lists.0.items ≡ []) × (nodes ≤ deque_capacity lists.0)) }
     ensures counts { IfOk result (λ lists. lists.1.items ≡ replicate lanes no_counts) }
     ensures boxes { IfOk result (λ lists. lists.2.items ≡ replicate boxes true) }
 {
-    let letters = Vec::with_capacity(alloc, nodes)?;
+    let letters = VecDeque::with_capacity(alloc, nodes)?;
     let counts = vec![in alloc; Counts {
         posted: 0,
         taken: 0
@@ -134,6 +137,7 @@ impl<T: Copy> MailPool<T> {
     }
 
     /// Whether the box is closed. Takes O(1) time.
+    #[inline]
     pub fn is_closed(&self, at: u32) -> bool
         requires { HasBox self.now at }
         ensures { IsTrue result ↔ IsClosed self.now at }
@@ -171,13 +175,14 @@ impl<T: Copy> MailPool<T> {
     {
         // Read here, so that the proof knows its range, which bounds the count.
         let _nodes = self.nodes;
-        count_of(self.letters.as_slice(), at) as u32
+        count_of(&self.letters, at) as u32
     }
 
     /// Posts `item` from `sender` to the box `to`, and answers the letter's number in its lane, from 1.
     ///
     /// Refused, in this order: `Closed` where the box is closed; `Spent` where the lane had all its posts; `Full` where no
     /// more than `reserve` letters are free. A refused post changes nothing. Takes O(1) time.
+    #[inline]
     pub fn post(&mut self, sender: u32, to: u32, item: T, reserve: u32) -> Result<u64, PostRefused>
         requires { Fits self.old (Call.Post sender to item reserve) }
         ensures { Step self.old (Call.Post sender to item reserve) (reply_to_post result) self.new }
@@ -198,13 +203,16 @@ impl<T: Copy> MailPool<T> {
             posted: number,
             taken: count.taken,
         };
-        self.letters.push_reserved(Waiting { item, to, sender });
+        self.letters
+            .push_back_reserved(Waiting { item, to, sender });
         Ok(number)
     }
 
     /// Takes the first waiting letter of one of the box's lanes; where none has one, says whether one may still come.
     ///
-    /// Which lane is left open. Takes O(n) time, where n letters wait in all boxes.
+    /// Which lane is left open. Takes O(1) time where the first letter of all waits for this box, as always with one box, and else
+    /// O(n), where n letters wait in all boxes. Takes no memory.
+    #[inline]
     pub fn take(&mut self, at: u32) -> Taken<T>
         requires { Fits self.old (Call.Take at) }
         ensures { Step self.old (Call.Take at) (Reply.Took result) self.new }

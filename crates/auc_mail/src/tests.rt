@@ -3,13 +3,17 @@ use std::alloc::Global;
 use std::process::Abort;
 use std::test::Fail;
 
-fn post(sender: u32, item: i64) -> Call<i64> {
+fn post_to(to: u32, sender: u32, item: i64) -> Call<i64> {
     Call::Post {
         sender,
-        to: 0,
+        to,
         item,
         reserve: 0,
     }
+}
+
+fn post(sender: u32, item: i64) -> Call<i64> {
+    post_to(0, sender, item)
 }
 
 fn letter(sender: u32, number: u64, item: i64) -> Reply<i64> {
@@ -29,7 +33,16 @@ fn replies(
     most: u64,
     calls: &[Call<i64>],
 ) -> Result<Vec<Reply<i64>>, Fail> {
-    let mut mail = MailPool::make(alloc, 1, senders, nodes, most, 0)?;
+    let mail = MailPool::make(alloc, 1, senders, nodes, most, 0)?;
+    replies_of(rt, alloc, mail, calls)
+}
+
+fn replies_of(
+    rt: &impl Abort,
+    alloc: Global,
+    mut mail: MailPool<i64>,
+    calls: &[Call<i64>],
+) -> Result<Vec<Reply<i64>>, Fail> {
     assert!(rt; calls.iter().all(|call| mail.fits(call)));
     Ok(run_script(alloc, &mut mail, calls)?)
 }
@@ -120,6 +133,40 @@ fn each_sender_has_numbers_of_its_own(rt: HostRuntime) -> Result<(), Fail> {
         letter(1, 1, 7),
     ];
     let replies = replies(&rt, rt.alloc(), 2, 9, 9, &calls)?;
+    assert_eq!(rt; replies.as_slice(), expected.as_slice());
+    Ok(())
+}
+
+// Box 1 takes letters from behind one to box 0. The fourth letter takes the place that the first had, so the queue lies in two slices.
+#[test]
+fn a_take_passes_letters_to_other_boxes(rt: HostRuntime) -> Result<(), Fail> {
+    let take = |at| Call::Take { at };
+    let calls = [
+        post(0, 51),
+        post(0, 52),
+        post_to(1, 0, 61),
+        take(0),
+        post_to(1, 0, 62),
+        take(1),
+        take(1),
+        take(1),
+        take(0),
+        take(0),
+    ];
+    let expected = [
+        Reply::Posted(1),
+        Reply::Posted(2),
+        Reply::Posted(1),
+        letter(0, 1, 51),
+        Reply::Posted(2),
+        letter(0, 1, 61),
+        letter(0, 2, 62),
+        Reply::Took(Taken::Empty),
+        letter(0, 2, 52),
+        Reply::Took(Taken::Empty),
+    ];
+    let mail = MailPool::make(rt.alloc(), 2, 1, 3, 9, 0i64)?;
+    let replies = replies_of(&rt, rt.alloc(), mail, &calls)?;
     assert_eq!(rt; replies.as_slice(), expected.as_slice());
     Ok(())
 }

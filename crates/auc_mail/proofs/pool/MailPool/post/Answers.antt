@@ -35,7 +35,7 @@ invariant_of-self g c =
     let l : Waiting _ = record { item = c.args.item; to = c.args.to; sender = c.args.sender } in
     let read = rw c.lane_number-lane.ensures at c.index-count.ensures in
     let within = posted_within_most c.self.invariant l fits.0 fits.1 c.index-count.result.now read in
-    rw (c.lane_number-lane.ensures, c.push_reserved.ensures.items, c.push_reserved.ensures.capacity)
+    rw (c.lane_number-lane.ensures, c.push_back_reserved.ensures.items, c.push_back_reserved.ensures.capacity)
     (post_keeps c.self.invariant l fits.0 fits.1 c.index-count.result.now read (omega arith) (omega arith))
 
 pub returns : goal.returns
@@ -45,5 +45,5 @@ returns g c =
     let l : Waiting _ = record { item = c.args.item; to = c.args.to; sender = c.args.sender } in
     let read = rw c.lane_number-lane.ensures at c.index-count.ensures in
     let within = posted_within_most c.self.invariant l fits.0 fits.1 c.index-count.result.now read in
-    rw (← c.self.view_is, c.lane_number-lane.ensures, c.push_reserved.ensures.items)
+    rw (← c.self.view_is, c.lane_number-lane.ensures, c.push_back_reserved.ensures.items)
     (post_step c.self.invariant l fits.0 fits.1 c.index-count.result.now read c.index.result.now c.index.ensures c.if-not-index.false c.args.reserve (omega arith) (omega arith))

@@ -8,10 +8,10 @@ use Rattle.auc_mail.proofs.pool.MailPool.waiting.Goals as goal
 pub overflow_cast-result : goal.overflow_cast-result
 overflow_cast-result g c =
     let p = c.self.inside in
-    let few = count_by-le-length (λ (l : Waiting _). l.to == c.args.at) c.as_slice.result.now in
-    omega (arith, few, c.count_of.ensures, c.as_slice.ensures.len, p.letters.ok.0, c.self.invariant.fits)
+    let few = count_by-le-length (λ (l : Waiting _). l.to == c.args.at) p.letters.items in
+    omega (arith, few, c.count_of.ensures, c.self.invariant.fits)
 
 pub returns : goal.returns
 returns g c =
     let fits = subst (λ (m : Mail _). HasBox m c.args.at) (sym c.self.view_is) c.requires in
-    rw (← c.self.view_is, c.count_of.ensures, c.as_slice.ensures.value) (sym (waiting_at_is c.self.invariant c.args.at fits))
+    rw (← c.self.view_is, c.count_of.ensures) (sym (waiting_at_is c.self.invariant c.args.at fits))

@@ -46,5 +46,9 @@ pub fn shard_of(number: u32, shards: u32) -> u32
     ensures remainder { result ≡ number % shards }
     ensures below { result < shards }
 {
+    // With one shard, which is the usual case of the serial solver, no division.
+    if shards == 1 {
+        return 0;
+    }
     number % shards
 }

@@ -72,6 +72,7 @@ impl ObjectShard {
     }
 
     /// The present price of an object of the shard, in scaled costs. O(1).
+    #[inline]
     pub fn price(&self, object: u32) -> i64
         requires { Owns self.now object }
         ensures present { result ≡ price_of self.now object }
@@ -81,6 +82,7 @@ impl ObjectShard {
     }
 
     /// The holder of an object of the shard, if it has one. O(1).
+    #[inline]
     pub fn holder(&self, object: u32) -> Option<Held>
         requires { Owns self.now object }
         ensures { result ≡ holder_of self.now object }
@@ -112,6 +114,7 @@ impl ObjectShard {
     /// the person holds the object by the arc at place `arc`. A bid that is refused changes nothing. `amount` and `eps` are
     /// in scaled costs.
     #[tactic(auto, using(crate::proofs::Shape::shape_sold, crate::proofs::Shape::shape_same))]
+    #[inline]
     pub fn on_bid(
         &mut self,
         person: u32,

@@ -22,6 +22,9 @@ product_fits s c h = omega (arith, ints, h)
 pub value_fits : (s c p : ℤ) → unsigned_abs (s *ℤ c) ≤ 10001 * 10 ^ 9 → IsPrice p → FitsSigned w64 (s *ℤ c +ℤ p)
 value_fits s c p h i = omega (arith, ints, h, i.low, i.high)
 
+pub value_low : (s c p : ℤ) → unsigned_abs (s *ℤ c) ≤ 10001 * 10 ^ 9 → IsPrice p → neg_ℤ (pos (2 ^ 44)) ≤ℤ (s *ℤ c +ℤ p)
+value_low s c p h i = omega (arith, ints, h, i.low, i.high)
+
 pub value_high : (s c p : ℤ) → unsigned_abs (s *ℤ c) ≤ 10001 * 10 ^ 9 → IsPrice p → (s *ℤ c +ℤ p) ≤ℤ pos (2 ^ 61 + 2 ^ 44)
 value_high s c p h i = omega (arith, ints, h, i.low, i.high)
 

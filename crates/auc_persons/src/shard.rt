@@ -113,6 +113,7 @@ impl PersonShard {
     }
 
     /// The shard's copy of the price of an object, in scaled costs. O(1).
+    #[inline]
     pub fn copy(&self, object: u32) -> i64
         requires { object < length self.now.copies }
         ensures copy { result ≡ copy_of self.now object }
@@ -130,6 +131,7 @@ impl PersonShard {
     }
 
     /// Sets a copy.
+    #[inline]
     fn set_copy(&mut self, object: u32, price: i64)
         requires object { object < length self.old.copies }
         requires price { IsPrice price }
@@ -139,6 +141,7 @@ impl PersonShard {
     }
 
     /// The next person bids, and waits from now on.
+    #[inline]
     fn wait_for(&mut self, object: u32)
         requires some { 0 < length self.old.idle }
         requires bids { 0 < self.old.bids }
@@ -151,6 +154,7 @@ impl PersonShard {
     }
 
     /// A person holds his object.
+    #[inline]
     fn hold(&mut self, person: u32, object: u32)
         requires person { person < length self.old.states }
         requires busy { state_of self.old person ≢ PersonState.Free }
@@ -160,6 +164,7 @@ impl PersonShard {
     }
 
     /// A person is free, and the last of those who are.
+    #[inline]
     fn free(&mut self, person: u32)
         requires person { person < length self.old.states }
         requires busy { state_of self.old person ≢ PersonState.Free }
@@ -170,6 +175,7 @@ impl PersonShard {
     }
 
     /// What the next person bids.
+    #[inline]
     fn bid_for(&self, rows: &Rows, person: u32, eps: i64) -> Option<Bid>
         requires rows { Fits rows.now self.now }
         requires person { person < length self.now.states }
@@ -190,6 +196,7 @@ impl PersonShard {
     ///
     /// Takes one pass over the person's row, O(arcs of the person) time and no memory.
     #[tactic(auto, using(crate::proofs::Rise::shape_bid, crate::proofs::Rise::shape_same))]
+    #[inline]
     pub fn next_bid(&mut self, rows: &Rows, eps: i64) -> Bidding
         requires rows { Fits rows.now self.old }
         requires eps { IsEps eps }
@@ -215,6 +222,7 @@ impl PersonShard {
     }
 
     /// The person that has been free longest.
+    #[inline]
     fn first(&self) -> Option<u32>
         ensures some { IfSome result (λ i. (self.now.idle ≢ []) × (i ≡ first_idle self.now) × (i < length self.now.states)) }
         ensures none { IfNone result (self.now.idle ≡ []) }
@@ -224,6 +232,7 @@ impl PersonShard {
     }
 
     /// How many bids are left.
+    #[inline]
     fn left(&self) -> u64
         ensures { result ≡ self.now.bids }
     {
@@ -231,6 +240,7 @@ impl PersonShard {
     }
 
     /// A bid as a letter to the shard of the object.
+    #[inline]
     fn bid_letter(&self, person: u32, bid: Bid) -> Out
         ensures { result ≡ bid_letter self.now person bid.arc bid.amount }
     {
@@ -250,11 +260,12 @@ impl PersonShard {
     }
 
     /// Whether an answer to a person fits where he stands as it wants.
+    #[inline]
     fn is_fitting(&self, person: u32, object: u32, price: i64, wanted: PersonState) -> bool
         ensures { IsTrue result ↔ FitsAnswer self.now person object price wanted }
     {
         (person as usize) < self.states.len()
-            && person % self.of == self.shard
+            && shard_of(person, self.of) == self.shard
             && (object as usize) < self.copies.len()
             && 0 <= price
             && price <= MOST_PRICE
@@ -262,6 +273,7 @@ impl PersonShard {
     }
 
     /// Whether a price letter fits.
+    #[inline]
     fn is_price_fitting(&self, object: u32, price: i64) -> bool
         ensures { IsTrue result ↔ FitsPrice self.now object price }
     {
@@ -270,6 +282,7 @@ impl PersonShard {
 
     /// An Award.
     #[tactic(auto, using(crate::proofs::Rise::rises_set, crate::proofs::Rise::rises_same, crate::proofs::Rise::shape_held, crate::proofs::Rise::shape_free, crate::proofs::Rise::shape_copy, crate::proofs::Rise::shape_same))]
+    #[inline]
     fn on_award(&mut self, person: u32, object: u32, price: i64) -> Result<(), PersonFault>
         ensures exact { Answered self.old person object price (PersonState.Waits object) (held_after self.old person object price) result self.new }
         ensures rise { Rising self.old.copies self.new.copies }
@@ -288,6 +301,7 @@ impl PersonShard {
 
     /// A Refused or an Outbid.
     #[tactic(auto, using(crate::proofs::Rise::rises_set, crate::proofs::Rise::rises_same, crate::proofs::Rise::shape_held, crate::proofs::Rise::shape_free, crate::proofs::Rise::shape_copy, crate::proofs::Rise::shape_same))]
+    #[inline]
     fn on_freeing(
         &mut self,
         person: u32,
@@ -313,6 +327,7 @@ impl PersonShard {
 
     /// A Price.
     #[tactic(auto, using(crate::proofs::Rise::rises_set, crate::proofs::Rise::rises_same, crate::proofs::Rise::shape_held, crate::proofs::Rise::shape_free, crate::proofs::Rise::shape_copy, crate::proofs::Rise::shape_same))]
+    #[inline]
     fn on_price(&mut self, object: u32, price: i64) -> Result<(), PersonFault>
         ensures exact { Priced self.old object price result self.new }
         ensures rise { Rising self.old.copies self.new.copies }
@@ -339,6 +354,7 @@ impl PersonShard {
     /// Nothing is changed by a letter that is refused. [`PersonFault::Stray`] comes first: another kind of letter, a person
     /// or an object that isn't the shard's or is out of range, a price out of range, or a state that doesn't fit. Then
     /// [`PersonFault::Fell`]: the price is below the copy.
+    #[inline]
     pub fn on_letter(&mut self, letter: Letter) -> Result<(), PersonFault>
         ensures exact { OnLetter self.old letter result self.new }
         ensures rise { Rising self.old.copies self.new.copies }

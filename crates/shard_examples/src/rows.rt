@@ -4,7 +4,7 @@ use crate::desk::rows_of;
 use auc_graph::RowArc;
 use std::test::*;
 
-fn arc(cost: i64, object: u32, arc: u32) -> RowArc {
+fn arc(cost: i32, object: u32, arc: u32) -> RowArc {
     RowArc { cost, object, arc }
 }
 

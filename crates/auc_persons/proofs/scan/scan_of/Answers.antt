@@ -1,4 +1,4 @@
-use Rattle.std.proofs.Common.{◌+◌, length, get_or, pos, w64, arith, rules, refl}
+use Rattle.std.proofs.Common.{◌+◌, length, get_or, pos, w32, w64, arith, rules, refl}
 use Rattle.std.specs.Prelude.{FitsSigned}
 use Rattle.std.proofs.lemmas.Int.{to_z-of_z}
 use Rattle.std.proofs.lemmas.List.Elements.{All-get_or, All-rest}
@@ -16,7 +16,7 @@ pub loop-arc-init : goal.loop-arc-init
 loop-arc-init c =
     let f1 : FitsSigned w64 c.args.scale = c.ranges.scale in
     let f2 : FitsSigned w64 c.value_of.result = search rules in
-    let f3 : FitsSigned w64 c.in_ok-first.first.now.cost = search rules in
+    let f3 : FitsSigned w32 c.in_ok-first.first.now.cost = search rules in
     let f4 : FitsSigned w64 (get_or c.args.copies.now c.in_ok-first.first.now.object (pos 0)) = search rules in
     let e = c.in_ok-first.ensures.cases.0 in
     let is = simp to_z-of_z at c.value_of.ensures.is in
@@ -30,20 +30,20 @@ bounds-copies-arc c =
 pub value_of-value-requires-clause-cost_low : goal.value_of-value-requires-clause-cost_low
 value_of-value-requires-clause-cost_low c =
     let w = All-get_or (IsRowArc (length c.args.copies.now)) c.in_ok-first.rest.now c.loop-arc.arc-index none c.loop-arc-test.true (All-rest (IsRowArc (length c.args.copies.now)) c.in_ok-first.first.now c.in_ok-first.rest.now c.args.row.now c.in_ok-first.ensures.cases.0 c.requires.row.within) in
-    let f3 : FitsSigned w64 (get_or c.in_ok-first.rest.now c.loop-arc.arc-index none).cost = search rules in
+    let f3 : FitsSigned w32 (get_or c.in_ok-first.rest.now c.loop-arc.arc-index none).cost = search rules in
     simp to_z-of_z w.low
 
 pub value_of-value-requires-clause-cost_high : goal.value_of-value-requires-clause-cost_high
 value_of-value-requires-clause-cost_high c =
     let w = All-get_or (IsRowArc (length c.args.copies.now)) c.in_ok-first.rest.now c.loop-arc.arc-index none c.loop-arc-test.true (All-rest (IsRowArc (length c.args.copies.now)) c.in_ok-first.first.now c.in_ok-first.rest.now c.args.row.now c.in_ok-first.ensures.cases.0 c.requires.row.within) in
-    let f3 : FitsSigned w64 (get_or c.in_ok-first.rest.now c.loop-arc.arc-index none).cost = search rules in
+    let f3 : FitsSigned w32 (get_or c.in_ok-first.rest.now c.loop-arc.arc-index none).cost = search rules in
     simp to_z-of_z w.high
 
 pub loop-arc-preserved : goal.loop-arc-preserved
 loop-arc-preserved c =
     let f1 : FitsSigned w64 c.args.scale = c.ranges.scale in
     let f2 : FitsSigned w64 c.value_of-value.result = search rules in
-    let f3 : FitsSigned w64 (get_or c.in_ok-first.rest.now c.loop-arc.arc-index none).cost = search rules in
+    let f3 : FitsSigned w32 (get_or c.in_ok-first.rest.now c.loop-arc.arc-index none).cost = search rules in
     let f4 : FitsSigned w64 (get_or c.args.copies.now (get_or c.in_ok-first.rest.now c.loop-arc.arc-index none).object (pos 0)) = search rules in
     let e = c.in_ok-first.ensures.cases.0 in
     let is = simp to_z-of_z at c.value_of-value.ensures.is in

@@ -29,6 +29,7 @@ pub use laws::{
 };
 pub use limits::HIGHEST_PRICE;
 pub use lists::{Pick, Picks, Prices};
+pub use picks::cost_of;
 pub use reading::read_cert;
 pub use refused::CertRefused;
 pub use text_error::CertTextError;

@@ -7,8 +7,8 @@ ghost use Rattle.auc_cert.specs.Claim.{chosen, repeated};
 use crate::lists::Pick;
 use std::alloc::{AllocError, Global};
 
-/// The sum of the costs.
-pub(crate) fn cost_of(choice: &[Pick]) -> i128
+/// What picks cost together. O(persons).
+pub fn cost_of(choice: &[Pick]) -> i128
     requires { length choice.now < 2 ^ 32 }
     ensures { result ≡ total_cost (chosen 0 choice.now) }
 {

@@ -8,3 +8,7 @@ pub mod Posting
 pub mod Hub
 pub mod Made
 pub mod TurnByTurn
+pub mod RoundLaws
+pub mod HallCertificates
+pub mod GatherLaws
+pub mod PhaseLaws

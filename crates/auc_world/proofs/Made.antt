@@ -111,10 +111,10 @@ module _ (t : Table) (limits : Limits) (prices : List ℤ) (eps : ℤ) (p : Part
   own_shard i = let some = ok.some in rw made.shards (omega arith)
 
   -- the price of each object, and each copy of it
-  price_is : (j : ℕ) → (seen p).price j ≡ get_or prices j (pos 0)
+  pub price_is : (j : ℕ) → (seen p).price j ≡ get_or prices j (pos 0)
   price_is j = ap (λ (x : Objects). price_of x j) (made.each_objects (j % p.shards) (own_shard j))
 
-  copy_is : (s j : ℕ) → s < limits.shards → (seen p).copy s j ≡ get_or prices j (pos 0)
+  pub copy_is : (s j : ℕ) → s < limits.shards → (seen p).copy s j ≡ get_or prices j (pos 0)
   copy_is s j l = ap (λ (x : Persons). copy_of x j) (made.each_persons s l)
 
   copy_past : (s j : ℕ) → limits.shards ≤ s → (seen p).copy s j ≡ pos 0

@@ -5,14 +5,22 @@
 //! memory but those that make a world or gather its answer.
 #![tactic(auto)]
 
+mod answer;
 mod eps;
+pub mod finish;
+mod gathering;
 mod limits;
 mod making;
 mod playing;
+mod rounds;
+mod solving;
 mod turns;
 mod world;
 
+pub use answer::{Answer, Guard};
 pub use eps::{first_eps, next_eps};
+pub use gathering::Gathered;
 pub use limits::Limits;
 pub use playing::play;
+pub use solving::solve_serial;
 pub use world::World;

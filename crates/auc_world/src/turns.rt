@@ -39,7 +39,8 @@ impl<'a> World<'a> {
     }
 
     /// A shard of the persons puts its next bid, or why there is none, into its outbox.
-    fn bid(&mut self, shard: u32) -> TurnReply
+    #[inline]
+    pub(crate) fn bid(&mut self, shard: u32) -> TurnReply
         ensures turn { BidTurn (phase self.old) (seen self.old) shard result (seen self.new) }
         ensures phase { SamePhase self.old self.new }
     {
@@ -68,7 +69,8 @@ impl<'a> World<'a> {
     }
 
     /// A shard of the persons takes a letter and hears it.
-    fn person_take(&mut self, shard: u32) -> TurnReply
+    #[inline]
+    pub(crate) fn person_take(&mut self, shard: u32) -> TurnReply
         ensures turn { PersonTakeTurn (phase self.old) (seen self.old) shard result (seen self.new) }
         ensures phase { SamePhase self.old self.new }
     {
@@ -92,7 +94,8 @@ impl<'a> World<'a> {
     }
 
     /// A shard of the persons posts the first letter of its outbox.
-    fn person_post(&mut self, shard: u32) -> TurnReply
+    #[inline]
+    pub(crate) fn person_post(&mut self, shard: u32) -> TurnReply
         ensures turn { PostTurn (phase self.old) (seen self.old) (Shard.PersonShard shard) result (seen self.new) }
         ensures phase { SamePhase self.old self.new }
     {
@@ -118,7 +121,8 @@ impl<'a> World<'a> {
     }
 
     /// A shard of the objects posts the first letter of its outbox.
-    fn object_post(&mut self, shard: u32) -> TurnReply
+    #[inline]
+    pub(crate) fn object_post(&mut self, shard: u32) -> TurnReply
         ensures turn { PostTurn (phase self.old) (seen self.old) (Shard.ObjectShard shard) result (seen self.new) }
         ensures phase { SamePhase self.old self.new }
     {
@@ -145,7 +149,8 @@ impl<'a> World<'a> {
     }
 
     /// A shard of the objects takes a bid and answers it into its outbox.
-    fn object_take(&mut self, shard: u32) -> TurnReply
+    #[inline]
+    pub(crate) fn object_take(&mut self, shard: u32) -> TurnReply
         ensures turn { ObjectTakeTurn (phase self.old) (seen self.old) shard result (seen self.new) }
         ensures phase { SamePhase self.old self.new }
     {
@@ -178,7 +183,8 @@ impl<'a> World<'a> {
     }
 
     /// The hub takes a letter.
-    fn hub_take(&mut self) -> TurnReply
+    #[inline]
+    pub(crate) fn hub_take(&mut self) -> TurnReply
         ensures turn { HubTakeTurn (phase self.old) (seen self.old) result (seen self.new) }
         ensures phase { SamePhase self.old self.new }
     {
@@ -211,6 +217,7 @@ impl<'a> World<'a> {
 }
 
 /// Why the world stops where a letter is refused; it doesn't where the box is closed, or the letter is a price.
+#[inline]
 fn reason_to_stop(refused: PostRefused, letter: Letter) -> Option<Why>
     ensures some { IfSome result (λ y. (refused ≢ PostRefused.Closed) × (is_price letter ≡ false) × (y ≡ reason refused)) }
     ensures none { IfNone result ((refused ≡ PostRefused.Closed) ⊎ ((refused ≢ PostRefused.Closed) × (is_price letter ≡ true))) }

@@ -1,6 +1,6 @@
 //! The parts of a world, and what a turn does with one of them.
 
-ghost use Rattle.std.specs.Prelude.{◌≡◌, ◌≢◌, ◌<◌, ◌≤◌, ◌+◌, ◌*◌, ◌⊎◌, ◌↔◌, true, [], ◌∷◌, drop, slice_set, length, All, IsTrue, IfSome, IfNone, IfOk};
+ghost use Rattle.std.specs.Prelude.{ℕ, ◌≡◌, ◌≢◌, ◌<◌, ◌≤◌, ◌+◌, ◌*◌, ◌⊎◌, ◌↔◌, true, [], ◌∷◌, drop, slice_index_or, slice_set, pos, length, All, IsTrue, IfSome, IfNone, IfOk};
 ghost use Rattle.auc_persons.specs.Persons.{NextBid, OnLetter};
 ghost use Rattle.auc_world.specs.Parts.{AreParts, Reaches, MayAskForBid, MayAnswer, OwnsObject, Accepts, Declines, IsOpenBox, MailAlone, persons_at, objects_at, person_out, object_out, without_first_person_out, without_first_object_out, with_mail_at, name_of, boxes_in, counted_at, TakesOne, phase, seen};
 ghost use Rattle.auc_graph.specs.Table.{IsTable};
@@ -23,7 +23,7 @@ use crate::limits::Limits;
 use crate::making::{new_mail, new_object_shards, new_outboxes, new_person_shards, nodes_or};
 use arrayvec::ArrayVec;
 use auc_graph::Rows;
-use auc_letters::{Letter, MOST_PRICE, Out, To, shard_of};
+use auc_letters::{Held, Letter, MOST_PRICE, Out, To, shard_of};
 use auc_mail::{MailPool, PostRefused, Taken};
 use auc_model::{End, MailName};
 use auc_objects::ObjectShard;
@@ -38,6 +38,20 @@ pub(crate) struct Offer {
     pub(crate) arc: u32,
     pub(crate) object: u32,
     pub(crate) amount: i64,
+}
+
+/// The first letter leaves an outbox.
+#[inline]
+fn drop_first(letters: &mut ArrayVec<Out, 4>)
+    requires { letters.old.items ≢ [] }
+    ensures { letters.new.items ≡ drop 1 letters.old.items }
+{
+    // Of two letters or one, which is all that an answer has, the last may take the first's place; that is faster.
+    let _ = if letters.len() <= 2 {
+        letters.swap_remove(0)
+    } else {
+        letters.remove(0)
+    };
 }
 
 /// The world of one phase: its shards, their outboxes, three mails and the hub.
@@ -91,9 +105,12 @@ impl<'a> World<'a> {
         requires eps { IsEps eps }
         ensures made { IfOk result (IsMade rows.now limits.now prices.now eps) }
         ensures phase { IfOk result (λ w. phase w ≡ phase_of rows.now limits.now.shards eps) }
+        ensures table { IsTable rows.now }
         ensures lawful { IfOk result (λ w. Lawful (phase w)) }
         ensures starts { IfOk result (λ w. Starts (phase w) (seen w)) }
         ensures usual { limits.now.nodes ≡ 0 → IfOk result (λ w. UsualNodes (phase w) (seen w)) }
+        ensures prices { IfOk result (λ w. (j : ℕ) → (seen w).price j ≡ slice_index_or prices.now j (pos 0)) }
+        ensures copies { IfOk result (λ w. (s j : ℕ) → s < limits.now.shards → (seen w).copy s j ≡ slice_index_or prices.now j (pos 0)) }
     {
         let world = World::assemble(alloc, rows, limits, prices, eps)?;
         Ok(world)
@@ -141,7 +158,17 @@ impl<'a> World<'a> {
         })
     }
 
+    /// How many shards there are of each kind.
+    #[inline]
+    pub(crate) fn shards(&self) -> u32
+        ensures is { result ≡ self.now.shards }
+        ensures sound { AreParts self.now }
+    {
+        self.shards
+    }
+
     /// Whether there is such a shard.
+    #[inline]
     pub(crate) fn is_shard(&self, shard: u32) -> bool
         ensures is { IsTrue result ↔ (shard < self.now.shards) }
         ensures sound { AreParts self.now }
@@ -150,6 +177,7 @@ impl<'a> World<'a> {
     }
 
     /// Which sender of each mail a shard of the objects is.
+    #[inline]
     pub(crate) fn object_sender(&self, shard: u32) -> u32
         requires { shard < self.now.shards }
         ensures is { result ≡ self.now.shards + shard }
@@ -159,6 +187,7 @@ impl<'a> World<'a> {
     }
 
     /// Whether a shard of the persons may bid: it is there, its outbox is empty, and it has made no Stop.
+    #[inline]
     pub(crate) fn may_bid(&self, shard: u32) -> bool
         ensures is { IsTrue result ↔ MayAskForBid self.now shard }
         ensures sound { AreParts self.now }
@@ -169,6 +198,7 @@ impl<'a> World<'a> {
     }
 
     /// Asks a shard of the persons for its next bid.
+    #[inline]
     pub(crate) fn next_bid(&mut self, shard: u32) -> Bidding
         requires { shard < self.old.shards }
         ensures bid { NextBid self.old.table self.old.eps (persons_at self.old shard) result (persons_at self.new shard) }
@@ -181,6 +211,7 @@ impl<'a> World<'a> {
     }
 
     /// A shard of the persons has made a Stop.
+    #[inline]
     pub(crate) fn note_stop(&mut self, shard: u32)
         requires { shard < self.old.shards }
         ensures { self.new ≡ record self.old { stopped = slice_set self.old.stopped shard true } }
@@ -189,6 +220,7 @@ impl<'a> World<'a> {
     }
 
     /// A shard of the persons hears a letter.
+    #[inline]
     pub(crate) fn hear(&mut self, shard: u32, letter: Letter) -> Result<(), PersonFault>
         requires { shard < self.old.shards }
         ensures heard { OnLetter (persons_at self.old shard) letter result (persons_at self.new shard) }
@@ -199,6 +231,7 @@ impl<'a> World<'a> {
     }
 
     /// Puts a letter into the empty outbox of a shard of the persons.
+    #[inline]
     pub(crate) fn put_person_out(&mut self, shard: u32, out: Out)
         requires known { shard < self.old.shards }
         requires empty { person_out self.old shard ≡ [] }
@@ -210,6 +243,7 @@ impl<'a> World<'a> {
     }
 
     /// The first letter in the outbox of a shard of the persons.
+    #[inline]
     pub(crate) fn first_person_out(&self, shard: u32) -> Option<Out>
         ensures some { IfSome result (λ o. (shard < self.now.shards) × (person_out self.now shard ≡ o ∷ drop 1 (person_out self.now shard)) × Reaches self.now.shards o) }
         ensures none { IfNone result ((self.now.shards ≤ shard) ⊎ (person_out self.now shard ≡ [])) }
@@ -226,17 +260,18 @@ impl<'a> World<'a> {
     }
 
     /// The first letter of a shard of the persons leaves its outbox.
+    #[inline]
     pub(crate) fn drop_person_out(&mut self, shard: u32)
         requires known { shard < self.old.shards }
         requires some { person_out self.old shard ≢ [] }
         ensures rest { self.new ≡ without_first_person_out self.old shard }
         ensures there { shard < length self.old.person_outs }
     {
-        let letters = &mut self.person_outs[shard as usize];
-        let _ = letters.remove(0);
+        drop_first(&mut self.person_outs[shard as usize]);
     }
 
     /// The first letter in the outbox of a shard of the objects.
+    #[inline]
     pub(crate) fn first_object_out(&self, shard: u32) -> Option<Out>
         ensures some { IfSome result (λ o. (shard < self.now.shards) × (object_out self.now shard ≡ o ∷ drop 1 (object_out self.now shard)) × Reaches self.now.shards o) }
         ensures none { IfNone result ((self.now.shards ≤ shard) ⊎ (object_out self.now shard ≡ [])) }
@@ -253,17 +288,18 @@ impl<'a> World<'a> {
     }
 
     /// The first letter of a shard of the objects leaves its outbox.
+    #[inline]
     pub(crate) fn drop_object_out(&mut self, shard: u32)
         requires known { shard < self.old.shards }
         requires some { object_out self.old shard ≢ [] }
         ensures rest { self.new ≡ without_first_object_out self.old shard }
         ensures there { shard < length self.old.object_outs }
     {
-        let letters = &mut self.object_outs[shard as usize];
-        let _ = letters.remove(0);
+        drop_first(&mut self.object_outs[shard as usize]);
     }
 
     /// Whether there is such a shard of the objects, and its outbox is empty.
+    #[inline]
     pub(crate) fn may_answer(&self, shard: u32) -> bool
         ensures is { IsTrue result ↔ MayAnswer self.now shard }
         ensures sound { AreParts self.now }
@@ -272,13 +308,45 @@ impl<'a> World<'a> {
     }
 
     /// Whether there is such an object, and it is the shard's.
+    #[inline]
     pub(crate) fn owns(&self, shard: u32, object: u32) -> bool
         ensures { IsTrue result ↔ OwnsObject self.now shard object }
     {
         object < self.rows.objects() && shard_of(object, self.shards) == shard
     }
 
+    /// How many objects there are.
+    #[inline]
+    pub(crate) fn objects(&self) -> u32
+        ensures is { result ≡ self.now.table.objects }
+        ensures sound { AreParts self.now }
+    {
+        self.rows.objects()
+    }
+
+    /// The present price of an object.
+    #[inline]
+    pub(crate) fn price(&self, object: u32) -> i64
+        requires { object < self.now.table.objects }
+        ensures present { result ≡ (seen self.now).price object }
+        ensures range { IsPrice result }
+    {
+        let shard = shard_of(object, self.shards);
+        self.object_shards[shard as usize].price(object)
+    }
+
+    /// Who holds an object, if anybody does.
+    #[inline]
+    pub(crate) fn holder(&self, object: u32) -> Option<Held>
+        requires { object < self.now.table.objects }
+        ensures { result ≡ (seen self.now).holder object }
+    {
+        let shard = shard_of(object, self.shards);
+        self.object_shards[shard as usize].holder(object)
+    }
+
     /// Sets the end, if it isn't set yet.
+    #[inline]
     pub(crate) fn end_with(&mut self, end: End)
         ensures { self.new ≡ record self.old { end = first_end self.old.end end } }
     {
@@ -288,6 +356,7 @@ impl<'a> World<'a> {
     }
 
     /// A shard of the objects deals with a bid, and gives the letters that answer it.
+    #[inline]
     pub(crate) fn on_bid(
         &mut self,
         shard: u32,
@@ -310,6 +379,7 @@ impl<'a> World<'a> {
     }
 
     /// The price of an object, as a letter to a shard of the persons.
+    #[inline]
     pub(crate) fn price_letter(&self, shard: u32, object: u32, to: u32) -> Out
         requires known { shard < self.now.shards }
         requires owns { OwnsObject self.now shard object }
@@ -321,6 +391,7 @@ impl<'a> World<'a> {
     }
 
     /// Puts letters into the empty outbox of a shard of the objects.
+    #[inline]
     pub(crate) fn put_object_outs(&mut self, shard: u32, letters: ArrayVec<Out, 4>)
         requires known { shard < self.old.shards }
         requires reach { All (Reaches self.old.shards) letters.items }
@@ -330,6 +401,7 @@ impl<'a> World<'a> {
     }
 
     /// Puts a letter into the empty outbox of a shard of the objects.
+    #[inline]
     pub(crate) fn put_object_out(&mut self, shard: u32, out: Out)
         requires known { shard < self.old.shards }
         requires empty { object_out self.old shard ≡ [] }
@@ -341,6 +413,7 @@ impl<'a> World<'a> {
     }
 
     /// Posts a letter of a sender into the mail that it goes to.
+    #[inline]
     pub(crate) fn post(&mut self, sender: u32, out: Out) -> Result<u64, PostRefused>
         requires sender { sender < 2 * self.old.shards + 1 }
         requires reaches { Reaches self.old.shards out }
@@ -362,6 +435,7 @@ impl<'a> World<'a> {
     }
 
     /// Takes a letter out of a box, if one waits there.
+    #[inline]
     pub(crate) fn take(&mut self, mail: MailName, at: u32) -> Option<Letter>
         requires { at < boxes_in self.old.shards mail }
         ensures some { IfSome result (λ l. TakesOne (mail_named (seen self.old) mail) at l (mail_named (seen self.new) mail)) }
@@ -377,6 +451,7 @@ impl<'a> World<'a> {
     }
 
     /// What a take from a box gives.
+    #[inline]
     fn taken(&mut self, mail: MailName, at: u32) -> Taken<Letter>
         requires { at < boxes_in self.old.shards mail }
         ensures step { Step (mail_named (seen self.old) mail) (Call.Take at) (Reply.Took result) (mail_named (seen self.new) mail) }
@@ -390,6 +465,7 @@ impl<'a> World<'a> {
     }
 
     /// Whether there is such a box, and it is open.
+    #[inline]
     pub(crate) fn is_open(&self, mail: MailName, at: u32) -> bool
         ensures is { IsTrue result ↔ IsOpenBox (mail_named (seen self.now) mail) at }
         ensures sound { AreParts self.now }
@@ -402,6 +478,7 @@ impl<'a> World<'a> {
     }
 
     /// Closes a box.
+    #[inline]
     pub(crate) fn close(&mut self, mail: MailName, at: u32)
         requires { IsOpenBox (mail_named (seen self.old) mail) at }
         ensures step { Step (mail_named (seen self.old) mail) (Call.Close at) (Reply.WasOpen true) (mail_named (seen self.new) mail) }
@@ -415,6 +492,7 @@ impl<'a> World<'a> {
     }
 
     /// Counts a First letter, if fewer were counted than there are persons; the last of them ends the phase.
+    #[inline]
     pub(crate) fn count_first(&mut self)
         ensures { self.new ≡ counted_at self.old }
     {
@@ -428,6 +506,7 @@ impl<'a> World<'a> {
     }
 
     /// How the phase has ended, once it has. O(1).
+    #[inline]
     pub fn end(&self) -> Option<End>
         ensures { result ≡ (seen self.now).end }
     {
@@ -435,6 +514,7 @@ impl<'a> World<'a> {
     }
 
     /// The bid that a letter to a shard of the objects is, where it fits: the object is the shard's, and the amount is in range.
+    #[inline]
     pub(crate) fn offer_in(&self, shard: u32, letter: Letter) -> Option<Offer>
         ensures some { IfSome result (λ b. (letter ≡ Letter.Bid b.person b.arc b.object b.amount) × FitsBid (phase self.now) shard letter) }
         ensures owns { IfSome result (λ b. OwnsObject self.now shard b.object) }

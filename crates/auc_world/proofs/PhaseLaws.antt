@@ -1,0 +1,138 @@
+-- What a phase comes to: of all stops only those by a limit, and never a stall.
+use Rattle.std.proofs.Common.{ℕ, ℤ, pos, ◌<◌, ◌≡◌, ◌≢◌, List, Some, None, get_or, refl, subst, ap, ◌∙◌, arith, Contains}
+use Rattle.std.specs.Prelude.{All, ◌<ℤ◌, replicate, unsigned_abs}
+use Rattle.std.proofs.lemmas.Int.{ints}
+use Rattle.std.proofs.lemmas.List.{get_or-replicate, length-replicate}
+use Rattle.std.specs.List.{slice_get}
+use Rattle.std.proofs.lemmas.Option.{slice_get-get_or}
+use Rattle.auc_hall.proofs.Membership.{nothing}
+use Rattle.auc_graph.specs.declared.rows.RowArc.{RowArc}
+use Rattle.auc_graph.specs.Problem.{Problem}
+use Rattle.auc_graph.specs.Table.{IsTable, IsTableOf, Table}
+use Rattle.auc_hall.specs.Assignment.{IsRowAssignment}
+use Rattle.auc_hall.specs.Matching.{IsMatching}
+use Rattle.auc_hall.specs.declared.matching.Matching.{Matching}
+use Rattle.auc_hall.specs.declared.matching.Matching.TheVariants.{Full}
+use Rattle.auc_hall.proofs.ProblemLaws.{full_of}
+use Rattle.auc_letters.specs.declared.letter.Why.{Why}
+use Rattle.auc_model.specs.Bidding.{SomeoneStuck}
+use Rattle.auc_model.specs.Start.{Lawful, Starts}
+use Rattle.auc_model.specs.Still.{Rests}
+use Rattle.auc_model.specs.World.{Phase, World, phase_of}
+use Rattle.auc_model.specs.declared.turn.End.{End}
+use Rattle.auc_model.proofs.Rests.{rests_ended}
+use Rattle.auc_model.proofs.Theorems.{of_every_schedule, stuck_only}
+use Rattle.auc_letters.specs.Price.{IsEps, IsPrice}
+use Rattle.auc_world.specs.declared.answer.Answer.{Answer}
+use Rattle.auc_world.specs.declared.answer.Guard.{Guard}
+use Rattle.auc_world.specs.declared.gathering.Gathered.{Gathered}
+use Rattle.auc_world.specs.declared.limits.Limits.{Limits}
+use Rattle.auc_world.specs.declared.solving.Outcome.{Outcome}
+use Rattle.auc_world.specs.Gathering.{AreSales, IsGathered}
+use Rattle.auc_world.specs.Answers.{HasAssignment, IsAnswer, IsInfeasibleAnswer, IsOptimalAnswer, guard_of}
+use Rattle.auc_world.specs.Making.{ArePrices}
+use Rattle.auc_world.specs.Parts.{Parts, phase, seen}
+use Rattle.auc_world.specs.Phases.{ComesOf, IsPlayed, NobodyStuck}
+use Rattle.auc_world.specs.Rounds.{Rounds}
+use Rattle.auc_world.proofs.RoundLaws.{rounds_schedule}
+
+-- the world that a phase begins with, and the one that whole rounds lead to
+pub is_played : (p v : Parts) (g : Phase) (prices : List ℤ) → phase p ≡ g → Starts (phase p) (seen p) → ((j : ℕ) → (seen p).price j ≡ get_or prices j (pos 0)) → ((n : ℕ) × Rounds (phase p) (seen p) n (seen v)) → IsPlayed g prices (seen v)
+is_played p v g prices same starts fair rounds = record {
+  start = seen p;
+  starts = subst (λ (h : Phase). Starts h (seen p)) same starts;
+  prices_are = fair;
+  rounds = rounds.0;
+  played = subst (λ (h : Phase). Rounds h (seen p) rounds.0 (seen v)) same rounds.1;
+}
+
+pub nobody_stuck : (t : Table) (shards : ℕ) (eps : ℤ) → NobodyStuck t → SomeoneStuck (phase_of t shards eps) → ⊥
+nobody_stuck t shards eps all (i, l, none) = all i l none
+
+-- the guard that a stop stands for is that of the checker
+pub stopped_by_limit : (g : Phase) (prices : List ℤ) (v : World) (why : Why) → Lawful g → IsPlayed g prices v → (SomeoneStuck g → ⊥) → v.end ≡ Some (End.Stopped why) → guard_of why ≡ Guard.Check
+stopped_by_limit g prices v Why.Bids law is arcs e = refl
+stopped_by_limit g prices v Why.Ceiling law is arcs e = refl
+stopped_by_limit g prices v Why.Posts law is arcs e = refl
+stopped_by_limit g prices v Why.Trail law is arcs e = refl
+stopped_by_limit g prices v Why.Mail law is arcs e = refl
+stopped_by_limit g prices v Why.Stuck law is arcs e = let run = rounds_schedule g is.start is.rounds v is.played in absurd (arcs (stuck_only g is.start v run.0 law is.starts run.1 e))
+stopped_by_limit g prices v Why.Fell law is arcs e = let run = rounds_schedule g is.start is.rounds v is.played in absurd ((of_every_schedule g is.start v run.0 law is.starts run.1).0.0 e)
+stopped_by_limit g prices v Why.Stray law is arcs e = let run = rounds_schedule g is.start is.rounds v is.played in absurd ((of_every_schedule g is.start v run.0 law is.starts run.1).0.1 e)
+
+-- a round always moves something, until the end
+pub never_stalls : (g : Phase) (prices : List ℤ) (v : World) → Lawful g → 0 < g.persons → IsPlayed g prices v → Rests g v → v.end ≢ None
+never_stalls g prices v law some is rests = let run = rounds_schedule g is.start is.rounds v is.played in rests_ended g is.start v run.0 law some is.starts run.1 rests
+
+-- ---- a full assignment
+
+pub has_assignment : (p : Problem) (t : Table) (m : Matching) (numbers : List ℕ) → IsTableOf p t → IsMatching t m → m ≡ Full numbers → HasAssignment p
+has_assignment p t m numbers of h is =
+    let full = full_of p t numbers of (subst (IsMatching t) is h) in
+    (full.0, full.1)
+
+a_row_arc : RowArc
+a_row_arc = record { cost = pos 0; object = 0; arc = 0 }
+
+chosen_there : (t : Table) (choice : List RowArc) → IsRowAssignment t choice → NobodyStuck t
+chosen_there t choice is i l none =
+    let arc = get_or choice i a_row_arc in
+    let there : slice_get choice i ≡ Some arc = slice_get-get_or choice i a_row_arc (omega (arith, l, is.persons)) in
+    nothing arc (subst (λ (row : List RowArc). Contains row arc) none (is.own i arc there))
+
+pub all_have_arcs : (t : Table) (m : Matching) (numbers : List ℕ) → IsMatching t m → m ≡ Full numbers → NobodyStuck t
+all_have_arcs t m numbers h is = let full = subst (IsMatching t) is h in chosen_there t full.0 full.1
+
+-- ---- what a played phase comes to, of the parts of its worlds
+
+module _ (t : Table) (limits : Limits) (prices : List ℤ) (eps : ℤ) (table : IsTable t) (arcs : NobodyStuck t) (p v : Parts) (same : phase p ≡ phase_of t limits.shards eps) (lawful : Lawful (phase p)) (starts : Starts (phase p) (seen p))
+    (fair : (j : ℕ) → (seen p).price j ≡ get_or prices j (pos 0)) (rounds : (n : ℕ) × Rounds (phase p) (seen p) n (seen v)) (kept : phase v ≡ phase p) where
+  law : Lawful (phase_of t limits.shards eps)
+  law = subst Lawful same lawful
+
+  played : IsPlayed (phase_of t limits.shards eps) prices (seen v)
+  played = is_played p v (phase_of t limits.shards eps) prices same starts fair rounds
+
+  pub comes_to_sale : (gathered : Gathered) → (seen v).end ≡ Some End.All → IsGathered v gathered.holders.items gathered.prices.items → All IsPrice gathered.prices.items → ComesOf t limits.shards prices eps (Outcome.Sold gathered)
+  comes_to_sale gathered end sales range =
+      let objects : v.table.objects ≡ t.objects = ap (λ (h : Phase). h.objects) (kept ∙ same) in
+      (seen v, played, end, subst (λ (n : ℕ). AreSales n (seen v) gathered.holders.items gathered.prices.items) objects sales, range)
+
+  pub comes_to_stop : (why : Why) (guard : Guard) → (seen v).end ≡ Some (End.Stopped why) → guard ≡ guard_of why → ComesOf t limits.shards prices eps (Outcome.Broken guard)
+  comes_to_stop why guard end is =
+      let limit = stopped_by_limit (phase_of t limits.shards eps) prices (seen v) why law played (nobody_stuck t limits.shards eps arcs) end in
+      (seen v, why, played, end, limit, is ∙ limit)
+
+  pub comes_to_no_stall : (seen v).end ≡ None → Rests (phase v) (seen v) → ⊥
+  comes_to_no_stall end rests =
+      let some = table.some in
+      never_stalls (phase_of t limits.shards eps) prices (seen v) law (omega (arith, some)) played (subst (λ (h : Phase). Rests h (seen v)) (kept ∙ same) rests) end
+
+-- ---- from phase to phase
+
+pub first_prices : (t : Table) (n : ℕ) (prices : List ℤ) → n ≡ t.objects → prices ≡ replicate n (pos 0) → ArePrices t prices
+first_prices t n prices all is = rw is (record { each = length-replicate n (pos 0) ∙ all; within = All-replicate n })
+  where
+    zero_price : IsPrice (pos 0)
+    zero_price = record { low = omega (arith, ints); high = omega (arith, ints) }
+
+    All-replicate : (n : ℕ) → All IsPrice (replicate n (pos 0))
+    All-replicate n k d l = rw (get_or-replicate n k (pos 0) d (rw length-replicate at l)) zero_price
+
+pub later_prices : (t : Table) (shards : ℕ) (before : List ℤ) (eps : ℤ) (gathered : Gathered) → ComesOf t shards before eps (Outcome.Sold gathered) → ArePrices t gathered.prices.items
+later_prices t shards before eps gathered h = record { each = h.3.prices_are; within = h.4 }
+
+pub less_eps : (eps next : ℤ) → IsEps next → next <ℤ eps → unsigned_abs next < unsigned_abs eps
+less_eps eps next is l = let low = is.low in omega (arith, ints, low, l)
+
+-- ---- answers
+
+pub optimal_is : (p : Problem) (a : Answer) → HasAssignment p → IsOptimalAnswer p a → IsAnswer p a
+optimal_is p (Answer.Optimal cert) has h = h
+optimal_is p (Answer.Infeasible cert) has h = absurd h
+optimal_is p (Answer.Broken guard) has h = (h, has)
+
+pub infeasible_is : (p : Problem) (a : Answer) → IsInfeasibleAnswer p a → IsAnswer p a
+infeasible_is p (Answer.Optimal cert) h = absurd h
+infeasible_is p (Answer.Infeasible cert) h = h
+infeasible_is p (Answer.Broken guard) h = absurd h

@@ -1,0 +1,37 @@
+//! What a phase leaves: who holds each object, and its price.
+
+ghost use Rattle.std.specs.Prelude.{◌≡◌, ◌<◌, All, IfOk};
+ghost use Rattle.auc_letters.specs.Price.{IsPrice};
+ghost use Rattle.auc_world.specs.Gathering.{IsGathered};
+
+use crate::world::World;
+use auc_letters::Held;
+use std::alloc::{AllocError, Global};
+
+/// Who holds each object, and its price in scaled costs, both indexed by object.
+#[derive(Debug, Drop)]
+pub struct Gathered {
+    pub holders: Vec<Option<Held>>,
+    pub prices: Vec<i64>,
+}
+
+impl<'a> World<'a> {
+    /// Who holds each object, if anybody does, and the true prices, as they stand. Takes O(objects) time and memory.
+    ///
+    /// # Errors
+    ///
+    /// Only where memory was refused.
+    pub fn gather(&self, alloc: Global) -> Result<Gathered, AllocError>
+        ensures gathered { IfOk result (λ g. IsGathered self.now g.holders.items g.prices.items) }
+        ensures range { IfOk result (λ g. All IsPrice g.prices.items) }
+    {
+        let objects = self.objects();
+        let mut holders = Vec::with_capacity(alloc, objects as usize)?;
+        let mut prices = Vec::with_capacity(alloc, objects as usize)?;
+        for object in 0..objects {
+            holders.push(self.holder(object))?;
+            prices.push(self.price(object))?;
+        }
+        Ok(Gathered { holders, prices })
+    }
+}

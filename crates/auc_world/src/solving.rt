@@ -1,0 +1,111 @@
+//! The serial solver: epsilon scaling over phases, each a world of its own that is played in whole rounds.
+
+ghost use Rattle.std.specs.Prelude.{◌≡◌, IfOk};
+ghost use Rattle.auc_graph.specs.Table.{IsTableOf};
+ghost use Rattle.auc_letters.specs.Price.{IsEps};
+ghost use Rattle.auc_world.specs.Answers.{HasAssignment, IsAnswer};
+ghost use Rattle.auc_world.specs.Making.{AreLimits, ArePrices};
+ghost use Rattle.auc_world.specs.Phases.{ComesOf, NobodyStuck};
+
+use crate::answer::{Answer, Guard};
+use crate::eps::{first_eps, next_eps};
+use crate::finish::{guard_of, infeasible, optimal};
+use crate::gathering::Gathered;
+use crate::limits::Limits;
+use crate::world::World;
+use auc_graph::{ArcList, Rows};
+use auc_hall::{Matching, Partial, complete};
+use auc_model::End;
+use std::alloc::{AllocError, Global};
+
+/// What a phase comes to.
+#[derive(Drop)]
+pub(crate) enum Outcome {
+    /// Each person has an object.
+    Sold(Gathered),
+    /// It ended in another way.
+    Broken(Guard),
+}
+
+/// Plays one phase in whole rounds.
+fn play_phase(
+    alloc: Global,
+    rows: &Rows,
+    limits: &Limits,
+    prices: &[i64],
+    eps: i64,
+) -> Result<Outcome, AllocError>
+    requires limits { AreLimits limits.now }
+    requires prices { ArePrices rows.now prices.now }
+    requires eps { IsEps eps }
+    requires arcs { NobodyStuck rows.now }
+    ensures { IfOk result (ComesOf rows.now limits.now.shards prices.now eps) }
+{
+    let mut world = World::make(alloc, rows, limits, prices, eps)?;
+    match world.run() {
+        Some(End::All) => {
+            let gathered = world.gather(alloc)?;
+            Ok(Outcome::Sold(gathered))
+        }
+        Some(End::Stopped { why }) => Ok(Outcome::Broken(guard_of(why))),
+        None => Ok(Outcome::Broken(Guard::Stall)),
+    }
+}
+
+/// Solves a problem in which each person has an arc: a phase at each eps, and each begins with the prices of the one before.
+fn solve_rows(
+    alloc: Global,
+    problem: &ArcList,
+    rows: &Rows,
+    limits: &Limits,
+) -> Result<Answer, AllocError>
+    requires rows { IsTableOf problem.now rows.now }
+    requires limits { AreLimits limits.now }
+    requires arcs { NobodyStuck rows.now }
+    requires assignment { HasAssignment problem.now }
+    ensures { IfOk result (IsAnswer problem.now) }
+{
+    let mut prices = vec![in alloc; 0; rows.objects() as usize]?;
+    let mut eps = first_eps(rows);
+    loop {
+        let gathered = match play_phase(alloc, rows, limits, prices.as_slice(), eps)? {
+            Outcome::Sold(gathered) => gathered,
+            Outcome::Broken(guard) => return Ok(Answer::Broken(guard)),
+        };
+        let Some(next) = next_eps(eps) else {
+            return optimal(alloc, problem, gathered);
+        };
+        let Gathered { prices: kept, .. } = gathered;
+        prices = kept;
+        eps = next;
+    }
+}
+
+/// Solves a problem: an arc for each person, no object twice, of the least cost together; or persons who together know fewer
+/// objects than they number. Each claim has passed the checker.
+///
+/// First an assignment of any cost is searched ([`auc_hall::complete`]); where there is none, the answer is `Infeasible`.
+/// Else the auction algorithm with epsilon scaling (Bertsekas, 1979 and 1988) runs in phases, from prices of 0 at
+/// [`first_eps`] on, each next one at [`next_eps`] and the prices that the one before has left, all persons free. A phase is
+/// a new world that is played in whole rounds, in which every shard has its turns in order, until it ends.
+///
+/// `Broken` is answered only with the guard `Check`, where there is an assignment: a limit ended a phase, or the checker
+/// refused what the last phase claims. `limits.audit` isn't looked at.
+///
+/// Takes the time of the search and of the bids, each O(arcs of the person), and 28 bytes of memory an arc, the problem's own
+/// among them.
+///
+/// # Errors
+///
+/// Only where memory was refused.
+pub fn solve_serial(alloc: Global, problem: &ArcList, limits: &Limits) -> Result<Answer, AllocError>
+    requires { AreLimits limits.now }
+    ensures { IfOk result (IsAnswer problem.now) }
+{
+    let rows = Rows::build(alloc, problem)?;
+    let partial = Partial::new(alloc, &rows)?;
+    match complete(alloc, &rows, partial)? {
+        Matching::Hall { persons, objects } => infeasible(alloc, problem, persons, objects),
+        Matching::Full(_) => solve_rows(alloc, problem, &rows, limits),
+    }
+}

@@ -1,6 +1,5 @@
 -- What a completion of the empty partial assignment says of the problem.
-use Rattle.std.proofs.Common.{◌≡◌, ℕ, zero, suc, ◌+◌, ◌<◌, ◌≤◌, List, [], ◌∷◌, length, get_or, map, Option, Some, Result, Ok, Err, refl, sym, ap, subst, ◌∙◌, arith, Contains, pos, All}
-use Rattle.std.specs.Prelude.{IsErrAnd}
+use Rattle.std.proofs.Common.{◌≡◌, ℕ, zero, suc, ◌+◌, ◌<◌, ◌≤◌, List, [], ◌∷◌, length, get_or, map, Option, Some, refl, sym, ap, subst, ◌∙◌, arith, pos, All}
 use Rattle.std.specs.List.{slice_get, range_with_len}
 use Rattle.std.proofs.lemmas.List.{length-map}
 use Rattle.std.proofs.lemmas.List.Elements.{All-nil, All-cons}
@@ -8,29 +7,20 @@ use Rattle.std.proofs.lemmas.List.FromFn.{length-range_with_len}
 use Rattle.std.proofs.lemmas.Option.{slice_get_within, get_or_from_slice_get}
 use Rattle.auc_graph.specs.declared.arc.Arc.{Arc}
 use Rattle.auc_graph.specs.declared.limits.TheConstants.{MOST_PERSONS}
-use Rattle.auc_graph.specs.Problem.{Problem, IsProblem, IsWithin}
+use Rattle.auc_graph.specs.Problem.{Problem, IsProblem}
 use Rattle.auc_graph.specs.Table.{Table, IsTableOf}
 use Rattle.auc_graph.specs.Assignment.{IsAssignment, person_of}
-use Rattle.auc_hall.specs.OfProblem.{IsFullOf, IsHallSetOf}
+use Rattle.auc_hall.specs.OfProblem.{IsFullOf}
 use Rattle.auc_hall.specs.Matching.{IsMatching}
 use Rattle.auc_hall.specs.declared.matching.Matching.{Matching}
-use Rattle.auc_hall.specs.declared.matching.Matching.TheVariants.{Full, Hall}
+use Rattle.auc_hall.specs.declared.matching.Matching.TheVariants.{Full}
 use Rattle.auc_hall.proofs.ProblemLaws.{matching_of}
 use Rattle.auc_cert.specs.declared.lists.Pick.{Pick}
-use Rattle.auc_cert.specs.declared.cert.CertParts.{CertParts}
-use Rattle.auc_cert.specs.declared.cert.CertParts.TheVariants.{Infeasible}
-use Rattle.auc_cert.specs.Spelled.{AreNamed}
 use Rattle.auc_cert.specs.Claim.{chosen}
-use Rattle.auc_cert.proofs.HallLaws.{hall_set_named}
-use Rattle.auc_cert.proofs.ClaimLaws.{hall_sets_faultless}
 use Rattle.auc_run.specs.declared.command.Job.TheVariants.{Hall as HallJob}
-use Rattle.auc_run.specs.declared.input.ReadFault.{ReadFault}
-use Rattle.auc_run.specs.declared.found.Found.{Found}
-use Rattle.auc_run.specs.declared.refusal.Refusal.{Refusal}
-use Rattle.auc_run.specs.declared.refusal.Refusal.TheVariants.{NotRead}
-use Rattle.auc_run.specs.Completions.{IsHallCertificate, IsFoundIn, AnswersHall, completion_text, pick_at}
+use Rattle.auc_run.specs.Completions.{AnswersHall, completion_text, pick_at}
 use Rattle.auc_run.specs.Said.{Said}
-use Rattle.auc_run.proofs.VerdictLaws.{known, are_known}
+use Rattle.auc_run.proofs.ProblemLaws.{known, are_known}
 
 -- ---- a full assignment
 
@@ -88,37 +78,7 @@ slice_within arcs listed slice numbers same same2 all =
 pub full_within : (p : Problem) (numbers : List ℕ) → IsFullOf p numbers → All (λ n. n < length p.arcs) numbers
 full_within p numbers (choice, assigned, are) = all_within p.arcs numbers choice are
 
--- ---- a Hall set
-
-pub hall_is : (p : Problem) (t : Table) (m : Matching) (persons objects : List ℕ) → IsTableOf p t → IsMatching t m → m ≡ Hall persons objects → IsHallSetOf p persons objects
-hall_is p t m persons objects of h is = matching_of p t (Hall persons objects) of (subst (IsMatching t) is h)
-
-known_within : (p : Problem) (persons objects : List ℕ) → IsProblem p → IsHallSetOf p persons objects → (j : ℕ) → Contains objects j → j < p.objects
-known_within p persons objects is set j c =
-    let a = set.1 j c in
-    let within : IsWithin p.persons p.objects a.0 = subst (IsWithin p.persons p.objects) a.1.2 (is.within a.1.0 a.0 a.1.1) in
-    omega (arith, within.object, a.3)
-
-pub are_named : (p : Problem) (persons objects : List ℕ) → IsProblem p → IsHallSetOf p persons objects → AreNamed persons objects
-are_named p persons objects is set = hall_set_named p persons objects is set.0 (known_within p persons objects is set)
-
-pub is_hall_certificate : (p : Problem) (persons objects : List ℕ) (cert : CertParts) → IsProblem p → IsHallSetOf p persons objects → cert ≡ Infeasible persons objects → IsHallCertificate p cert
-is_hall_certificate p persons objects cert is set same =
-    let here : IsHallCertificate p (Infeasible persons objects) = record {
-      persons = persons;
-      objects = objects;
-      is = refl;
-      spelled = are_named p persons objects is set;
-      set = set;
-      faultless = hall_sets_faultless p persons objects set.0 (known_within p persons objects is set);
-    } in
-    subst (IsHallCertificate p) (sym same) here
-
 -- ---- at the exits of the job
-
-pub input_fails : (a : Option (List ℕ)) (r : Result Found Refusal) (e : ReadFault) → IsErrAnd r (λ x. x ≡ NotRead e) → IsFoundIn a r
-input_fails a (Ok x) e p = absurd p
-input_fails a (Err x) e p = subst (λ (y : Refusal). IsFoundIn a (Err y)) (sym p) (known a, are_known a, tt)
 
 -- the second reader plays no part
 pub is_said : (a b before after : Option (List ℕ)) (status : ℕ) → AnswersHall a before after status → Said HallJob a b before after status

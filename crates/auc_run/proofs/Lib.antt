@@ -1,4 +1,6 @@
+pub mod ProblemLaws
 pub mod VerdictLaws
 pub mod ScriptLaws
 pub mod ReplyLaws
 pub mod CompletionLaws
+pub mod SolutionLaws

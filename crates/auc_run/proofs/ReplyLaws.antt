@@ -15,7 +15,7 @@ use Rattle.auc_run.specs.declared.refusal.Refusal.TheVariants.{NotRead}
 use Rattle.auc_run.specs.declared.script.Script.{Script}
 use Rattle.auc_run.specs.Replies.{AnswersScript, AreReplies, AreRepliesTo, listed, replies_text}
 use Rattle.auc_run.specs.Said.{Said}
-use Rattle.auc_run.proofs.VerdictLaws.{known, are_known}
+use Rattle.auc_run.proofs.ProblemLaws.{known, are_known}
 
 is_empty : (boxes senders nodes most : ℕ) → IsEmpty {T = ℤ} (empty_mail boxes senders nodes most)
 is_empty boxes senders nodes most = ap (λ (n : ℕ). empty_mail n senders nodes most) (sym (length-replicate boxes true))

@@ -1,36 +1,22 @@
 -- What a search for a full assignment may find in a problem, the text that tells it, and which findings are right for the bytes of a problem.
-use Rattle.std.specs.Prelude.{◌≡◌, ◌≢◌, ℕ, List, ◌++◌, ◌≤◌, length, codes, slice_index_or, Option, None, Result, Ok, Err, ⊤, pos}
+use Rattle.std.specs.Prelude.{◌≡◌, ℕ, List, ◌++◌, ◌≤◌, length, codes, slice_index_or, Option, Result, Ok, Err, ⊤, pos}
 use Rattle.std.specs.Io.KnownBytes.{Appends}
-use Rattle.auc_graph.specs.declared.limits.TheConstants.{MOST_ARCS, MOST_PERSONS}
-use Rattle.auc_graph.specs.declared.read_error.ReadError.TheVariants.{NoMemory}
+use Rattle.auc_graph.specs.declared.limits.TheConstants.{MOST_PERSONS}
 use Rattle.auc_graph.specs.declared.arc.Arc.{Arc}
 use Rattle.auc_cert.specs.declared.lists.Pick.{Pick}
 use Rattle.auc_graph.specs.Problem.{Problem}
-use Rattle.auc_graph.specs.Reading.{reading}
 use Rattle.auc_graph.specs.Assignment.{IsAssignment}
-use Rattle.auc_hall.specs.OfProblem.{IsHallSetOf}
-use Rattle.auc_cert.specs.declared.cert.CertParts.{CertParts}
-use Rattle.auc_cert.specs.declared.cert.CertParts.TheVariants.{Infeasible}
-use Rattle.auc_cert.specs.Spelled.{IsSpelled}
 use Rattle.auc_cert.specs.Text.{text, assign_line, numbered, joined}
-use Rattle.auc_cert.specs.Claim.{chosen, fault_of}
+use Rattle.auc_cert.specs.Claim.{chosen}
+use Rattle.auc_world.specs.Answers.{IsHallCertificate}
 use Rattle.auc_run.specs.declared.found.Found.{Found}
 use Rattle.auc_run.specs.declared.found.Found.TheVariants.{Full, Hall}
 use Rattle.auc_run.specs.declared.refusal.Refusal.{Refusal}
-use Rattle.auc_run.specs.declared.refusal.Refusal.TheVariants.{NotRead, NoProblem, NoCertificate, Invalid, NoScript, NoMemory as NoMemoryForJob}
 use Rattle.auc_run.specs.declared.status.TheConstants.{FULL, INFEASIBLE}
 use Rattle.auc_run.specs.Lines.{counted, refusal_line}
 use Rattle.auc_run.specs.Statuses.{refusal_status}
 use Rattle.auc_run.specs.Verdicts.{IsProblemOf, AreKnown}
-
--- A certificate that names persons who together know too few objects, and of the objects just those that they know. The checker finds no fault in it.
-pub record IsHallCertificate (p : Problem) (cert : CertParts) : Type 0 where
-  pub persons : List ℕ
-  pub objects : List ℕ
-  pub is : cert ≡ Infeasible persons objects
-  pub spelled : IsSpelled cert
-  pub set : IsHallSetOf p persons objects
-  pub faultless : fault_of p cert ≡ None
+use Rattle.auc_run.specs.Problems.{BearOutRefusal}
 
 -- the pick by an arc
 abbrev pub pick_by : Arc → Pick
@@ -44,15 +30,10 @@ abbrev pub IsFound : Problem → Found → Type 0
 IsFound p (Full choice) = IsAssignment p (chosen 0 choice)
 IsFound p (Hall cert) = IsHallCertificate p cert
 
--- The bytes of a problem bear out what was found, or the refusal. Of a read that failed, of too many reads and of want of memory nothing is known.
+-- the bytes of a problem bear out what was found, or the refusal
 abbrev pub BearOutFound : List ℕ → Result Found Refusal → Type 0
 BearOutFound file (Ok found) = (p : Problem) × IsProblemOf file p × IsFound p found
-BearOutFound file (Err (NoProblem error)) = error ≢ NoMemory → reading MOST_ARCS file ≡ Err error
-BearOutFound file (Err (NotRead fault)) = ⊤
-BearOutFound file (Err NoMemoryForJob) = ⊤
-BearOutFound file (Err (NoCertificate error)) = ⊥
-BearOutFound file (Err (Invalid error)) = ⊥
-BearOutFound file (Err (NoScript error)) = ⊥
+BearOutFound file (Err refusal) = BearOutRefusal file refusal
 
 -- what was found in the problem that a reader has
 abbrev pub IsFoundIn : Option (List ℕ) → Result Found Refusal → Type 0

@@ -1,7 +1,10 @@
 pub mod Lines
 pub mod Statuses
 pub mod Verdicts
+pub mod Problems
 pub mod Completions
+pub mod Solutions
+pub mod Jobs
 pub mod Said
 pub mod Script
 pub mod ScriptRanges

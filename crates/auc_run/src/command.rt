@@ -7,23 +7,39 @@ ghost use Rattle.auc_cert.specs.Spelled.{IsSpelled};
 ghost use Rattle.auc_run.specs.Lines.{verdict_line};
 ghost use Rattle.auc_run.specs.Statuses.{verdict_status};
 ghost use Rattle.auc_run.specs.Verdicts.{Judges, IsVerdict, said_by};
+ghost use Rattle.auc_run.specs.Jobs.{IsInRange};
 ghost use Rattle.auc_run.specs.Said.{Said};
 
 use crate::hall::answer_hall;
 use crate::input::read_all;
 use crate::lines::{status_of, write_verdict};
 use crate::mail::answer_script;
+use crate::problem::problem_of;
 use crate::refusal::Refusal;
+use crate::solve::answer_solve;
 use crate::status::UNWRITTEN;
 use crate::valid::Valid;
 use auc_cert::{Cert, CertParts, check, read_cert};
-use auc_graph::{ArcList, MOST_ARCS, MOST_READS, ReadLimits, read_arcs};
+use auc_graph::{ArcList, MOST_ARCS, MOST_READS};
 use std::alloc::Global;
 use std::io::{Read, Write};
+
+/// The most bids that a solve may allow for a phase.
+pub const MOST_BIDS: u64 = 1_000_000_000_000;
 
 /// What the program is to do.
 #[derive(Clone, Copy, Debug, PartialEq, Eq)]
 pub enum Job {
+    /// Reads a problem from the first reader, and finds an assignment of least cost with prices that show it, or persons who
+    /// together know too few objects.
+    Solve {
+        /// How many threads do the work of each kind of shard; 0 for none, and so far always 0.
+        workers: u32,
+        /// How many bids each shard of the persons may make in a phase: 1 to [`MOST_BIDS`].
+        bids: u64,
+        /// How many calls the trail of each mail may note; so far always 0, for no trail.
+        audit: u32,
+    },
     /// Reads a problem from the first reader and a certificate from the second, and says whether what the certificate
     /// claims of the problem holds.
     Check,
@@ -68,10 +84,7 @@ fn verdict_of<R: Read, Q: Read>(
     ensures verdict { IsVerdict (R.remaining reader.old) (Q.remaining second.old) result }
     ensures unread { IfSome (R.remaining reader.old) (λ file. IsErr (reading MOST_ARCS file) → second.new ≡ second.old) }
 {
-    let bytes = read_all(alloc, reader, MOST_READS)?;
-    let problem = read_arcs(alloc, bytes.as_slice(), ReadLimits::usual())?;
-    // The text of a large problem takes as much memory as its arcs.
-    drop(bytes);
+    let problem = problem_of(alloc, reader)?;
     let bytes = read_all(alloc, second, MOST_READS)?;
     let cert = read_cert(alloc, bytes.as_slice())?;
     judge(alloc, &problem, &cert)
@@ -93,8 +106,10 @@ fn answer<W: Write>(writer: &mut W, verdict: Result<Valid, Refusal>) -> u8
 ///
 /// Nothing is promised of what was written where the status is [`UNWRITTEN`]: a write failed, or took no bytes.
 ///
+/// A solve takes the time of the auction, by [`auc_world::solve_serial`], and of one check; its memory is that of the input
+/// while it is read, and then 28 bytes an arc and what its shards and mails take, which is linear in the persons.
 /// A check takes O(bytes) time; its memory is that of one input at a time, and 16 bytes an arc. A hall takes that and the
-/// time of its search, see [`auc_hall::complete`], and 32 bytes an arc. A mail takes the time of its
+/// time of its search, see [`auc_hall::complete`], and 28 bytes an arc. A mail takes the time of its
 /// calls, and memory for its lanes, its letters and a reply for each call.
 pub fn run_command<R: Read, Q: Read, W: Write>(
     alloc: Global,
@@ -103,6 +118,8 @@ pub fn run_command<R: Read, Q: Read, W: Write>(
     second: &mut Q,
     writer: &mut W,
 ) -> u8
+    // The job's numbers are those that its fields allow.
+    requires range { IsInRange job.now }
     // What was written and the status are right for the bytes that were read.
     ensures said { result ≢ UNWRITTEN → Said job.now (R.remaining reader.old) (Q.remaining second.old) (W.contents writer.old) (W.contents writer.new) result }
     // A certificate for what is no problem is left unread.
@@ -111,6 +128,7 @@ pub fn run_command<R: Read, Q: Read, W: Write>(
     ensures alone { job.now ≢ Job.Check → second.new ≡ second.old }
 {
     match job {
+        Job::Solve { bids, .. } => answer_solve(alloc, reader, writer, *bids),
         Job::Check => answer(writer, verdict_of(alloc, reader, second)),
         Job::Hall => answer_hall(alloc, reader, writer),
         Job::Mail => answer_script(alloc, reader, writer),

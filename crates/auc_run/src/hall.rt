@@ -6,12 +6,12 @@ ghost use Rattle.auc_cert.specs.Spelled.{AreNamed};
 ghost use Rattle.auc_run.specs.Completions.{IsFound, IsFoundIn, IsSmall, AnswersHall, found_text, found_status, completion_text, completion_status, pick_at};
 
 use crate::found::Found;
-use crate::input::read_all;
 use crate::lines::{status_of_refusal, write_counted, write_refusal};
+use crate::problem::problem_of;
 use crate::refusal::Refusal;
 use crate::status::{FULL, INFEASIBLE, UNWRITTEN};
 use auc_cert::{Cert, CertParts, Pick, Picks, WriteFault, write_cert, write_picks};
-use auc_graph::{Arc, ArcList, Indices, MOST_READS, ReadLimits, Rows, read_arcs};
+use auc_graph::{Arc, ArcList, Indices, Rows};
 use auc_hall::{Matching, Partial, complete};
 use std::alloc::{AllocError, Global};
 use std::io::{Read, Write};
@@ -65,10 +65,7 @@ fn found_of<R: Read>(alloc: Global, reader: &mut R) -> Result<Found, Refusal>
     ensures found { IsFoundIn (R.remaining reader.old) result }
     ensures small { IfOk result IsSmall }
 {
-    let bytes = read_all(alloc, reader, MOST_READS)?;
-    let problem = read_arcs(alloc, bytes.as_slice(), ReadLimits::usual())?;
-    // The text of a large problem takes as much memory as its arcs.
-    drop(bytes);
+    let problem = problem_of(alloc, reader)?;
     let found = found_in(alloc, &problem)?;
     Ok(found)
 }

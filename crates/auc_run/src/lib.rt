@@ -11,15 +11,17 @@ mod hall;
 mod input;
 mod lines;
 mod mail;
+mod problem;
 mod refusal;
 mod replies;
 mod script;
 mod script_error;
 mod script_reading;
+mod solve;
 pub mod status;
 mod valid;
 
-pub use command::{Job, run_command};
+pub use command::{Job, MOST_BIDS, run_command};
 pub use found::Found;
 pub use input::{ReadFault, read_all};
 pub use refusal::Refusal;

@@ -1,5 +1,8 @@
 //! The statuses of the program.
 
+/// A least-cost assignment was found.
+pub const OPTIMAL: u8 = 0;
+
 /// The claim holds.
 pub const VALID: u8 = 0;
 
@@ -23,6 +26,9 @@ pub const REFUSED: u8 = 5;
 
 /// Memory ran out.
 pub const NO_MEMORY: u8 = 6;
+
+/// A guard of the solver was hit: there is no answer.
+pub const BROKEN: u8 = 7;
 
 /// The answer was not written, or not all of it.
 pub const UNWRITTEN: u8 = 8;

@@ -1,9 +1,11 @@
 -- What the grammar makes of the words of each command.
 use Rattle.std.proofs.Common.{◌≡◌, ◌==◌, true, false, List, [], ◌∷◌, Option, Some, None, Result, Ok, Err, codes, option_map, unwrap_or, refl, ap, ◌∙◌}
 use Rattle.std.proofs.lemmas.Bool.{ne_eqb}
-use Rattle.std.specs.Prelude.{Box}
+use Rattle.std.specs.Prelude.{Box, IfOk}
 use Rattle.std.specs.Box.{box_value}
-use Rattle.clap.specs.Words.{Row, Text, first_of, is_simple, subcommand_name_of, subcommand_of, subcommand_rows, subcommand_rows_of, takes}
+use Rattle.clap.specs.declared.builder.command.Command.{Command}
+use Rattle.clap.specs.declared.builder.command.Command.TheViews.{out-Command as fields_of}
+use Rattle.clap.specs.Words.{AddsSubcommand, App, Row, Text, app_of, first_of, is_simple, subcommand_name_of, subcommand_of, subcommand_rows, subcommand_rows_of, takes, with_subcommand}
 use Rattle.clap.specs.declared.parser.matches.ArgMatches.{ArgMatches}
 use Rattle.clap.specs.declared.parser.matches.ArgMatches.TheViews.{out-ArgMatches, out-SubCommand}
 use Rattle.clap.specs.declared.parser.matches.SubCommand.{SubCommand}
@@ -17,6 +19,15 @@ use Rattle.auction.specs.CommandLine.{IsName, AreCheck, AreJob, HasFilesOf, HasN
 -- the command, and the file and the certificate among its matches
 abbrev pub files_in : Option (Text × List Row) → Option (Text × Option Text × Option Text)
 files_in = option_map (λ p. (p.0, first_of (codes "file") p.1, first_of (codes "cert") p.1))
+
+-- one more subcommand of a known grammar
+pub adds : (old sub new : Command) (a b : App) → AddsSubcommand old sub new → (fields_of sub).has_globals ≡ false → app_of old ≡ a → app_of sub ≡ b → app_of new ≡ with_subcommand a b.top
+adds old sub new a b h local is of = h.shape local ∙ ap (λ (x : App). with_subcommand x (app_of sub).top) is ∙ ap (λ (x : App). with_subcommand a x.top) of
+
+pub adds_last : {E : Type 0} (old sub : Command) (r : Result Command E) (a b : App) → IfOk r (AddsSubcommand old sub) → (fields_of sub).has_globals ≡ false → app_of old ≡ a → app_of sub ≡ b
+    → IfOk r (λ c. app_of c ≡ with_subcommand a b.top)
+adds_last old sub (Ok new) a b h local is of = adds old sub new a b h local is of
+adds_last old sub (Err e) a b h local is of = tt
 
 pub grammar_is_simple : is_simple grammar ≡ true
 unfolding clap_on_literals
@@ -140,6 +151,32 @@ mail_taken words (Some name) h = ap (takes grammar) h.1 ∙ takes_mail name h.0
 pub mail_named : (words : List Text) (name : Option Text) → AreJob (codes "mail") words name → name_in (codes "script") (subcommand_of grammar words) ≡ Some (codes "mail", name)
 mail_named words None h = ap (λ (w : List Text). name_in (codes "script") (subcommand_of grammar w)) h ∙ names_bare_mail
 mail_named words (Some name) h = ap (λ (w : List Text). name_in (codes "script") (subcommand_of grammar w)) h.1 ∙ names_mail name h.0
+
+takes_solve : (name : Text) → IsName name → takes grammar (codes "solve" ∷ name ∷ []) ≡ true
+unfolding clap_on_literals
+takes_solve [] h = refl
+takes_solve (b ∷ bytes) h = let e : (b == 45) ≡ false = ne_eqb b 45 h in simp e
+
+names_solve : (name : Text) → IsName name → name_in (codes "file") (subcommand_of grammar (codes "solve" ∷ name ∷ [])) ≡ Some (codes "solve", Some name)
+unfolding clap_on_literals
+names_solve [] h = refl
+names_solve (b ∷ bytes) h = let e : (b == 45) ≡ false = ne_eqb b 45 h in simp e
+
+takes_bare_solve : takes grammar (codes "solve" ∷ []) ≡ true
+unfolding clap_on_literals
+takes_bare_solve = refl
+
+names_bare_solve : name_in (codes "file") (subcommand_of grammar (codes "solve" ∷ [])) ≡ Some (codes "solve", None)
+unfolding clap_on_literals
+names_bare_solve = refl
+
+pub solve_taken : (words : List Text) (name : Option Text) → AreJob (codes "solve") words name → takes grammar words ≡ true
+solve_taken words None h = ap (takes grammar) h ∙ takes_bare_solve
+solve_taken words (Some name) h = ap (takes grammar) h.1 ∙ takes_solve name h.0
+
+pub solve_named : (words : List Text) (name : Option Text) → AreJob (codes "solve") words name → name_in (codes "file") (subcommand_of grammar words) ≡ Some (codes "solve", name)
+solve_named words None h = ap (λ (w : List Text). name_in (codes "file") (subcommand_of grammar w)) h ∙ names_bare_solve
+solve_named words (Some name) h = ap (λ (w : List Text). name_in (codes "file") (subcommand_of grammar w)) h.1 ∙ names_solve name h.0
 
 -- the name of the matches is the one that was asked for
 pub asks_for : (job : Job) (command id : Text) (r : Result Words WordsError) (rows : List Row) (sub : Option (Text × List Row)) (name : Option Text) → HasNameOf job id r rows → Some rows ≡ option_map (λ p. p.1) sub

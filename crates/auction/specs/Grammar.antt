@@ -18,6 +18,10 @@ hall_grammar = with_rule (on_top (λ s. record s { disable_help_flag = true }) (
 abbrev pub mail_grammar : App
 mail_grammar = with_rule (on_top (λ s. record s { disable_help_flag = true }) (new_app (codes "mail"))) (new_rule (codes "script"))
 
+-- `solve [FILE]`
+abbrev pub solve_grammar : App
+solve_grammar = with_rule (on_top (λ s. record s { disable_help_flag = true }) (new_app (codes "solve"))) (new_rule (codes "file"))
+
 -- no help, no version, and a command has to be named
 abbrev pub bare_grammar : App
 bare_grammar = on_top (λ s. record s {
@@ -29,4 +33,4 @@ bare_grammar = on_top (λ s. record s {
 }) (new_app (codes "auction"))
 
 abbrev pub grammar : App
-grammar = with_subcommand (with_subcommand (with_subcommand bare_grammar check_grammar.top) hall_grammar.top) mail_grammar.top
+grammar = with_subcommand (with_subcommand (with_subcommand (with_subcommand bare_grammar check_grammar.top) hall_grammar.top) mail_grammar.top) solve_grammar.top

@@ -1,6 +1,9 @@
 //! The program: the words of its command line, the files that they name, and the job over them.
 #![tactic(auto)]
 
+ghost use Rattle.std.specs.Prelude.{IfOk};
+ghost use Rattle.auc_run.specs.Jobs.{IsInRange};
+
 mod asked;
 #[cfg(test)]
 mod tests;
@@ -19,7 +22,9 @@ use words::read_words;
 use words_error::WordsError;
 
 /// The words that the program was started with. One that is not UTF-8 is at fault.
-fn given_words<R: Env + AllocGlobal>(rt: &R) -> Result<Words, WordsError> {
+fn given_words<R: Env + AllocGlobal>(rt: &R) -> Result<Words, WordsError>
+    ensures { IfOk result (λ w. IsInRange w.job) }
+{
     let alloc = rt.alloc();
     let all = match std::env::args(rt) {
         Ok(all) => all,
@@ -38,7 +43,9 @@ fn answer<R: Print + AllocGlobal, A: Read, B: Read>(
     job: &Job,
     first: &mut A,
     second: &mut B,
-) -> u8 {
+) -> u8
+    requires { IsInRange job.now }
+{
     let alloc = rt.alloc();
     let Ok(mut writer) = BufWriter::new(alloc, io::writer(rt)) else {
         return NO_MEMORY;
@@ -66,7 +73,9 @@ fn with_second<R: Files + Input + Print + Eprint + AllocGlobal, A: Read>(
     rt: &R,
     words: &Words,
     first: &mut A,
-) -> u8 {
+) -> u8
+    requires { IsInRange words.now.job }
+{
     match &words.second {
         Some(name) => match open(rt, name.as_str()) {
             Some(mut second) => answer(rt, &words.job, first, &mut second),
@@ -77,7 +86,9 @@ fn with_second<R: Files + Input + Print + Eprint + AllocGlobal, A: Read>(
 }
 
 /// Opens the first file, then the second, before anything is read, and does the job.
-fn with_files<R: Files + Input + Print + Eprint + AllocGlobal>(rt: &R, words: &Words) -> u8 {
+fn with_files<R: Files + Input + Print + Eprint + AllocGlobal>(rt: &R, words: &Words) -> u8
+    requires { IsInRange words.now.job }
+{
     match &words.first {
         Some(name) => match open(rt, name.as_str()) {
             Some(mut first) => with_second(rt, words, &mut first),

@@ -81,6 +81,34 @@ fn names_of_problems(rt: HostRuntime) -> Result<(), Fail> {
     Ok(())
 }
 
+/// A solve without numbers is one with no threads, the usual bids and no trail.
+#[test]
+fn names_of_problems_to_solve(rt: HostRuntime) -> Result<(), Fail> {
+    let usual = Job::Solve {
+        workers: 0,
+        bids: 100_000_000,
+        audit: 0,
+    };
+    for (line, file) in [
+        ("solve", None),
+        ("solve --", None),
+        ("solve a", Some("a")),
+        ("solve -", Some("-")),
+        ("solve -- -a", Some("-a")),
+        ("solve solve", Some("solve")),
+    ] {
+        let words = read(&rt, line)?;
+        assert_eq!(rt; words.job, usual, "{line}");
+        assert_eq!(rt;
+            words.first.as_ref().map(|name| name.as_str()),
+            file,
+            "{line}"
+        );
+        assert_eq!(rt; words.second, None, "{line}");
+    }
+    Ok(())
+}
+
 #[test]
 fn other_words(rt: HostRuntime) {
     for line in [
@@ -109,7 +137,17 @@ fn other_words(rt: HostRuntime) {
         "help mail",
         "chec a",
         "Check a",
-        "solve a",
+        "solve a b",
+        "solve --help",
+        "solve -h",
+        "solve --file a",
+        "solve -x",
+        "solve --workers 0",
+        "solve a --workers 1",
+        "solve --bids 1 a",
+        "solve --audit 5",
+        "solv a",
+        "help solve",
         "a check",
         "-- check a",
         "--help",

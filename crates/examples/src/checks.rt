@@ -17,7 +17,7 @@ pub const TWO_BEST: &str =
     "auction 1\noptimal 2 3\nassign 1 2 2\nassign 2 1 1\nprice 1 7\nprice 2 5\n";
 
 /// Three persons, three objects.
-const THREE: &str = "3\n1 1 4 1 2 1 1 3 3\n2 1 2 2 2 0 2 3 5\n3 1 3 3 2 2 3 3 2\n";
+pub const THREE: &str = "3\n1 1 4 1 2 1 1 3 3\n2 1 2 2 2 0 2 3 5\n3 1 3 3 2 2 3 3 2\n";
 
 /// What a check of these texts writes, and its status.
 pub fn checked(rt: &HostRuntime, file: &str, cert: &str) -> (Vec<u8>, u8) {

@@ -11,15 +11,15 @@ use std::io::ErrorKind;
 use std::test::*;
 
 /// Two persons who both know the first object alone.
-const ONE_OBJECT: &str = "2\n1 1 5\n2 1 7\n";
+pub const ONE_OBJECT: &str = "2\n1 1 5\n2 1 7\n";
 
 /// The certificate that names them.
-const ONE_OBJECT_CERT: &str = "auction 1\ninfeasible 2 1\nperson 1\nperson 2\nobject 1\n";
+pub const ONE_OBJECT_CERT: &str = "auction 1\ninfeasible 2 1\nperson 1\nperson 2\nobject 1\n";
 
 /// The second person has no arc.
-const NO_OBJECT: &str = "2\n1 1 1\n";
+pub const NO_OBJECT: &str = "2\n1 1 1\n";
 
-const NO_OBJECT_CERT: &str = "auction 1\ninfeasible 1 0\nperson 2\n";
+pub const NO_OBJECT_CERT: &str = "auction 1\ninfeasible 1 0\nperson 2\n";
 
 /// What a hall of this problem writes, and its status.
 fn completed(rt: &HostRuntime, file: &str) -> (Vec<u8>, u8) {

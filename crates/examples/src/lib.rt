@@ -13,3 +13,5 @@ mod fakes;
 mod halls;
 #[cfg(test)]
 mod mails;
+#[cfg(test)]
+mod solves;

@@ -1,4 +1,5 @@
-use Rattle.auc_run.proofs.CompletionLaws.{full_is, full_within, slice_within, picks_are, full_found, is_small, hall_is, are_named, is_hall_certificate}
+use Rattle.auc_run.proofs.CompletionLaws.{full_is, full_within, slice_within, picks_are, full_found, is_small}
+use Rattle.auc_world.proofs.HallCertificates.{hall_is, are_named, is_hall_certificate}
 use Rattle.auc_run.proofs.hall.found_in.Goals as goal
 
 pub picks_of-requires : goal.picks_of-requires

@@ -1,0 +1,23 @@
+//! The turns of the first two shards of each kind, by name.
+
+use auc_model::Turn;
+
+pub const BID: Turn = Turn::Bid { shard: 0 };
+
+pub const PERSON_POST: Turn = Turn::PersonPost { shard: 0 };
+
+pub const PERSON_TAKE: Turn = Turn::PersonTake { shard: 0 };
+
+pub const OBJECT_TAKE: Turn = Turn::ObjectTake { shard: 0 };
+
+pub const OBJECT_POST: Turn = Turn::ObjectPost { shard: 0 };
+
+pub const OTHER_BID: Turn = Turn::Bid { shard: 1 };
+
+pub const OTHER_PERSON_POST: Turn = Turn::PersonPost { shard: 1 };
+
+pub const OTHER_PERSON_TAKE: Turn = Turn::PersonTake { shard: 1 };
+
+pub const OTHER_OBJECT_TAKE: Turn = Turn::ObjectTake { shard: 1 };
+
+pub const OTHER_OBJECT_POST: Turn = Turn::ObjectPost { shard: 1 };

@@ -1,0 +1,205 @@
+//! Writes a problem for the solver, with a full assignment planted in it.
+//!
+//!     generate share PERSONS PERCENT MOST SEED FILE      so many in a hundred of all pairs, and the planted ones
+//!     generate uniform PERSONS DEGREE MOST SEED FILE     objects drawn from all
+//!     generate plane PERSONS NEAREST SEED FILE           the nearest of points in a square
+//!     generate few PERSONS CHEAP DEGREE SEED FILE        a price war: all persons want the same few cheap objects
+//!     generate levels PERSONS DEGREE MOST SEED FILE      a price war: each arc costs 1 or MOST
+//!
+//! There are as many objects as persons. No person knows an object twice, and the planted arcs have costs like the others: they
+//! see to it that there is a full assignment, and say nothing of a least one. The arcs stand in the order of the persons, and
+//! those of a person in the order of the objects, as in the sparse files of the OR-Library.
+//!
+//! Of share and uniform, costs are drawn from 1 to MOST; of levels, a coin falls for each arc. Of uniform and levels, each
+//! person knows DEGREE objects, the planted one among them.
+//!
+//! Of plane, persons and objects are points of a square with sides of `SIDE`, drawn one by one; the cost of an arc is the
+//! distance, rounded. A person knows the NEAREST objects and the planted one. That one may be anywhere, so its arc is
+//! a long one, by which a person leaves a crowd.
+//!
+//! Of few, each person knows DEGREE of the CHEAP first objects, at costs from 1 to `MOST_CHEAP`, and one dear object, at costs
+//! from `LEAST_DEAR` to `MOST_DEAR`. Those whose planted object is a cheap one have a dear one that is drawn. So the
+//! prices of the cheap objects rise until most persons prefer their dear one.
+
+use std::fs::File;
+use std::io::{BufWriter, Result, Write};
+
+const USAGE: &str = "usage: generate share|uniform|plane|few|levels PERSONS NUMBER [NUMBER] SEED FILE";
+const MOST_PERSONS: usize = 10_000;
+const MOST_COST: usize = 1_000_000_000;
+const MOST_ARCS: usize = 33_554_432;
+
+const SIDE: usize = 10_000;
+const MOST_CHEAP: usize = 10;
+const LEAST_DEAR: usize = 9_000;
+const MOST_DEAR: usize = 10_000;
+
+/// The generator `splitmix64` of Sebastiano Vigna, in the public domain.
+struct Random(u64);
+
+impl Random {
+    fn next(&mut self) -> u64 {
+        self.0 = self.0.wrapping_add(0x9e37_79b9_7f4a_7c15);
+        let mut z = self.0;
+        z = (z ^ (z >> 30)).wrapping_mul(0xbf58_476d_1ce4_e5b9);
+        z = (z ^ (z >> 27)).wrapping_mul(0x94d0_49bb_1331_11eb);
+        z ^ (z >> 31)
+    }
+
+    /// A number below this one, which is not 0.
+    fn below(&mut self, bound: usize) -> usize {
+        ((u128::from(self.next()) * bound as u128) >> 64) as usize
+    }
+
+    /// A number from the first to the second.
+    fn between(&mut self, least: usize, most: usize) -> usize {
+        least + self.below(most - least + 1)
+    }
+
+    /// The numbers below `count` in any order.
+    fn order(&mut self, count: usize) -> Vec<usize> {
+        let mut numbers: Vec<usize> = (0..count).collect();
+        for last in (1..count).rev() {
+            numbers.swap(last, self.below(last + 1));
+        }
+        numbers
+    }
+}
+
+/// An arc of a person.
+struct Arc {
+    object: usize,
+    cost: usize,
+}
+
+/// The arcs of each person, in the order of the file.
+type Rows = Vec<Vec<Arc>>;
+
+fn require_cost(most: usize) {
+    assert!((1..=MOST_COST).contains(&most), "MOST goes from 1 to {MOST_COST}");
+}
+
+fn share(persons: usize, percent: usize, most: usize, random: &mut Random) -> Rows {
+    require_cost(most);
+    assert!(percent <= 100, "PERCENT goes from 0 to 100");
+    let planted = random.order(persons);
+    let mut row_of = |planted: usize| {
+        let mut row = Vec::new();
+        for object in 0..persons {
+            if object == planted || random.below(100) < percent {
+                row.push(Arc { object, cost: random.between(1, most) });
+            }
+        }
+        row
+    };
+    planted.into_iter().map(|object| row_of(object)).collect()
+}
+
+/// So many objects for each person, the planted one among them, in rising order; the cost of each arc is drawn.
+fn drawn(persons: usize, degree: usize, random: &mut Random, cost: impl Fn(&mut Random) -> usize) -> Rows {
+    assert!((1..=persons).contains(&degree), "DEGREE goes from 1 to PERSONS");
+    let planted = random.order(persons);
+    let mut known_to = vec![usize::MAX; persons];
+    let mut row_of = |person: usize, planted: usize| {
+        let mut objects = vec![planted];
+        known_to[planted] = person;
+        while objects.len() < degree {
+            let object = random.below(persons);
+            if known_to[object] != person {
+                known_to[object] = person;
+                objects.push(object);
+            }
+        }
+        objects.sort_unstable();
+        objects.into_iter().map(|object| Arc { object, cost: cost(random) }).collect()
+    };
+    planted.into_iter().enumerate().map(|(person, object)| row_of(person, object)).collect()
+}
+
+fn uniform(persons: usize, degree: usize, most: usize, random: &mut Random) -> Rows {
+    require_cost(most);
+    drawn(persons, degree, random, |random| random.between(1, most))
+}
+
+fn levels(persons: usize, degree: usize, most: usize, random: &mut Random) -> Rows {
+    require_cost(most);
+    drawn(persons, degree, random, |random| if random.below(2) == 0 { 1 } else { most })
+}
+
+fn distance((x, y): (usize, usize), (u, v): (usize, usize)) -> usize {
+    (x.abs_diff(u) as f64).hypot(y.abs_diff(v) as f64).round() as usize
+}
+
+fn plane(persons: usize, nearest: usize, random: &mut Random) -> Rows {
+    assert!((1..=persons).contains(&nearest), "NEAREST goes from 1 to PERSONS");
+    let mut points = || -> Vec<(usize, usize)> { (0..persons).map(|_| (random.below(SIDE), random.below(SIDE))).collect() };
+    let (places, objects) = (points(), points());
+    let planted = random.order(persons);
+    let row_of = |place: (usize, usize), planted: usize| {
+        let costs = objects.iter().map(|point| distance(place, *point));
+        let mut arcs: Vec<Arc> = costs.enumerate().map(|(object, cost)| Arc { object, cost }).collect();
+        arcs.select_nth_unstable_by_key(nearest - 1, |arc| (arc.cost, arc.object));
+        arcs.truncate(nearest);
+        if arcs.iter().all(|arc| arc.object != planted) {
+            arcs.push(Arc { object: planted, cost: distance(place, objects[planted]) });
+        }
+        arcs.sort_unstable_by_key(|arc| arc.object);
+        arcs
+    };
+    places.into_iter().zip(planted).map(|(place, object)| row_of(place, object)).collect()
+}
+
+fn few(persons: usize, cheap: usize, degree: usize, random: &mut Random) -> Rows {
+    assert!((1..=cheap).contains(&degree) && cheap < persons, "DEGREE goes from 1 to CHEAP, and CHEAP are fewer than PERSONS");
+    let planted = random.order(persons);
+    let mut objects: Vec<usize> = (0..cheap).collect();
+    let mut row_of = |planted: usize| {
+        // The planted object is the first one drawn, where it is a cheap one.
+        if let Some(place) = objects.iter().position(|object| *object == planted) {
+            objects.swap(0, place);
+        }
+        for place in usize::from(planted < cheap)..degree {
+            objects.swap(place, random.between(place, cheap - 1));
+        }
+        let mut known = objects[..degree].to_vec();
+        known.sort_unstable();
+        let mut row: Vec<Arc> = known.into_iter().map(|object| Arc { object, cost: random.between(1, MOST_CHEAP) }).collect();
+        let object = if planted < cheap { random.between(cheap, persons - 1) } else { planted };
+        row.push(Arc { object, cost: random.between(LEAST_DEAR, MOST_DEAR) });
+        row
+    };
+    planted.into_iter().map(|object| row_of(object)).collect()
+}
+
+fn write_problem(rows: &Rows, out: &mut impl Write) -> Result<()> {
+    writeln!(out, "{}", rows.len())?;
+    for (person, row) in rows.iter().enumerate() {
+        for Arc { object, cost } in row {
+            writeln!(out, "{} {} {cost}", person + 1, object + 1)?;
+        }
+    }
+    out.flush()
+}
+
+fn main() -> Result<()> {
+    let words: Vec<String> = std::env::args().skip(1).collect();
+    let [shape, numbers @ .., seed, file] = &words[..] else {
+        panic!("{USAGE}");
+    };
+    let numbers: Vec<usize> = numbers.iter().map(|word| word.parse().expect("a number")).collect();
+    let mut random = Random(seed.parse().expect("a number"));
+    assert!(numbers.first().is_some_and(|persons| (1..=MOST_PERSONS).contains(persons)), "PERSONS go from 1 to {MOST_PERSONS}");
+    let rows = match (shape.as_str(), &numbers[..]) {
+        ("share", &[persons, percent, most]) => share(persons, percent, most, &mut random),
+        ("uniform", &[persons, degree, most]) => uniform(persons, degree, most, &mut random),
+        ("plane", &[persons, nearest]) => plane(persons, nearest, &mut random),
+        ("few", &[persons, cheap, degree]) => few(persons, cheap, degree, &mut random),
+        ("levels", &[persons, degree, most]) => levels(persons, degree, most, &mut random),
+        _ => panic!("{USAGE}"),
+    };
+    let arcs: usize = rows.iter().map(Vec::len).sum();
+    assert!(arcs <= MOST_ARCS, "more than {MOST_ARCS} arcs: {arcs}");
+    write_problem(&rows, &mut BufWriter::new(File::create(file)?))?;
+    println!("{arcs}");
+    Ok(())
+}

@@ -19,6 +19,7 @@ pub const ONE_OBJECT_CERT: &str = "auction 1\ninfeasible 2 1\nperson 1\nperson 2
 /// The second person has no arc.
 pub const NO_OBJECT: &str = "2\n1 1 1\n";
 
+/// The certificate that names him.
 pub const NO_OBJECT_CERT: &str = "auction 1\ninfeasible 1 0\nperson 2\n";
 
 /// What a hall of this problem writes, and its status.

@@ -1,4 +1,4 @@
-ghost use Rattle.std.specs.Prelude.{count_by, ◌==◌, ◌≡◌, ◌≢◌, All, MatchOption, IsTrue, false};
+ghost use Rattle.std.specs.Prelude.{count_by, ◌==◌, ◌≡◌, ◌≢◌, ◌<◌, ◌↔◌, ◌++◌, length, option_to_list, IsSome, All, MatchOption, IsTrue, false};
 ghost use Rattle.std.specs.VecDeque.{deque_capacity};
 ghost use Rattle.auc_mail.specs.Backlog.{IsFirstOf, TakesFirst, ComesToFront};
 
@@ -62,6 +62,21 @@ fn bring_to_front<T: Copy>(letters: &mut VecDeque<Waiting<T>>, at: u32) -> bool
     }
 }
 
+// Takes the front letter. The only one leaves by the back, so that the next letter gets its place: a queue that is often empty
+// then stays in one place of its memory, where going on from the front would in time touch all of it.
+#[inline]
+fn take_front<T: Copy>(letters: &mut VecDeque<Waiting<T>>) -> Option<Waiting<T>>
+    ensures items { letters.old.items ≡ option_to_list result ++ letters.new.items }
+    ensures some { IsSome result ↔ (0 < length letters.old.items) }
+    ensures capacity { deque_capacity letters.new ≡ deque_capacity letters.old }
+{
+    if letters.len() == 1 {
+        letters.pop_back()
+    } else {
+        letters.pop_front()
+    }
+}
+
 // Takes the first letter to the box out of the queue. Where that is the front letter, as always with one box, no other is read.
 #[inline]
 pub(crate) fn take_first<T: Copy>(letters: &mut VecDeque<Waiting<T>>, at: u32) -> Option<Waiting<T>>
@@ -70,7 +85,7 @@ pub(crate) fn take_first<T: Copy>(letters: &mut VecDeque<Waiting<T>>, at: u32) -
 {
     let front = letters.front()?;
     if front.to == at || bring_to_front(letters, at) {
-        letters.pop_front()
+        take_front(letters)
     } else {
         None
     }

@@ -1,5 +1,5 @@
 -- A sale leaves the number of objects and the shard's own number.
-use Rattle.std.proofs.Common.{◌≡◌, ℕ, length, set, refl}
+use Rattle.std.proofs.Common.{ℕ, refl}
 use Rattle.std.specs.Prelude.{ℤ}
 use Rattle.std.proofs.lemmas.List.{length-set}
 use Rattle.auc_letters.specs.declared.state.Held.{Held}

@@ -4,7 +4,9 @@
 //! are defined in `auc_letters` (`specs/Award.antt`).
 #![tactic(auto)]
 
+mod answers;
 mod shard;
 
+pub use answers::Answers;
 pub use auc_letters::Held;
 pub use shard::ObjectShard;

@@ -5,7 +5,9 @@ ghost use Rattle.auc_letters.specs.Price.{IsPrice, IsEps};
 ghost use Rattle.auc_letters.specs.Routing.{to_person, to_hub, price_told};
 ghost use Rattle.auc_letters.specs.Award.{least_amount, awards, refusal};
 ghost use Rattle.auc_objects.specs.Objects.{Objects, Owns, SameShape, price_of, holder_of, sold};
+ghost use Rattle.auc_objects.specs.Answers.{letters_of};
 
+use crate::answers::Answers;
 use arrayvec::ArrayVec;
 use auc_letters::{Held, Letter, Out, To, shard_of};
 use std::alloc::{AllocError, Global};
@@ -108,12 +110,62 @@ impl ObjectShard {
         }
     }
 
-    /// Deals with one bid on an object of the shard, and gives the letters that answer it, in order. O(1).
+    /// Deals with one bid on an object of the shard, and gives the letters that answer it. O(1).
     ///
     /// The bid is accepted exactly where `amount` is at least the price and `eps` more. Then the amount is the price, and
     /// the person holds the object by the arc at place `arc`. A bid that is refused changes nothing. `amount` and `eps` are
     /// in scaled costs.
     #[tactic(auto, using(crate::proofs::Shape::shape_sold, crate::proofs::Shape::shape_same))]
+    #[inline]
+    pub fn answer(&mut self, person: u32, arc: u32, object: u32, amount: i64, eps: i64) -> Answers
+        requires object { Owns self.old object }
+        requires amount { IsPrice amount }
+        requires eps { IsEps eps }
+        ensures accepted { least_amount (price_of self.old object) eps ≤ℤ amount → self.new ≡ sold self.old object amount (record { person = person; arc = arc }) }
+        ensures awarded { least_amount (price_of self.old object) eps ≤ℤ amount → letters_of result ≡ awards self.old.person_shards (holder_of self.old object) person object amount }
+        ensures kept { amount <ℤ least_amount (price_of self.old object) eps → self.new ≡ self.old }
+        ensures refused { amount <ℤ least_amount (price_of self.old object) eps → letters_of result ≡ refusal self.old.person_shards person object (price_of self.old object) }
+        ensures shape { SameShape self.old self.new }
+    {
+        let price = self.price(object);
+        if amount < price + eps {
+            let refused = Letter::Refused {
+                person,
+                object,
+                price,
+            };
+            return Answers::Refused {
+                refused: self.to_person(person, refused),
+            };
+        }
+        let before = self.holder(object);
+        self.sell(object, amount, Held { person, arc });
+        let award = Letter::Award {
+            person,
+            object,
+            price: amount,
+        };
+        let award = self.to_person(person, award);
+        match before {
+            Some(held) => {
+                let outbid = Letter::Outbid {
+                    person: held.person,
+                    object,
+                    price: amount,
+                };
+                Answers::Outbid {
+                    outbid: self.to_person(held.person, outbid),
+                    award,
+                }
+            }
+            None => {
+                let first = to_hub(Letter::First { object });
+                Answers::First { award, first }
+            }
+        }
+    }
+
+    /// The same as [`ObjectShard::answer`], with the letters in a list, in order. O(1).
     #[inline]
     pub fn on_bid(
         &mut self,
@@ -132,34 +184,7 @@ impl ObjectShard {
         ensures refused { amount <ℤ least_amount (price_of self.old object) eps → result.items ≡ refusal self.old.person_shards person object (price_of self.old object) }
         ensures shape { SameShape self.old self.new }
     {
-        let price = self.price(object);
-        if amount < price + eps {
-            let refused = Letter::Refused {
-                person,
-                object,
-                price,
-            };
-            return one(self.to_person(person, refused));
-        }
-        let before = self.holder(object);
-        self.sell(object, amount, Held { person, arc });
-        let award = Letter::Award {
-            person,
-            object,
-            price: amount,
-        };
-        let award = self.to_person(person, award);
-        match before {
-            Some(held) => {
-                let outbid = Letter::Outbid {
-                    person: held.person,
-                    object,
-                    price: amount,
-                };
-                two(self.to_person(held.person, outbid), award)
-            }
-            None => two(award, to_hub(Letter::First { object })),
-        }
+        self.answer(person, arc, object, amount, eps).into_list()
     }
 
     /// Sets the price and the holder of an object.
@@ -199,23 +224,4 @@ fn to_hub(letter: Letter) -> Out
         to: To::Hub,
         reserve: 0,
     }
-}
-
-#[inline]
-fn one(first: Out) -> ArrayVec<Out, 4>
-    ensures { result.items ≡ first ∷ [] }
-{
-    let mut letters = ArrayVec::new();
-    letters.push(first);
-    letters
-}
-
-#[inline]
-fn two(first: Out, second: Out) -> ArrayVec<Out, 4>
-    ensures { result.items ≡ first ∷ second ∷ [] }
-{
-    let mut letters = ArrayVec::new();
-    letters.push(first);
-    letters.push(second);
-    letters
 }

@@ -12,3 +12,5 @@ pub mod RoundLaws
 pub mod HallCertificates
 pub mod GatherLaws
 pub mod PhaseLaws
+pub mod AtOnce
+pub mod Joined

@@ -18,17 +18,17 @@ use Rattle.auc_model.specs.declared.turn.TurnReply.{TurnReply}
 use Rattle.auc_world.specs.Parts.{MailAlone, Parts, name_of, no_letters, object_out, person_out, phase, seen, with_mail_at, without_first_object_out, without_first_person_out}
 use Rattle.auc_world.proofs.Seen.{seen_object_out, seen_person_out}
 
-seen_mail : (p : Parts) (t : To) (m : Mail Letter) → seen (with_mail_at p (name_of t) m) ≡ with_mail (seen p) t m
+pub seen_mail : (p : Parts) (t : To) (m : Mail Letter) → seen (with_mail_at p (name_of t) m) ≡ with_mail (seen p) t m
 seen_mail p (To.Person s) m = refl
 seen_mail p (To.Object q) m = refl
 seen_mail p To.Hub m = refl
 
-same_mail : (p : Parts) (t : To) → with_mail_at p (name_of t) (mail_of (seen p) t) ≡ p
+pub same_mail : (p : Parts) (t : To) → with_mail_at p (name_of t) (mail_of (seen p) t) ≡ p
 same_mail p (To.Person s) = refl
 same_mail p (To.Object q) = refl
 same_mail p To.Hub = refl
 
-refused_same : (m n : Mail Letter) (s b r : ℕ) (l : Letter) (y : PostRefused) → Step m (Call.Post s b l r) (Reply.Refused y) n → Step m (Call.Post s b l r) (Reply.Refused y) m × (n ≡ m)
+pub refused_same : (m n : Mail Letter) (s b r : ℕ) (l : Letter) (y : PostRefused) → Step m (Call.Post s b l r) (Reply.Refused y) n → Step m (Call.Post s b l r) (Reply.Refused y) m × (n ≡ m)
 refused_same m n s b r l PostRefused.Closed h = ((h.0, refl), h.1)
 refused_same m n s b r l PostRefused.Spent h = ((h.0, h.1, refl), h.2)
 refused_same m n s b r l PostRefused.Full h = ((h.0, h.1, h.2, refl), h.3)

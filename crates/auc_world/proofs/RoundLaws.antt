@@ -36,22 +36,11 @@ plays_schedule g w (t ∷ ts) moved v (m, r, rest, turned, played, is) = (m, r, 
 as_moved : (g : Phase) (w : World) (ts : List Turn) (a b : Bool) (v : World) → a ≡ b → Plays g w ts a v → Plays g w ts b v
 as_moved g w ts a b v e h = subst (λ (c : Bool). Plays g w ts c v) e h
 
-two_plays : (g : Phase) (w m v : World) (t u : Turn) (r s : TurnReply) → Turned g w t r m → Turned g m u s v → Plays g w (t ∷ u ∷ []) (has_moved r || has_moved s) v
+pub two_plays : (g : Phase) (w m v : World) (t u : Turn) (r s : TurnReply) → Turned g w t r m → Turned g m u s v → Plays g w (t ∷ u ∷ []) (has_moved r || has_moved s) v
 two_plays g w m v t u r s first second = plays_join g w (t ∷ []) (u ∷ []) m v (has_moved r) (has_moved s) (one_play g w m t r first) (one_play g m v u s second)
 
-pub bid_more : (g : Phase) (w u m v : World) (s : ℕ) (moved : Bool) (r p : TurnReply) → Plays g w (bids_of s) moved u → Turned g u (Turn.Bid s) r m → Turned g m (Turn.PersonPost s) p v
-    → Plays g w (bids_of (suc s)) (moved || has_moved r || has_moved p) v
-bid_more g w u m v s moved r p before bid post =
-    as_moved g w (bids_of (suc s)) (moved || (has_moved r || has_moved p)) (moved || has_moved r || has_moved p) v (sym (or_assoc moved (has_moved r) (has_moved p)))
-    (plays_join g w (bids_of s) (Turn.Bid s ∷ Turn.PersonPost s ∷ []) u v moved (has_moved r || has_moved p) before (two_plays g u m v (Turn.Bid s) (Turn.PersonPost s) r p bid post))
-
-pub answer_more : (g : Phase) (w u m n v : World) (q : ℕ) (moved : Bool) (r p o : TurnReply) → Plays g w (answers_of q) moved u → Turned g u (Turn.ObjectTake q) r m → Turned g m (Turn.ObjectPost q) p n → Turned g n (Turn.ObjectPost q) o v
-    → Plays g w (answers_of (suc q)) (moved || has_moved r || has_moved p || has_moved o) v
-answer_more g w u m n v q moved r p o before take first second =
-    let three = plays_join g u (Turn.ObjectTake q ∷ []) (Turn.ObjectPost q ∷ Turn.ObjectPost q ∷ []) m v (has_moved r) (has_moved p || has_moved o) (one_play g u m (Turn.ObjectTake q) r take) (two_plays g m n v (Turn.ObjectPost q) (Turn.ObjectPost q) p o first second) in
-    as_moved g w (answers_of (suc q)) (moved || (has_moved r || (has_moved p || has_moved o))) (moved || has_moved r || has_moved p || has_moved o) v
-    (sym (or_assoc moved (has_moved r) (has_moved p || has_moved o)) ∙ sym (or_assoc (moved || has_moved r) (has_moved p) (has_moved o)))
-    (plays_join g w (answers_of q) (Turn.ObjectTake q ∷ Turn.ObjectPost q ∷ Turn.ObjectPost q ∷ []) u v moved (has_moved r || (has_moved p || has_moved o)) before three)
+pub three_plays : (g : Phase) (w m n v : World) (t u x : Turn) (r s o : TurnReply) → Turned g w t r m → Turned g m u s n → Turned g n x o v → Plays g w (t ∷ u ∷ x ∷ []) (has_moved r || (has_moved s || has_moved o)) v
+three_plays g w m n v t u x r s o first second third = plays_join g w (t ∷ []) (u ∷ x ∷ []) m v (has_moved r) (has_moved s || has_moved o) (one_play g w m t r first) (two_plays g m n v u x s o second third)
 
 pub hear_more : (g : Phase) (w u v : World) (s : ℕ) (moved : Bool) (r : TurnReply) → Plays g w (hearings_of s) moved u → Turned g u (Turn.PersonTake s) r v → Plays g w (hearings_of (suc s)) (moved || has_moved r) v
 hear_more g w u v s moved r before take = plays_join g w (hearings_of s) (Turn.PersonTake s ∷ []) u v moved (has_moved r) before (one_play g u v (Turn.PersonTake s) r take)
@@ -60,24 +49,31 @@ next : (s : ℕ) → suc s ≡ s + 1
 next s = omega arith
 
 -- the same of the parts of a world, and of the flags that the code keeps
-pub bid_played : (p u m v : Parts) (s : ℕ) (moved : Bool) (r q : TurnReply) (i j k o : Bool) → Plays (phase p) (seen p) (bids_of s) moved (seen u) → phase u ≡ phase p
-    → Turned (phase u) (seen u) (Turn.Bid s) r (seen m) → SamePhase u m → Turned (phase m) (seen m) (Turn.PersonPost s) q (seen v)
-    → i ≡ has_moved r → j ≡ has_moved q → k ≡ (moved || i) → o ≡ (k || j) → Plays (phase p) (seen p) (bids_of (s + 1)) o (seen v)
-bid_played p u m v s moved r q i j k o before same bid kept post a b d e =
-    let bid' = subst (λ (g : Phase). Turned g (seen u) (Turn.Bid s) r (seen m)) same bid in
-    let post' = subst (λ (g : Phase). Turned g (seen m) (Turn.PersonPost s) q (seen v)) (same_phase u m kept ∙ same) post in
-    let is : (moved || has_moved r || has_moved q) ≡ o = cc in
-    subst (λ (n : ℕ). Plays (phase p) (seen p) (bids_of n) o (seen v)) (next s) (as_moved (phase p) (seen p) (bids_of (suc s)) (moved || has_moved r || has_moved q) o (seen v) is (bid_more (phase p) (seen p) (seen u) (seen m) (seen v) s moved r q before bid' post'))
+pub bid_turns : (p m v : Parts) (s : ℕ) (r q : TurnReply) (i j o : Bool) → Turned (phase p) (seen p) (Turn.Bid s) r (seen m) → SamePhase p m → Turned (phase m) (seen m) (Turn.PersonPost s) q (seen v)
+    → i ≡ has_moved r → j ≡ has_moved q → o ≡ (i || j) → Plays (phase p) (seen p) (Turn.Bid s ∷ Turn.PersonPost s ∷ []) o (seen v)
+bid_turns p m v s r q i j o bid kept post a b d =
+    let post' = subst (λ (g : Phase). Turned g (seen m) (Turn.PersonPost s) q (seen v)) (same_phase p m kept) post in
+    let is : (has_moved r || has_moved q) ≡ o = cc in
+    as_moved (phase p) (seen p) (Turn.Bid s ∷ Turn.PersonPost s ∷ []) (has_moved r || has_moved q) o (seen v) is (two_plays (phase p) (seen p) (seen m) (seen v) (Turn.Bid s) (Turn.PersonPost s) r q bid post')
 
-pub answer_played : (p u m n v : Parts) (s : ℕ) (moved : Bool) (r q t : TurnReply) (i j h k l o : Bool) → Plays (phase p) (seen p) (answers_of s) moved (seen u) → phase u ≡ phase p
-    → Turned (phase u) (seen u) (Turn.ObjectTake s) r (seen m) → SamePhase u m → Turned (phase m) (seen m) (Turn.ObjectPost s) q (seen n) → SamePhase m n → Turned (phase n) (seen n) (Turn.ObjectPost s) t (seen v)
-    → i ≡ has_moved r → j ≡ has_moved q → h ≡ has_moved t → k ≡ (moved || i) → l ≡ (k || j) → o ≡ (l || h) → Plays (phase p) (seen p) (answers_of (s + 1)) o (seen v)
-answer_played p u m n v s moved r q t i j h k l o before same take kept first kept2 second a b d e f x =
-    let take' = subst (λ (g : Phase). Turned g (seen u) (Turn.ObjectTake s) r (seen m)) same take in
-    let first' = subst (λ (g : Phase). Turned g (seen m) (Turn.ObjectPost s) q (seen n)) (same_phase u m kept ∙ same) first in
-    let second' = subst (λ (g : Phase). Turned g (seen n) (Turn.ObjectPost s) t (seen v)) (same_phase m n kept2 ∙ same_phase u m kept ∙ same) second in
-    let is : (moved || has_moved r || has_moved q || has_moved t) ≡ o = cc in
-    subst (λ (n : ℕ). Plays (phase p) (seen p) (answers_of n) o (seen v)) (next s) (as_moved (phase p) (seen p) (answers_of (suc s)) (moved || has_moved r || has_moved q || has_moved t) o (seen v) is (answer_more (phase p) (seen p) (seen u) (seen m) (seen n) (seen v) s moved r q t before take' first' second'))
+pub take_turns : (p m n v : Parts) (s : ℕ) (r q t : TurnReply) (i j h k o : Bool) → Turned (phase p) (seen p) (Turn.ObjectTake s) r (seen m) → SamePhase p m → Turned (phase m) (seen m) (Turn.ObjectPost s) q (seen n) → SamePhase m n → Turned (phase n) (seen n) (Turn.ObjectPost s) t (seen v)
+    → i ≡ has_moved r → j ≡ has_moved q → h ≡ has_moved t → k ≡ (i || j) → o ≡ (k || h) → Plays (phase p) (seen p) (Turn.ObjectTake s ∷ Turn.ObjectPost s ∷ Turn.ObjectPost s ∷ []) o (seen v)
+take_turns p m n v s r q t i j h k o take kept first kept2 second a b d e f =
+    let first' = subst (λ (g : Phase). Turned g (seen m) (Turn.ObjectPost s) q (seen n)) (same_phase p m kept) first in
+    let second' = subst (λ (g : Phase). Turned g (seen n) (Turn.ObjectPost s) t (seen v)) (same_phase m n kept2 ∙ same_phase p m kept) second in
+    let flat : ((has_moved r || has_moved q) || has_moved t) ≡ o = cc in
+    as_moved (phase p) (seen p) (Turn.ObjectTake s ∷ Turn.ObjectPost s ∷ Turn.ObjectPost s ∷ []) (has_moved r || (has_moved q || has_moved t)) o (seen v) (sym (or_assoc (has_moved r) (has_moved q) (has_moved t)) ∙ flat)
+    (three_plays (phase p) (seen p) (seen m) (seen n) (seen v) (Turn.ObjectTake s) (Turn.ObjectPost s) (Turn.ObjectPost s) r q t take first' second')
+
+pub bids_more : (p u v : Parts) (s : ℕ) (moved here o : Bool) → Plays (phase p) (seen p) (bids_of s) moved (seen u) → phase u ≡ phase p → Plays (phase u) (seen u) (Turn.Bid s ∷ Turn.PersonPost s ∷ []) here (seen v) → o ≡ (moved || here) → Plays (phase p) (seen p) (bids_of (s + 1)) o (seen v)
+bids_more p u v s moved here o before same after e =
+    let after' = subst (λ (g : Phase). Plays g (seen u) (Turn.Bid s ∷ Turn.PersonPost s ∷ []) here (seen v)) same after in
+    subst (λ (n : ℕ). Plays (phase p) (seen p) (bids_of n) o (seen v)) (next s) (as_moved (phase p) (seen p) (bids_of (suc s)) (moved || here) o (seen v) (sym e) (plays_join (phase p) (seen p) (bids_of s) (Turn.Bid s ∷ Turn.PersonPost s ∷ []) (seen u) (seen v) moved here before after'))
+
+pub answers_more : (p u v : Parts) (q : ℕ) (moved here o : Bool) → Plays (phase p) (seen p) (answers_of q) moved (seen u) → phase u ≡ phase p → Plays (phase u) (seen u) (Turn.ObjectTake q ∷ Turn.ObjectPost q ∷ Turn.ObjectPost q ∷ []) here (seen v) → o ≡ (moved || here) → Plays (phase p) (seen p) (answers_of (q + 1)) o (seen v)
+answers_more p u v q moved here o before same after e =
+    let after' = subst (λ (g : Phase). Plays g (seen u) (Turn.ObjectTake q ∷ Turn.ObjectPost q ∷ Turn.ObjectPost q ∷ []) here (seen v)) same after in
+    subst (λ (n : ℕ). Plays (phase p) (seen p) (answers_of n) o (seen v)) (next q) (as_moved (phase p) (seen p) (answers_of (suc q)) (moved || here) o (seen v) (sym e) (plays_join (phase p) (seen p) (answers_of q) (Turn.ObjectTake q ∷ Turn.ObjectPost q ∷ Turn.ObjectPost q ∷ []) (seen u) (seen v) moved here before after'))
 
 pub hear_played : (p u v : Parts) (s : ℕ) (moved : Bool) (r : TurnReply) (i o : Bool) → Plays (phase p) (seen p) (hearings_of s) moved (seen u) → phase u ≡ phase p
     → Turned (phase u) (seen u) (Turn.PersonTake s) r (seen v) → i ≡ has_moved r → o ≡ (moved || i) → Plays (phase p) (seen p) (hearings_of (s + 1)) o (seen v)

@@ -5,3 +5,4 @@ pub mod Gathering
 pub mod Rounds
 pub mod Answers
 pub mod Phases
+pub mod AtOnce

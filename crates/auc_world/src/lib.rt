@@ -6,6 +6,7 @@
 #![tactic(auto)]
 
 mod answer;
+mod at_once;
 mod eps;
 pub mod finish;
 mod gathering;

@@ -10,7 +10,7 @@ use auc_model::{End, TurnReply};
 
 /// Whether a turn moved anything.
 #[inline]
-fn has_moved(reply: TurnReply) -> bool
+pub(crate) fn has_moved(reply: TurnReply) -> bool
     ensures { result ≡ has_moved reply }
 {
     match reply {
@@ -21,7 +21,7 @@ fn has_moved(reply: TurnReply) -> bool
 
 /// Whether one of two turns moved anything.
 #[inline]
-fn either(first: bool, second: bool) -> bool
+pub(crate) fn either(first: bool, second: bool) -> bool
     ensures { result ≡ (first || second) }
 {
     first || second
@@ -36,9 +36,8 @@ impl<'a> World<'a> {
     {
         let mut moved = false;
         for shard in 0..self.shards() {
-            let bid = has_moved(self.bid(shard));
-            let post = has_moved(self.person_post(shard));
-            moved = either(either(moved, bid), post);
+            let here = self.bid_and_post(shard);
+            moved = either(moved, here);
         }
         moved
     }
@@ -51,10 +50,8 @@ impl<'a> World<'a> {
     {
         let mut moved = false;
         for shard in 0..self.shards() {
-            let take = has_moved(self.object_take(shard));
-            let first = has_moved(self.object_post(shard));
-            let second = has_moved(self.object_post(shard));
-            moved = either(either(either(moved, take), first), second);
+            let here = self.take_and_post(shard);
+            moved = either(moved, here);
         }
         moved
     }

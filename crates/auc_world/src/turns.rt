@@ -164,8 +164,8 @@ impl<'a> World<'a> {
             self.end_with(End::Stopped { why: Why::Stray });
             return TurnReply::Moved;
         };
-        let letters = self.on_bid(shard, offer.person, offer.arc, offer.object, offer.amount);
-        self.put_object_outs(shard, letters);
+        let answers = self.answer_bid(shard, offer.person, offer.arc, offer.object, offer.amount);
+        self.put_object_outs(shard, answers.into_list());
         TurnReply::Moved
     }
 
@@ -218,7 +218,7 @@ impl<'a> World<'a> {
 
 /// Why the world stops where a letter is refused; it doesn't where the box is closed, or the letter is a price.
 #[inline]
-fn reason_to_stop(refused: PostRefused, letter: Letter) -> Option<Why>
+pub(crate) fn reason_to_stop(refused: PostRefused, letter: Letter) -> Option<Why>
     ensures some { IfSome result (λ y. (refused ≢ PostRefused.Closed) × (is_price letter ≡ false) × (y ≡ reason refused)) }
     ensures none { IfNone result ((refused ≡ PostRefused.Closed) ⊎ ((refused ≢ PostRefused.Closed) × (is_price letter ≡ true))) }
 {

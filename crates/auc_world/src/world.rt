@@ -7,6 +7,7 @@ ghost use Rattle.auc_graph.specs.Table.{IsTable};
 ghost use Rattle.auc_letters.specs.Price.{IsPrice};
 ghost use Rattle.auc_letters.specs.Routing.{price_told};
 ghost use Rattle.auc_letters.specs.Award.{awards, refusal};
+ghost use Rattle.auc_objects.specs.Answers.{letters_of};
 ghost use Rattle.auc_objects.specs.Objects.{price_of, holder_of, sold};
 ghost use Rattle.auc_mail.specs.declared.call.Call.{Call};
 ghost use Rattle.auc_mail.specs.declared.call.Reply.{Reply};
@@ -26,7 +27,7 @@ use auc_graph::Rows;
 use auc_letters::{Held, Letter, MOST_PRICE, Out, To, shard_of};
 use auc_mail::{MailPool, PostRefused, Taken};
 use auc_model::{End, MailName};
-use auc_objects::ObjectShard;
+use auc_objects::{Answers, ObjectShard};
 use auc_persons::{Bidding, PersonFault, PersonShard};
 use std::alloc::{AllocError, Global};
 use std::marker::Model;
@@ -357,25 +358,25 @@ impl<'a> World<'a> {
 
     /// A shard of the objects deals with a bid, and gives the letters that answer it.
     #[inline]
-    pub(crate) fn on_bid(
+    pub(crate) fn answer_bid(
         &mut self,
         shard: u32,
         person: u32,
         arc: u32,
         object: u32,
         amount: i64,
-    ) -> ArrayVec<Out, 4>
+    ) -> Answers
         requires known { shard < self.old.shards }
         requires owns { OwnsObject self.old shard object }
         requires amount { IsPrice amount }
-        ensures accepted { Accepts self.old shard object amount → (objects_at self.new shard ≡ sold (objects_at self.old shard) object amount (record { person = person; arc = arc })) × (result.items ≡ awards self.old.shards (holder_of (objects_at self.old shard) object) person object amount) }
-        ensures declined { Declines self.old shard object amount → (objects_at self.new shard ≡ objects_at self.old shard) × (result.items ≡ refusal self.old.shards person object (price_of (objects_at self.old shard) object)) }
+        ensures accepted { Accepts self.old shard object amount → (objects_at self.new shard ≡ sold (objects_at self.old shard) object amount (record { person = person; arc = arc })) × (letters_of result ≡ awards self.old.shards (holder_of (objects_at self.old shard) object) person object amount) }
+        ensures declined { Declines self.old shard object amount → (objects_at self.new shard ≡ objects_at self.old shard) × (letters_of result ≡ refusal self.old.shards person object (price_of (objects_at self.old shard) object)) }
         ensures rest { self.new ≡ record self.old { objects = slice_set self.old.objects shard (objects_at self.new shard) } }
-        ensures reach { All (Reaches self.old.shards) result.items }
+        ensures reach { All (Reaches self.old.shards) (letters_of result) }
     {
         let eps = self.eps;
         let objects = &mut self.object_shards[shard as usize];
-        objects.on_bid(person, arc, object, amount, eps)
+        objects.answer(person, arc, object, amount, eps)
     }
 
     /// The price of an object, as a letter to a shard of the persons.
@@ -413,13 +414,14 @@ impl<'a> World<'a> {
     }
 
     /// Posts a letter of a sender into the mail that it goes to.
-    #[inline]
+    #[inline(always)]
     pub(crate) fn post(&mut self, sender: u32, out: Out) -> Result<u64, PostRefused>
         requires sender { sender < 2 * self.old.shards + 1 }
         requires reaches { Reaches self.old.shards out }
         ensures step { Step (mail_of (seen self.old) out.to) (Call.Post sender (box_of out.to) out.letter out.reserve) (reply_to_post result) (mail_of (seen self.new) out.to) }
         ensures rest { self.new ≡ with_mail_at self.old (name_of out.to) (mail_of (seen self.new) out.to) }
         ensures alone { MailAlone self.old self.new }
+        ensures sound { AreParts self.old }
     {
         match out.to {
             To::Person { shard } => {

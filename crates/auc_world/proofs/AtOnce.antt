@@ -1,6 +1,6 @@
 -- Letters that are posted past the outbox: the same turns as by way of it.
-use Rattle.std.proofs.Common.{ℕ, ◌<◌, ◌≡◌, ◌≢◌, Bool, true, false, List, [], ◌∷◌, refl, sym, ap, subst, ◌∙◌, inl, inr, arith}
-use Rattle.std.specs.Prelude.{◌⊎◌, ◌==◌, if◌then◌else◌, slice_index_or, slice_set}
+use Rattle.std.proofs.Common.{ℕ, ◌<◌, ◌≡◌, ◌≢◌, Bool, Some, None, true, false, List, [], ◌∷◌, refl, sym, ap, subst, ◌∙◌, inl, inr, arith}
+use Rattle.std.specs.Prelude.{IfNone, Option, ◌⊎◌, ◌==◌, if◌then◌else◌, slice_index_or, slice_set}
 use Rattle.std.proofs.lemmas.Bool.{eqb-true}
 use Rattle.auc_letters.specs.declared.letter.Why.{Why}
 use Rattle.auc_letters.specs.declared.out.Out.{Out}
@@ -24,6 +24,11 @@ use Rattle.auc_model.specs.declared.turn.End.{End}
 use Rattle.auc_world.specs.Parts.{AreParts, MailAlone, Parts, name_of, no_letters, object_out, person_out, phase, seen, with_mail_at}
 use Rattle.auc_world.proofs.Seen.{seen_object_out, seen_person_out}
 use Rattle.auc_world.proofs.Posting.{refused_same, same_mail, seen_mail}
+
+-- what follows from what a clause says where there is no value
+pub IfNone_then : {X P Q : Type 0} (r : Option X) → IfNone r P → (P → Q) → IfNone r Q
+IfNone_then None h f = f h
+IfNone_then (Some x) h f = tt
 
 if_if : {X : Type 0} (b : Bool) (x y z : X) → (if b then x else (if b then y else z)) ≡ (if b then x else z)
 if_if true x y z = refl
@@ -92,12 +97,7 @@ module _ (g : Phase) (w : World) (h : Shard) (o : Out) (known : number h < g.sha
 
 -- ---- the same of the parts of a world, where a mail alone is another
 
-module _ (p n : Parts) (x : ℕ) (o : Out) (e : n ≡ with_mail_at p (name_of o.to) (mail_of (seen n) o.to)) (h : Shard) (from : sender (phase p) h ≡ x) (known : number h < p.shards) where
-  pub post_leaves : (k : ℕ) → Step (mail_of (seen p) o.to) (Call.Post x (box_of o.to) o.letter o.reserve) (Reply.Posted k) (mail_of (seen n) o.to) → Leaves (phase p) (seen p) h o (seen n)
-  post_leaves k step =
-      let mine = subst (λ (z : ℕ). Step (mail_of (seen p) o.to) (Call.Post z (box_of o.to) o.letter o.reserve) (Reply.Posted k) (mail_of (seen n) o.to)) (sym from) step in
-      subst (λ (v : World). Leaves (phase p) (seen p) h o v) (sym (ap seen e ∙ seen_mail p o.to (mail_of (seen n) o.to))) (posted_past (phase p) (seen p) h o known k (mail_of (seen n) o.to) mine)
-
+module _ (p n : Parts) (x : ℕ) (o : Out) (e : n ≡ with_mail_at p (name_of o.to) (mail_of (seen n) o.to)) where
   module _ (y : PostRefused) (step : Step (mail_of (seen p) o.to) (Call.Post x (box_of o.to) o.letter o.reserve) (Reply.Refused y) (mail_of (seen n) o.to)) where
     both : Step (mail_of (seen p) o.to) (Call.Post x (box_of o.to) o.letter o.reserve) (Reply.Refused y) (mail_of (seen p) o.to) × (mail_of (seen n) o.to ≡ mail_of (seen p) o.to)
     both = refused_same (mail_of (seen p) o.to) (mail_of (seen n) o.to) x (box_of o.to) o.reserve o.letter y step
@@ -105,14 +105,21 @@ module _ (p n : Parts) (x : ℕ) (o : Out) (e : n ≡ with_mail_at p (name_of o.
     pub post_same : n ≡ p
     post_same = e ∙ (ap (λ (m : Mail Letter). with_mail_at p (name_of o.to) m) both.1 ∙ same_mail p o.to)
 
-    mine : Step (mail_of (seen p) o.to) (Call.Post (sender (phase p) h) (box_of o.to) o.letter o.reserve) (Reply.Refused y) (mail_of (seen p) o.to)
-    mine = subst (λ (z : ℕ). Step (mail_of (seen p) o.to) (Call.Post z (box_of o.to) o.letter o.reserve) (Reply.Refused y) (mail_of (seen p) o.to)) (sym from) both.0
+  module _ (h : Shard) (from : sender (phase p) h ≡ x) (known : number h < p.shards) where
+    pub post_leaves : (k : ℕ) → Step (mail_of (seen p) o.to) (Call.Post x (box_of o.to) o.letter o.reserve) (Reply.Posted k) (mail_of (seen n) o.to) → Leaves (phase p) (seen p) h o (seen n)
+    post_leaves k step =
+        let mine = subst (λ (z : ℕ). Step (mail_of (seen p) o.to) (Call.Post z (box_of o.to) o.letter o.reserve) (Reply.Posted k) (mail_of (seen n) o.to)) (sym from) step in
+        subst (λ (v : World). Leaves (phase p) (seen p) h o v) (sym (ap seen e ∙ seen_mail p o.to (mail_of (seen n) o.to))) (posted_past (phase p) (seen p) h o known k (mail_of (seen n) o.to) mine)
 
-    pub post_drops : (y ≡ PostRefused.Closed) ⊎ ((y ≢ PostRefused.Closed) × (is_price o.letter ≡ true)) → Leaves (phase p) (seen p) h o (seen n)
-    post_drops why = subst (λ (z : Parts). Leaves (phase p) (seen p) h o (seen z)) (sym post_same) (leaves_past (phase p) (seen p) h o known y mine why)
+    module _ (y : PostRefused) (step : Step (mail_of (seen p) o.to) (Call.Post x (box_of o.to) o.letter o.reserve) (Reply.Refused y) (mail_of (seen n) o.to)) where
+      mine : Step (mail_of (seen p) o.to) (Call.Post (sender (phase p) h) (box_of o.to) o.letter o.reserve) (Reply.Refused y) (mail_of (seen p) o.to)
+      mine = subst (λ (z : ℕ). Step (mail_of (seen p) o.to) (Call.Post z (box_of o.to) o.letter o.reserve) (Reply.Refused y) (mail_of (seen p) o.to)) (sym from) (both y step).0
 
-    pub post_stays : (why : Why) → (y ≢ PostRefused.Closed) × (is_price o.letter ≡ false) × (why ≡ reason y) → Stays (phase p) (seen p) h o why
-    post_stays why c = stays_past (phase p) (seen p) h o known y mine why c
+      pub post_drops : (y ≡ PostRefused.Closed) ⊎ ((y ≢ PostRefused.Closed) × (is_price o.letter ≡ true)) → Leaves (phase p) (seen p) h o (seen n)
+      post_drops why = subst (λ (z : Parts). Leaves (phase p) (seen p) h o (seen z)) (sym (post_same y step)) (leaves_past (phase p) (seen p) h o known y mine why)
+
+      pub post_stays : (why : Why) → (y ≢ PostRefused.Closed) × (is_price o.letter ≡ false) × (why ≡ reason y) → Stays (phase p) (seen p) h o why
+      post_stays why c = stays_past (phase p) (seen p) h o known y mine why c
 
 -- ---- a letter that leaves an empty outbox, or stays there
 

@@ -46,10 +46,7 @@ impl<'a> World<'a> {
     {
         match self.post(sender, out) {
             Ok(_) => None,
-            Err(refused) => match reason_to_stop(refused, out.letter) {
-                None => None,
-                Some(why) => Some(why),
-            },
+            Err(refused) => reason_to_stop(refused, out.letter),
         }
     }
 

@@ -3,5 +3,6 @@ pub mod Mail
 pub mod Step
 pub mod Run
 pub mod Letters
+pub mod Equality
 pub mod Backlog
 pub mod Pool

@@ -6,6 +6,7 @@
 
 mod backlog;
 mod call;
+mod equality;
 mod error;
 mod laws;
 mod limits;
@@ -15,6 +16,7 @@ mod script;
 mod tests;
 
 pub use call::{Call, PostRefused, Reply, Taken};
+pub use equality::{same_call, same_reply, same_taken};
 pub use error::MailError;
 pub use laws::{
     closed_box_accepts_nothing, lanes_keep_their_order, only_the_sender_is_free,

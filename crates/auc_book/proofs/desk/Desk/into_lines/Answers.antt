@@ -1,0 +1,16 @@
+use Rattle.std.proofs.Common.{ℕ, ◌<◌, All, subst, arith}
+use Rattle.auc_book.specs.Trail.{IsOwn, events_of}
+use Rattle.auc_book.proofs.Desks.{desk_run}
+use Rattle.auc_book.proofs.desk.Desk.into_lines.Goals as goal
+
+pub returns-clause-run : goal.returns-clause-run
+returns-clause-run g c some =
+    let state = c.self.inside.state in
+    let room : 0 < state.room = omega (arith, c.self.invariant.numbers.place_count) in
+    rw c.into_lines.ensures.lines
+    (state.mail, desk_run g.N.MailName.boxes g.N.MailName.workers g.N.MailName.nodes g.N.MailName.most g.N.MailName.room state (events_of state.trail) c.self.invariant.numbers (c.every_state_is_noted.ensures.run room))
+
+pub returns-clause-own : goal.returns-clause-own
+returns-clause-own g c =
+    let state = c.self.inside.state in
+    rw c.into_lines.ensures.lines (subst (λ (n : ℕ). All (λ l. (l.worker < n) × IsOwn l.worker l.call) state.trail) c.self.invariant.numbers.worker_count c.every_state_is_noted.ensures.own)

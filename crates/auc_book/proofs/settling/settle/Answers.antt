@@ -1,0 +1,48 @@
+use Rattle.std.proofs.Common.{[], vec_len, ◌≡◌, ◌<◌, ◌∙◌, length, ap, sym, subst, arith}
+use Rattle.std.proofs.lemmas.List.{nil_from_length}
+use Rattle.auc_book.specs.Trail.{lines_of}
+use Rattle.auc_book.specs.Seat.{Account}
+use Rattle.auc_book.proofs.Lines.{is_none, not_true}
+use Rattle.auc_book.proofs.Settled.{settles_none, settles_more, settled}
+use Rattle.auc_book.proofs.settling.settle.Goals as goal
+use Rattle.auc_book.proofs.settling.settle.Goals.{then-same, else-same}
+
+pub loop-worker-init : goal.loop-worker-init
+loop-worker-init g c = settles_none c.into_lines-lines.result.items c.args.seats.items
+
+pub returns-in_default-clause-unsettled : goal.returns-in_default-clause-unsettled
+returns-in_default-clause-unsettled g c =
+    let w = c.loop-worker.worker in (
+      omega (arith, c.if-room-eq0.false, c.room.ensures),
+      (w, omega (arith, c.loop-worker-test.true, c.requires.workers), c.loop-worker.invariant.more w (omega arith) c.in_default.ensures.0),
+    )
+
+pub loop-worker-preserved : goal.loop-worker-preserved
+loop-worker-preserved g c =
+    let seat = c.in-Some.seat in
+    let room : 0 < g.N.MailName.room = omega (arith, c.if-room-eq0.false, c.room.ensures) in
+    let long : seat.count ≡ length seat.lines = subst (λ (p : Account _). p.count ≡ length p.lines) c.seat-in-loop-worker.view_is (c.seat-in-loop-worker.invariant.noted_all room) in
+    settles_more c.into_lines-lines.result.items c.args.seats.items c.loop-worker.seats.items c.take_seat.new.seats.items c.loop-worker.worker c.loop-worker.same c.if-same.same seat
+    c.loop-worker.invariant c.in-Some.ensures long
+    (λ yes.
+    elim c.if-same.branch [
+      | then-same w ↦
+          let found : lines_of c.loop-worker.worker w.as_slice.result.now ≡ w.lines.result.now = w.same_lines-same.ensures (sym w.same-is ∙ yes) in
+          (w.if-same.true, ap (λ ls. lines_of c.loop-worker.worker ls) (sym w.as_slice.ensures.value) ∙ (found ∙ w.lines.ensures.lines))
+      | else-same w ↦ absurd (not_true (sym w.if-same.false ∙ (sym w.same-is ∙ yes)))
+    ])
+
+pub returns-then-not-same-clause-unsettled : goal.returns-then-not-same-clause-unsettled
+returns-then-not-same-clause-unsettled g c = (
+  omega (arith, c.if-room-eq0.false, c.room.ensures),
+  λ k lt none. c.loop-worker.invariant.seated k (omega (arith, c.loop-worker-test.false, c.requires.workers)) none,
+)
+
+pub returns-clause-settled : goal.returns-clause-settled
+returns-clause-settled g c =
+    let room : 0 < g.N.MailName.room = omega (arith, c.if-room-eq0.false, c.room.ensures) in
+    let none : c.loop-worker.seats.items ≡ [] = nil_from_length c.loop-worker.seats.items (let long : vec_len c.loop-worker.seats ≡ 0 = is_none (vec_len c.loop-worker.seats) c.if-not-is_empty.ensures in omega (arith, long, c.loop-worker.seats.ok.0)) in
+    rw c.new.ensures
+    (settled g.N.MailName.boxes g.N.MailName.workers g.N.MailName.nodes g.N.MailName.most g.N.MailName.room
+    c.into_lines-lines.result.items c.args.seats.items c.loop-worker.seats.items c.loop-worker.worker c.loop-worker.same
+    room c.loop-worker.invariant c.if-not-same.false none (omega (arith, c.loop-worker-test.false, c.requires.workers, c.loop-worker.auto.worker-end)) c.into_lines-lines.ensures.own (c.into_lines-lines.ensures.run room))

@@ -1,0 +1,5 @@
+use Rattle.auc_book.proofs.Settled.{Settles}
+use Rattle.auc_book.proofs.settling.settle.Given as goal
+
+abbrev pub invariant-loop-worker : goal.invariant-loop-worker
+invariant-loop-worker g l = Settles l.lines.items l.fn.seats.items l.seats.items l.worker l.same

@@ -1,0 +1,16 @@
+-- What lies under the lock of a shared mail.
+use Rattle.std.specs.Prelude.{◌≡◌, ℕ, length}
+use Rattle.auc_book.specs.State.{State}
+
+-- the state has these numbers, which a mail's name fixes
+pub record IsNumbered {T : Type 0} (boxes workers nodes most room : ℕ) (s : State T) : Type 0 where
+  pub box_count : length s.mail.accepting ≡ boxes
+  pub worker_count : s.mail.senders ≡ workers
+  pub node_count : s.mail.nodes ≡ nodes
+  pub most_posts : s.mail.most ≡ most
+  pub place_count : s.room ≡ room
+
+-- What it keeps: the name's numbers, and a total of all seats' shares that is the count of calls.
+pub record IsDesk {T : Type 0} (boxes workers nodes most room : ℕ) (s : State T) (total : ℕ) : Type 0 where
+  pub numbers : IsNumbered boxes workers nodes most room s
+  pub counted : total ≡ s.count

@@ -1,0 +1,8 @@
+pub mod Limits
+pub mod Trail
+pub mod Replies
+pub mod State
+pub mod Seat
+pub mod Desk
+pub mod Seats
+pub mod Settling

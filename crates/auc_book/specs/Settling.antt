@@ -1,0 +1,55 @@
+-- What it means that the seats settle with the trail, and when they don't.
+use Rattle.std.specs.Prelude.{◌≡◌, ◌≢◌, ℕ, ◌<◌, List, length, All}
+use Rattle.std.specs.List.{sum_by}
+use Rattle.auc_mail.specs.Mail.{Mail, empty_mail}
+use Rattle.auc_mail.specs.Run.{Run}
+use Rattle.auc_mail.specs.Letters.{sent, handed, LosesNothing, HandsOutInOrder, NothingBehindClose}
+use Rattle.auc_book.specs.declared.line.TrailLine.{TrailLine}
+use Rattle.auc_book.specs.declared.error.SettleError.{SettleError}
+use Rattle.auc_book.specs.declared.error.SettleError.TheVariants.{Missing, Differs, NoTrail}
+use Rattle.auc_book.specs.Trail.{events_of, lines_of, IsOwn, IsTakeAt}
+use Rattle.auc_book.specs.Seat.{Account}
+
+-- none of the seats is the worker's
+abbrev pub IsUnseated : {T : Type 0} → List (Account T) → ℕ → Type 0
+IsUnseated seats k = All (λ a. a.worker ≢ k) seats
+
+-- each worker has a seat among these
+abbrev pub EachSeated : {T : Type 0} → ℕ → List (Account T) → Type 0
+EachSeated workers seats = (k : ℕ) → k < workers → ¬ (IsUnseated seats k)
+
+-- the seat's lines are the trail's lines of its worker
+abbrev pub Agrees : {T : Type 0} → List (TrailLine T) → Account T → Type 0
+Agrees trail a = lines_of a.worker trail ≡ a.lines
+
+-- what was sent in the worker's name, to any box, is what the seat's own lines tell
+abbrev pub TellsSent : {T : Type 0} → List (TrailLine T) → Account T → Type 0
+TellsSent trail a = (b : ℕ) → sent b a.worker (events_of trail) ≡ sent b a.worker (events_of a.lines)
+
+-- what a box handed out is what the seat's own lines tell, where its worker alone takes from the box
+abbrev pub TellsHanded : {T : Type 0} → List (TrailLine T) → Account T → Type 0
+TellsHanded trail a = (b k : ℕ) → All (λ l. IsTakeAt b l.call → l.worker ≡ a.worker) trail → handed b k (events_of trail) ≡ handed b k (events_of a.lines)
+
+-- The trail is a run from the empty mail of these numbers, as long as the seats counted together, and each seat's lines are those of its worker.
+pub record IsSettled {T : Type 0} (boxes workers nodes most room : ℕ) (seats : List (Account T)) (trail : List (TrailLine T)) : Type 0 where
+  pub kept : 0 < room
+  pub last : Mail T
+  pub run : Run (empty_mail boxes workers nodes most) (events_of trail) last
+  -- so each lane keeps its letters and their order, and a closed box accepts nothing
+  pub lossless : LosesNothing (events_of trail) last
+  pub in_order : HandsOutInOrder (events_of trail)
+  pub closed : NothingBehindClose (events_of trail)
+  -- each call stands in the trail once, in its worker's order
+  pub counted : length trail ≡ sum_by (λ a. a.count) seats
+  pub seated : EachSeated workers seats
+  pub agree : All (Agrees trail) seats
+  pub own : All (λ l. (l.worker < workers) × IsOwn l.worker l.call) trail
+  -- and the seats tell what was sent and handed out
+  pub sent_told : All (TellsSent trail) seats
+  pub handed_told : All (TellsHanded trail) seats
+
+-- When each error stands: no trail and a missing seat exactly at their causes, and a difference only where neither is.
+abbrev pub IsUnsettled : {T : Type 0} → ℕ → ℕ → List (Account T) → SettleError → Type 0
+IsUnsettled workers room seats NoTrail = room ≡ 0
+IsUnsettled workers room seats Missing = (0 < room) × ((k : ℕ) × (k < workers) × IsUnseated seats k)
+IsUnsettled workers room seats Differs = (0 < room) × EachSeated workers seats

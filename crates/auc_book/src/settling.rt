@@ -1,0 +1,62 @@
+ghost use Rattle.std.specs.Prelude.{◌≡◌, ◌≢◌, IfOk, IfErr, MatchOption, All};
+ghost use Rattle.auc_mail.specs.Equality.{EqualIsSame};
+ghost use Rattle.auc_book.specs.Seats.{IsPlaceOf, TakesSeat};
+ghost use Rattle.auc_book.specs.Settling.{IsSettled, IsUnsettled, IsUnseated};
+
+use crate::desk::Desk;
+use crate::error::SettleError;
+use crate::line::same_lines;
+use crate::name::MailName;
+use crate::seat::Seat;
+use crate::trail::Trail;
+
+// Where a seat of the worker stands.
+fn place_of<T: Copy, N: MailName>(seats: &[Seat<T, N>], worker: u32) -> Option<usize>
+    ensures { MatchOption result (IsUnseated seats.now worker) (λ i. IsPlaceOf worker seats.now i) }
+{
+    for (i, seat) in seats.iter().enumerate() {
+        if seat.worker() == worker {
+            return Some(i);
+        }
+    }
+    None
+}
+
+// Takes a seat of the worker out of the list.
+fn take_seat<T: Copy, N: MailName>(seats: &mut Vec<Seat<T, N>>, worker: u32) -> Option<Seat<T, N>>
+    ensures { MatchOption result (IsUnseated seats.old.items worker × (seats.new.items ≡ seats.old.items)) (λ seat. TakesSeat worker seats.old.items seat seats.new.items) }
+{
+    match place_of(seats.as_slice(), worker) {
+        None => None,
+        Some(place) => Some(seats.remove(place)),
+    }
+}
+
+// Compares the seats with the trail. They are taken out in the workers' order, whatever order they came in, and none may be left.
+pub(crate) fn settle<T: Copy + Eq, N: MailName>(
+    desk: Desk<T, N>,
+    workers: u32,
+    seats: Vec<Seat<T, N>>,
+) -> Result<Trail<T>, SettleError>
+    requires workers { workers ≡ N.workers }
+    requires same { EqualIsSame T.eq }
+    ensures settled { IfOk result (IsSettled N.boxes N.workers N.nodes N.most N.room seats.items) }
+    ensures unsettled { IfErr result (IsUnsettled N.workers N.room seats.items) }
+{
+    if desk.room() == 0 {
+        return Err(SettleError::NoTrail);
+    }
+    let lines = desk.into_lines();
+    let mut seats = seats;
+    let mut same = true;
+    for worker in 0..workers {
+        let Some(seat) = take_seat(&mut seats, worker) else {
+            return Err(SettleError::Missing);
+        };
+        same = same && same_lines(lines.as_slice(), worker, seat.lines());
+    }
+    if !same || !seats.is_empty() {
+        return Err(SettleError::Differs);
+    }
+    Ok(Trail::new(lines))
+}

@@ -1,0 +1,209 @@
+ghost use Rattle.std.specs.Prelude.{◌≡◌, ◌≢◌, ◌<◌, IfOk, OnOk, IfErr, map, Ok};
+ghost use Rattle.std.specs.List.{range_with_len};
+ghost use Rattle.auc_mail.specs.declared.call.Call.TheVariants as Call;
+ghost use Rattle.auc_mail.specs.Equality.{EqualIsSame};
+ghost use Rattle.auc_mail.specs.Limits.{LanesFit, NodesFit};
+ghost use Rattle.auc_book.specs.Limits.{RoomFits, IsRefusedFor};
+ghost use Rattle.auc_book.specs.Replies.{close_reply, post_reply, take_reply};
+ghost use Rattle.auc_book.specs.Seat.{new_account, SeatCalls};
+ghost use Rattle.auc_book.specs.Desk.{IsNumbered};
+ghost use Rattle.auc_book.specs.Settling.{IsSettled, IsUnsettled};
+
+use crate::desk::Desk;
+use crate::error::{CallRefused, SettleError, TrailFull};
+use crate::name::MailName;
+use crate::seat::Seat;
+use crate::settling;
+use crate::state::MailState;
+use crate::trail::Trail;
+use auc_mail::{MailError, Taken};
+use std::alloc::{AllocError, Global};
+use std::sync::ledger::{Blank, Share};
+use std::sync::{Condvar, Mutex, Wait};
+
+/// A mail that threads share: a `MailState` under a lock.
+///
+/// Each call is made while the lock is held, and is noted in the trail under the lock and in the seat of its worker. Its name `N` fixes
+/// its numbers and the ledger of its calls.
+///
+/// Nothing is said of whether a thread ever gets the lock, or of whether one that waits is ever woken.
+#[derive(Drop)]
+pub struct SharedMail<T: Copy, N: MailName> {
+    desk: Mutex<Desk<T, N>>,
+    changed: Condvar,
+    workers: u32,
+    ghost workers_are: { workers ≡ N.workers },
+}
+
+// A seat for each worker, in order.
+fn new_seats<T: Copy, N: MailName>(
+    alloc: Global,
+    workers: u32,
+    room: u32,
+    shares: Share<N>,
+) -> Result<Vec<Seat<T, N>>, AllocError>
+    requires number { workers ≡ N.workers }
+    requires room { room ≡ N.room }
+    requires shares { (shares.parts ≡ workers) × (shares.amount ≡ 0) }
+    ensures { IfOk result (λ seats. seats.items ≡ map new_account (range_with_len 0 workers)) }
+{
+    let mut shares = shares;
+    let mut seats = Vec::with_capacity(alloc, workers as usize)?;
+    for worker in 0..workers {
+        let share = shares.split_off(1, 0);
+        seats.push_reserved(Seat::new(alloc, worker, room, share)?);
+    }
+    Ok(seats)
+}
+
+impl<T: Copy, N: MailName> SharedMail<T, N> {
+    /// The empty mail with nothing noted, and a seat for each worker, in order.
+    ///
+    /// The numbers are those of `MailState::make`, and each seat has places for `room` lines of its own. `ledger` is an unopened one, with a part for
+    /// each worker. The conditions tie the name in the type to these arguments: who calls code that is generic over the name picks it so.
+    ///
+    /// Errors: those of `MailState::make`, in the same order.
+    ///
+    /// Takes the time of `MailState::make` and O(workers), and its memory and that for `workers * room` lines.
+    pub fn make(
+        alloc: Global,
+        boxes: u32,
+        workers: u32,
+        nodes: u32,
+        most: u64,
+        blank: T,
+        room: u32,
+        ledger: Blank,
+    ) -> Result<(SharedMail<T, N>, Vec<Seat<T, N>>), MailError>
+        requires name { ledger.name ≡ N.name }
+        requires parts { (ledger.parts ≡ N.parts) × (N.parts ≡ workers) }
+        requires numbers { (boxes ≡ N.boxes) × (workers ≡ N.workers) × (nodes ≡ N.nodes) × (most ≡ N.most) × (room ≡ N.room) }
+        requires some_worker { 0 < workers }
+        ensures seats { IfOk result (λ r. r.1.items ≡ map new_account (range_with_len 0 workers)) }
+        ensures within { OnOk result (LanesFit boxes workers × NodesFit nodes × RoomFits room) }
+        ensures refused { IfErr result (IsRefusedFor boxes workers nodes room) }
+    {
+        let state = MailState::make(alloc, boxes, workers, nodes, most, blank, room)?;
+        let (total, shares) = ledger.open::<N>();
+        let Ok(seats) = new_seats(alloc, workers, room, shares) else {
+            return Err(MailError::NoMemory);
+        };
+        let mail = SharedMail {
+            desk: Mutex::new(Desk::new(state, total)),
+            changed: Condvar::new(),
+            workers,
+        };
+        Ok((mail, seats))
+    }
+
+    /// Posts `item` to the box `to` in the name of the seat's worker, and answers the letter's number in its lane, from 1. Wakes all who
+    /// wait at this mail.
+    ///
+    /// Refused as by `MailState::post`; after `TrailFull` the seat is unchanged. Takes O(1) time under the lock, and no memory.
+    pub fn post<R: Wait>(
+        &self,
+        rt: &R,
+        seat: &mut Seat<T, N>,
+        to: u32,
+        item: T,
+        reserve: u32,
+    ) -> Result<u64, CallRefused>
+        requires { to < N.boxes }
+        ensures { SeatCalls N.room seat.old (Call.Post seat.old.worker to item reserve) (post_reply result) seat.new }
+    {
+        let answer = self.desk.lock(rt).post(seat, to, item, reserve);
+        self.changed.notify_all();
+        answer
+    }
+
+    /// Takes the first waiting letter of one of the box's lanes; where none has one, says whether one may still come.
+    ///
+    /// Refused where no more calls can be noted: the seat is unchanged, and all who wait at this mail are woken. Takes the time of
+    /// `MailPool::take` under the lock, and no memory.
+    pub fn try_take<R: Wait>(
+        &self,
+        rt: &R,
+        seat: &mut Seat<T, N>,
+        at: u32,
+    ) -> Result<Taken<T>, TrailFull>
+        requires { at < N.boxes }
+        ensures { SeatCalls N.room seat.old (Call.Take at) (take_reply result) seat.new }
+    {
+        let answer = self.desk.lock(rt).take(seat, at);
+        self.wake_if_refused(answer);
+        answer
+    }
+
+    /// Takes the first waiting letter of one of the box's lanes, and waits until there is one or the box is closed. To wait is no call.
+    ///
+    /// Refused where no more calls can be noted, which it looks for each time it has the lock: the seat is unchanged, and all who wait at this
+    /// mail are woken. Each time it has the lock it takes the time of `MailPool::waiting`, and no memory.
+    pub fn take<R: Wait>(
+        &self,
+        rt: &R,
+        seat: &mut Seat<T, N>,
+        at: u32,
+    ) -> Result<Taken<T>, TrailFull>
+        requires { at < N.boxes }
+        ensures seat { SeatCalls N.room seat.old (Call.Take at) (take_reply result) seat.new }
+        ensures waited { result ≢ Ok Taken.Empty }
+    {
+        let mut desk = self
+            .changed
+            .wait_while(rt, self.desk.lock(rt), |desk| desk.is_waiting(at));
+        let answer = desk.take(seat, at);
+        drop(desk);
+        self.wake_if_refused(answer);
+        answer
+    }
+
+    /// Closes the box, and answers whether it was still open. Its waiting letters stay. Wakes all who wait at this mail.
+    ///
+    /// Refused where no more calls can be noted: the seat is unchanged. Takes O(1) time under the lock, and no memory.
+    pub fn close<R: Wait>(&self, rt: &R, seat: &mut Seat<T, N>, at: u32) -> Result<bool, TrailFull>
+        requires { at < N.boxes }
+        ensures { SeatCalls N.room seat.old (Call.Close at) (close_reply result) seat.new }
+    {
+        let answer = self.desk.lock(rt).close(seat, at);
+        self.changed.notify_all();
+        answer
+    }
+
+    /// What `f` gives of the state as it stands, while nobody else calls. This is no call, and is not noted. `f` may be called on every state.
+    pub fn look<R: Wait, A, F: FnOnce(&MailState<T>) -> A>(&self, rt: &R, f: F) -> A
+        requires { F.IsAlwaysCallable f }
+        ensures { (state : _) × F.post f state result × IsNumbered N.boxes N.workers N.nodes N.most N.room state.now }
+    {
+        let desk = self.desk.lock(rt);
+        f(desk.state())
+    }
+
+    /// Ends the mail: the trail, where each worker's seat is among these and its lines are the trail's lines of that worker, in order and with
+    /// the same answers.
+    ///
+    /// Errors are looked at in this order: `NoTrail` where the mail was made with no room for one; `Missing` where a worker's seat
+    /// isn't among these; `Differs`. The mail and the seats are used up in every case.
+    ///
+    /// Takes O(workers * (lines + seats)) time and no memory. The condition on `==` of items holds of numbers, and of letters of the solver.
+    pub fn settle(self, seats: Vec<Seat<T, N>>) -> Result<Trail<T>, SettleError>
+    where
+        T: Eq,
+        requires { EqualIsSame T.eq }
+        ensures settled { IfOk result (IsSettled N.boxes N.workers N.nodes N.most N.room seats.items) }
+        ensures unsettled { IfErr result (IsUnsettled N.workers N.room seats.items) }
+    {
+        let SharedMail {
+            desk,
+            changed: _,
+            workers,
+        } = self;
+        settling::settle(desk.into_inner(), workers, seats)
+    }
+
+    // A refused take wakes all who wait at this mail, since they would be refused too.
+    fn wake_if_refused(&self, answer: Result<Taken<T>, TrailFull>) {
+        if answer.is_err() {
+            self.changed.notify_all();
+        }
+    }
+}

@@ -1,0 +1,214 @@
+//! Workers in threads of their own: what they post and take, whatever order their calls come in.
+
+ghost use Rattle.std.specs.Prelude.{◌≡◌, ◌<◌};
+
+use auc_book::{MailName, Seat, SharedMail, TrailFull, TrailLine};
+use auc_mail::{Reply, Taken};
+use std::alloc::{AllocError, Global};
+use std::marker::Brand;
+use std::process::Abort;
+use std::sync::Wait;
+use std::sync::ledger::Blank;
+use std::test::*;
+use std::thread::{Threads, join, map_vec};
+
+// The letter with this number that the worker posts in these examples.
+fn item_of(worker: u32, number: u64) -> u64 {
+    u64::from(worker).wrapping_mul(10).wrapping_add(number)
+}
+
+// Posts three letters to the first box.
+fn posts<N: MailName, R: Wait>(rt: &R, mail: &SharedMail<u64, N>, seat: &mut Seat<u64, N>)
+    requires { 0 < N.boxes }
+{
+    for number in 1..4 {
+        let item = item_of(seat.worker(), number);
+        let _ = mail.post(rt, seat, 0, item, 0);
+    }
+}
+
+// How many letters the lines tell of, and whether each is the one of its sender with its number.
+fn letters(lines: &[TrailLine<u64>]) -> (u32, bool) {
+    let mut count: u32 = 0;
+    let mut right = true;
+    for line in lines {
+        if let Reply::Took(
+            Taken::Letter {
+                sender,
+                number,
+                item,
+            },
+        ) = line.reply
+        {
+            count = count.wrapping_add(1);
+            right = right && item == item_of(sender, number);
+        }
+    }
+    (count, right)
+}
+
+#[test]
+fn one_posts_and_one_takes(rt: HostRuntime) -> Result<(), Fail> {
+    trade::<Brand, _>(&rt, rt.alloc(), Blank::new(2))
+}
+
+fn trade<N: MailName + Send + Sync, R: Wait + Threads + Abort + Sync>(
+    rt: &R,
+    alloc: Global,
+    ledger: Blank,
+) -> Result<(), Fail>
+    requires name { ledger.name ≡ N.name }
+    requires parts { (ledger.parts ≡ N.parts) × (N.parts ≡ 2) }
+    requires numbers { (N.boxes ≡ 1) × (N.workers ≡ 2) × (N.nodes ≡ 4) × (N.most ≡ 9) × (N.room ≡ 100) }
+{
+    let (mail, mut seats) = SharedMail::<u64, N>::make(alloc, 1, 2, 4, 9, 0, 100, ledger)?;
+    assert_eq!(rt; seats.len(), 2);
+    let first = seats.remove(0);
+    let second = seats.remove(0);
+    let (first, second) = join(
+        rt,
+        || -> Seat<u64, N>
+            requires { 0 < N.boxes }
+        { posts_and_closes(rt, &mail, first) },
+        || -> Seat<u64, N>
+            requires { 0 < N.boxes }
+        { takes_all(rt, &mail, second) },
+    );
+    assert_eq!(rt; (first.count(), second.count()), (4, 4));
+    assert_eq!(rt; letters(second.lines()), (3, true));
+    assert_eq!(rt;
+        second.lines().last().map(|line| line.reply),
+        Some(Reply::Took(Taken::Over))
+    );
+    seats.push(first)?;
+    seats.push(second)?;
+    let trail = mail.settle(seats)?;
+    assert_eq!(rt; trail.lines().len(), 8);
+    assert_eq!(rt; letters(trail.lines()), (3, true));
+    Ok(())
+}
+
+fn posts_and_closes<N: MailName, R: Wait>(
+    rt: &R,
+    mail: &SharedMail<u64, N>,
+    seat: Seat<u64, N>,
+) -> Seat<u64, N>
+    requires { 0 < N.boxes }
+{
+    let mut seat = seat;
+    posts(rt, mail, &mut seat);
+    let _ = mail.close(rt, &mut seat, 0);
+    seat
+}
+
+// Takes until the box is over, or no more can be noted.
+fn takes_all<N: MailName, R: Wait>(
+    rt: &R,
+    mail: &SharedMail<u64, N>,
+    seat: Seat<u64, N>,
+) -> Seat<u64, N>
+    requires { 0 < N.boxes }
+{
+    let mut seat = seat;
+    for _ in rt.forever() {
+        match mail.take(rt, &mut seat, 0) {
+            Ok(Taken::Letter { .. }) => {}
+            _ => break,
+        }
+    }
+    seat
+}
+
+#[test]
+fn five_post_and_take(rt: HostRuntime) -> Result<(), Fail> {
+    crowd::<Brand, _>(&rt, rt.alloc(), Blank::new(5))
+}
+
+fn crowd<N: MailName + Send + Sync, R: Wait + Threads + Abort + Sync>(
+    rt: &R,
+    alloc: Global,
+    ledger: Blank,
+) -> Result<(), Fail>
+    requires name { ledger.name ≡ N.name }
+    requires parts { (ledger.parts ≡ N.parts) × (N.parts ≡ 5) }
+    requires numbers { (N.boxes ≡ 1) × (N.workers ≡ 5) × (N.nodes ≡ 40) × (N.most ≡ 9) × (N.room ≡ 100) }
+{
+    let (mail, seats) = SharedMail::<u64, N>::make(alloc, 1, 5, 40, 9, 0, 100, ledger)?;
+    let seats = all_trade(rt, &mail, seats)?;
+    assert!(rt; seats.iter().all(|seat| seat.count() == 6));
+    let trail = mail.settle(seats)?;
+    assert_eq!(rt; trail.lines().len(), 30);
+    assert_eq!(rt; letters(trail.lines()), (15, true));
+    Ok(())
+}
+
+// Each worker in a thread of its own.
+fn all_trade<N: MailName + Send + Sync, R: Wait + Threads + Sync>(
+    rt: &R,
+    mail: &SharedMail<u64, N>,
+    seats: Vec<Seat<u64, N>>,
+) -> Result<Vec<Seat<u64, N>>, AllocError>
+    requires { 0 < N.boxes }
+{
+    let work = |seat: Seat<u64, N>| -> Seat<u64, N>
+        requires { 0 < N.boxes }
+    { posts_and_takes(rt, mail, seat) };
+    map_vec(rt, seats, &work)
+}
+
+// Posts three letters, and then takes three. So there is a letter for each take, whoever comes first.
+fn posts_and_takes<N: MailName, R: Wait>(
+    rt: &R,
+    mail: &SharedMail<u64, N>,
+    seat: Seat<u64, N>,
+) -> Seat<u64, N>
+    requires { 0 < N.boxes }
+{
+    let mut seat = seat;
+    posts(rt, mail, &mut seat);
+    for _ in 0..3 {
+        let _ = mail.take(rt, &mut seat, 0);
+    }
+    seat
+}
+
+#[test]
+fn a_full_trail_ends_a_wait(rt: HostRuntime) -> Result<(), Fail> {
+    fill::<Brand, _>(&rt, rt.alloc(), Blank::new(2))
+}
+
+// The first box stays empty and open; the calls on the second one fill the trail, which ends the wait at the first.
+fn fill<N: MailName + Send + Sync, R: Wait + Threads + Abort + Sync>(
+    rt: &R,
+    alloc: Global,
+    ledger: Blank,
+) -> Result<(), Fail>
+    requires name { ledger.name ≡ N.name }
+    requires parts { (ledger.parts ≡ N.parts) × (N.parts ≡ 2) }
+    requires numbers { (N.boxes ≡ 2) × (N.workers ≡ 2) × (N.nodes ≡ 4) × (N.most ≡ 9) × (N.room ≡ 2) }
+{
+    let (mail, mut seats) = SharedMail::<u64, N>::make(alloc, 2, 2, 4, 9, 0, 2, ledger)?;
+    assert_eq!(rt; seats.len(), 2);
+    let mut first = seats.remove(0);
+    let second = seats.remove(0);
+    let (refused, second) = join(
+        rt,
+        || -> Result<bool, TrailFull>
+            requires { 1 < N.boxes }
+        {
+            let _ = mail.try_take(rt, &mut first, 1);
+            let _ = mail.close(rt, &mut first, 1);
+            mail.close(rt, &mut first, 1)
+        },
+        || -> Seat<u64, N>
+            requires { 0 < N.boxes }
+        { takes_all(rt, &mail, second) },
+    );
+    assert_eq!(rt; refused, Err(TrailFull));
+    assert_eq!(rt; (first.count(), second.count()), (2, 0));
+    seats.push(first)?;
+    seats.push(second)?;
+    let trail = mail.settle(seats)?;
+    assert_eq!(rt; trail.lines().len(), 2);
+    Ok(())
+}

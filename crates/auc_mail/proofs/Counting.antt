@@ -1,10 +1,11 @@
 -- How many letters wait in a box, counted by their box and by their lanes.
-use Rattle.std.proofs.Common.{◌≡◌, ◌≢◌, ℕ, ◌+◌, ◌*◌, ◌<◌, ◌==◌, Bool, true, false, cond, List, [], ◌∷◌, length, sum, refl, ap, sym, ◌∙◌, ⊎_elim, arith, All}
+use Rattle.std.proofs.Common.{◌≡◌, ◌≢◌, ℕ, ◌+◌, ◌*◌, ◌<◌, ◌==◌, Bool, true, false, cond, List, [], ◌∷◌, length, get_or, sum, refl, ap, sym, ◌∙◌, ⊎_elim, arith, All}
 use Rattle.std.specs.List.{range_with_len, count_by}
 use Rattle.std.proofs.lemmas.List.Elements.{All-head, All-tail, All-weaker}
-use Rattle.std.proofs.lemmas.List.Sums.{sum-map, sum_by-cons}
+use Rattle.std.proofs.lemmas.List.Sums.{sum-map, sum_by-cons, get_or-le-sum_by}
 use Rattle.std.proofs.lemmas.Bool.{cases_eq}
 use Rattle.auc_mail.specs.Mail.{Lane, Mail, lane_of, waiting_at}
+use Rattle.auc_mail.specs.Backlog.{IsFirstOf}
 use Rattle.auc_mail.specs.Pool.{waiting_in, mail_of, IsKept}
 use Rattle.auc_mail.specs.declared.pool.Counts.{Counts}
 use Rattle.auc_mail.specs.declared.backlog.Waiting.{Waiting}
@@ -42,6 +43,22 @@ box_total {T} senders at (l ∷ ls) all =
     let none : pass (l.to == at) ≡ pass false = ap pass (test_other l.to at ne) in
     omega (arith, rest, counted, ap sum same, none))
     (cases_eq l.to at)
+
+-- no letter to the box, and some letter to it, by their count
+pub count_none : {T : Type 0} (at : ℕ) (letters : List (Waiting T)) → All (λ l. l.to ≢ at) letters → count_by (λ l. l.to == at) letters ≡ 0
+count_none at [] none = refl
+count_none {T} at (l ∷ ls) none =
+    let pass : Bool → ℕ = λ b. cond b 1 0 in
+    let zero : pass (l.to == at) ≡ pass false = ap pass (test_other l.to at (All-head (λ (l : Waiting T). l.to ≢ at) l ls none)) in
+    omega (arith, sum_by-cons (λ (l : Waiting T). cond (l.to == at) 1 0) l ls, count_none at ls (All-tail (λ (l : Waiting T). l.to ≢ at) l ls none), zero)
+
+pub count_some : {T : Type 0} (at : ℕ) (letters : List (Waiting T)) (i : ℕ) → IsFirstOf at letters i → 0 < count_by (λ l. l.to == at) letters
+count_some at [] i first = absurd (omega (arith, first.here))
+count_some {T} at (l ∷ ls) i first =
+    let pass : Bool → ℕ = λ b. cond b 1 0 in
+    let found : Waiting T = get_or (l ∷ ls) i l in
+    let one : pass (found.to == at) ≡ pass true = ap pass (test_same found.to at (first.is l)) in
+    omega (arith, get_or-le-sum_by (λ (l : Waiting T). cond (l.to == at) 1 0) (l ∷ ls) i l first.here, one)
 
 module _ {T : Type 0} {senders nodes most : ℕ} {accepting : List Bool} {counts : List Counts} {letters : List (Waiting T)} {capacity : ℕ}
     (kept : IsKept senders nodes most accepting counts letters capacity) where

@@ -91,6 +91,16 @@ pub(crate) fn take_first<T: Copy>(letters: &mut VecDeque<Waiting<T>>, at: u32) -
     }
 }
 
+// Whether there is a letter to the box. Where the front letter is one, no other is read.
+pub(crate) fn has_letter<T: Copy>(letters: &VecDeque<Waiting<T>>, at: u32) -> bool
+    ensures { IsTrue result ↔ (0 < count_by (λ l. l.to == at) letters.now.items) }
+{
+    match place_of(letters, at) {
+        None => false,
+        Some(_) => true,
+    }
+}
+
 // How many letters to the box there are.
 pub(crate) fn count_of<T: Copy>(letters: &VecDeque<Waiting<T>>, at: u32) -> usize
     ensures { result ≡ count_by (λ l. l.to == at) letters.now.items }

@@ -1,11 +1,11 @@
-ghost use Rattle.std.specs.Prelude.{true, [], replicate, ◌≡◌, ◌+◌, ◌*◌, ◌≤◌, ◌↔◌, IfOk, IfErr, OnOk, IsTrue};
+ghost use Rattle.std.specs.Prelude.{true, [], replicate, ◌≡◌, ◌+◌, ◌*◌, ◌<◌, ◌≤◌, ◌↔◌, IfOk, IfErr, OnOk, IsTrue};
 ghost use Rattle.std.specs.VecDeque.{deque_capacity};
 ghost use Rattle.auc_mail.specs.Limits.{LanesFit, NodesFit, IsRefusedFor};
 ghost use Rattle.auc_mail.specs.Mail.{HasBox, HasLane, IsClosed, IsSound, empty_mail, free_of, lane_of, posted_of, waiting_at};
 ghost use Rattle.auc_mail.specs.Step.{Fits, Step, reply_to_post};
 ghost use Rattle.auc_mail.specs.Pool.{no_counts};
 
-use crate::backlog::{Waiting, count_of, take_first};
+use crate::backlog::{Waiting, count_of, has_letter, take_first};
 use crate::call::{Call, PostRefused, Reply, Taken};
 use crate::error::MailError;
 use crate::limits::{MOST_BOXES, MOST_LANES, MOST_NODES, MOST_SENDERS};
@@ -176,6 +176,14 @@ impl<T: Copy> MailPool<T> {
         // Read here, so that the proof knows its range, which bounds the count.
         let _nodes = self.nodes;
         count_of(&self.letters, at) as u32
+    }
+
+    /// Whether a letter waits in the box, of any sender. Takes the time of `take`.
+    pub fn has_letter(&self, at: u32) -> bool
+        requires { HasBox self.now at }
+        ensures { IsTrue result ↔ (0 < waiting_at self.now at) }
+    {
+        has_letter(&self.letters, at)
     }
 
     /// Posts `item` from `sender` to the box `to`, and answers the letter's number in its lane, from 1.

@@ -1,5 +1,5 @@
 -- What lies under the lock.
-use Rattle.std.proofs.Common.{◌≡◌, ℕ, ◌<◌, ◌≤◌, Bool, true, false, List, length, get_or, nat_eq, refl, IsTrue, ◌↔◌, All, inl, arith, ap, sym, ◌∙◌, subst}
+use Rattle.std.proofs.Common.{not, ◌≡◌, ℕ, ◌<◌, ◌≤◌, Bool, true, false, List, length, get_or, refl, IsTrue, ◌↔◌, All, inl, arith, ap, ◌∙◌, subst}
 use Rattle.std.specs.List.{range_with_len}
 use Rattle.std.proofs.lemmas.List.{nil_from_length}
 use Rattle.std.proofs.lemmas.List.FromFn.{get_or-range_with_len, length-range_with_len}
@@ -10,7 +10,6 @@ use Rattle.auc_mail.specs.Mail.{Mail, IsClosed, IsOpen, NothingWaits, empty_mail
 use Rattle.auc_mail.specs.Run.{Run}
 use Rattle.auc_book.specs.State.{State, IsFull, IsNoted, start_of}
 use Rattle.auc_book.specs.Desk.{IsNumbered}
-use Rattle.auc_book.proofs.Lines.{is_none, is_same}
 
 is_true : (b : Bool) → (b ≡ false → ⊥) → b ≡ true
 is_true true not_false = refl
@@ -52,9 +51,15 @@ waits_none {T} m b none =
     omega (arith, sum_by-le f 0 (range_with_len 0 m.senders) all)
 
 -- a take waits just where nothing would come of it: not full, open, and nothing waits
-pub waiting_is : {T : Type 0} (s : State T) (b count : ℕ) → count ≡ waiting_at s.mail b → (IsFull s → ⊥) → (IsClosed s.mail b → ⊥)
-    → IsTrue (nat_eq count 0) ↔ ((¬ (IsFull s)) × IsOpen s.mail b × NothingWaits s.mail b)
-waiting_is {T} s b count is not_full not_closed = (
-  (λ zero. (not_full, is_true (is_open s.mail b) not_closed, none_waits s.mail b (sym is ∙ is_none count (sym zero)))),
-  (λ all. is_same count 0 (is ∙ waits_none s.mail b all.2)),
+pub waiting_is : {T : Type 0} (s : State T) (b : ℕ) (some : Bool) → IsTrue some ↔ (0 < waiting_at s.mail b) → (IsFull s → ⊥) → (IsClosed s.mail b → ⊥)
+    → IsTrue (not some) ↔ ((¬ (IsFull s)) × IsOpen s.mail b × NothingWaits s.mail b)
+waiting_is {T} s b true is not_full not_closed = (
+  (λ e. let false_is_true : false ≡ true = e in absurd cc),
+  (λ all. let some = is.0 refl in absurd (omega (arith, some, waits_none s.mail b all.2))),
+)
+waiting_is {T} s b false is not_full not_closed = (
+  (λ e.
+      let empty : 0 < waiting_at s.mail b → ⊥ = λ lt. let false_is_true : false ≡ true = is.1 lt in cc in
+      (not_full, is_true (is_open s.mail b) not_closed, none_waits s.mail b (omega arith))),
+  (λ all. refl),
 )

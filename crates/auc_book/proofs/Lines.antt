@@ -1,7 +1,8 @@
 -- The lines of one worker in a trail.
-use Rattle.std.proofs.Common.{◌≡◌, ◌≢◌, ℕ, ◌+◌, ◌<◌, ◌==◌, Bool, true, false, cond, List, [], ◌∷◌, ◌++◌, length, get_or, take, ap, sym, ◌∙◌, arith}
-use Rattle.std.proofs.lemmas.List.{take_more, append-nil}
-use Rattle.std.proofs.lemmas.List.Elements.{filter_more}
+use Rattle.std.proofs.Common.{◌≡◌, ◌≢◌, ℕ, suc, ◌+◌, ◌<◌, ◌≤◌, ◌==◌, Bool, true, false, cond, List, [], ◌∷◌, ◌++◌, length, get_or, take, drop, drop-cons, ap, sym, ◌∙◌, arith, length-append}
+use Rattle.std.proofs.Math.Seq.{get_or-append_seam}
+use Rattle.std.proofs.lemmas.List.{take_more, take-append-drop, length-take-le, append-nil}
+use Rattle.std.proofs.lemmas.List.Elements.{filter_more, filter-append}
 use Rattle.std.proofs.lemmas.Bool.Decides.{nat_tests}
 use Rattle.auc_book.specs.declared.line.TrailLine.{TrailLine}
 use Rattle.auc_book.specs.Trail.{lines_of}
@@ -43,3 +44,25 @@ not_true e = cc
 
 pub is_none : (n : ℕ) → true ≡ (n == 0) → n ≡ 0
 is_none n e = grind (arith, nat_tests)
+
+-- The worker's next line stands at the place in any list that has all his lines.
+pub next_line : {T : Type 0} (trail lines : List (TrailLine T)) (worker i place : ℕ) (x : TrailLine T)
+    → i < length trail → x ≡ get_or trail i x → x.worker ≡ worker → place ≤ length lines → lines_of worker (take i trail) ≡ take place lines
+    → lines_of worker trail ≡ lines → (place < length lines) × ((d : TrailLine T) → x ≡ get_or lines place d)
+next_line {T} trail lines worker i place x lt read own le before same =
+    let rest = lines_of worker (drop (suc i) trail) in
+    let long : length (take place lines) ≡ place = length-take-le place lines le in
+    let split : trail ≡ take i trail ++ x ∷ drop (suc i) trail =
+    sym (take-append-drop i trail) ∙ ap (λ w. take i trail ++ w) (drop-cons trail i x lt ∙ ap (λ w. w ∷ drop (suc i) trail) (sym read)) in
+    let here : lines_of worker (x ∷ drop (suc i) trail) ≡ x ∷ rest = ap (λ b. cond b (x ∷ rest) rest) (is_same x.worker worker own) in
+    let whole : lines ≡ take place lines ++ x ∷ rest =
+    sym same
+    ∙ (ap (lines_of worker) split
+    ∙ (filter-append (λ l. l.worker == worker) (take i trail) (x ∷ drop (suc i) trail)
+    ∙ (ap (λ w. w ++ lines_of worker (x ∷ drop (suc i) trail)) before ∙ ap (λ w. take place lines ++ w) here))) in (
+      omega (arith, ap length whole, length-append (take place lines) (x ∷ rest), long),
+      (λ d. sym (
+          ap (λ w. get_or w place d) whole
+          ∙ (ap (λ (n : ℕ). get_or (take place lines ++ x ∷ rest) n d) (sym long) ∙ get_or-append_seam (take place lines) x rest d)
+          )),
+    )

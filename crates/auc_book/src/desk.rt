@@ -140,7 +140,7 @@ impl<T: Copy, N: MailName> Desk<T, N> {
         if self.state.is_full() || pool.is_closed(at) {
             return false;
         }
-        pool.waiting(at) == 0
+        !pool.has_letter(at)
     }
 
     // How many lines the trail has room for.

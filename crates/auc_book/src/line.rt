@@ -34,7 +34,7 @@ pub(crate) fn same_lines<T: Copy + Eq>(
     lines: &[TrailLine<T>],
 ) -> bool
     requires { EqualIsSame T.eq }
-    ensures { IsTrue result → lines_of worker trail.now ≡ lines.now }
+    ensures { IsTrue result ↔ (lines_of worker trail.now ≡ lines.now) }
 {
     let mut place: usize = 0;
     for line in trail {

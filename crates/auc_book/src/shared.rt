@@ -137,7 +137,8 @@ impl<T: Copy, N: MailName> SharedMail<T, N> {
     /// Takes the first waiting letter of one of the box's lanes, and waits until there is one or the box is closed. To wait is no call.
     ///
     /// Refused where no more calls can be noted, which it looks for each time it has the lock: the seat is unchanged, and all who wait at this
-    /// mail are woken. Each time it has the lock it takes the time of `MailPool::waiting`, and no memory.
+    /// mail are woken. Takes the time of `MailPool::take` each time it has the
+    /// lock, and no memory.
     pub fn take<R: Wait>(
         &self,
         rt: &R,

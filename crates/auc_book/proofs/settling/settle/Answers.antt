@@ -27,7 +27,7 @@ loop-worker-preserved g c =
     (λ yes.
     elim c.if-same.branch [
       | then-same w ↦
-          let found : lines_of c.loop-worker.worker w.as_slice.result.now ≡ w.lines.result.now = w.same_lines-same.ensures (sym w.same-is ∙ yes) in
+          let found : lines_of c.loop-worker.worker w.as_slice.result.now ≡ w.lines.result.now = w.same_lines-same.ensures.0 (sym w.same-is ∙ yes) in
           (w.if-same.true, ap (λ ls. lines_of c.loop-worker.worker ls) (sym w.as_slice.ensures.value) ∙ (found ∙ w.lines.ensures.lines))
       | else-same w ↦ absurd (not_true (sym w.if-same.false ∙ (sym w.same-is ∙ yes)))
     ])

@@ -4,3 +4,4 @@ pub mod Lines
 pub mod Seats
 pub mod Telling
 pub mod Settled
+pub mod WorkedRows

@@ -53,6 +53,7 @@ impl<T: Copy, N: MailName> Desk<T, N> {
     }
 
     // Makes the call of the seat's worker, and notes it here and there. None where no more can be noted.
+    #[tactic(auto, using(crate::proofs::Desks::place_left))]
     fn note(&mut self, seat: &mut Seat<T, N>, call: Call<T>) -> Option<Reply<T>>
         requires fits { FitsIn N.workers N.boxes call }
         requires own { IsOwn seat.old.worker call }

@@ -1,7 +1,0 @@
-use Rattle.book_examples.proofs.worked.no_trail_was_kept.Given as goal
-
-abbrev pub ghosts-untold-N-Ledger : goal.ghosts-untold-N-Ledger
-ghosts-untold-N-Ledger g a = record { name = a.ledger.name; parts = a.ledger.parts }
-
-abbrev pub ghosts-untold-N-MailName : goal.ghosts-untold-N-MailName
-ghosts-untold-N-MailName g a = record { boxes = 1; workers = 2; nodes = 4; most = 9; room = 0 }

@@ -1,10 +1,9 @@
 -- What holds of each world holds still when a shard, an outbox or a mail is another.
-use Rattle.std.proofs.Common.{ℕ, ◌%◌, ◌<◌, ◌≡◌, ◌≢◌, List, [], ◌∷◌, drop, length, get_or, set, inl, inr, refl, ap, sym, subst, ◌∙◌, arith, length-set}
-use Rattle.std.specs.Prelude.{ℤ, pos, negsuc, ◌≤ℤ◌, ◌<ℤ◌, ◌⊎◌, Option, Some, None, All, Result, Ok, Err}
+use Rattle.std.proofs.Common.{ℕ, ◌*◌, ◌%◌, ◌<◌, ◌≡◌, ◌≢◌, List, [], ◌∷◌, drop, length, get_or, set, inl, inr, refl, ap, sym, subst, ◌∙◌, arith, length-set}
+use Rattle.std.specs.Prelude.{IfSome, ℤ, pos, negsuc, ◌≤ℤ◌, ◌<ℤ◌, ◌⊎◌, Option, Some, None, All, Result, Ok, Err}
 use Rattle.std.proofs.lemmas.Bool.{cases_eq, cases_lt}
 use Rattle.std.proofs.lemmas.Int.{ints}
 use Rattle.std.proofs.lemmas.List.{get_or-set_same, get_or-set_other}
-use Rattle.arrayvec.specs.ArrayVec.{ArrayVec}
 use Rattle.auc_graph.specs.Table.{Table}
 use Rattle.auc_letters.specs.declared.letter.Letter.{Letter}
 use Rattle.auc_letters.specs.declared.out.Out.{Out}
@@ -23,7 +22,10 @@ use Rattle.auc_letters.specs.declared.state.PersonState.{PersonState}
 use Rattle.auc_persons.specs.declared.bidding.Bidding.{Bidding}
 use Rattle.auc_persons.specs.declared.bidding.PersonFault.{PersonFault}
 use Rattle.auc_persons.specs.Persons.{Persons, SameShape as SamePersons, Owns as OwnsPerson, NextBid, OnLetter, Answered, free_after}
-use Rattle.auc_world.specs.Parts.{AreParts, IsMail, IsObjectShard, IsPersonShard, Parts, Reaches, no_letters, no_objects, no_persons, objects_at, persons_at}
+use Rattle.auc_model.specs.declared.turn.MailName.{MailName}
+use Rattle.auc_world.specs.declared.mails.Mails.{Mails}
+use Rattle.auc_world.specs.Mails.{boxes_in, named, with_named}
+use Rattle.auc_world.specs.Parts.{AreMails, AreParts, IsMail, IsObjectShard, IsPersonShard, Parts, Reaches, no_objects, no_persons, objects_at, persons_at}
 
 -- a fact about each element stays where it holds of the new one
 pub each_set : {X : Type 0} (P : ℕ → X → Type 0) (xs : List X) (d : X) (n k : ℕ) (new : X) → length xs ≡ n → k < n → P k new → ((s : ℕ) → s < n → P s (get_or xs s d)) → (s : ℕ) → s < n → P s (get_or (set xs k new) s d)
@@ -122,6 +124,17 @@ mail_shape n x y c r boxes step is =
     let shape = step_shape x y c r step in
     record { boxes_are = shape.boxes ∙ is.boxes_are; senders_are = shape.senders ∙ is.senders_are }
 
+mails_step : (n : ℕ) (x : Mails) (name : MailName) (m : Mail Letter) (c : Call Letter) (r : Reply Letter) → Step (named x name) c r m → AreMails n x → AreMails n (with_named x name m)
+mails_step n x MailName.Objects m c r step are = record { objects = mail_shape n x.objects m c r n step are.objects; persons = are.persons; hub = are.hub }
+mails_step n x MailName.Persons m c r step are = record { objects = are.objects; persons = mail_shape n x.persons m c r n step are.persons; hub = are.hub }
+mails_step n x MailName.Hub m c r step are = record { objects = are.objects; persons = are.persons; hub = mail_shape n x.hub m c r 1 step are.hub }
+
+-- the mail of each name
+pub mail_there : (p : Parts) → AreParts p → (name : MailName) → IsMail p.shards (named p.mails name) (boxes_in p.shards name)
+mail_there p are MailName.Objects = are.mails_are.objects
+mail_there p are MailName.Persons = are.mails_are.persons
+mail_there p are MailName.Hub = are.mails_are.hub
+
 module _ (p : Parts) (are : AreParts p) where
   pub keeps_persons : (s : ℕ) (new : Persons) → s < p.shards → IsPersonShard p.table p.shards s new → AreParts (record p { persons = set p.persons s new })
   keeps_persons s new known is = record {
@@ -131,16 +144,12 @@ module _ (p : Parts) (are : AreParts p) where
     table_is = are.table_is;
     persons_are = length-set p.persons s new ∙ are.persons_are;
     objects_are = are.objects_are;
-    person_outs_are = are.person_outs_are;
-    object_outs_are = are.object_outs_are;
+    outboxes_are = are.outboxes_are;
     stopped_are = are.stopped_are;
     each_persons = each_set (IsPersonShard p.table p.shards) p.persons no_persons p.shards s new are.persons_are known is are.each_persons;
     each_objects = are.each_objects;
-    each_person_out = are.each_person_out;
-    each_object_out = are.each_object_out;
-    objects_mail_is = are.objects_mail_is;
-    persons_mail_is = are.persons_mail_is;
-    hub_mail_is = are.hub_mail_is;
+    each_outbox = are.each_outbox;
+    mails_are = are.mails_are;
   }
 
   pub next_bid_keeps : (s : ℕ) (x new : Persons) (r : Bidding) → s < p.shards → x ≡ persons_at p s → NextBid p.table p.eps x r new → SamePersons x new → AreParts (record p { persons = set p.persons s new })
@@ -161,16 +170,12 @@ module _ (p : Parts) (are : AreParts p) where
     table_is = are.table_is;
     persons_are = are.persons_are;
     objects_are = length-set p.objects q new ∙ are.objects_are;
-    person_outs_are = are.person_outs_are;
-    object_outs_are = are.object_outs_are;
+    outboxes_are = are.outboxes_are;
     stopped_are = are.stopped_are;
     each_persons = are.each_persons;
     each_objects = each_set (IsObjectShard p.table p.shards) p.objects no_objects p.shards q new are.objects_are known is are.each_objects;
-    each_person_out = are.each_person_out;
-    each_object_out = are.each_object_out;
-    objects_mail_is = are.objects_mail_is;
-    persons_mail_is = are.persons_mail_is;
-    hub_mail_is = are.hub_mail_is;
+    each_outbox = are.each_outbox;
+    mails_are = are.mails_are;
   }
 
   pub on_bid_keeps : (q : ℕ) (x new : Objects) → q < p.shards → x ≡ objects_at p q → SameObjects x new → length new.holders ≡ length x.holders → AreParts (record p { objects = set p.objects q new })
@@ -182,110 +187,40 @@ module _ (p : Parts) (are : AreParts p) where
       let is : IsObjectShard p.table p.shards q x = rw e (are.each_objects q known) in
       subst (λ n. All (Reaches n) os) is.person_shards (answers_reach x.person_shards os before i j price amount least (subst (λ n. 0 < n) (sym is.person_shards) are.some) accepted refused)
 
-  pub keeps_person_outs : (s : ℕ) (new : ArrayVec Out) → s < p.shards → All (Reaches p.shards) new.items → AreParts (record p { person_outs = set p.person_outs s new })
-  keeps_person_outs s new known reach = record {
+  pub keeps_outboxes : (x : ℕ) (new : List Out) → x < 2 * p.shards → All (Reaches p.shards) new → AreParts (record p { outboxes = set p.outboxes x new })
+  keeps_outboxes x new known reach = record {
     some = are.some;
     few = are.few;
     eps_is = are.eps_is;
     table_is = are.table_is;
     persons_are = are.persons_are;
     objects_are = are.objects_are;
-    person_outs_are = length-set p.person_outs s new ∙ are.person_outs_are;
-    object_outs_are = are.object_outs_are;
+    outboxes_are = length-set p.outboxes x new ∙ are.outboxes_are;
     stopped_are = are.stopped_are;
     each_persons = are.each_persons;
     each_objects = are.each_objects;
-    each_person_out = each_set (λ _ x. All (Reaches p.shards) x.items) p.person_outs no_letters p.shards s new are.person_outs_are known reach are.each_person_out;
-    each_object_out = are.each_object_out;
-    objects_mail_is = are.objects_mail_is;
-    persons_mail_is = are.persons_mail_is;
-    hub_mail_is = are.hub_mail_is;
+    each_outbox = each_set (λ _ os. All (Reaches p.shards) os) p.outboxes [] (2 * p.shards) x new are.outboxes_are known reach are.each_outbox;
+    mails_are = are.mails_are;
   }
 
-  pub keeps_object_outs : (q : ℕ) (new : ArrayVec Out) → q < p.shards → All (Reaches p.shards) new.items → AreParts (record p { object_outs = set p.object_outs q new })
-  keeps_object_outs q new known reach = record {
+  -- a mail has made a step
+  pub keeps_mails : (name : MailName) (m : Mail Letter) (c : Call Letter) (r : Reply Letter) → Step (named p.mails name) c r m → AreParts (record p { mails = with_named p.mails name m })
+  keeps_mails name m c r step = record {
     some = are.some;
     few = are.few;
     eps_is = are.eps_is;
     table_is = are.table_is;
     persons_are = are.persons_are;
     objects_are = are.objects_are;
-    person_outs_are = are.person_outs_are;
-    object_outs_are = length-set p.object_outs q new ∙ are.object_outs_are;
+    outboxes_are = are.outboxes_are;
     stopped_are = are.stopped_are;
     each_persons = are.each_persons;
     each_objects = are.each_objects;
-    each_person_out = are.each_person_out;
-    each_object_out = each_set (λ _ x. All (Reaches p.shards) x.items) p.object_outs no_letters p.shards q new are.object_outs_are known reach are.each_object_out;
-    objects_mail_is = are.objects_mail_is;
-    persons_mail_is = are.persons_mail_is;
-    hub_mail_is = are.hub_mail_is;
+    each_outbox = are.each_outbox;
+    mails_are = mails_step p.shards p.mails name m c r step are.mails_are;
   }
 
-  pub keeps_objects_mail : (n : Mail Letter) (c : Call Letter) (r : Reply Letter) → Step p.objects_mail c r n → AreParts (record p { objects_mail = n })
-  keeps_objects_mail n c r step = record {
-    some = are.some;
-    few = are.few;
-    eps_is = are.eps_is;
-    table_is = are.table_is;
-    persons_are = are.persons_are;
-    objects_are = are.objects_are;
-    person_outs_are = are.person_outs_are;
-    object_outs_are = are.object_outs_are;
-    stopped_are = are.stopped_are;
-    each_persons = are.each_persons;
-    each_objects = are.each_objects;
-    each_person_out = are.each_person_out;
-    each_object_out = are.each_object_out;
-    objects_mail_is = mail_shape p.shards p.objects_mail n c r p.shards step are.objects_mail_is;
-    persons_mail_is = are.persons_mail_is;
-    hub_mail_is = are.hub_mail_is;
-  }
-
-  pub keeps_persons_mail : (n : Mail Letter) (c : Call Letter) (r : Reply Letter) → Step p.persons_mail c r n → AreParts (record p { persons_mail = n })
-  keeps_persons_mail n c r step = record {
-    some = are.some;
-    few = are.few;
-    eps_is = are.eps_is;
-    table_is = are.table_is;
-    persons_are = are.persons_are;
-    objects_are = are.objects_are;
-    person_outs_are = are.person_outs_are;
-    object_outs_are = are.object_outs_are;
-    stopped_are = are.stopped_are;
-    each_persons = are.each_persons;
-    each_objects = are.each_objects;
-    each_person_out = are.each_person_out;
-    each_object_out = are.each_object_out;
-    objects_mail_is = are.objects_mail_is;
-    persons_mail_is = mail_shape p.shards p.persons_mail n c r p.shards step are.persons_mail_is;
-    hub_mail_is = are.hub_mail_is;
-  }
-
-  pub keeps_hub_mail : (n : Mail Letter) (c : Call Letter) (r : Reply Letter) → Step p.hub_mail c r n → AreParts (record p { hub_mail = n })
-  keeps_hub_mail n c r step = record {
-    some = are.some;
-    few = are.few;
-    eps_is = are.eps_is;
-    table_is = are.table_is;
-    persons_are = are.persons_are;
-    objects_are = are.objects_are;
-    person_outs_are = are.person_outs_are;
-    object_outs_are = are.object_outs_are;
-    stopped_are = are.stopped_are;
-    each_persons = are.each_persons;
-    each_objects = are.each_objects;
-    each_person_out = are.each_person_out;
-    each_object_out = are.each_object_out;
-    objects_mail_is = are.objects_mail_is;
-    persons_mail_is = are.persons_mail_is;
-    hub_mail_is = mail_shape p.shards p.hub_mail n c r 1 step are.hub_mail_is;
-  }
-
-not_empty : {X : Type 0} (xs : List X) → xs ≢ [] → 0 < length xs
-not_empty [] n = absurd (n refl)
-not_empty (x ∷ xs) n = omega arith
-
--- an outbox that isn't empty has a first letter, and that goes to a box that is there
-pub first_letter : (xs ys : List Out) (d : Out) (n : ℕ) → ys ≡ xs → xs ≢ [] → All (Reaches n) ys → (ys ≡ get_or xs 0 d ∷ drop 1 ys) × Reaches n (get_or xs 0 d)
-first_letter xs ys d n e some reach = rw e (first_and_rest xs d some, All-get_or (Reaches n) xs 0 d (not_empty xs some) (rw e at reach))
+-- the first letter of an outbox goes to a box that is there
+pub first_reaches : (r : Option Out) (os : List Out) (n : ℕ) → All (Reaches n) os → IfSome r (λ o. os ≡ o ∷ drop 1 os) → IfSome r (Reaches n)
+first_reaches None os n reach h = tt
+first_reaches (Some o) os n reach h = (subst (λ (xs : List Out). All (Reaches n) xs) h reach) 0 o (omega arith)

@@ -6,14 +6,20 @@
 #![tactic(auto)]
 
 mod answer;
-mod at_once;
+mod bidding;
 mod eps;
 pub mod finish;
 mod gathering;
+pub mod hearing;
+pub mod hub;
 mod limits;
+mod mails;
 mod making;
+mod outbox;
 mod playing;
+pub mod posting;
 mod rounds;
+mod selling;
 mod solving;
 mod turns;
 mod world;

@@ -8,11 +8,14 @@ use Rattle.auc_mail.specs.Mail.{Mail}
 use Rattle.auc_persons.specs.declared.bidding.PersonFault.{PersonFault}
 use Rattle.auc_persons.specs.Persons.{OnLetter, Owns, Persons, FitsAnswer as Fitting, state_of}
 use Rattle.auc_model.specs.Hearing.{Falls, FitsAnswer, FitsLetter, PersonTakeTurn, Rises, after_letter, falls, hears, strays}
-use Rattle.auc_model.specs.World.{ended, first_end}
+use Rattle.auc_model.specs.World.{ended}
 use Rattle.auc_model.specs.declared.turn.End.{End}
 use Rattle.auc_model.specs.declared.turn.TurnReply.{TurnReply}
-use Rattle.auc_world.specs.Parts.{AreParts, IsPersonShard, Parts, TakesOne, no_persons, persons_at, phase, seen}
-use Rattle.auc_world.proofs.Bidding.{same_persons}
+use Rattle.auc_world.specs.Hearing.{reason_for}
+use Rattle.auc_world.specs.Hub.{ending}
+use Rattle.auc_world.specs.Mails.{TakesOne}
+use Rattle.auc_world.specs.Parts.{AreParts, IsPersonShard, Parts, no_persons, persons_at, phase, seen}
+use Rattle.auc_world.proofs.BiddingLaws.{same_persons}
 use Rattle.auc_world.proofs.Seen.{own_number, seen_freed, seen_held, seen_price}
 
 module _ (p : Parts) (s : ℕ) (there : s < length p.persons) (is : IsPersonShard p.table p.shards s (persons_at p s)) where
@@ -41,26 +44,26 @@ module _ (p : Parts) (s : ℕ) (there : s < length p.persons) (is : IsPersonShar
 
   -- a letter that is heard
   heard : (l : Letter) (m : Mail Letter) (n : Persons) (u : Unit {0}) → OnLetter (persons_at p s) l (Ok u) n
-      → FitsLetter (phase p) (seen p) s l × Rises (seen p) s l × (seen (record p { persons_mail = m; persons = set p.persons s n }) ≡ after_letter (record (seen p) { persons_mail = m }) s l)
+      → FitsLetter (phase p) (seen p) s l × Rises (seen p) s l × (seen (record p { mails = record p.mails { persons = m }; persons = set p.persons s n }) ≡ after_letter (record (seen p) { persons_mail = m }) s l)
   heard (Letter.Award i j q) m n u h = (
     fits_to i j q (PersonState.Waits j) h.0,
     h.1,
-    ap (λ (y : Persons). seen (record p { persons_mail = m; persons = set p.persons s y })) h.2 ∙ seen_held (record p { persons_mail = m }) s there is i j q (owner i j q (PersonState.Waits j) h.0) h.0.2,
+    ap (λ (y : Persons). seen (record p { mails = record p.mails { persons = m }; persons = set p.persons s y })) h.2 ∙ seen_held (record p { mails = record p.mails { persons = m } }) s there is i j q (owner i j q (PersonState.Waits j) h.0) h.0.2,
   )
   heard (Letter.Refused i j q) m n u h = (
     fits_to i j q (PersonState.Waits j) h.0,
     h.1,
-    ap (λ (y : Persons). seen (record p { persons_mail = m; persons = set p.persons s y })) h.2 ∙ seen_freed (record p { persons_mail = m }) s there is i j q (owner i j q (PersonState.Waits j) h.0) h.0.2,
+    ap (λ (y : Persons). seen (record p { mails = record p.mails { persons = m }; persons = set p.persons s y })) h.2 ∙ seen_freed (record p { mails = record p.mails { persons = m } }) s there is i j q (owner i j q (PersonState.Waits j) h.0) h.0.2,
   )
   heard (Letter.Outbid i j q) m n u h = (
     fits_to i j q (PersonState.Holds j) h.0,
     h.1,
-    ap (λ (y : Persons). seen (record p { persons_mail = m; persons = set p.persons s y })) h.2 ∙ seen_freed (record p { persons_mail = m }) s there is i j q (owner i j q (PersonState.Holds j) h.0) h.0.2,
+    ap (λ (y : Persons). seen (record p { mails = record p.mails { persons = m }; persons = set p.persons s y })) h.2 ∙ seen_freed (record p { mails = record p.mails { persons = m } }) s there is i j q (owner i j q (PersonState.Holds j) h.0) h.0.2,
   )
   heard (Letter.Price j q) m n u h = (
     (subst (λ k. j < k) (sym is.fits.objects) h.0.0, h.0.1),
     h.1,
-    ap (λ (y : Persons). seen (record p { persons_mail = m; persons = set p.persons s y })) h.2 ∙ seen_price (record p { persons_mail = m }) s there is j q h.0.0,
+    ap (λ (y : Persons). seen (record p { mails = record p.mails { persons = m }; persons = set p.persons s y })) h.2 ∙ seen_price (record p { mails = record p.mails { persons = m } }) s there is j q h.0.0,
   )
   heard (Letter.Bid i a j q) m n u h = absurd (let e = h.0 in cc)
   heard (Letter.First j) m n u h = absurd (let e = h.0 in cc)
@@ -90,28 +93,27 @@ module _ (p : Parts) (s : ℕ) (are : AreParts p) (known : s < p.shards) where
   there_too : s < length p.persons
   there_too = omega (arith, are.persons_are)
 
-  module _ (t v : Parts) (l : Letter) (m : Mail Letter) (takes : TakesOne p.persons_mail s l m) (e1 : t ≡ record p { persons_mail = m }) where
+  module _ (t v : Parts) (l : Letter) (m : Mail Letter) (takes : TakesOne p.mails.persons s l m) (e1 : t ≡ record p { mails = record p.mails { persons = m } }) where
     pub letter_heard : (u : Unit {0}) → OnLetter (persons_at t s) l (Ok u) (persons_at v s) → v ≡ record t { persons = set t.persons s (persons_at v s) } → PersonTakeTurn (phase p) (seen p) s TurnReply.Moved (seen v)
     letter_heard u h e2 =
         let n = persons_at v s in
         let by = heard p s there_too (are.each_persons s known) l m n u (subst (λ (z : Parts). OnLetter (persons_at z s) l (Ok u) n) e1 h) in
         hears takes.0 takes.1 l m known takes.2 by.0 by.1 refl (ap seen (e2 ∙ ap (λ (z : Parts). record z { persons = set z.persons s n }) e1) ∙ by.2)
 
-    module _ (n : Persons) (w : Parts) (e2 : w ≡ record t { persons = set t.persons s n }) (why : Why) (e3 : v ≡ record w { end = first_end w.end (End.Stopped why) }) where
+    module _ (n : Persons) (w : Parts) (e2 : w ≡ record t { persons = set t.persons s n }) (why : Why) (e3 : v ≡ record w { hub = ending w.hub (End.Stopped why) }) where
       after_fault : n ≡ persons_at p s → seen v ≡ ended (record (seen p) { persons_mail = m }) why
       after_fault same =
-          let a : v ≡ record t { persons = set t.persons s n; end = first_end t.end (End.Stopped why) } = e3 ∙ ap (λ (z : Parts). record z { end = first_end z.end (End.Stopped why) }) e2 in
-          let b : v ≡ record p { persons_mail = m; persons = set p.persons s n; end = first_end p.end (End.Stopped why) } = a ∙ ap (λ (z : Parts). record z { persons = set z.persons s n; end = first_end z.end (End.Stopped why) }) e1 in
-          ap seen b ∙ ap (λ (xs : List Persons). seen (record p { persons_mail = m; persons = xs; end = first_end p.end (End.Stopped why) })) (same_persons p s n same)
+          let a : v ≡ record t { persons = set t.persons s n; hub = ending t.hub (End.Stopped why) } = e3 ∙ ap (λ (z : Parts). record z { hub = ending z.hub (End.Stopped why) }) e2 in
+          let b : v ≡ record p { mails = record p.mails { persons = m }; persons = set p.persons s n; hub = ending p.hub (End.Stopped why) } = a ∙ ap (λ (z : Parts). record z { persons = set z.persons s n; hub = ending z.hub (End.Stopped why) }) e1 in
+          ap seen b ∙ ap (λ (xs : List Persons). seen (record p { mails = record p.mails { persons = m }; persons = xs; hub = ending p.hub (End.Stopped why) })) (same_persons p s n same)
 
-    pub letter_strayed : (w : Parts) → OnLetter (persons_at t s) l (Err PersonFault.Stray) (persons_at w s) → w ≡ record t { persons = set t.persons s (persons_at w s) } → v ≡ record w { end = first_end w.end (End.Stopped Why.Stray) } → PersonTakeTurn (phase p) (seen p) s TurnReply.Moved (seen v)
-    letter_strayed w h e2 e3 =
+    -- a fault ends the phase
+    pub letter_faulty : (w : Parts) (fault : PersonFault) → OnLetter (persons_at t s) l (Err fault) (persons_at w s) → w ≡ record t { persons = set t.persons s (persons_at w s) } → v ≡ record w { hub = ending w.hub (End.Stopped (reason_for fault)) } → PersonTakeTurn (phase p) (seen p) s TurnReply.Moved (seen v)
+    letter_faulty w PersonFault.Stray h e2 e3 =
         let n = persons_at w s in
         let by = strayed p s there_too (are.each_persons s known) l n (subst (λ (z : Parts). OnLetter (persons_at z s) l (Err PersonFault.Stray) n) e1 h) in
         strays takes.0 takes.1 l m known takes.2 by.0 refl (after_fault n w e2 Why.Stray e3 by.1)
-
-    pub letter_fell : (w : Parts) → OnLetter (persons_at t s) l (Err PersonFault.Fell) (persons_at w s) → w ≡ record t { persons = set t.persons s (persons_at w s) } → v ≡ record w { end = first_end w.end (End.Stopped Why.Fell) } → PersonTakeTurn (phase p) (seen p) s TurnReply.Moved (seen v)
-    letter_fell w h e2 e3 =
+    letter_faulty w PersonFault.Fell h e2 e3 =
         let n = persons_at w s in
         let by = fell p s there_too (are.each_persons s known) l n (subst (λ (z : Parts). OnLetter (persons_at z s) l (Err PersonFault.Fell) n) e1 h) in
         falls takes.0 takes.1 l m known takes.2 by.0 by.1 refl (after_fault n w e2 Why.Fell e3 by.2)

@@ -1,6 +1,5 @@
 -- Reading arc by arc reads what is read number by number.
 use Rattle.std.proofs.Common.{◌≡◌, ℕ, ◌+◌, ◌*◌, ◌<◌, ◌≤◌, List, [], ◌∷◌, ◌++◌, length, Result, Ok, Err, refl, sym, ap, ◌∙◌, arith}
-use Rattle.std.specs.Prelude.{ℤ, fold}
 use Rattle.std.proofs.lemmas.Bool.Decides.{nat_tests}
 use Rattle.auc_graph.specs.declared.number.Number.{Number}
 use Rattle.auc_graph.specs.declared.arc.Arc.{Arc}
@@ -54,8 +53,8 @@ module _ (limit persons objects : ℕ) (arcs : List Arc) where
   at_person x xs = at_number limit (AtPerson persons objects) arcs x xs
       ∙ goes_on_from limit (room limit (length arcs)) (λ _. (index persons (3 * length arcs + 1) (PersonRange (length arcs)) x >>= λ person. Ok (AtObject persons objects person, arcs))) xs
       ∙ alike (room limit (length arcs)) (λ _. reading_on limit (index persons (3 * length arcs + 1) (PersonRange (length arcs)) x >>= λ person. Ok (AtObject persons objects person, arcs)) xs)
-          (λ _. (index persons (3 * length arcs + 1) (PersonRange (length arcs)) x >>= λ person. reading_on limit (Ok (AtObject persons objects person, arcs)) xs))
-          (λ _. goes_on_from limit (index persons (3 * length arcs + 1) (PersonRange (length arcs)) x) (λ person. Ok (AtObject persons objects person, arcs)) xs)
+      (λ _. (index persons (3 * length arcs + 1) (PersonRange (length arcs)) x >>= λ person. reading_on limit (Ok (AtObject persons objects person, arcs)) xs))
+      (λ _. goes_on_from limit (index persons (3 * length arcs + 1) (PersonRange (length arcs)) x) (λ person. Ok (AtObject persons objects person, arcs)) xs)
 
   at_object : (person : ℕ) (x : Number) (xs : List Number) → reading_on limit (Ok (AtObject persons objects person, arcs)) (x ∷ xs)
       ≡ (index objects (3 * length arcs + 2) (ObjectRange (length arcs)) x >>= λ object. reading_on limit (Ok (AtCost persons objects person object, arcs)) xs)
@@ -97,8 +96,8 @@ module _ (limit persons objects : ℕ) (arcs : List Arc) where
   unfolding arc_at from_object
   arc_by_arc x more = at_person x more
       ∙ alike (room limit (length arcs)) (λ _. (index persons (3 * length arcs + 1) (PersonRange (length arcs)) x >>= λ person. reading_on limit (Ok (AtObject persons objects person, arcs)) more)) (λ _. arc_at persons objects (length arcs) x more >>= behind)
-          (λ _. alike (index persons (3 * length arcs + 1) (PersonRange (length arcs)) x) (λ person. reading_on limit (Ok (AtObject persons objects person, arcs)) more) (λ person. from_object person more >>= behind) (λ person. object_is person more)
-              ∙ sym (in_turn (index persons (3 * length arcs + 1) (PersonRange (length arcs)) x) (λ person. from_object person more) behind))
+      (λ _. alike (index persons (3 * length arcs + 1) (PersonRange (length arcs)) x) (λ person. reading_on limit (Ok (AtObject persons objects person, arcs)) more) (λ person. from_object person more >>= behind) (λ person. object_is person more)
+      ∙ sym (in_turn (index persons (3 * length arcs + 1) (PersonRange (length arcs)) x) (λ person. from_object person more) behind))
 
   has_room : length arcs < limit → room limit (length arcs) ≡ Ok (length arcs)
   has_room lt = grind (arith, nat_tests)

@@ -1,7 +1,7 @@
 -- Weak duality: no assignment costs less than prices say, and one that is slack-right at eps costs little more.
-use Rattle.std.proofs.Common.{◌≡◌, ℕ, zero, suc, ◌+◌, ◌<◌, Bool, true, false, eqb, eq-eqb, List, [], ◌∷◌, length, map, get_or, refl, sym, ap, subst, ◌∙◌, arith, inl, inr}
-use Rattle.std.specs.Prelude.{ℤ, pos, ◌+ℤ◌, ◌-ℤ◌, ◌*ℤ◌, ◌≤ℤ◌, ◌==◌, filter, All, Contains}
-use Rattle.std.specs.List.{AllByRecursion, range_with_len, list_any}
+use Rattle.std.proofs.Common.{◌≡◌, ℕ, zero, suc, ◌<◌, true, false, eq-eqb, List, [], ◌∷◌, length, map, get_or, refl, sym, ap, subst, ◌∙◌, arith, inl, inr}
+use Rattle.std.specs.Prelude.{ℤ, pos, ◌+ℤ◌, ◌-ℤ◌, ◌*ℤ◌, ◌≤ℤ◌, ◌==◌, All, Contains}
+use Rattle.std.specs.List.{AllByRecursion, range_with_len}
 use Rattle.std.specs.Int.{int_min}
 use Rattle.std.proofs.Math.IntN.{*ℤ-zero}
 use Rattle.std.proofs.lemmas.Bool.{cases_Bool, cases_lt, eqb-true}
@@ -12,9 +12,9 @@ use Rattle.std.proofs.lemmas.List.{length-map, get_or_past}
 use Rattle.std.proofs.lemmas.Cmp.{nat_eq_equiv}
 use Rattle.std.proofs.lemmas.Map.Views.{list_any-from_Contains, Contains-from_any}
 use Rattle.auc_graph.specs.declared.arc.Arc.{Arc}
-use Rattle.auc_graph.specs.Problem.{Problem, IsProblem, IsWithin}
+use Rattle.auc_graph.specs.Problem.{Problem, IsWithin}
 use Rattle.auc_graph.specs.Assignment.{total, person_of, object_of, total_cost, IsAssignment, IsLeast}
-use Rattle.auc_graph.specs.Dual.{price_at, scale_of, arc_value, IsSlackRight, lowest, least_of, is_his, worths, least_worth, dual, AreNotNegative, IsNoPriceLeft}
+use Rattle.auc_graph.specs.Dual.{scale_of, arc_value, IsSlackRight, lowest, worths, least_worth, dual, AreNotNegative, IsNoPriceLeft}
 use Rattle.auc_graph.proofs.Scale.{scale-add, scale-cancel}
 use Rattle.auc_graph.proofs.PriceSums.{prices_at, some_prices, left_without_price, covers}
 

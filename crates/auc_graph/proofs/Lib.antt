@@ -1,7 +1,6 @@
 -- for use above
 pub mod RisingLaws
 pub mod DualLaws
-
 -- for this crate
 mod TokenLaws
 mod MagnitudeLaws

@@ -18,7 +18,9 @@ mod tokens;
 
 pub use arc::{Arc, ArcList};
 pub use indices::Indices;
-pub use laws::{assignments_leave_no_price, limits_are, prices_bound_costs, slack_right_costs_least};
+pub use laws::{
+    assignments_leave_no_price, limits_are, prices_bound_costs, slack_right_costs_least,
+};
 pub use limits::{MOST_ARCS, MOST_COST, MOST_OBJECTS, MOST_PERSONS, MOST_READS};
 pub use number::{Number, number_of};
 pub use read_error::ReadError;

@@ -1,6 +1,5 @@
-use Rattle.std.proofs.Common.{◌≡◌, ◌+◌, Ok, sym, ap, ◌∙◌}
+use Rattle.std.proofs.Common.{sym, ap, ◌∙◌}
 use Rattle.std.proofs.lemmas.Result.{err_from_is_err_and}
-use Rattle.auc_graph.specs.Problem.{Problem}
 use Rattle.auc_graph.specs.Numbers.{numbers}
 use Rattle.auc_graph.proofs.ArcLaws.{no_numbers, bad_count, counted, ok_problem}
 use Rattle.auc_graph.proofs.reading.read_arcs.Goals as goal

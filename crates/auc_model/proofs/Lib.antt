@@ -1,6 +1,7 @@
 pub mod Mails
 pub mod SameAnswers
 pub mod Places
+pub mod Selling
 pub mod Prices
 pub mod Ways
 pub mod Views

@@ -23,7 +23,8 @@ use Rattle.auc_model.specs.Posting.{PostTurn, Posts, Refuses, is_price, reason}
 use Rattle.auc_model.specs.Put.{put, put2}
 use Rattle.auc_model.specs.Room.{Reserved, Room, one_if, stops_out, weight}
 use Rattle.auc_model.specs.Schedule.{Schedule, Turned}
-use Rattle.auc_model.specs.Selling.{ObjectTakeTurn, TellTurn, sold}
+use Rattle.auc_model.specs.Selling.{TellTurn}
+use Rattle.auc_model.proofs.Selling.{TakesBid, by_cases, sold}
 use Rattle.auc_model.specs.Start.{Lawful}
 use Rattle.auc_model.specs.Ways.{Each, Routed, ways}
 use Rattle.auc_model.specs.World.{Phase, World, ended, first_end}
@@ -340,15 +341,15 @@ module _ (g : Phase) (w : World) (law : Lawful g) (k : Kept g w) (room : Room g 
         no_mail = end;
       }
 
-  pub room_object_take : (q : ℕ) (r : TurnReply) (v : World) → ObjectTakeTurn g w q r v → Room g v
-  room_object_take q r v (ObjectTakeTurn.no_letter h e1 e) = rw e room
-  room_object_take q r v (ObjectTakeTurn.accepts x n i a j amount m h1 h2 t fits enough e1 e) =
+  pub room_object_take : (q : ℕ) (r : TurnReply) (v : World) → TakesBid g w q r v → Room g v
+  room_object_take q r v (TakesBid.no_letter h e1 e) = rw e room
+  room_object_take q r v (TakesBid.accepts x n i a j amount m h1 h2 t fits enough e1 e) =
       let outs : List Out = awards g.shards (w.holder j) i j amount in
       rw e (room_objects (sold w q m j amount (record { person = i; arc = a }) outs) q x n (Letter.Bid i a j amount) outs t refl refl refl refl refl (awards_reserved (w.holder j) i j amount) room.no_mail)
-  room_object_take q r v (ObjectTakeTurn.declines x n i a j amount m h1 h2 t fits low e1 e) =
+  room_object_take q r v (TakesBid.declines x n i a j amount m h1 h2 t fits low e1 e) =
       let outs : List Out = refusal g.shards i j (w.price j) in
       rw e (room_objects (record w { objects_mail = m; object_out = put w.object_out q outs }) q x n (Letter.Bid i a j amount) outs t refl refl refl refl refl (refl, tt) room.no_mail)
-  room_object_take q r v (ObjectTakeTurn.strays x n l m h1 h2 t bad e1 e) =
+  room_object_take q r v (TakesBid.strays x n l m h1 h2 t bad e1 e) =
       rw e (room_objects (ended (record w { objects_mail = m }) Why.Stray) q x n l (w.object_out q) t refl refl refl (sym (put_self w.object_out q)) refl (room.object_reserves q) (not_mail w.end Why.Stray (λ z. cc) room.no_mail))
 
   room_hub : (v : World) (x n : ℕ) (l : Letter) → Takes w.hub_mail 0 x n l v.hub_mail → v.objects_mail ≡ w.objects_mail → v.persons_mail ≡ w.persons_mail → v.person_out ≡ w.person_out → v.object_out ≡ w.object_out → v.has_stopped ≡ w.has_stopped
@@ -439,7 +440,7 @@ module _ (g : Phase) (w : World) (law : Lawful g) (k : Kept g w) (room : Room g 
   room_turn (Turn.PersonPost s) r v h = room_post (PersonShard s) r v h
   room_turn (Turn.ObjectPost q) r v h = room_post (ObjectShard q) r v h
   room_turn (Turn.PersonTake s) r v h = room_person_take s r v h
-  room_turn (Turn.ObjectTake q) r v h = room_object_take q r v h
+  room_turn (Turn.ObjectTake q) r v h = room_object_take q r v (by_cases g w q r v h)
   room_turn (Turn.Tell q j s) r v h = room_tell q j s r v h
   room_turn Turn.HubTake r v h = room_hub_take r v h
   room_turn (Turn.HubClose name b) r v (HubCloseTurn.leaves h e1 e) = rw e room

@@ -27,7 +27,8 @@ use Rattle.auc_model.specs.Places.{Answer}
 use Rattle.auc_model.specs.Posting.{PostTurn, reason}
 use Rattle.auc_model.specs.Put.{put, put2}
 use Rattle.auc_model.specs.Schedule.{Schedule, Turned}
-use Rattle.auc_model.specs.Selling.{ObjectTakeTurn, TellTurn, sold}
+use Rattle.auc_model.specs.Selling.{TellTurn}
+use Rattle.auc_model.proofs.Selling.{TakesBid, by_cases, sold}
 use Rattle.auc_model.specs.Start.{Lawful}
 use Rattle.auc_model.specs.Ways.{Lost, Routed, Ways, send, set_way, ways}
 use Rattle.auc_model.specs.World.{Phase, World, ended, first_end, senders}
@@ -299,15 +300,15 @@ module _ (g : Phase) (w : World) (law : Lawful g) (k : Kept g w) where
     by_holder None e = rw e (done (awards g.shards None i j amount) (inv_first g w c law k.inv q x ls m i a j amount (bid_head q x n (Letter.Bid i a j amount) m h1 h2 t) enough e))
     by_holder (Some old) e = rw e (done (awards g.shards (Some old) i j amount) (inv_passes g w c law k.inv q x ls m i a j amount (bid_head q x n (Letter.Bid i a j amount) m h1 h2 t) enough old e))
 
-  kept_object_take : (q : ℕ) (r : TurnReply) (v : World) → ObjectTakeTurn g w q r v → Kept g v
-  kept_object_take q r v (ObjectTakeTurn.no_letter h e1 e) = rw e k
-  kept_object_take q r v (ObjectTakeTurn.accepts x n i a j amount m h1 h2 t fits enough e1 e) = rw e (by_holder q x n i a j amount m h1 h2 t enough (w.holder j) refl)
-  kept_object_take q r v (ObjectTakeTurn.declines x n i a j amount m h1 h2 t fits low e1 e) =
+  kept_object_take : (q : ℕ) (r : TurnReply) (v : World) → TakesBid g w q r v → Kept g v
+  kept_object_take q r v (TakesBid.no_letter h e1 e) = rw e k
+  kept_object_take q r v (TakesBid.accepts x n i a j amount m h1 h2 t fits enough e1 e) = rw e (by_holder q x n i a j amount m h1 h2 t enough (w.holder j) refl)
+  kept_object_take q r v (TakesBid.declines x n i a j amount m h1 h2 t fits low e1 e) =
       let l : Letter = Letter.Bid i a j amount in
       let outs : List Out = refusal g.shards i j (w.price j) in
       rw e (kept_dealt q x n l m h1 h2 t (record w { objects_mail = m; object_out = put w.object_out q outs }) outs refl refl refl refl refl
       (inv_declines g w c law k.inv q x (bids_left_behind q x n l m h1 h2 t) m i a j amount (bid_head q x n l m h1 h2 t)))
-  kept_object_take q r v (ObjectTakeTurn.strays x n l m h1 h2 t bad e1 e) =
+  kept_object_take q r v (TakesBid.strays x n l m h1 h2 t bad e1 e) =
       absurd (bad (bid_letter_fits g w c law k.inv q x l (bids_left_behind q x n l m h1 h2 t) (bid_head q x n l m h1 h2 t)))
 
 sound_first : (g : Phase) (d : Option End) → Sound g d → Sound g (first_end d End.All)
@@ -424,7 +425,7 @@ module _ (g : Phase) (w : World) (law : Lawful g) (k : Kept g w) where
   kept_turn (Turn.PersonPost s) r v h = kept_post g w law k (PersonShard s) r v h
   kept_turn (Turn.ObjectPost q) r v h = kept_post g w law k (ObjectShard q) r v h
   kept_turn (Turn.PersonTake s) r v h = kept_person_take g w law k s r v h
-  kept_turn (Turn.ObjectTake q) r v h = kept_object_take g w law k q r v h
+  kept_turn (Turn.ObjectTake q) r v h = kept_object_take g w law k q r v (by_cases g w q r v h)
   kept_turn (Turn.Tell q j s) r v h = kept_tell g w law k q j s r v h
   kept_turn Turn.HubTake r v h = kept_hub_take r v h
   kept_turn (Turn.HubClose name b) r v h = kept_hub_close name b r v h

@@ -22,7 +22,8 @@ use Rattle.auc_model.specs.Posting.{MayPost, PostTurn, is_price, reason}
 use Rattle.auc_model.specs.Put.{put, put2}
 use Rattle.auc_model.specs.Room.{one_if, stopped_shards}
 use Rattle.auc_model.specs.Schedule.{Schedule, Turned}
-use Rattle.auc_model.specs.Selling.{ObjectTakeTurn, TellTurn, sold}
+use Rattle.auc_model.specs.Selling.{TellTurn}
+use Rattle.auc_model.proofs.Selling.{TakesBid, by_cases, sold}
 use Rattle.auc_model.specs.Start.{Lawful}
 use Rattle.auc_model.specs.Ways.{Lost, Routed, Ways, send, set_way, ways}
 use Rattle.auc_model.specs.World.{Phase, World, first_end, senders}
@@ -222,18 +223,18 @@ module _ (g : Phase) (w : World) (law : Lawful g) (k : Kept g w) (yet : OpenYet 
   awards_told (Some old) i j p q h d =
       sent_two d (g.shards + q) (to_person g.shards old.person (Letter.Outbid old.person j p)) (to_person g.shards i (Letter.Award i j p)) (omega (arith, h)) (omega (arith, law.some_shards)) (omega (arith, law.some_shards)) refl refl
 
-  object_take_told : (q : ℕ) (r : TurnReply) (v : World) → ObjectTakeTurn g w q r v → w.end ≡ None → v.end ≡ None → everywhere g stop_one (ways g v none_lost) ≡ stopped_shards g v
-  object_take_told q r v (ObjectTakeTurn.no_letter h e1 e) before none = rw e (told before)
-  object_take_told q r v (ObjectTakeTurn.accepts x n i a j amount m h1 h2 t fits enough e1 e) before none =
+  object_take_told : (q : ℕ) (r : TurnReply) (v : World) → TakesBid g w q r v → w.end ≡ None → v.end ≡ None → everywhere g stop_one (ways g v none_lost) ≡ stopped_shards g v
+  object_take_told q r v (TakesBid.no_letter h e1 e) before none = rw e (told before)
+  object_take_told q r v (TakesBid.accepts x n i a j amount m h1 h2 t fits enough e1 e) before none =
       let outs : List Out = awards g.shards (w.holder j) i j amount in
       rw e (dealt q x n (Letter.Bid i a j amount) m (sold w q m j amount (record { person = i; arc = a }) outs) outs h1 h2 t refl before
       (record { objects = refl; persons = refl; hub = refl }) refl refl refl (awards_told (w.holder j) i j amount q h1))
-  object_take_told q r v (ObjectTakeTurn.declines x n i a j amount m h1 h2 t fits low e1 e) before none =
+  object_take_told q r v (TakesBid.declines x n i a j amount m h1 h2 t fits low e1 e) before none =
       let outs : List Out = refusal g.shards i j (w.price j) in
       rw e (dealt q x n (Letter.Bid i a j amount) m (record w { objects_mail = m; object_out = put w.object_out q outs }) outs h1 h2 t refl before
       (record { objects = refl; persons = refl; hub = refl }) refl refl refl
       (λ d. sent d (g.shards + q) (to_person g.shards i (Letter.Refused i j (w.price j))) (omega (arith, h1)) (omega (arith, law.some_shards)) refl))
-  object_take_told q r v (ObjectTakeTurn.strays x n l m h1 h2 t bad e1 e) before none = set_never w.end (End.Stopped Why.Stray) (sym (ap (λ (x : World). x.end) e) ∙ none)
+  object_take_told q r v (TakesBid.strays x n l m h1 h2 t bad e1 e) before none = set_never w.end (End.Stopped Why.Stray) (sym (ap (λ (x : World). x.end) e) ∙ none)
 
   hub_told : (x n : ℕ) (l : Letter) (m : Mail Letter) → Takes w.hub_mail 0 x n l m → w.end ≡ None → (hub_after g l (record w { hub_mail = m })).end ≡ None
       → everywhere g stop_one (ways g (hub_after g l (record w { hub_mail = m })) none_lost) ≡ stopped_shards g (hub_after g l (record w { hub_mail = m }))
@@ -255,7 +256,7 @@ module _ (g : Phase) (w : World) (law : Lawful g) (k : Kept g w) (yet : OpenYet 
   told_by (Turn.PersonPost s) r v h before none = post_told (PersonShard s) r v h before none
   told_by (Turn.ObjectPost q) r v h before none = post_told (ObjectShard q) r v h before none
   told_by (Turn.PersonTake s) r v h before none = person_take_told s r v h before none
-  told_by (Turn.ObjectTake q) r v h before none = object_take_told q r v h before none
+  told_by (Turn.ObjectTake q) r v h before none = object_take_told q r v (by_cases g w q r v h) before none
   told_by (Turn.Tell q j s) r v h before none = tell_told q j s r v h none
   told_by Turn.HubTake r v (HubTakeTurn.no_letter h e1 e) before none = rw e (told before)
   told_by Turn.HubTake r v (HubTakeTurn.takes x n l m t e1 e) before none = rw e (hub_told x n l m t before (sym (ap (λ (x : World). x.end) e) ∙ none))

@@ -1,2 +1,1 @@
-pub mod Shape
-mod WorkedAwards
+pub mod Sales

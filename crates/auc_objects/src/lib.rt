@@ -8,5 +8,5 @@ mod answers;
 mod shard;
 
 pub use answers::Answers;
-pub use auc_letters::Held;
+pub use auc_letters::{Held, Offer};
 pub use shard::ObjectShard;

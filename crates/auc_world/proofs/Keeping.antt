@@ -1,5 +1,5 @@
 -- What holds of each world holds still when a shard, an outbox or a mail is another.
-use Rattle.std.proofs.Common.{ℕ, ◌*◌, ◌%◌, ◌<◌, ◌≡◌, ◌≢◌, List, [], ◌∷◌, drop, length, get_or, set, inl, inr, refl, ap, sym, subst, ◌∙◌, arith, length-set}
+use Rattle.std.proofs.Common.{ℕ, ◌*◌, ◌%◌, ◌<◌, ◌≡◌, ◌≢◌, Bool, true, false, cond, List, [], ◌∷◌, drop, length, get_or, set, inl, inr, refl, ap, sym, subst, ◌∙◌, arith, length-set}
 use Rattle.std.specs.Prelude.{IfSome, ℤ, pos, negsuc, ◌≤ℤ◌, ◌<ℤ◌, ◌⊎◌, Option, Some, None, All, Result, Ok, Err}
 use Rattle.std.proofs.lemmas.Bool.{cases_eq, cases_lt}
 use Rattle.std.proofs.lemmas.Int.{ints}
@@ -13,9 +13,10 @@ use Rattle.auc_mail.specs.declared.call.Call.{Call}
 use Rattle.auc_mail.specs.declared.call.Reply.{Reply}
 use Rattle.auc_mail.proofs.StepLaws.{step_shape}
 use Rattle.auc_letters.specs.declared.state.Held.{Held}
-use Rattle.auc_letters.specs.Award.{awards, refusal}
+use Rattle.auc_letters.specs.declared.letter.Offer.{Offer}
+use Rattle.auc_letters.specs.Award.{Sale, answers, awards, is_accepted, refusal}
 use Rattle.auc_letters.specs.Routing.{to_person, to_hub}
-use Rattle.auc_objects.specs.Objects.{Objects, SameShape as SameObjects, sold}
+use Rattle.auc_objects.specs.Objects.{Objects, SameShape as SameObjects, sale_of}
 use Rattle.std.proofs.lemmas.List.Elements.{All-get_or, All-weaker, All-drop, All-push}
 use Rattle.auc_model.proofs.Tables.{first_and_rest}
 use Rattle.auc_letters.specs.declared.state.PersonState.{PersonState}
@@ -82,26 +83,15 @@ persons_shape t n s x y same own is = record {
   idle_own = own;
 }
 
-pub objects_shape : (t : Table) (n q : ℕ) (x y : Objects) → SameObjects x y → length y.holders ≡ length x.holders → IsObjectShard t n q x → IsObjectShard t n q y
-objects_shape t n q x y same holders is = record {
+pub objects_shape : (t : Table) (n q : ℕ) (x y : Objects) → SameObjects x y → IsObjectShard t n q x → IsObjectShard t n q y
+objects_shape t n q x y same is = record {
   number = same.shard ∙ is.number;
   of = same.of ∙ is.of;
   person_shards = same.person_shards ∙ is.person_shards;
   persons = same.persons ∙ is.persons;
   objects = same.objects ∙ is.objects;
-  holders = holders ∙ is.holders;
+  holders = same.holders ∙ is.holders;
 }
-
-pub either : (a b : ℤ) → (a ≤ℤ b) ⊎ (b <ℤ a)
-either (pos m) (pos n) = elim (cases_lt n m) [ inl l ↦ inr (omega (arith, ints)) | inr l ↦ inl (omega (arith, ints)) ]
-either (pos m) (negsuc n) = inr (omega (arith, ints))
-either (negsuc m) (pos n) = inl (omega (arith, ints))
-either (negsuc m) (negsuc n) = elim (cases_lt m n) [ inl l ↦ inr (omega (arith, ints)) | inr l ↦ inl (omega (arith, ints)) ]
-
--- what a bid leaves of a shard, and the letters that answer it
-module _ (x y : Objects) (j : ℕ) (amount least : ℤ) (held : Held) (accepted : least ≤ℤ amount → y ≡ sold x j amount held) (kept : amount <ℤ least → y ≡ x) where
-  pub holders_stay : length y.holders ≡ length x.holders
-  holders_stay = elim (either least amount) [ inl l ↦ ap (λ (z : Objects). length z.holders) (accepted l) ∙ length-set x.holders j (Some held) | inr l ↦ ap (λ (z : Objects). length z.holders) (kept l) ]
 
 one_reach : (n : ℕ) (o : Out) → Reaches n o → All (Reaches n) (o ∷ [])
 one_reach n o r = All-push (Reaches n) [] o (λ k d l. absurd (omega arith)) r
@@ -116,8 +106,12 @@ awards_reach n (Some held) i j p some = two_reach n (to_person n held.person (Le
 refusal_reaches : (n i j : ℕ) (p : ℤ) → 0 < n → All (Reaches n) (refusal n i j p)
 refusal_reaches n i j p some = one_reach n (to_person n i (Letter.Refused i j p)) (omega arith)
 
-pub answers_reach : (n : ℕ) (os : List Out) (before : Option Held) (i j : ℕ) (p amount least : ℤ) → 0 < n → (least ≤ℤ amount → os ≡ awards n before i j amount) → (amount <ℤ least → os ≡ refusal n i j p) → All (Reaches n) os
-answers_reach n os before i j p amount least some accepted refused = elim (either least amount) [ inl l ↦ rw (accepted l) (awards_reach n before i j amount some) | inr l ↦ rw (refused l) (refusal_reaches n i j p some) ]
+answers_reach : (n : ℕ) (eps : ℤ) (sale : Sale) (bid : Offer) → 0 < n → All (Reaches n) (answers n eps sale bid)
+answers_reach n eps sale bid some = by (is_accepted eps sale bid)
+  where
+    by : (b : Bool) → All (Reaches n) (cond b (awards n sale.holder bid.person bid.object bid.amount) (refusal n bid.person bid.object sale.price))
+    by true = awards_reach n sale.holder bid.person bid.object bid.amount some
+    by false = refusal_reaches n bid.person bid.object sale.price some
 
 pub mail_shape : (n : ℕ) (x y : Mail Letter) (c : Call Letter) (r : Reply Letter) (boxes : ℕ) → Step x c r y → IsMail n x boxes → IsMail n y boxes
 mail_shape n x y c r boxes step is =
@@ -178,14 +172,19 @@ module _ (p : Parts) (are : AreParts p) where
     mails_are = are.mails_are;
   }
 
-  pub on_bid_keeps : (q : ℕ) (x new : Objects) → q < p.shards → x ≡ objects_at p q → SameObjects x new → length new.holders ≡ length x.holders → AreParts (record p { objects = set p.objects q new })
-  on_bid_keeps q x new known e same holders = keeps_objects q new known (objects_shape p.table p.shards q x new same holders (rw e (are.each_objects q known)))
+  pub answer_keeps : (q : ℕ) (x new : Objects) → q < p.shards → x ≡ objects_at p q → SameObjects x new → AreParts (record p { objects = set p.objects q new })
+  answer_keeps q x new known e same = keeps_objects q new known (objects_shape p.table p.shards q x new same (rw e (are.each_objects q known)))
 
-  pub reach_by : (q : ℕ) (x : Objects) → q < p.shards → x ≡ objects_at p q → (os : List Out) (before : Option Held) (i j : ℕ) (price amount least : ℤ) → (least ≤ℤ amount → os ≡ awards x.person_shards before i j amount)
-      → (amount <ℤ least → os ≡ refusal x.person_shards i j price) → All (Reaches p.shards) os
-  reach_by q x known e os before i j price amount least accepted refused =
-      let is : IsObjectShard p.table p.shards q x = rw e (are.each_objects q known) in
-      subst (λ n. All (Reaches n) os) is.person_shards (answers_reach x.person_shards os before i j price amount least (subst (λ n. 0 < n) (sym is.person_shards) are.some) accepted refused)
+  -- how many shards of the persons the shard knows of
+  answers_to : (q : ℕ) (x : Objects) → q < p.shards → x ≡ objects_at p q → x.person_shards ≡ p.shards
+  answers_to q x known e = let is : IsObjectShard p.table p.shards q x = rw e (are.each_objects q known) in is.person_shards
+
+  -- the answers of a shard to a bid
+  pub answers_here : (q : ℕ) (x : Objects) (os : List Out) (eps : ℤ) (bid : Offer) → q < p.shards → x ≡ objects_at p q → os ≡ answers x.person_shards eps (sale_of x bid.object) bid → os ≡ answers p.shards eps (sale_of (objects_at p q) bid.object) bid
+  answers_here q x os eps bid known e answered = answered ∙ (ap (λ (n : ℕ). answers n eps (sale_of x bid.object) bid) (answers_to q x known e) ∙ ap (λ (y : Objects). answers p.shards eps (sale_of y bid.object) bid) e)
+
+  pub reach_by : (os : List Out) (eps : ℤ) (sale : Sale) (bid : Offer) → os ≡ answers p.shards eps sale bid → All (Reaches p.shards) os
+  reach_by os eps sale bid e = rw e (answers_reach p.shards eps sale bid are.some)
 
   pub keeps_outboxes : (x : ℕ) (new : List Out) → x < 2 * p.shards → All (Reaches p.shards) new → AreParts (record p { outboxes = set p.outboxes x new })
   keeps_outboxes x new known reach = record {

@@ -118,9 +118,9 @@ same_mail p (To.Object q) = refl
 same_mail p To.Hub = refl
 
 refused_same : (m n : Mail Letter) (x : ℕ) (o : Out) (y : PostRefused) → Answered m x o (Reply.Refused y) n → Answered m x o (Reply.Refused y) m × (n ≡ m)
-refused_same m n x o PostRefused.Closed h = ((h.0, refl), h.1)
-refused_same m n x o PostRefused.Spent h = ((h.0, h.1, refl), h.2)
-refused_same m n x o PostRefused.Full h = ((h.0, h.1, h.2, refl), h.3)
+refused_same m n x o PostRefused.Closed h = ((h.0, refl, h.2), h.1)
+refused_same m n x o PostRefused.Spent h = ((h.0, h.1, refl, h.3), h.2)
+refused_same m n x o PostRefused.Full h = ((h.0, h.1, h.2, refl, h.4), h.3)
 
 abbrev Before : Parts → Out → Mail Letter
 Before p o = named p.mails (name_of o.to)
@@ -156,6 +156,12 @@ module _ (p n : Parts) (x : ℕ) (o : Out) (e : n ≡ record p { mails = with_na
 
 pub alone_phase : (p n : Parts) → MailsAlone p n → SamePhase p n
 alone_phase p n alone = record { table = ap (λ (z : Parts). z.table) alone.1; shards = ap (λ (z : Parts). z.shards) alone.1; eps = ap (λ (z : Parts). z.eps) alone.1 }
+
+pub alone_sender : (p n : Parts) (x : ℕ) (h : Shard) → MailsAlone p n → sender (phase p) h ≡ x → sender (phase n) h ≡ x
+alone_sender p n x h alone from = ap (λ (z : Parts). sender (phase z) h) alone.1 ∙ from
+
+pub alone_known : (p n : Parts) (h : Shard) → MailsAlone p n → number h < p.shards → number h < n.shards
+alone_known p n h alone known = subst (λ (z : Parts). number h < z.shards) (sym alone.1) known
 
 module _ (p n : Parts) (x : ℕ) (h : Shard) (are : AreParts p) (alone : MailsAlone p n) (from : sender (phase p) h ≡ x) (known : number h < p.shards) where
   -- where the mails alone are others, the outbox is as it was
@@ -203,3 +209,8 @@ kept p n m v x h o rest why are from known same e1 e2 stays =
     let put : seen m ≡ with_outbox (seen p) h (o ∷ rest) = ap seen shape ∙ seen_outbox p (o ∷ rest) h known are.outboxes_are in
     let after : seen v ≡ ended (with_outbox (seen p) h (o ∷ rest)) why = ap seen e2 ∙ ap (λ (w : World). ended w why) put in
     subst (λ (u : World). PostTurn (phase p) (with_outbox (seen p) h (o ∷ rest)) h TurnReply.Moved u) (sym after) (stays rest)
+
+pub kept_phase : (p n m v : Parts) (x : ℕ) (os : List Out) (why : Why) → n ≡ p → m ≡ record n { outboxes = set n.outboxes x os } → v ≡ record m { hub = ending m.hub (End.Stopped why) } → SamePhase p v
+kept_phase p n m v x os why same e1 e2 =
+    let e : v ≡ record p { outboxes = set p.outboxes x os; hub = ending p.hub (End.Stopped why) } = e2 ∙ (ap (λ (z : Parts). record z { hub = ending z.hub (End.Stopped why) }) e1 ∙ ap (λ (z : Parts). record z { outboxes = set z.outboxes x os; hub = ending z.hub (End.Stopped why) }) same) in
+    record { table = ap (λ (z : Parts). z.table) e; shards = ap (λ (z : Parts). z.shards) e; eps = ap (λ (z : Parts). z.eps) e }

@@ -5,9 +5,9 @@ use Rattle.std.proofs.lemmas.Bool.{cases_eq, cases_lt, lt-ltb}
 use Rattle.std.proofs.lemmas.Bool.Decides.{nat_tests}
 use Rattle.std.proofs.lemmas.List.{get_or-set_same, get_or-set_other}
 use Rattle.auc_letters.specs.declared.out.Out.{Out}
-use Rattle.auc_letters.specs.declared.state.Held.{Held}
+use Rattle.auc_letters.specs.Award.{Sale}
 use Rattle.auc_letters.specs.declared.state.PersonState.{PersonState}
-use Rattle.auc_objects.specs.Objects.{price_of, holder_of, sold}
+use Rattle.auc_objects.specs.Objects.{price_of, holder_of, with_sale}
 use Rattle.auc_persons.specs.Persons.{Persons, Owns, after_bid, copy_of, free_after, held_after, state_of}
 use Rattle.auc_model.specs.Mails.{ObjectShard, PersonShard, Shard, number, outbox, sender, with_outbox}
 use Rattle.auc_model.specs.Put.{put, put2}
@@ -114,10 +114,10 @@ module _ (p : Parts) (s : ℕ) (there : s < length p.persons) (is : IsPersonShar
         bids_left = shards_same p.persons no_persons s new there (λ x. x.bids) refl c;
       }
 
--- a shard of the objects
-pub seen_sold : (p : Parts) (q j : ℕ) (amount : ℤ) (held : Held) → q < length p.objects → j % p.shards ≡ q → j < length (objects_at p q).prices → j < length (objects_at p q).holders
-    → seen (record p { objects = set p.objects q (sold (objects_at p q) j amount held) }) ≡ record (seen p) { price = put (seen p).price j amount; holder = put (seen p).holder j (Some held) }
-seen_sold p q j amount held there own known holders = λ c. record (seen p) {
-  price = numbers_set p.objects no_objects q (sold (objects_at p q) j amount held) there p.shards price_of j amount own (get_or-set_same (objects_at p q).prices j amount (pos 0) known) (λ k ne. get_or-set_other (objects_at p q).prices j k amount (pos 0) ne) c;
-  holder = numbers_set p.objects no_objects q (sold (objects_at p q) j amount held) there p.shards holder_of j (Some held) own (get_or-set_same (objects_at p q).holders j (Some held) None holders) (λ k ne. get_or-set_other (objects_at p q).holders j k (Some held) None ne) c;
+-- a shard of the objects: what is known of one of its objects is set
+pub seen_sold : (p : Parts) (q j : ℕ) (sale : Sale) → q < length p.objects → j % p.shards ≡ q → j < length (objects_at p q).prices → j < length (objects_at p q).holders
+    → seen (record p { objects = set p.objects q (with_sale (objects_at p q) j sale) }) ≡ record (seen p) { price = put (seen p).price j sale.price; holder = put (seen p).holder j sale.holder }
+seen_sold p q j sale there own known holders = λ c. record (seen p) {
+  price = numbers_set p.objects no_objects q (with_sale (objects_at p q) j sale) there p.shards price_of j sale.price own (get_or-set_same (objects_at p q).prices j sale.price (pos 0) known) (λ k ne. get_or-set_other (objects_at p q).prices j k sale.price (pos 0) ne) c;
+  holder = numbers_set p.objects no_objects q (with_sale (objects_at p q) j sale) there p.shards holder_of j sale.holder own (get_or-set_same (objects_at p q).holders j sale.holder None holders) (λ k ne. get_or-set_other (objects_at p q).holders j k sale.holder None ne) c;
 }

@@ -1,26 +1,44 @@
 -- What a shard of the objects has done with a letter, its turns, and the prices that it tells.
 use Rattle.std.proofs.Common.{ℕ, ◌+◌, ◌*◌, ◌%◌, ◌<◌, ◌≡◌, true, List, [], ◌∷◌, length, get_or, set, refl, ap, sym, ◌∙◌, subst, inl, inr, arith}
 use Rattle.std.specs.Prelude.{All, ℤ, ◌≤ℤ◌, ◌<ℤ◌}
-use Rattle.std.proofs.lemmas.List.{set-get_or}
 use Rattle.auc_letters.specs.declared.letter.Letter.{Letter}
 use Rattle.auc_letters.specs.declared.letter.Why.{Why}
 use Rattle.auc_letters.specs.declared.out.Out.{Out}
-use Rattle.auc_letters.specs.declared.state.Held.{Held}
-use Rattle.auc_letters.specs.Award.{awards, least_amount, refusal}
+use Rattle.auc_letters.specs.declared.letter.Offer.{Offer}
+use Rattle.auc_letters.specs.Award.{Sale, answers, award, bid_letter, offer_of}
 use Rattle.auc_letters.specs.Routing.{price_told}
 use Rattle.auc_mail.specs.Mail.{Mail}
-use Rattle.auc_objects.specs.Objects.{Objects, holder_of, price_of, sold as sold_in}
+use Rattle.auc_objects.specs.Objects.{IsOffer, Objects, after_bid, price_of, sale_of}
 use Rattle.auc_model.specs.Mails.{ObjectShard, TakesNone, with_outbox}
-use Rattle.auc_model.specs.Selling.{FitsBid, ObjectTakeTurn, TellTurn, accepts, declines, no_letter, strays, tells}
+use Rattle.auc_model.specs.Selling.{FitsBid, ObjectTakeTurn, TellTurn, answers_bid, no_letter, strays, tells, sale_of as known_of}
+use Rattle.auc_model.specs.Put.{put}
 use Rattle.auc_model.specs.World.{World}
 use Rattle.auc_model.specs.declared.turn.End.{End}
 use Rattle.auc_model.specs.declared.turn.TurnReply.{TurnReply}
 use Rattle.auc_world.specs.Hub.{ending}
 use Rattle.auc_world.specs.Mails.{TakesOne}
 use Rattle.auc_world.specs.Parts.{AreParts, IsObjectShard, MayAnswer, OwnsObject, Parts, Reaches, no_objects, objects_at, outbox_at, phase, seen}
-use Rattle.auc_world.specs.Selling.{Accepts, Declines}
-use Rattle.auc_world.proofs.Keeping.{either}
 use Rattle.auc_world.proofs.Seen.{seen_outbox, seen_sold}
+
+-- a letter that is no bid of the shard's fits it in no way
+module _ (p : Parts) (q : ℕ) (are : AreParts p) (known : q < p.shards) where
+  shard_is : IsObjectShard p.table p.shards q (objects_at p q)
+  shard_is = are.each_objects q known
+
+  pub unfit : (l : Letter) → ((bid : Offer) → IsOffer (objects_at p q) l bid → ⊥) → FitsBid (phase p) q l → ⊥
+  unfit (Letter.Bid i a j amount) none f =
+      none (offer_of i a j amount)
+      (record {
+        letter_is = refl;
+        owns = record { known = subst (λ (n : ℕ). j < n) (sym shard_is.objects) f.0; own = subst (λ (n : ℕ). j % n ≡ (objects_at p q).shard) (sym shard_is.of) (f.1 ∙ sym shard_is.number) };
+        amount = f.2;
+      })
+  unfit (Letter.Award i j r) none f = f
+  unfit (Letter.Refused i j r) none f = f
+  unfit (Letter.Outbid i j r) none f = f
+  unfit (Letter.Price j r) none f = f
+  unfit (Letter.First j) none f = f
+  unfit (Letter.Stop y) none f = f
 
 -- letters are put into the outbox of a shard of the objects
 pub put_seen : (n v : Parts) (q : ℕ) (os : List Out) → AreParts n → q < n.shards → v ≡ record n { outboxes = set n.outboxes (n.shards + q) os } → seen v ≡ with_outbox (seen n) (ObjectShard q) os
@@ -35,9 +53,6 @@ module _ (p : Parts) (q : ℕ) (are : AreParts p) (may : MayAnswer p q) where
 
   price_here : (j : ℕ) → j % p.shards ≡ q → (seen p).price j ≡ price_of (objects_at p q) j
   price_here j own = ap (λ (n : ℕ). price_of (get_or p.objects n no_objects) j) own
-
-  holder_here : (j : ℕ) → j % p.shards ≡ q → (seen p).holder j ≡ holder_of (objects_at p q) j
-  holder_here j own = ap (λ (n : ℕ). holder_of (get_or p.objects n no_objects) j) own
 
   pub price_told_out : (j s : ℕ) (v : Parts) (out : Out) → s < p.shards → OwnsObject p q j → out ≡ price_told (length p.table.rows) s j (price_of (objects_at p q) j)
       → v ≡ record p { outboxes = set p.outboxes (p.shards + q) (out ∷ []) } → TellTurn (phase p) (seen p) q j s TurnReply.Moved (seen v)
@@ -58,52 +73,48 @@ module _ (p : Parts) (q : ℕ) (are : AreParts p) (may : MayAnswer p q) where
     pub stray_empty : (v : Parts) → v ≡ record t { hub = ending t.hub (End.Stopped Why.Stray) } → outbox_at v (v.shards + q) ≡ []
     stray_empty v e2 = ap (λ (z : Parts). outbox_at z (z.shards + q)) (e2 ∙ ap (λ (z : Parts). record z { hub = ending z.hub (End.Stopped Why.Stray) }) e1) ∙ may.empty
 
-    module _ (u : Parts) (letters : List Out) (i a j : ℕ) (amount : ℤ) (bid : l ≡ Letter.Bid i a j amount) (fits : FitsBid (phase t) q l) (owns : OwnsObject t q j)
-        (accepted : Accepts t q j amount → (objects_at u q ≡ sold_in (objects_at t q) j amount (record { person = i; arc = a })) × (letters ≡ awards t.shards (holder_of (objects_at t q) j) i j amount))
-        (declined : Declines t q j amount → (objects_at u q ≡ objects_at t q) × (letters ≡ refusal t.shards i j (price_of (objects_at t q) j)))
+    module _ (u : Parts) (letters : List Out) (bid : Offer) (fits : IsOffer (objects_at t q) l bid) (after : objects_at u q ≡ after_bid (objects_at t q) t.eps bid) (answered : letters ≡ answers t.shards t.eps (sale_of (objects_at t q) bid.object) bid)
         (e2 : u ≡ record t { objects = set t.objects q (objects_at u q) }) where
-      after : u ≡ record p { mails = record p.mails { objects = m }; objects = set p.objects q (objects_at u q) }
-      after = e2 ∙ ap (λ (z : Parts). record z { objects = set z.objects q (objects_at u q) }) e1
+      offer : IsOffer (objects_at p q) l bid
+      offer = subst (λ (z : Parts). IsOffer (objects_at z q) l bid) e1 fits
 
-      owns_here : OwnsObject p q j
-      owns_here = let o = subst (λ (z : Parts). OwnsObject z q j) e1 owns in record { known = o.known; own = o.own }
+      own : bid.object % p.shards ≡ q
+      own = subst (λ (n : ℕ). bid.object % n ≡ q) is.of (offer.owns.own ∙ is.number)
 
-      fits_here : FitsBid (phase p) q (Letter.Bid i a j amount)
-      fits_here = subst (λ (z : Parts). FitsBid (phase z) q (Letter.Bid i a j amount)) e1 (subst (λ (x : Letter). FitsBid (phase t) q x) bid fits)
+      -- what was known of the object, in its shard and in the world
+      abbrev sale : Sale
+      sale = sale_of (objects_at p q) bid.object
 
-      takes_bid : TakesOne p.mails.objects q (Letter.Bid i a j amount) m
-      takes_bid = subst (λ (x : Letter). TakesOne p.mails.objects q x m) bid takes
+      sale_is : sale ≡ known_of (seen p) bid.object
+      sale_is = ap (λ (n : ℕ). sale_of (get_or p.objects n no_objects) bid.object) (sym own)
 
-      accepts_here : Accepts p q j amount → ObjectTakeTurn (phase p) (seen p) q TurnReply.Moved (with_outbox (seen u) (ObjectShard q) letters)
-      accepts_here le =
-          let by = subst (λ (z : Parts). Accepts z q j amount → (objects_at u q ≡ sold_in (objects_at z q) j amount (record { person = i; arc = a })) × (letters ≡ awards z.shards (holder_of (objects_at z q) j) i j amount)) e1 accepted le in
-          let items : letters ≡ awards p.shards ((seen p).holder j) i j amount = by.1 ∙ ap (λ h. awards p.shards h i j amount) (sym (holder_here j owns_here.own)) in
-          let known = owns_here.known in
-          accepts takes_bid.0 takes_bid.1 i a j amount m may.known may.empty takes_bid.2 fits_here (subst (λ (z : ℤ). least_amount z p.eps ≤ℤ amount) (sym (price_here j owns_here.own)) le) refl
-          (ap (λ (os : List Out). with_outbox (seen u) (ObjectShard q) os) items
-          ∙ ap (λ (w : World). with_outbox w (ObjectShard q) (awards p.shards ((seen p).holder j) i j amount))
-          (ap seen after ∙ (ap (λ (y : Objects). seen (record p { mails = record p.mails { objects = m }; objects = set p.objects q y })) by.0
-          ∙ seen_sold (record p { mails = record p.mails { objects = m } }) q j amount (record { person = i; arc = a }) there owns_here.own (omega (arith, is.objects)) (omega (arith, is.holders)))))
+      abbrev now_known : Sale → World
+      now_known new = record (seen p) { objects_mail = m; price = put (seen p).price bid.object new.price; holder = put (seen p).holder bid.object new.holder }
 
-      declines_here : Declines p q j amount → ObjectTakeTurn (phase p) (seen p) q TurnReply.Moved (with_outbox (seen u) (ObjectShard q) letters)
-      declines_here lt =
-          let by = subst (λ (z : Parts). Declines z q j amount → (objects_at u q ≡ objects_at z q) × (letters ≡ refusal z.shards i j (price_of (objects_at z q) j))) e1 declined lt in
-          let items : letters ≡ refusal p.shards i j ((seen p).price j) = by.1 ∙ ap (λ (z : ℤ). refusal p.shards i j z) (sym (price_here j owns_here.own)) in
-          let same : set p.objects q (objects_at u q) ≡ p.objects = ap (λ (y : Objects). set p.objects q y) by.0 ∙ set-get_or p.objects q no_objects in
-          declines takes_bid.0 takes_bid.1 i a j amount m may.known may.empty takes_bid.2 fits_here (subst (λ (z : ℤ). amount <ℤ least_amount z p.eps) (sym (price_here j owns_here.own)) lt) refl
-          (ap (λ (os : List Out). with_outbox (seen u) (ObjectShard q) os) items
-          ∙ ap (λ (w : World). with_outbox w (ObjectShard q) (refusal p.shards i j ((seen p).price j)))
-          (ap seen after ∙ ap (λ (xs : List Objects). seen (record p { mails = record p.mails { objects = m }; objects = xs })) same))
+      seen_after : seen u ≡ now_known (award p.eps sale bid)
+      seen_after =
+          let x : Objects = after_bid (objects_at p q) p.eps bid in
+          let known = offer.owns.known in
+          let same : u ≡ record p { mails = record p.mails { objects = m }; objects = set p.objects q x } = e2 ∙ (ap (λ (y : Objects). record t { objects = set t.objects q y }) after ∙ ap (λ (z : Parts). record z { objects = set z.objects q (after_bid (objects_at z q) z.eps bid) }) e1) in
+          ap seen same ∙ seen_sold (record p { mails = record p.mails { objects = m } }) q bid.object (award p.eps sale bid) there own known (omega (arith, is.objects, is.holders, known))
+
+      letters_are : letters ≡ answers p.shards p.eps sale bid
+      letters_are = answered ∙ ap (λ (z : Parts). answers z.shards z.eps (sale_of (objects_at z q) bid.object) bid) e1
 
       pub bid_dealt : ObjectTakeTurn (phase p) (seen p) q TurnReply.Moved (with_outbox (seen u) (ObjectShard q) letters)
-      bid_dealt = elim (either (least_amount (price_of (objects_at p q) j) p.eps) amount) [ inl l ↦ accepts_here l | inr l ↦ declines_here l ]
+      bid_dealt =
+          let takes_bid : TakesOne p.mails.objects q (bid_letter bid) m = subst (λ (x : Letter). TakesOne p.mails.objects q x m) offer.letter_is takes in
+          answers_bid takes_bid.0 takes_bid.1 bid m may.known may.empty takes_bid.2 (subst (λ (n : ℕ). bid.object < n) is.objects offer.owns.known, own, offer.amount) refl
+          (ap (λ (os : List Out). with_outbox (seen u) (ObjectShard q) os) letters_are
+          ∙ (ap (λ (w : World). with_outbox w (ObjectShard q) (answers p.shards p.eps sale bid)) seen_after ∙ ap (λ (s : Sale). with_outbox (now_known (award p.eps s bid)) (ObjectShard q) (answers p.shards p.eps s bid)) sale_is))
 
       pub bid_known : All (Reaches t.shards) letters → (q < u.shards) × (outbox_at u (u.shards + q) ≡ []) × All (Reaches u.shards) letters
-      bid_known reach = (
-        subst (λ (n : ℕ). q < n) (sym (ap (λ (z : Parts). z.shards) after)) may.known,
-        ap (λ (z : Parts). outbox_at z (z.shards + q)) after ∙ may.empty,
-        subst (λ (n : ℕ). All (Reaches n) letters) (sym (ap (λ (z : Parts). z.shards) e2)) reach,
-      )
+      bid_known reach =
+          let same : u ≡ record p { mails = record p.mails { objects = m }; objects = set p.objects q (objects_at u q) } = e2 ∙ ap (λ (z : Parts). record z { objects = set z.objects q (objects_at u q) }) e1 in (
+            subst (λ (n : ℕ). q < n) (sym (ap (λ (z : Parts). z.shards) same)) may.known,
+            ap (λ (z : Parts). outbox_at z (z.shards + q)) same ∙ may.empty,
+            subst (λ (n : ℕ). All (Reaches n) letters) (sym (ap (λ (z : Parts). z.shards) e2)) reach,
+          )
 
 -- the answers are put into the outbox
 pub answers_put : (p n v : Parts) (q : ℕ) (os : List Out) → AreParts n → q < n.shards → ObjectTakeTurn (phase p) (seen p) q TurnReply.Moved (with_outbox (seen n) (ObjectShard q) os) → v ≡ record n { outboxes = set n.outboxes (n.shards + q) os }

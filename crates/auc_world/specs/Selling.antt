@@ -1,20 +1,11 @@
 -- What a shard of the objects has done with a letter.
-use Rattle.std.specs.Prelude.{ℕ, ℤ, ◌+◌, ◌<◌, ◌≡◌, ◌≤ℤ◌, ◌<ℤ◌, [], All}
-use Rattle.auc_letters.specs.Award.{least_amount}
+use Rattle.std.specs.Prelude.{ℕ, ◌+◌, ◌<◌, ◌≡◌, [], All}
 use Rattle.auc_model.specs.Mails.{Shard, with_outbox}
 use Rattle.auc_model.specs.Selling.{ObjectTakeTurn}
 use Rattle.auc_model.specs.declared.turn.TurnReply.{TurnReply}
 use Rattle.auc_objects.specs.Answers.{letters_of}
-use Rattle.auc_objects.specs.Objects.{price_of}
 use Rattle.auc_world.specs.declared.selling.Dealt.{Dealt}
-use Rattle.auc_world.specs.Parts.{Parts, Reaches, objects_at, outbox_at, phase, seen}
-
--- a bid is accepted, and it isn't
-abbrev pub Accepts : Parts → ℕ → ℕ → ℤ → Type 0
-Accepts p q j amount = least_amount (price_of (objects_at p q) j) p.eps ≤ℤ amount
-
-abbrev pub Declines : Parts → ℕ → ℕ → ℤ → Type 0
-Declines p q j amount = amount <ℤ least_amount (price_of (objects_at p q) j) p.eps
+use Rattle.auc_world.specs.Parts.{Parts, Reaches, outbox_at, phase, seen}
 
 -- From p, the shard q has done so with a letter, and n is left. Were the answers in its outbox, it would have taken its turn.
 abbrev pub Deals : Parts → ℕ → Dealt → Parts → Type 0

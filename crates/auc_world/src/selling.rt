@@ -1,34 +1,24 @@
 //! Selling: a shard of the objects deals with a bid, or tells a price.
 
 ghost use Rattle.std.specs.Prelude.{◌≡◌, ◌<◌, ◌+◌, true, [], ◌∷◌, length, slice_set, All, IfSome, IfNone, IsTrue, ◌↔◌};
-ghost use Rattle.auc_letters.specs.Award.{awards, refusal};
+ghost use Rattle.auc_letters.specs.Award.{answers};
 ghost use Rattle.auc_letters.specs.Price.{IsPrice};
 ghost use Rattle.auc_letters.specs.Routing.{price_told};
-ghost use Rattle.auc_letters.specs.declared.letter.Letter.{Letter};
 ghost use Rattle.auc_model.specs.Mails.{Shard, with_outbox};
 ghost use Rattle.auc_model.specs.Selling.{FitsBid, ObjectTakeTurn, TellTurn};
 ghost use Rattle.auc_model.specs.declared.turn.Turn.{Turn};
 ghost use Rattle.auc_objects.specs.Answers.{letters_of};
-ghost use Rattle.auc_objects.specs.Objects.{price_of, holder_of, sold};
+ghost use Rattle.auc_objects.specs.Objects.{IsOffer, Owns, after_bid, price_of, sale_of};
 ghost use Rattle.auc_world.specs.Parts.{AreParts, MayAnswer, OwnsObject, Reaches, SamePhase, objects_at, outbox_at, phase, seen};
 ghost use Rattle.auc_world.specs.Rounds.{Plays};
-ghost use Rattle.auc_world.specs.Selling.{Accepts, Deals, Declines};
+ghost use Rattle.auc_world.specs.Selling.{Deals};
 
 use crate::rounds::{either, has_moved};
 use crate::world::World;
 use arrayvec::ArrayVec;
-use auc_letters::{Letter, MOST_PRICE, Out, Why};
+use auc_letters::{Letter, Offer, Out, Why};
 use auc_model::{End, MailName, TurnReply};
 use auc_objects::Answers;
-
-/// A bid that a shard of the objects deals with.
-#[derive(Clone, Copy)]
-pub(crate) struct Offer {
-    pub(crate) person: u32,
-    pub(crate) arc: u32,
-    pub(crate) object: u32,
-    pub(crate) amount: i64,
-}
 
 /// What a shard of the objects has done with a letter.
 #[derive(Clone, Copy)]
@@ -65,58 +55,28 @@ impl<'a> World<'a> {
     /// The bid that a letter to a shard of the objects is, where it fits: the object is the shard's, and the amount is in range.
     #[inline]
     fn offer_in(&self, shard: u32, letter: Letter) -> Option<Offer>
-        ensures some { IfSome result (λ b. (letter ≡ Letter.Bid b.person b.arc b.object b.amount) × FitsBid (phase self.now) shard letter) }
-        ensures owns { IfSome result (λ b. OwnsObject self.now shard b.object) }
-        ensures amount { IfSome result (λ b. IsPrice b.amount) }
+        requires { shard < self.now.shards }
+        ensures some { IfSome result (IsOffer (objects_at self.now shard) letter) }
         ensures none { IfNone result (FitsBid (phase self.now) shard letter → ⊥) }
     {
-        match letter {
-            Letter::Bid {
-                person,
-                arc,
-                object,
-                amount,
-            } => {
-                if !self.owns(shard, object) || amount < 0 || amount > MOST_PRICE {
-                    return None;
-                }
-                Some(Offer {
-                    person,
-                    arc,
-                    object,
-                    amount,
-                })
-            }
-            Letter::Award { .. } => None,
-            Letter::Refused { .. } => None,
-            Letter::Outbid { .. } => None,
-            Letter::Price { .. } => None,
-            Letter::First { .. } => None,
-            Letter::Stop { .. } => None,
-        }
+        let objects = &self.objects[shard as usize];
+        objects.offer_in(letter)
     }
 
-    /// A shard of the objects deals with a bid, and gives the letters that answer it.
+    /// Deals with a bid on an object of a shard.
     #[inline]
-    fn answer_bid(
-        &mut self,
-        shard: u32,
-        person: u32,
-        arc: u32,
-        object: u32,
-        amount: i64,
-    ) -> Answers
+    fn answer(&mut self, shard: u32, offer: Offer) -> Answers
         requires known { shard < self.old.shards }
-        requires owns { OwnsObject self.old shard object }
-        requires amount { IsPrice amount }
-        ensures accepted { Accepts self.old shard object amount → (objects_at self.new shard ≡ sold (objects_at self.old shard) object amount (record { person = person; arc = arc })) × (letters_of result ≡ awards self.old.shards (holder_of (objects_at self.old shard) object) person object amount) }
-        ensures declined { Declines self.old shard object amount → (objects_at self.new shard ≡ objects_at self.old shard) × (letters_of result ≡ refusal self.old.shards person object (price_of (objects_at self.old shard) object)) }
+        requires owns { Owns (objects_at self.old shard) offer.object }
+        requires amount { IsPrice offer.amount }
+        ensures award { objects_at self.new shard ≡ after_bid (objects_at self.old shard) self.old.eps offer }
+        ensures letters { letters_of result ≡ answers self.old.shards self.old.eps (sale_of (objects_at self.old shard) offer.object) offer }
         ensures rest { self.new ≡ record self.old { objects = slice_set self.old.objects shard (objects_at self.new shard) } }
         ensures reach { All (Reaches self.old.shards) (letters_of result) }
     {
         let eps = self.eps;
         let objects = &mut self.objects[shard as usize];
-        objects.answer(person, arc, object, amount, eps)
+        objects.answer(offer, eps)
     }
 
     /// The price of an object, as a letter to a shard of the persons.
@@ -147,7 +107,7 @@ impl<'a> World<'a> {
             self.end_with(End::Stopped { why: Why::Stray });
             return Dealt::Strayed;
         };
-        let answers = self.answer_bid(shard, offer.person, offer.arc, offer.object, offer.amount);
+        let answers = self.answer(shard, offer);
         Dealt::Answered { answers }
     }
 

@@ -1,6 +1,4 @@
-use Rattle.std.proofs.Common.{arith, rules, w64}
-use Rattle.std.specs.Prelude.{FitsSigned}
-use Rattle.std.proofs.lemmas.Int.{to_z-of_z}
+use Rattle.std.proofs.Common.{arith}
 use Rattle.std.proofs.lemmas.Grind.{common_steps}
 use Rattle.auc_objects.specs.Answers.{letters_of}
 use Rattle.auc_world.specs.Parts.{MayAnswer}
@@ -17,15 +15,12 @@ returns-in_default-offer_in-clause-deals c =
 pub returns-clause-deals : goal.returns-clause-deals
 returns-clause-deals c =
     let may : MayAnswer c.args.self.now c.args.shard = grind (arith, common_steps) in
-    let b = c.in-Some-offer_in.offer in
-    let fits = c.in-Some-offer_in.ensures in
-    let fits_amount : FitsSigned w64 b.amount = search rules in
-    let accepted = simp to_z-of_z at c.answer_bid-answers.ensures.accepted in
-    let declined = simp to_z-of_z at c.answer_bid-answers.ensures.declined in
-    let known = bid_known c.args.self.now c.args.shard c.may_answer.ensures.sound may c.take.new.self c.in-Some.letter _ c.in-Some.ensures.some c.take.ensures.rest
-    c.answer_bid-answers.new.self (letters_of c.answer_bid-answers.result) b.person b.arc b.object b.amount fits.some.0 fits.some.1 fits.owns accepted declined c.answer_bid-answers.ensures.rest c.answer_bid-answers.ensures.reach in (
-      bid_dealt c.args.self.now c.args.shard c.may_answer.ensures.sound may c.take.new.self c.in-Some.letter _ c.in-Some.ensures.some c.take.ensures.rest
-      c.answer_bid-answers.new.self (letters_of c.answer_bid-answers.result) b.person b.arc b.object b.amount fits.some.0 fits.some.1 fits.owns accepted declined c.answer_bid-answers.ensures.rest,
+    let bid = c.in-Some-offer_in.offer in
+    let fits = c.in-Some-offer_in.ensures.some in
+    let e = c.answer-answers.ensures in
+    let p = c.args.self.now in
+    let known = bid_known p c.args.shard c.may_answer.ensures.sound may c.take.new.self c.in-Some.letter _ c.in-Some.ensures.some c.take.ensures.rest c.answer-answers.new.self (letters_of c.answer-answers.result) bid fits e.award e.letters e.rest e.reach in (
+      bid_dealt p c.args.shard c.may_answer.ensures.sound may c.take.new.self c.in-Some.letter _ c.in-Some.ensures.some c.take.ensures.rest c.answer-answers.new.self (letters_of c.answer-answers.result) bid fits e.award e.letters e.rest,
       known.0,
       known.1,
       known.2,

@@ -26,7 +26,7 @@ one_more_read front n done bytes numbers rest least k more end h lt at e =
     let above : least_behind 0 numbers ≤ k = omega (arith, h.is) in
     let below : k < 10000 = omega arith in
     record {
-      run = record { run = run_more (number_line front) IsIndex done bytes numbers rest k more h.run.run (t.text done) below; rises = rises_push numbers k h.run.rises above below };
+      run = record { run = run_more (number_line front) IsIndex done bytes numbers rest k more h.run.run (t.text done) below; rises = rises_push 10000 numbers k h.run.rises above below };
       is = sym (behind_push 0 numbers k);
       room = omega arith;
     }

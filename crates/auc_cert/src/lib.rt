@@ -24,8 +24,7 @@ mod writing;
 pub use cert::{Cert, CertParts};
 pub use checking::check;
 pub use laws::{
-    faultless_claims_are_allowed, hall_sets_pass, no_spelling_begins_another,
-    slack_right_costs_least,
+    assignments_pass, faultless_claims_are_allowed, hall_sets_pass, no_spelling_begins_another,
 };
 pub use limits::HIGHEST_PRICE;
 pub use lists::{Pick, Picks, Prices};

@@ -1,8 +1,8 @@
 //! The text of a certificate, written.
 
-ghost use Rattle.std.specs.Prelude.{◌≡◌, ◌+◌, ◌++◌, ◌<◌, ◌^◌, OnOk, length};
+ghost use Rattle.std.specs.Prelude.{◌≡◌, ◌+◌, ◌++◌, ◌<◌, ◌^◌, length};
 ghost use Rattle.std.specs.Fmt.{decimal, signed_decimal};
-ghost use Rattle.std.specs.Io.KnownBytes.{Appends};
+ghost use Rattle.auc_cert.specs.Writing.{Writes};
 ghost use Rattle.auc_cert.specs.Text.{text, head_line, assign_line, price_line, optimal_line, infeasible_line, number_line, numbered, joined};
 
 use crate::cert::{Cert, CertParts};
@@ -24,7 +24,7 @@ pub enum WriteFault {
 
 /// Writes these bytes, all of them, by as many calls of `write` as that takes. Takes no memory.
 pub fn write_whole<W: Write>(writer: &mut W, bytes: &[u8]) -> Result<(), WriteFault>
-    ensures { OnOk result (Appends (W.contents writer.old) (W.contents writer.new) bytes.now) }
+    ensures { Writes result (W.contents writer.old) (W.contents writer.new) bytes.now }
 {
     let mut rest = bytes;
     while !rest.is_empty() {
@@ -39,7 +39,7 @@ pub fn write_whole<W: Write>(writer: &mut W, bytes: &[u8]) -> Result<(), WriteFa
 
 /// Writes a number in decimal.
 fn write_count<W: Write>(writer: &mut W, count: u64) -> Result<(), WriteFault>
-    ensures { OnOk result (Appends (W.contents writer.old) (W.contents writer.new) (decimal count)) }
+    ensures { Writes result (W.contents writer.old) (W.contents writer.new) (decimal count) }
 {
     let mut buffer = Buffer::new();
     write_whole(writer, buffer.format(count).as_bytes())
@@ -47,7 +47,7 @@ fn write_count<W: Write>(writer: &mut W, count: u64) -> Result<(), WriteFault>
 
 /// Writes a number in decimal, with a minus where it is negative.
 fn write_number<W: Write>(writer: &mut W, number: i64) -> Result<(), WriteFault>
-    ensures { OnOk result (Appends (W.contents writer.old) (W.contents writer.new) (signed_decimal number)) }
+    ensures { Writes result (W.contents writer.old) (W.contents writer.new) (signed_decimal number) }
 {
     let mut buffer = Buffer::new();
     write_whole(writer, buffer.format(number).as_bytes())
@@ -55,7 +55,7 @@ fn write_number<W: Write>(writer: &mut W, number: i64) -> Result<(), WriteFault>
 
 /// Writes the first two lines of an optimal certificate.
 fn write_head<W: Write>(writer: &mut W, persons: u64, cost: i64) -> Result<(), WriteFault>
-    ensures { OnOk result (Appends (W.contents writer.old) (W.contents writer.new) (head_line ++ optimal_line persons cost)) }
+    ensures { Writes result (W.contents writer.old) (W.contents writer.new) (head_line ++ optimal_line persons cost) }
 {
     write_whole(writer, b"auction 1\noptimal ")?;
     write_count(writer, persons)?;
@@ -71,7 +71,7 @@ fn write_infeasible_head<W: Write>(
     persons: u64,
     objects: u64,
 ) -> Result<(), WriteFault>
-    ensures { OnOk result (Appends (W.contents writer.old) (W.contents writer.new) (head_line ++ infeasible_line persons objects)) }
+    ensures { Writes result (W.contents writer.old) (W.contents writer.new) (head_line ++ infeasible_line persons objects) }
 {
     write_whole(writer, b"auction 1\ninfeasible ")?;
     write_count(writer, persons)?;
@@ -84,7 +84,7 @@ fn write_infeasible_head<W: Write>(
 /// Writes the line of a person, who is numbered from 0.
 fn write_pick<W: Write>(writer: &mut W, person: u64, pick: Pick) -> Result<(), WriteFault>
     requires { person < 2 ^ 32 }
-    ensures { OnOk result (Appends (W.contents writer.old) (W.contents writer.new) (assign_line person pick)) }
+    ensures { Writes result (W.contents writer.old) (W.contents writer.new) (assign_line person pick) }
 {
     write_whole(writer, b"assign ")?;
     write_count(writer, person + 1)?;
@@ -99,7 +99,7 @@ fn write_pick<W: Write>(writer: &mut W, person: u64, pick: Pick) -> Result<(), W
 /// Writes the line of an object, which is numbered from 0.
 fn write_price<W: Write>(writer: &mut W, object: u64, price: i64) -> Result<(), WriteFault>
     requires { object < 2 ^ 32 }
-    ensures { OnOk result (Appends (W.contents writer.old) (W.contents writer.new) (price_line object price)) }
+    ensures { Writes result (W.contents writer.old) (W.contents writer.new) (price_line object price) }
 {
     write_whole(writer, b"price ")?;
     write_count(writer, object + 1)?;
@@ -113,7 +113,7 @@ fn write_price<W: Write>(writer: &mut W, object: u64, price: i64) -> Result<(), 
 /// from 1.
 pub fn write_picks<W: Write>(writer: &mut W, choice: &[Pick]) -> Result<(), WriteFault>
     requires { length choice.now < 2 ^ 32 }
-    ensures { OnOk result (Appends (W.contents writer.old) (W.contents writer.new) (joined (numbered assign_line 0 choice.now))) }
+    ensures { Writes result (W.contents writer.old) (W.contents writer.new) (joined (numbered assign_line 0 choice.now)) }
 {
     let mut person: u64 = 0;
     for pick in choice {
@@ -126,7 +126,7 @@ pub fn write_picks<W: Write>(writer: &mut W, choice: &[Pick]) -> Result<(), Writ
 /// Writes the lines of all objects.
 fn write_prices<W: Write>(writer: &mut W, prices: &[i64]) -> Result<(), WriteFault>
     requires { length prices.now < 2 ^ 32 }
-    ensures { OnOk result (Appends (W.contents writer.old) (W.contents writer.new) (joined (numbered price_line 0 prices.now))) }
+    ensures { Writes result (W.contents writer.old) (W.contents writer.new) (joined (numbered price_line 0 prices.now)) }
 {
     let mut object: u64 = 0;
     for price in prices {
@@ -144,7 +144,7 @@ fn write_optimal<W: Write>(
 ) -> Result<(), WriteFault>
     requires choice { length choice.now < 2 ^ 32 }
     requires prices { length prices.now < 2 ^ 32 }
-    ensures { OnOk result (Appends (W.contents writer.old) (W.contents writer.new) (text (CertParts.Optimal cost choice.now prices.now))) }
+    ensures { Writes result (W.contents writer.old) (W.contents writer.new) (text (CertParts.Optimal cost choice.now prices.now)) }
 {
     write_head(writer, choice.len() as u64, cost)?;
     write_picks(writer, choice)?;
@@ -154,7 +154,7 @@ fn write_optimal<W: Write>(
 
 /// Writes the lines of numbers, each behind this front.
 fn write_numbers<W: Write>(writer: &mut W, front: &[u8], numbers: &[u32]) -> Result<(), WriteFault>
-    ensures { OnOk result (Appends (W.contents writer.old) (W.contents writer.new) (joined (numbered (number_line front.now) 0 numbers.now))) }
+    ensures { Writes result (W.contents writer.old) (W.contents writer.new) (joined (numbered (number_line front.now) 0 numbers.now)) }
 {
     for number in numbers {
         write_whole(writer, front)?;
@@ -169,7 +169,7 @@ fn write_infeasible<W: Write>(
     persons: &[u32],
     objects: &[u32],
 ) -> Result<(), WriteFault>
-    ensures { OnOk result (Appends (W.contents writer.old) (W.contents writer.new) (text (CertParts.Infeasible persons.now objects.now))) }
+    ensures { Writes result (W.contents writer.old) (W.contents writer.new) (text (CertParts.Infeasible persons.now objects.now)) }
 {
     write_infeasible_head(writer, persons.len() as u64, objects.len() as u64)?;
     write_numbers(writer, b"person ", persons)?;
@@ -180,7 +180,7 @@ fn write_infeasible<W: Write>(
 /// Writes the text of a certificate, the one that [`read_cert`](crate::read_cert) reads. On an error some of it may have
 /// gone out. Takes O(persons) writes and no memory.
 pub fn write_cert<W: Write>(writer: &mut W, cert: &Cert) -> Result<(), WriteFault>
-    ensures { OnOk result (Appends (W.contents writer.old) (W.contents writer.new) (text cert.now)) }
+    ensures { Writes result (W.contents writer.old) (W.contents writer.new) (text cert.now) }
 {
     match cert.parts() {
         CertParts::Optimal {

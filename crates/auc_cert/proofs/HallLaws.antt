@@ -13,7 +13,7 @@ use Rattle.auc_graph.specs.Rising.{IsRising}
 use Rattle.auc_graph.proofs.RisingLaws.{rising_differ}
 use Rattle.auc_cert.specs.Spelled.{AreNamed}
 use Rattle.auc_cert.specs.Claim.{are_below, is_listed, stays_within, is_hall, AreListed}
-use Rattle.auc_cert.specs.Runs.{IsIndex}
+use Rattle.auc_cert.specs.Runs.{IsBelow}
 use Rattle.auc_cert.proofs.RisingLaws.{is_rising, rises_from}
 
 passes_at : {X : Type 0} (test : X → Bool) (xs : List X) (k : ℕ) (x : X) → list_all test xs ≡ true → k < length xs → get_or xs k x ≡ x → test x ≡ true
@@ -86,11 +86,11 @@ hall_set_passes p persons objects s within =
     (and_from (nat_lt (length objects) (length persons)) (list_all (stays_within persons objects) p.arcs) (is_less (length objects) (length persons) s.fewer)
     (all_pass (stays_within persons objects) p.arcs (λ a c. known_from (is_listed persons a.person) (is_listed objects a.object) (λ his. is_in_list objects a.object (s.all a c (listed_is persons a.person his))))))
 
-all_contained : (n : ℕ) (numbers : List ℕ) → ((k : ℕ) → Contains numbers k → k < n) → n ≤ 10000 → All IsIndex numbers
-all_contained n [] h le = All-nil IsIndex
+all_contained : (n : ℕ) (numbers : List ℕ) → ((k : ℕ) → Contains numbers k → k < n) → n ≤ 10000 → All (IsBelow 10000) numbers
+all_contained n [] h le = All-nil (IsBelow 10000)
 all_contained n (k ∷ numbers) h le =
     let here : k < n = h k (0, omega arith, refl) in
-    All-cons IsIndex k numbers (omega arith) (all_contained n numbers (λ j c. h j (suc c.0, omega (arith, c.1), c.2)) le)
+    All-cons (IsBelow 10000) k numbers (omega arith) (all_contained n numbers (λ j c. h j (suc c.0, omega (arith, c.1), c.2)) le)
 
 none_below_0 : (numbers : List ℕ) → All (λ k. 0 ≤ k) numbers
 none_below_0 numbers i d lt = omega arith

@@ -15,6 +15,7 @@ mod laws;
 mod limits;
 mod lists;
 mod name_reading;
+mod output;
 mod picks;
 mod reading;
 mod refused;
@@ -26,10 +27,10 @@ pub use checking::check;
 pub use laws::{
     assignments_pass, faultless_claims_are_allowed, hall_sets_pass, no_spelling_begins_another,
 };
-pub use limits::HIGHEST_PRICE;
 pub use lists::{Pick, Picks, Prices};
+pub use output::{WriteFault, write_count, write_number, write_whole};
 pub use picks::cost_of;
 pub use reading::read_cert;
 pub use refused::CertRefused;
 pub use text_error::CertTextError;
-pub use writing::{WriteFault, write_cert, write_picks, write_whole};
+pub use writing::{write_cert, write_picks};

@@ -1,57 +1,13 @@
 //! The text of a certificate, written.
 
-ghost use Rattle.std.specs.Prelude.{◌≡◌, ◌+◌, ◌++◌, ◌<◌, ◌^◌, length};
-ghost use Rattle.std.specs.Fmt.{decimal, signed_decimal};
+ghost use Rattle.std.specs.Prelude.{◌++◌, ◌<◌, ◌^◌, length};
 ghost use Rattle.auc_cert.specs.Writing.{Writes};
 ghost use Rattle.auc_cert.specs.Text.{text, head_line, assign_line, price_line, optimal_line, infeasible_line, number_line, numbered, joined};
 
 use crate::cert::{Cert, CertParts};
 use crate::lists::Pick;
-use itoa::Buffer;
+use crate::output::{WriteFault, write_count, write_number, write_whole};
 use std::io::Write;
-use thiserror::Error;
-
-/// Why a text was not written. What went out before is not told.
-#[derive(Clone, Copy, Debug, PartialEq, Eq, Error)]
-pub enum WriteFault {
-    /// A write failed; an interrupted one too.
-    #[error("a write failed")]
-    Failed,
-    /// A write took no bytes.
-    #[error("a write took no bytes")]
-    Stopped,
-}
-
-/// Writes these bytes, all of them, by as many calls of `write` as that takes. Takes no memory.
-pub fn write_whole<W: Write>(writer: &mut W, bytes: &[u8]) -> Result<(), WriteFault>
-    ensures { Writes result (W.contents writer.old) (W.contents writer.new) bytes.now }
-{
-    let mut rest = bytes;
-    while !rest.is_empty() {
-        match writer.write(rest) {
-            Ok(0) => return Err(WriteFault::Stopped),
-            Ok(taken) => rest = &rest[taken..],
-            Err(_) => return Err(WriteFault::Failed),
-        }
-    }
-    Ok(())
-}
-
-/// Writes a number in decimal.
-fn write_count<W: Write>(writer: &mut W, count: u64) -> Result<(), WriteFault>
-    ensures { Writes result (W.contents writer.old) (W.contents writer.new) (decimal count) }
-{
-    let mut buffer = Buffer::new();
-    write_whole(writer, buffer.format(count).as_bytes())
-}
-
-/// Writes a number in decimal, with a minus where it is negative.
-fn write_number<W: Write>(writer: &mut W, number: i64) -> Result<(), WriteFault>
-    ensures { Writes result (W.contents writer.old) (W.contents writer.new) (signed_decimal number) }
-{
-    let mut buffer = Buffer::new();
-    write_whole(writer, buffer.format(number).as_bytes())
-}
 
 /// Writes the first two lines of an optimal certificate.
 fn write_head<W: Write>(writer: &mut W, persons: u64, cost: i64) -> Result<(), WriteFault>

@@ -1,13 +1,11 @@
-pub mod Scale
 pub mod CostSums
-pub mod PriceSums
-pub mod Duality
 pub mod ValueLaws
 pub mod RepeatLaws
 pub mod FlagLaws
 pub mod RisingLaws
 pub mod HallLaws
 pub mod ClaimLaws
+pub mod Converse
 pub mod NumberWords
 pub mod WordLaws
 pub mod LineLaws

@@ -8,7 +8,7 @@ use Rattle.auc_cert.specs.declared.lists.Pick.{Pick}
 use Rattle.auc_cert.specs.Spelled.{IsPick, IsPrice}
 use Rattle.auc_cert.specs.Text.{numbered, joined, assign_line, price_line, number_line}
 use Rattle.auc_cert.specs.Fields.{pick_at, price_at, number_at}
-use Rattle.auc_cert.specs.Runs.{IsRun, BreaksOff, IsIndex}
+use Rattle.auc_cert.specs.Runs.{IsRun, BreaksOff, IsBelow}
 use Rattle.auc_cert.proofs.WriteLaws.{numbered_push}
 use Rattle.auc_cert.proofs.WordLaws.{some_is}
 use Rattle.auc_cert.proofs.LineLaws.{pick_again, pick_takes, price_again, price_takes, number_again}
@@ -69,7 +69,7 @@ prices_apart k x y lt p q e =
     let pair = some_is (x, []) (y, []) (sym (price_again k x [] lt p) ∙ ap (λ (l : List ℕ). price_at k (l ++ [])) e ∙ price_again k y [] lt q) in
     ap (λ (t : ℤ × List ℕ). t.0) pair
 
-pub numbers_apart : (front : List ℕ) → TellsApart ℕ (number_line front) IsIndex
+pub numbers_apart : (front : List ℕ) → TellsApart ℕ (number_line front) (IsBelow 10000)
 numbers_apart front k x y lt p q e =
     let pair = some_is (x, []) (y, []) (sym (number_again front k 0 10000 x [] (omega arith) p (omega arith)) ∙ ap (λ (l : List ℕ). number_at front 0 10000 (l ++ [])) e ∙ number_again front k 0 10000 y [] (omega arith) q (omega arith)) in
     ap (λ (t : ℕ × List ℕ). t.0) pair

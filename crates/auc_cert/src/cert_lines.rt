@@ -5,7 +5,7 @@ ghost use Rattle.auc_cert.specs.Fields.{seen, after, pick_at, price_at, optimal_
 ghost use Rattle.auc_cert.specs.Text.{head_line};
 
 use crate::fields::{field_of, index_of};
-use crate::limits::{HIGHEST_PRICE, MOST_COST, MOST_PERSONS};
+use crate::limits::{HIGHEST_PRICE, MOST_COST, MOST_OBJECTS, MOST_PERSONS};
 use crate::lists::Pick;
 
 /// The pick on the line of a person at the front, and what stands behind the line.
@@ -16,7 +16,7 @@ pub(crate) fn pick_of(bytes: &[u8], person: u32) -> Option<(Pick, &[u8])>
 {
     let place = person as i64 + 1;
     let (_, rest) = field_of(bytes, b"assign ", place, place, b' ')?;
-    let (object, rest) = field_of(rest, b"", 1, MOST_PERSONS as i64, b' ')?;
+    let (object, rest) = field_of(rest, b"", 1, MOST_OBJECTS as i64, b' ')?;
     let (cost, rest) = field_of(rest, b"", -MOST_COST, MOST_COST, b'\n')?;
     let pick = Pick {
         object: index_of(object),
@@ -55,7 +55,7 @@ pub(crate) fn infeasible_of(bytes: &[u8]) -> Option<((u32, u32), &[u8])>
     ensures exact { seen (λ x. (x.0, x.1.now)) result ≡ infeasible_at bytes.now }
 {
     let (persons, rest) = field_of(bytes, b"infeasible ", 1, MOST_PERSONS as i64, b' ')?;
-    let (objects, rest) = field_of(rest, b"", 0, MOST_PERSONS as i64, b'\n')?;
+    let (objects, rest) = field_of(rest, b"", 0, MOST_OBJECTS as i64, b'\n')?;
     Some(((persons as u32, objects as u32), rest))
 }
 

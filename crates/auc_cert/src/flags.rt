@@ -36,7 +36,7 @@ fn is_same(person: u32, pick: Pick, arc: Arc) -> bool
 
 /// For each person, that no arc is his pick.
 fn missing_flags(alloc: Global, choice: &[Pick], arcs: &[Arc]) -> Result<Vec<bool>, AllocError>
-    requires { All (IsWithin (length choice.now) (length choice.now)) arcs.now }
+    requires { All (λ a. a.person < length choice.now) arcs.now }
     ensures { IfOk result (λ v. AreFlags (is_missing arcs.now) choice.now v.items) }
 {
     let mut flags = vec![in alloc; true; choice.len()]?;
@@ -55,7 +55,7 @@ pub(crate) fn missing_person(
     arcs: &[Arc],
 ) -> Result<Option<u32>, AllocError>
     requires few { length choice.now < 2 ^ 32 }
-    requires within { All (IsWithin (length choice.now) (length choice.now)) arcs.now }
+    requires persons { All (λ a. a.person < length choice.now) arcs.now }
     ensures { IfOk result (λ o. o ≡ position (is_missing arcs.now) (chosen 0 choice.now)) }
 {
     let missing = missing_flags(alloc, choice, arcs)?;

@@ -3,17 +3,17 @@ use Rattle.std.specs.Prelude.{ℤ, ◌+ℤ◌, FitsSigned}
 use Rattle.std.specs.Int.{w128}
 use Rattle.std.proofs.lemmas.Int.{to_z-of_z}
 use Rattle.auc_cert.proofs.ValueLaws.{value_more_fits, bears_is}
-use Rattle.auc_cert.specs.Slackness.{price_at, value}
+use Rattle.auc_graph.specs.Dual.{price_at, arc_value}
 use Rattle.auc_cert.specs.Claim.{arc_of}
 use Rattle.auc_cert.proofs.flags.is_bearing.Goals as goal
 
-theirs_is : (c : goal.After-value_of-else-person-arc) → c.value_of-else-person-arc.result ≡ value c.args.scale c.args.prices.now c.args.arc
+theirs_is : (c : goal.After-value_of-else-person-arc) → c.value_of-else-person-arc.result ≡ arc_value c.args.scale c.args.prices.now c.args.arc
 theirs_is c =
     let f1 : FitsSigned w64 c.args.arc.cost = search rules in
     let f2 : FitsSigned w64 (price_at c.args.prices.now c.args.arc.object) = search rules in
     simp to_z-of_z at c.value_of-else-person-arc.ensures
 
-mine_is : (c : goal.After-value_of-else-person-arc) → c.value_of.result ≡ value c.args.scale c.args.prices.now (arc_of c.args.person c.args.pick)
+mine_is : (c : goal.After-value_of-else-person-arc) → c.value_of.result ≡ arc_value c.args.scale c.args.prices.now (arc_of c.args.person c.args.pick)
 mine_is c =
     let f1 : FitsSigned w64 c.args.pick.cost = search rules in
     let f2 : FitsSigned w64 (price_at c.args.prices.now c.args.pick.object) = search rules in

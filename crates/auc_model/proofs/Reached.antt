@@ -10,6 +10,7 @@ use Rattle.auc_mail.specs.declared.call.Call.{Call}
 use Rattle.auc_mail.specs.declared.call.PostRefused.{PostRefused}
 use Rattle.auc_mail.specs.declared.call.Reply.{Reply}
 use Rattle.auc_mail.specs.declared.call.Taken.{Taken}
+use Rattle.auc_mail.proofs.StepLaws.{step_shape}
 use Rattle.auc_model.specs.Hearing.{FitsLetter, Rises}
 use Rattle.auc_model.specs.Hub.{IsForHub}
 use Rattle.auc_model.specs.Invariants.{Kept}
@@ -46,26 +47,8 @@ pub kept_reached : (g : Phase) (v : World) → Reached g v → Kept g v
 kept_reached g v r = kept_schedule g r.start r.turns v r.lawful r.leads (kept_start g r.start r.starts)
 
 -- a mail has its nodes for good
-step_nodes : (m n : Mail Letter) (c : Call Letter) (r : Reply Letter) → Step m c r n → n.nodes ≡ m.nodes
-step_nodes m n (Call.Post s b x k) (Reply.Posted i) p = ap (λ (z : Mail Letter). z.nodes) p.5
-step_nodes m n (Call.Post s b x k) (Reply.Refused PostRefused.Closed) p = ap (λ (z : Mail Letter). z.nodes) p.1
-step_nodes m n (Call.Post s b x k) (Reply.Refused PostRefused.Spent) p = ap (λ (z : Mail Letter). z.nodes) p.2
-step_nodes m n (Call.Post s b x k) (Reply.Refused PostRefused.Full) p = ap (λ (z : Mail Letter). z.nodes) p.3
-step_nodes m n (Call.Post s b x k) (Reply.Took t) p = absurd p
-step_nodes m n (Call.Post s b x k) (Reply.WasOpen f) p = absurd p
-step_nodes m n (Call.Take b) (Reply.Took (Taken.Letter s i x)) p = ap (λ (z : Mail Letter). z.nodes) p.3.2
-step_nodes m n (Call.Take b) (Reply.Took Taken.Empty) p = ap (λ (z : Mail Letter). z.nodes) p.2
-step_nodes m n (Call.Take b) (Reply.Took Taken.Over) p = ap (λ (z : Mail Letter). z.nodes) p.2
-step_nodes m n (Call.Take b) (Reply.Posted i) p = absurd p
-step_nodes m n (Call.Take b) (Reply.Refused e) p = absurd p
-step_nodes m n (Call.Take b) (Reply.WasOpen f) p = absurd p
-step_nodes m n (Call.Close b) (Reply.WasOpen f) p = ap (λ (z : Mail Letter). z.nodes) p.1
-step_nodes m n (Call.Close b) (Reply.Posted i) p = absurd p
-step_nodes m n (Call.Close b) (Reply.Refused e) p = absurd p
-step_nodes m n (Call.Close b) (Reply.Took t) p = absurd p
-
 one_nodes : (w v : World) (name : MailName) → StepsIn w v name → (mail_named v name).nodes ≡ (mail_named w name).nodes
-one_nodes w v name s = elim s.this [ inl e ↦ ap (λ (z : Mail Letter). z.nodes) e | inr h ↦ step_nodes (mail_named w name) (mail_named v name) h.0 h.1 h.2 ]
+one_nodes w v name s = elim s.this [ inl e ↦ ap (λ (z : Mail Letter). z.nodes) e | inr h ↦ (step_shape (mail_named w name) (mail_named v name) h.0 h.1 h.2).nodes ]
 
 turn_nodes : (w v : World) (stepped : MailName) → StepsIn w v stepped → (name : MailName) → (mail_named v name).nodes ≡ (mail_named w name).nodes
 turn_nodes w v MailName.Objects s MailName.Objects = one_nodes w v MailName.Objects s

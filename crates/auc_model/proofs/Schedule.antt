@@ -10,7 +10,7 @@ use Rattle.auc_letters.specs.declared.letter.Why.{Why}
 use Rattle.auc_letters.specs.declared.out.Out.{Out}
 use Rattle.auc_letters.specs.declared.out.To.{To}
 use Rattle.auc_letters.specs.declared.state.Held.{Held}
-use Rattle.auc_mail.specs.Mail.{Lane, Mail, is_open, lane_behind, lane_of, with_closed, with_lane}
+use Rattle.auc_mail.specs.Mail.{HasBox, Lane, Mail, is_open, lane_behind, lane_of, with_closed, with_lane}
 use Rattle.auc_mail.specs.declared.call.Call.{Call}
 use Rattle.auc_mail.specs.declared.call.PostRefused.{PostRefused}
 use Rattle.auc_mail.specs.declared.call.Reply.{Reply}
@@ -401,11 +401,11 @@ module _ (g : Phase) (w : World) (law : Lawful g) (k : Kept g w) where
       rw e (hub_letter x n l m t (routed_first g (ways g w k.lost) k.inv.routed To.Hub x l (left_behind g w k.lost To.Hub x n l m whole t) (way_taken g w k.lost To.Hub x n l m whole t)))
 
   -- a box closes
-  kept_closed : (name : MailName) (b : ℕ) → Kept g (with_mail_named w name (with_closed (mail_named w name) b))
-  kept_closed name b =
+  kept_closed : (name : MailName) (b : ℕ) → HasBox (mail_named w name) b → Kept g (with_mail_named w name (with_closed (mail_named w name) b))
+  kept_closed name b known =
       let u : World = with_mail_named w name (with_closed (mail_named w name) b) in
       kept_by g w law k u
-      (shapes_named g w k.shapes name (with_closed (mail_named w name) b) (Call.Close b) (Reply.WasOpen (is_open (mail_named w name) b)) (refl, refl))
+      (shapes_named g w k.shapes name (with_closed (mail_named w name) b) (Call.Close b) (Reply.WasOpen (is_open (mail_named w name) b)) (refl, refl, known))
       k.lost (ways g w k.lost)
       (open_by w u k.lost (opens_before w name b) k.only_closed)
       (ways_close g w k.lost name b)
@@ -418,7 +418,7 @@ module _ (g : Phase) (w : World) (law : Lawful g) (k : Kept g w) where
 
   kept_hub_close : (name : MailName) (b : ℕ) (r : TurnReply) (v : World) → HubCloseTurn w name b r v → Kept g v
   kept_hub_close name b r v (HubCloseTurn.leaves h e1 e) = rw e k
-  kept_hub_close name b r v (HubCloseTurn.closes m h1 h2 h3 e1 e) = rw (e, h3.1) (kept_closed name b)
+  kept_hub_close name b r v (HubCloseTurn.closes m h1 h2 h3 e1 e) = rw (e, h3.1) (kept_closed name b h1)
 
   pub kept_turn : (t : Turn) (r : TurnReply) (v : World) → Turned g w t r v → Kept g v
   kept_turn (Turn.Bid s) r v h = kept_bid g w law k s r v h

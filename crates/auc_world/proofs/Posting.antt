@@ -29,9 +29,9 @@ same_mail p (To.Object q) = refl
 same_mail p To.Hub = refl
 
 pub refused_same : (m n : Mail Letter) (s b r : ℕ) (l : Letter) (y : PostRefused) → Step m (Call.Post s b l r) (Reply.Refused y) n → Step m (Call.Post s b l r) (Reply.Refused y) m × (n ≡ m)
-refused_same m n s b r l PostRefused.Closed h = ((h.0, refl), h.1)
-refused_same m n s b r l PostRefused.Spent h = ((h.0, h.1, refl), h.2)
-refused_same m n s b r l PostRefused.Full h = ((h.0, h.1, h.2, refl), h.3)
+refused_same m n s b r l PostRefused.Closed h = ((h.0, refl, h.2), h.1)
+refused_same m n s b r l PostRefused.Spent h = ((h.0, h.1, refl, h.3), h.2)
+refused_same m n s b r l PostRefused.Full h = ((h.0, h.1, h.2, refl, h.4), h.3)
 
 -- a sender under another name
 pub refused_by : (p n : Parts) (o : Out) (x s : ℕ) (y : PostRefused) → x ≡ s → Step (mail_of (seen p) o.to) (Call.Post x (box_of o.to) o.letter o.reserve) (Reply.Refused y) (mail_of (seen n) o.to)

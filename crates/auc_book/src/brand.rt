@@ -1,3 +1,5 @@
+//! What brands a mail and its seats in the types.
+
 use std::marker::Brand;
 use std::sync::ledger::Ledger;
 
@@ -5,7 +7,7 @@ use std::sync::ledger::Ledger;
 ///
 /// It fixes the numbers that the mail was made with, and is the ledger of its calls. Code that calls a mail is generic over the name;
 /// who makes the mail calls that code with `Brand`.
-pub trait MailName: Ledger {
+pub trait MailBrand: Ledger {
     ghost use Rattle.std.specs.Prelude.{ℕ};
 
     /// How many boxes there are.
@@ -24,7 +26,7 @@ pub trait MailName: Ledger {
     ghost room: { ℕ };
 }
 
-impl MailName for Brand {
+impl MailBrand for Brand {
     ghost boxes = { 0 };
 
     ghost workers = { 0 };

@@ -43,7 +43,7 @@ all_rises eps sale [] is = omega (arith, ints)
 all_rises eps sale (bid ∷ bids) is = omega (arith, ints, award_rises eps sale bid is, all_rises eps (award eps sale bid) bids is)
 
 -- once an object has a holder, it keeps one
-award_holds : (eps : ℤ) (sale : Sale) (bid : Offer) → (award eps sale bid).holder ≡ None → award eps sale bid ≡ sale
+pub award_holds : (eps : ℤ) (sale : Sale) (bid : Offer) → (award eps sale bid).holder ≡ None → award eps sale bid ≡ sale
 award_holds eps sale bid none = by (is_accepted eps sale bid) none
   where
     by : (b : Bool) → (cond b (sold_by bid) sale).holder ≡ None → cond b (sold_by bid) sale ≡ sale

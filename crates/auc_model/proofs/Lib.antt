@@ -25,7 +25,9 @@ pub mod WeightSteps
 pub mod FindsRoom
 pub mod Room
 pub mod Start
+pub mod Reached
 pub mod Theorems
+pub mod Unheld
 pub mod Copies
 pub mod Ends
 pub mod Small
@@ -34,6 +36,7 @@ pub mod Stall
 pub mod Still
 pub mod Rests
 pub mod Chosen
+pub mod CountedSlack
 pub mod Tables
 pub mod Dealt
 pub mod Example

@@ -94,6 +94,12 @@ module _ (g : Phase) (w : World) (law : Lawful g) (k : Kept g w) (room : Room g 
         no_mail = room.no_mail;
       }
 
+  pub never_full : (h : Shard) (o : Out) (rest : List Out) → number h < g.shards → outbox w h ≡ o ∷ rest → Refuses g w h o PostRefused.Full → is_price o.letter ≡ false → ⊥
+  never_full h o rest l e p i =
+      let f = finds_room g w k.lost law k.inv k.shapes room h o rest l e i in
+      let r : o.reserve ≡ 0 = head_reserve h o rest e ∙ rw i in
+      omega (arith, f, r, p.2)
+
   -- a letter that is not a price never meets Full, so the world does not end by the mail
   room_kept : (h : Shard) (o : Out) (rest : List Out) (y : PostRefused) → number h < g.shards → outbox w h ≡ o ∷ rest → y ≢ PostRefused.Closed → Refuses g w h o y → is_price o.letter ≡ false → Room g (ended w (reason y))
   room_kept h o rest y l e n p i =
@@ -111,10 +117,7 @@ module _ (g : Phase) (w : World) (law : Lawful g) (k : Kept g w) (room : Room g 
       by : (y : PostRefused) → y ≢ PostRefused.Closed → Refuses g w h o y → first_end w.end (End.Stopped (reason y)) ≢ Some (End.Stopped Why.Mail)
       by PostRefused.Closed n p = absurd (n refl)
       by PostRefused.Spent n p = not_mail w.end Why.Posts (λ q. cc) room.no_mail
-      by PostRefused.Full n p =
-          let f = finds_room g w k.lost law k.inv k.shapes room h o rest l e i in
-          let r : o.reserve ≡ 0 = head_reserve h o rest e ∙ rw i in
-          absurd (omega (arith, f, r, p.2))
+      by PostRefused.Full n p = absurd (never_full h o rest l e p i)
 
   module _ (h : Shard) (o : Out) (rest : List Out) (in_range : number h < g.shards) (full : outbox w h ≡ o ∷ rest) where
     -- the numbers that a post may move

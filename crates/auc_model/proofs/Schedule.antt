@@ -211,7 +211,7 @@ module _ (g : Phase) (w : World) (law : Lawful g) (k : Kept g w) where
     abbrev heard_left : List Letter
     heard_left = left_behind g w k.lost (To.Person s) x n l m (whole_of g w k.shapes (To.Person s)) t
 
-    heard_head : c (To.Person s) x ≡ l ∷ heard_left
+    pub heard_head : c (To.Person s) x ≡ l ∷ heard_left
     heard_head = way_taken g w k.lost (To.Person s) x n l m (whole_of g w k.shapes (To.Person s)) t
 
     -- what is left to show of the world after: its tables
@@ -250,7 +250,7 @@ module _ (g : Phase) (w : World) (law : Lawful g) (k : Kept g w) where
   kept_hears s x n (Letter.Stop y) m t fits = absurd fits
 
   -- the price of a letter that is taken is no less than the copy
-  falls_never : (s x : ℕ) (l : Letter) (ls : List Letter) → c (To.Person s) x ≡ l ∷ ls → Falls w s l → ⊥
+  pub falls_never : (s x : ℕ) (l : Letter) (ls : List Letter) → c (To.Person s) x ≡ l ∷ ls → Falls w s l → ⊥
   falls_never s x (Letter.Award i j p) ls e f = let n = letter_no_less g w c law k.inv s x (Letter.Award i j p) ls j p e refl in absurd (omega (arith, ints))
   falls_never s x (Letter.Refused i j p) ls e f = let n = letter_no_less g w c law k.inv s x (Letter.Refused i j p) ls j p e refl in absurd (omega (arith, ints))
   falls_never s x (Letter.Outbid i j p) ls e f = let n = letter_no_less g w c law k.inv s x (Letter.Outbid i j p) ls j p e refl in absurd (omega (arith, ints))

@@ -5,7 +5,7 @@ use Rattle.auc_mail.specs.declared.call.Call.{Call}
 use Rattle.auc_mail.specs.declared.call.Reply.{Reply}
 use Rattle.auc_letters.specs.declared.letter.Letter.{Letter}
 use Rattle.auc_model.specs.declared.turn.MailName.{MailName}
-use Rattle.auc_model.specs.Start.{Starts}
+use Rattle.auc_model.specs.Start.{Lawful, Starts}
 use Rattle.auc_model.specs.declared.turn.Turn.{Turn}
 use Rattle.auc_model.specs.declared.turn.TurnReply.{TurnReply}
 use Rattle.auc_model.specs.World.{Phase, World}
@@ -37,6 +37,10 @@ pub record StepsIn (w v : World) (name : MailName) : Type 0 where
   pub this : (mail_named v name ≡ mail_named w name) ⊎ ((c : Call Letter) × (r : Reply Letter) × Step (mail_named w name) c r (mail_named v name))
   pub others : (other : MailName) → other ≢ name → mail_named v other ≡ mail_named w other
 
--- v is reached from a world that a phase begins with
-abbrev pub Reached : Phase → World → Type 0
-Reached g v = (w : World) × (ts : List Turn) × Starts g w × Schedule g w ts v
+-- v is reached: some schedule leads there from a world that the phase begins with
+pub record Reached (g : Phase) (v : World) : Type 0 where
+  pub lawful : Lawful g
+  pub start : World
+  pub starts : Starts g start
+  pub turns : List Turn
+  pub leads : Schedule g start turns v

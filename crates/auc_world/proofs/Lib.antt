@@ -13,3 +13,4 @@ pub mod PlayLaws
 pub mod HallCertificates
 pub mod GatherLaws
 pub mod PhaseLaws
+pub mod Bridge

@@ -12,6 +12,7 @@ pub mod finish;
 mod gathering;
 pub mod hearing;
 pub mod hub;
+pub mod laws;
 mod limits;
 mod mails;
 mod making;

@@ -2,7 +2,7 @@
 
 ghost use Rattle.std.specs.Prelude.{◌≡◌};
 ghost use Rattle.auc_world.specs.Parts.{SamePhase, phase, seen};
-ghost use Rattle.auc_model.specs.Schedule.{Turned};
+ghost use Rattle.auc_model.specs.Schedule.{Reached, Turned};
 
 use crate::world::World;
 use auc_model::{Turn, TurnReply};
@@ -13,6 +13,16 @@ impl<'a> World<'a> {
     /// Nothing is answered where nothing can move: there is no such shard, box or object; the outbox isn't empty, or is; no
     /// letter waits; nobody is free; the box is closed. Then the world is as it was.
     pub fn turn(&mut self, turn: Turn) -> TurnReply
+        ensures turn { Turned (phase self.old) (seen self.old) turn result (seen self.new) }
+        ensures phase { SamePhase self.old self.new }
+        ensures reached { Reached (phase self.old) (seen self.old) → Reached (phase self.new) (seen self.new) }
+    {
+        self.take_turn(turn)
+    }
+
+    /// One turn.
+    #[inline]
+    fn take_turn(&mut self, turn: Turn) -> TurnReply
         ensures turn { Turned (phase self.old) (seen self.old) turn result (seen self.new) }
         ensures phase { SamePhase self.old self.new }
     {

@@ -4,6 +4,7 @@ ghost use Rattle.std.specs.Prelude.{ℕ, ◌≡◌, ◌<◌, pos, slice_index_or
 ghost use Rattle.auc_graph.specs.Table.{IsTable};
 ghost use Rattle.auc_letters.specs.Price.{IsEps, IsPrice};
 ghost use Rattle.auc_model.specs.Mails.{TakesNone};
+ghost use Rattle.auc_model.specs.Schedule.{Reached};
 ghost use Rattle.auc_model.specs.Start.{Lawful, Starts, UsualNodes};
 ghost use Rattle.auc_model.specs.World.{phase_of};
 ghost use Rattle.auc_world.specs.Hub.{ending};
@@ -75,6 +76,7 @@ impl<'a> World<'a> {
         ensures table { IsTable rows.now }
         ensures lawful { IfOk result (λ w. Lawful (phase w)) }
         ensures starts { IfOk result (λ w. Starts (phase w) (seen w)) }
+        ensures reached { IfOk result (λ w. Reached (phase w) (seen w)) }
         ensures usual { limits.now.nodes ≡ 0 → IfOk result (λ w. UsualNodes (phase w) (seen w)) }
         ensures prices { IfOk result (λ w. (j : ℕ) → (seen w).price j ≡ slice_index_or prices.now j (pos 0)) }
         ensures copies { IfOk result (λ w. (s j : ℕ) → s < limits.now.shards → (seen w).copy s j ≡ slice_index_or prices.now j (pos 0)) }

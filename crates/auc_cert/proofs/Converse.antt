@@ -1,10 +1,10 @@
 -- What is an assignment, of the cost that is named, finds no fault: the converse of what the checker's answers say.
-use Rattle.std.proofs.Common.{◌≡◌, ◌≢◌, ℕ, zero, suc, ◌+◌, ◌*◌, ◌^◌, ◌≤◌, ◌<◌, Bool, true, false, not, ◌&&◌, ◌||◌, eqb, eq-eqb, List, [], ◌∷◌, ◌++◌, length, map, get_or, Option, Some, None, refl, sym, ap, subst, ◌∙◌, arith, inl, inr, All}
-use Rattle.std.specs.Prelude.{ℤ, pos, neg_ℤ, ◌+ℤ◌, ◌≤ℤ◌, nat_eq, ◌==◌, Contains, int_le, T}
-use Rattle.std.specs.List.{position, list_any, list_all, IsDistinct, AllByRecursion, range_with_len}
+use Rattle.std.proofs.Common.{◌≡◌, ℕ, zero, suc, ◌+◌, ◌*◌, ◌^◌, ◌≤◌, ◌<◌, Bool, true, false, not, ◌&&◌, ◌||◌, eqb, eq-eqb, List, [], ◌∷◌, length, map, get_or, None, refl, sym, ap, subst, ◌∙◌, arith, inl, inr, All}
+use Rattle.std.specs.Prelude.{ℤ, pos, neg_ℤ, ◌+ℤ◌, ◌≤ℤ◌, nat_eq, Contains, int_le, T}
+use Rattle.std.specs.List.{position, list_any, IsDistinct, AllByRecursion, range_with_len}
 use Rattle.std.specs.Ordering.{int_eq}
-use Rattle.std.proofs.lemmas.Bool.{cases_Bool, cases_eq, ne_eqb}
-use Rattle.std.proofs.lemmas.Bool.Decides.{Decides-eqb, Decides-int_eq}
+use Rattle.std.proofs.lemmas.Bool.{cases_eq, ne_eqb}
+use Rattle.std.proofs.lemmas.Bool.Decides.{Decides-int_eq}
 use Rattle.std.proofs.lemmas.List.{length-map}
 use Rattle.std.proofs.lemmas.List.FromFn.{length-range_with_len}
 use Rattle.std.proofs.lemmas.List.Elements.{All-head, All-tail, All-nil, All-cons}
@@ -13,10 +13,9 @@ use Rattle.auc_graph.specs.declared.arc.Arc.{Arc}
 use Rattle.auc_graph.specs.Problem.{Problem, IsProblem, IsWithin}
 use Rattle.auc_graph.specs.Assignment.{person_of, object_of, total_cost, IsAssignment}
 use Rattle.auc_cert.specs.declared.lists.Pick.{Pick}
-use Rattle.auc_cert.specs.declared.cert.CertParts.{CertParts}
 use Rattle.auc_cert.specs.declared.cert.CertParts.TheVariants.{Optimal}
 use Rattle.auc_graph.specs.Dual.{arc_value, scale_of, IsSlackRight}
-use Rattle.auc_cert.specs.Spelled.{IsPick, IsPrice, IsChoice, IsSpelled}
+use Rattle.auc_cert.specs.Spelled.{IsPick, IsPrice, IsSpelled}
 use Rattle.auc_cert.specs.Claim.{arc_of, pick_of, chosen, same_arc, is_missing, bears, is_slack_right, repeated, is_sized, choice_faults, slack_fault, first_of, fault_of}
 use Rattle.auc_cert.proofs.ClaimLaws.{no_place, objects_are, right_size, right_cost, behind_none}
 
@@ -151,8 +150,7 @@ assignment_spelled p choice prices is given len fair =
     let both = costs_between p.persons p.objects p.arcs choice is.within given.arcs in
     let some = is.some in
     let most = is.most in
-    let square = is.square in
-    (
+    let square = is.square in (
       omega (arith, ints, both.0, both.1, arcs, most),
       record { some = omega (arith, size, some); most = omega (arith, size, most); as_many = omega (arith, len, square, size); picks = picks_are p.persons p.objects p.arcs choice is.most_objects is.within given.arcs; fair = fair },
     )

@@ -1,7 +1,8 @@
 //! Persons and objects that are named, read line by line.
 
 ghost use Rattle.std.specs.Prelude.{◌≡◌, ◌≤◌, ◌+◌, length, IfOk, IfErr};
-ghost use Rattle.auc_cert.specs.Runs.{IsRisingRun, BreaksRising, AtLine, From};
+ghost use Rattle.auc_graph.specs.Memory.{AnswersUnless};
+ghost use Rattle.auc_cert.specs.Runs.{IsRisingRun, BreaksRising, NamesLine, From};
 ghost use Rattle.auc_cert.specs.Spelled.{AreNamed};
 ghost use Rattle.auc_cert.specs.Text.{joined, name_lines};
 ghost use Rattle.auc_cert.specs.CertReading.{IsFirstBadOf, NameLines};
@@ -25,7 +26,7 @@ fn rising_of<'a>(
     requires count { count ≤ most }
     requires first { first ≤ 20000 }
     ensures found { IfOk result (λ x. IsRisingRun front.now most count bytes.now x.0.items x.1.now) }
-    ensures line { IfErr result (λ e. AtLine e (From first (BreaksRising front.now most count bytes.now))) }
+    ensures line { AnswersUnless CertTextError.NoMemory (λ x. x) result (λ r. IfErr r (NamesLine (From first (BreaksRising front.now most count bytes.now)))) }
 {
     let mut numbers = Vec::new(alloc);
     let mut least = 0;
@@ -58,10 +59,17 @@ pub(crate) fn names_of(
     requires persons { persons ≤ 10000 }
     requires objects { objects ≤ 10000 }
     ensures found { IfOk result (λ x. AreNamed x.0.items x.1.items × (length x.0.items ≡ persons) × (length x.1.items ≡ objects) × (bytes.now ≡ joined (name_lines x.0.items x.1.items))) }
-    ensures line { IfErr result (λ e. AtLine e (From 2 (IsFirstBadOf (NameLines persons objects) bytes.now))) }
+    ensures line { AnswersUnless CertTextError.NoMemory (λ x. x) result (λ r. IfErr r (NamesLine (From 2 (IsFirstBadOf (NameLines persons objects) bytes.now)))) }
 {
     let (named, rest) = rising_of(alloc, b"person ", MOST_PERSONS, persons, 2, bytes)?;
-    let (known, rest) = rising_of(alloc, b"object ", MOST_OBJECTS, objects, 2 + persons as u64, rest)?;
+    let (known, rest) = rising_of(
+        alloc,
+        b"object ",
+        MOST_OBJECTS,
+        objects,
+        2 + persons as u64,
+        rest,
+    )?;
     if !rest.is_empty() {
         return Err(CertTextError::Line {
             line: 2 + persons as u64 + objects as u64,

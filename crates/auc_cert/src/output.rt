@@ -1,9 +1,11 @@
 //! Bytes and numbers, written: what every text is written by.
 
+ghost use Rattle.std.specs.Prelude.{◌≡◌, ◌<◌, Ok, Err, IfOk, IsErr};
 ghost use Rattle.std.specs.Fmt.{decimal, signed_decimal};
 ghost use Rattle.auc_cert.specs.Writing.{Writes};
 
 use itoa::Buffer;
+use std::io;
 use std::io::Write;
 use thiserror::Error;
 
@@ -18,17 +20,28 @@ pub enum WriteFault {
     Stopped,
 }
 
+/// How many bytes a write took, or why nothing more is written.
+#[inline]
+fn taken_of(written: io::Result<usize>) -> Result<usize, WriteFault>
+    ensures taken { IfOk result (λ n. (written ≡ Ok n) × (0 < n)) }
+    ensures stopped { result ≡ Err WriteFault.Stopped → written ≡ Ok 0 }
+    ensures failed { result ≡ Err WriteFault.Failed → IsErr written }
+{
+    match written {
+        Ok(0) => Err(WriteFault::Stopped),
+        Ok(taken) => Ok(taken),
+        Err(_) => Err(WriteFault::Failed),
+    }
+}
+
 /// Writes these bytes, all of them, by as many calls of `write` as that takes. Takes no memory.
 pub fn write_whole<W: Write>(writer: &mut W, bytes: &[u8]) -> Result<(), WriteFault>
     ensures { Writes result (W.contents writer.old) (W.contents writer.new) bytes.now }
 {
     let mut rest = bytes;
     while !rest.is_empty() {
-        match writer.write(rest) {
-            Ok(0) => return Err(WriteFault::Stopped),
-            Ok(taken) => rest = &rest[taken..],
-            Err(_) => return Err(WriteFault::Failed),
-        }
+        let taken = taken_of(writer.write(rest))?;
+        rest = &rest[taken..];
     }
     Ok(())
 }

@@ -22,7 +22,7 @@ returns-in_err-known-clause-line c =
     (λ k h. bad_object c.args.persons c.args.objects c.args.bytes.now c.in_ok-named.named.items c.in_ok-named.rest.now k counts c.in_ok-named.ensures.found h) c.in_err-known.ensures.line)
 
 pub returns-then-not-is_empty-clause-line : goal.returns-then-not-is_empty-clause-line
-returns-then-not-is_empty-clause-line c =
+returns-then-not-is_empty-clause-line c = λ _.
     bad_name_end c.args.persons c.args.objects c.args.bytes.now c.in_ok-named.named.items c.in_ok-named.rest.now c.in_ok-known.known.items c.in_ok-known.rest.now (record { some = c.requires.some; most = c.requires.persons; few = c.requires.objects })
     c.in_ok-named.ensures.found c.in_ok-known.ensures.found (some_left c.in_ok-known.rest.now c.if-not-is_empty.ensures)
 

@@ -28,6 +28,7 @@ pub mod Start
 pub mod Reached
 pub mod Theorems
 pub mod Unheld
+pub mod Determined
 pub mod Copies
 pub mod Ends
 pub mod Small

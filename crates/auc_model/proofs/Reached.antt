@@ -5,11 +5,7 @@ use Rattle.auc_letters.specs.declared.letter.Letter.{Letter}
 use Rattle.auc_letters.specs.declared.out.Out.{Out}
 use Rattle.auc_letters.specs.declared.out.To.{To}
 use Rattle.auc_mail.specs.Mail.{Mail}
-use Rattle.auc_mail.specs.Step.{Step}
-use Rattle.auc_mail.specs.declared.call.Call.{Call}
 use Rattle.auc_mail.specs.declared.call.PostRefused.{PostRefused}
-use Rattle.auc_mail.specs.declared.call.Reply.{Reply}
-use Rattle.auc_mail.specs.declared.call.Taken.{Taken}
 use Rattle.auc_mail.proofs.StepLaws.{step_shape}
 use Rattle.auc_model.specs.Hearing.{FitsLetter, Rises}
 use Rattle.auc_model.specs.Hub.{IsForHub}

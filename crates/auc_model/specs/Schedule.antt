@@ -1,6 +1,6 @@
 -- A turn of the world, and a schedule of turns.
-use Rattle.std.specs.Prelude.{◌≡◌, ◌≢◌, ◌⊎◌, List, [], ◌∷◌}
-use Rattle.auc_mail.specs.Step.{Step}
+use Rattle.std.specs.Prelude.{ℕ, ◌≡◌, ◌≢◌, ◌⊎◌, List, [], ◌∷◌}
+use Rattle.auc_mail.specs.Step.{Step, AreOfTwoSenders}
 use Rattle.auc_mail.specs.declared.call.Call.{Call}
 use Rattle.auc_mail.specs.declared.call.Reply.{Reply}
 use Rattle.auc_letters.specs.declared.letter.Letter.{Letter}
@@ -36,6 +36,16 @@ Schedule g w (t ∷ ts) v = (m : World) × (r : TurnReply) × Turned g w t r m �
 pub record StepsIn (w v : World) (name : MailName) : Type 0 where
   pub this : (mail_named v name ≡ mail_named w name) ⊎ ((c : Call Letter) × (r : Reply Letter) × Step (mail_named w name) c r (mail_named v name))
   pub others : (other : MailName) → other ≢ name → mail_named v other ≡ mail_named w other
+
+-- Two worlds behind w differ by the sender of a letter: by one and the same call of a mail they come of letters of two senders.
+pub record TakesOfTwoSenders (w u v : World) : Type 0 where
+  pub mail : MailName
+  pub box : ℕ
+  pub one : Reply Letter
+  pub other : Reply Letter
+  pub takes_one : Step (mail_named w mail) (Call.Take box) one (mail_named u mail)
+  pub takes_other : Step (mail_named w mail) (Call.Take box) other (mail_named v mail)
+  pub senders : AreOfTwoSenders one other
 
 -- v is reached: some schedule leads there from a world that the phase begins with
 pub record Reached (g : Phase) (v : World) : Type 0 where

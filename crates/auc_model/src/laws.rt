@@ -1,5 +1,5 @@
 //! What holds over every schedule, from every world that a phase begins with. The functions do nothing: their contracts are
-//! theorems, and crates above cite them.
+//! theorems, and crates above cite them. One calls the law of the mails that it rests on.
 
 ghost use Rattle.std.specs.Prelude.{ℕ, ℤ, pos, ◌<◌, ◌≤◌, ◌≤ℤ◌, ◌≡◌, ◌≢◌, ◌⊎◌, true, List, [], ◌∷◌, ◌++◌, Some, None, Contains, All, length};
 ghost use Rattle.auc_graph.specs.declared.rows.RowArc.{RowArc};
@@ -9,7 +9,6 @@ ghost use Rattle.auc_graph.specs.Dual.{IsNoPriceLeft, IsSlackRight, scale_of};
 ghost use Rattle.auc_graph.specs.Problem.{IsWithin, Problem};
 ghost use Rattle.auc_graph.specs.Table.{Table, IsTable, IsTableOf};
 ghost use Rattle.auc_letters.specs.Price.{IsEps};
-ghost use Rattle.auc_letters.specs.declared.letter.Letter.{Letter};
 ghost use Rattle.auc_letters.specs.declared.letter.Why.{Why};
 ghost use Rattle.auc_letters.specs.declared.out.Out.{Out};
 ghost use Rattle.auc_letters.specs.declared.state.Held.{Held};
@@ -27,7 +26,7 @@ ghost use Rattle.auc_model.specs.Posting.{MayPost, Refuses, is_price};
 ghost use Rattle.auc_model.specs.Hearing.{FitsLetter, Rises};
 ghost use Rattle.auc_model.specs.Selling.{FitsBid};
 ghost use Rattle.auc_model.specs.Hub.{IsForHub};
-ghost use Rattle.auc_model.specs.Schedule.{Turned, Schedule, Reached, StepsIn};
+ghost use Rattle.auc_model.specs.Schedule.{Turned, Schedule, Reached, StepsIn, TakesOfTwoSenders};
 ghost use Rattle.auc_model.specs.Start.{Lawful, Starts, UsualNodes, occurs, free_in, persons_of};
 ghost use Rattle.auc_model.specs.Slack.{SlackRight};
 ghost use Rattle.auc_model.specs.Still.{IsStill, Rests};
@@ -37,11 +36,22 @@ ghost use Rattle.auc_model.specs.Invariants.{Kept};
 ghost use Rattle.auc_model.specs.Room.{Room};
 ghost use Rattle.auc_model.specs.Work.{IsOfRound, work};
 
+use auc_letters::Letter;
+use auc_mail::only_the_sender_is_free;
+
 /// A turn that is answered by Nothing leaves the world as it was, and each turn is at most one step of one mail.
 pub fn turns_are_small()
     ensures nothing { (g : Phase) (w v : World) (t : Turn) → Turned g w t TurnReply.Nothing v → v ≡ w }
     ensures one_step { (g : Phase) (w v : World) (t : Turn) (r : TurnReply) → Turned g w t r v → (name : MailName) × StepsIn w v name }
 {}
+
+/// A turn leaves nothing open but the sender of a letter that it takes: two outcomes of one turn are the same, or else by each a
+/// letter was taken, of two senders.
+pub fn only_the_sender_is_free_in_turns()
+    ensures { (g : Phase) (w u v : World) (t : Turn) (r s : TurnReply) → Turned g w t r u → Turned g w t s v → ((r ≡ s) × (u ≡ v)) ⊎ TakesOfTwoSenders w u v }
+{
+    only_the_sender_is_free::<Letter>();
+}
 
 /// Schedules go on: one turn is a schedule, and one schedule after another is one.
 pub fn schedules_go_on()

@@ -1,16 +1,14 @@
-//! The line that tells a verdict, and its status.
+//! The line that tells what a claim says, or a refusal.
 
 ghost use Rattle.std.specs.Prelude.{◌≡◌, ◌+◌, OnOk};
 ghost use Rattle.std.specs.Fmt.{decimal, signed_decimal};
 ghost use Rattle.std.specs.Io.KnownBytes.{Appends};
 ghost use Rattle.auc_run.specs.declared.valid.Valid.TheVariants.{Optimal, Infeasible};
-ghost use Rattle.auc_run.specs.Lines.{counted, input_line, problem_line, certificate_line, claim_line, script_line, refusal_line, valid_line, verdict_line};
-ghost use Rattle.auc_run.specs.Statuses.{refusal_status, verdict_status};
+ghost use Rattle.auc_run.specs.Lines.{counted, input_line, problem_line, certificate_line, claim_line, script_line, refusal_line, valid_line};
 
 use crate::input::ReadFault;
 use crate::refusal::Refusal;
 use crate::script_error::ScriptError;
-use crate::status::{INVALID, NO_MEMORY, REFUSED, VALID};
 use crate::valid::Valid;
 use auc_cert::{CertRefused, CertTextError, WriteFault, write_whole};
 use auc_graph::ReadError;
@@ -75,7 +73,8 @@ fn write_infeasible<W: Write>(writer: &mut W, persons: u64, objects: u64) -> Res
     Ok(())
 }
 
-fn write_valid<W: Write>(writer: &mut W, valid: Valid) -> Result<(), WriteFault>
+/// Writes the one line of a claim that holds.
+pub(crate) fn write_valid<W: Write>(writer: &mut W, valid: Valid) -> Result<(), WriteFault>
     ensures { OnOk result (Appends (W.contents writer.old) (W.contents writer.new) (valid_line valid)) }
 {
     match valid {
@@ -160,47 +159,5 @@ pub(crate) fn write_refusal<W: Write>(writer: &mut W, refusal: Refusal) -> Resul
         Refusal::Invalid(error) => write_claim(writer, error),
         Refusal::NoScript(error) => write_script(writer, error),
         Refusal::NoMemory => write_whole(writer, b"refused memory\n"),
-    }
-}
-
-/// Writes the one line of a verdict.
-pub(crate) fn write_verdict<W: Write>(
-    writer: &mut W,
-    verdict: Result<Valid, Refusal>,
-) -> Result<(), WriteFault>
-    ensures { OnOk result (Appends (W.contents writer.old) (W.contents writer.new) (verdict_line verdict)) }
-{
-    match verdict {
-        Ok(valid) => write_valid(writer, valid),
-        Err(refusal) => write_refusal(writer, refusal),
-    }
-}
-
-/// The status of a refusal.
-pub(crate) fn status_of_refusal(refusal: Refusal) -> u8
-    ensures { result ≡ refusal_status refusal }
-{
-    match refusal {
-        Refusal::NotRead(ReadFault::NoMemory)
-        | Refusal::NoProblem(ReadError::NoMemory)
-        | Refusal::NoCertificate(CertTextError::NoMemory)
-        | Refusal::Invalid(CertRefused::NoMemory)
-        | Refusal::NoScript(ScriptError::NoMemory)
-        | Refusal::NoMemory => NO_MEMORY,
-        Refusal::Invalid(_) => INVALID,
-        Refusal::NotRead(_)
-        | Refusal::NoProblem(_)
-        | Refusal::NoCertificate(_)
-        | Refusal::NoScript(_) => REFUSED,
-    }
-}
-
-/// The status of a verdict.
-pub(crate) fn status_of(verdict: Result<Valid, Refusal>) -> u8
-    ensures { result ≡ verdict_status verdict }
-{
-    match verdict {
-        Ok(_) => VALID,
-        Err(refusal) => status_of_refusal(refusal),
     }
 }

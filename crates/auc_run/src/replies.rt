@@ -1,4 +1,4 @@
-//! The lines that tell the replies of a mail.
+//! The replies of a mail, and the lines that tell them.
 
 ghost use Rattle.std.specs.Prelude.{◌≡◌, ◌+◌, OnOk};
 ghost use Rattle.std.specs.Fmt.{decimal};
@@ -12,6 +12,38 @@ use auc_cert::{WriteFault, write_whole};
 use auc_mail::{PostRefused, Reply, Taken};
 use itoa::Buffer;
 use std::io::Write;
+use std::marker::Model;
+
+/// The replies to the calls of a script, in order. Contracts see them as a list.
+#[derive(Debug, Drop)]
+pub struct Replies {
+    replies: Vec<Reply<i64>>,
+}
+
+impl Model for Replies {
+    ghost use Rattle.std.specs.Prelude.{List, ℤ};
+    ghost use Rattle.auc_mail.specs.declared.call.Reply.{Reply};
+
+    ghost Value = { List (Reply ℤ) };
+
+    ghost view = { λ a. a.replies.items };
+}
+
+impl Replies {
+    /// These replies. Takes no memory.
+    pub fn new(replies: Vec<Reply<i64>>) -> Self
+        ensures { result ≡ replies.items }
+    {
+        Replies { replies }
+    }
+
+    /// The replies, in order.
+    pub fn as_slice(&self) -> &[Reply<i64>]
+        ensures { result.now ≡ self.now }
+    {
+        self.replies.as_slice()
+    }
+}
 
 /// Writes the line of a letter. Its sender is numbered from 0.
 fn write_letter<W: Write>(

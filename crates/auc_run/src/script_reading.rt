@@ -4,7 +4,8 @@ ghost use Rattle.std.specs.Prelude.{◌≡◌, ◌≢◌, ◌≤◌, ◌<◌, �
 ghost use Rattle.auc_graph.specs.Tokens.{tokens};
 ghost use Rattle.auc_graph.specs.Numbers.{number};
 ghost use Rattle.auc_run.specs.Script.{command, number_in, operand, index, count, post_at, call_by, call_at, calls_from, opening, script_of, script_in, seen, Reads};
-ghost use Rattle.auc_run.specs.ScriptRanges.{IsWithin};
+ghost use Rattle.auc_mail.specs.Step.{FitsIn};
+ghost use Rattle.auc_run.specs.ScriptLimits.{most_boxes, most_nodes, most_calls};
 
 use crate::command_word::CommandWord;
 use crate::script::{
@@ -98,7 +99,7 @@ fn post_of(
 ) -> Result<(Call<i64>, u64, &[u8]), ScriptError>
     requires { place < 2 ^ 40 }
     ensures exact { seen (λ x. ((x.0, x.1), tokens x.2.now)) result ≡ post_at boxes senders place (tokens bytes.now) }
-    ensures within { IfOk result (λ x. IsWithin boxes senders x.0) }
+    ensures within { IfOk result (λ x. FitsIn senders boxes x.0) }
     ensures next { IfOk result (λ x. x.1 ≤ place + 5) }
     ensures shorter { IfOk result (λ x. length x.2.now ≤ length bytes.now) }
 {
@@ -125,7 +126,7 @@ fn call_of(
 ) -> Result<(Call<i64>, u64, &[u8]), ScriptError>
     requires { place < 2 ^ 40 }
     ensures exact { seen (λ x. ((x.0, x.1), tokens x.2.now)) result ≡ call_by boxes senders place (tokens bytes.now) command }
-    ensures within { IfOk result (λ x. IsWithin boxes senders x.0) }
+    ensures within { IfOk result (λ x. FitsIn senders boxes x.0) }
     ensures next { IfOk result (λ x. x.1 ≤ place + 5) }
     ensures shorter { IfOk result (λ x. length x.2.now ≤ length bytes.now) }
 {
@@ -150,8 +151,8 @@ fn calls_of(
     senders: u32,
     text: &[u8],
 ) -> Result<Vec<Call<i64>>, ScriptError>
-    ensures exact { Reads (λ v. v.items) result (calls_from MOST_CALLS boxes senders 5 (tokens text.now)) }
-    ensures within { IfOk result (λ v. All (IsWithin boxes senders) v.items) }
+    ensures exact { Reads (λ v. v.items) result (calls_from most_calls boxes senders 5 (tokens text.now)) }
+    ensures within { IfOk result (λ v. All (FitsIn senders boxes) v.items) }
 {
     let mut calls = Vec::new(alloc);
     let mut place: u64 = 5;
@@ -197,8 +198,8 @@ fn open_script(command: Option<CommandWord>) -> Result<u32, ScriptError>
 #[tactic(auto, unfolding(crate::specs::Script::script_of))]
 pub fn read_script(alloc: Global, bytes: &[u8]) -> Result<Script, ScriptError>
     ensures exact { result ≢ Err ScriptError.NoMemory → result ≡ script_in bytes.now }
-    ensures within { IfOk result (λ s. All (IsWithin s.boxes s.senders) s.calls) }
-    ensures sizes { IfOk result (λ s. (s.boxes ≤ MOST_SCRIPT_BOXES) × (s.senders ≤ MOST_SCRIPT_BOXES) × (s.nodes ≤ MOST_SCRIPT_NODES)) }
+    ensures within { IfOk result (λ s. All (FitsIn s.senders s.boxes) s.calls) }
+    ensures sizes { IfOk result (λ s. (s.boxes ≤ most_boxes) × (s.senders ≤ most_boxes) × (s.nodes ≤ most_nodes)) }
 {
     let Some((word, rest)) = next_token(bytes) else {
         return Err(ScriptError::Cut { tokens: 0 });

@@ -28,7 +28,7 @@ mod world;
 pub use answer::{Answer, Guard};
 pub use eps::{first_eps, next_eps};
 pub use gathering::Gathered;
-pub use limits::Limits;
+pub use limits::{Limits, USUAL_BIDS};
 pub use playing::play;
 pub use solving::solve_serial;
 pub use world::World;

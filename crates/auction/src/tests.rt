@@ -1,3 +1,5 @@
+//! The words of a command line, read.
+
 use super::*;
 use std::test::*;
 

@@ -3,9 +3,7 @@ use Rattle.std.specs.Prelude.{ℕ, ◌+◌, ◌*◌, ◌<◌, ◌≤◌, ◌≡�
 use Rattle.auc_graph.specs.Table.{Table}
 use Rattle.auc_mail.specs.Mail.{empty_mail}
 use Rattle.auc_letters.specs.declared.state.PersonState.{PersonState}
-use Rattle.auc_letters.specs.declared.limits.TheConstants.{MOST_SHARDS}
 use Rattle.auc_letters.specs.Price.{IsPrice}
-use Rattle.auc_mail.specs.declared.limits.TheConstants.{MOST_NODES}
 use Rattle.auc_persons.specs.Persons.{Persons, own}
 use Rattle.auc_objects.specs.Objects.{Objects}
 use Rattle.auc_world.specs.declared.limits.Limits.{Limits}
@@ -44,8 +42,8 @@ pub record IsMade (t : Table) (limits : Limits) (prices : List ℤ) (eps : ℤ) 
 -- limits in range
 pub record AreLimits (limits : Limits) : Type 0 where
   pub some : 1 ≤ limits.shards
-  pub few : limits.shards ≤ MOST_SHARDS
-  pub nodes : limits.nodes ≤ MOST_NODES
+  pub few : limits.shards ≤ 16
+  pub nodes : limits.nodes ≤ 16777216
 
 -- one price for each object, in range
 pub record ArePrices (t : Table) (prices : List ℤ) : Type 0 where

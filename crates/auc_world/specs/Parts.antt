@@ -3,7 +3,6 @@ use Rattle.std.specs.Prelude.{ℕ, ◌+◌, ◌*◌, ◌%◌, ◌<◌, ◌≤◌
 use Rattle.auc_graph.specs.Table.{Table, IsTable}
 use Rattle.auc_mail.specs.Mail.{Mail, HasBox, IsOpen}
 use Rattle.auc_letters.specs.declared.letter.Letter.{Letter}
-use Rattle.auc_letters.specs.declared.limits.TheConstants.{MOST_SHARDS}
 use Rattle.auc_letters.specs.declared.out.To.{To}
 use Rattle.auc_letters.specs.declared.out.Out.{Out}
 use Rattle.auc_letters.specs.Price.{IsEps}
@@ -112,7 +111,7 @@ pub record AreMails (shards : ℕ) (m : Mails) : Type 0 where
 -- what holds of each world
 pub record AreParts (p : Parts) : Type 0 where
   pub some : 0 < p.shards
-  pub few : p.shards ≤ MOST_SHARDS
+  pub few : p.shards ≤ 16
   pub eps_is : IsEps p.eps
   pub table_is : IsTable p.table
   pub persons_are : length p.persons ≡ p.shards

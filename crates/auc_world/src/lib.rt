@@ -31,4 +31,5 @@ pub use gathering::Gathered;
 pub use limits::{Limits, USUAL_BIDS};
 pub use playing::play;
 pub use solving::solve_serial;
+pub use auc_model::{End, MailName, Turn, TurnReply};
 pub use world::World;

@@ -1,12 +1,10 @@
 //! The three mails of a world: bids to the shards of the objects, answers to those of the persons, and letters to the hub.
 
 ghost use Rattle.std.specs.Prelude.{◌≡◌, ◌<◌, ◌≤◌, ◌+◌, ◌*◌, true, IfOk, IfSome, IfNone, IsTrue, ◌↔◌};
-ghost use Rattle.auc_letters.specs.declared.limits.TheConstants.{MOST_SHARDS};
 ghost use Rattle.auc_mail.specs.Mail.{HasBox, IsOpen, empty_mail};
 ghost use Rattle.auc_mail.specs.Step.{Fits, Step, reply_to_post};
 ghost use Rattle.auc_mail.specs.declared.call.Call.{Call};
 ghost use Rattle.auc_mail.specs.declared.call.Reply.{Reply};
-ghost use Rattle.auc_mail.specs.declared.limits.TheConstants.{MOST_NODES};
 ghost use Rattle.auc_model.specs.Mails.{TakesNone, box_of};
 ghost use Rattle.auc_world.specs.Mails.{TakesOne, name_of, named, with_named};
 
@@ -31,9 +29,9 @@ pub(crate) fn new_mail(
     nodes: u32,
     posts: u64,
 ) -> Result<MailPool<Letter>, AllocError>
-    requires boxes { boxes ≤ MOST_SHARDS }
-    requires shards { shards ≤ MOST_SHARDS }
-    requires nodes { nodes ≤ MOST_NODES }
+    requires boxes { boxes ≤ 16 }
+    requires shards { shards ≤ 16 }
+    requires nodes { nodes ≤ 16777216 }
     ensures { IfOk result (λ mail. mail ≡ empty_mail boxes (2 * shards + 1) nodes posts) }
 {
     let blank = Letter::First { object: 0 };

@@ -14,7 +14,7 @@ use Rattle.auc_graph.specs.declared.rows.RowArc.{RowArc}
 use Rattle.auc_letters.specs.declared.state.Held.{Held}
 use Rattle.auc_model.specs.Chosen.{IsHeldArc}
 use Rattle.auc_model.specs.Schedule.{Reached}
-use Rattle.auc_model.specs.Ways.{Each}
+use Rattle.auc_model.specs.Channels.{Each}
 use Rattle.auc_model.specs.World.{Phase, World, phase_of}
 use Rattle.auc_model.proofs.SameAnswers.{from_some}
 use Rattle.auc_model.proofs.Theorems.{everyone_holds, holders_slack}

@@ -10,7 +10,7 @@ use Rattle.auc_model.specs.Letters.{answer_of, price_of, same_to}
 use Rattle.auc_model.specs.Places.{Answer, InPlace, Places}
 use Rattle.auc_model.specs.Prices.{NeverFalls, Prices}
 use Rattle.auc_model.specs.Put.{put2}
-use Rattle.auc_model.specs.Ways.{Ways, answer_to, answers_in, bid_by, bids_in, if_both, news_in, price_about, send, set_way, view}
+use Rattle.auc_model.specs.Channels.{Channels, answer_to, answers_in, bid_by, bids_in, if_both, news_in, price_about, send, set_channel, view}
 use Rattle.auc_model.specs.World.{Phase}
 use Rattle.auc_model.proofs.Views.{cases_both, pair_dropped, pair_popped, pair_sent, put2_at, put2_off, view_drop_some, view_pop_some}
 
@@ -36,7 +36,7 @@ if_both_on i k j m a e f = grind (arith, nat_tests)
 if_both_off : (i k j m : ℕ) (a : Answer) → ((k ≡ i) × (m ≡ j) → ⊥) → if_both (i == k) (j == m) a ≡ None
 if_both_off i k j m a n = grind (arith, nat_tests)
 
-module _ (g : Phase) (c : Ways) where
+module _ (g : Phase) (c : Channels) where
   pub answers_sent : (o : Out) (a : Answer) (i j : ℕ) (p : ℤ) (y : ℕ) → answer_of o.letter ≡ Some (a, i, j, p) → o.to ≡ To.Person (i % g.shards) → y ≡ g.shards + j % g.shards
       → (k l : ℕ) → answers_in g (send c y (o ∷ [])) k l ≡ put2 (answers_in g c) i j (answers_in g c i j ++ a ∷ []) k l
   answers_sent o a i j p y e t x =
@@ -45,7 +45,7 @@ module _ (g : Phase) (c : Ways) where
       (λ k l n. inl (answer_to-from o.letter a i j p e k l ∙ if_both_off i k j l a n))
 
   pub answers_popped : (l : Letter) (ls : List Letter) (a : Answer) (i j : ℕ) (p : ℤ) → answer_of l ≡ Some (a, i, j, p) → c (To.Person (i % g.shards)) (g.shards + j % g.shards) ≡ l ∷ ls
-      → (k m : ℕ) → answers_in g (set_way c (To.Person (i % g.shards)) (g.shards + j % g.shards) ls) k m ≡ put2 (answers_in g c) i j (filter_map (answer_to i j) ls) k m
+      → (k m : ℕ) → answers_in g (set_channel c (To.Person (i % g.shards)) (g.shards + j % g.shards) ls) k m ≡ put2 (answers_in g c) i j (filter_map (answer_to i j) ls) k m
   answers_popped l ls a i j p e h =
       pair_popped answer_to (λ k l. To.Person (k % g.shards)) (λ k l. g.shards + l % g.shards) c i j l ls a h
       (answer_to-from l a i j p e i j ∙ if_both_on i i j j a refl refl)
@@ -75,7 +75,7 @@ module _ (g : Phase) (c : Ways) where
       ∙ ap (λ (n : ℕ). put2 (bids_in g c) i j n k l) (length-append s (p ∷ [])))
 
   pub bids_popped : (i a j : ℕ) (p : ℤ) (ls : List Letter) → c (To.Object (j % g.shards)) (i % g.shards) ≡ Letter.Bid i a j p ∷ ls
-      → (k l : ℕ) → bids_in g (set_way c (To.Object (j % g.shards)) (i % g.shards) ls) k l ≡ put2 (bids_in g c) i j (length (filter_map (bid_by i j) ls)) k l
+      → (k l : ℕ) → bids_in g (set_channel c (To.Object (j % g.shards)) (i % g.shards) ls) k l ≡ put2 (bids_in g c) i j (length (filter_map (bid_by i j) ls)) k l
   bids_popped i a j p ls h k l =
       ap length (pair_popped bid_by (λ k l. To.Object (l % g.shards)) (λ k l. k % g.shards) c i j (Letter.Bid i a j p) ls p h
       (bid_on i j a i j p refl refl) (λ k l n. inl (bid_off i j a k l p n)) k l)
@@ -110,7 +110,7 @@ module _ (g : Phase) (c : Ways) where
       (λ r k n. rw t (price_elsewhere o.letter s j p e r k n))
 
   pub news_popped : (l : Letter) (ls : List Letter) (s j : ℕ) (p : ℤ) → price_of l ≡ Some (j, p) → c (To.Person s) (g.shards + j % g.shards) ≡ l ∷ ls
-      → (r k : ℕ) → news_in g (set_way c (To.Person s) (g.shards + j % g.shards) ls) r k ≡ put2 (news_in g c) s j (filter_map (price_about j) ls) r k
+      → (r k : ℕ) → news_in g (set_channel c (To.Person s) (g.shards + j % g.shards) ls) r k ≡ put2 (news_in g c) s j (filter_map (price_about j) ls) r k
   news_popped l ls s j p e h =
       pair_popped (λ r k. price_about k) (λ r k. To.Person r) (λ r k. g.shards + k % g.shards) c s j l ls p h (price_on l j p e) (price_elsewhere l s j p e)
 
@@ -118,7 +118,7 @@ module _ (g : Phase) (c : Ways) where
   news_head l ls s j p e h = view_pop_some (price_about j) c (To.Person s) (g.shards + j % g.shards) l ls p h (price_on l j p e)
 
   pub news_dropped : (hs : List Letter) (l : Letter) (ls : List Letter) (s j : ℕ) (p : ℤ) → price_of l ≡ Some (j, p) → c (To.Person s) (g.shards + j % g.shards) ≡ hs ++ l ∷ ls
-      → (r k : ℕ) → news_in g (set_way c (To.Person s) (g.shards + j % g.shards) (hs ++ ls)) r k ≡ put2 (news_in g c) s j (filter_map (price_about j) hs ++ filter_map (price_about j) ls) r k
+      → (r k : ℕ) → news_in g (set_channel c (To.Person s) (g.shards + j % g.shards) (hs ++ ls)) r k ≡ put2 (news_in g c) s j (filter_map (price_about j) hs ++ filter_map (price_about j) ls) r k
   news_dropped hs l ls s j p e h =
       pair_dropped (λ r k. price_about k) (λ r k. To.Person r) (λ r k. g.shards + k % g.shards) c s j hs l ls h (price_elsewhere l s j p e)
 

@@ -9,7 +9,7 @@ use Rattle.auc_letters.specs.declared.state.Held.{Held}
 use Rattle.auc_letters.specs.declared.state.PersonState.{PersonState}
 use Rattle.auc_letters.specs.declared.state.PersonState.TheVariants.{Waits}
 use Rattle.auc_model.specs.Counts.{Counts, everywhere, held_objects, held_one, holding_persons, holds_one, total, waiting_persons, waits_one}
-use Rattle.auc_model.specs.Letters.{answer_of, award_one, bid_one, first_one, outbid_one, refused_one}
+use Rattle.auc_model.specs.Letters.{told_answer, award_one, bid_one, first_one, outbid_one, refused_one}
 use Rattle.auc_model.specs.Places.{Allows, Answer, Award, Outbid, Refused, heard}
 use Rattle.auc_model.specs.Put.{put}
 use Rattle.auc_model.specs.Channels.{Channels, send, set_channel}
@@ -117,7 +117,7 @@ module _ (g : Phase) (w v : World) (c d : Channels) (counts : Counts g w c) wher
       record { who_waits = omega (arith, counts.who_waits, e, x, fx, sx); who_holds = omega (arith, counts.who_holds, e, y, fy, sy, sh); who_told = omega (arith, counts.who_told, e, n, sh) }
 
   -- an answer is heard
-  pub counts_hear : v.count ≡ w.count → v.holder ≡ w.holder → (l : Letter) (a : Answer) (i j : ℕ) (p : ℤ) → answer_of l ≡ Some (a, i, j, p) → i < g.persons → Allows (w.state i) a j → v.state ≡ put w.state i (heard a j)
+  pub counts_hear : v.count ≡ w.count → v.holder ≡ w.holder → (l : Letter) (a : Answer) (i j : ℕ) (p : ℤ) → told_answer l ≡ Some (a, i, j, p) → i < g.persons → Allows (w.state i) a j → v.state ≡ put w.state i (heard a j)
       → Plus g l d c → Counts g v d
   counts_hear n h l a i j p is low fits s e = by_letter l is e
     where
@@ -163,7 +163,7 @@ module _ (g : Phase) (w v : World) (c d : Channels) (counts : Counts g w c) wher
           let oy : holds_one (heard a j) ≡ 0 = rw r in
           record { who_waits = omega (arith, counts.who_waits, e, x, wx, ox, sx); who_holds = omega (arith, counts.who_holds, e, y, wy, oy, sy, sh); who_told = omega (arith, counts.who_told, e, n, sh) }
 
-      by_letter : (l : Letter) → answer_of l ≡ Some (a, i, j, p) → Plus g l d c → Counts g v d
+      by_letter : (l : Letter) → told_answer l ≡ Some (a, i, j, p) → Plus g l d c → Counts g v d
       by_letter (Letter.Award k m q) is e = by_award k m q (sym ((same_answer Award a k m i j q p is).0)) e
       by_letter (Letter.Refused k m q) is e = by_refused k m q (sym ((same_answer Refused a k m i j q p is).0)) e
       by_letter (Letter.Outbid k m q) is e = by_outbid k m q (sym ((same_answer Outbid a k m i j q p is).0)) e

@@ -7,7 +7,7 @@ use Rattle.auc_letters.specs.declared.out.To.{To}
 use Rattle.auc_letters.specs.declared.state.Held.{Held}
 use Rattle.auc_letters.specs.declared.state.PersonState.{PersonState}
 use Rattle.auc_letters.specs.declared.state.PersonState.TheVariants.{Waits}
-use Rattle.auc_model.specs.Letters.{answer_of}
+use Rattle.auc_model.specs.Letters.{told_answer}
 use Rattle.auc_model.specs.Places.{Answer, Award, InPlace, Outbid, Refused, award, bid, hear, heard, pass_on, refuse}
 use Rattle.auc_model.specs.Put.{put, put2}
 use Rattle.auc_model.specs.Channels.{Channels, answer_to, answers_in, bid_by, bids_in, person_of, places, send, set_channel}
@@ -54,7 +54,7 @@ module _ (g : Phase) (w v : World) (c : Channels) where
       (λ k l. view-send_none (answer_to k l) c (i % g.shards) (record { to = To.Object (j % g.shards); letter = Letter.Bid i a j p; reserve = r }) refl (To.Person (k % g.shards)) (g.shards + l % g.shards))
       (keeps_bid (places g w c) i j free q)
 
-  pub place_hear : (l : Letter) (ls : List Letter) (a : Answer) (i j : ℕ) (p : ℤ) → answer_of l ≡ Some (a, i, j, p) → c (To.Person (i % g.shards)) (g.shards + j % g.shards) ≡ l ∷ ls
+  pub place_hear : (l : Letter) (ls : List Letter) (a : Answer) (i j : ℕ) (p : ℤ) → told_answer l ≡ Some (a, i, j, p) → c (To.Person (i % g.shards)) (g.shards + j % g.shards) ≡ l ∷ ls
       → ((k m : ℕ) → bid_by k m l ≡ None) → v.state ≡ put w.state i (heard a j) → v.holder ≡ w.holder → InPlace (places g w c)
       → InPlace (places g v (set_channel c (To.Person (i % g.shards)) (g.shards + j % g.shards) ls))
   place_hear l ls a i j p e f n s h q =
@@ -76,7 +76,7 @@ module _ (g : Phase) (w v : World) (c : Channels) (i a j : ℕ) (amount : ℤ) (
   answers_same k l =
       view-set_same (answer_to k l) c (To.Object (j % g.shards)) (i % g.shards) ls (view_pop_none (answer_to k l) c (To.Object (j % g.shards)) (i % g.shards) (Letter.Bid i a j amount) ls first refl) (To.Person (k % g.shards)) (g.shards + l % g.shards)
 
-  answer_next : (d : Channels) (o : Out) (b : Answer) (x : ℕ) (p : ℤ) (f : ℕ → ℕ → List Answer) → answer_of o.letter ≡ Some (b, x, j, p) → o.to ≡ To.Person (x % g.shards)
+  answer_next : (d : Channels) (o : Out) (b : Answer) (x : ℕ) (p : ℤ) (f : ℕ → ℕ → List Answer) → told_answer o.letter ≡ Some (b, x, j, p) → o.to ≡ To.Person (x % g.shards)
       → ((k l : ℕ) → answers_in g d k l ≡ f k l)
       → (k l : ℕ) → answers_in g (send d (g.shards + j % g.shards) (o ∷ [])) k l ≡ put2 f x j (f x j ++ b ∷ []) k l
   answer_next d o b x p f e t same k l =

@@ -16,7 +16,7 @@ use Rattle.auc_model.specs.SlackBids.{AllLetters, SlackAt, SlackHolders, SlackLe
 use Rattle.auc_model.specs.Hearing.{FitsLetter}
 use Rattle.auc_model.specs.Hub.{counted}
 use Rattle.auc_model.specs.Invariants.{Inv}
-use Rattle.auc_model.specs.Letters.{answer_of, price_of}
+use Rattle.auc_model.specs.Letters.{told_answer, told_price}
 use Rattle.auc_model.specs.Places.{Allows, Answer, Award, InPlace, Outbid, Refused, heard}
 use Rattle.auc_model.specs.Posting.{is_price}
 use Rattle.auc_model.specs.Prices.{NeverFalls}
@@ -37,7 +37,7 @@ use Rattle.auc_model.proofs.Pairs.{answers_head}
 use Rattle.auc_model.proofs.Views.{cases_both, put2_at, put2_off, send_two}
 
 -- what the channel says of an answer
-answer_route : (g : Phase) (s x : ℕ) (l : Letter) (a : Answer) (i j : ℕ) (p : ℤ) → answer_of l ≡ Some (a, i, j, p) → Routed g (To.Person s) x l → ToPerson g s x i j p
+answer_route : (g : Phase) (s x : ℕ) (l : Letter) (a : Answer) (i j : ℕ) (p : ℤ) → told_answer l ≡ Some (a, i, j, p) → Routed g (To.Person s) x l → ToPerson g s x i j p
 answer_route g s x (Letter.Award k m q) a i j p e r = let t = same_answer Award a k m i j q p e in rw (← t.1, ← t.2, ← t.3) r
 answer_route g s x (Letter.Refused k m q) a i j p e r = let t = same_answer Refused a k m i j q p e in rw (← t.1, ← t.2, ← t.3) r
 answer_route g s x (Letter.Outbid k m q) a i j p e r = let t = same_answer Outbid a k m i j q p e in rw (← t.1, ← t.2, ← t.3) r
@@ -46,7 +46,7 @@ answer_route g s x (Letter.Bid k b m q) a i j p e r = absurd cc
 answer_route g s x (Letter.First k) a i j p e r = absurd cc
 answer_route g s x (Letter.Stop y) a i j p e r = absurd cc
 
-answer_price : (l : Letter) (a : Answer) (i j : ℕ) (p : ℤ) → answer_of l ≡ Some (a, i, j, p) → price_of l ≡ Some (j, p)
+answer_price : (l : Letter) (a : Answer) (i j : ℕ) (p : ℤ) → told_answer l ≡ Some (a, i, j, p) → told_price l ≡ Some (j, p)
 answer_price (Letter.Award k m q) a i j p e = let t = same_answer Award a k m i j q p e in rw (t.2, t.3)
 answer_price (Letter.Refused k m q) a i j p e = let t = same_answer Refused a k m i j q p e in rw (t.2, t.3)
 answer_price (Letter.Outbid k m q) a i j p e = let t = same_answer Outbid a k m i j q p e in rw (t.2, t.3)
@@ -55,7 +55,7 @@ answer_price (Letter.Bid k b m q) a i j p e = absurd cc
 answer_price (Letter.First k) a i j p e = absurd cc
 answer_price (Letter.Stop y) a i j p e = absurd cc
 
-answer_no_bid : (l : Letter) (a : Answer) (i j : ℕ) (p : ℤ) → answer_of l ≡ Some (a, i, j, p) → (k m : ℕ) → bid_by k m l ≡ None
+answer_no_bid : (l : Letter) (a : Answer) (i j : ℕ) (p : ℤ) → told_answer l ≡ Some (a, i, j, p) → (k m : ℕ) → bid_by k m l ≡ None
 answer_no_bid (Letter.Award k m q) a i j p e x y = refl
 answer_no_bid (Letter.Refused k m q) a i j p e x y = refl
 answer_no_bid (Letter.Outbid k m q) a i j p e x y = refl
@@ -77,7 +77,7 @@ price_put f j p h all k = elim (cases_eq k j) [ inl e ↦ rw (put_at f j p k e) 
 
 module _ (g : Phase) (w : World) (c : Channels) (law : Lawful g) (inv : Inv g w c) where
   -- PersonTake(s), an answer
-  module _ (s x : ℕ) (l : Letter) (ls : List Letter) (m : Mail Letter) (a : Answer) (i j : ℕ) (p : ℤ) (first : c (To.Person s) x ≡ l ∷ ls) (is : answer_of l ≡ Some (a, i, j, p)) where
+  module _ (s x : ℕ) (l : Letter) (ls : List Letter) (m : Mail Letter) (a : Answer) (i j : ℕ) (p : ℤ) (first : c (To.Person s) x ≡ l ∷ ls) (is : told_answer l ≡ Some (a, i, j, p)) where
     route : ToPerson g s x i j p
     route = answer_route g s x l a i j p is (routed_first g c inv.routed (To.Person s) x l ls first)
 
@@ -382,7 +382,7 @@ module _ (g : Phase) (w : World) (c : Channels) (law : Lawful g) (inv : Inv g w 
   same_price : (i j : ℕ) (p q : ℤ) → (let x : Option (ℕ × ℤ) = Some (i, p) in let y : Option (ℕ × ℤ) = Some (j, q) in x ≡ y) → i ≡ j
   same_price i j p q e = ap (λ (z : ℕ × ℤ). z.0) (ap (from_some {X = ℕ × ℤ} (i, p)) e)
 
-  price_channel : (s x : ℕ) (l : Letter) (j : ℕ) (p : ℤ) → price_of l ≡ Some (j, p) → Routed g (To.Person s) x l → x ≡ g.shards + j % g.shards
+  price_channel : (s x : ℕ) (l : Letter) (j : ℕ) (p : ℤ) → told_price l ≡ Some (j, p) → Routed g (To.Person s) x l → x ≡ g.shards + j % g.shards
   price_channel s x (Letter.Award i k q) j p e r = rw (← same_price k j q p e) r.3
   price_channel s x (Letter.Refused i k q) j p e r = rw (← same_price k j q p e) r.3
   price_channel s x (Letter.Outbid i k q) j p e r = rw (← same_price k j q p e) r.3
@@ -391,7 +391,7 @@ module _ (g : Phase) (w : World) (c : Channels) (law : Lawful g) (inv : Inv g w 
   price_channel s x (Letter.First k) j p e r = absurd r
   price_channel s x (Letter.Stop y) j p e r = absurd r
 
-  pub letter_no_less : (s x : ℕ) (l : Letter) (ls : List Letter) (j : ℕ) (p : ℤ) → c (To.Person s) x ≡ l ∷ ls → price_of l ≡ Some (j, p) → w.copy s j ≤ℤ p
+  pub letter_no_less : (s x : ℕ) (l : Letter) (ls : List Letter) (j : ℕ) (p : ℤ) → c (To.Person s) x ≡ l ∷ ls → told_price l ≡ Some (j, p) → w.copy s j ≤ℤ p
   letter_no_less s x l ls j p e is =
       learns_no_less g w w c l ls s j p is (rw (← price_channel s x l j p is (routed_first g c inv.routed (To.Person s) x l ls e)) e) inv.never_falls
 

@@ -11,8 +11,8 @@ use Rattle.auc_mail.specs.Mail.{Mail, lane_of}
 use Rattle.auc_model.specs.World.{Phase, World}
 use Rattle.auc_model.specs.Mails.{mail_of, box_of}
 use Rattle.auc_model.specs.Bidding.{SomeoneStuck}
-use Rattle.auc_model.specs.Letters.{same_to, letters_to}
-use Rattle.auc_model.specs.Places.{Answer, Award, Refused, Outbid, Places}
+use Rattle.auc_model.specs.Letters.{same_to, letters_to, told_answer, told_price}
+use Rattle.auc_model.specs.Places.{Answer, Places}
 use Rattle.auc_model.specs.Prices.{Prices}
 
 -- what waits in the lane of a box and a sender, if there is such a sender
@@ -47,14 +47,13 @@ set_channel c t x ls = λ u y. if same_to u t && (y == x) then ls else c u y
 abbrev pub if_both : Bool → Bool → Answer → Option Answer
 if_both b c a = if b && c then Some a else None
 
+-- the answer, if it is one to this person about this object
+abbrev pub for_pair : ℕ → ℕ → Option (Answer × ℕ × ℕ × ℤ) → Option Answer
+for_pair i j None = None
+for_pair i j (Some (a, k, l, p)) = if_both (k == i) (l == j) a
+
 abbrev pub answer_to : ℕ → ℕ → Letter → Option Answer
-answer_to i j (Letter.Award k l p) = if_both (k == i) (l == j) Award
-answer_to i j (Letter.Refused k l p) = if_both (k == i) (l == j) Refused
-answer_to i j (Letter.Outbid k l p) = if_both (k == i) (l == j) Outbid
-answer_to i j (Letter.Bid k a l p) = None
-answer_to i j (Letter.Price l p) = None
-answer_to i j (Letter.First l) = None
-answer_to i j (Letter.Stop y) = None
+answer_to i j l = for_pair i j (told_answer l)
 
 abbrev pub bid_by : ℕ → ℕ → Letter → Option ℤ
 bid_by i j (Letter.Bid k a l p) = if (k == i) && (l == j) then Some p else None
@@ -65,14 +64,13 @@ bid_by i j (Letter.Price l p) = None
 bid_by i j (Letter.First l) = None
 bid_by i j (Letter.Stop y) = None
 
+-- the price, if it is one of this object
+abbrev pub about : ℕ → Option (ℕ × ℤ) → Option ℤ
+about j None = None
+about j (Some (k, p)) = if k == j then Some p else None
+
 abbrev pub price_about : ℕ → Letter → Option ℤ
-price_about j (Letter.Award k l p) = if l == j then Some p else None
-price_about j (Letter.Refused k l p) = if l == j then Some p else None
-price_about j (Letter.Outbid k l p) = if l == j then Some p else None
-price_about j (Letter.Price l p) = if l == j then Some p else None
-price_about j (Letter.Bid k a l p) = None
-price_about j (Letter.First l) = None
-price_about j (Letter.Stop y) = None
+price_about j l = about j (told_price l)
 
 -- what f sees on a channel
 abbrev pub view : {Y : Type 0} → (Letter → Option Y) → Channels → To → ℕ → List Y

@@ -71,7 +71,10 @@ module _ (p : Problem) (t : Table) (shards : ℕ) (eps : ℤ) (v : World) (price
       let stands = right.3 in
       let at = found.2 in
       let place : h.held.arc ≡ found.0 = omega (arith, stands, at) in
-      let same : arc ≡ get_or p.arcs found.0 arc = some_same (sym h.place ∙ ap (slice_get p.arcs) place ∙ slice_get-get_or p.arcs found.0 arc found.1) in
+      let held_place : slice_get p.arcs h.held.arc ≡ Some arc = h.place in
+      let there_place : slice_get p.arcs h.held.arc ≡ slice_get p.arcs found.0 = ap (slice_get p.arcs) place in
+      let found_place : slice_get p.arcs found.0 ≡ Some (get_or p.arcs found.0 arc) = slice_get-get_or p.arcs found.0 arc found.1 in
+      let same : arc ≡ get_or p.arcs found.0 arc = some_same (sym held_place ∙ (there_place ∙ found_place)) in
       let cost : right.0.cost ≡ arc.cost = sym (ap (λ (a : Arc). a.cost) (same ∙ found.3 arc)) in
       let mine = same_value v.price prices true_prices (length t.rows) p.persons right.0.cost arc.cost right.0.object arc.object persons_are cost right.2 in
       let b : Arc = get_or p.arcs k d in

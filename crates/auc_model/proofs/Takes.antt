@@ -22,7 +22,8 @@ use Rattle.auc_model.specs.Posting.{is_price}
 use Rattle.auc_model.specs.Prices.{NeverFalls}
 use Rattle.auc_model.specs.Put.{put, put2}
 use Rattle.auc_model.specs.Selling.{FitsBid}
-use Rattle.auc_model.specs.Start.{Lawful, is_free}
+use Rattle.auc_letters.specs.Persons.{is_free}
+use Rattle.auc_model.specs.Start.{Lawful}
 use Rattle.auc_model.specs.Channels.{AllRouted, Routed, ToPerson, Channels, answer_to, bid_by, places, prices, send, set_channel}
 use Rattle.auc_model.specs.World.{Phase, World, senders}
 use Rattle.auc_model.proofs.CountSteps.{Plus, counts_first, counts_hear, counts_pass, counts_price_gone, counts_refuse, plus_gone, plus_sent}

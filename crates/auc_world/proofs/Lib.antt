@@ -1,16 +1,17 @@
+-- That a Hall set has a certificate is for the crates above too; the rest is this crate's own.
 mod WorkedEps
-pub mod Keeping
-pub mod Seen
-pub mod PostingLaws
-pub mod BiddingLaws
-pub mod HearingLaws
-pub mod SellingLaws
-pub mod HubLaws
-pub mod Made
-pub mod TurnByTurn
-pub mod RoundLaws
-pub mod PlayLaws
+mod Keeping
+mod Seen
+mod PostingLaws
+mod BiddingLaws
+mod HearingLaws
+mod SellingLaws
+mod HubLaws
+mod Made
+mod TurnByTurn
+mod RoundLaws
+mod PlayLaws
 pub mod HallCertificates
-pub mod GatherLaws
-pub mod PhaseLaws
-pub mod Bridge
+mod GatherLaws
+mod PhaseLaws
+mod Bridge

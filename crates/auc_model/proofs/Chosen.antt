@@ -8,13 +8,13 @@ use Rattle.std.proofs.lemmas.List.FromFn.{get_or-map-range_with_len, length-map-
 use Rattle.auc_graph.specs.Assignment.{IsAssignment, object_of, person_of}
 use Rattle.auc_graph.specs.Problem.{Problem}
 use Rattle.auc_graph.specs.Row.{is_of, row, row_arc}
-use Rattle.auc_graph.specs.Table.{IsTable, IsTableOf, Table, row_of}
+use Rattle.auc_graph.specs.Table.{IsTableOf, Table, row_of}
 use Rattle.auc_graph.specs.declared.arc.Arc.{Arc}
 use Rattle.auc_graph.specs.declared.rows.RowArc.{RowArc}
 use Rattle.auc_letters.specs.declared.state.Held.{Held}
 use Rattle.auc_model.specs.Chosen.{IsHeldArc}
 use Rattle.auc_model.specs.Schedule.{Reached}
-use Rattle.auc_model.specs.Ways.{Each}
+use Rattle.auc_model.specs.Channels.{Each}
 use Rattle.auc_model.specs.World.{Phase, World, phase_of}
 use Rattle.auc_model.proofs.SameAnswers.{from_some}
 use Rattle.auc_model.proofs.Theorems.{everyone_holds, holders_slack}
@@ -39,7 +39,7 @@ row_arc_listed i n (x ∷ xs) a c = elim (cases_Bool (x.person == i)) [ inl t �
     his t zero l e ih = (0, omega arith, sym (ap (λ (b : RowArc). b.arc) e) ∙ omega arith, λ d. λ q. record { cost = (ap (λ (b : RowArc). b.cost) e) q; person = (eqb-true x.person i t) q; object = (ap (λ (b : RowArc). b.object) e) q })
     his t (suc k) l e ih = later (ih (k, omega (arith, l), e))
 
-module _ (p : Problem) (t : Table) (shards : ℕ) (eps : ℤ) (v : World) (table : IsTable t) (its : IsTableOf p t) (reached : Reached (phase_of t shards eps) v) where
+module _ (p : Problem) (t : Table) (shards : ℕ) (eps : ℤ) (v : World) (its : IsTableOf p t) (reached : Reached (phase_of t shards eps) v) where
   abbrev g : Phase
   g = phase_of t shards eps
 

@@ -3,7 +3,7 @@ pub mod SameAnswers
 pub mod Places
 pub mod Selling
 pub mod Prices
-pub mod Ways
+pub mod Channels
 pub mod Views
 pub mod Pairs
 pub mod PlaceSteps

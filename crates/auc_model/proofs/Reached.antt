@@ -16,7 +16,7 @@ use Rattle.auc_model.specs.Room.{Room}
 use Rattle.auc_model.specs.Schedule.{Reached, Schedule, StepsIn, Turned}
 use Rattle.auc_model.specs.Selling.{FitsBid}
 use Rattle.auc_model.specs.Start.{Lawful, Starts, UsualNodes}
-use Rattle.auc_model.specs.Ways.{Routed, Ways, ways}
+use Rattle.auc_model.specs.Channels.{Routed, Channels, channels}
 use Rattle.auc_model.specs.World.{Phase, World}
 use Rattle.auc_model.specs.declared.turn.MailName.{MailName}
 use Rattle.auc_model.specs.declared.turn.Turn.{Turn}
@@ -28,7 +28,7 @@ use Rattle.auc_model.proofs.Schedule.{kept_schedule}
 use Rattle.auc_model.proofs.Small.{one_more, schedules_join, turn_step}
 use Rattle.auc_model.proofs.Start.{kept_start, room_start}
 use Rattle.auc_model.proofs.Takes.{bid_letter_fits, letter_fits, letter_no_less}
-use Rattle.auc_model.proofs.Ways.{left_behind, way_taken}
+use Rattle.auc_model.proofs.Channels.{left_behind, channel_taken}
 
 pub reached_start : (g : Phase) (w : World) → Lawful g → Starts g w → Reached g w
 reached_start g w law s = record { lawful = law; start = w; starts = s; turns = []; leads = refl }
@@ -73,11 +73,11 @@ room_reached g v r usual =
     room_schedule g r.start r.turns v r.lawful (kept_start g r.start r.starts) (room_start g r.start r.starts before) r.leads
 
 module _ (g : Phase) (v : World) (law : Lawful g) (k : Kept g v) where
-  abbrev under_way : Ways
-  under_way = ways g v k.lost
+  abbrev under_way : Channels
+  under_way = channels g v k.lost
 
   head : (t : To) (x n : ℕ) (l : Letter) (m : Mail Letter) (p : Takes (mail_of v t) (box_of t) x n l m) → under_way t x ≡ l ∷ left_behind g v k.lost t x n l m (whole_of g v k.shapes t) p
-  head t x n l m p = way_taken g v k.lost t x n l m (whole_of g v k.shapes t) p
+  head t x n l m p = channel_taken g v k.lost t x n l m (whole_of g v k.shapes t) p
 
   rises : (s x : ℕ) (l : Letter) (ls : List Letter) → under_way (To.Person s) x ≡ l ∷ ls → Rises v s l
   rises s x (Letter.Award i j p) ls e = letter_no_less g v under_way law k.inv s x (Letter.Award i j p) ls j p e refl

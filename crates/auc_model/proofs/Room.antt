@@ -26,7 +26,7 @@ use Rattle.auc_model.specs.Schedule.{Schedule, Turned}
 use Rattle.auc_model.specs.Selling.{TellTurn}
 use Rattle.auc_model.proofs.Selling.{TakesBid, by_cases, sold}
 use Rattle.auc_model.specs.Start.{Lawful}
-use Rattle.auc_model.specs.Ways.{Each, Routed, ways}
+use Rattle.auc_model.specs.Channels.{Each, Routed, channels}
 use Rattle.auc_model.specs.World.{Phase, World, ended, first_end}
 use Rattle.auc_model.specs.declared.turn.End.{End}
 use Rattle.auc_model.specs.declared.turn.MailName.{MailName}
@@ -37,7 +37,7 @@ use Rattle.auc_model.proofs.Places.{put_at, put_off, put_self}
 use Rattle.auc_model.proofs.Routes.{routed_first}
 use Rattle.auc_model.proofs.Schedule.{kept_turn}
 use Rattle.auc_model.proofs.Sums.{total_put}
-use Rattle.auc_model.proofs.Ways.{left_behind, way_taken}
+use Rattle.auc_model.proofs.Channels.{left_behind, channel_taken}
 use Rattle.auc_model.proofs.WeightSteps.{few_prices_posted, weight_posted, weight_taken}
 
 each_put : (g : Phase) (f : ℕ → List Out) (s : ℕ) (os : List Out) → Each (Reserved g) os → ((k : ℕ) → Each (Reserved g) (f k)) → (k : ℕ) → Each (Reserved g) (put f s os k)
@@ -403,7 +403,7 @@ module _ (g : Phase) (w : World) (law : Lawful g) (k : Kept g w) (room : Room g 
   room_hub_take r v (HubTakeTurn.no_letter h e1 e) = rw e room
   room_hub_take r v (HubTakeTurn.takes x n l m t e1 e) =
       let whole = k.shapes.hub.whole in
-      rw e (hub_room x n l m t (routed_first g (ways g w k.lost) k.inv.routed To.Hub x l (left_behind g w k.lost To.Hub x n l m whole t) (way_taken g w k.lost To.Hub x n l m whole t)))
+      rw e (hub_room x n l m t (routed_first g (channels g w k.lost) k.inv.routed To.Hub x l (left_behind g w k.lost To.Hub x n l m whole t) (channel_taken g w k.lost To.Hub x n l m whole t)))
 
   -- a box that closes keeps its letters
   room_closed : (name : MailName) (b : ℕ) → Room g (with_mail_named w name (with_closed (mail_named w name) b))

@@ -11,7 +11,7 @@ use Rattle.auc_model.specs.Places.{is_held_by}
 use Rattle.auc_model.specs.Schedule.{Reached}
 use Rattle.auc_model.specs.Slack.{SlackRight}
 use Rattle.auc_model.specs.Start.{UsualNodes}
-use Rattle.auc_model.specs.Ways.{person_of, places, prices, ways}
+use Rattle.auc_model.specs.Channels.{person_of, places, prices, channels}
 use Rattle.auc_model.specs.World.{Phase, World}
 use Rattle.auc_model.specs.declared.turn.End.{End}
 use Rattle.auc_model.proofs.Bounds.{firsts_le, held_le}
@@ -31,7 +31,7 @@ pub of_every_schedule : (g : Phase) (v : World) → Reached g v
     × ((j k : ℕ) (a b : Held) → v.holder j ≡ Some a → v.holder k ≡ Some b → a.person ≡ b.person → j ≡ k)
 of_every_schedule g v r =
     let k = kept_reached g v r in
-    let c = ways g v k.lost in (
+    let c = channels g v k.lost in (
       sound_no_guard g v.end k.inv.sound,
       (λ s j. copy_low (prices g v c) s j k.inv.never_falls),
       (λ j l a b e f same. held_once (places g v c) a.person j l (ap person_of e) (ap person_of f ∙ ap Some (sym same)) k.inv.in_place),
@@ -42,22 +42,22 @@ pub holders_slack : (g : Phase) (v : World) → Reached g v
     → (j : ℕ) (h : Held) → v.holder j ≡ Some h → (a : RowArc) × Contains (g.row h.person) a × (a.object ≡ j) × (a.arc ≡ h.arc) × SlackRight g v.price h.person a
 holders_slack g v r j h e =
     let k = kept_reached g v r in
-    let f = k.inv.fair_holders j h e in
+    let f = k.inv.slack_holders j h e in
     (f.arc, f.listed, f.leads, f.stands, subst (λ (p : ℕ → ℤ). SlackRight g p h.person f.arc) (put_self v.price j) f.slack)
 
 -- the hub counts no more than there are persons, and no more objects are held
 pub counted_le : (g : Phase) (v : World) → Reached g v → (v.count ≤ g.persons) × (held_objects g v ≤ g.persons)
 counted_le g v r =
     let k = kept_reached g v r in
-    let a = firsts_le g v (ways g v k.lost) k.inv.counts in
-    (omega (arith, a), held_le g v (ways g v k.lost) k.inv.counts)
+    let a = firsts_le g v (channels g v k.lost) k.inv.counts in
+    (omega (arith, a), held_le g v (channels g v k.lost) k.inv.counts)
 
 -- where the hub has counted every person, each of them holds an object
 pub everyone_holds : (g : Phase) (v : World) → Reached g v → v.count ≡ g.persons
     → (i : ℕ) → i < g.persons → (j : ℕ) × (h : Held) × (v.holder j ≡ Some h) × (h.person ≡ i)
 everyone_holds g v r all i l =
     let k = kept_reached g v r in
-    let p = holds_some g v (ways g v k.lost) r.lawful k.inv all i l in
+    let p = holds_some g v (channels g v k.lost) r.lawful k.inv all i l in
     by_holder p.0 (v.holder p.0) refl p.1
   where
     by_holder : (j : ℕ) (o : Option Held) → v.holder j ≡ o → is_held_by (person_of (v.holder j)) i ≡ true → (j : ℕ) × (h : Held) × (v.holder j ≡ Some h) × (h.person ≡ i)

@@ -1,13 +1,14 @@
 //! What holds over every schedule, from every world that a phase begins with. The functions do nothing: their contracts are
 //! theorems, and crates above cite them. One calls the law of the mails that it rests on.
 
-ghost use Rattle.std.specs.Prelude.{ℕ, ℤ, pos, ◌<◌, ◌≤◌, ◌≤ℤ◌, ◌≡◌, ◌≢◌, ◌⊎◌, true, List, [], ◌∷◌, ◌++◌, Some, None, Contains, All, length};
+ghost use Rattle.std.specs.Prelude.{ℕ, ℤ, pos, ◌<◌, ◌≤◌, ◌≤ℤ◌, ◌≡◌, ◌≢◌, ◌⊎◌, true, List, [], ◌∷◌, ◌++◌, Some, None, Contains, All, length, map};
 ghost use Rattle.auc_graph.specs.declared.rows.RowArc.{RowArc};
 ghost use Rattle.auc_graph.specs.declared.arc.Arc.{Arc};
-ghost use Rattle.auc_graph.specs.Assignment.{IsAssignment, IsLeast};
+ghost use Rattle.auc_graph.specs.Assignment.{IsAssignment, IsLeast, object_of};
 ghost use Rattle.auc_graph.specs.Dual.{IsNoPriceLeft, IsSlackRight, scale_of};
 ghost use Rattle.auc_graph.specs.Problem.{IsWithin, Problem};
 ghost use Rattle.auc_graph.specs.Table.{Table, IsTable, IsTableOf};
+ghost use Rattle.auc_letters.specs.Persons.{persons_of};
 ghost use Rattle.auc_letters.specs.Price.{IsEps};
 ghost use Rattle.auc_letters.specs.declared.letter.Why.{Why};
 ghost use Rattle.auc_letters.specs.declared.out.Out.{Out};
@@ -27,7 +28,7 @@ ghost use Rattle.auc_model.specs.Hearing.{FitsLetter, Rises};
 ghost use Rattle.auc_model.specs.Selling.{FitsBid};
 ghost use Rattle.auc_model.specs.Hub.{IsForHub};
 ghost use Rattle.auc_model.specs.Schedule.{Turned, Schedule, Reached, StepsIn, TakesOfTwoSenders};
-ghost use Rattle.auc_model.specs.Start.{Lawful, Starts, UsualNodes, occurs, free_in, persons_of};
+ghost use Rattle.auc_model.specs.Start.{Lawful, Starts, UsualNodes, occurs, free_in};
 ghost use Rattle.auc_model.specs.Slack.{SlackRight};
 ghost use Rattle.auc_model.specs.Still.{IsStill, Rests};
 ghost use Rattle.auc_model.specs.Chosen.{ArePricesOf, IsHeldArc};
@@ -111,10 +112,11 @@ pub fn every_schedule()
 {}
 
 /// In a phase of a problem, in every world that is reached: where the hub has counted as many as there are persons, the holders'
-/// arcs are an assignment of the problem, and each of them is slack-right at eps at the true prices. So at eps 1 the assignment
-/// costs least, if no object that nobody holds has a price.
+/// arcs are an assignment of the problem. What an assignment by holders' arcs leaves is held by nobody. Each holder's arc is
+/// slack-right at eps at the true prices; so at eps 1 such an assignment costs least, if no object that it leaves has a price.
 pub fn counted_holders_are_assigned()
-    ensures assigned { (p : Problem) (t : Table) (shards : ℕ) (eps : ℤ) (v : World) → IsTable t → IsTableOf p t → Reached (phase_of t shards eps) v → v.count ≡ length t.rows → (choice : List Arc) × IsAssignment p choice × All (IsHeldArc p v) choice }
+    ensures assigned { (p : Problem) (t : Table) (shards : ℕ) (eps : ℤ) (v : World) → IsTableOf p t → Reached (phase_of t shards eps) v → v.count ≡ length t.rows → (choice : List Arc) × IsAssignment p choice × All (IsHeldArc p v) choice }
+    ensures left { (p : Problem) (t : Table) (shards : ℕ) (eps : ℤ) (v : World) (choice : List Arc) → IsTableOf p t → Reached (phase_of t shards eps) v → IsAssignment p choice → All (IsHeldArc p v) choice → (j : ℕ) → ¬ Contains (map object_of choice) j → v.holder j ≡ None }
     ensures slack { (p : Problem) (t : Table) (shards : ℕ) (eps : ℤ) (v : World) (prices : List ℤ) → IsTableOf p t → Reached (phase_of t shards eps) v → ArePricesOf v prices → (arc : Arc) → arc.person < p.persons → IsHeldArc p v arc → IsSlackRight eps (scale_of p) prices p.arcs arc }
     ensures least { (p : Problem) (t : Table) (shards : ℕ) (v : World) (prices : List ℤ) (choice : List Arc) → IsTableOf p t → Reached (phase_of t shards (pos 1)) v → ArePricesOf v prices → length prices ≡ p.objects → All (IsWithin p.persons p.objects) p.arcs → IsAssignment p choice → All (IsHeldArc p v) choice → IsNoPriceLeft prices choice → IsLeast p choice }
 {}

@@ -1,6 +1,5 @@
 -- A shard of the persons, as callers see it, and what each call leaves of it.
-use Rattle.std.specs.Prelude.{◌≡◌, ◌≢◌, ◌<◌, ◌≤◌, ◌+◌, ◌-◌, ◌%◌, ◌^◌, ◌==◌, filter, ℕ, ℤ, pos, ◌≤ℤ◌, ◌<ℤ◌, Bool, true, false, List, [], ◌∷◌, ◌++◌, Result, Ok, Err, length, drop, All, slice_index_or, slice_set, count_by}
-use Rattle.std.specs.List.{range_with_len}
+use Rattle.std.specs.Prelude.{◌≡◌, ◌≢◌, ◌<◌, ◌≤◌, ◌+◌, ◌-◌, ◌%◌, ◌^◌, ℕ, ℤ, pos, ◌≤ℤ◌, ◌<ℤ◌, List, [], ◌∷◌, ◌++◌, Result, Ok, Err, length, drop, All, slice_index_or, slice_set, count_by}
 use Rattle.auc_graph.specs.declared.rows.RowArc.{RowArc}
 use Rattle.auc_graph.specs.Table.{Table, row_of}
 use Rattle.auc_letters.specs.declared.letter.Letter.{Letter}
@@ -10,6 +9,7 @@ use Rattle.auc_letters.specs.declared.state.PersonState.{PersonState}
 use Rattle.auc_letters.specs.declared.state.PersonState.TheVariants.{Free, Waits, Holds}
 use Rattle.auc_persons.specs.declared.bidding.Bidding.{Bidding}
 use Rattle.auc_persons.specs.declared.bidding.PersonFault.{PersonFault}
+use Rattle.auc_letters.specs.Persons.{is_free}
 use Rattle.auc_letters.specs.Price.{IsPrice}
 use Rattle.auc_letters.specs.Routing.{to_object}
 use Rattle.auc_graph.specs.Bid.{IsBid}
@@ -25,11 +25,6 @@ pub record Persons : Type 0 where
   pub copies : List ℤ
   pub states : List PersonState
   pub idle : List ℕ
-
-abbrev pub is_free : PersonState → Bool
-is_free Free = true
-is_free (Waits j) = false
-is_free (Holds j) = false
 
 -- what holds of each shard
 pub record ArePersons (s : Persons) : Type 0 where
@@ -52,7 +47,7 @@ abbrev pub state_of : Persons → ℕ → PersonState
 state_of s person = slice_index_or s.states person Free
 
 -- the shard was made for as many persons and objects
-pub record Fits (t : Table) (s : Persons) : Type 0 where
+pub record IsMadeFor (t : Table) (s : Persons) : Type 0 where
   pub persons : length t.rows ≡ length s.states
   pub objects : t.objects ≡ length s.copies
 
@@ -148,7 +143,3 @@ pub record SameShape (s n : Persons) : Type 0 where
 -- no copy falls
 abbrev pub Rising : List ℤ → List ℤ → Type 0
 Rising q r = (k : ℕ) → slice_index_or q k (pos 0) ≤ℤ slice_index_or r k (pos 0)
-
--- the persons of a shard, in rising order
-abbrev pub own : ℕ → ℕ → ℕ → List ℕ
-own shard of persons = filter (λ i. (i % of) == shard) (range_with_len 0 persons)

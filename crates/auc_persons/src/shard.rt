@@ -4,8 +4,9 @@
 
 ghost use Rattle.std.specs.Prelude.{◌≡◌, ◌≢◌, ◌<◌, ◌≤◌, ◌-◌, drop, [], ◌∷◌, ◌++◌, length, replicate, slice_set, All, IfOk};
 ghost use Rattle.std.specs.VecDeque.{deque_capacity};
+ghost use Rattle.auc_letters.specs.Persons.{persons_of};
 ghost use Rattle.auc_letters.specs.Price.{IsPrice};
-ghost use Rattle.auc_persons.specs.Persons.{Persons, Owns, copy_of, first_idle, own, state_of, with_copy};
+ghost use Rattle.auc_persons.specs.Persons.{Persons, Owns, copy_of, first_idle, state_of, with_copy};
 
 mod hearing;
 mod next_bid;
@@ -19,7 +20,7 @@ use std::marker::Model;
 /// The persons of a shard, with room for all.
 fn idle_of(alloc: Global, shard: u32, of: u32, persons: u32) -> Result<VecDeque<u32>, AllocError>
     requires { shard < of }
-    ensures items { IfOk result (λ q. q.items ≡ own shard of persons) }
+    ensures items { IfOk result (λ q. q.items ≡ persons_of shard of persons) }
     ensures room { IfOk result (λ q. persons ≤ deque_capacity q) }
     ensures few { IfOk result (λ q. length q.items ≤ persons) }
     ensures within { IfOk result (λ q. All (λ i. i < persons) q.items) }
@@ -85,7 +86,7 @@ impl PersonShard {
         requires object_shards { 0 < object_shards }
         requires persons { persons ≤ MOST_PERSONS }
         requires prices { All IsPrice prices.now }
-        ensures { IfOk result (λ s. s ≡ record { shard = shard; of = of; object_shards = object_shards; bids = bids; copies = prices.now; states = replicate persons PersonState.Free; idle = own shard of persons }) }
+        ensures { IfOk result (λ s. s ≡ record { shard = shard; of = of; object_shards = object_shards; bids = bids; copies = prices.now; states = replicate persons PersonState.Free; idle = persons_of shard of persons }) }
     {
         let copies = prices.to_vec(alloc)?;
         let states = vec![in alloc; PersonState::Free; persons as usize]?;

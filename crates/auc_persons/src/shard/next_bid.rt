@@ -3,7 +3,7 @@
 ghost use Rattle.std.specs.Prelude.{◌≡◌, ◌≢◌, ◌<◌, ◌≤◌, ◌+◌, [], pos, ◌≤ℤ◌, length, IfSome, IfNone};
 ghost use Rattle.auc_graph.specs.Table.{row_of};
 ghost use Rattle.auc_letters.specs.Price.{IsEps};
-ghost use Rattle.auc_persons.specs.Persons.{Bids, Fits, NextBid, Rising, SameShape, bid_letter, first_idle};
+ghost use Rattle.auc_persons.specs.Persons.{Bids, IsMadeFor, NextBid, Rising, SameShape, bid_letter, first_idle};
 
 use crate::amount::{Bid, bid_of};
 use crate::bidding::Bidding;
@@ -25,7 +25,7 @@ impl PersonShard {
     /// What the next person bids.
     #[inline]
     fn bid_for(&self, rows: &Rows, person: u32, eps: i64) -> Option<Bid>
-        requires rows { Fits rows.now self.now }
+        requires rows { IsMadeFor rows.now self.now }
         requires person { person < length self.now.states }
         requires eps { IsEps eps }
         ensures bid { IfSome result (λ b. Bids rows.now eps self.now person b.arc b.amount) }
@@ -46,7 +46,7 @@ impl PersonShard {
     #[tactic(auto, using(crate::proofs::Rise::shape_bid, crate::proofs::Rise::shape_same))]
     #[inline]
     pub fn next_bid(&mut self, rows: &Rows, eps: i64) -> Bidding
-        requires rows { Fits rows.now self.old }
+        requires rows { IsMadeFor rows.now self.old }
         requires eps { IsEps eps }
         ensures exact { NextBid rows.now eps self.old result self.new }
         ensures rise { Rising self.old.copies self.new.copies }

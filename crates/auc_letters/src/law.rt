@@ -14,17 +14,16 @@ pub fn equal_letters_are_same()
     ensures { (a b : Letter) → letter_eq.it a b ≡ true → a ≡ b }
 {}
 
-/// The limits, by their numerals.
-pub fn limits_by_numerals()
+/// The numbers of the limits; and what passes as an amount is what may be a price.
+pub fn limits_are()
     ensures price { most_price ≡ pos (2 ^ 61) }
     ensures eps { most_eps ≡ pos (2 ^ 60) }
     ensures shards { most_shards ≡ 16 }
+    ensures amounts { (amount : ℤ) → IsTrue (is_amount amount) ↔ IsPrice amount }
 {}
 
-/// Bids on an object never lower its price, and the price stays where nobody comes to hold it. The test of an amount is the
-/// range of prices.
+/// Bids on an object never lower its price, and nothing changes where nobody comes to hold it.
 pub fn awards_raise_prices()
     ensures rises { (eps : ℤ) (sale : Sale) (bids : List AnOffer) → IsEps eps → sale.price ≤ℤ (award_all eps sale bids).price }
     ensures unheld { (eps : ℤ) (sale : Sale) (bids : List AnOffer) → (award_all eps sale bids).holder ≡ None → (award_all eps sale bids) ≡ sale }
-    ensures amounts { (amount : ℤ) → IsTrue (is_amount amount) ↔ IsPrice amount }
 {}

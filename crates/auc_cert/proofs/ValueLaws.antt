@@ -1,6 +1,6 @@
 -- The values that the code computes fit 128 bits.
 use Rattle.std.proofs.Common.{◌≡◌, ℕ, ◌*◌, ◌<◌, ◌≤◌, ◌^◌, refl, sym, ap, ◌∙◌, arith, w64, pos}
-use Rattle.std.specs.Prelude.{ℤ, ◌+ℤ◌, ◌*ℤ◌, FitsSigned, unsigned_abs}
+use Rattle.std.specs.Prelude.{ℤ, neg_ℤ, ◌+ℤ◌, ◌*ℤ◌, ◌≤ℤ◌, FitsSigned, unsigned_abs}
 use Rattle.std.specs.Int.{w128}
 use Rattle.std.proofs.Common.{lit<}
 use Rattle.std.proofs.lemmas.Int.{ints, fits_signed_mul, unsigned_abs-mul, to_z-of_z}
@@ -29,6 +29,9 @@ product_low s c lt f =
 
 pub value_fits : (s : ℕ) (c p : ℤ) → s < 2 ^ 32 → FitsSigned w64 c → FitsSigned w64 p → FitsSigned w128 (pos s *ℤ c +ℤ p)
 value_fits s c p lt f g = omega (arith, ints, product_low s c lt f, g)
+
+pub value_small : (s : ℕ) (c p : ℤ) → s < 2 ^ 32 → FitsSigned w64 c → FitsSigned w64 p → (neg_ℤ (pos (2 ^ 96)) ≤ℤ (pos s *ℤ c +ℤ p)) × ((pos s *ℤ c +ℤ p) ≤ℤ pos (2 ^ 96))
+value_small s c p lt f g = (omega (arith, ints, product_low s c lt f, g), omega (arith, ints, product_low s c lt f, g))
 
 pub value_more_fits : (s : ℕ) (c p : ℤ) → s < 2 ^ 32 → FitsSigned w64 c → FitsSigned w64 p → FitsSigned w128 (pos s *ℤ c +ℤ p +ℤ pos 1)
 value_more_fits s c p lt f g = omega (arith, ints, product_low s c lt f, g)

@@ -51,6 +51,9 @@ module _ (p : Parts) (s : ℕ) (are : AreParts p) (may : MayAskForBid p s) where
   pub asks_idle : (n : Parts) → NextBid p.table p.eps (persons_at p s) Bidding.Idle (persons_at n s) → n ≡ record p { persons = set p.persons s (persons_at n s) } → BidTurn (phase p) (seen p) s TurnReply.Nothing (seen n)
   asks_idle n h e = barred (inr (inr (inr h.0))) refl (ap seen (e ∙ ap (λ (xs : List Persons). record p { persons = xs }) (same_persons p s (persons_at n s) h.1)))
 
+  pub idle_known : (n : Parts) → n ≡ record p { persons = set p.persons s (persons_at n s) } → (s < n.shards) × (outbox_at n s ≡ [])
+  idle_known n e = (subst (λ (k : ℕ). s < k) (sym (ap (λ (z : Parts). z.shards) e)) may.known, ap (λ (z : Parts). outbox_at z s) e ∙ may.empty)
+
   pub asks_stop : (n m : Parts) (why : Why) → NextBid p.table p.eps (persons_at p s) (Bidding.Stop why) (persons_at n s) → n ≡ record p { persons = set p.persons s (persons_at n s) } → m ≡ record n { stopped = set n.stopped s true }
       → BidTurn (phase p) (seen p) s TurnReply.Moved (with_outbox (seen m) (PersonShard s) (to_hub (Letter.Stop why) ∷ []))
   asks_stop n m why h e1 e2 =
@@ -78,6 +81,11 @@ module _ (p : Parts) (s : ℕ) (are : AreParts p) (may : MayAskForBid p s) where
       let shards : n.shards ≡ p.shards = ap (λ (z : Parts). z.shards) e in
       let letter : out ≡ to_object p.shards h.2.0.object (Letter.Bid (first_idle (persons_at p s)) h.2.0.arc h.2.0.object h.2.1) = h.2.4 ∙ ap (λ (n : ℕ). to_object n h.2.0.object (Letter.Bid (first_idle (persons_at p s)) h.2.0.arc h.2.0.object h.2.1)) is.object_shards in
       (rw shards may.known, ap (λ (z : Parts). outbox_at z s) e ∙ may.empty, rw (shards, letter) (omega arith))
+
+  pub stop_known : (n m : Parts) (why : Why) → n ≡ record p { persons = set p.persons s (persons_at n s) } → m ≡ record n { stopped = set n.stopped s true } → (s < m.shards) × (outbox_at m s ≡ []) × Reaches m.shards (to_hub (Letter.Stop why))
+  stop_known n m why e1 e2 =
+      let here = idle_known n e1 in
+      (subst (λ (k : ℕ). s < k) (sym (ap (λ (z : Parts). z.shards) e2)) here.0, ap (λ (z : Parts). outbox_at z s) e2 ∙ here.1, omega arith)
 
 -- the letter is put into the outbox
 pub bid_put : (p n v : Parts) (s : ℕ) (o : Out) → AreParts n → s < n.shards → BidTurn (phase p) (seen p) s TurnReply.Moved (with_outbox (seen n) (PersonShard s) (o ∷ [])) → v ≡ record n { outboxes = set n.outboxes s (o ∷ []) }

@@ -13,6 +13,7 @@ use Rattle.auc_model.specs.declared.turn.TurnReply.{TurnReply}
 use Rattle.auc_world.specs.Parts.{Parts, SamePhase, outbox_at, phase, seen}
 use Rattle.auc_world.specs.Posting.{Leaves}
 use Rattle.auc_world.specs.Rounds.{Plays, has_moved}
+use Rattle.auc_world.proofs.PostingLaws.{no_first}
 use Rattle.auc_world.proofs.RoundLaws.{as_moved, one_play, plays_join, three_plays, two_plays}
 use Rattle.auc_world.proofs.TurnByTurn.{same_phase}
 
@@ -23,6 +24,9 @@ pub bid_idles : (p n v : Parts) (s : ℕ) (r : TurnReply) (o : Bool) → BidTurn
 bid_idles p n v s r o bid same post e =
     let post' = subst (λ (g : Phase). PostTurn g (seen n) (PersonShard s) r (seen v)) (same_phase p n same) post in
     as_moved (phase p) (seen p) (Turn.Bid s ∷ Turn.PersonPost s ∷ []) (has_moved r) o (seen v) (sym e) (two_plays (phase p) (seen p) (seen n) (seen v) (Turn.Bid s) (Turn.PersonPost s) TurnReply.Nothing r bid post')
+
+pub bid_rests : (p n : Parts) (s : ℕ) → BidTurn (phase p) (seen p) s TurnReply.Nothing (seen n) → SamePhase p n → s < n.shards → outbox_at n s ≡ [] → Plays (phase p) (seen p) (Turn.Bid s ∷ Turn.PersonPost s ∷ []) false (seen n)
+bid_rests p n s bid same known empty = bid_idles p n n s TurnReply.Nothing false bid same (no_first n s (PersonShard s) refl known empty) refl
 
 pub bid_sends : (p n v : Parts) (s : ℕ) (o : Out) → BidTurn (phase p) (seen p) s TurnReply.Moved (with_outbox (seen n) (PersonShard s) (o ∷ [])) → SamePhase p n
     → PostTurn (phase n) (with_outbox (seen n) (PersonShard s) (o ∷ [])) (PersonShard s) TurnReply.Moved (seen v) → Plays (phase p) (seen p) (Turn.Bid s ∷ Turn.PersonPost s ∷ []) true (seen v)
@@ -41,6 +45,11 @@ take_idles p n m v q r t i j o take same first same2 second a b d =
     let flat : (has_moved r || has_moved t) ≡ o = cc in
     as_moved (phase p) (seen p) (Turn.ObjectTake q ∷ Turn.ObjectPost q ∷ Turn.ObjectPost q ∷ []) (has_moved r || has_moved t) o (seen v) flat
     (three_plays (phase p) (seen p) (seen n) (seen m) (seen v) (Turn.ObjectTake q) (Turn.ObjectPost q) (Turn.ObjectPost q) TurnReply.Nothing r t take first' second')
+
+pub take_rests : (p n : Parts) (q : ℕ) → ObjectTakeTurn (phase p) (seen p) q TurnReply.Nothing (seen n) → outbox_at n (n.shards + q) ≡ [] → Plays (phase p) (seen p) (Turn.ObjectTake q ∷ Turn.ObjectPost q ∷ Turn.ObjectPost q ∷ []) false (seen n)
+take_rests p n q take empty =
+    let post : PostTurn (phase p) (seen n) (ObjectShard q) TurnReply.Nothing (seen n) = posting.no_letter (inr empty) refl refl in
+    three_plays (phase p) (seen p) (seen n) (seen n) (seen n) (Turn.ObjectTake q) (Turn.ObjectPost q) (Turn.ObjectPost q) TurnReply.Nothing TurnReply.Nothing TurnReply.Nothing take post post
 
 pub take_strays : (p n : Parts) (q : ℕ) → ObjectTakeTurn (phase p) (seen p) q TurnReply.Moved (seen n) → outbox_at n (n.shards + q) ≡ [] → Plays (phase p) (seen p) (Turn.ObjectTake q ∷ Turn.ObjectPost q ∷ Turn.ObjectPost q ∷ []) true (seen n)
 take_strays p n q take empty =

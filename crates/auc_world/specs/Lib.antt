@@ -8,5 +8,6 @@ pub mod Phases
 pub mod Mails
 pub mod Hub
 pub mod Posting
+pub mod Bidding
 pub mod Hearing
 pub mod Selling

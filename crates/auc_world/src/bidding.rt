@@ -1,12 +1,11 @@
 //! Bidding: a shard of the persons asks its person that has been free longest for a bid.
 
-ghost use Rattle.std.specs.Prelude.{◌≡◌, ◌<◌, ◌↔◌, true, [], ◌∷◌, slice_set, IfSome, IfNone, IsTrue};
+ghost use Rattle.std.specs.Prelude.{◌≡◌, ◌<◌, ◌↔◌, true, [], ◌∷◌, slice_set, IsTrue};
 ghost use Rattle.auc_model.specs.Bidding.{BidTurn};
-ghost use Rattle.auc_model.specs.Mails.{Shard, with_outbox};
 ghost use Rattle.auc_model.specs.declared.turn.Turn.{Turn};
-ghost use Rattle.auc_model.specs.declared.turn.TurnReply.{TurnReply};
 ghost use Rattle.auc_persons.specs.Persons.{NextBid};
-ghost use Rattle.auc_world.specs.Parts.{AreParts, MayAskForBid, Reaches, SamePhase, outbox_at, persons_at, phase, seen};
+ghost use Rattle.auc_world.specs.Bidding.{Asks};
+ghost use Rattle.auc_world.specs.Parts.{AreParts, MayAskForBid, SamePhase, persons_at, phase, seen};
 ghost use Rattle.auc_world.specs.Rounds.{Plays};
 
 use crate::rounds::has_moved;
@@ -14,6 +13,17 @@ use crate::world::World;
 use auc_letters::{Letter, Out, To};
 use auc_model::TurnReply;
 use auc_persons::Bidding;
+
+/// What a shard of the persons has to send.
+#[derive(Clone, Copy)]
+pub(crate) enum Asked {
+    /// It may not bid: there is no such shard, its outbox isn't empty, or it has made its Stop.
+    Barred,
+    /// Nobody is free. Its outbox is empty.
+    Idle,
+    /// This letter, which is still to be put into its outbox, which is empty, or posted.
+    Sends { out: Out },
+}
 
 impl<'a> World<'a> {
     /// Whether a shard of the persons may bid: it is there, its outbox is empty, and it has made no Stop.
@@ -49,29 +59,28 @@ impl<'a> World<'a> {
         self.stopped[shard as usize] = true;
     }
 
-    /// What a shard of the persons has to send: its next bid, or why there is none. None where it may not bid, or nobody is
-    /// free. The letter is still to be put into the shard's outbox, which is empty, or posted.
+    /// Asks a shard of the persons for what it has to send: its next bid, or why there is none.
     #[inline]
-    fn ask(&mut self, shard: u32) -> Option<Out>
-        ensures turn { IfSome result (λ o. BidTurn (phase self.old) (seen self.old) shard TurnReply.Moved (with_outbox (seen self.new) (Shard.PersonShard shard) (o ∷ []))) }
-        ensures known { IfSome result (λ o. (shard < self.new.shards) × (outbox_at self.new shard ≡ []) × Reaches self.new.shards o) }
-        ensures none { IfNone result (BidTurn (phase self.old) (seen self.old) shard TurnReply.Nothing (seen self.new)) }
+    fn ask(&mut self, shard: u32) -> Asked
+        ensures asks { Asks self.old shard result self.new }
         ensures phase { SamePhase self.old self.new }
     {
         if !self.may_bid(shard) {
-            return None;
+            return Asked::Barred;
         }
         match self.next_bid(shard) {
-            Bidding::Idle => None,
+            Bidding::Idle => Asked::Idle,
             Bidding::Stop { why } => {
                 self.note_stop(shard);
-                Some(Out {
-                    letter: Letter::Stop { why },
-                    to: To::Hub,
-                    reserve: 0,
-                })
+                Asked::Sends {
+                    out: Out {
+                        letter: Letter::Stop { why },
+                        to: To::Hub,
+                        reserve: 0,
+                    },
+                }
             }
-            Bidding::Out { out } => Some(out),
+            Bidding::Out { out } => Asked::Sends { out },
         }
     }
 
@@ -82,8 +91,8 @@ impl<'a> World<'a> {
         ensures phase { SamePhase self.old self.new }
     {
         match self.ask(shard) {
-            None => TurnReply::Nothing,
-            Some(out) => {
+            Asked::Barred | Asked::Idle => TurnReply::Nothing,
+            Asked::Sends { out } => {
                 self.put(shard, out);
                 TurnReply::Moved
             }
@@ -97,8 +106,9 @@ impl<'a> World<'a> {
         ensures phase { SamePhase self.old self.new }
     {
         match self.ask(shard) {
-            None => has_moved(self.person_post(shard)),
-            Some(out) => {
+            Asked::Barred => has_moved(self.person_post(shard)),
+            Asked::Idle => false,
+            Asked::Sends { out } => {
                 self.send(shard, out);
                 true
             }

@@ -26,10 +26,10 @@ mod turns;
 mod world;
 
 pub use answer::{Answer, Guard};
+pub use auc_model::{End, MailName, Turn, TurnReply};
 pub use eps::{first_eps, next_eps};
 pub use gathering::Gathered;
 pub use limits::{Limits, USUAL_BIDS};
 pub use playing::play;
 pub use solving::solve_serial;
-pub use auc_model::{End, MailName, Turn, TurnReply};
 pub use world::World;

@@ -43,8 +43,8 @@ pub(crate) fn new_mail(
 }
 
 impl Mails {
-    /// Posts a letter of a sender.
-    #[inline]
+    /// Posts a letter of a sender. Inlined where its mail is known, which is nearly everywhere.
+    #[inline(always)]
     pub(crate) fn post(&mut self, sender: u32, out: Out) -> Result<u64, PostRefused>
         requires { Fits (named self.old (name_of out.to)) (Call.Post sender (box_of out.to) out.letter out.reserve) }
         ensures step { Step (named self.old (name_of out.to)) (Call.Post sender (box_of out.to) out.letter out.reserve) (reply_to_post result) (named self.new (name_of out.to)) }

@@ -130,25 +130,38 @@ impl<'a> World<'a> {
         }
     }
 
-    /// A sender posts the first letter of its outbox.
-    #[inline]
+    /// A sender posts this letter, the first of its outbox.
+    fn post_out(&mut self, sender: u32, out: Out)
+        requires known { sender < 2 * self.old.shards }
+        requires first { outbox_at self.old sender ≡ out ∷ drop 1 (outbox_at self.old sender) }
+        requires reaches { Reaches self.old.shards out }
+        ensures turn { (h : Shard) → sender_of self.old h ≡ sender → number h < self.old.shards → PostTurn (phase self.old) (seen self.old) h TurnReply.Moved (seen self.new) }
+        ensures phase { SamePhase self.old self.new }
+    {
+        match self.post_past(sender, out) {
+            None => self.drop_first(sender),
+            Some(why) => self.end_with(End::Stopped { why }),
+        }
+    }
+
+    /// A sender posts the first letter of its outbox. Inlined, since in a round an outbox is nearly always empty.
+    #[inline(always)]
     fn post_first(&mut self, sender: u32) -> TurnReply
         requires known { sender < 2 * self.old.shards }
         ensures turn { (h : Shard) → sender_of self.old h ≡ sender → number h < self.old.shards → PostTurn (phase self.old) (seen self.old) h result (seen self.new) }
         ensures phase { SamePhase self.old self.new }
     {
-        let Some(out) = self.first_out(sender) else {
-            return TurnReply::Nothing;
-        };
-        match self.post_past(sender, out) {
-            None => self.drop_first(sender),
-            Some(why) => self.end_with(End::Stopped { why }),
+        match self.first_out(sender) {
+            None => TurnReply::Nothing,
+            Some(out) => {
+                self.post_out(sender, out);
+                TurnReply::Moved
+            }
         }
-        TurnReply::Moved
     }
 
     /// A shard of the persons posts the first letter of its outbox.
-    #[inline]
+    #[inline(always)]
     pub(crate) fn person_post(&mut self, shard: u32) -> TurnReply
         ensures turn { PostTurn (phase self.old) (seen self.old) (Shard.PersonShard shard) result (seen self.new) }
         ensures phase { SamePhase self.old self.new }
@@ -160,7 +173,7 @@ impl<'a> World<'a> {
     }
 
     /// A shard of the objects posts the first letter of its outbox.
-    #[inline]
+    #[inline(always)]
     pub(crate) fn object_post(&mut self, shard: u32) -> TurnReply
         ensures turn { PostTurn (phase self.old) (seen self.old) (Shard.ObjectShard shard) result (seen self.new) }
         ensures phase { SamePhase self.old self.new }

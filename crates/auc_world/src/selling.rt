@@ -23,7 +23,9 @@ use auc_objects::Answers;
 /// What a shard of the objects has done with a letter.
 #[derive(Clone, Copy)]
 pub(crate) enum Dealt {
-    /// There was none, or the shard may not take one: its outbox isn't empty.
+    /// It may not take one: there is no such shard, or its outbox isn't empty.
+    Barred,
+    /// There was none. Its outbox is empty.
     Nothing,
     /// It fits no bid on an object of the shard: the phase has ended.
     Strayed,
@@ -98,7 +100,7 @@ impl<'a> World<'a> {
         ensures phase { SamePhase self.old self.new }
     {
         if !self.may_answer(shard) {
-            return Dealt::Nothing;
+            return Dealt::Barred;
         }
         let Some(letter) = self.take(MailName::Objects, shard) else {
             return Dealt::Nothing;
@@ -118,7 +120,7 @@ impl<'a> World<'a> {
         ensures phase { SamePhase self.old self.new }
     {
         match self.deal(shard) {
-            Dealt::Nothing => TurnReply::Nothing,
+            Dealt::Barred | Dealt::Nothing => TurnReply::Nothing,
             Dealt::Strayed => TurnReply::Moved,
             Dealt::Answered { answers } => {
                 self.put_all(self.shards() + shard, answers.into_list());
@@ -186,11 +188,12 @@ impl<'a> World<'a> {
         ensures phase { SamePhase self.old self.new }
     {
         match self.deal(shard) {
-            Dealt::Nothing => {
+            Dealt::Barred => {
                 let first = has_moved(self.object_post(shard));
                 let second = has_moved(self.object_post(shard));
                 either(first, second)
             }
+            Dealt::Nothing => false,
             Dealt::Strayed => true,
             Dealt::Answered { answers } => {
                 self.send_answers(shard, answers);

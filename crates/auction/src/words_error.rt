@@ -10,8 +10,7 @@ use thiserror::Error;
 #[derive(Clone, Copy, Debug, PartialEq, Eq, Error)]
 pub enum WordsError {
     /// They are none that the program knows.
-    #[error(
-        "usage: auction solve [FILE]
+    #[error("usage: auction solve [FILE]
        auction check FILE [CERT]
        auction hall [FILE]
        auction mail [SCRIPT]
@@ -26,8 +25,7 @@ hall finds an arc for each person of the problem FILE, no object twice, or perso
 Without FILE the problem is read from standard input.
 
 mail makes the calls of SCRIPT on a new mail, and tells the replies.
-Without SCRIPT the script is read from standard input."
-    )]
+Without SCRIPT the script is read from standard input.")]
     Usage,
     /// Memory ran out.
     #[error("auction: out of memory")]

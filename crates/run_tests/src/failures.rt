@@ -102,17 +102,41 @@ fn faults_of_writers(rt: HostRuntime) -> Result<(), Fail> {
     let picks = [Pick { cost: 1, object: 0 }, Pick { cost: 2, object: 1 }];
     for room in [0, 2, 11] {
         let mut stopped = Full { room, fails: false };
-        assert_eq!(rt; write_whole(&mut stopped, b"auction 1\noptimal"), Err(WriteFault::Stopped), "{room}");
+        assert_eq!(rt;
+            write_whole(&mut stopped, b"auction 1\noptimal"),
+            Err(WriteFault::Stopped),
+            "{room}"
+        );
         let mut failing = Full { room, fails: true };
-        assert_eq!(rt; write_whole(&mut failing, b"auction 1\noptimal"), Err(WriteFault::Failed), "{room}");
+        assert_eq!(rt;
+            write_whole(&mut failing, b"auction 1\noptimal"),
+            Err(WriteFault::Failed),
+            "{room}"
+        );
         let mut stopped = Full { room, fails: false };
-        assert_eq!(rt; write_picks(&mut stopped, picks.as_slice()), Err(WriteFault::Stopped), "{room}");
+        assert_eq!(rt;
+            write_picks(&mut stopped, picks.as_slice()),
+            Err(WriteFault::Stopped),
+            "{room}"
+        );
         let mut failing = Full { room, fails: true };
-        assert_eq!(rt; write_picks(&mut failing, picks.as_slice()), Err(WriteFault::Failed), "{room}");
+        assert_eq!(rt;
+            write_picks(&mut failing, picks.as_slice()),
+            Err(WriteFault::Failed),
+            "{room}"
+        );
         let mut stopped = Full { room, fails: false };
-        assert_eq!(rt; write_cert(&mut stopped, &cert), Err(WriteFault::Stopped), "{room}");
+        assert_eq!(rt;
+            write_cert(&mut stopped, &cert),
+            Err(WriteFault::Stopped),
+            "{room}"
+        );
         let mut failing = Full { room, fails: true };
-        assert_eq!(rt; write_cert(&mut failing, &cert), Err(WriteFault::Failed), "{room}");
+        assert_eq!(rt;
+            write_cert(&mut failing, &cert),
+            Err(WriteFault::Failed),
+            "{room}"
+        );
     }
     Ok(())
 }
@@ -131,4 +155,26 @@ fn full_writers(rt: HostRuntime) {
         );
         assert_eq!(rt; status, 8, "{room}");
     }
+}
+
+/// A writer that takes nothing stops a certificate, and one that fails makes the writing fail: before the text, between two
+/// lines and inside a line.
+#[test]
+fn unwritten_certificates(rt: HostRuntime) -> Result<(), Fail> {
+    let made = read_cert(rt.alloc(), TWO_BEST.as_bytes())?;
+    for room in [0, 10, 14] {
+        let mut stops = Full { room, fails: false };
+        assert_eq!(rt;
+            write_cert(&mut stops, &made),
+            Err(WriteFault::Stopped),
+            "{room}"
+        );
+        let mut fails = Full { room, fails: true };
+        assert_eq!(rt;
+            write_cert(&mut fails, &made),
+            Err(WriteFault::Failed),
+            "{room}"
+        );
+    }
+    Ok(())
 }

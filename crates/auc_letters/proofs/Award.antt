@@ -1,9 +1,9 @@
 -- The award rule by cases, and over lists of bids.
-use Rattle.std.proofs.Common.{◌≡◌, ℕ, Bool, true, false, cond, List, [], ◌∷◌, refl, ap, arith, None, sym, ◌∙◌}
+use Rattle.std.proofs.Common.{◌^◌, ◌&&◌, pos, ◌≡◌, ℕ, Bool, true, false, cond, List, [], ◌∷◌, refl, ap, arith, None, sym, ◌∙◌}
 use Rattle.std.specs.Prelude.{ℤ, ◌≤ℤ◌, ◌<ℤ◌, int_le}
 use Rattle.std.proofs.lemmas.Int.{ints}
 use Rattle.auc_letters.specs.declared.letter.Offer.{Offer}
-use Rattle.auc_letters.specs.Price.{IsEps}
+use Rattle.auc_letters.specs.Price.{IsEps, IsPrice, is_amount}
 use Rattle.auc_letters.specs.Award.{Sale, answers, award, award_all, awards, is_accepted, least_amount, refusal, sold_by}
 
 le_true : (a b : ℤ) → a ≤ℤ b → int_le a b ≡ true
@@ -14,6 +14,18 @@ le_false a b h = grind (arith, ints)
 
 le_back : (a b : ℤ) → int_le a b ≡ true → a ≤ℤ b
 le_back a b h = grind (arith, ints)
+
+-- the test of an amount is the range of prices
+pub price_is_amount : (amount : ℤ) → IsPrice amount → is_amount amount ≡ true
+price_is_amount amount p = rw (le_true (pos 0) amount p.low, le_true amount (pos (2 ^ 61)) p.high) refl
+
+pub amount_is_price : (amount : ℤ) → is_amount amount ≡ true → IsPrice amount
+amount_is_price amount e = by (int_le (pos 0) amount) (int_le amount (pos (2 ^ 61))) refl refl e
+  where
+    by : (p q : Bool) → int_le (pos 0) amount ≡ p → int_le amount (pos (2 ^ 61)) ≡ q → (p && q) ≡ true → IsPrice amount
+    by true true low high e = record { low = le_back (pos 0) amount low; high = le_back amount (pos (2 ^ 61)) high }
+    by true false low high e = absurd cc
+    by false q low high e = absurd cc
 
 module _ (shards : ℕ) (eps : ℤ) (sale : Sale) (bid : Offer) where
   pub award_accepts : least_amount sale.price eps ≤ℤ bid.amount → award eps sale bid ≡ sold_by bid

@@ -1,1 +1,3 @@
+-- for use above
 pub mod Sales
+pub mod Letters

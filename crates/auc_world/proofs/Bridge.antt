@@ -38,5 +38,5 @@ module _ (p : Problem) (t : Table) (shards : ℕ) (v : World) (prices : List ℤ
 pub counted_are_certified : (p : Problem) (t : Table) (shards : ℕ) (v : World) (prices : List ℤ) → IsProblem p → IsTable t → IsTableOf p t → Reached (phase_of t shards (pos 1)) v → v.count ≡ length t.rows → ArePricesOf v prices → length prices ≡ p.objects → All IsPrice prices
     → (choice : List Arc) × IsAssignment p choice × All (IsHeldArc p v) choice × IsCertified p (Optimal (total_cost choice) (map pick_of choice) prices)
 counted_are_certified p t shards v prices is table of reached counted true_prices many range =
-    let found = holders_are_assignment p t shards (pos 1) v table of reached counted in
+    let found = holders_are_assignment p t shards (pos 1) v of reached counted in
     (found.0, found.1, found.2, certified p t shards v prices is table of reached true_prices many range found.0 found.1 found.2)

@@ -15,7 +15,8 @@ use Rattle.auc_letters.specs.declared.state.PersonState.{PersonState}
 use Rattle.auc_letters.specs.Price.{IsEps, IsPrice}
 use Rattle.auc_mail.specs.Mail.{Mail, empty_mail}
 use Rattle.auc_objects.specs.Objects.{Objects, holder_of, price_of}
-use Rattle.auc_persons.specs.Persons.{Owns, Persons, copy_of, own, state_of}
+use Rattle.auc_letters.specs.Persons.{persons_of}
+use Rattle.auc_persons.specs.Persons.{Owns, Persons, copy_of, state_of}
 use Rattle.auc_model.specs.Start.{Lawful, Starts, UsualNodes, free_in, occurs}
 use Rattle.auc_model.specs.World.{phase_of}
 use Rattle.auc_model.proofs.Tables.{occurs_persons, table_lawful}
@@ -29,11 +30,11 @@ below n k d l =
     let few : k < n = rw length-range_with_len at l in
     rw (get_or-range_with_len 0 n k d few) (omega arith)
 
-own_are : (shard of persons : ℕ) → All (λ i. (i < persons) × (i % of ≡ shard)) (own shard of persons)
+own_are : (shard of persons : ℕ) → All (λ i. (i < persons) × (i % of ≡ shard)) (persons_of shard of persons)
 own_are shard of persons k d l =
     let inside = All-filter (λ i. (i % of) == shard) (λ i. i < persons) (range_with_len 0 persons) (below persons) k d l in
     let passes = filter_passes (λ i. (i % of) == shard) (range_with_len 0 persons) k d l in
-    (inside, eqb-true (get_or (own shard of persons) k d % of) shard passes)
+    (inside, eqb-true (get_or (persons_of shard of persons) k d % of) shard passes)
   where
     eqb-true : (a b : ℕ) → (a == b) ≡ true → a ≡ b
     eqb-true a b e = grind (arith, nat_tests)
@@ -74,7 +75,7 @@ new_persons_are t shards bids prices s each = record {
   of = refl;
   object_shards = refl;
   fits = record { persons = sym (length-replicate (length t.rows) PersonState.Free); objects = sym each };
-  idle_own = All-weaker (λ i. (i < length t.rows) × (i % shards ≡ s)) (Owns (new_persons shards (length t.rows) bids prices s)) (λ i h. record { known = rw length-replicate h.0; own = h.1 }) (own s shards (length t.rows)) (own_are s shards (length t.rows));
+  idle_own = All-weaker (λ i. (i < length t.rows) × (i % shards ≡ s)) (Owns (new_persons shards (length t.rows) bids prices s)) (λ i h. record { known = rw length-replicate h.0; own = h.1 }) (persons_of s shards (length t.rows)) (own_are s shards (length t.rows));
 }
 
 module _ (t : Table) (limits : Limits) (prices : List ℤ) (eps : ℤ) (p : Parts) (made : IsMade t limits prices eps p) (table : IsTable t) (ok : AreLimits limits) (are : ArePrices t prices) (eps_is : IsEps eps) where

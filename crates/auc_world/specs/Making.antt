@@ -4,14 +4,15 @@ use Rattle.auc_graph.specs.Table.{Table}
 use Rattle.auc_mail.specs.Mail.{empty_mail}
 use Rattle.auc_letters.specs.declared.state.PersonState.{PersonState}
 use Rattle.auc_letters.specs.Price.{IsPrice}
-use Rattle.auc_persons.specs.Persons.{Persons, own}
+use Rattle.auc_letters.specs.Persons.{persons_of}
+use Rattle.auc_persons.specs.Persons.{Persons}
 use Rattle.auc_objects.specs.Objects.{Objects}
 use Rattle.auc_world.specs.declared.limits.Limits.{Limits}
 use Rattle.auc_world.specs.Parts.{Parts, no_objects, no_persons}
 
 -- a new shard of the persons: all are free, and the copies are the prices
 abbrev pub new_persons : ℕ → ℕ → ℕ → List ℤ → ℕ → Persons
-new_persons shards persons bids prices s = record { shard = s; of = shards; object_shards = shards; bids = bids; copies = prices; states = replicate persons PersonState.Free; idle = own s shards persons }
+new_persons shards persons bids prices s = record { shard = s; of = shards; object_shards = shards; bids = bids; copies = prices; states = replicate persons PersonState.Free; idle = persons_of s shards persons }
 
 -- a new shard of the objects: nobody holds any
 abbrev pub new_objects : ℕ → ℕ → List ℤ → ℕ → Objects

@@ -6,7 +6,7 @@ use Rattle.auc_letters.specs.declared.letter.Letter.{Letter}
 use Rattle.auc_letters.specs.declared.out.To.{To}
 use Rattle.auc_letters.specs.declared.out.Out.{Out}
 use Rattle.auc_letters.specs.Price.{IsEps}
-use Rattle.auc_persons.specs.Persons.{Persons, Fits, Owns, copy_of, state_of}
+use Rattle.auc_persons.specs.Persons.{IsMadeFor, Persons, Owns, copy_of, state_of}
 use Rattle.auc_objects.specs.Objects.{Objects, price_of, holder_of}
 use Rattle.auc_model.specs.World.{Phase, World, phase_of}
 use Rattle.auc_model.specs.Mails.{Shard, box_of}
@@ -82,7 +82,7 @@ pub record IsPersonShard (table : Table) (shards s : ℕ) (x : Persons) : Type 0
   pub number : x.shard ≡ s
   pub of : x.of ≡ shards
   pub object_shards : x.object_shards ≡ shards
-  pub fits : Fits table x
+  pub fits : IsMadeFor table x
   pub idle_own : All (Owns x) x.idle
 
 -- a shard of the objects of this world

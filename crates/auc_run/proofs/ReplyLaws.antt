@@ -1,5 +1,5 @@
 -- Replies at the exits of a mail.
-use Rattle.std.proofs.Common.{◌≡◌, ℕ, true, List, length, Option, Result, Ok, Err, ℤ, refl, sym, ap, subst, ◌∙◌}
+use Rattle.std.proofs.Common.{◌≡◌, ℕ, true, List, length, Option, Result, Ok, Err, ℤ, sym, ap, subst, ◌∙◌}
 use Rattle.std.specs.Prelude.{IsErrAnd}
 use Rattle.std.specs.List.{zip}
 use Rattle.std.proofs.lemmas.List.{length-replicate}

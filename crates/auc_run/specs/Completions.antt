@@ -1,5 +1,5 @@
 -- What a search for a full assignment may find in a problem, the text that tells it, and which findings are right for the bytes of a problem.
-use Rattle.std.specs.Prelude.{◌≡◌, ℕ, List, ◌++◌, ◌≤◌, length, codes, slice_index_or, Option, Result, Ok, Err, ⊤, pos}
+use Rattle.std.specs.Prelude.{ℕ, List, ◌++◌, ◌≤◌, length, codes, slice_index_or, Option, Result, Ok, Err, ⊤, pos}
 use Rattle.auc_graph.specs.declared.limits.TheConstants.{MOST_PERSONS}
 use Rattle.auc_graph.specs.declared.arc.Arc.{Arc}
 use Rattle.auc_cert.specs.declared.lists.Pick.{Pick}

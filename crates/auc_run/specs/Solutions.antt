@@ -1,5 +1,5 @@
 -- What a solve may answer about a problem, the text that tells it, and which answers are right for the bytes of a problem.
-use Rattle.std.specs.Prelude.{◌≡◌, ℕ, List, codes, Option, Result, Ok, Err}
+use Rattle.std.specs.Prelude.{ℕ, List, codes, Option, Result, Ok, Err}
 use Rattle.auc_graph.specs.Problem.{Problem}
 use Rattle.auc_cert.specs.Text.{text}
 use Rattle.auc_world.specs.declared.answer.Answer.{Answer}

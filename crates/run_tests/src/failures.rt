@@ -1,8 +1,7 @@
-//! Readers and writers that fail in the middle of a text.
+//! Readers and writers that fail in the middle of a check.
 
 use crate::checks::{TWO, TWO_BEST};
 use crate::fakes::{Broken, Full, Slow};
-use auc_cert::{Pick, WriteFault, read_cert, write_cert, write_picks, write_whole};
 use auc_run::{Job, ReadFault, read_all, run_command};
 use std::io::ErrorKind;
 use std::test::*;
@@ -93,52 +92,6 @@ fn unread_second_reader(rt: HostRuntime) {
     assert_eq!(rt; out.as_slice(), b"refused number 2\n".as_slice());
     assert_eq!(rt; status, 5);
     assert_eq!(rt; second.rest.len(), TWO_BEST.len());
-}
-
-/// A writer that fails and one that takes nothing are two faults, wherever in a text they come.
-#[test]
-fn faults_of_writers(rt: HostRuntime) -> Result<(), Fail> {
-    let cert = read_cert(rt.alloc(), TWO_BEST.as_bytes())?;
-    let picks = [Pick { cost: 1, object: 0 }, Pick { cost: 2, object: 1 }];
-    for room in [0, 2, 11] {
-        let mut stopped = Full { room, fails: false };
-        assert_eq!(rt;
-            write_whole(&mut stopped, b"auction 1\noptimal"),
-            Err(WriteFault::Stopped),
-            "{room}"
-        );
-        let mut failing = Full { room, fails: true };
-        assert_eq!(rt;
-            write_whole(&mut failing, b"auction 1\noptimal"),
-            Err(WriteFault::Failed),
-            "{room}"
-        );
-        let mut stopped = Full { room, fails: false };
-        assert_eq!(rt;
-            write_picks(&mut stopped, picks.as_slice()),
-            Err(WriteFault::Stopped),
-            "{room}"
-        );
-        let mut failing = Full { room, fails: true };
-        assert_eq!(rt;
-            write_picks(&mut failing, picks.as_slice()),
-            Err(WriteFault::Failed),
-            "{room}"
-        );
-        let mut stopped = Full { room, fails: false };
-        assert_eq!(rt;
-            write_cert(&mut stopped, &cert),
-            Err(WriteFault::Stopped),
-            "{room}"
-        );
-        let mut failing = Full { room, fails: true };
-        assert_eq!(rt;
-            write_cert(&mut failing, &cert),
-            Err(WriteFault::Failed),
-            "{room}"
-        );
-    }
-    Ok(())
 }
 
 #[test]

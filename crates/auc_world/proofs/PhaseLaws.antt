@@ -106,10 +106,11 @@ module _ (t : Table) (limits : Limits) (prices : List ℤ) (eps : ℤ) (table : 
       let objects : v.table.objects ≡ t.objects = ap (λ (h : Phase). h.objects) (kept ∙ same) in
       (seen v, played, end, subst (λ (n : ℕ). AreSales n (seen v) gathered.holders.items gathered.prices.items) objects sales, range)
 
-  pub comes_to_stop : (why : Why) (guard : Guard) → (seen v).end ≡ Some (End.Stopped why) → guard ≡ guard_of why → ComesOf t limits.shards prices eps (Outcome.Broken guard)
-  comes_to_stop why guard end is =
+  pub comes_to_stop : (why : Why) (gathered : Gathered) → (seen v).end ≡ Some (End.Stopped why) → IsGathered v gathered.holders.items gathered.prices.items → All IsPrice gathered.prices.items → ComesOf t limits.shards prices eps (Outcome.Stopped why gathered)
+  comes_to_stop why gathered end sales range =
+      let objects : v.table.objects ≡ t.objects = ap (λ (h : Phase). h.objects) (kept ∙ same) in
       let limit = stopped_by_limit (phase_of t limits.shards eps) prices (seen v) why law played (nobody_stuck t limits.shards eps arcs) end in
-      (seen v, why, played, end, limit, is ∙ limit)
+      (seen v, played, end, limit, subst (λ (n : ℕ). AreSales n (seen v) gathered.holders.items gathered.prices.items) objects sales, range)
 
   pub comes_to_no_stall : (seen v).end ≡ None → Rests (phase v) (seen v) → ⊥
   comes_to_no_stall end rests =

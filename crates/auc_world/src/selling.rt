@@ -35,7 +35,7 @@ pub(crate) enum Dealt {
 
 /// A list of two letters.
 #[inline]
-fn both(first: Out, second: Out) -> ArrayVec<Out, 4>
+fn two_letters(first: Out, second: Out) -> ArrayVec<Out, 4>
     ensures { result.items ≡ first ∷ second ∷ [] }
 {
     let mut letters = ArrayVec::new();
@@ -155,7 +155,7 @@ impl<'a> World<'a> {
         match self.post_past(sender, first) {
             None => self.send(sender, second),
             Some(why) => {
-                self.put_all(sender, both(first, second));
+                self.put_all(sender, two_letters(first, second));
                 self.end_with(End::Stopped { why });
                 let _ = self.object_post(shard);
             }

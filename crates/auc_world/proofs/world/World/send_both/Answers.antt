@@ -24,7 +24,7 @@ returns-in-Some-clause-plays c =
     let x = c.shards.result + c.args.shard in
     let from = sym (ap (λ k. k + c.args.shard) c.shards.ensures.is) in
     let letters : List Out = c.args.first ∷ c.args.second ∷ [] in
-    let put = c.put_all.ensures.put ∙ ap (λ (os : List Out). record n { outboxes = set n.outboxes x os }) c.both.ensures in
+    let put = c.put_all.ensures.put ∙ ap (λ (os : List Out). record n { outboxes = set n.outboxes x os }) c.two_letters.ensures in
     let stays = kept p n c.put_all.new.self c.end_with.new.self x h c.args.first (c.args.second ∷ []) c.in-Some.why c.post_past.ensures.sound from c.requires.known c.in-Some.ensures.same put c.end_with.ensures (c.in-Some.ensures.stays h from c.requires.known) in
     post_then_post p c.end_with.new.self c.object_post.new.self c.args.shard (kept_phase p n c.put_all.new.self c.end_with.new.self x letters c.in-Some.why c.in-Some.ensures.same put c.end_with.ensures) letters c.object_post.result stays c.object_post.ensures.turn
 

@@ -12,8 +12,7 @@ use Rattle.auc_run.specs.declared.found.Found.{Found}
 use Rattle.auc_run.specs.declared.found.Found.TheVariants.{Full, Hall}
 use Rattle.auc_run.specs.declared.refusal.Refusal.{Refusal}
 use Rattle.auc_run.specs.Lines.{counted}
-use Rattle.auc_run.specs.Verdicts.{IsProblemOf, AreKnown}
-use Rattle.auc_run.specs.Problems.{BearOutRefusal}
+use Rattle.auc_run.specs.Problems.{AreKnown, BearOutRefusal, IsProblemOf}
 
 -- the pick by an arc
 abbrev pub pick_by : Arc → Pick

@@ -1,5 +1,5 @@
 -- The replies of a mail's calls: which are right for a script, and the lines that the program writes for them.
-use Rattle.std.specs.Prelude.{◌≡◌, ◌≢◌, ℕ, ◌+◌, true, false, List, ◌++◌, length, codes, Option, Result, Ok, Err, ℤ, ⊤}
+use Rattle.std.specs.Prelude.{◌≡◌, ℕ, ◌+◌, true, false, List, ◌++◌, length, codes, Option, Result, Ok, Err, ℤ, ⊤}
 use Rattle.std.specs.List.{flat_map, zip}
 use Rattle.std.specs.Fmt.{decimal, signed_decimal}
 use Rattle.auc_mail.specs.Mail.{Mail, empty_mail}
@@ -12,10 +12,9 @@ use Rattle.auc_mail.specs.declared.call.Reply.TheVariants.{Posted, Refused, Took
 use Rattle.auc_run.specs.declared.refusal.Refusal.{Refusal}
 use Rattle.auc_run.specs.declared.refusal.Refusal.TheVariants.{NotRead, NoProblem, NoCertificate, Invalid, NoScript, NoMemory as NoMemoryForJob}
 use Rattle.auc_run.specs.declared.script.Script.{Script}
-use Rattle.auc_run.specs.declared.script_error.ScriptError.TheVariants.{NoMemory}
 use Rattle.auc_run.specs.Lines.{counted}
-use Rattle.auc_run.specs.Script.{script_in}
-use Rattle.auc_run.specs.Verdicts.{AreKnown}
+use Rattle.auc_run.specs.Script.{ReadsAsScript}
+use Rattle.auc_run.specs.Problems.{AreKnown}
 
 -- senders are written from 1 on
 abbrev pub reply_line : Reply ℤ → List ℕ
@@ -43,8 +42,8 @@ pub record AreRepliesTo (s : Script) (replies : List (Reply ℤ)) : Type 0 where
 
 -- The bytes of a script bear the replies out, or the refusal. Of a read that failed, of too many reads and of want of memory nothing is known.
 abbrev pub BearOutReplies : List ℕ → Result (List (Reply ℤ)) Refusal → Type 0
-BearOutReplies file (Ok replies) = (s : Script) × (script_in file ≡ Ok s) × AreRepliesTo s replies
-BearOutReplies file (Err (NoScript error)) = error ≢ NoMemory → script_in file ≡ Err error
+BearOutReplies file (Ok replies) = (s : Script) × ReadsAsScript file (Ok s) × AreRepliesTo s replies
+BearOutReplies file (Err (NoScript error)) = ReadsAsScript file (Err error)
 BearOutReplies file (Err (NotRead fault)) = ⊤
 BearOutReplies file (Err (NoProblem error)) = ⊥
 BearOutReplies file (Err (NoCertificate error)) = ⊥

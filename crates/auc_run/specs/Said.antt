@@ -10,7 +10,8 @@ use Rattle.auc_run.specs.declared.refusal.Refusal.{Refusal}
 use Rattle.auc_run.specs.declared.report.Report.{Report}
 use Rattle.auc_run.specs.declared.report.Report.TheVariants.{Solved, Judged, Completed, Replied}
 use Rattle.auc_run.specs.declared.valid.Valid.{Valid}
-use Rattle.auc_run.specs.Verdicts.{BearOut, AreKnown}
+use Rattle.auc_run.specs.Problems.{AreKnown}
+use Rattle.auc_run.specs.Verdicts.{BearOut}
 use Rattle.auc_run.specs.Completions.{BearOutFound}
 use Rattle.auc_run.specs.Solutions.{BearOutSolved}
 use Rattle.auc_run.specs.Replies.{BearOutReplies}

@@ -1,11 +1,12 @@
 -- How a text reads as a script: as a mail and the calls on it, or as its first fault.
-use Rattle.std.specs.Prelude.{◌≡◌, ◌≢◌, ℕ, zero, suc, ◌+◌, ◌-◌, Bool, List, [], ◌∷◌, codes, Option, Some, None, Result, Ok, Err, ℤ, pos, neg_ℤ, unsigned_abs, nat_eq, if◌then◌else◌}
+use Rattle.std.specs.Prelude.{◌≡◌, ℕ, zero, suc, ◌+◌, ◌-◌, Bool, List, [], ◌∷◌, codes, Option, Some, None, Result, Ok, Err, ℤ, pos, neg_ℤ, unsigned_abs, nat_eq, if◌then◌else◌}
 use Rattle.std.specs.Cmp.Lexicographic.{pointwise}
 use Rattle.auc_graph.specs.declared.number.Number.{Number}
 use Rattle.auc_graph.specs.declared.number.Number.TheVariants.{Bad, Value, Huge}
 use Rattle.auc_graph.specs.Tokens.{tokens}
 use Rattle.auc_graph.specs.Numbers.{number}
 use Rattle.auc_graph.specs.Reading.{is_between}
+use Rattle.auc_graph.specs.Memory.{AnswersUnless}
 use Rattle.auc_mail.specs.declared.call.Call.{Call}
 use Rattle.auc_mail.specs.declared.call.Call.TheVariants.{Post, Take, Close}
 use Rattle.auc_run.specs.declared.command_word.CommandWord.{CommandWord}
@@ -114,12 +115,6 @@ script_of (word ∷ more) = do
 abbrev pub script_in : List ℕ → Result Script ScriptError
 script_in text = script_of (tokens text)
 
--- a value of the code, seen by view
-abbrev pub seen : {X Y : Type 0} → (X → Y) → Result X ScriptError → Result Y ScriptError
-seen view (Ok x) = Ok (view x)
-seen view (Err e) = Err e
-
--- what was answered, seen by view, is what reading gives, unless memory ran out
-abbrev pub Reads : {X Y : Type 0} → (X → Y) → Result X ScriptError → Result Y ScriptError → Type 0
-Reads view (Ok x) read = read ≡ Ok (view x)
-Reads view (Err e) read = e ≢ NoMemory → read ≡ Err e
+-- a text reads as this script, or by this first fault as none, unless memory ran out
+abbrev pub ReadsAsScript : List ℕ → Result Script ScriptError → Type 0
+ReadsAsScript text script = AnswersUnless NoMemory (λ s. s) script (λ r. script_in text ≡ r)

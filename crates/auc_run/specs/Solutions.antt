@@ -8,8 +8,7 @@ use Rattle.auc_world.specs.declared.answer.Guard.{Guard}
 use Rattle.auc_world.specs.declared.answer.Guard.TheVariants.{Fell, Stray, Stuck, Stall, Check, Settle}
 use Rattle.auc_world.specs.Answers.{IsAnswer}
 use Rattle.auc_run.specs.declared.refusal.Refusal.{Refusal}
-use Rattle.auc_run.specs.Verdicts.{IsProblemOf, AreKnown}
-use Rattle.auc_run.specs.Problems.{BearOutRefusal}
+use Rattle.auc_run.specs.Problems.{AreKnown, BearOutRefusal, IsProblemOf}
 
 -- The bytes of a problem bear an answer out, or the refusal: a certificate of a least assignment, one that there is none, or the guard of the checker,
 -- which is hit only where there is an assignment.

@@ -1,8 +1,8 @@
 //! The job of a hall: a problem is read, and each person gets an arc, or persons are named who know too few objects.
 
-ghost use Rattle.std.specs.Prelude.{◌≡◌, ◌<◌, length, map, All, IfOk, OnOk};
-ghost use Rattle.std.specs.Io.KnownBytes.{Appends};
+ghost use Rattle.std.specs.Prelude.{◌≡◌, ◌<◌, length, map, All, IfOk};
 ghost use Rattle.auc_cert.specs.Spelled.{AreNamed};
+ghost use Rattle.auc_cert.specs.Writing.{Writes};
 ghost use Rattle.auc_run.specs.Completions.{IsFound, IsFoundIn, IsSmall, found_text, pick_at};
 
 use crate::found::Found;
@@ -72,7 +72,7 @@ pub(crate) fn found_of<R: Read>(alloc: Global, reader: &mut R) -> Result<Found, 
 /// Writes what was found.
 pub(crate) fn write_found<W: Write>(writer: &mut W, found: &Found) -> Result<(), WriteFault>
     requires { IsSmall found.now }
-    ensures { OnOk result (Appends (W.contents writer.old) (W.contents writer.new) (found_text found.now)) }
+    ensures { Writes result (W.contents writer.old) (W.contents writer.new) (found_text found.now) }
 {
     match found {
         Found::Full(choice) => {

@@ -1,7 +1,8 @@
 //! What a job has to tell: how it is written, and its status.
 
-ghost use Rattle.std.specs.Prelude.{◌≡◌, ◌≢◌, IfOk, OnOk};
+ghost use Rattle.std.specs.Prelude.{◌≡◌, ◌≢◌, IfOk};
 ghost use Rattle.std.specs.Io.KnownBytes.{Appends};
+ghost use Rattle.auc_cert.specs.Writing.{Writes};
 ghost use Rattle.auc_run.specs.Statuses.{refusal_status};
 ghost use Rattle.auc_run.specs.Reports.{IsWritable, outcome_status, outcome_text, report_status, report_text};
 
@@ -38,7 +39,7 @@ pub enum Report {
 /// Writes a report.
 fn write_report<W: Write>(writer: &mut W, report: &Report) -> Result<(), WriteFault>
     requires { IsWritable report.now }
-    ensures { OnOk result (Appends (W.contents writer.old) (W.contents writer.new) (report_text report.now)) }
+    ensures { Writes result (W.contents writer.old) (W.contents writer.new) (report_text report.now) }
 {
     match report {
         Report::Solved(answer) => write_answer(writer, answer),

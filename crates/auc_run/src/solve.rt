@@ -1,7 +1,6 @@
 //! The job of a solve: a problem is read, and a least-cost assignment is found, or persons who together know too few objects.
 
-ghost use Rattle.std.specs.Prelude.{OnOk};
-ghost use Rattle.std.specs.Io.KnownBytes.{Appends};
+ghost use Rattle.auc_cert.specs.Writing.{Writes};
 ghost use Rattle.auc_run.specs.Solutions.{IsSolvedIn, answer_text, guard_line};
 
 use crate::problem::problem_of;
@@ -30,7 +29,7 @@ pub(crate) fn answer_of<R: Read>(
 
 /// Writes the line of a guard that was hit.
 fn write_guard<W: Write>(writer: &mut W, guard: Guard) -> Result<(), WriteFault>
-    ensures { OnOk result (Appends (W.contents writer.old) (W.contents writer.new) (guard_line guard)) }
+    ensures { Writes result (W.contents writer.old) (W.contents writer.new) (guard_line guard) }
 {
     match guard {
         Guard::Fell => write_whole(writer, b"broken fell\n"),
@@ -44,7 +43,7 @@ fn write_guard<W: Write>(writer: &mut W, guard: Guard) -> Result<(), WriteFault>
 
 /// Writes an answer.
 pub(crate) fn write_answer<W: Write>(writer: &mut W, answer: &Answer) -> Result<(), WriteFault>
-    ensures { OnOk result (Appends (W.contents writer.old) (W.contents writer.new) (answer_text answer.now)) }
+    ensures { Writes result (W.contents writer.old) (W.contents writer.new) (answer_text answer.now) }
 {
     match answer {
         Answer::Optimal(cert) => write_cert(writer, cert),

@@ -1,5 +1,5 @@
 -- What a shard of the persons has to send, and its turns.
-use Rattle.std.proofs.Common.{ℕ, ◌*◌, ◌%◌, ◌<◌, ◌≡◌, ◌≢◌, [], ◌∷◌, true, List, drop, length, set, refl, ap, sym, subst, ◌∙◌, inr, inl, arith}
+use Rattle.std.proofs.Common.{ℕ, ◌<◌, ◌≡◌, ◌≢◌, [], ◌∷◌, true, List, drop, length, set, refl, ap, sym, subst, ◌∙◌, inr, arith}
 use Rattle.std.proofs.lemmas.List.{set-get_or}
 use Rattle.std.proofs.lemmas.List.Elements.{All-get_or}
 use Rattle.auc_letters.specs.declared.letter.Letter.{Letter}

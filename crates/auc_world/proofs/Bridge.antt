@@ -1,5 +1,5 @@
 -- From the holders of a counted world to a certificate that passes the checker.
-use Rattle.std.proofs.Common.{ℕ, ℤ, pos, ◌<◌, ◌≡◌, List, length, get_or, refl, subst}
+use Rattle.std.proofs.Common.{ℕ, ℤ, pos, ◌≡◌, List, length, get_or, refl, subst}
 use Rattle.std.specs.Prelude.{All, map}
 use Rattle.auc_cert.specs.declared.cert.CertParts.TheVariants.{Optimal}
 use Rattle.auc_cert.specs.Claim.{pick_of}

@@ -1,5 +1,5 @@
 -- Turns of the hub.
-use Rattle.std.proofs.Common.{ℕ, ◌≡◌, ◌≢◌, Bool, true, false, length, refl, ap, sym, ◌∙◌}
+use Rattle.std.proofs.Common.{ℕ, ◌≡◌, ◌≢◌, Bool, true, false, length, refl, ap, ◌∙◌}
 use Rattle.std.specs.Prelude.{if◌then◌else◌, nat_lt, None}
 use Rattle.auc_letters.specs.declared.letter.Letter.{Letter}
 use Rattle.auc_mail.specs.Mail.{Mail}
@@ -7,7 +7,7 @@ use Rattle.auc_mail.specs.Step.{Step}
 use Rattle.auc_mail.specs.declared.call.Call.{Call}
 use Rattle.auc_mail.specs.declared.call.Reply.{Reply}
 use Rattle.auc_model.specs.Hub.{HubCloseTurn, HubTakeTurn, closes, counted, hub_after, takes}
-use Rattle.auc_model.specs.Mails.{mail_named, with_mail_named}
+use Rattle.auc_model.specs.Mails.{mail_named}
 use Rattle.auc_model.specs.declared.turn.MailName.{MailName}
 use Rattle.auc_model.specs.declared.turn.TurnReply.{TurnReply}
 use Rattle.auc_world.specs.Hub.{Counting, counting, hearing}

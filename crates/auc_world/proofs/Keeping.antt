@@ -1,8 +1,7 @@
 -- What holds of each world holds still when a shard, an outbox or a mail is another.
-use Rattle.std.proofs.Common.{ℕ, ◌*◌, ◌%◌, ◌<◌, ◌≡◌, ◌≢◌, Bool, true, false, cond, List, [], ◌∷◌, drop, length, get_or, set, inl, inr, refl, ap, sym, subst, ◌∙◌, arith, length-set}
-use Rattle.std.specs.Prelude.{IfSome, ℤ, pos, negsuc, ◌≤ℤ◌, ◌<ℤ◌, ◌⊎◌, Option, Some, None, All, Result, Ok, Err}
-use Rattle.std.proofs.lemmas.Bool.{cases_eq, cases_lt}
-use Rattle.std.proofs.lemmas.Int.{ints}
+use Rattle.std.proofs.Common.{ℕ, ◌*◌, ◌%◌, ◌<◌, ◌≡◌, Bool, true, false, cond, List, [], ◌∷◌, drop, length, get_or, set, inl, inr, ap, sym, subst, ◌∙◌, arith, length-set}
+use Rattle.std.specs.Prelude.{IfSome, ℤ, Option, Some, None, All, Result, Ok, Err}
+use Rattle.std.proofs.lemmas.Bool.{cases_eq}
 use Rattle.std.proofs.lemmas.List.{get_or-set_same, get_or-set_other}
 use Rattle.auc_graph.specs.Table.{Table}
 use Rattle.auc_letters.specs.declared.letter.Letter.{Letter}
@@ -17,8 +16,7 @@ use Rattle.auc_letters.specs.declared.letter.Offer.{Offer}
 use Rattle.auc_letters.specs.Award.{Sale, answers, awards, is_accepted, refusal}
 use Rattle.auc_letters.specs.Routing.{to_person, to_hub}
 use Rattle.auc_objects.specs.Objects.{Objects, SameShape as SameObjects, sale_of}
-use Rattle.std.proofs.lemmas.List.Elements.{All-get_or, All-weaker, All-drop, All-push}
-use Rattle.auc_model.proofs.Tables.{first_and_rest}
+use Rattle.std.proofs.lemmas.List.Elements.{All-weaker, All-drop, All-push}
 use Rattle.auc_letters.specs.declared.state.PersonState.{PersonState}
 use Rattle.auc_persons.specs.declared.bidding.Bidding.{Bidding}
 use Rattle.auc_persons.specs.declared.bidding.PersonFault.{PersonFault}

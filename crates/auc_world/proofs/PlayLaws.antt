@@ -7,7 +7,7 @@ use Rattle.auc_model.specs.Mails.{ObjectShard, PersonShard, with_outbox}
 use Rattle.auc_model.specs.Posting.{PostTurn}
 use Rattle.auc_model.specs.Posting as posting
 use Rattle.auc_model.specs.Selling.{ObjectTakeTurn}
-use Rattle.auc_model.specs.World.{Phase, World}
+use Rattle.auc_model.specs.World.{Phase}
 use Rattle.auc_model.specs.declared.turn.Turn.{Turn}
 use Rattle.auc_model.specs.declared.turn.TurnReply.{TurnReply}
 use Rattle.auc_world.specs.Parts.{Parts, SamePhase, outbox_at, phase, seen}

@@ -1,5 +1,5 @@
 -- Posts, past the outbox or by way of it: the same turns.
-use Rattle.std.proofs.Common.{ℕ, ◌+◌, ◌*◌, ◌<◌, ◌≡◌, ◌≢◌, Bool, Some, None, true, false, List, [], ◌∷◌, drop, length, set, refl, sym, ap, subst, ◌∙◌, inl, inr, arith}
+use Rattle.std.proofs.Common.{ℕ, ◌*◌, ◌<◌, ◌≡◌, ◌≢◌, Bool, Some, None, true, false, List, [], ◌∷◌, drop, length, set, refl, sym, ap, subst, ◌∙◌, inl, inr}
 use Rattle.std.specs.Prelude.{IfNone, Option, ◌⊎◌, ◌==◌, if◌then◌else◌}
 use Rattle.std.proofs.lemmas.Bool.{eqb-true}
 use Rattle.auc_letters.specs.declared.letter.Letter.{Letter}
@@ -15,7 +15,7 @@ use Rattle.auc_model.specs.Mails.{ObjectShard, PersonShard, Shard, box_of, mail_
 use Rattle.auc_model.specs.Posting.{PostTurn, drops_price, is_price, keeps_letter, meets_closed, posts, reason}
 use Rattle.auc_model.specs.Posting as posting
 use Rattle.auc_model.specs.Put.{put}
-use Rattle.auc_model.specs.World.{Phase, World, ended, first_end}
+use Rattle.auc_model.specs.World.{Phase, World, ended}
 use Rattle.auc_model.specs.declared.turn.End.{End}
 use Rattle.auc_model.specs.declared.turn.TurnReply.{TurnReply}
 use Rattle.auc_model.proofs.Places.{put_at}

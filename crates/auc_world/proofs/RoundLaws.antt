@@ -13,8 +13,7 @@ use Rattle.auc_model.specs.declared.turn.TurnReply.{TurnReply}
 use Rattle.auc_model.proofs.Ends.{end_schedule}
 use Rattle.auc_model.proofs.Small.{nothing_changes, schedules_join}
 use Rattle.auc_model.proofs.Work.{moves_less, turns_never_more}
-use Rattle.auc_world.specs.Parts.{Parts, SamePhase, phase, seen}
-use Rattle.auc_world.proofs.TurnByTurn.{same_phase}
+use Rattle.auc_world.specs.Parts.{Parts, phase, seen}
 use Rattle.auc_world.specs.Rounds.{Plays, Rounds, answers_of, bids_of, has_moved, hearings_of, round_of}
 
 -- ---- turns, one after another

@@ -1,6 +1,6 @@
 -- The world that parts make, where a shard or an outbox is another.
-use Rattle.std.proofs.Common.{ℕ, ◌+◌, ◌-◌, ◌*◌, ◌%◌, ◌<◌, ◌≤◌, ◌≡◌, ◌≢◌, List, [], true, false, drop, length, get_or, set, refl, ap, sym, inl, inr, ◌∙◌, subst, arith}
-use Rattle.std.specs.Prelude.{ℤ, pos, Some, None, nat_lt, if◌then◌else◌}
+use Rattle.std.proofs.Common.{ℕ, ◌+◌, ◌-◌, ◌*◌, ◌%◌, ◌<◌, ◌≤◌, ◌≡◌, List, [], true, false, drop, length, get_or, set, refl, ap, sym, inl, inr, ◌∙◌, subst, arith}
+use Rattle.std.specs.Prelude.{ℤ, pos, None, nat_lt, if◌then◌else◌}
 use Rattle.std.proofs.lemmas.Bool.{cases_eq, cases_lt, lt-ltb}
 use Rattle.std.proofs.lemmas.Bool.Decides.{nat_tests}
 use Rattle.std.proofs.lemmas.List.{get_or-set_same, get_or-set_other}

@@ -1,5 +1,5 @@
 -- The three mails of a world, by name and by where a letter goes.
-use Rattle.std.specs.Prelude.{ℕ, ◌≡◌}
+use Rattle.std.specs.Prelude.{ℕ}
 use Rattle.auc_mail.specs.Mail.{Mail}
 use Rattle.auc_letters.specs.declared.letter.Letter.{Letter}
 use Rattle.auc_letters.specs.declared.out.To.{To}

@@ -1,9 +1,8 @@
 -- The parts of a world, as callers see them, and the world of the model that they make.
-use Rattle.std.specs.Prelude.{ℕ, ◌+◌, ◌*◌, ◌%◌, ◌<◌, ◌≤◌, ◌≡◌, ℤ, nat_lt, if◌then◌else◌, Bool, false, List, [], Option, length, All, slice_index_or}
+use Rattle.std.specs.Prelude.{ℕ, ◌+◌, ◌*◌, ◌%◌, ◌<◌, ◌≤◌, ◌≡◌, ℤ, nat_lt, if◌then◌else◌, Bool, false, List, [], length, All, slice_index_or}
 use Rattle.auc_graph.specs.Table.{Table, IsTable}
 use Rattle.auc_mail.specs.Mail.{Mail, HasBox, IsOpen}
 use Rattle.auc_letters.specs.declared.letter.Letter.{Letter}
-use Rattle.auc_letters.specs.declared.out.To.{To}
 use Rattle.auc_letters.specs.declared.out.Out.{Out}
 use Rattle.auc_letters.specs.Price.{IsEps}
 use Rattle.auc_persons.specs.Persons.{IsMadeFor, Persons, Owns, copy_of, state_of}

@@ -1,4 +1,4 @@
-use Rattle.std.proofs.Common.{arith, rules, w64, ◌≡◌}
+use Rattle.std.proofs.Common.{arith, rules, w64}
 use Rattle.std.specs.Prelude.{FitsSigned}
 use Rattle.std.proofs.lemmas.Grind.{common_steps}
 use Rattle.std.proofs.lemmas.Int.{to_z-of_z}

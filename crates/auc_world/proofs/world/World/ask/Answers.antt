@@ -1,4 +1,4 @@
-use Rattle.std.proofs.Common.{arith, inl, inr}
+use Rattle.std.proofs.Common.{arith}
 use Rattle.std.proofs.lemmas.Grind.{common_steps}
 use Rattle.auc_world.proofs.BiddingLaws.{asks_bid, asks_idle, asks_stop, bid_known, idle_known, stop_known}
 use Rattle.auc_world.specs.Parts.{MayAskForBid}

@@ -2,7 +2,7 @@ use Rattle.std.proofs.Common.{arith}
 use Rattle.std.proofs.lemmas.Grind.{common_steps}
 use Rattle.auc_objects.specs.Answers.{letters_of}
 use Rattle.auc_world.specs.Parts.{MayAnswer}
-use Rattle.auc_world.proofs.SellingLaws.{bid_known, bid_dealt, none_dealt, stray_dealt, stray_empty}
+use Rattle.auc_world.proofs.SellingLaws.{bid_known, bid_dealt, stray_dealt, stray_empty}
 use Rattle.auc_world.proofs.world.World.deal.Goals as goal
 
 pub returns-in_default-offer_in-clause-deals : goal.returns-in_default-offer_in-clause-deals

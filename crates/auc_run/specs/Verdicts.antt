@@ -41,7 +41,7 @@ Judges p c (Err (NoCertificate error)) = ⊥
 Judges p c (Err (NoScript error)) = ⊥
 Judges p c (Err NoMemoryForJob) = ⊥
 
--- The bytes of a problem and of a certificate bear a verdict out. Of a read that failed, of too many reads and of want of memory nothing is known.
+-- The bytes of a problem and of a certificate bear a verdict out. Of a read that failed, of too many reads and of want of memory in reading nothing is known.
 abbrev pub BearOut : List ℕ → List ℕ → Result Valid Refusal → Type 0
 BearOut file cert (Ok valid) = (p : Problem) × (c : CertParts) × IsProblemOf file p × IsClaimOf cert c × Judges p c (Ok valid)
 BearOut file cert (Err (Invalid error)) = (p : Problem) × (c : CertParts) × IsProblemOf file p × IsClaimOf cert c × Judges p c (Err (Invalid error))

@@ -2,6 +2,7 @@
 
 use crate::checks::{TWO, TWO_BEST};
 use crate::fakes::{Broken, Full, Slow};
+use auc_cert::{WriteFault, read_cert, write_cert};
 use auc_run::{Job, ReadFault, read_all, run_command};
 use std::io::ErrorKind;
 use std::test::*;

@@ -6,8 +6,6 @@ ghost use Rattle.auc_run.specs.Jobs.{IsInRange};
 ghost use Rattle.auction.specs.CommandLine.{words_status};
 
 mod asked;
-#[cfg(test)]
-mod tests;
 mod words;
 mod words_error;
 

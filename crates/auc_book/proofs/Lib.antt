@@ -1,7 +1,8 @@
-pub mod Noting
-pub mod Desks
-pub mod Lines
-pub mod Seats
-pub mod Telling
-pub mod Settled
-pub mod WorkedRows
+-- All of this is the crate's own.
+mod Noting
+mod Desks
+mod Lines
+mod Seats
+mod Telling
+mod Settled
+mod WorkedRows

@@ -45,6 +45,9 @@ not_true e = cc
 pub is_none : (n : ℕ) → true ≡ (n == 0) → n ≡ 0
 is_none n e = grind (arith, nat_tests)
 
+pub is_some : (n : ℕ) → (n == 0) ≡ false → 0 < n
+is_some n e = grind (arith, nat_tests)
+
 -- The worker's next line stands at the place in any list that has all his lines.
 pub next_line : {T : Type 0} (trail lines : List (TrailLine T)) (worker i place : ℕ) (x : TrailLine T)
     → i < length trail → x ≡ get_or trail i x → x.worker ≡ worker → place ≤ length lines → lines_of worker (take i trail) ≡ take place lines

@@ -1,5 +1,5 @@
 -- The seats, looked at one worker after another.
-use Rattle.std.proofs.Common.{◌≡◌, ◌≢◌, ⊎_elim, ℕ, ◌+◌, ◌<◌, ◌≤◌, ◌==◌, Bool, true, cond, List, [], ◌∷◌, length, nat_lt, All, arith, ◌∙◌, refl, sym, subst, ap}
+use Rattle.std.proofs.Common.{◌⊎◌, ◌≡◌, ◌≢◌, ⊎_elim, inl, inr, ℕ, ◌+◌, ◌<◌, ◌≤◌, ◌==◌, Bool, true, false, cond, List, [], ◌∷◌, length, nat_lt, All, arith, length-append, ◌∙◌, refl, sym, subst, ap}
 use Rattle.std.specs.List.{sum_by, count_by}
 use Rattle.std.proofs.lemmas.List.Elements.{All-weaker, All-head, All-tail, All-nil}
 use Rattle.std.proofs.lemmas.List.Sums.{sum_by-cons, length-filter}
@@ -12,15 +12,19 @@ use Rattle.auc_book.specs.declared.line.TrailLine.{TrailLine}
 use Rattle.auc_book.specs.Trail.{lines_of, events_of, IsOwn}
 use Rattle.auc_book.specs.Seat.{Account}
 use Rattle.auc_book.specs.Seats.{TakesSeat}
-use Rattle.auc_book.specs.Settling.{Agrees, EachSeated, IsSettled, IsUnseated, TellsSent, TellsHanded}
+use Rattle.auc_book.specs.Settling.{Agrees, Differ, EachSeated, IsSettled, IsUnseated, TellsSent, TellsHanded}
 use Rattle.auc_book.proofs.Noting.{empty_is}
 use Rattle.auc_book.proofs.Telling.{tells_sent, tells_handed}
 use Rattle.auc_book.proofs.Seats.{taken_sum, taken_all, taken_here, taken_left}
 
--- The seats of the workers below i were taken out, and the rest is left: what is known of all seats by then. Whether those agreed is same.
+-- The seats of the workers below i were taken out, and the rest is left: what is known of all seats by then. Same says whether those
+-- agreed.
 pub record Settles {T : Type 0} (trail : List (TrailLine T)) (seats rest : List (Account T)) (i : ℕ) (same : Bool) : Type 0 where
   pub counted : same ≡ true → sum_by (λ a. a.count) seats ≡ sum_by (λ a. a.count) rest + count_by (λ l. nat_lt l.worker i) trail
   pub agree : same ≡ true → All (Agrees trail) rest → All (Agrees trail) seats
+  pub differs : same ≡ false → All (Agrees trail) seats → ⊥
+  pub left_agree : All (Agrees trail) seats → All (Agrees trail) rest
+  pub many : length seats ≡ length rest + i
   pub seated : EachSeated i seats
   pub more : (k : ℕ) → i ≤ k → IsUnseated rest k → IsUnseated seats k
   pub less : (k : ℕ) → IsUnseated seats k → IsUnseated rest k
@@ -74,6 +78,9 @@ pub settles_none : {T : Type 0} (trail : List (TrailLine T)) (seats : List (Acco
 settles_none trail seats = record {
   counted = λ same. omega (arith, count_none trail);
   agree = λ same all. all;
+  differs = λ e all. absurd (let true_is_false : true ≡ false = e in cc);
+  left_agree = λ all. all;
+  many = omega arith;
   seated = λ k lt none. absurd (omega arith);
   more = λ k le none. none;
   less = λ k none. none;
@@ -82,14 +89,23 @@ settles_none trail seats = record {
 -- one worker more
 pub settles_more : {T : Type 0} (trail : List (TrailLine T)) (seats rest left : List (Account T)) (i : ℕ) (same now : Bool) (a : Account T)
     → Settles trail seats rest i same → TakesSeat i rest a left → a.count ≡ length a.lines
-    → (now ≡ true → (same ≡ true) × (lines_of i trail ≡ a.lines)) → Settles trail seats left (i + 1) now
-settles_more {T} trail seats rest left i same now a so t long both = record {
+    → (now ≡ true → (same ≡ true) × (lines_of i trail ≡ a.lines)) → (now ≡ false → (same ≡ false) ⊎ (lines_of i trail ≢ a.lines))
+    → Settles trail seats left (i + 1) now
+settles_more {T} trail seats rest left i same now a so t long yes_both no_either = record {
   counted = λ yes.
-      let p = both yes in
+      let p = yes_both yes in
       omega (arith, so.counted p.0, taken_sum i rest a left t, count_more trail i, ap length p.1, long);
   agree = λ yes all.
-      let p = both yes in
+      let p = yes_both yes in
       so.agree p.0 (taken_all i rest a left t (Agrees trail) (ap (λ (k : ℕ). lines_of k trail) t.whose ∙ p.1) all);
+  differs = λ no all.
+      ⊎_elim
+      (λ (before : same ≡ false). so.differs before all)
+      (λ (here : lines_of i trail ≢ a.lines).
+      here (ap (λ (k : ℕ). lines_of k trail) (sym t.whose) ∙ taken_here i rest a left t (Agrees trail) (so.left_agree all)))
+      (no_either no);
+  left_agree = λ all. taken_left i rest a left t (Agrees trail) (so.left_agree all);
+  many = omega (arith, so.many, ap length t.before, ap length t.after, length-append t.front (a ∷ t.back), length-append t.front t.back);
   seated = λ k lt none.
       ⊎_elim
       (λ (e : k ≡ i). taken_here i rest a left t (λ p. p.worker ≢ k) (so.less k none) (t.whose ∙ sym e))
@@ -98,6 +114,12 @@ settles_more {T} trail seats rest left i same now a so t long both = record {
   more = λ k le none. so.more k (omega arith) (taken_all i rest a left t (λ p. p.worker ≢ k) (λ e. absurd (omega (arith, e, t.whose))) none);
   less = λ k none. taken_left i rest a left t (λ p. p.worker ≢ k) (so.less k none);
 }
+
+-- all workers were looked at, and some didn't agree or a seat is left
+pub differ : {T : Type 0} (workers : ℕ) (trail : List (TrailLine T)) (seats rest : List (Account T)) (i : ℕ) (same : Bool)
+    → Settles trail seats rest i same → i ≡ workers → (same ≡ false) ⊎ (0 < length rest) → Differ workers seats trail
+differ workers trail seats rest i same so end cause =
+    ⊎_elim (λ (no : same ≡ false). inl (so.differs no)) (λ (some : 0 < length rest). inr (omega (arith, so.many, some, end))) cause
 
 -- all workers were looked at, and all agreed
 pub settled : {T : Type 0} (boxes workers nodes most room : ℕ) (trail : List (TrailLine T)) (seats rest : List (Account T)) (i : ℕ) (same : Bool)

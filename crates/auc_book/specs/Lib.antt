@@ -1,3 +1,4 @@
+-- The definitions that contracts of mails with trails cite.
 pub mod Limits
 pub mod Trail
 pub mod Replies

@@ -1,7 +1,6 @@
 -- A worker's seat: what it tells of his calls, and what a call leaves of it.
 use Rattle.std.specs.Prelude.{◌≡◌, ℕ, ◌+◌, ◌<◌, ◌≤◌, List, [], length, Option, Some, None}
 use Rattle.auc_mail.specs.declared.call.Call.{Call}
-use Rattle.auc_mail.specs.declared.call.Call.TheVariants.{Post, Take, Close}
 use Rattle.auc_mail.specs.declared.call.Reply.{Reply}
 use Rattle.auc_book.specs.declared.line.TrailLine.{TrailLine}
 use Rattle.auc_book.specs.Trail.{noted}
@@ -15,12 +14,6 @@ pub record Account (T : Type 0) : Type 0 where
 -- that of a worker who made no call
 abbrev pub new_account : {T : Type 0} → ℕ → Account T
 new_account k = record { worker = k; count = 0; lines = [] }
-
--- the call's numbers are in range
-abbrev pub FitsIn : {T : Type 0} → ℕ → ℕ → Call T → Type 0
-FitsIn workers boxes (Post s b x r) = (s < workers) × (b < boxes)
-FitsIn workers boxes (Take b) = b < boxes
-FitsIn workers boxes (Close b) = b < boxes
 
 -- what the worker's call leaves of his seat: one call more and its line, or the same where no more can be noted
 abbrev pub SeatCalls : {T : Type 0} → ℕ → Account T → Call T → Option (Reply T) → Account T → Type 0

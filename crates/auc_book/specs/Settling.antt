@@ -1,5 +1,5 @@
 -- What it means that the seats settle with the trail, and when they don't.
-use Rattle.std.specs.Prelude.{◌≡◌, ◌≢◌, ℕ, ◌<◌, List, length, All}
+use Rattle.std.specs.Prelude.{◌≡◌, ◌≢◌, ℕ, ◌<◌, ◌⊎◌, List, length, All}
 use Rattle.std.specs.List.{sum_by}
 use Rattle.auc_mail.specs.Mail.{Mail, empty_mail}
 use Rattle.auc_mail.specs.Run.{Run}
@@ -47,6 +47,10 @@ pub record IsSettled {T : Type 0} (boxes workers nodes most room : ℕ) (seats :
   -- and the seats tell what was sent and handed out
   pub sent_told : All (TellsSent trail) seats
   pub handed_told : All (TellsHanded trail) seats
+
+-- The seats and the trail differ: some seat does not agree with it, or there are more seats than workers.
+abbrev pub Differ : {T : Type 0} → ℕ → List (Account T) → List (TrailLine T) → Type 0
+Differ workers seats trail = (¬ (All (Agrees trail) seats)) ⊎ (workers < length seats)
 
 -- When each error stands: no trail and a missing seat exactly at their causes, and a difference only where neither is.
 abbrev pub IsUnsettled : {T : Type 0} → ℕ → ℕ → List (Account T) → SettleError → Type 0

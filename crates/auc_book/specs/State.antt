@@ -6,7 +6,7 @@ use Rattle.auc_mail.specs.Mail.{Mail, empty_mail}
 use Rattle.auc_mail.specs.Step.{Step}
 use Rattle.auc_mail.specs.Run.{Run}
 use Rattle.auc_book.specs.declared.line.TrailLine.{TrailLine}
-use Rattle.auc_book.specs.declared.limits.TheConstants.{MOST_CALLS}
+use Rattle.auc_book.specs.Limits.{IsLastCount}
 use Rattle.auc_book.specs.Trail.{events_of, noted, IsOwn}
 
 pub record State (T : Type 0) : Type 0 where
@@ -25,7 +25,7 @@ start_of m = empty_mail (length m.accepting) m.senders m.nodes m.most
 
 -- there is a trail with no place left, or the count is at its last value
 abbrev pub IsFull : {T : Type 0} → State T → Type 0
-IsFull s = ((0 < s.room) × (s.room ≤ length s.trail)) ⊎ (MOST_CALLS ≤ s.count)
+IsFull s = ((0 < s.room) × (s.room ≤ length s.trail)) ⊎ IsLastCount s.count
 
 -- A worker's call: one step of the mail, which is counted and noted; or nothing at all, where no more can be.
 abbrev pub Calls : {T : Type 0} → State T → ℕ → Call T → Option (Reply T) → State T → Type 0

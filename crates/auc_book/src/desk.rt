@@ -1,15 +1,18 @@
+//! What lies under the lock of a shared mail, and the calls that are made there.
+
 ghost use Rattle.std.specs.Prelude.{◌≡◌, ◌<◌, ◌↔◌, false, true, All, IsTrue};
 ghost use Rattle.auc_mail.specs.Mail.{NothingWaits, IsOpen, empty_mail};
 ghost use Rattle.auc_mail.specs.Run.{Run};
+ghost use Rattle.auc_mail.specs.Step.{FitsIn};
 ghost use Rattle.auc_book.specs.Trail.{events_of, IsOwn};
 ghost use Rattle.auc_book.specs.Replies.{close_reply, post_reply, take_reply};
 ghost use Rattle.auc_book.specs.State.{Calls, IsFull};
-ghost use Rattle.auc_book.specs.Seat.{FitsIn, SeatCalls};
+ghost use Rattle.auc_book.specs.Seat.{SeatCalls};
 ghost use Rattle.auc_book.specs.Desk.{IsNumbered};
 
+use crate::brand::MailBrand;
 use crate::error::{CallRefused, TrailFull};
 use crate::line::TrailLine;
-use crate::name::MailName;
 use crate::seat::Seat;
 use crate::state::MailState;
 use auc_mail::{Call, PostRefused, Reply, Taken};
@@ -18,12 +21,12 @@ use std::sync::ledger::Book;
 
 // What lies under the lock of a shared mail: the state, and the total of the seats' shares.
 #[derive(Drop)]
-pub struct Desk<T: Copy, N: MailName> {
+pub struct Desk<T: Copy, N: MailBrand> {
     state: MailState<T>,
     total: Book<N>,
 }
 
-impl<T: Copy, N: MailName> Model for Desk<T, N> {
+impl<T: Copy, N: MailBrand> Model for Desk<T, N> {
     ghost use Rattle.auc_book.specs.State.{State};
     ghost use Rattle.auc_book.specs.Desk.{IsDesk};
 
@@ -34,7 +37,7 @@ impl<T: Copy, N: MailName> Model for Desk<T, N> {
     ghost invariant = { λ d. IsDesk N.boxes N.workers N.nodes N.most N.room d.state d.total.total };
 }
 
-impl<T: Copy, N: MailName> Desk<T, N> {
+impl<T: Copy, N: MailBrand> Desk<T, N> {
     // The desk of a new state, to which no share has counted a call.
     pub(crate) fn new(state: MailState<T>, total: Book<N>) -> Desk<T, N>
         requires numbers { IsNumbered N.boxes N.workers N.nodes N.most N.room state }
@@ -153,6 +156,7 @@ impl<T: Copy, N: MailName> Desk<T, N> {
 
     // The lines of the trail, from an empty mail on.
     pub(crate) fn into_lines(self) -> Vec<TrailLine<T>>
+        ensures lines { result.items ≡ self.trail }
         ensures run { 0 < N.room → (last : _) × Run (empty_mail N.boxes N.workers N.nodes N.most) (events_of result.items) last }
         ensures own { All (λ l. (l.worker < N.workers) × IsOwn l.worker l.call) result.items }
     {

@@ -1,3 +1,5 @@
+//! Why a call is refused, and why a mail and its seats do not settle.
+
 use thiserror::Error;
 
 /// No more calls can be noted: the trail has no place left, or the count of calls is at its last value. The call was not made.

@@ -6,21 +6,21 @@
 //! nothing is said of whether it ever gets it.
 #![tactic(auto)]
 
+mod brand;
 mod desk;
 mod error;
 mod limits;
 mod line;
-mod name;
 mod seat;
 mod settling;
 mod shared;
 mod state;
 mod trail;
 
+pub use brand::MailBrand;
 pub use error::{CallRefused, SettleError, TrailFull};
 pub use limits::{MOST_CALLS, MOST_ROOM};
 pub use line::TrailLine;
-pub use name::MailName;
 pub use seat::Seat;
 pub use shared::SharedMail;
 pub use state::MailState;

@@ -1,3 +1,5 @@
+//! A line of a trail, and the comparison of a worker's lines with the trail.
+
 ghost use Rattle.std.specs.Prelude.{◌≡◌, ◌↔◌, IsTrue};
 ghost use Rattle.auc_mail.specs.Equality.{EqualIsSame};
 ghost use Rattle.auc_book.specs.Trail.{lines_of};

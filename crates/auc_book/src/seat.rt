@@ -1,9 +1,11 @@
+//! The seat of a worker at a shared mail.
+
 ghost use Rattle.std.specs.Prelude.{◌≡◌, ◌+◌, ◌<◌, length, IfOk, Some};
 ghost use Rattle.auc_book.specs.declared.limits.TheConstants.{MOST_CALLS};
 ghost use Rattle.auc_book.specs.Seat.{new_account, SeatCalls};
 
+use crate::brand::MailBrand;
 use crate::line::TrailLine;
-use crate::name::MailName;
 use std::alloc::{AllocError, Global};
 use std::marker::Model;
 use std::sync::ledger::{Book, Share};
@@ -14,7 +16,7 @@ use std::sync::ledger::{Book, Share};
 ///
 /// Contracts see it as the `Account` of `specs/Seat.antt`.
 #[derive(Drop)]
-pub struct Seat<T: Copy, N: MailName> {
+pub struct Seat<T: Copy, N: MailBrand> {
     own: Vec<TrailLine<T>>,
     calls: u64,
     number: u32,
@@ -22,7 +24,7 @@ pub struct Seat<T: Copy, N: MailName> {
     share: Share<N>,
 }
 
-impl<T: Copy, N: MailName> Model for Seat<T, N> {
+impl<T: Copy, N: MailBrand> Model for Seat<T, N> {
     ghost use Rattle.std.specs.Prelude.{vec_capacity};
     ghost use Rattle.auc_book.specs.Seat.{Account, IsSeated};
 
@@ -33,7 +35,7 @@ impl<T: Copy, N: MailName> Model for Seat<T, N> {
     ghost invariant = { λ s. IsSeated N.workers N.room (record { worker = s.number; count = s.calls; lines = s.own.items }) s.places (vec_capacity s.own) s.share.parts s.share.amount };
 }
 
-impl<T: Copy, N: MailName> Seat<T, N> {
+impl<T: Copy, N: MailBrand> Seat<T, N> {
     // The seat of a worker who made no call, with places for his lines.
     pub(crate) fn new(
         alloc: Global,

@@ -1,17 +1,19 @@
+//! The comparison of all seats with the trail.
+
 ghost use Rattle.std.specs.Prelude.{◌≡◌, ◌≢◌, IfOk, IfErr, MatchOption, All};
 ghost use Rattle.auc_mail.specs.Equality.{EqualIsSame};
 ghost use Rattle.auc_book.specs.Seats.{IsPlaceOf, TakesSeat};
-ghost use Rattle.auc_book.specs.Settling.{IsSettled, IsUnsettled, IsUnseated};
+ghost use Rattle.auc_book.specs.Settling.{Differ, IsSettled, IsUnsettled, IsUnseated};
 
+use crate::brand::MailBrand;
 use crate::desk::Desk;
 use crate::error::SettleError;
 use crate::line::same_lines;
-use crate::name::MailName;
 use crate::seat::Seat;
 use crate::trail::Trail;
 
 // Where a seat of the worker stands.
-fn place_of<T: Copy, N: MailName>(seats: &[Seat<T, N>], worker: u32) -> Option<usize>
+fn place_of<T: Copy, N: MailBrand>(seats: &[Seat<T, N>], worker: u32) -> Option<usize>
     ensures { MatchOption result (IsUnseated seats.now worker) (λ i. IsPlaceOf worker seats.now i) }
 {
     for (i, seat) in seats.iter().enumerate() {
@@ -23,7 +25,7 @@ fn place_of<T: Copy, N: MailName>(seats: &[Seat<T, N>], worker: u32) -> Option<u
 }
 
 // Takes a seat of the worker out of the list.
-fn take_seat<T: Copy, N: MailName>(seats: &mut Vec<Seat<T, N>>, worker: u32) -> Option<Seat<T, N>>
+fn take_seat<T: Copy, N: MailBrand>(seats: &mut Vec<Seat<T, N>>, worker: u32) -> Option<Seat<T, N>>
     ensures { MatchOption result (IsUnseated seats.old.items worker × (seats.new.items ≡ seats.old.items)) (λ seat. TakesSeat worker seats.old.items seat seats.new.items) }
 {
     match place_of(seats.as_slice(), worker) {
@@ -33,7 +35,7 @@ fn take_seat<T: Copy, N: MailName>(seats: &mut Vec<Seat<T, N>>, worker: u32) -> 
 }
 
 // Compares the seats with the trail. They are taken out in the workers' order, whatever order they came in, and none may be left.
-pub(crate) fn settle<T: Copy + Eq, N: MailName>(
+pub(crate) fn settle<T: Copy + Eq, N: MailBrand>(
     desk: Desk<T, N>,
     workers: u32,
     seats: Vec<Seat<T, N>>,
@@ -41,7 +43,11 @@ pub(crate) fn settle<T: Copy + Eq, N: MailName>(
     requires workers { workers ≡ N.workers }
     requires same { EqualIsSame T.eq }
     ensures settled { IfOk result (IsSettled N.boxes N.workers N.nodes N.most N.room seats.items) }
+    ensures trail { IfOk result (λ trail. trail ≡ desk.trail) }
     ensures unsettled { IfErr result (IsUnsettled N.workers N.room seats.items) }
+
+    // `SharedMail::settle` can't say this, since what lies under a lock has no name in a contract
+    ensures differs { IfErr result (λ e. e ≡ SettleError.Differs → Differ N.workers seats.items desk.trail) }
 {
     if desk.room() == 0 {
         return Err(SettleError::NoTrail);

@@ -1,17 +1,19 @@
+//! A mail that threads share.
+
 ghost use Rattle.std.specs.Prelude.{◌≡◌, ◌≢◌, ◌<◌, IfOk, OnOk, IfErr, map, Ok};
 ghost use Rattle.std.specs.List.{range_with_len};
 ghost use Rattle.auc_mail.specs.declared.call.Call.TheVariants as Call;
 ghost use Rattle.auc_mail.specs.Equality.{EqualIsSame};
 ghost use Rattle.auc_mail.specs.Limits.{LanesFit, NodesFit};
-ghost use Rattle.auc_book.specs.Limits.{RoomFits, IsRefusedFor};
+ghost use Rattle.auc_book.specs.Limits.{RoomFits, IsRefusedWithRoom};
 ghost use Rattle.auc_book.specs.Replies.{close_reply, post_reply, take_reply};
 ghost use Rattle.auc_book.specs.Seat.{new_account, SeatCalls};
 ghost use Rattle.auc_book.specs.Desk.{IsNumbered};
 ghost use Rattle.auc_book.specs.Settling.{IsSettled, IsUnsettled};
 
+use crate::brand::MailBrand;
 use crate::desk::Desk;
 use crate::error::{CallRefused, SettleError, TrailFull};
-use crate::name::MailName;
 use crate::seat::Seat;
 use crate::settling;
 use crate::state::MailState;
@@ -28,7 +30,7 @@ use std::sync::{Condvar, Mutex, Wait};
 ///
 /// Nothing is said of whether a thread ever gets the lock, or of whether one that waits is ever woken.
 #[derive(Drop)]
-pub struct SharedMail<T: Copy, N: MailName> {
+pub struct SharedMail<T: Copy, N: MailBrand> {
     desk: Mutex<Desk<T, N>>,
     changed: Condvar,
     workers: u32,
@@ -36,7 +38,7 @@ pub struct SharedMail<T: Copy, N: MailName> {
 }
 
 // A seat for each worker, in order.
-fn new_seats<T: Copy, N: MailName>(
+fn new_seats<T: Copy, N: MailBrand>(
     alloc: Global,
     workers: u32,
     room: u32,
@@ -56,7 +58,7 @@ fn new_seats<T: Copy, N: MailName>(
     Ok(seats)
 }
 
-impl<T: Copy, N: MailName> SharedMail<T, N> {
+impl<T: Copy, N: MailBrand> SharedMail<T, N> {
     /// The empty mail with nothing noted, and a seat for each worker, in order.
     ///
     /// The numbers are those of `MailState::make`, and each seat has places for `room` lines of its own. `ledger` is an unopened one, with a part for
@@ -81,7 +83,7 @@ impl<T: Copy, N: MailName> SharedMail<T, N> {
         requires some_worker { 0 < workers }
         ensures seats { IfOk result (λ r. r.1.items ≡ map new_account (range_with_len 0 workers)) }
         ensures within { OnOk result (LanesFit boxes workers × NodesFit nodes × RoomFits room) }
-        ensures refused { IfErr result (IsRefusedFor boxes workers nodes room) }
+        ensures refused { IfErr result (IsRefusedWithRoom boxes workers nodes room) }
     {
         let state = MailState::make(alloc, boxes, workers, nodes, most, blank, room)?;
         let (total, shares) = ledger.open::<N>();

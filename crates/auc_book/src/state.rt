@@ -1,9 +1,11 @@
+//! A mail with a trail of its calls, for one thread.
+
 ghost use Rattle.std.specs.Prelude.{◌≡◌, ◌<◌, ◌↔◌, length, IsTrue, IfOk, OnOk, IfErr, All};
 ghost use Rattle.auc_mail.specs.Mail.{HasLane, IsEmpty};
 ghost use Rattle.auc_mail.specs.Step.{Fits};
 ghost use Rattle.auc_mail.specs.Run.{Run};
 ghost use Rattle.auc_mail.specs.Limits.{LanesFit, NodesFit};
-ghost use Rattle.auc_book.specs.Limits.{RoomFits, IsRefusedFor};
+ghost use Rattle.auc_book.specs.Limits.{RoomFits, IsRefusedWithRoom};
 ghost use Rattle.auc_book.specs.Trail.{events_of, IsOwn};
 ghost use Rattle.auc_book.specs.Replies.{close_reply, post_reply, take_reply};
 ghost use Rattle.auc_book.specs.State.{new_state, start_of, Calls, IsFull, IsNoted};
@@ -60,7 +62,7 @@ impl<T: Copy> MailState<T> {
     ) -> Result<MailState<T>, MailError>
         ensures made { IfOk result (λ state. state ≡ new_state boxes workers nodes most room) }
         ensures within { OnOk result (LanesFit boxes workers × NodesFit nodes × RoomFits room) }
-        ensures refused { IfErr result (IsRefusedFor boxes workers nodes room) }
+        ensures refused { IfErr result (IsRefusedWithRoom boxes workers nodes room) }
     {
         match MailPool::make(alloc, boxes, workers, nodes, most, blank) {
             Err(MailError::TooManyLanes) => Err(MailError::TooManyLanes),

@@ -1,3 +1,5 @@
+//! The trail of a mail that has settled.
+
 ghost use Rattle.std.specs.Prelude.{◌≡◌};
 
 use crate::line::TrailLine;

@@ -7,7 +7,8 @@ use Rattle.std.specs.Prelude.{T}
 use Rattle.std.specs.Ordering.{int_eq}
 use Rattle.std.proofs.lemmas.Bool.{cases_Bool, cases_lt}
 use Rattle.std.proofs.lemmas.Bool.Decides.{nat_tests, Decides-and, Decides-eqb, Decides-int_eq}
-use Rattle.std.proofs.lemmas.List.{length-map}
+use Rattle.std.proofs.lemmas.Int.{ints}
+use Rattle.std.proofs.lemmas.List.{length-map, get_or_past}
 use Rattle.std.proofs.lemmas.List.Sums.{position_or_len_is, fails_before_first}
 use Rattle.std.proofs.lemmas.List.Elements.{All-head, All-tail, All-nil, All-cons}
 use Rattle.auc_graph.specs.declared.arc.Arc.{Arc}
@@ -17,15 +18,16 @@ use Rattle.std.specs.Option.{option_map}
 use Rattle.auc_cert.specs.declared.cert.CertParts.{CertParts}
 use Rattle.auc_cert.specs.declared.cert.CertParts.TheVariants.{Optimal, Infeasible}
 use Rattle.auc_cert.specs.declared.refused.CertRefused.{CertRefused}
-use Rattle.auc_cert.specs.declared.refused.CertRefused.TheVariants.{WrongSize, NoSuchArc, ObjectTwice, WrongCost, Slack, NotHall}
+use Rattle.auc_cert.specs.declared.refused.CertRefused.TheVariants.{WrongSize, NoSuchArc, ObjectTwice, WrongCost, Slack, NotHall, NoMemory}
 use Rattle.auc_graph.specs.HallSet.{IsHallSet}
+use Rattle.auc_graph.specs.Memory.{AnswersUnless}
 use Rattle.auc_cert.proofs.HallLaws.{hall_set_is, hall_set_passes}
 use Rattle.auc_graph.specs.Assignment.{person_of, object_of, total_cost, IsAssignment, IsLeast}
-use Rattle.auc_cert.specs.Slackness.{value, IsSlackRight}
+use Rattle.auc_graph.specs.Dual.{arc_value, scale_of, IsSlackRight, AreNotNegative}
 use mathlib.Core.Bool.{beq}
-use Rattle.auc_cert.specs.Spelled.{IsSpelled}
-use Rattle.auc_cert.specs.Claim.{is_flag, arc_of, chosen, same_arc, is_missing, bears, is_slack_right, repeated, fault_if, choice_faults, slack_fault, first_of, fault_of, IsAllowed, Answers, is_hall}
-use Rattle.auc_cert.proofs.Duality.{slack_right_is_least}
+use Rattle.auc_cert.specs.Spelled.{IsPrice, IsSpelled}
+use Rattle.auc_cert.specs.Claim.{is_flag, arc_of, chosen, same_arc, is_missing, bears, is_slack_right, repeated, fault_if, is_sized, choice_faults, slack_fault, first_of, fault_of, IsAllowed, IsVerdict, is_hall}
+use Rattle.auc_graph.proofs.DualLaws.{slack_right_is_least, none_left_over}
 
 -- ---- the first place that passes
 
@@ -105,38 +107,46 @@ never_seen earlier (j ∷ js) h =
           ((both.0, rest.0), (fresh, both.1))
     ]
 
-not_worse : (s : ℕ) (prices : List ℤ) (c a : Arc) → bears s prices c a ≡ true → a.person ≡ c.person → value s prices c ≤ℤ (value s prices a +ℤ pos 1)
+not_worse : (s : ℕ) (prices : List ℤ) (c a : Arc) → bears s prices c a ≡ true → a.person ≡ c.person → arc_value s prices c ≤ℤ (arc_value s prices a +ℤ pos 1)
 not_worse s prices c a h person =
     let same : eqb c.person a.person ≡ true = eq-eqb c.person a.person (sym person) in
-    let le : int_le (value s prices c) (value s prices a +ℤ pos 1) ≡ true = rw same at h in
+    let le : int_le (arc_value s prices c) (arc_value s prices a +ℤ pos 1) ≡ true = rw same at h in
     le_z_yes (subst (λ (b : Bool). T b) (sym le) tt)
 
 and_both : (x y : Bool) → (x && y) ≡ true → (x ≡ true) × (y ≡ true)
 and_both true y h = (refl, h)
 and_both false y h = absurd cc
 
-right_at : (s : ℕ) (prices : List ℤ) (arcs : List Arc) (c : Arc) → is_slack_right s prices arcs c ≡ true → IsSlackRight s prices arcs c
-right_at s prices [] c h = All-nil (λ (a : Arc). a.person ≡ c.person → value s prices c ≤ℤ (value s prices a +ℤ pos 1))
+right_at : (s : ℕ) (prices : List ℤ) (arcs : List Arc) (c : Arc) → is_slack_right s prices arcs c ≡ true → IsSlackRight (pos 1) s prices arcs c
+right_at s prices [] c h = All-nil (λ (a : Arc). a.person ≡ c.person → arc_value s prices c ≤ℤ (arc_value s prices a +ℤ pos 1))
 right_at s prices (a ∷ arcs) c h =
     let both = and_both (bears s prices c a) (list_all (bears s prices c) arcs) h in
-    All-cons (λ (b : Arc). b.person ≡ c.person → value s prices c ≤ℤ (value s prices b +ℤ pos 1)) a arcs (not_worse s prices c a both.0) (right_at s prices arcs c both.1)
+    All-cons (λ (b : Arc). b.person ≡ c.person → arc_value s prices c ≤ℤ (arc_value s prices b +ℤ pos 1)) a arcs (not_worse s prices c a both.0) (right_at s prices arcs c both.1)
 
 not_false : (b : Bool) → not b ≡ false → b ≡ true
 not_false true h = refl
 not_false false h = absurd cc
 
+never_negative : (prices : List ℤ) → All IsPrice prices → AreNotNegative prices
+never_negative prices fair j =
+    elim (cases_lt j (length prices)) [
+      | inl lt ↦ (fair j (pos 0) lt).low
+      | inr past ↦ (let none : get_or prices j (pos 0) ≡ pos 0 = get_or_past prices j (pos 0) past in omega (arith, ints, none))
+    ]
+
 -- an accepted claim is allowed
-pub accepted : (p : Problem) (choice : List Pick) (prices : List ℤ) → IsProblem p → length choice ≡ p.persons → length prices ≡ length choice
-    → position (is_missing p.arcs) (chosen 0 choice) ≡ None → repeated [] (map (λ c. c.object) choice) ≡ None → position (λ c. not (is_slack_right (p.persons + 1) prices p.arcs c)) (chosen 0 choice) ≡ None
+pub accepted : (p : Problem) (choice : List Pick) (prices : List ℤ) → IsProblem p → length choice ≡ p.persons → length prices ≡ p.objects → All IsPrice prices
+    → position (is_missing p.arcs) (chosen 0 choice) ≡ None → repeated [] (map (λ c. c.object) choice) ≡ None → position (λ c. not (is_slack_right (scale_of p) prices p.arcs c)) (chosen 0 choice) ≡ None
     → IsLeast p (chosen 0 choice)
-accepted p choice prices is len as_many none_missing none_twice none_worse =
+accepted p choice prices is len priced fair none_missing none_twice none_worse =
     let given : IsAssignment p (chosen 0 choice) = record {
       persons = persons_are 0 choice ∙ ap (range_with_len 0) len;
       arcs = λ k d lt. is_there p.arcs (get_or (chosen 0 choice) k d) (all_fail (is_missing p.arcs) (chosen 0 choice) none_missing k d lt);
       objects = rw (objects_are 0 choice) (never_seen [] (map (λ c. c.object) choice) none_twice).0;
     } in
-    slack_right_is_least p prices (chosen 0 choice) is (as_many ∙ len) given
-    (λ k d lt. right_at (p.persons + 1) prices p.arcs (get_or (chosen 0 choice) k d) (not_false _ (all_fail (λ c. not (is_slack_right (p.persons + 1) prices p.arcs c)) (chosen 0 choice) none_worse k d lt)))
+    slack_right_is_least p prices (chosen 0 choice) is.within priced (never_negative prices fair) given
+    (λ k d lt. right_at (scale_of p) prices p.arcs (get_or (chosen 0 choice) k d) (not_false _ (all_fail (λ c. not (is_slack_right (scale_of p) prices p.arcs c)) (chosen 0 choice) none_worse k d lt)))
+    (none_left_over p prices (chosen 0 choice) is.within is.square priced given)
 
 pub flag_hit : (b f : Bool) → beq b f ≡ true → is_flag f b ≡ true
 flag_hit true true h = refl
@@ -146,8 +156,11 @@ flag_hit false false h = refl
 
 -- ---- which fault is the first one
 
-pub right_size : (m n : ℕ) → m ≡ n → not (m == n) ≡ false
-right_size m n is = let e : eqb m n ≡ true = eq-eqb m n is in rw e refl
+pub right_size : (p : Problem) (choice : List Pick) (prices : List ℤ) → length choice ≡ p.persons → length prices ≡ p.objects → not (is_sized p choice prices) ≡ false
+right_size p choice prices size priced =
+    let one : eqb (length choice) p.persons ≡ true = eq-eqb (length choice) p.persons size in
+    let two : eqb (length prices) p.objects ≡ true = eq-eqb (length prices) p.objects priced in
+    rw (one, two) refl
 
 pub right_cost : (a b : ℤ) → a ≡ b → not (int_eq a b) ≡ false
 right_cost a b is = let e : int_eq a b ≡ true = (Decides-int_eq a b).1 is in rw e refl
@@ -160,8 +173,9 @@ wrong_cost a b other =
     ]
 
 -- what a choice without a fault is
-pub record IsFaultless (p : Problem) (cost : ℤ) (choice : List Pick) : Type 0 where
+pub record IsFaultless (p : Problem) (cost : ℤ) (choice : List Pick) (prices : List ℤ) : Type 0 where
   pub size : length choice ≡ p.persons
+  pub priced : length prices ≡ p.objects
   pub missing : position (is_missing p.arcs) (chosen 0 choice) ≡ None
   pub twice : repeated [] (map (λ c. c.object) choice) ≡ None
   pub cost_is : cost ≡ total_cost (chosen 0 choice)
@@ -174,14 +188,16 @@ none_map : (o : Option ℕ) (f : ℕ → CertRefused) (faults : List (Option Cer
 none_map (Some k) f faults h = absurd cc
 none_map None f faults h = (refl, h)
 
-pub is_faultless : (p : Problem) (cost : ℤ) (choice : List Pick) → first_of (choice_faults p cost choice) ≡ None → IsFaultless p cost choice
-is_faultless p cost choice h =
-    let size = none_if (not (length choice == p.persons)) WrongSize (option_map (λ i. NoSuchArc i) (position (is_missing p.arcs) (chosen 0 choice)) ∷ option_map (λ j. ObjectTwice j) (repeated [] (map (λ c. c.object) choice)) ∷ fault_if (not (int_eq cost (total_cost (chosen 0 choice)))) WrongCost ∷ []) h in
+pub is_faultless : (p : Problem) (cost : ℤ) (choice : List Pick) (prices : List ℤ) → first_of (choice_faults p cost choice prices) ≡ None → IsFaultless p cost choice prices
+is_faultless p cost choice prices h =
+    let size = none_if (not (is_sized p choice prices)) WrongSize (option_map (λ i. NoSuchArc i) (position (is_missing p.arcs) (chosen 0 choice)) ∷ option_map (λ j. ObjectTwice j) (repeated [] (map (λ c. c.object) choice)) ∷ fault_if (not (int_eq cost (total_cost (chosen 0 choice)))) WrongCost ∷ []) h in
+    let sizes = and_both (length choice == p.persons) (length prices == p.objects) (not_false (is_sized p choice prices) size.0) in
     let missing = none_map (position (is_missing p.arcs) (chosen 0 choice)) (λ i. NoSuchArc i) (option_map (λ j. ObjectTwice j) (repeated [] (map (λ c. c.object) choice)) ∷ fault_if (not (int_eq cost (total_cost (chosen 0 choice)))) WrongCost ∷ []) size.1 in
     let twice = none_map (repeated [] (map (λ c. c.object) choice)) (λ j. ObjectTwice j) (fault_if (not (int_eq cost (total_cost (chosen 0 choice)))) WrongCost ∷ []) missing.1 in
     let cost_is = none_if (not (int_eq cost (total_cost (chosen 0 choice)))) WrongCost [] twice.1 in
     record {
-      size = (Decides-eqb (length choice) p.persons).0 (not_false (length choice == p.persons) size.0);
+      size = (Decides-eqb (length choice) p.persons).0 sizes.0;
+      priced = (Decides-eqb (length prices) p.objects).0 sizes.1;
       missing = missing.0;
       twice = twice.0;
       cost_is = (Decides-int_eq cost (total_cost (chosen 0 choice))).0 (not_false (int_eq cost (total_cost (chosen 0 choice))) cost_is.0);
@@ -199,17 +215,17 @@ none_in_front (None ∷ xs) ys h = none_in_front xs ys h
 none_in_front (Some x ∷ xs) ys h = absurd cc
 
 -- what was answered by Ok has no fault
-pub ok_is_none : {X : Type 0} (r : Result X CertRefused) (fault : Option CertRefused) → IsOk r → Answers r fault → fault ≡ None
+pub ok_is_none : {X : Type 0} (r : Result X CertRefused) (fault : Option CertRefused) → IsOk r → AnswersUnless NoMemory (λ x. x) r (IsVerdict fault) → fault ≡ None
 ok_is_none (Ok x) fault ok h = h
 ok_is_none (Err e) fault ok h = absurd cc
 
 -- a claim without a fault is allowed
 pub faultless_is_allowed : (p : Problem) (c : CertParts) → IsProblem p → IsSpelled c → fault_of p c ≡ None → IsAllowed p c
 faultless_is_allowed p (Optimal cost choice prices) is spelled none =
-    let parts = none_in_front (choice_faults p cost choice) (slack_fault p choice prices ∷ []) none in
-    let choice_is = is_faultless p cost choice parts.0 in
-    let slack = none_map (position (λ c. not (is_slack_right (p.persons + 1) prices p.arcs c)) (chosen 0 choice)) (λ i. Slack i) [] parts.1 in
-    (accepted p choice prices is choice_is.size spelled.1.as_many choice_is.missing choice_is.twice slack.0, sym choice_is.cost_is)
+    let parts = none_in_front (choice_faults p cost choice prices) (slack_fault p choice prices ∷ []) none in
+    let choice_is = is_faultless p cost choice prices parts.0 in
+    let slack = none_map (position (λ c. not (is_slack_right (scale_of p) prices p.arcs c)) (chosen 0 choice)) (λ i. Slack i) [] parts.1 in
+    (accepted p choice prices is choice_is.size choice_is.priced spelled.1.fair choice_is.missing choice_is.twice slack.0, sym choice_is.cost_is)
 faultless_is_allowed p (Infeasible persons objects) is spelled none =
     let passed = none_if (not (is_hall p persons objects)) NotHall [] none in
     hall_set_is p persons objects spelled (not_false (is_hall p persons objects) passed.0)
@@ -231,12 +247,16 @@ length_chosen k (p ∷ picks) = ap suc (length_chosen (k + 1) picks)
 pub some_length : (test : Arc → Bool) (k : ℕ) (picks : List Pick) (slice flags : List Bool) → slice ≡ flags → flags ≡ map test (chosen k picks) → length slice ≡ length picks
 some_length test k picks slice flags same are = ap length (same ∙ are) ∙ length-map (chosen k picks) test ∙ length_chosen k picks
 
-below_from : (p : Problem) (n k : ℕ) (choice : List Pick) → IsProblem p → n ≡ p.persons → All (λ c. is_missing p.arcs c ≡ false) (chosen k choice) → All (λ c. c.object < n) choice
-below_from p n k [] is len all = All-nil (λ (c : Pick). c.object < n)
-below_from p n k (c ∷ choice) is len all =
+below_from : (p : Problem) (k : ℕ) (choice : List Pick) → IsProblem p → All (λ c. is_missing p.arcs c ≡ false) (chosen k choice) → All (λ c. c.object < p.objects) choice
+below_from p k [] is all = All-nil (λ (c : Pick). c.object < p.objects)
+below_from p k (c ∷ choice) is all =
     let there = is_there p.arcs (arc_of k c) (All-head (λ (a : Arc). is_missing p.arcs a ≡ false) (arc_of k c) (chosen (k + 1) choice) all) in
     let within : IsWithin p.persons p.objects (arc_of k c) = subst (IsWithin p.persons p.objects) there.2 (is.within there.0 (arc_of k c) there.1) in
-    All-cons (λ (d : Pick). d.object < n) c choice (omega (arith, within.object, is.square, len)) (below_from p n (k + 1) choice is len (All-tail (λ (a : Arc). is_missing p.arcs a ≡ false) (arc_of k c) (chosen (k + 1) choice) all))
+    All-cons (λ (d : Pick). d.object < p.objects) c choice within.object (below_from p (k + 1) choice is (All-tail (λ (a : Arc). is_missing p.arcs a ≡ false) (arc_of k c) (chosen (k + 1) choice) all))
 
-pub objects_below : (p : Problem) (n : ℕ) (choice : List Pick) → IsProblem p → n ≡ p.persons → position (is_missing p.arcs) (chosen 0 choice) ≡ None → All (λ c. c.object < n) choice
-objects_below p n choice is len none = below_from p n 0 choice is len (all_fail (is_missing p.arcs) (chosen 0 choice) none)
+-- who picks an arc of his picks an object of the problem
+pub objects_below : (p : Problem) (n : ℕ) (choice : List Pick) → IsProblem p → n ≡ p.objects → position (is_missing p.arcs) (chosen 0 choice) ≡ None → All (λ c. c.object < n) choice
+objects_below p n choice is same none = rw same (below_from p 0 choice is (all_fail (is_missing p.arcs) (chosen 0 choice) none))
+
+pub persons_below : (p : Problem) (n : ℕ) (arcs : List Arc) → IsProblem p → n ≡ p.persons → arcs ≡ p.arcs → All (λ a. a.person < n) arcs
+persons_below p n arcs is same are = rw (same, are) (λ k d lt. (is.within k d lt).person)

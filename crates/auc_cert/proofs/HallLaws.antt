@@ -9,9 +9,11 @@ use Rattle.std.proofs.lemmas.Map.Views.{Contains-from_any}
 use Rattle.auc_graph.specs.declared.arc.Arc.{Arc}
 use Rattle.auc_graph.specs.Problem.{Problem, IsProblem, IsWithin}
 use Rattle.auc_graph.specs.HallSet.{IsHallSet}
+use Rattle.auc_graph.specs.Rising.{IsRising}
+use Rattle.auc_graph.proofs.RisingLaws.{rising_differ}
 use Rattle.auc_cert.specs.Spelled.{AreNamed}
 use Rattle.auc_cert.specs.Claim.{are_below, is_listed, stays_within, is_hall, AreListed}
-use Rattle.auc_cert.specs.Runs.{IsIndex}
+use Rattle.auc_cert.specs.Runs.{IsBelow}
 use Rattle.auc_cert.proofs.RisingLaws.{is_rising, rises_from}
 
 passes_at : {X : Type 0} (test : X → Bool) (xs : List X) (k : ℕ) (x : X) → list_all test xs ≡ true → k < length xs → get_or xs k x ≡ x → test x ≡ true
@@ -71,8 +73,7 @@ hall_set_is p persons objects named h =
     let inner = and_parts (nat_lt (length objects) (length persons)) (list_all (stays_within persons objects) p.arcs) outer.1 in
     record {
       within = λ i c. less_is i p.persons (passes (λ k. nat_lt k p.persons) persons i below.0 c);
-      persons_rise = is_rising 0 persons named.persons_rise;
-      objects_rise = is_rising 0 objects named.objects_rise;
+      different = rising_differ persons (is_rising 0 10000 persons named.persons_rise);
       all = λ a c his. listed_is objects a.object (known_of (is_listed persons a.person) (is_listed objects a.object) (passes (stays_within persons objects) p.arcs a inner.1 c) (is_in_list persons a.person his));
       fewer = less_is (length objects) (length persons) inner.0;
     }
@@ -85,25 +86,25 @@ hall_set_passes p persons objects s within =
     (and_from (nat_lt (length objects) (length persons)) (list_all (stays_within persons objects) p.arcs) (is_less (length objects) (length persons) s.fewer)
     (all_pass (stays_within persons objects) p.arcs (λ a c. known_from (is_listed persons a.person) (is_listed objects a.object) (λ his. is_in_list objects a.object (s.all a c (listed_is persons a.person his))))))
 
-all_contained : (n : ℕ) (numbers : List ℕ) → ((k : ℕ) → Contains numbers k → k < n) → n ≤ 10000 → All IsIndex numbers
-all_contained n [] h le = All-nil IsIndex
+all_contained : (n : ℕ) (numbers : List ℕ) → ((k : ℕ) → Contains numbers k → k < n) → n ≤ 10000 → All (IsBelow 10000) numbers
+all_contained n [] h le = All-nil (IsBelow 10000)
 all_contained n (k ∷ numbers) h le =
     let here : k < n = h k (0, omega arith, refl) in
-    All-cons IsIndex k numbers (omega arith) (all_contained n numbers (λ j c. h j (suc c.0, omega (arith, c.1), c.2)) le)
+    All-cons (IsBelow 10000) k numbers (omega arith) (all_contained n numbers (λ j c. h j (suc c.0, omega (arith, c.1), c.2)) le)
 
 none_below_0 : (numbers : List ℕ) → All (λ k. 0 ≤ k) numbers
 none_below_0 numbers i d lt = omega arith
 
--- a Hall set of the problem has a certificate
-pub hall_set_named : (p : Problem) (persons objects : List ℕ) → IsProblem p → IsHallSet p persons objects → ((j : ℕ) → Contains objects j → j < p.objects) → AreNamed persons objects
-hall_set_named p persons objects is s within =
+-- a Hall set of the problem, named in rising order, has a certificate
+pub hall_set_named : (p : Problem) (persons objects : List ℕ) → IsProblem p → IsHallSet p persons objects → IsRising persons → IsRising objects → ((j : ℕ) → Contains objects j → j < p.objects) → AreNamed persons objects
+hall_set_named p persons objects is s persons_rise objects_rise within =
     let most : p.persons ≤ 10000 = is.most in
-    let square : p.objects ≤ 10000 = omega (arith, is.square) in
+    let most_objects : p.objects ≤ 10000 = is.most_objects in
     let fewer : length objects < length persons = s.fewer in
     record {
       some = omega arith;
-      persons_rise = rises_from 0 persons (none_below_0 persons) (all_contained p.persons persons s.within most) s.persons_rise;
-      objects_rise = rises_from 0 objects (none_below_0 objects) (all_contained p.objects objects within square) s.objects_rise;
+      persons_rise = rises_from 0 10000 persons (none_below_0 persons) (all_contained p.persons persons s.within most) persons_rise;
+      objects_rise = rises_from 0 10000 objects (none_below_0 objects) (all_contained p.objects objects within most_objects) objects_rise;
     }
 
 same_all : {X : Type 0} (f g : X → Bool) (xs : List X) → ((x : X) → Contains xs x → f x ≡ g x) → list_all f xs ≡ list_all g xs

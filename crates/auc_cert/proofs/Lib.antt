@@ -1,21 +1,21 @@
-pub mod Scale
-pub mod CostSums
-pub mod PriceSums
-pub mod Duality
-pub mod ValueLaws
-pub mod RepeatLaws
-pub mod FlagLaws
-pub mod RisingLaws
-pub mod HallLaws
+-- for use above
 pub mod ClaimLaws
-pub mod NumberWords
-pub mod WordLaws
-pub mod LineLaws
-pub mod RunLaws
-pub mod RisingRuns
-pub mod TextLines
-pub mod ChoiceLaws
-pub mod NameLaws
-pub mod CertLaws
+pub mod HallLaws
+pub mod Converse
 pub mod WriteLaws
+-- for this crate
+mod CostSums
+mod ValueLaws
+mod RepeatLaws
+mod FlagLaws
+mod RisingLaws
+mod NumberWords
+mod WordLaws
+mod LineLaws
+mod RunLaws
+mod RisingRuns
+mod TextLines
+mod ChoiceLaws
+mod NameLaws
+mod CertLaws
 mod WorkedClaims

@@ -2,10 +2,11 @@
 use Rattle.std.proofs.Common.{◌≡◌, ℕ, ◌+◌, ◌-◌, ◌<◌, ◌≤◌, List, [], ◌∷◌, ◌++◌, length, refl, sym, ap, subst, ◌∙◌, arith, append_assoc}
 use Rattle.std.specs.Prelude.{codes}
 use Rattle.std.proofs.lemmas.List.{append-nil, length-append}
-use Rattle.auc_cert.specs.Spelled.{Rises, AreNamed}
+use Rattle.auc_graph.specs.Rising.{Rises}
+use Rattle.auc_cert.specs.Spelled.{AreNamed}
 use Rattle.auc_cert.specs.Text.{person_line, object_line, numbered, joined, name_lines}
 use Rattle.auc_cert.specs.CertReading.{IsFirstBadOf, NameLines}
-use Rattle.auc_cert.specs.Runs.{IsIndex, least_behind, IsRisingRun, BreaksRising, From}
+use Rattle.auc_cert.specs.Runs.{IsBelow, least_behind, IsRisingRun, BreaksRising, From}
 use Rattle.auc_cert.proofs.RunLaws.{numbers_apart, same_run, same_rest, goes_beyond, numbered_append}
 use Rattle.auc_cert.proofs.RisingLaws.{rises_append, next_rises, rises_room, counted, counted_rises, length_counted, are_indices}
 use Rattle.auc_cert.proofs.TextLines.{AreLines, GoesOn, bad_of, numbers_lines, lines_append}
@@ -17,14 +18,14 @@ pub record AreCounts (persons objects : ℕ) : Type 0 where
   pub most : persons ≤ 10000
   pub few : objects ≤ 10000
 
-few_rise : (numbers : List ℕ) → Rises 0 numbers → length numbers ≤ 10000
-few_rise numbers p = let room : 0 + length numbers ≤ 10000 = rises_room 0 numbers (omega arith) p in omega arith
+few_rise : (numbers : List ℕ) → Rises 0 10000 numbers → length numbers ≤ 10000
+few_rise numbers p = let room : 0 + length numbers ≤ 10000 = rises_room 0 10000 numbers (omega arith) p in omega arith
 
-persons_are_lines : (persons : List ℕ) → Rises 0 persons → AreLines (numbered person_line 0 persons)
-persons_are_lines persons p = numbers_lines (codes "person ") refl persons (few_rise persons p) (are_indices 0 persons p)
+persons_are_lines : (persons : List ℕ) → Rises 0 10000 persons → AreLines (numbered person_line 0 persons)
+persons_are_lines persons p = numbers_lines (codes "person ") refl persons (few_rise persons p) (are_indices 0 10000 persons p)
 
-objects_are_lines : (objects : List ℕ) → Rises 0 objects → AreLines (numbered object_line 0 objects)
-objects_are_lines objects p = numbers_lines (codes "object ") refl objects (few_rise objects p) (are_indices 0 objects p)
+objects_are_lines : (objects : List ℕ) → Rises 0 10000 objects → AreLines (numbered object_line 0 objects)
+objects_are_lines objects p = numbers_lines (codes "object ") refl objects (few_rise objects p) (are_indices 0 10000 objects p)
 
 pub names_are_lines : (persons objects : List ℕ) → AreNamed persons objects → AreLines (name_lines persons objects)
 names_are_lines persons objects is = lines_append (numbered person_line 0 persons) (numbered object_line 0 objects) (persons_are_lines persons is.persons_rise) (objects_are_lines objects is.objects_rise)
@@ -34,7 +35,7 @@ counts_of persons objects is = record { some = is.some; most = few_rise persons 
 
 -- ---- where the lines leave those of persons and objects
 
-pub bad_person : (m l : ℕ) (r : List ℕ) (line : ℕ) → AreCounts m l → From 2 (BreaksRising (codes "person ") m r) line → From 2 (IsFirstBadOf (NameLines m l) r) line
+pub bad_person : (m l : ℕ) (r : List ℕ) (line : ℕ) → AreCounts m l → From 2 (BreaksRising (codes "person ") 10000 m r) line → From 2 (IsFirstBadOf (NameLines m l) r) line
 bad_person m l r line h (k, at, b) =
     let pad : List ℕ = counted (least_behind 0 b.numbers) (m - k) in
     let persons : List ℕ = b.numbers ++ pad in
@@ -46,8 +47,8 @@ bad_person m l r line h (k, at, b) =
     let many : length persons ≡ m = omega (arith, length-append b.numbers pad, length_counted (least_behind 0 b.numbers) (m - k)) in
     let named : AreNamed persons objects = record {
       some = omega arith;
-      persons_rise = rises_append 0 b.numbers pad b.run.rises (counted_rises (least_behind 0 b.numbers) (m - k) b.room);
-      objects_rise = counted_rises 0 l (omega arith);
+      persons_rise = rises_append 0 10000 b.numbers pad b.run.rises (counted_rises (least_behind 0 b.numbers) 10000 (m - k) b.room);
+      objects_rise = counted_rises 0 10000 l (omega arith);
     } in
     let front : List (List ℕ) = numbered person_line 0 b.numbers in
     let behind : List (List ℕ) = numbered person_line (0 + length b.numbers) pad ++ numbered object_line 0 objects in
@@ -60,14 +61,14 @@ bad_person m l r line h (k, at, b) =
     let own : List ℕ = of.0 in
     let known : List ℕ = of.1 in
     let own_few : length own ≤ 10000 = few_rise own of.2.persons_rise in
-    let x = goes_beyond ℕ person_line IsIndex 0 b.numbers own (numbered object_line 0 known) more (numbers_apart (codes "person ")) (are_indices 0 b.numbers b.run.rises) (are_indices 0 own of.2.persons_rise) (omega arith) (omega (arith, of.3)) (sym of.5 ∙ e) in
+    let x = goes_beyond ℕ person_line (IsBelow 10000) 0 b.numbers own (numbered object_line 0 known) more (numbers_apart (codes "person ")) (are_indices 0 10000 b.numbers b.run.rises) (are_indices 0 10000 own of.2.persons_rise) (omega arith) (omega (arith, of.3)) (sym of.5 ∙ e) in
     let y : GoesOn (person_line (0 + length b.numbers) x.value ∷ x.others) b.rest = subst (λ (n : List (List ℕ)). GoesOn n b.rest) x.is g in
-    let bounds = next_rises 0 b.numbers x.value x.behind (subst (Rises 0) x.split of.2.persons_rise) in
+    let bounds = next_rises 0 10000 b.numbers x.value x.behind (subst (Rises 0 10000) x.split of.2.persons_rise) in
     let room : x.value + (m - k) ≤ 10000 = omega (arith, bounds.1, of.3, ap length x.split, length-append b.numbers (x.value ∷ x.behind)) in
     b.none x.value y.0 bounds.0 room y.1) in
     (k, at, bad)
 
-pub bad_object : (m l : ℕ) (r persons r2 : List ℕ) (line : ℕ) → AreCounts m l → IsRisingRun (codes "person ") m r persons r2 → From (2 + m) (BreaksRising (codes "object ") l r2) line → From 2 (IsFirstBadOf (NameLines m l) r) line
+pub bad_object : (m l : ℕ) (r persons r2 : List ℕ) (line : ℕ) → AreCounts m l → IsRisingRun (codes "person ") 10000 m r persons r2 → From (2 + m) (BreaksRising (codes "object ") 10000 l r2) line → From 2 (IsFirstBadOf (NameLines m l) r) line
 bad_object m l r persons r2 line h run (k, at, b) =
     let pad : List ℕ = counted (least_behind 0 b.numbers) (l - k) in
     let objects : List ℕ = b.numbers ++ pad in
@@ -79,7 +80,7 @@ bad_object m l r persons r2 line h run (k, at, b) =
     let named : AreNamed persons objects = record {
       some = omega arith;
       persons_rise = run.rises;
-      objects_rise = rises_append 0 b.numbers pad b.run.rises (counted_rises (least_behind 0 b.numbers) (l - k) b.room);
+      objects_rise = rises_append 0 10000 b.numbers pad b.run.rises (counted_rises (least_behind 0 b.numbers) 10000 (l - k) b.room);
     } in
     let ps : List (List ℕ) = numbered person_line 0 persons in
     let os : List (List ℕ) = numbered object_line 0 b.numbers in
@@ -97,14 +98,14 @@ bad_object m l r persons r2 line h run (k, at, b) =
     let both : length own ≡ length persons = of.3 ∙ sym many in
     let known_few : length known ≤ 10000 = few_rise known of.2.objects_rise in
     let behind : numbered object_line 0 known ≡ os ++ more = same_rest ℕ person_line 0 own persons (numbered object_line 0 known) (os ++ more) both (sym of.5 ∙ e ∙ append_assoc ps os more) in
-    let x = goes_beyond ℕ object_line IsIndex 0 b.numbers known [] more (numbers_apart (codes "object ")) (are_indices 0 b.numbers b.run.rises) (are_indices 0 known of.2.objects_rise) (omega arith) (omega (arith, of.4)) (append-nil (numbered object_line 0 known) ∙ behind) in
+    let x = goes_beyond ℕ object_line (IsBelow 10000) 0 b.numbers known [] more (numbers_apart (codes "object ")) (are_indices 0 10000 b.numbers b.run.rises) (are_indices 0 10000 known of.2.objects_rise) (omega arith) (omega (arith, of.4)) (append-nil (numbered object_line 0 known) ∙ behind) in
     let y : GoesOn (object_line (0 + length b.numbers) x.value ∷ x.others) b.rest = subst (λ (n : List (List ℕ)). GoesOn n b.rest) x.is g in
-    let bounds = next_rises 0 b.numbers x.value x.behind (subst (Rises 0) x.split of.2.objects_rise) in
+    let bounds = next_rises 0 10000 b.numbers x.value x.behind (subst (Rises 0 10000) x.split of.2.objects_rise) in
     let room : x.value + (l - k) ≤ 10000 = omega (arith, bounds.1, of.4, ap length x.split, length-append b.numbers (x.value ∷ x.behind)) in
     b.none x.value y.0 bounds.0 room y.1) in
     (m + k, omega (arith, at), bad)
 
-pub bad_name_end : (m l : ℕ) (r persons r2 objects rest : List ℕ) → AreCounts m l → IsRisingRun (codes "person ") m r persons r2 → IsRisingRun (codes "object ") l r2 objects rest → (rest ≡ [] → ⊥) → From 2 (IsFirstBadOf (NameLines m l) r) (2 + m + l)
+pub bad_name_end : (m l : ℕ) (r persons r2 objects rest : List ℕ) → AreCounts m l → IsRisingRun (codes "person ") 10000 m r persons r2 → IsRisingRun (codes "object ") 10000 l r2 objects rest → (rest ≡ [] → ⊥) → From 2 (IsFirstBadOf (NameLines m l) r) (2 + m + l)
 bad_name_end m l r persons r2 objects rest h run run2 some_rest =
     let some : 1 ≤ m = h.some in
     let many : length persons ≡ m = run.run.len in
@@ -130,7 +131,7 @@ bad_name_end m l r persons r2 objects rest h run run2 some_rest =
 
 -- ---- what was read
 
-pub are_names : (m l : ℕ) (r persons r2 objects rest : List ℕ) → AreCounts m l → IsRisingRun (codes "person ") m r persons r2 → IsRisingRun (codes "object ") l r2 objects rest → rest ≡ []
+pub are_names : (m l : ℕ) (r persons r2 objects rest : List ℕ) → AreCounts m l → IsRisingRun (codes "person ") 10000 m r persons r2 → IsRisingRun (codes "object ") 10000 l r2 objects rest → rest ≡ []
     → AreNamed persons objects × (length persons ≡ m) × (length objects ≡ l) × (r ≡ joined (name_lines persons objects))
 are_names m l r persons r2 objects rest h run run2 none =
     let some : 1 ≤ m = h.some in
@@ -150,8 +151,8 @@ pub same_names : (persons objects own known : List ℕ) → AreNamed persons obj
 same_names persons objects own known s t same both others =
     let most : length persons ≤ 10000 = few_rise persons s.persons_rise in
     let few : length objects ≤ 10000 = few_rise objects s.objects_rise in
-    let x = same_run ℕ person_line IsIndex 0 persons own (numbered object_line 0 objects) (numbered object_line 0 known) (numbers_apart (codes "person ")) (are_indices 0 persons s.persons_rise) (are_indices 0 own t.persons_rise) (omega arith) same others in
-    let y = same_run ℕ object_line IsIndex 0 objects known [] [] (numbers_apart (codes "object ")) (are_indices 0 objects s.objects_rise) (are_indices 0 known t.objects_rise) (omega arith) both (append-nil (numbered object_line 0 objects) ∙ x.1 ∙ sym (append-nil (numbered object_line 0 known))) in
+    let x = same_run ℕ person_line (IsBelow 10000) 0 persons own (numbered object_line 0 objects) (numbered object_line 0 known) (numbers_apart (codes "person ")) (are_indices 0 10000 persons s.persons_rise) (are_indices 0 10000 own t.persons_rise) (omega arith) same others in
+    let y = same_run ℕ object_line (IsBelow 10000) 0 objects known [] [] (numbers_apart (codes "object ")) (are_indices 0 10000 objects s.objects_rise) (are_indices 0 10000 known t.objects_rise) (omega arith) both (append-nil (numbered object_line 0 objects) ∙ x.1 ∙ sym (append-nil (numbered object_line 0 known))) in
     (x.0, y.0)
 
 -- nothing stands behind such lines that are all of such lines

@@ -3,41 +3,40 @@ use Rattle.std.proofs.Common.{◌≡◌, ℕ, zero, suc, ◌+◌, ◌<◌, ◌�
 use Rattle.std.proofs.lemmas.List.{take-append-drop, drop_more}
 use Rattle.std.proofs.lemmas.List.Elements.{All-nil, All-cons, All-head, All-tail}
 use Rattle.std.proofs.lemmas.List.Kept.{AllPairs-cons}
-use Rattle.auc_graph.specs.HallSet.{IsRising}
-use Rattle.auc_cert.specs.Spelled.{Rises}
-use Rattle.auc_cert.specs.Runs.{IsIndex, least_behind}
+use Rattle.auc_graph.specs.Rising.{IsRising, Rises}
+use Rattle.auc_cert.specs.Runs.{least_behind}
 
-pub rises_append : (least : ℕ) (xs ys : List ℕ) → Rises least xs → Rises (least_behind least xs) ys → Rises least (xs ++ ys)
-rises_append least [] ys p q = q
-rises_append least (x ∷ xs) ys p q = (p.0, p.1, rises_append (x + 1) xs ys p.2 q)
+pub rises_append : (least end : ℕ) (xs ys : List ℕ) → Rises least end xs → Rises (least_behind least xs) end ys → Rises least end (xs ++ ys)
+rises_append least end [] ys p q = q
+rises_append least end (x ∷ xs) ys p q = (p.0, p.1, rises_append (x + 1) end xs ys p.2 q)
 
-pub rises_behind : (least : ℕ) (xs ys : List ℕ) → Rises least (xs ++ ys) → Rises (least_behind least xs) ys
-rises_behind least [] ys p = p
-rises_behind least (x ∷ xs) ys p = rises_behind (x + 1) xs ys p.2
+pub rises_behind : (least end : ℕ) (xs ys : List ℕ) → Rises least end (xs ++ ys) → Rises (least_behind least xs) end ys
+rises_behind least end [] ys p = p
+rises_behind least end (x ∷ xs) ys p = rises_behind (x + 1) end xs ys p.2
 
-pub rises_room : (least : ℕ) (xs : List ℕ) → least ≤ 10000 → Rises least xs → least + length xs ≤ 10000
-rises_room least [] le p = omega arith
-rises_room least (x ∷ xs) le p =
+pub rises_room : (least end : ℕ) (xs : List ℕ) → least ≤ end → Rises least end xs → least + length xs ≤ end
+rises_room least end [] le p = omega arith
+rises_room least end (x ∷ xs) le p =
     let above : least ≤ x = p.0 in
-    let below : x < 10000 = p.1 in
-    let room : x + 1 + length xs ≤ 10000 = rises_room (x + 1) xs (omega arith) p.2 in
+    let below : x < end = p.1 in
+    let room : x + 1 + length xs ≤ end = rises_room (x + 1) end xs (omega arith) p.2 in
     omega arith
 
 -- what a rising list has behind its front: a number that leaves room for the others
-pub next_rises : (least : ℕ) (xs : List ℕ) (k : ℕ) (ys : List ℕ) → Rises least (xs ++ k ∷ ys) → (least_behind least xs ≤ k) × (k + suc (length ys) ≤ 10000)
-next_rises least xs k ys p =
-    let q = rises_behind least xs (k ∷ ys) p in
-    let below : k < 10000 = q.1 in
-    let room : k + 1 + length ys ≤ 10000 = rises_room (k + 1) ys (omega arith) q.2 in
+pub next_rises : (least end : ℕ) (xs : List ℕ) (k : ℕ) (ys : List ℕ) → Rises least end (xs ++ k ∷ ys) → (least_behind least xs ≤ k) × (k + suc (length ys) ≤ end)
+next_rises least end xs k ys p =
+    let q = rises_behind least end xs (k ∷ ys) p in
+    let below : k < end = q.1 in
+    let room : k + 1 + length ys ≤ end = rises_room (k + 1) end ys (omega arith) q.2 in
     (q.0, omega arith)
 
 abbrev pub counted : ℕ → ℕ → List ℕ
 counted least zero = []
 counted least (suc m) = least ∷ counted (least + 1) m
 
-pub counted_rises : (least m : ℕ) → least + m ≤ 10000 → Rises least (counted least m)
-counted_rises least zero le = tt
-counted_rises least (suc m) le = (omega arith, omega arith, counted_rises (least + 1) m (omega arith))
+pub counted_rises : (least end m : ℕ) → least + m ≤ end → Rises least end (counted least m)
+counted_rises least end zero le = tt
+counted_rises least end (suc m) le = (omega arith, omega arith, counted_rises (least + 1) end m (omega arith))
 
 pub length_counted : (least m : ℕ) → length (counted least m) ≡ m
 length_counted least zero = refl
@@ -47,36 +46,36 @@ pub behind_push : (least : ℕ) (xs : List ℕ) (k : ℕ) → least_behind least
 behind_push least [] k = refl
 behind_push least (x ∷ xs) k = behind_push (x + 1) xs k
 
-pub rises_push : (xs : List ℕ) (k : ℕ) → Rises 0 xs → least_behind 0 xs ≤ k → k < 10000 → Rises 0 (xs ++ k ∷ [])
-rises_push xs k p above below = rises_append 0 xs (k ∷ []) p (above, below, tt)
+pub rises_push : (end : ℕ) (xs : List ℕ) (k : ℕ) → Rises 0 end xs → least_behind 0 xs ≤ k → k < end → Rises 0 end (xs ++ k ∷ [])
+rises_push end xs k p above below = rises_append 0 end xs (k ∷ []) p (above, below, tt)
 
-pub are_indices : (least : ℕ) (xs : List ℕ) → Rises least xs → All IsIndex xs
-are_indices least [] p = All-nil IsIndex
-are_indices least (x ∷ xs) p = All-cons IsIndex x xs p.1 (are_indices (x + 1) xs p.2)
+pub are_indices : (least end : ℕ) (xs : List ℕ) → Rises least end xs → All (λ k. k < end) xs
+are_indices least end [] p = All-nil (λ k. k < end)
+are_indices least end (x ∷ xs) p = All-cons (λ k. k < end) x xs p.1 (are_indices (x + 1) end xs p.2)
 
-are_above : (low least : ℕ) (xs : List ℕ) → low < least → Rises least xs → All (λ k. low < k) xs
-are_above low least [] lt p = All-nil (λ k. low < k)
-are_above low least (x ∷ xs) lt p =
+are_above : (low least end : ℕ) (xs : List ℕ) → low < least → Rises least end xs → All (λ k. low < k) xs
+are_above low least end [] lt p = All-nil (λ k. low < k)
+are_above low least end (x ∷ xs) lt p =
     let above : least ≤ x = p.0 in
-    All-cons (λ k. low < k) x xs (omega arith) (are_above low (x + 1) xs (omega arith) p.2)
+    All-cons (λ k. low < k) x xs (omega arith) (are_above low (x + 1) end xs (omega arith) p.2)
 
-pub is_rising : (least : ℕ) (xs : List ℕ) → Rises least xs → IsRising xs
-is_rising least [] p = λ i j d lt within. absurd (omega arith)
-is_rising least (x ∷ xs) p = AllPairs-cons (λ a b. a < b) x xs (are_above x (x + 1) xs (omega arith) p.2) (is_rising (x + 1) xs p.2)
+pub is_rising : (least end : ℕ) (xs : List ℕ) → Rises least end xs → IsRising xs
+is_rising least end [] p = λ i j d lt within. absurd (omega arith)
+is_rising least end (x ∷ xs) p = AllPairs-cons (λ a b. a < b) x xs (are_above x (x + 1) end xs (omega arith) p.2) (is_rising (x + 1) end xs p.2)
 
-pub rises_from : (least : ℕ) (xs : List ℕ) → All (λ k. least ≤ k) xs → All IsIndex xs → IsRising xs → Rises least xs
-rises_from least [] above below h = tt
-rises_from least (x ∷ xs) above below h = (
+pub rises_from : (least end : ℕ) (xs : List ℕ) → All (λ k. least ≤ k) xs → All (λ k. k < end) xs → IsRising xs → Rises least end xs
+rises_from least end [] above below h = tt
+rises_from least end (x ∷ xs) above below h = (
   All-head (λ k. least ≤ k) x xs above,
-  All-head IsIndex x xs below,
-  rises_from (x + 1) xs
+  All-head (λ k. k < end) x xs below,
+  rises_from (x + 1) end xs
       (λ i d lt. let higher : x < get_or xs i d = h 0 (suc i) d (omega arith) (omega arith) in omega arith)
-      (All-tail IsIndex x xs below) (λ i j d lt within. h (suc i) (suc j) d (omega arith) (omega arith)),
+      (All-tail (λ k. k < end) x xs below) (λ i j d lt within. h (suc i) (suc j) d (omega arith) (omega arith)),
 )
 
 -- a number that the list has at a place is one that it may have there
-pub rises_at : (xs : List ℕ) (i d : ℕ) → i < length xs → Rises 0 xs → (least_behind 0 (take i xs) ≤ get_or xs i d) × (get_or xs i d < 10000)
-rises_at xs i d lt p =
+pub rises_at : (end : ℕ) (xs : List ℕ) (i d : ℕ) → i < length xs → Rises 0 end xs → (least_behind 0 (take i xs) ≤ get_or xs i d) × (get_or xs i d < end)
+rises_at end xs i d lt p =
     let split : xs ≡ take i xs ++ (get_or xs i d ∷ drop (i + 1) xs) = sym (take-append-drop i xs) ∙ ap (λ (ys : List ℕ). take i xs ++ ys) (drop_more xs i d lt) in
-    let q = rises_behind 0 (take i xs) (get_or xs i d ∷ drop (i + 1) xs) (subst (Rises 0) split p) in
+    let q = rises_behind 0 end (take i xs) (get_or xs i d ∷ drop (i + 1) xs) (subst (Rises 0 end) split p) in
     (q.0, q.1)

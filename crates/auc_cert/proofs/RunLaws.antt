@@ -7,8 +7,8 @@ use Rattle.std.proofs.lemmas.List.Elements.{All-nil, All-push, All-head, All-tai
 use Rattle.auc_cert.specs.declared.lists.Pick.{Pick}
 use Rattle.auc_cert.specs.Spelled.{IsPick, IsPrice}
 use Rattle.auc_cert.specs.Text.{numbered, joined, assign_line, price_line, number_line}
-use Rattle.auc_cert.specs.Fields.{pick_at, price_at, number_at}
-use Rattle.auc_cert.specs.Runs.{IsRun, BreaksOff, IsIndex}
+use Rattle.auc_cert.specs.Fields.{pick_line_at, price_line_at, number_at}
+use Rattle.auc_cert.specs.Runs.{IsRun, BreaksOff, IsBelow}
 use Rattle.auc_cert.proofs.WriteLaws.{numbered_push}
 use Rattle.auc_cert.proofs.WordLaws.{some_is}
 use Rattle.auc_cert.proofs.LineLaws.{pick_again, pick_takes, price_again, price_takes, number_again}
@@ -39,18 +39,18 @@ breaks_off line ok n bytes k xs rest run few none = record { front = xs; rest = 
 pub none_some : {A : Type 0} (x : A) → ◌≡◌ {A = Option A} None (Some x) → ⊥
 none_some x e = cc
 
-pub no_pick : (i : ℕ) (rest : List ℕ) → i < 10000 → None ≡ pick_at i rest → (x : Pick) (more : List ℕ) → IsPick x → rest ≡ assign_line i x ++ more → ⊥
-no_pick i rest lt e x more h is = none_some (x, more) (e ∙ ap (pick_at i) is ∙ pick_again i x more lt h)
+pub no_pick : (i : ℕ) (rest : List ℕ) → i < 10000 → None ≡ pick_line_at i rest → (x : Pick) (more : List ℕ) → IsPick x → rest ≡ assign_line i x ++ more → ⊥
+no_pick i rest lt e x more h is = none_some (x, more) (e ∙ ap (pick_line_at i) is ∙ pick_again i x more lt h)
 
-pub no_price : (j : ℕ) (rest : List ℕ) → j < 10000 → None ≡ price_at j rest → (z : ℤ) (more : List ℕ) → IsPrice z → rest ≡ price_line j z ++ more → ⊥
-no_price j rest lt e z more h is = none_some (z, more) (e ∙ ap (price_at j) is ∙ price_again j z more lt h)
+pub no_price : (j : ℕ) (rest : List ℕ) → j < 10000 → None ≡ price_line_at j rest → (z : ℤ) (more : List ℕ) → IsPrice z → rest ≡ price_line j z ++ more → ⊥
+no_price j rest lt e z more h is = none_some (z, more) (e ∙ ap (price_line_at j) is ∙ price_again j z more lt h)
 
 pub pick_more : (i : ℕ) (bytes : List ℕ) (xs : List Pick) (rest : List ℕ) (x : Pick) (more : List ℕ)
-    → IsRun assign_line IsPick i bytes xs rest → pick_at i rest ≡ Some (x, more) → IsRun assign_line IsPick (i + 1) bytes (xs ++ x ∷ []) more
+    → IsRun assign_line IsPick i bytes xs rest → pick_line_at i rest ≡ Some (x, more) → IsRun assign_line IsPick (i + 1) bytes (xs ++ x ∷ []) more
 pick_more i bytes xs rest x more run e = let t = pick_takes i rest x more e in run_more assign_line IsPick i bytes xs rest x more run t.0 t.1
 
 pub price_more : (j : ℕ) (bytes : List ℕ) (xs : List ℤ) (rest : List ℕ) (z : ℤ) (more : List ℕ)
-    → IsRun price_line IsPrice j bytes xs rest → price_at j rest ≡ Some (z, more) → IsRun price_line IsPrice (j + 1) bytes (xs ++ z ∷ []) more
+    → IsRun price_line IsPrice j bytes xs rest → price_line_at j rest ≡ Some (z, more) → IsRun price_line IsPrice (j + 1) bytes (xs ++ z ∷ []) more
 price_more j bytes xs rest z more run e = let t = price_takes j rest z more e in run_more price_line IsPrice j bytes xs rest z more run t.0 t.1
 
 -- ---- two runs of one text
@@ -61,15 +61,15 @@ TellsApart X line ok = (k : ℕ) (x y : X) → k < 10000 → ok x → ok y → l
 
 pub picks_apart : TellsApart Pick assign_line IsPick
 picks_apart k x y lt p q e =
-    let pair = some_is (x, []) (y, []) (sym (pick_again k x [] lt p) ∙ ap (λ (l : List ℕ). pick_at k (l ++ [])) e ∙ pick_again k y [] lt q) in
+    let pair = some_is (x, []) (y, []) (sym (pick_again k x [] lt p) ∙ ap (λ (l : List ℕ). pick_line_at k (l ++ [])) e ∙ pick_again k y [] lt q) in
     ap (λ (t : Pick × List ℕ). t.0) pair
 
 pub prices_apart : TellsApart ℤ price_line IsPrice
 prices_apart k x y lt p q e =
-    let pair = some_is (x, []) (y, []) (sym (price_again k x [] lt p) ∙ ap (λ (l : List ℕ). price_at k (l ++ [])) e ∙ price_again k y [] lt q) in
+    let pair = some_is (x, []) (y, []) (sym (price_again k x [] lt p) ∙ ap (λ (l : List ℕ). price_line_at k (l ++ [])) e ∙ price_again k y [] lt q) in
     ap (λ (t : ℤ × List ℕ). t.0) pair
 
-pub numbers_apart : (front : List ℕ) → TellsApart ℕ (number_line front) IsIndex
+pub numbers_apart : (front : List ℕ) → TellsApart ℕ (number_line front) (IsBelow 10000)
 numbers_apart front k x y lt p q e =
     let pair = some_is (x, []) (y, []) (sym (number_again front k 0 10000 x [] (omega arith) p (omega arith)) ∙ ap (λ (l : List ℕ). number_at front 0 10000 (l ++ [])) e ∙ number_again front k 0 10000 y [] (omega arith) q (omega arith)) in
     ap (λ (t : ℕ × List ℕ). t.0) pair

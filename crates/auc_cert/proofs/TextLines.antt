@@ -10,7 +10,7 @@ use Rattle.std.proofs.lemmas.List.Elements.{All-nil, All-cons, All-append, All-h
 use Rattle.auc_cert.specs.declared.lists.Pick.{Pick}
 use Rattle.auc_cert.specs.Spelled.{IsPick, IsPrice}
 use Rattle.auc_cert.specs.Text.{head_line, optimal_line, infeasible_line, assign_line, price_line, number_line, numbered, joined}
-use Rattle.auc_cert.specs.Runs.{IsIndex}
+use Rattle.auc_cert.specs.Runs.{IsBelow}
 use Rattle.auc_cert.specs.CertReading.{lines_in, IsFirstBadOf}
 use Rattle.auc_cert.proofs.NumberWords.{number_goes_on}
 
@@ -166,10 +166,10 @@ infeasible_is_line persons objects most few =
       whole = and_then (w1 ++ codes " ") (decimal objects) (and_then w1 (codes " ") (and_then (codes "infeasible ") (decimal persons) (all_no_lf (codes "infeasible ") refl) (digits (pos persons) fits)) (all_no_lf (codes " ") refl)) (digits (pos objects) fits_objects);
     }
 
-number_is_line : (front : List ℕ) → no_lf front ≡ true → (place k : ℕ) → place < 10000 → IsIndex k → IsLine (number_line front place k)
+number_is_line : (front : List ℕ) → no_lf front ≡ true → (place k : ℕ) → place < 10000 → IsBelow 10000 k → IsLine (number_line front place k)
 number_is_line front whole place k lt below =
     let fits : FitsSigned w64 (pos (k + 1)) = omega (arith, ints) in
     record { word = front ++ decimal (k + 1); text = refl; whole = and_then front (decimal (k + 1)) (all_no_lf front whole) (digits (pos (k + 1)) fits) }
 
-pub numbers_lines : (front : List ℕ) → no_lf front ≡ true → (numbers : List ℕ) → length numbers ≤ 10000 → All IsIndex numbers → AreLines (numbered (number_line front) 0 numbers)
-numbers_lines front whole numbers le all = numbered_lines ℕ (number_line front) IsIndex (number_is_line front whole) 0 numbers (omega arith) all
+pub numbers_lines : (front : List ℕ) → no_lf front ≡ true → (numbers : List ℕ) → length numbers ≤ 10000 → All (IsBelow 10000) numbers → AreLines (numbered (number_line front) 0 numbers)
+numbers_lines front whole numbers le all = numbered_lines ℕ (number_line front) (IsBelow 10000) (number_is_line front whole) 0 numbers (omega arith) all

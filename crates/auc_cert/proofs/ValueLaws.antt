@@ -1,6 +1,6 @@
 -- The values that the code computes fit 128 bits.
 use Rattle.std.proofs.Common.{◌≡◌, ℕ, ◌*◌, ◌<◌, ◌≤◌, ◌^◌, refl, sym, ap, ◌∙◌, arith, w64, pos}
-use Rattle.std.specs.Prelude.{ℤ, ◌+ℤ◌, ◌*ℤ◌, FitsSigned, unsigned_abs}
+use Rattle.std.specs.Prelude.{ℤ, neg_ℤ, ◌+ℤ◌, ◌*ℤ◌, ◌≤ℤ◌, FitsSigned, unsigned_abs}
 use Rattle.std.specs.Int.{w128}
 use Rattle.std.proofs.Common.{lit<}
 use Rattle.std.proofs.lemmas.Int.{ints, fits_signed_mul, unsigned_abs-mul, to_z-of_z}
@@ -9,7 +9,7 @@ use Rattle.std.proofs.Math.Nat.{mul-le-mul_left}
 use Rattle.std.proofs.Common.{true, eqb, List, eq-eqb}
 use Rattle.std.specs.Prelude.{int_le}
 use Rattle.auc_graph.specs.declared.arc.Arc.{Arc}
-use Rattle.auc_cert.specs.Slackness.{value}
+use Rattle.auc_graph.specs.Dual.{arc_value}
 use Rattle.auc_cert.specs.Claim.{bears}
 
 pub wide : (z : ℤ) → FitsSigned w64 z → FitsSigned w128 z
@@ -30,10 +30,13 @@ product_low s c lt f =
 pub value_fits : (s : ℕ) (c p : ℤ) → s < 2 ^ 32 → FitsSigned w64 c → FitsSigned w64 p → FitsSigned w128 (pos s *ℤ c +ℤ p)
 value_fits s c p lt f g = omega (arith, ints, product_low s c lt f, g)
 
+pub value_small : (s : ℕ) (c p : ℤ) → s < 2 ^ 32 → FitsSigned w64 c → FitsSigned w64 p → (neg_ℤ (pos (2 ^ 96)) ≤ℤ (pos s *ℤ c +ℤ p)) × ((pos s *ℤ c +ℤ p) ≤ℤ pos (2 ^ 96))
+value_small s c p lt f g = (omega (arith, ints, product_low s c lt f, g), omega (arith, ints, product_low s c lt f, g))
+
 pub value_more_fits : (s : ℕ) (c p : ℤ) → s < 2 ^ 32 → FitsSigned w64 c → FitsSigned w64 p → FitsSigned w128 (pos s *ℤ c +ℤ p +ℤ pos 1)
 value_more_fits s c p lt f g = omega (arith, ints, product_low s c lt f, g)
 
-pub bears_is : (s : ℕ) (prices : List ℤ) (c a : Arc) (x y : ℤ) → c.person ≡ a.person → x ≡ value s prices c → y ≡ value s prices a → int_le x (y +ℤ pos 1) ≡ bears s prices c a
+pub bears_is : (s : ℕ) (prices : List ℤ) (c a : Arc) (x y : ℤ) → c.person ≡ a.person → x ≡ arc_value s prices c → y ≡ arc_value s prices a → int_le x (y +ℤ pos 1) ≡ bears s prices c a
 bears_is s prices c a x y person mine theirs =
     let same : eqb c.person a.person ≡ true = eq-eqb c.person a.person person in
     rw (same, mine, theirs) refl

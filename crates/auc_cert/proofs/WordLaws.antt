@@ -12,7 +12,7 @@ use Rattle.std.proofs.lemmas.List.{take-append-drop}
 use Rattle.std.proofs.Math.Seq.{take-append_seam, drop-append_seam}
 use Rattle.std.proofs.lemmas.List.Elements.{All-head, All-tail, All-nil, All-cons, All-push}
 use Rattle.auc_cert.specs.CertReading.{IsMark}
-use Rattle.auc_cert.specs.Fields.{◌>>=◌, seen, after, onto, word_at, value, spelled, field_at}
+use Rattle.auc_cert.specs.Fields.{◌>>=◌, viewed, after, onto, word_at, word_value, spelled, field_at}
 use Rattle.auc_cert.proofs.WriteLaws.{tail}
 use Rattle.auc_cert.proofs.NumberWords.{number_goes_on, pointwise_self}
 
@@ -90,7 +90,7 @@ word_again stop (b ∷ w) rest h =
 
 word_step : (stop b : ℕ) (bytes : List ℕ) (o : Option (List ℕ × List ℕ)) (t : Bool) (w rest : List ℕ)
     → ((w rest : List ℕ) → o ≡ Some (w, rest) → bytes ≡ w ++ stop ∷ rest) → (t ≡ true → b ≡ stop)
-    → cond t (Some ([], bytes)) (seen (onto b) o) ≡ Some (w, rest) → b ∷ bytes ≡ w ++ stop ∷ rest
+    → cond t (Some ([], bytes)) (viewed (onto b) o) ≡ Some (w, rest) → b ∷ bytes ≡ w ++ stop ∷ rest
 word_step stop b bytes o true w rest h is e =
     let e = some_is ([], bytes) (w, rest) e in
     let p : ◌≡◌ {A = List ℕ} [] w = ap (λ (y : List ℕ × List ℕ). y.0) e in
@@ -118,16 +118,16 @@ digits_high n lt =
     (λ m ds big h. All-push (λ b. 48 ≤ b) ds (48 + m % 10) h (omega arith))
     n lt
 
-value_digits : (ds : List ℕ) (n : ℕ) → All (λ b. 48 ≤ b) ds → digits_value 10 ds ≡ n → value ds ≡ pos n
-unfolding value
+value_digits : (ds : List ℕ) (n : ℕ) → All (λ b. 48 ≤ b) ds → digits_value 10 ds ≡ n → word_value ds ≡ pos n
+unfolding word_value
 value_digits [] n h e = ap (λ (m : ℕ). pos m) e
 value_digits (b ∷ ds) n h e =
     let high : 48 ≤ b = All-head (λ b. 48 ≤ b) b ds h in
     let t : eqb b 45 ≡ false = ne_eqb b 45 (λ same. omega arith) in
     rw t (ap (λ (m : ℕ). pos m) e)
 
-pub value_of : (z : ℤ) → FitsSigned w64 z → value (signed_decimal z) ≡ z
-unfolding value
+pub value_of : (z : ℤ) → FitsSigned w64 z → word_value (signed_decimal z) ≡ z
+unfolding word_value
 value_of (pos n) f = value_digits (decimal n) n (digits_high n (omega (arith, f.sfits))) (decimal_is_IsNumeral n (omega (arith, f.sfits))).1
 value_of (negsuc n) f = ap (λ (m : ℕ). neg_ℤ (pos m)) (decimal_is_IsNumeral (suc n) (omega (arith, f.sfits))).1
 
@@ -139,21 +139,21 @@ pub record IsSpelledIn (least most : ℤ) (word : List ℕ) (z : ℤ) : Type 0 w
 pub spelled_takes : (least most : ℤ) (word : List ℕ) (z : ℤ) → spelled least most word ≡ Some z → IsSpelledIn least most word z
 unfolding spelled
 spelled_takes least most word z e =
-    let g = guard_some (pointwise nat_eq (signed_decimal (value word)) word && (int_le least (value word) && int_le (value word) most)) (value word) z e in
-    let a = and_parts (pointwise nat_eq (signed_decimal (value word)) word) (int_le least (value word) && int_le (value word) most) g.0 in
-    let b = and_parts (int_le least (value word)) (int_le (value word) most) a.1 in
-    let is : signed_decimal (value word) ≡ word = same_text (signed_decimal (value word)) word (sym a.0) in
+    let g = guard_some (pointwise nat_eq (signed_decimal (word_value word)) word && (int_le least (word_value word) && int_le (word_value word) most)) (word_value word) z e in
+    let a = and_parts (pointwise nat_eq (signed_decimal (word_value word)) word) (int_le least (word_value word) && int_le (word_value word) most) g.0 in
+    let b = and_parts (int_le least (word_value word)) (int_le (word_value word) most) a.1 in
+    let is : signed_decimal (word_value word) ≡ word = same_text (signed_decimal (word_value word)) word (sym a.0) in
     record {
       text = sym is ∙ ap signed_decimal g.1;
-      low = subst (λ (x : ℤ). least ≤ℤ x) g.1 (int_le_yes least (value word) b.0);
-      high = subst (λ (x : ℤ). x ≤ℤ most) g.1 (int_le_yes (value word) most b.1);
+      low = subst (λ (x : ℤ). least ≤ℤ x) g.1 (int_le_yes least (word_value word) b.0);
+      high = subst (λ (x : ℤ). x ≤ℤ most) g.1 (int_le_yes (word_value word) most b.1);
     }
 
 -- a word that spells z reads as z where z is in the range
 pub spelled_word : (least most : ℤ) (word : List ℕ) (z : ℤ) (t : Bool) → FitsSigned w64 z → word ≡ signed_decimal z → (int_le least z && int_le z most) ≡ t → spelled least most word ≡ cond t (Some z) None
 unfolding spelled
 spelled_word least most word z t f e h =
-    let v : value word ≡ z = ap value e ∙ value_of z f in
+    let v : word_value word ≡ z = ap word_value e ∙ value_of z f in
     let p : pointwise nat_eq (signed_decimal z) word ≡ true = ap (pointwise nat_eq (signed_decimal z)) e ∙ pointwise_self (signed_decimal z) in
     rw (v, p, h) refl
 

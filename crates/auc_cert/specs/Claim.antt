@@ -1,5 +1,5 @@
 -- Which claims the checker lets pass, and which fault it names otherwise.
-use Rattle.std.specs.Prelude.{◌≡◌, ◌≢◌, ℕ, ◌+◌, ◌==◌, ◌<◌, Bool, true, false, not, ◌&&◌, ◌||◌, nat_lt, if◌then◌else◌, List, [], ◌∷◌, ◌++◌, length, map, Option, Some, None, Result, Ok, Err, ℤ, pos, ◌+ℤ◌, int_le, nat_eq, slice_index_or}
+use Rattle.std.specs.Prelude.{◌≡◌, ℕ, ◌+◌, ◌==◌, ◌<◌, Bool, true, false, not, ◌&&◌, ◌||◌, nat_lt, if◌then◌else◌, List, [], ◌∷◌, ◌++◌, length, map, Option, Some, None, Result, Ok, Err, ℤ, pos, ◌+ℤ◌, int_le, nat_eq, slice_index_or}
 use Rattle.std.specs.Option.{option_map}
 use Rattle.std.specs.List.{position, list_all, list_any}
 use Rattle.std.specs.Ordering.{int_eq}
@@ -9,14 +9,18 @@ use Rattle.auc_cert.specs.declared.lists.Pick.{Pick}
 use Rattle.auc_cert.specs.declared.cert.CertParts.{CertParts}
 use Rattle.auc_cert.specs.declared.cert.CertParts.TheVariants.{Optimal, Infeasible}
 use Rattle.auc_cert.specs.declared.refused.CertRefused.{CertRefused}
-use Rattle.auc_cert.specs.declared.refused.CertRefused.TheVariants.{WrongSize, NoSuchArc, ObjectTwice, WrongCost, Slack, NotHall, NoMemory}
+use Rattle.auc_cert.specs.declared.refused.CertRefused.TheVariants.{WrongSize, NoSuchArc, ObjectTwice, WrongCost, Slack, NotHall}
 use Rattle.auc_graph.specs.Assignment.{total_cost, IsLeast}
 use Rattle.auc_graph.specs.HallSet.{IsHallSet}
-use Rattle.auc_cert.specs.Slackness.{value}
+use Rattle.auc_graph.specs.Dual.{arc_value, scale_of}
 
 -- the arc that a pick names
 abbrev pub arc_of : ℕ → Pick → Arc
 arc_of person p = record { person = person; object = p.object; cost = p.cost }
+
+-- what the person of an arc takes by it
+abbrev pub pick_of : Arc → Pick
+pick_of a = record { object = a.object; cost = a.cost }
 
 -- the arcs that picks name, for the persons from k on
 abbrev pub chosen : ℕ → List Pick → List Arc
@@ -32,7 +36,7 @@ is_missing arcs c = list_all (λ a. not (same_arc c a)) arcs
 
 -- the arc is of another person, or c is worse by 1 at most
 abbrev pub bears : ℕ → List ℤ → Arc → Arc → Bool
-bears s prices c a = not (c.person == a.person) || int_le (value s prices c) (value s prices a +ℤ pos 1)
+bears s prices c a = not (c.person == a.person) || int_le (arc_value s prices c) (arc_value s prices a +ℤ pos 1)
 
 abbrev pub is_slack_right : ℕ → List ℤ → List Arc → Arc → Bool
 is_slack_right s prices arcs c = list_all (bears s prices c) arcs
@@ -45,10 +49,14 @@ repeated earlier (j ∷ js) = if list_any (nat_eq j) earlier then Some j else re
 abbrev pub fault_if : Bool → CertRefused → Option CertRefused
 fault_if b fault = if b then Some fault else None
 
+-- a pick for each person, and a price for each object
+abbrev pub is_sized : Problem → List Pick → List ℤ → Bool
+is_sized p choice prices = (length choice == p.persons) && (length prices == p.objects)
+
 -- what the tests of a choice find, in their order
-abbrev pub choice_faults : Problem → ℤ → List Pick → List (Option CertRefused)
-choice_faults p cost choice =
-    fault_if (not (length choice == p.persons)) WrongSize
+abbrev pub choice_faults : Problem → ℤ → List Pick → List ℤ → List (Option CertRefused)
+choice_faults p cost choice prices =
+    fault_if (not (is_sized p choice prices)) WrongSize
     ∷ option_map (λ i. NoSuchArc i) (position (is_missing p.arcs) (chosen 0 choice))
     ∷ option_map (λ j. ObjectTwice j) (repeated [] (map (λ c. c.object) choice))
     ∷ fault_if (not (int_eq cost (total_cost (chosen 0 choice)))) WrongCost
@@ -56,7 +64,7 @@ choice_faults p cost choice =
 
 -- what the test of slackness finds: the first person with a better arc
 abbrev pub slack_fault : Problem → List Pick → List ℤ → Option CertRefused
-slack_fault p choice prices = option_map (λ i. Slack i) (position (λ c. not (is_slack_right (p.persons + 1) prices p.arcs c)) (chosen 0 choice))
+slack_fault p choice prices = option_map (λ i. Slack i) (position (λ c. not (is_slack_right (scale_of p) prices p.arcs c)) (chosen 0 choice))
 
 abbrev pub are_below : ℕ → List ℕ → Bool
 are_below n numbers = list_all (λ k. nat_lt k n) numbers
@@ -74,7 +82,7 @@ is_hall p persons objects = (are_below p.persons persons && are_below p.objects 
 
 -- what the tests of a claim find, in their order
 abbrev pub faults_of : Problem → CertParts → List (Option CertRefused)
-faults_of p (Optimal cost choice prices) = choice_faults p cost choice ++ slack_fault p choice prices ∷ []
+faults_of p (Optimal cost choice prices) = choice_faults p cost choice prices ++ slack_fault p choice prices ∷ []
 faults_of p (Infeasible persons objects) = fault_if (not (is_hall p persons objects)) NotHall ∷ []
 
 -- the first fault that was found
@@ -87,10 +95,10 @@ first_of (Some e ∷ faults) = Some e
 abbrev pub fault_of : Problem → CertParts → Option CertRefused
 fault_of p c = first_of (faults_of p c)
 
--- what was answered is this fault, or Ok where there is none
-abbrev pub Answers : {X : Type 0} → Result X CertRefused → Option CertRefused → Type 0
-Answers (Ok x) fault = fault ≡ None
-Answers (Err e) fault = e ≢ NoMemory → fault ≡ Some e
+-- this fault is told, or Ok where there is none
+abbrev pub IsVerdict : {X : Type 0} → Option CertRefused → Result X CertRefused → Type 0
+IsVerdict fault (Ok x) = fault ≡ None
+IsVerdict fault (Err e) = fault ≡ Some e
 
 -- what a certificate says of a problem; no price is in it
 abbrev pub IsAllowed : Problem → CertParts → Type 0

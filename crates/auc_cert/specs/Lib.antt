@@ -1,4 +1,4 @@
-pub mod Slackness
+pub mod Writing
 pub mod Spelled
 pub mod Text
 pub mod Claim

@@ -1,22 +1,22 @@
 //! The lines of a certificate, read one by one.
 
 ghost use Rattle.std.specs.Prelude.{◌≡◌, ◌<◌, ◌≤◌, IfSome};
-ghost use Rattle.auc_cert.specs.Fields.{seen, after, pick_at, price_at, optimal_at, infeasible_at, number_at};
+ghost use Rattle.auc_cert.specs.Fields.{viewed, after, pick_line_at, price_line_at, optimal_at, infeasible_at, number_at};
 ghost use Rattle.auc_cert.specs.Text.{head_line};
 
 use crate::fields::{field_of, index_of};
-use crate::limits::{HIGHEST_PRICE, MOST_COST, MOST_PERSONS};
+use crate::limits::{HIGHEST_PRICE, MOST_COST, MOST_OBJECTS, MOST_PERSONS};
 use crate::lists::Pick;
 
 /// The pick on the line of a person at the front, and what stands behind the line.
-#[tactic(auto, unfolding(crate::specs::Fields::pick_at))]
+#[tactic(auto, unfolding(crate::specs::Fields::pick_line_at))]
 pub(crate) fn pick_of(bytes: &[u8], person: u32) -> Option<(Pick, &[u8])>
     requires { person < 10000 }
-    ensures { seen (λ x. (x.0, x.1.now)) result ≡ pick_at person bytes.now }
+    ensures { viewed (λ x. (x.0, x.1.now)) result ≡ pick_line_at person bytes.now }
 {
     let place = person as i64 + 1;
     let (_, rest) = field_of(bytes, b"assign ", place, place, b' ')?;
-    let (object, rest) = field_of(rest, b"", 1, MOST_PERSONS as i64, b' ')?;
+    let (object, rest) = field_of(rest, b"", 1, MOST_OBJECTS as i64, b' ')?;
     let (cost, rest) = field_of(rest, b"", -MOST_COST, MOST_COST, b'\n')?;
     let pick = Pick {
         object: index_of(object),
@@ -26,10 +26,10 @@ pub(crate) fn pick_of(bytes: &[u8], person: u32) -> Option<(Pick, &[u8])>
 }
 
 /// The price on the line of an object at the front, and what stands behind the line.
-#[tactic(auto, unfolding(crate::specs::Fields::price_at))]
+#[tactic(auto, unfolding(crate::specs::Fields::price_line_at))]
 pub(crate) fn price_of(bytes: &[u8], object: u32) -> Option<(i64, &[u8])>
     requires { object < 10000 }
-    ensures { seen (λ x. (x.0, x.1.now)) result ≡ price_at object bytes.now }
+    ensures { viewed (λ x. (x.0, x.1.now)) result ≡ price_line_at object bytes.now }
 {
     let place = object as i64 + 1;
     let (_, rest) = field_of(bytes, b"price ", place, place, b' ')?;
@@ -40,7 +40,7 @@ pub(crate) fn price_of(bytes: &[u8], object: u32) -> Option<(i64, &[u8])>
 #[tactic(auto, unfolding(crate::specs::Fields::optimal_at))]
 pub(crate) fn optimal_of(bytes: &[u8]) -> Option<((u32, i64), &[u8])>
     ensures bounds { IfSome result (λ x. (1 ≤ x.0.0) × (x.0.0 ≤ 10000)) }
-    ensures exact { seen (λ x. (x.0, x.1.now)) result ≡ optimal_at bytes.now }
+    ensures exact { viewed (λ x. (x.0, x.1.now)) result ≡ optimal_at bytes.now }
 {
     let (persons, rest) = field_of(bytes, b"optimal ", 1, MOST_PERSONS as i64, b' ')?;
     let (cost, rest) = field_of(rest, b"", i64::MIN, i64::MAX, b'\n')?;
@@ -52,10 +52,10 @@ pub(crate) fn optimal_of(bytes: &[u8]) -> Option<((u32, i64), &[u8])>
 pub(crate) fn infeasible_of(bytes: &[u8]) -> Option<((u32, u32), &[u8])>
     ensures persons { IfSome result (λ x. (1 ≤ x.0.0) × (x.0.0 ≤ 10000)) }
     ensures objects { IfSome result (λ x. x.0.1 ≤ 10000) }
-    ensures exact { seen (λ x. (x.0, x.1.now)) result ≡ infeasible_at bytes.now }
+    ensures exact { viewed (λ x. (x.0, x.1.now)) result ≡ infeasible_at bytes.now }
 {
     let (persons, rest) = field_of(bytes, b"infeasible ", 1, MOST_PERSONS as i64, b' ')?;
-    let (objects, rest) = field_of(rest, b"", 0, MOST_PERSONS as i64, b'\n')?;
+    let (objects, rest) = field_of(rest, b"", 0, MOST_OBJECTS as i64, b'\n')?;
     Some(((persons as u32, objects as u32), rest))
 }
 
@@ -69,7 +69,7 @@ pub(crate) fn number_of<'a>(
 ) -> Option<(u32, &'a [u8])>
     requires { end ≤ 10000 }
     ensures bounds { IfSome result (λ x. (least ≤ x.0) × (x.0 < end)) }
-    ensures exact { seen (λ x. (x.0, x.1.now)) result ≡ number_at front.now least end bytes.now }
+    ensures exact { viewed (λ x. (x.0, x.1.now)) result ≡ number_at front.now least end bytes.now }
 {
     let (number, rest) = field_of(bytes, front, least as i64 + 1, end as i64, b'\n')?;
     Some((index_of(number), rest))
@@ -78,7 +78,7 @@ pub(crate) fn number_of<'a>(
 /// What stands behind the first line.
 #[tactic(auto, unfolding(crate::specs::Fields::after))]
 pub(crate) fn after_head(bytes: &[u8]) -> Option<&[u8]>
-    ensures { seen (λ x. x.now) result ≡ after head_line bytes.now }
+    ensures { viewed (λ x. x.now) result ≡ after head_line bytes.now }
 {
     bytes.strip_prefix(b"auction 1\n")
 }

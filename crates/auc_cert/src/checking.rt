@@ -1,9 +1,10 @@
 //! Whether a claim holds.
 
 ghost use Rattle.std.specs.Prelude.{◌≡◌, ◌≤◌, ◌<◌, ◌+◌, ◌∷◌, [], All, IsOk, length};
+ghost use Rattle.auc_graph.specs.Memory.{AnswersUnless};
 ghost use Rattle.auc_graph.specs.Problem.{IsProblem};
-ghost use Rattle.auc_cert.specs.Spelled.{IsPick, IsChoice, AreNamed};
-ghost use Rattle.auc_cert.specs.Claim.{choice_faults, slack_fault, fault_of, first_of, Answers, IsAllowed};
+ghost use Rattle.auc_cert.specs.Spelled.{IsChoice, AreNamed};
+ghost use Rattle.auc_cert.specs.Claim.{choice_faults, slack_fault, fault_of, first_of, IsVerdict, IsAllowed};
 
 use crate::cert::{Cert, CertParts};
 use crate::flags::{missing_person, slack_person};
@@ -14,25 +15,28 @@ use crate::refused::CertRefused;
 use auc_graph::{ArcList, MOST_PERSONS};
 use std::alloc::Global;
 
-/// Whether the picks are an assignment of this cost: as many as persons, each an arc of his person, no object twice.
+/// Whether the picks are an assignment of this cost, and there is a price for each object: as many picks as persons, each an
+/// arc of his person, no object twice.
 fn check_choice(
     alloc: Global,
     problem: &ArcList,
     cost: i64,
     choice: &[Pick],
+    prices: &[i64],
 ) -> Result<(), CertRefused>
-    requires few { length choice.now ≤ MOST_PERSONS }
-    requires picks { All IsPick choice.now }
-    ensures exact { Answers result (first_of (choice_faults problem.now cost choice.now)) }
-    ensures objects { IsOk result → All (λ p. p.object < problem.now.persons) choice.now }
+    requires { length choice.now ≤ MOST_PERSONS }
+    ensures exact { AnswersUnless CertRefused.NoMemory (λ x. x) result (IsVerdict (first_of (choice_faults problem.now cost choice.now prices.now))) }
+    ensures size { IsOk result → length choice.now ≡ problem.now.persons }
+    ensures prices { IsOk result → length prices.now ≡ problem.now.objects }
+    ensures objects { IsOk result → All (λ p. p.object < problem.now.objects) choice.now }
 {
-    if choice.len() != problem.persons() as usize {
+    if choice.len() != problem.persons() as usize || prices.len() != problem.objects() as usize {
         return Err(CertRefused::WrongSize);
     }
     if let Some(person) = missing_person(alloc, choice, problem.arcs())? {
         return Err(CertRefused::NoSuchArc { person });
     }
-    if let Some(object) = repeated_object(alloc, MOST_PERSONS as usize, choice)? {
+    if let Some(object) = repeated_object(alloc, problem.objects() as usize, choice)? {
         return Err(CertRefused::ObjectTwice { object });
     }
     if cost_of(choice) != cost as i128 {
@@ -49,9 +53,9 @@ fn check_slack(
     prices: &[i64],
 ) -> Result<(), CertRefused>
     requires size { length choice.now ≡ problem.now.persons }
-    requires prices { length prices.now ≡ problem.now.persons }
-    requires objects { All (λ p. p.object < problem.now.persons) choice.now }
-    ensures exact { Answers result (first_of (slack_fault problem.now choice.now prices.now ∷ [])) }
+    requires prices { length prices.now ≡ problem.now.objects }
+    requires objects { All (λ p. p.object < problem.now.objects) choice.now }
+    ensures exact { AnswersUnless CertRefused.NoMemory (λ x. x) result (IsVerdict (first_of (slack_fault problem.now choice.now prices.now ∷ []))) }
     ensures problem { IsProblem problem.now }
 {
     let arcs = problem.arcs();
@@ -70,10 +74,10 @@ fn check_optimal(
     prices: &[i64],
 ) -> Result<(), CertRefused>
     requires { IsChoice choice.now prices.now }
-    ensures exact { Answers result (fault_of problem.now (CertParts.Optimal cost choice.now prices.now)) }
+    ensures exact { AnswersUnless CertRefused.NoMemory (λ x. x) result (IsVerdict (fault_of problem.now (CertParts.Optimal cost choice.now prices.now))) }
     ensures allowed { IsOk result → IsAllowed problem.now (CertParts.Optimal cost choice.now prices.now) }
 {
-    check_choice(alloc, problem, cost, choice)?;
+    check_choice(alloc, problem, cost, choice, prices)?;
     check_slack(alloc, problem, choice, prices)
 }
 
@@ -84,7 +88,7 @@ fn check_infeasible(
     objects: &[u32],
 ) -> Result<(), CertRefused>
     requires { AreNamed persons.now objects.now }
-    ensures exact { Answers result (fault_of problem.now (CertParts.Infeasible persons.now objects.now)) }
+    ensures exact { AnswersUnless CertRefused.NoMemory (λ x. x) result (IsVerdict (fault_of problem.now (CertParts.Infeasible persons.now objects.now))) }
     ensures allowed { IsOk result → IsAllowed problem.now (CertParts.Infeasible persons.now objects.now) }
 {
     if !is_hall(alloc, problem, persons, objects)? {
@@ -111,7 +115,7 @@ fn check_infeasible(
 ///
 /// Takes O(arcs + persons) time, two passes over the arcs, and O(persons) memory.
 pub fn check(alloc: Global, problem: &ArcList, cert: &Cert) -> Result<(), CertRefused>
-    ensures exact { Answers result (fault_of problem.now cert.now) }
+    ensures exact { AnswersUnless CertRefused.NoMemory (λ x. x) result (IsVerdict (fault_of problem.now cert.now)) }
     ensures allowed { IsOk result → IsAllowed problem.now cert.now }
 {
     match cert.parts() {

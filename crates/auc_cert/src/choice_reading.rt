@@ -1,7 +1,8 @@
 //! A pick for each person and a price for each object, read line by line.
 
 ghost use Rattle.std.specs.Prelude.{◌≡◌, ◌≤◌, ◌+◌, length, IfOk, IfErr};
-ghost use Rattle.auc_cert.specs.Runs.{IsRun, BreaksOff, AtLine, From};
+ghost use Rattle.auc_graph.specs.Memory.{AnswersUnless};
+ghost use Rattle.auc_cert.specs.Runs.{IsRun, BreaksOff, NamesLine, From};
 ghost use Rattle.auc_cert.specs.Spelled.{IsPick, IsPrice, IsChoice};
 ghost use Rattle.auc_cert.specs.Text.{assign_line, price_line, joined, choice_lines};
 ghost use Rattle.auc_cert.specs.CertReading.{IsFirstBadOf, ChoiceLines};
@@ -15,7 +16,7 @@ use std::alloc::Global;
 fn picks_of(alloc: Global, persons: u32, bytes: &[u8]) -> Result<(Vec<Pick>, &[u8]), CertTextError>
     requires { persons ≤ 10000 }
     ensures found { IfOk result (λ x. IsRun assign_line IsPick persons bytes.now x.0.items x.1.now) }
-    ensures line { IfErr result (λ e. AtLine e (From 2 (BreaksOff assign_line IsPick persons bytes.now))) }
+    ensures line { AnswersUnless CertTextError.NoMemory (λ x. x) result (λ r. IfErr r (NamesLine (From 2 (BreaksOff assign_line IsPick persons bytes.now)))) }
 {
     let mut picks = Vec::new(alloc);
     let mut rest = bytes;
@@ -38,7 +39,7 @@ fn picks_of(alloc: Global, persons: u32, bytes: &[u8]) -> Result<(Vec<Pick>, &[u
 fn prices_of(alloc: Global, objects: u32, bytes: &[u8]) -> Result<(Vec<i64>, &[u8]), CertTextError>
     requires { objects ≤ 10000 }
     ensures found { IfOk result (λ x. IsRun price_line IsPrice objects bytes.now x.0.items x.1.now) }
-    ensures line { IfErr result (λ e. AtLine e (From (2 + objects) (BreaksOff price_line IsPrice objects bytes.now))) }
+    ensures line { AnswersUnless CertTextError.NoMemory (λ x. x) result (λ r. IfErr r (NamesLine (From (2 + objects) (BreaksOff price_line IsPrice objects bytes.now)))) }
 {
     let mut prices = Vec::new(alloc);
     let mut rest = bytes;
@@ -66,7 +67,7 @@ pub(crate) fn choice_of(
     requires some { 1 ≤ persons }
     requires most { persons ≤ 10000 }
     ensures found { IfOk result (λ x. IsChoice x.0.items x.1.items × (length x.0.items ≡ persons) × (bytes.now ≡ joined (choice_lines x.0.items x.1.items))) }
-    ensures line { IfErr result (λ e. AtLine e (From 2 (IsFirstBadOf (ChoiceLines persons) bytes.now))) }
+    ensures line { AnswersUnless CertTextError.NoMemory (λ x. x) result (λ r. IfErr r (NamesLine (From 2 (IsFirstBadOf (ChoiceLines persons) bytes.now)))) }
 {
     let (choice, rest) = picks_of(alloc, persons, bytes)?;
     let (prices, rest) = prices_of(alloc, persons, rest)?;

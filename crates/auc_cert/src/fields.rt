@@ -3,7 +3,7 @@
 ghost use Rattle.std.specs.Prelude.{◌≡◌, ◌-◌, ℤ, ◌≤ℤ◌, pos, unsigned_abs, IfSome, IfNone, FitsSigned};
 ghost use Rattle.std.specs.Int.{w64};
 ghost use Rattle.std.specs.Fmt.{signed_decimal};
-ghost use Rattle.auc_cert.specs.Fields.{seen, word_at, spelled, field_at};
+ghost use Rattle.auc_cert.specs.Fields.{viewed, word_at, spelled, field_at};
 
 use itoa::Buffer;
 use std::str;
@@ -44,7 +44,7 @@ fn spelled_in(word: &[u8], least: i64, most: i64) -> Option<i64>
 
 /// What stands before the first such byte, and what stands behind it.
 fn word_before(bytes: &[u8], stop: u8) -> Option<(&[u8], &[u8])>
-    ensures { seen (λ x. (x.0.now, x.1.now)) result ≡ word_at stop bytes.now }
+    ensures { viewed (λ x. (x.0.now, x.1.now)) result ≡ word_at stop bytes.now }
 {
     for (i, byte) in bytes.iter().enumerate() {
         if *byte == stop {
@@ -63,7 +63,7 @@ pub(crate) fn field_of<'a>(
     most: i64,
     stop: u8,
 ) -> Option<(i64, &'a [u8])>
-    ensures exact { seen (λ x. (x.0, x.1.now)) result ≡ field_at front.now least most stop bytes.now }
+    ensures exact { viewed (λ x. (x.0, x.1.now)) result ≡ field_at front.now least most stop bytes.now }
     ensures bounds { IfSome result (λ x. (least ≤ℤ x.0) × (x.0 ≤ℤ most)) }
 {
     let rest = bytes.strip_prefix(front)?;

@@ -1,6 +1,6 @@
 //! What one pass over the arcs shows of each person's pick: a flag for each person.
 
-ghost use Rattle.std.specs.Prelude.{◌≡◌, ◌<◌, ◌+◌, ◌^◌, not, ◌&&◌, length, All, IfOk, pos, ◌+ℤ◌, ◌*ℤ◌};
+ghost use Rattle.std.specs.Prelude.{◌≡◌, ◌<◌, ◌+◌, ◌^◌, not, ◌&&◌, length, All, IfOk, pos, neg_ℤ, ◌+ℤ◌, ◌*ℤ◌, ◌≤ℤ◌};
 ghost use Rattle.std.specs.List.{position};
 ghost use Rattle.auc_graph.specs.Problem.{IsWithin};
 ghost use Rattle.auc_cert.specs.Claim.{arc_of, chosen, same_arc, is_missing, bears, is_slack_right, AreFlags, is_flag};
@@ -36,7 +36,7 @@ fn is_same(person: u32, pick: Pick, arc: Arc) -> bool
 
 /// For each person, that no arc is his pick.
 fn missing_flags(alloc: Global, choice: &[Pick], arcs: &[Arc]) -> Result<Vec<bool>, AllocError>
-    requires { All (IsWithin (length choice.now) (length choice.now)) arcs.now }
+    requires { All (λ a. a.person < length choice.now) arcs.now }
     ensures { IfOk result (λ v. AreFlags (is_missing arcs.now) choice.now v.items) }
 {
     let mut flags = vec![in alloc; true; choice.len()]?;
@@ -55,7 +55,7 @@ pub(crate) fn missing_person(
     arcs: &[Arc],
 ) -> Result<Option<u32>, AllocError>
     requires few { length choice.now < 2 ^ 32 }
-    requires within { All (IsWithin (length choice.now) (length choice.now)) arcs.now }
+    requires persons { All (λ a. a.person < length choice.now) arcs.now }
     ensures { IfOk result (λ o. o ≡ position (is_missing arcs.now) (chosen 0 choice.now)) }
 {
     let missing = missing_flags(alloc, choice, arcs)?;
@@ -64,7 +64,9 @@ pub(crate) fn missing_person(
 
 /// The value of an arc: its scaled cost and the price of its object.
 fn value_of(scale: u32, cost: i64, price: i64) -> i128
-    ensures { result ≡ pos scale *ℤ cost +ℤ price }
+    ensures is { result ≡ pos scale *ℤ cost +ℤ price }
+    ensures low { neg_ℤ (pos (2 ^ 96)) ≤ℤ result }
+    ensures high { result ≤ℤ pos (2 ^ 96) }
 {
     scale as i128 * cost as i128 + price as i128
 }

@@ -15,6 +15,7 @@ mod laws;
 mod limits;
 mod lists;
 mod name_reading;
+mod output;
 mod picks;
 mod reading;
 mod refused;
@@ -24,13 +25,12 @@ mod writing;
 pub use cert::{Cert, CertParts};
 pub use checking::check;
 pub use laws::{
-    faultless_claims_are_allowed, hall_sets_pass, no_spelling_begins_another,
-    slack_right_costs_least,
+    assignments_pass, faultless_claims_are_allowed, hall_sets_pass, no_spelling_begins_another,
 };
-pub use limits::HIGHEST_PRICE;
 pub use lists::{Pick, Picks, Prices};
+pub use output::{WriteFault, write_count, write_number, write_whole};
 pub use picks::cost_of;
 pub use reading::read_cert;
 pub use refused::CertRefused;
 pub use text_error::CertTextError;
-pub use writing::{WriteFault, write_cert, write_picks, write_whole};
+pub use writing::{write_cert, write_picks};

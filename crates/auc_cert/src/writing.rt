@@ -1,61 +1,17 @@
 //! The text of a certificate, written.
 
-ghost use Rattle.std.specs.Prelude.{◌≡◌, ◌+◌, ◌++◌, ◌<◌, ◌^◌, OnOk, length};
-ghost use Rattle.std.specs.Fmt.{decimal, signed_decimal};
-ghost use Rattle.std.specs.Io.KnownBytes.{Appends};
+ghost use Rattle.std.specs.Prelude.{◌++◌, ◌<◌, ◌^◌, length};
+ghost use Rattle.auc_cert.specs.Writing.{Writes};
 ghost use Rattle.auc_cert.specs.Text.{text, head_line, assign_line, price_line, optimal_line, infeasible_line, number_line, numbered, joined};
 
 use crate::cert::{Cert, CertParts};
 use crate::lists::Pick;
-use itoa::Buffer;
+use crate::output::{WriteFault, write_count, write_number, write_whole};
 use std::io::Write;
-use thiserror::Error;
-
-/// Why a text was not written. What went out before is not told.
-#[derive(Clone, Copy, Debug, PartialEq, Eq, Error)]
-pub enum WriteFault {
-    /// A write failed; an interrupted one too.
-    #[error("a write failed")]
-    Failed,
-    /// A write took no bytes.
-    #[error("a write took no bytes")]
-    Stopped,
-}
-
-/// Writes these bytes, all of them, by as many calls of `write` as that takes. Takes no memory.
-pub fn write_whole<W: Write>(writer: &mut W, bytes: &[u8]) -> Result<(), WriteFault>
-    ensures { OnOk result (Appends (W.contents writer.old) (W.contents writer.new) bytes.now) }
-{
-    let mut rest = bytes;
-    while !rest.is_empty() {
-        match writer.write(rest) {
-            Ok(0) => return Err(WriteFault::Stopped),
-            Ok(taken) => rest = &rest[taken..],
-            Err(_) => return Err(WriteFault::Failed),
-        }
-    }
-    Ok(())
-}
-
-/// Writes a number in decimal.
-fn write_count<W: Write>(writer: &mut W, count: u64) -> Result<(), WriteFault>
-    ensures { OnOk result (Appends (W.contents writer.old) (W.contents writer.new) (decimal count)) }
-{
-    let mut buffer = Buffer::new();
-    write_whole(writer, buffer.format(count).as_bytes())
-}
-
-/// Writes a number in decimal, with a minus where it is negative.
-fn write_number<W: Write>(writer: &mut W, number: i64) -> Result<(), WriteFault>
-    ensures { OnOk result (Appends (W.contents writer.old) (W.contents writer.new) (signed_decimal number)) }
-{
-    let mut buffer = Buffer::new();
-    write_whole(writer, buffer.format(number).as_bytes())
-}
 
 /// Writes the first two lines of an optimal certificate.
 fn write_head<W: Write>(writer: &mut W, persons: u64, cost: i64) -> Result<(), WriteFault>
-    ensures { OnOk result (Appends (W.contents writer.old) (W.contents writer.new) (head_line ++ optimal_line persons cost)) }
+    ensures { Writes result (W.contents writer.old) (W.contents writer.new) (head_line ++ optimal_line persons cost) }
 {
     write_whole(writer, b"auction 1\noptimal ")?;
     write_count(writer, persons)?;
@@ -71,7 +27,7 @@ fn write_infeasible_head<W: Write>(
     persons: u64,
     objects: u64,
 ) -> Result<(), WriteFault>
-    ensures { OnOk result (Appends (W.contents writer.old) (W.contents writer.new) (head_line ++ infeasible_line persons objects)) }
+    ensures { Writes result (W.contents writer.old) (W.contents writer.new) (head_line ++ infeasible_line persons objects) }
 {
     write_whole(writer, b"auction 1\ninfeasible ")?;
     write_count(writer, persons)?;
@@ -84,7 +40,7 @@ fn write_infeasible_head<W: Write>(
 /// Writes the line of a person, who is numbered from 0.
 fn write_pick<W: Write>(writer: &mut W, person: u64, pick: Pick) -> Result<(), WriteFault>
     requires { person < 2 ^ 32 }
-    ensures { OnOk result (Appends (W.contents writer.old) (W.contents writer.new) (assign_line person pick)) }
+    ensures { Writes result (W.contents writer.old) (W.contents writer.new) (assign_line person pick) }
 {
     write_whole(writer, b"assign ")?;
     write_count(writer, person + 1)?;
@@ -99,7 +55,7 @@ fn write_pick<W: Write>(writer: &mut W, person: u64, pick: Pick) -> Result<(), W
 /// Writes the line of an object, which is numbered from 0.
 fn write_price<W: Write>(writer: &mut W, object: u64, price: i64) -> Result<(), WriteFault>
     requires { object < 2 ^ 32 }
-    ensures { OnOk result (Appends (W.contents writer.old) (W.contents writer.new) (price_line object price)) }
+    ensures { Writes result (W.contents writer.old) (W.contents writer.new) (price_line object price) }
 {
     write_whole(writer, b"price ")?;
     write_count(writer, object + 1)?;
@@ -113,7 +69,7 @@ fn write_price<W: Write>(writer: &mut W, object: u64, price: i64) -> Result<(), 
 /// from 1.
 pub fn write_picks<W: Write>(writer: &mut W, choice: &[Pick]) -> Result<(), WriteFault>
     requires { length choice.now < 2 ^ 32 }
-    ensures { OnOk result (Appends (W.contents writer.old) (W.contents writer.new) (joined (numbered assign_line 0 choice.now))) }
+    ensures { Writes result (W.contents writer.old) (W.contents writer.new) (joined (numbered assign_line 0 choice.now)) }
 {
     let mut person: u64 = 0;
     for pick in choice {
@@ -126,7 +82,7 @@ pub fn write_picks<W: Write>(writer: &mut W, choice: &[Pick]) -> Result<(), Writ
 /// Writes the lines of all objects.
 fn write_prices<W: Write>(writer: &mut W, prices: &[i64]) -> Result<(), WriteFault>
     requires { length prices.now < 2 ^ 32 }
-    ensures { OnOk result (Appends (W.contents writer.old) (W.contents writer.new) (joined (numbered price_line 0 prices.now))) }
+    ensures { Writes result (W.contents writer.old) (W.contents writer.new) (joined (numbered price_line 0 prices.now)) }
 {
     let mut object: u64 = 0;
     for price in prices {
@@ -144,7 +100,7 @@ fn write_optimal<W: Write>(
 ) -> Result<(), WriteFault>
     requires choice { length choice.now < 2 ^ 32 }
     requires prices { length prices.now < 2 ^ 32 }
-    ensures { OnOk result (Appends (W.contents writer.old) (W.contents writer.new) (text (CertParts.Optimal cost choice.now prices.now))) }
+    ensures { Writes result (W.contents writer.old) (W.contents writer.new) (text (CertParts.Optimal cost choice.now prices.now)) }
 {
     write_head(writer, choice.len() as u64, cost)?;
     write_picks(writer, choice)?;
@@ -154,7 +110,7 @@ fn write_optimal<W: Write>(
 
 /// Writes the lines of numbers, each behind this front.
 fn write_numbers<W: Write>(writer: &mut W, front: &[u8], numbers: &[u32]) -> Result<(), WriteFault>
-    ensures { OnOk result (Appends (W.contents writer.old) (W.contents writer.new) (joined (numbered (number_line front.now) 0 numbers.now))) }
+    ensures { Writes result (W.contents writer.old) (W.contents writer.new) (joined (numbered (number_line front.now) 0 numbers.now)) }
 {
     for number in numbers {
         write_whole(writer, front)?;
@@ -169,7 +125,7 @@ fn write_infeasible<W: Write>(
     persons: &[u32],
     objects: &[u32],
 ) -> Result<(), WriteFault>
-    ensures { OnOk result (Appends (W.contents writer.old) (W.contents writer.new) (text (CertParts.Infeasible persons.now objects.now))) }
+    ensures { Writes result (W.contents writer.old) (W.contents writer.new) (text (CertParts.Infeasible persons.now objects.now)) }
 {
     write_infeasible_head(writer, persons.len() as u64, objects.len() as u64)?;
     write_numbers(writer, b"person ", persons)?;
@@ -180,7 +136,7 @@ fn write_infeasible<W: Write>(
 /// Writes the text of a certificate, the one that [`read_cert`](crate::read_cert) reads. On an error some of it may have
 /// gone out. Takes O(persons) writes and no memory.
 pub fn write_cert<W: Write>(writer: &mut W, cert: &Cert) -> Result<(), WriteFault>
-    ensures { OnOk result (Appends (W.contents writer.old) (W.contents writer.new) (text cert.now)) }
+    ensures { Writes result (W.contents writer.old) (W.contents writer.new) (text cert.now) }
 {
     match cert.parts() {
         CertParts::Optimal {

@@ -1,10 +1,17 @@
-pub mod TokenLaws
-pub mod MagnitudeLaws
-pub mod NumberLaws
-pub mod ArcLaws
-pub mod RowLaws
-pub mod CountLaws
-pub mod LayoutLaws
-pub mod SpreadLaws
+-- for use above
+pub mod RisingLaws
+pub mod DualLaws
+-- for this crate
+mod TokenLaws
+mod MagnitudeLaws
+mod NumberLaws
+mod ArcLaws
+mod RowLaws
+mod CountLaws
+mod LayoutLaws
+mod SpreadLaws
+mod Scale
+mod PriceSums
 mod WorkedTexts
 mod WorkedRows
+mod WorkedDual

@@ -1,10 +1,11 @@
 -- What a person bids, on the arcs of his row.
 use Rattle.std.specs.Prelude.{◌≡◌, ◌≢◌, ℕ, ◌≤◌, ◌⊎◌, ℤ, ◌+ℤ◌, ◌-ℤ◌, ◌*ℤ◌, ◌≤ℤ◌, List, Contains, All}
 use Rattle.auc_graph.specs.declared.rows.RowArc.{RowArc}
+use Rattle.auc_graph.specs.Value.{value_at}
 
--- the value of an arc at these prices: its scaled cost and the price of its object
+-- the value of an arc of a row at these prices
 abbrev pub value : ℤ → (ℕ → ℤ) → RowArc → ℤ
-value scale price a = (scale *ℤ a.cost) +ℤ price a.object
+value scale price a = value_at scale price a.cost a.object
 
 -- of the arcs with the least value those to the lowest object, and of these the earliest
 pub record IsBestArc (value_of : RowArc → ℤ) (row : List RowArc) (best : RowArc) : Type 0 where

@@ -1,9 +1,14 @@
+pub mod Memory
+pub mod Rising
 pub mod Tokens
 pub mod Numbers
 pub mod Problem
 pub mod Reading
+pub mod Triple
 pub mod Assignment
 pub mod HallSet
+pub mod Value
+pub mod Dual
 pub mod Row
 pub mod Table
 pub mod Layout

@@ -1,7 +1,7 @@
 -- The assignment problem in sparse form.
 use Rattle.std.specs.Prelude.{◌≡◌, ℕ, ◌≤◌, ◌<◌, List, length, All, neg_ℤ, ◌≤ℤ◌}
 use Rattle.auc_graph.specs.declared.arc.Arc.{Arc}
-use Rattle.auc_graph.specs.declared.limits.TheConstants.{MOST_PERSONS, MOST_ARCS, MOST_COST}
+use Rattle.auc_graph.specs.declared.limits.TheConstants.{MOST_PERSONS, MOST_OBJECTS, MOST_ARCS, MOST_COST}
 
 pub record Problem : Type 0 where
   pub persons : ℕ
@@ -15,10 +15,11 @@ pub record IsWithin (persons objects : ℕ) (arc : Arc) : Type 0 where
   pub low : neg_ℤ MOST_COST ≤ℤ arc.cost
   pub high : arc.cost ≤ℤ MOST_COST
 
--- what holds of each problem
+-- What holds of each problem. That there are as many objects as persons is said here alone.
 pub record IsProblem (p : Problem) : Type 0 where
   pub some : 1 ≤ p.persons
   pub most : p.persons ≤ MOST_PERSONS
+  pub most_objects : p.objects ≤ MOST_OBJECTS
   pub square : p.objects ≡ p.persons
   pub few : length p.arcs ≤ MOST_ARCS
   pub within : All (IsWithin p.persons p.objects) p.arcs

@@ -1,10 +1,10 @@
--- How the numbers of a text read: as a problem, or as the first fault.
-use Rattle.std.specs.Prelude.{◌≡◌, ◌≢◌, ℕ, ◌+◌, ◌*◌, ◌-◌, Bool, ◌&&◌, nat_le, if◌then◌else◌, List, [], ◌∷◌, Result, Ok, Err, ℤ, pos, neg_ℤ, unsigned_abs, int_le}
+-- How the numbers of a text read, one after another: as a problem, or as the first fault.
+use Rattle.std.specs.Prelude.{ℕ, ◌+◌, ◌*◌, ◌-◌, Bool, ◌&&◌, nat_le, if◌then◌else◌, List, [], ◌∷◌, ◌++◌, length, Result, Ok, Err, ℤ, pos, neg_ℤ, unsigned_abs, int_le, fold}
 use Rattle.auc_graph.specs.declared.number.Number.{Number}
 use Rattle.auc_graph.specs.declared.number.Number.TheVariants.{Bad, Value, Huge}
 use Rattle.auc_graph.specs.declared.arc.Arc.{Arc}
 use Rattle.auc_graph.specs.declared.read_error.ReadError.{ReadError}
-use Rattle.auc_graph.specs.declared.read_error.ReadError.TheVariants.{Empty, BadNumber, CountRange, TooManyArcs, PersonRange, ObjectRange, CostRange, Cut, NoMemory}
+use Rattle.auc_graph.specs.declared.read_error.ReadError.TheVariants.{Empty, BadNumber, CountRange, TooManyArcs, PersonRange, ObjectRange, CostRange, Cut}
 use Rattle.auc_graph.specs.declared.limits.TheConstants.{MOST_PERSONS, MOST_COST}
 use Rattle.auc_graph.specs.Numbers.{numbers}
 use Rattle.auc_graph.specs.Problem.{Problem}
@@ -35,62 +35,65 @@ cost token range x = within (neg_ℤ MOST_COST) MOST_COST token range x
 abbrev pub arc_of : ℕ → ℕ → ℤ → Arc
 arc_of person object c = record { person = person; object = object; cost = c }
 
+abbrev pub problem : ℕ → ℕ → List Arc → Problem
+problem persons objects arcs = record { persons = persons; objects = objects; arcs = arcs }
+
 -- no triple stands behind the allowed number of them
 abbrev pub room : ℕ → ℕ → Result ℕ ReadError
 room limit before = if nat_le limit before then Err TooManyArcs else Ok before
 
--- the number at the front, and those behind it
-abbrev pub next : ReadError → List Number → Result (Number × List Number) ReadError
-next cut [] = Err cut
-next cut (x ∷ more) = Ok (x, more)
+-- what the next number of a text is, and what is known by then: the numbers of persons and objects, and of the next arc
+-- the person and the object
+pub data Stage : Type 0 where
+  AtCount : Stage
+  AtPerson : ℕ → ℕ → Stage
+  AtObject : ℕ → ℕ → ℕ → Stage
+  AtCost : ℕ → ℕ → ℕ → ℕ → Stage
 
--- the arc whose first number is i, and the numbers behind it
-unfoldable pub arc_at : ℕ → ℕ → Number → List Number → Result (Arc × List Number) ReadError
-arc_at n before i more = do
-  person ← index n (3 * before + 1) (PersonRange before) i
-  second ← next (Cut (3 * before + 2)) more
-  object ← index n (3 * before + 2) (ObjectRange before) second.0
-  third ← next (Cut (3 * before + 3)) second.1
-  price ← cost (3 * before + 3) (CostRange before) third.0
-  Ok (arc_of person object price, third.1)
+-- the stage and the arcs behind some numbers of a text, or the first fault in them
+abbrev pub State : Type 0
+State = Result (Stage × List Arc) ReadError
 
--- The arcs of n persons and n objects behind `before` earlier ones, by whole triples of numbers. The token
--- of the first number is 1 + 3 * before.
-unfoldable pub arcs_from : ℕ → ℕ → ℕ → List Number → Result (List Arc) ReadError
-arcs_from limit n before [] = Ok []
-arcs_from limit n before (i ∷ []) = do
-  _ ← room limit before
-  person ← index n (3 * before + 1) (PersonRange before) i
-  Err (Cut (3 * before + 2))
-arcs_from limit n before (i ∷ j ∷ []) = do
-  _ ← room limit before
-  person ← index n (3 * before + 1) (PersonRange before) i
-  object ← index n (3 * before + 2) (ObjectRange before) j
-  Err (Cut (3 * before + 3))
-arcs_from limit n before (i ∷ j ∷ c ∷ more) = do
-  _ ← room limit before
-  person ← index n (3 * before + 1) (PersonRange before) i
-  object ← index n (3 * before + 2) (ObjectRange before) j
-  price ← cost (3 * before + 3) (CostRange before) c
-  others ← arcs_from limit n (before + 1) more
-  Ok (arc_of person object price ∷ others)
+abbrev pub start : State
+start = Ok (AtCount, [])
 
-unfoldable pub problem_of : ℕ → List Number → Result Problem ReadError
-problem_of limit [] = Err Empty
-problem_of limit (n ∷ more) = do
-  before ← index MOST_PERSONS 0 CountRange n
-  arcs ← arcs_from limit (before + 1) 0 more
-  Ok (record { persons = before + 1; objects = before + 1; arcs = arcs })
+-- What the next number makes of a stage and of the arcs so far. The first number of arc k stands at token 1 + 3 * k, all
+-- counted from 0.
+unfoldable pub step_at : ℕ → Stage → List Arc → Number → State
+step_at limit AtCount arcs x = do
+  before ← index MOST_PERSONS 0 CountRange x
+  Ok (AtPerson (before + 1) (before + 1), arcs)
+step_at limit (AtPerson persons objects) arcs x = do
+  _ ← room limit (length arcs)
+  person ← index persons (3 * length arcs + 1) (PersonRange (length arcs)) x
+  Ok (AtObject persons objects person, arcs)
+step_at limit (AtObject persons objects person) arcs x = do
+  object ← index objects (3 * length arcs + 2) (ObjectRange (length arcs)) x
+  Ok (AtCost persons objects person object, arcs)
+step_at limit (AtCost persons objects person object) arcs x = do
+  c ← cost (3 * length arcs + 3) (CostRange (length arcs)) x
+  Ok (AtPerson persons objects, arcs ++ arc_of person object c ∷ [])
+
+-- a fault stays the first one
+unfoldable pub step : ℕ → State → Number → State
+step limit (Ok (stage, arcs)) x = step_at limit stage arcs x
+step limit (Err e) x = Err e
+
+-- what the end of the text makes of a stage
+unfoldable pub finish_at : Stage → List Arc → Result Problem ReadError
+finish_at AtCount arcs = Err Empty
+finish_at (AtPerson persons objects) arcs = Ok (problem persons objects arcs)
+finish_at (AtObject persons objects person) arcs = Err (Cut (3 * length arcs + 2))
+finish_at (AtCost persons objects person object) arcs = Err (Cut (3 * length arcs + 3))
+
+unfoldable pub finish : State → Result Problem ReadError
+finish (Ok (stage, arcs)) = finish_at stage arcs
+finish (Err e) = Err e
+
+-- what a text reads as whose numbers stand behind this state: a step for each, and then the end
+unfoldable pub reading_on : ℕ → State → List Number → Result Problem ReadError
+reading_on limit state xs = finish (fold (step limit) state xs)
 
 -- a text under a limit of arcs
 abbrev pub reading : ℕ → List ℕ → Result Problem ReadError
-reading limit text = problem_of limit (numbers text)
-
-abbrev pub seen : {X Y : Type 0} → (X → Y) → Result X ReadError → Result Y ReadError
-seen view (Ok x) = Ok (view x)
-seen view (Err e) = Err e
-
--- What was answered, seen by view, is what reading gives, unless memory ran out.
-abbrev pub Reads : {X Y : Type 0} → (X → Y) → Result X ReadError → Result Y ReadError → Type 0
-Reads view (Ok x) read = read ≡ Ok (view x)
-Reads view (Err e) read = e ≢ NoMemory → read ≡ Err e
+reading limit text = reading_on limit start (numbers text)

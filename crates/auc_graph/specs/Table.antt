@@ -2,7 +2,7 @@
 use Rattle.std.specs.Prelude.{◌≡◌, ℕ, ◌*◌, ◌≤◌, ◌<◌, ◌^◌, List, [], length, map, slice_index_or, All, AllPairs, ℤ, pos, neg_ℤ, ◌≤ℤ◌}
 use Rattle.std.specs.List.{range_with_len}
 use Rattle.auc_graph.specs.declared.rows.RowArc.{RowArc}
-use Rattle.auc_graph.specs.declared.limits.TheConstants.{MOST_PERSONS, MOST_ARCS, MOST_COST}
+use Rattle.auc_graph.specs.declared.limits.TheConstants.{MOST_PERSONS, MOST_OBJECTS, MOST_ARCS, MOST_COST}
 use Rattle.auc_graph.specs.Problem.{Problem}
 use Rattle.auc_graph.specs.Row.{row, IsSpread}
 
@@ -27,10 +27,11 @@ pub record IsRow (objects : ℕ) (arcs : List RowArc) : Type 0 where
   pub rising : AllPairs (λ a b. a.arc < b.arc) arcs
   pub few : length arcs ≤ MOST_ARCS
 
--- what holds of the rows of each problem
+-- What holds of the rows of each problem. That there are as many objects as persons is said here alone.
 pub record IsTable (t : Table) : Type 0 where
   pub some : 1 ≤ length t.rows
   pub most : length t.rows ≤ MOST_PERSONS
+  pub most_objects : t.objects ≤ MOST_OBJECTS
   pub square : t.objects ≡ length t.rows
   pub low : pos 0 ≤ℤ t.spread
   pub high : t.spread ≤ℤ pos (2 * 10 ^ 9)

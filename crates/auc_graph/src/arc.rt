@@ -34,28 +34,30 @@ impl Model for ArcList {
 impl ArcList {
     ghost use Rattle.auc_graph.specs.Problem.{IsProblem};
 
-    /// The problem of as many objects as persons that has these arcs.
-    pub(crate) fn make(persons: u32, arcs: Vec<Arc>) -> Self
-        requires { IsProblem (record { persons = persons; objects = persons; arcs = arcs.items }) }
-        ensures { result ≡ record { persons = persons; objects = persons; arcs = arcs.items } }
+    /// The problem of these persons, objects and arcs.
+    pub(crate) fn make(persons: u32, objects: u32, arcs: Vec<Arc>) -> Self
+        requires { IsProblem (record { persons = persons; objects = objects; arcs = arcs.items }) }
+        ensures { result ≡ record { persons = persons; objects = objects; arcs = arcs.items } }
     {
         ArcList {
             persons,
-            objects: persons,
+            objects,
             arcs,
         }
     }
 
     /// The number of persons, who are numbered from 0.
     pub fn persons(&self) -> u32
-        ensures { result ≡ self.now.persons }
+        ensures persons { result ≡ self.now.persons }
+        ensures problem { IsProblem self.now }
     {
         self.persons
     }
 
     /// The number of objects, which are numbered from 0.
     pub fn objects(&self) -> u32
-        ensures { result ≡ self.now.objects }
+        ensures objects { result ≡ self.now.objects }
+        ensures problem { IsProblem self.now }
     {
         self.objects
     }

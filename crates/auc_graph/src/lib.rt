@@ -6,6 +6,7 @@
 
 mod arc;
 mod indices;
+mod laws;
 mod layout;
 mod limits;
 mod number;
@@ -17,7 +18,10 @@ mod tokens;
 
 pub use arc::{Arc, ArcList};
 pub use indices::Indices;
-pub use limits::{MOST_ARCS, MOST_COST, MOST_PERSONS, MOST_READS};
+pub use laws::{
+    assignments_leave_no_price, limits_are, prices_bound_costs, slack_right_costs_least,
+};
+pub use limits::{MOST_ARCS, MOST_COST, MOST_OBJECTS, MOST_PERSONS, MOST_READS};
 pub use number::{Number, number_of};
 pub use read_error::ReadError;
 pub use reading::{ReadLimits, read_arcs};

@@ -1,7 +1,10 @@
 //! The limits of a problem.
 
-/// The most persons of a problem; there are as many objects.
+/// The most persons of a problem.
 pub const MOST_PERSONS: u32 = 10_000;
+
+/// The most objects of a problem.
+pub const MOST_OBJECTS: u32 = 10_000;
 
 /// The most arcs of a problem.
 pub const MOST_ARCS: u32 = 33_554_432;

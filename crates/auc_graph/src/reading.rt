@@ -1,9 +1,11 @@
 //! Reading of the problem from a text.
 
-ghost use Rattle.std.specs.Prelude.{◌≡◌, ◌≢◌, ◌≤◌, ◌<◌, ◌+◌, ◌*◌, ◌^◌, ◌∷◌, [], ℕ, pos, neg_ℤ, ◌≤ℤ◌, Err, Ok, IfSome, IfNone, IfOk, length, All};
-ghost use Rattle.auc_graph.specs.Numbers.{numbers, number};
+ghost use Rattle.std.specs.Prelude.{◌≡◌, ◌≤◌, ◌<◌, ◌*◌, ◌^◌, ◌∷◌, [], neg_ℤ, ◌≤ℤ◌, Ok, IfSome, IfNone, IfOk, length, All};
+ghost use Rattle.auc_graph.specs.Memory.{AnswersUnless};
+ghost use Rattle.auc_graph.specs.Numbers.{numbers};
 ghost use Rattle.auc_graph.specs.Problem.{IsWithin};
-ghost use Rattle.auc_graph.specs.Reading.{within, index, cost, next, arc_at, arcs_from, problem_of, reading, seen, Reads};
+ghost use Rattle.auc_graph.specs.Reading.{within, index, cost, problem, AtPerson, reading_on, reading};
+ghost use Rattle.auc_graph.specs.Triple.{viewed, next, arc_at};
 
 use crate::arc::{Arc, ArcList};
 use crate::limits::{MOST_ARCS, MOST_COST, MOST_PERSONS, MOST_READS};
@@ -51,7 +53,7 @@ fn next_number(bytes: &[u8]) -> Option<(Number, &[u8])>
 /// The number at the front, and the text behind it, or the error for a text that ends here.
 #[inline(always)]
 fn next_or(bytes: &[u8], cut: ReadError) -> Result<(Number, &[u8]), ReadError>
-    ensures exact { seen (λ x. (x.0, numbers x.1.now)) result ≡ next cut (numbers bytes.now) }
+    ensures exact { viewed (λ x. (x.0, numbers x.1.now)) result ≡ next cut (numbers bytes.now) }
     ensures shorter { IfOk result (λ x. length x.1.now ≤ length bytes.now) }
 {
     match next_number(bytes) {
@@ -96,16 +98,17 @@ fn cost_of(number: Number, token: u64, range: ReadError) -> Result<i64, ReadErro
 }
 
 /// The arc whose first number was read, and the text behind it.
-#[tactic(auto, unfolding(crate::specs::Reading::arc_at))]
+#[tactic(auto, unfolding(crate::specs::Triple::arc_at))]
 fn arc_after(
     persons: u32,
+    objects: u32,
     before: u64,
     first: Number,
     text: &[u8],
 ) -> Result<(Arc, &[u8]), ReadError>
     requires { before < 2 ^ 40 }
-    ensures exact { seen (λ x. (x.0, numbers x.1.now)) result ≡ arc_at persons before first (numbers text.now) }
-    ensures within { IfOk result (λ x. IsWithin persons persons x.0) }
+    ensures exact { viewed (λ x. (x.0, numbers x.1.now)) result ≡ arc_at persons objects before first (numbers text.now) }
+    ensures within { IfOk result (λ x. IsWithin persons objects x.0) }
     ensures shorter { IfOk result (λ x. length x.1.now ≤ length text.now) }
 {
     let person = index_of(
@@ -122,7 +125,7 @@ fn arc_after(
     )?;
     let object = index_of(
         second,
-        persons,
+        objects,
         3 * before + 2,
         ReadError::ObjectRange { arc: before },
     )?;
@@ -144,9 +147,15 @@ fn arc_after(
 }
 
 /// The arcs of a text behind its first number.
-fn arcs_of(alloc: Global, limit: u32, persons: u32, text: &[u8]) -> Result<Vec<Arc>, ReadError>
-    ensures exact { Reads (λ v. v.items) result (arcs_from limit persons 0 (numbers text.now)) }
-    ensures within { IfOk result (λ v. All (IsWithin persons persons) v.items) }
+fn arcs_of(
+    alloc: Global,
+    limit: u32,
+    persons: u32,
+    objects: u32,
+    text: &[u8],
+) -> Result<Vec<Arc>, ReadError>
+    ensures exact { AnswersUnless ReadError.NoMemory (λ v. problem persons objects v.items) result (λ r. reading_on limit (Ok (AtPerson persons objects, [])) (numbers text.now) ≡ r) }
+    ensures within { IfOk result (λ v. All (IsWithin persons objects) v.items) }
     ensures few { IfOk result (λ v. length v.items ≤ limit) }
 {
     let mut arcs = Vec::new(alloc);
@@ -155,7 +164,7 @@ fn arcs_of(alloc: Global, limit: u32, persons: u32, text: &[u8]) -> Result<Vec<A
         if arcs.len() >= limit as usize {
             return Err(ReadError::TooManyArcs);
         }
-        let (arc, after) = arc_after(persons, arcs.len() as u64, first, after)?;
+        let (arc, after) = arc_after(persons, objects, arcs.len() as u64, first, after)?;
         arcs.push(arc)?;
         rest = after;
     }
@@ -177,13 +186,14 @@ fn arcs_of(alloc: Global, limit: u32, persons: u32, text: &[u8]) -> Result<Vec<A
 /// of any other answer, where memory was refused.
 ///
 /// Takes O(length) time and 16 bytes of memory an arc.
-#[tactic(auto, unfolding(crate::specs::Reading::problem_of))]
 pub fn read_arcs(alloc: Global, bytes: &[u8], limits: ReadLimits) -> Result<ArcList, ReadError>
     requires { limits.arcs ≤ MOST_ARCS }
-    ensures { result ≢ Err ReadError.NoMemory → result ≡ reading limits.arcs bytes.now }
+    ensures { AnswersUnless ReadError.NoMemory (λ p. p) result (λ r. reading limits.arcs bytes.now ≡ r) }
 {
     let (first, rest) = next_or(bytes, ReadError::Empty)?;
     let before = index_of(first, MOST_PERSONS, 0, ReadError::CountRange)?;
-    let arcs = arcs_of(alloc, limits.arcs, before + 1, rest)?;
-    Ok(ArcList::make(before + 1, arcs))
+    let persons = before + 1;
+    let objects = persons;
+    let arcs = arcs_of(alloc, limits.arcs, persons, objects, rest)?;
+    Ok(ArcList::make(persons, objects, arcs))
 }

@@ -2,7 +2,7 @@
 use Rattle.std.proofs.Common.{◌≡◌, ℕ, zero, suc, ◌+◌, ◌<◌, ◌≤◌, Bool, true, false, List, [], ◌∷◌, ◌++◌, length, get_or, set, drop, refl, sym, ap, ◌∙◌, arith, inl, inr, Contains, append_assoc, replicate}
 use Rattle.std.proofs.lemmas.List.{drop_more, get_or_past, get_or-set_same, get_or-set_other}
 use Rattle.std.proofs.lemmas.Bool.{cases_eq, cases_lt, both_ways, false≢true}
-use Rattle.auc_graph.specs.HallSet.{IsRising}
+use Rattle.auc_graph.specs.Rising.{IsRising}
 use Rattle.auc_hall.specs.Search.{marked, WasSeen}
 use Rattle.auc_hall.specs.Listing.{places}
 use Rattle.auc_hall.proofs.Membership.{first_or_behind, behind, nothing}

@@ -1,12 +1,13 @@
-pub mod Options
+-- Membership and ProblemLaws are for the crates above too; the rest is this crate's own.
+mod Options
 pub mod Membership
-pub mod MatchedLaws
-pub mod PlacingLaws
-pub mod QueueLaws
-pub mod FlagLaws
-pub mod ExchangeLaws
-pub mod SearchLaws
-pub mod AnswerLaws
+mod MatchedLaws
+mod PlacingLaws
+mod QueueLaws
+mod FlagLaws
+mod ExchangeLaws
+mod SearchLaws
+mod AnswerLaws
 pub mod ProblemLaws
-pub mod TooFewObjects
+mod TooFewObjects
 mod WorkedMatchings

@@ -20,6 +20,7 @@ use Rattle.auc_hall.specs.declared.matching.Matching.TheVariants.{Full, Hall}
 use Rattle.auc_hall.specs.Assignment.{IsFull, number_of}
 use Rattle.auc_hall.specs.HallSet.{IsRowHallSet}
 use Rattle.auc_graph.specs.HallSet.{IsHallSet}
+use Rattle.auc_graph.proofs.RisingLaws.{rising_differ}
 use Rattle.auc_hall.specs.OfProblem.{IsFullOf, AreKnown, IsHallSetOf}
 use Rattle.auc_hall.specs.Matching.{IsMatching, IsMatchingOf}
 use Rattle.auc_hall.proofs.Membership.{first_or_behind, behind, nothing, contains_at, place_of}
@@ -101,8 +102,7 @@ hall_set_of p t persons objects of s =
     let persons_in : (i : ℕ) → Contains persons i → i < p.persons = λ i c. omega (arith, s.within i c, length-rows p t of) in
     let set : IsHallSet p persons objects = record {
       within = persons_in;
-      persons_rise = s.persons_rise;
-      objects_rise = s.objects_rise;
+      different = rising_differ persons s.persons_rise;
       all = λ a c his.
           let at = place_of p.arcs a c in
           let his_row = subst (λ (r : List RowArc). Contains r (row_arc (at.0, a))) (sym (row_is p t of a.person (persons_in a.person his))) (in_row a.person p.arcs at.0 a at.1 refl) in
@@ -113,7 +113,7 @@ hall_set_of p t persons objects of s =
     let x = s.only j c in
     let b = stands_for x.0 p.arcs x.2.0 (subst (λ (r : List RowArc). Contains r x.2.0) (row_is p t of x.0 (persons_in x.0 x.1)) x.2.1) in
     (b.0, contains_at p.arcs x.2.0.arc b.0 b.1.there, subst (λ (i : ℕ). Contains persons i) (sym b.1.person) x.1, b.1.object ∙ x.2.2) in
-    (set, only)
+    record { set = set; known = only; persons_rise = s.persons_rise; objects_rise = s.objects_rise }
 
 -- the arc of the list for which a row arc stands
 abbrev listed : List Arc → RowArc → Arc

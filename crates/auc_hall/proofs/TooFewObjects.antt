@@ -1,7 +1,7 @@
 -- Persons who together know fewer objects than they number can't all be assigned.
 use Rattle.std.proofs.Common.{◌≡◌, ◌≢◌, ℕ, zero, suc, ◌+◌, ◌-◌, ◌<◌, ◌≤◌, false, eqb, List, length, get_or, map, sym, ap, subst, ◌∙◌, arith, inl, inr, Contains, pos}
 use Rattle.std.specs.Prelude.{nat_eq}
-use Rattle.std.specs.List.{remove}
+use Rattle.std.specs.List.{remove, IsDistinct}
 use Rattle.std.proofs.lemmas.Bool.{cases_lt}
 use Rattle.std.proofs.lemmas.Bool.Decides.{nat_tests}
 use Rattle.std.proofs.lemmas.List.{length-map, get_or-map, get_or_default}
@@ -37,6 +37,13 @@ pigeonhole (suc n) f ys apart in_list =
 unequal : (m n : ℕ) → eqb m n ≡ false → m ≢ n
 unequal m n h e = grind (arith, nat_tests)
 
+-- at different places of a list without repeats stand different numbers
+differ_at : (ks : List ℕ) (m n : ℕ) → IsDistinct nat_eq ks → m ≢ n → m < length ks → n < length ks → get_or ks m 0 ≢ get_or ks n 0
+differ_at ks m n different others m_lt n_lt = elim (cases_lt m n) [
+  | inl below ↦ unequal (get_or ks m 0) (get_or ks n 0) (apart_from_distinct nat_eq ks m n 0 different below n_lt)
+  | inr above ↦ λ e. unequal (get_or ks n 0) (get_or ks m 0) (apart_from_distinct nat_eq ks n m 0 different (omega (arith, above, others)) m_lt) (sym e)
+]
+
 abbrev no_arc : Arc
 no_arc = record { person = 0; object = 0; cost = pos 0 }
 
@@ -55,8 +62,7 @@ no_assignment p persons objects s choice a =
     let object_is : (i : ℕ) → i < length persons → get_or (map object_of choice) (person i) 0 ≡ object i = λ i lt. get_or-map object_of choice (person i) no_arc 0 (in_choice i lt) in
     let apart : (i k : ℕ) → i < k → k < length persons → object i ≢ object k = λ i k lt k_lt e.
     let i_lt : i < length persons = omega arith in
-    let in_map : person k < length (map object_of choice) = omega (arith, in_choice k k_lt, length-map choice object_of) in
-    unequal (get_or (map object_of choice) (person i) 0) (get_or (map object_of choice) (person k) 0)
-    (apart_from_distinct nat_eq (map object_of choice) (person i) (person k) 0 a.objects (s.persons_rise i k 0 lt k_lt) in_map)
-    (object_is i i_lt ∙ e ∙ sym (object_is k k_lt)) in
+    let in_map : (m : ℕ) → m < length persons → person m < length (map object_of choice) = λ m m_lt. omega (arith, in_choice m m_lt, length-map choice object_of) in
+    let others : person i ≢ person k = unequal (person i) (person k) (apart_from_distinct nat_eq persons i k 0 s.different lt k_lt) in
+    differ_at (map object_of choice) (person i) (person k) a.objects others (in_map i i_lt) (in_map k k_lt) (object_is i i_lt ∙ e ∙ sym (object_is k k_lt)) in
     absurd (omega (arith, pigeonhole (length persons) object objects apart known, s.fewer))

@@ -5,7 +5,7 @@ use Rattle.std.proofs.lemmas.Option.{none-some, same_Some}
 use Rattle.auc_graph.specs.declared.rows.RowArc.{RowArc}
 use Rattle.auc_graph.specs.Table.{Table, row_of}
 use Rattle.auc_hall.specs.Assignment.{IsRowAssignment, IsFull}
-use Rattle.auc_graph.specs.HallSet.{IsRising}
+use Rattle.auc_graph.specs.Rising.{IsRising}
 use Rattle.auc_hall.specs.HallSet.{IsRowHallSet}
 use Rattle.auc_hall.specs.Partial.{pick, MayPlace}
 use Rattle.auc_hall.specs.Listing.{places, chosen}

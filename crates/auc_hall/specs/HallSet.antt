@@ -2,7 +2,7 @@
 use Rattle.std.specs.Prelude.{◌≡◌, ℕ, ◌<◌, List, length, Contains}
 use Rattle.auc_graph.specs.declared.rows.RowArc.{RowArc}
 use Rattle.auc_graph.specs.Table.{Table, row_of}
-use Rattle.auc_graph.specs.HallSet.{IsRising}
+use Rattle.auc_graph.specs.Rising.{IsRising}
 
 -- a person knows the objects of his arcs
 abbrev pub Knows : Table → ℕ → ℕ → Type 0

@@ -1,3 +1,4 @@
+-- The definitions that contracts of completions cite.
 pub mod Assignment
 pub mod HallSet
 pub mod OfProblem

@@ -4,6 +4,7 @@ use Rattle.auc_graph.specs.declared.arc.Arc.{Arc}
 use Rattle.auc_graph.specs.Problem.{Problem}
 use Rattle.auc_graph.specs.Assignment.{IsAssignment}
 use Rattle.auc_graph.specs.HallSet.{IsHallSet}
+use Rattle.auc_graph.specs.Rising.{IsRising}
 
 -- the arcs that stand at these places are an assignment
 abbrev pub IsFullOf : Problem → List ℕ → Type 0
@@ -13,6 +14,9 @@ IsFullOf p numbers = (choice : List Arc) × IsAssignment p choice × (map (slice
 abbrev pub AreKnown : Problem → List ℕ → List ℕ → Type 0
 AreKnown p persons objects = (j : ℕ) → Contains objects j → (a : Arc) × Contains p.arcs a × Contains persons a.person × (a.object ≡ j)
 
--- a Hall set, with no object but those that the persons know
-abbrev pub IsHallSetOf : Problem → List ℕ → List ℕ → Type 0
-IsHallSetOf p persons objects = IsHallSet p persons objects × AreKnown p persons objects
+-- a Hall set, with no object but those that the persons know, both in rising order
+pub record IsHallSetOf (p : Problem) (persons objects : List ℕ) : Type 0 where
+  pub set : IsHallSet p persons objects
+  pub known : AreKnown p persons objects
+  pub persons_rise : IsRising persons
+  pub objects_rise : IsRising objects

@@ -5,7 +5,7 @@ ghost use Rattle.auc_hall.specs.declared.search.Reached.{Reached};
 ghost use Rattle.auc_hall.specs.Matched.{IsPlaced, IsMatched};
 ghost use Rattle.auc_hall.specs.Search.{IsTrail, Starts, LeadsOut};
 
-use crate::search::{Found, Reached};
+use crate::search::{PathEnd, Reached};
 use auc_graph::{RowArc, Rows};
 
 /// Gives the free object to the person who found it, his own to the one before him, and so on to the first, who had
@@ -15,7 +15,7 @@ pub(crate) fn exchange(
     choice: &mut [Option<RowArc>],
     holder: &mut [Option<u32>],
     queue: &[Reached],
-    found: Found,
+    found: PathEnd,
 )
     requires matched { IsMatched _rows.now choice.old holder.old }
     requires trail { IsTrail _rows.now holder.old queue.now }

@@ -2,7 +2,7 @@
 
 ghost use Rattle.std.specs.Prelude.{◌≡◌, ◌≢◌, ◌<◌, ℕ, length, All, Contains, Some, None, false, IsTrue, IfOk, IfSome, IfNone, slice_index_or, slice_set};
 ghost use Rattle.auc_graph.specs.declared.rows.RowArc.{RowArc};
-ghost use Rattle.auc_hall.specs.Partial.{pick, IsFor, MayPlace};
+ghost use Rattle.auc_hall.specs.Partial.{pick, IsFor, IsNotPlaced, MayPlace};
 ghost use Rattle.auc_hall.specs.Matched.{AreTied, IsMatched};
 
 use auc_graph::{RowArc, Rows};
@@ -76,6 +76,7 @@ fn place_in(
     ensures placed { IsTrue result → (a : RowArc) × MayPlace rows.now choice.old person arc a × (choice.new ≡ slice_set choice.old person (Some a)) }
     ensures unchanged { result ≡ false → choice.new ≡ choice.old }
     ensures refused { result ≡ false → (a : RowArc) → MayPlace rows.now choice.old person arc a → ⊥ }
+    ensures cause { result ≡ false → IsNotPlaced rows.now choice.old person arc }
 {
     if choice[person as usize].is_some() {
         return false;
@@ -110,7 +111,7 @@ impl Partial {
 
     /// Gives the person his arc of this number, its place in the list of arcs.
     ///
-    /// False where no arc of his has the number, where he has an arc already, or where somebody holds its object; then
+    /// False where he has an arc already, where no arc of his has the number, or where somebody holds its object; then
     /// all stays as it was. O(arcs of the person), takes no memory.
     pub fn place(&mut self, rows: &Rows, person: u32, arc: u32) -> bool
         requires made { IsFor rows.now self.old }
@@ -119,6 +120,7 @@ impl Partial {
         ensures placed { IsTrue result → (a : RowArc) × MayPlace rows.now self.old.choice person arc a × (self.new.choice ≡ slice_set self.old.choice person (Some a)) }
         ensures unchanged { result ≡ false → self.new ≡ self.old }
         ensures refused { result ≡ false → (a : RowArc) → MayPlace rows.now self.old.choice person arc a → ⊥ }
+        ensures cause { result ≡ false → IsNotPlaced rows.now self.old.choice person arc }
     {
         place_in(
             rows,

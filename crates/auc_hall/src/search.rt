@@ -22,7 +22,7 @@ pub(crate) struct Reached {
 
 /// An arc to a free object, and the place in the queue of the person who has it.
 #[derive(Clone, Copy, Debug, PartialEq, Eq)]
-pub(crate) struct Found {
+pub(crate) struct PathEnd {
     pub(crate) arc: RowArc,
     pub(crate) at: usize,
 }
@@ -89,7 +89,7 @@ pub(crate) fn search(
     seen: &mut [bool],
     queue: &mut Vec<Reached>,
     start: u32,
-) -> Result<Option<Found>, AllocError>
+) -> Result<Option<PathEnd>, AllocError>
     requires matched { IsMatched rows.now choice.now holder.now }
     requires start { start < length rows.now.rows }
     requires free { pick choice.now start ≡ None }
@@ -114,7 +114,7 @@ pub(crate) fn search(
     let mut at = 0;
     while at < queue.len() {
         if let Some(arc) = walk(rows, choice, holder, seen, queue, at)? {
-            return Ok(Some(Found { arc, at }));
+            return Ok(Some(PathEnd { arc, at }));
         }
         at += 1;
     }

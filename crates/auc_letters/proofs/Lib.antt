@@ -1,0 +1,2 @@
+pub mod Award
+mod WorkedAwards

@@ -1,13 +1,33 @@
--- How a bid is dealt with.
-use Rattle.std.specs.Prelude.{ℕ, ℤ, ◌+ℤ◌, List, [], ◌∷◌, Option, Some, None}
+-- The award rule: what a bid makes of the object, and the letters that answer it.
+use Rattle.std.specs.Prelude.{ℕ, ℤ, ◌+ℤ◌, ◌==◌, ◌&&◌, int_le, Bool, List, [], ◌∷◌, Option, Some, None, if◌then◌else◌, filter_map}
+use Rattle.std.specs.List.{fold}
 use Rattle.auc_letters.specs.declared.letter.Letter.{Letter}
+use Rattle.auc_letters.specs.declared.letter.Offer.{Offer}
 use Rattle.auc_letters.specs.declared.out.Out.{Out}
 use Rattle.auc_letters.specs.declared.state.Held.{Held}
+use Rattle.auc_letters.specs.Price.{is_amount}
 use Rattle.auc_letters.specs.Routing.{to_person, to_hub}
+
+-- what the shard of an object knows of it: its price, and who holds it
+pub record Sale : Type 0 where
+  pub price : ℤ
+  pub holder : Option Held
 
 -- the amount that a bid has to reach
 abbrev pub least_amount : ℤ → ℤ → ℤ
 least_amount price eps = price +ℤ eps
+
+-- a bid is accepted exactly where it reaches the price and eps more
+abbrev pub is_accepted : ℤ → Sale → Offer → Bool
+is_accepted eps sale bid = int_le (least_amount sale.price eps) bid.amount
+
+-- the bidder holds the object, by his arc, and the amount is the price
+abbrev pub sold_by : Offer → Sale
+sold_by bid = record { price = bid.amount; holder = Some (record { person = bid.person; arc = bid.arc }) }
+
+-- The award: an accepted bid sells the object, any other changes nothing.
+abbrev pub award : ℤ → Sale → Offer → Sale
+award eps sale bid = if is_accepted eps sale bid then sold_by bid else sale
 
 -- the letters of an accepted bid: the earlier holder is outbid before the award; an object without holder is counted
 abbrev pub awards : ℕ → Option Held → ℕ → ℕ → ℤ → List Out
@@ -17,3 +37,33 @@ awards shards (Some held) person object price = to_person shards held.person (Le
 -- the letter of a bid that is too low, with the present price
 abbrev pub refusal : ℕ → ℕ → ℕ → ℤ → List Out
 refusal shards person object price = to_person shards person (Letter.Refused person object price) ∷ []
+
+-- The letters that answer a bid, in the order in which they are sent, where there are so many shards of the persons.
+abbrev pub answers : ℕ → ℤ → Sale → Offer → List Out
+answers shards eps sale bid = if is_accepted eps sale bid then awards shards sale.holder bid.person bid.object bid.amount else refusal shards bid.person bid.object sale.price
+
+-- what bids on one object make of it, one after another
+abbrev pub award_all : ℤ → Sale → List Offer → Sale
+award_all eps sale bids = fold (award eps) sale bids
+
+-- a bid of the person by the arc at that place, on the object
+abbrev pub offer_of : ℕ → ℕ → ℕ → ℤ → Offer
+offer_of person arc object amount = record { person = person; arc = arc; object = object; amount = amount }
+
+-- a bid as a letter
+abbrev pub bid_letter : Offer → Letter
+bid_letter bid = Letter.Bid bid.person bid.arc bid.object bid.amount
+
+-- the bid on this object that a letter is, if it is one and its amount is in range
+abbrev pub bid_on : ℕ → Letter → Option Offer
+bid_on object (Letter.Bid i a j amount) = if (j == object) && is_amount amount then Some (offer_of i a j amount) else None
+bid_on object (Letter.Award i j p) = None
+bid_on object (Letter.Refused i j p) = None
+bid_on object (Letter.Outbid i j p) = None
+bid_on object (Letter.Price j p) = None
+bid_on object (Letter.First j) = None
+bid_on object (Letter.Stop y) = None
+
+-- the bids on an object among letters, in order
+abbrev pub bids_on : ℕ → List Letter → List Offer
+bids_on object letters = filter_map (bid_on object) letters

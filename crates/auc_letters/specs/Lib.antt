@@ -1,3 +1,4 @@
 pub mod Price
 pub mod Routing
 pub mod Award
+pub mod Persons

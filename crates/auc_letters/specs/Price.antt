@@ -1,11 +1,14 @@
--- Prices, copies of prices, amounts of bids: scaled costs within the limits.
-use Rattle.std.specs.Prelude.{ℤ, pos, ◌≤ℤ◌}
-use Rattle.auc_letters.specs.declared.limits.TheConstants.{MOST_PRICE, MOST_EPS}
+-- Prices, copies of prices, amounts of bids: scaled costs from 0 to 2^61; and eps, from 1 to 2^60.
+use Rattle.std.specs.Prelude.{◌^◌, ◌&&◌, ℤ, pos, ◌≤ℤ◌, int_le, Bool}
 
 pub record IsPrice (price : ℤ) : Type 0 where
   pub low : pos 0 ≤ℤ price
-  pub high : price ≤ℤ MOST_PRICE
+  pub high : price ≤ℤ pos (2 ^ 61)
 
 pub record IsEps (eps : ℤ) : Type 0 where
   pub low : pos 1 ≤ℤ eps
-  pub high : eps ≤ℤ MOST_EPS
+  pub high : eps ≤ℤ pos (2 ^ 60)
+
+-- the amount is one that a bid may have, as a test
+abbrev pub is_amount : ℤ → Bool
+is_amount amount = int_le (pos 0) amount && int_le amount (pos (2 ^ 61))

@@ -1,11 +1,29 @@
-//! The law of `==` on letters.
+//! Laws of letters, of limits and of the award rule. The functions do nothing: their contracts are theorems.
 
-ghost use Rattle.std.specs.Prelude.{◌≡◌, true};
+ghost use Rattle.std.specs.Prelude.{◌≡◌, ◌^◌, ℤ, pos, ◌≤ℤ◌, ◌↔◌, true, List, None, IsTrue};
 ghost use Rattle.auc_letters.specs.contracts.letter.LetterPartialEq.TheImpl.{eq-value as letter_eq};
+ghost use Rattle.auc_letters.specs.declared.limits.TheConstants.{MOST_PRICE as most_price, MOST_EPS as most_eps, MOST_SHARDS as most_shards};
+ghost use Rattle.auc_letters.specs.declared.letter.Offer.{Offer as AnOffer};
+ghost use Rattle.auc_letters.specs.Price.{IsPrice, IsEps, is_amount};
+ghost use Rattle.auc_letters.specs.Award.{Sale, award_all};
 
 use crate::letter::Letter;
 
-/// A law, with no code: letters that `==` calls equal are the same letter.
+/// Letters that `==` calls equal are the same letter.
 pub fn equal_letters_are_same()
     ensures { (a b : Letter) → letter_eq.it a b ≡ true → a ≡ b }
+{}
+
+/// The numbers of the limits; and what passes as an amount is what may be a price.
+pub fn limits_are()
+    ensures price { most_price ≡ pos (2 ^ 61) }
+    ensures eps { most_eps ≡ pos (2 ^ 60) }
+    ensures shards { most_shards ≡ 16 }
+    ensures amounts { (amount : ℤ) → IsTrue (is_amount amount) ↔ IsPrice amount }
+{}
+
+/// Bids on an object never lower its price, and nothing changes where nobody comes to hold it.
+pub fn awards_raise_prices()
+    ensures rises { (eps : ℤ) (sale : Sale) (bids : List AnOffer) → IsEps eps → sale.price ≤ℤ (award_all eps sale bids).price }
+    ensures unheld { (eps : ℤ) (sale : Sale) (bids : List AnOffer) → (award_all eps sale bids).holder ≡ None → (award_all eps sale bids) ≡ sale }
 {}

@@ -1,4 +1,4 @@
-//! What a letter says.
+//! What a letter says, and a bid by itself.
 
 /// Why a shard stops before the phase is done.
 #[derive(Clone, Copy, Debug, PartialEq, Eq)]
@@ -62,4 +62,14 @@ pub enum Letter {
     Stop {
         why: Why,
     },
+}
+
+/// A bid, without the letter that brings it: the person bids this amount, in scaled costs, for the object, by the arc at this
+/// place in the list of arcs.
+#[derive(Clone, Copy, Debug, PartialEq, Eq)]
+pub struct Offer {
+    pub person: u32,
+    pub arc: u32,
+    pub object: u32,
+    pub amount: i64,
 }

@@ -1,7 +1,7 @@
 //! Letters between persons and objects: what they say, where they go, and what they do.
 //!
-//! Persons, objects, arcs and shards are numbered from 0. All types are small `Copy` values. The definitions of the
-//! letters that an award makes, and of the shard that a letter goes to, stand in `specs/`.
+//! Persons, objects, arcs and shards are numbered from 0. All types are small `Copy` values. The award rule, and the shard
+//! that a letter goes to, are defined in `specs/Award.antt` and `specs/Routing.antt`.
 #![tactic(auto)]
 
 mod law;
@@ -10,8 +10,8 @@ mod limits;
 mod out;
 mod state;
 
-pub use law::equal_letters_are_same;
-pub use letter::{Letter, Why};
+pub use law::{awards_raise_prices, equal_letters_are_same, limits_are};
+pub use letter::{Letter, Offer, Why};
 pub use limits::{MOST_EPS, MOST_PRICE, MOST_SHARDS};
 pub use out::{Out, To, shard_of};
 pub use state::{Held, PersonState};

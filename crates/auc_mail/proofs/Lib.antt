@@ -1,11 +1,12 @@
-pub mod Tables
-pub mod Lanes
-pub mod Keeping
-pub mod Changing
-pub mod Posting
-pub mod Taking
-pub mod Counting
+-- The laws of steps and of runs are for the crates above too; the rest is this crate's own.
+mod Tables
+mod Lanes
+mod Keeping
+mod Changing
+mod Posting
+mod Taking
+mod Counting
 pub mod StepLaws
-pub mod Outcomes
+mod Outcomes
 pub mod RunLaws
-pub mod WorkedRows
+mod WorkedRows

@@ -82,11 +82,11 @@ module _ {T : Type 0} {senders nodes most : ℕ} {accepting : List Bool} {counts
 
     pub post_spent : x.posted ≡ most
         → Step (mail_of senders nodes most accepting counts letters) (Post l.sender l.to l.item r) (Refused Spent) (mail_of senders nodes most accepting counts letters)
-    post_spent spent = (is_accepting, posted_is_read ∙ spent, refl)
+    post_spent spent = (is_accepting, posted_is_read ∙ spent, refl, (hs, hb))
 
     pub post_full : x.posted < most → nodes - length letters ≤ r
         → Step (mail_of senders nodes most accepting counts letters) (Post l.sender l.to l.item r) (Refused Full) (mail_of senders nodes most accepting counts letters)
-    post_full below full = (is_accepting, omega (arith, posted_is_read), omega (arith, free_is kept), refl)
+    post_full below full = (is_accepting, omega (arith, posted_is_read), omega (arith, free_is kept), refl, (hs, hb))
 
     pub post_step : x.posted < most → r < nodes - length letters
         → Step (mail_of senders nodes most accepting counts letters) (Post l.sender l.to l.item r) (Posted (x.posted + 1))

@@ -1,3 +1,4 @@
+-- The definitions that contracts of mails cite.
 pub mod Limits
 pub mod Mail
 pub mod Step

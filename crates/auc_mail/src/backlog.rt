@@ -1,3 +1,5 @@
+//! The letters that wait, of all boxes, in one queue.
+
 ghost use Rattle.std.specs.Prelude.{count_by, ◌==◌, ◌≡◌, ◌≢◌, ◌<◌, ◌↔◌, ◌++◌, length, option_to_list, IsSome, All, MatchOption, IsTrue, false};
 ghost use Rattle.std.specs.VecDeque.{deque_capacity};
 ghost use Rattle.auc_mail.specs.Backlog.{IsFirstOf, TakesFirst, ComesToFront};

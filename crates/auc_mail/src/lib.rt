@@ -19,8 +19,8 @@ pub use call::{Call, PostRefused, Reply, Taken};
 pub use equality::{same_call, same_reply, same_taken};
 pub use error::MailError;
 pub use laws::{
-    closed_box_accepts_nothing, lanes_keep_their_order, only_the_sender_is_free,
-    runs_keep_mails_sound,
+    calls_of_a_run_fit, closed_box_accepts_nothing, lanes_keep_their_order,
+    only_the_sender_is_free, runs_keep_mails_sound,
 };
 pub use limits::{MOST_BOXES, MOST_LANES, MOST_NODES, MOST_SENDERS};
 pub use pool::MailPool;

@@ -1,3 +1,5 @@
+//! The mail itself: what each call makes of it.
+
 ghost use Rattle.std.specs.Prelude.{true, [], replicate, ◌≡◌, ◌+◌, ◌*◌, ◌<◌, ◌≤◌, ◌↔◌, IfOk, IfErr, OnOk, IsTrue};
 ghost use Rattle.std.specs.VecDeque.{deque_capacity};
 ghost use Rattle.auc_mail.specs.Limits.{LanesFit, NodesFit, IsRefusedFor};

@@ -4,7 +4,7 @@ use Rattle.auc_letters.specs.declared.state.PersonState.{PersonState}
 use Rattle.auc_letters.specs.declared.state.PersonState.TheVariants.{Free, Holds, Waits}
 use Rattle.auc_model.specs.Counts.{Counts, everywhere, held_objects, holding_persons, holds_one, total, waiting_persons, waits_one}
 use Rattle.auc_model.specs.Letters.{award_one, bid_one, first_one, outbid_one, refused_one}
-use Rattle.auc_model.specs.Ways.{Ways}
+use Rattle.auc_model.specs.Channels.{Channels}
 use Rattle.auc_model.specs.World.{Phase, World}
 
 one_of_both : (t : PersonState) → waits_one t + holds_one t ≤ 1
@@ -16,7 +16,7 @@ busy_le : (f : ℕ → PersonState) (n : ℕ) → total (λ i. waits_one (f i)) 
 busy_le f zero = omega arith
 busy_le f (suc n) = omega (arith, busy_le f n, one_of_both (f n))
 
-module _ (g : Phase) (w : World) (c : Ways) (counts : Counts g w c) where
+module _ (g : Phase) (w : World) (c : Channels) (counts : Counts g w c) where
   busy : waiting_persons g w + holding_persons g w ≤ g.persons
   busy = busy_le w.state g.persons
 

@@ -8,29 +8,25 @@ use Rattle.std.proofs.lemmas.List.FromFn.{get_or-map-range_with_len, length-map-
 use Rattle.auc_graph.specs.Assignment.{IsAssignment, object_of, person_of}
 use Rattle.auc_graph.specs.Problem.{Problem}
 use Rattle.auc_graph.specs.Row.{is_of, row, row_arc}
-use Rattle.auc_graph.specs.Table.{IsTable, IsTableOf, Table, row_of}
+use Rattle.auc_graph.specs.Table.{IsTableOf, Table, row_of}
 use Rattle.auc_graph.specs.declared.arc.Arc.{Arc}
 use Rattle.auc_graph.specs.declared.rows.RowArc.{RowArc}
-use Rattle.auc_letters.specs.Price.{IsEps}
 use Rattle.auc_letters.specs.declared.state.Held.{Held}
 use Rattle.auc_model.specs.Chosen.{IsHeldArc}
-use Rattle.auc_model.specs.Schedule.{Schedule}
-use Rattle.auc_model.specs.Start.{Lawful, Starts}
-use Rattle.auc_model.specs.Ways.{Each}
+use Rattle.auc_model.specs.Schedule.{Reached}
+use Rattle.auc_model.specs.Channels.{Each}
 use Rattle.auc_model.specs.World.{Phase, World, phase_of}
-use Rattle.auc_model.specs.declared.turn.Turn.{Turn}
 use Rattle.auc_model.proofs.SameAnswers.{from_some}
-use Rattle.auc_model.proofs.Tables.{table_lawful}
 use Rattle.auc_model.proofs.Theorems.{everyone_holds, holders_slack}
 
 some_same : {a b : Held} → ◌≡◌ {A = Option Held} (Some a) (Some b) → a ≡ b
 some_same {a} {b} e = ap (λ (o : Option Held). from_some a o) e
 
 -- an arc of a person's row stands at its place in the list
-Found : ℕ → RowArc → ℕ → List Arc → Type 0
+unfoldable pub Found : ℕ → RowArc → ℕ → List Arc → Type 0
 Found i a n arcs = (k : ℕ) × (k < length arcs) × (a.arc ≡ n + k) × ((d : Arc) → get_or arcs k d ≡ record { cost = a.cost; person = i; object = a.object })
 
-row_arc_listed : (i n : ℕ) (arcs : List Arc) (a : RowArc) → Contains (map row_arc (filter (is_of i) (enumerate_from n arcs))) a → Found i a n arcs
+pub row_arc_listed : (i n : ℕ) (arcs : List Arc) (a : RowArc) → Contains (map row_arc (filter (is_of i) (enumerate_from n arcs))) a → Found i a n arcs
 unfolding Found
 row_arc_listed i n [] a c = absurd (omega (arith, c.1))
 row_arc_listed i n (x ∷ xs) a c = elim (cases_Bool (x.person == i)) [ inl t ↦ his t c.0 (rw t at c.1) (rw t at c.2) (row_arc_listed i (n + 1) xs a) | inr f ↦ later (row_arc_listed i (n + 1) xs a (rw f at c)) ]
@@ -43,12 +39,9 @@ row_arc_listed i n (x ∷ xs) a c = elim (cases_Bool (x.person == i)) [ inl t �
     his t zero l e ih = (0, omega arith, sym (ap (λ (b : RowArc). b.arc) e) ∙ omega arith, λ d. λ q. record { cost = (ap (λ (b : RowArc). b.cost) e) q; person = (eqb-true x.person i t) q; object = (ap (λ (b : RowArc). b.object) e) q })
     his t (suc k) l e ih = later (ih (k, omega (arith, l), e))
 
-module _ (p : Problem) (t : Table) (shards : ℕ) (eps : ℤ) (table : IsTable t) (its : IsTableOf p t) (some : 0 < shards) (is_eps : IsEps eps) where
+module _ (p : Problem) (t : Table) (shards : ℕ) (eps : ℤ) (v : World) (its : IsTableOf p t) (reached : Reached (phase_of t shards eps) v) where
   abbrev g : Phase
   g = phase_of t shards eps
-
-  law : Lawful g
-  law = table_lawful t shards eps table some is_eps
 
   -- the rows are those of the problem
   row_is : (i : ℕ) → i < p.persons → row_of t i ≡ map row_arc (filter (is_of i) (enumerate_from 0 p.arcs))
@@ -58,7 +51,7 @@ module _ (p : Problem) (t : Table) (shards : ℕ) (eps : ℤ) (table : IsTable t
   persons_are : length t.rows ≡ p.persons
   persons_are = ap length its.rows ∙ length-map-range_with_len (λ person. row person p.arcs) 0 p.persons
 
-  module _ (w v : World) (ts : List Turn) (s : Starts g w) (run : Schedule g w ts v) (all : v.count ≡ g.persons) where
+  module _ (all : v.count ≡ g.persons) where
     -- the arc of a person
     Chosen : ℕ → Type 0
     Chosen i = (arc : Arc) × (arc.person ≡ i) × Contains p.arcs arc × IsHeldArc p v arc
@@ -76,8 +69,8 @@ module _ (p : Problem) (t : Table) (shards : ℕ) (eps : ℤ) (table : IsTable t
 
     chosen : (i : ℕ) → i < p.persons → Chosen i
     chosen i l =
-        let e = everyone_holds g w v ts law s run all i (rw persons_are l) in
-        let f = holders_slack g w v ts law s run e.0 e.1 e.2 in
+        let e = everyone_holds g v reached all i (rw persons_are l) in
+        let f = holders_slack g v reached e.0 e.1 e.2 in
         let listed : Contains (row_of t i) f.0 = subst (λ (n : ℕ). Contains (row_of t n) f.0) e.3 f.1 in
         by_holder i e.0 e.1 f.0 e.2 e.3 f.2 f.3 (row_arc_listed i 0 p.arcs f.0 (rw (row_is i l) at listed))
 

@@ -1,4 +1,4 @@
--- Boxes that are open, and ways where a box closes: a letter is lost at a closed box alone, and a box never opens again.
+-- Boxes that are open, and channels where a box closes: a letter is lost at a closed box alone, and a box never opens again.
 use Rattle.std.proofs.Common.{ℕ, ◌*◌, ◌≡◌, refl, Bool, true, false, List, length, ap, sym, ◌∙◌, inl, inr}
 use Rattle.std.specs.Prelude.{◌==◌, ◌&&◌}
 use Rattle.std.proofs.lemmas.Bool.{cases_Bool}
@@ -13,11 +13,11 @@ use Rattle.auc_mail.specs.declared.call.Reply.{Reply}
 use Rattle.auc_model.specs.Invariants.{Open, Shaped, Shapes}
 use Rattle.auc_model.specs.Letters.{same_to}
 use Rattle.auc_model.specs.Mails.{ObjectShard, PersonShard, Shard, box_of, mail_named, mail_of, with_mail, with_mail_named, with_outbox}
-use Rattle.auc_model.specs.Ways.{Lost, set_way, ways}
+use Rattle.auc_model.specs.Channels.{Lost, set_channel, channels}
 use Rattle.auc_model.specs.World.{Phase, World}
 use Rattle.auc_model.specs.declared.turn.MailName.{MailName}
 use Rattle.auc_model.proofs.Mails.{open-close}
-use Rattle.auc_model.proofs.Ways.{both_from, same_ways, set_way_off}
+use Rattle.auc_model.proofs.Channels.{both_from, same_channels, set_channel_off}
 
 -- whether the box that a letter goes to accepts it
 abbrev pub opens : World → To → Bool
@@ -55,10 +55,10 @@ opens_before w MailName.Hub b To.Hub o = open-close w.hub_mail b 0 o
 opens_before w MailName.Hub b (To.Person r) o = o
 opens_before w MailName.Hub b (To.Object r) o = o
 
-pub ways_close : (g : Phase) (w : World) (lost : Lost) (name : MailName) (b : ℕ) → ways g (with_mail_named w name (with_closed (mail_named w name) b)) lost ≡ ways g w lost
-ways_close g w lost name b = same_ways (ways g (with_mail_named w name (with_closed (mail_named w name) b)) lost) (ways g w lost) (at name)
+pub channels_close : (g : Phase) (w : World) (lost : Lost) (name : MailName) (b : ℕ) → channels g (with_mail_named w name (with_closed (mail_named w name) b)) lost ≡ channels g w lost
+channels_close g w lost name b = same_channels (channels g (with_mail_named w name (with_closed (mail_named w name) b)) lost) (channels g w lost) (at name)
   where
-    at : (n : MailName) (u : To) (x : ℕ) → ways g (with_mail_named w n (with_closed (mail_named w n) b)) lost u x ≡ ways g w lost u x
+    at : (n : MailName) (u : To) (x : ℕ) → channels g (with_mail_named w n (with_closed (mail_named w n) b)) lost u x ≡ channels g w lost u x
     at MailName.Persons (To.Person r) x = refl
     at MailName.Persons (To.Object r) x = refl
     at MailName.Persons To.Hub x = refl
@@ -73,11 +73,11 @@ ways_close g w lost name b = same_ways (ways g (with_mail_named w name (with_clo
 pub open_by : (w v : World) (lost : Lost) → ((t : To) → opens v t ≡ true → opens w t ≡ true) → Open w lost → Open v lost
 open_by w v lost h o t x e = o t x (h t e)
 
-pub open_more : (w : World) (t : To) (x : ℕ) (ls : List Letter) (lost : Lost) → opens w t ≡ false → Open w lost → Open w (set_way lost t x ls)
+pub open_more : (w : World) (t : To) (x : ℕ) (ls : List Letter) (lost : Lost) → opens w t ≡ false → Open w lost → Open w (set_channel lost t x ls)
 open_more w t x ls lost closed o u y e =
     elim (cases_Bool (same_to u t && (y == x))) [
       | inl h ↦ absurd (not_here u y h e)
-      | inr h ↦ rw (set_way_off lost t x ls u y h) (o u y e)
+      | inr h ↦ rw (set_channel_off lost t x ls u y h) (o u y e)
     ]
   where
     not_here : (u : To) (y : ℕ) → (same_to u t && (y == x)) ≡ true → opens w u ≡ true → ⊥

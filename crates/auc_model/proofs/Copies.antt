@@ -88,8 +88,7 @@ module _ (g : Phase) (w : World) (s j : ℕ) where
 
   copy_object_take : (q : ℕ) (y : TurnReply) (v : World) → ObjectTakeTurn g w q y v → w.copy s j ≤ℤ v.copy s j
   copy_object_take q y v (ObjectTakeTurn.no_letter h e1 e) = same v w e refl
-  copy_object_take q y v (ObjectTakeTurn.accepts x n i a k amount m h1 h2 t fits enough e1 e) = stays v (ap (λ (x : World). x.copy) e)
-  copy_object_take q y v (ObjectTakeTurn.declines x n i a k amount m h1 h2 t fits low e1 e) = stays v (ap (λ (x : World). x.copy) e)
+  copy_object_take q y v (ObjectTakeTurn.answers_bid x n bid m h1 h2 t fits e1 e) = stays v (ap (λ (x : World). x.copy) e)
   copy_object_take q y v (ObjectTakeTurn.strays x n l m h1 h2 t bad e1 e) = stays v (ap (λ (x : World). x.copy) e)
 
   copy_tell : (q k r : ℕ) (y : TurnReply) (v : World) → TellTurn g w q k r y v → w.copy s j ≤ℤ v.copy s j

@@ -9,24 +9,24 @@ use Rattle.auc_letters.specs.declared.state.Held.{Held}
 use Rattle.auc_letters.specs.declared.state.PersonState.{PersonState}
 use Rattle.auc_letters.specs.declared.state.PersonState.TheVariants.{Waits}
 use Rattle.auc_model.specs.Counts.{Counts, everywhere, held_objects, held_one, holding_persons, holds_one, total, waiting_persons, waits_one}
-use Rattle.auc_model.specs.Letters.{answer_of, award_one, bid_one, first_one, outbid_one, refused_one}
+use Rattle.auc_model.specs.Letters.{told_answer, award_one, bid_one, first_one, outbid_one, refused_one}
 use Rattle.auc_model.specs.Places.{Allows, Answer, Award, Outbid, Refused, heard}
 use Rattle.auc_model.specs.Put.{put}
-use Rattle.auc_model.specs.Ways.{Ways, send, set_way}
+use Rattle.auc_model.specs.Channels.{Channels, send, set_channel}
 use Rattle.auc_model.specs.World.{Phase, World, senders}
 use Rattle.auc_model.proofs.SameAnswers.{same_answer}
 use Rattle.auc_model.proofs.Sums.{total_put}
 use Rattle.auc_model.proofs.Totals.{IsBox, everywhere_sent, everywhere_set}
 
 -- the sums after one letter more, or one less
-pub record Plus (g : Phase) (l : Letter) (c d : Ways) : Type 0 where
+pub record Plus (g : Phase) (l : Letter) (c d : Channels) : Type 0 where
   pub bids : everywhere g bid_one d ≡ everywhere g bid_one c + bid_one l
   pub awards : everywhere g award_one d ≡ everywhere g award_one c + award_one l
   pub refused : everywhere g refused_one d ≡ everywhere g refused_one c + refused_one l
   pub outbids : everywhere g outbid_one d ≡ everywhere g outbid_one c + outbid_one l
   pub firsts : everywhere g first_one d ≡ everywhere g first_one c + first_one l
 
-pub plus_sent : (g : Phase) (c : Ways) (x : ℕ) (o : Out) → x < senders g → IsBox g o.to → Plus g o.letter c (send c x (o ∷ []))
+pub plus_sent : (g : Phase) (c : Channels) (x : ℕ) (o : Out) → x < senders g → IsBox g o.to → Plus g o.letter c (send c x (o ∷ []))
 plus_sent g c x o h b =
     record {
       bids = everywhere_sent g bid_one c x o h b;
@@ -36,8 +36,8 @@ plus_sent g c x o h b =
       firsts = everywhere_sent g first_one c x o h b;
     }
 
-pub less : (g : Phase) (f : Letter → ℕ) (c : Ways) (t : To) (x : ℕ) (hs : List Letter) (l : Letter) (ls : List Letter) → c t x ≡ hs ++ l ∷ ls → x < senders g → IsBox g t
-    → everywhere g f c ≡ everywhere g f (set_way c t x (hs ++ ls)) + f l
+pub less : (g : Phase) (f : Letter → ℕ) (c : Channels) (t : To) (x : ℕ) (hs : List Letter) (l : Letter) (ls : List Letter) → c t x ≡ hs ++ l ∷ ls → x < senders g → IsBox g t
+    → everywhere g f c ≡ everywhere g f (set_channel c t x (hs ++ ls)) + f l
 less g f c t x hs l ls e h b =
     let a = everywhere_set g f c x (hs ++ ls) h t b in
     let s : sum_by f (c t x) ≡ sum_by f (hs ++ l ∷ ls) = ap (λ (xs : List Letter). sum_by f xs) e in
@@ -46,8 +46,8 @@ less g f c t x hs l ls e h b =
     let r = sum_by-cons f l ls in
     omega (arith, a, s, p, q, r)
 
--- read the other way round: the old ways have the letter more
-pub plus_gone : (g : Phase) (c : Ways) (t : To) (x : ℕ) (hs : List Letter) (l : Letter) (ls : List Letter) → c t x ≡ hs ++ l ∷ ls → x < senders g → IsBox g t → Plus g l (set_way c t x (hs ++ ls)) c
+-- read the other way round: the old channels have the letter more
+pub plus_gone : (g : Phase) (c : Channels) (t : To) (x : ℕ) (hs : List Letter) (l : Letter) (ls : List Letter) → c t x ≡ hs ++ l ∷ ls → x < senders g → IsBox g t → Plus g l (set_channel c t x (hs ++ ls)) c
 plus_gone g c t x hs l ls e h b =
     record {
       bids = less g bid_one c t x hs l ls e h b;
@@ -57,7 +57,7 @@ plus_gone g c t x hs l ls e h b =
       firsts = less g first_one c t x hs l ls e h b;
     }
 
-module _ (g : Phase) (w v : World) (c d : Ways) (counts : Counts g w c) where
+module _ (g : Phase) (w v : World) (c d : Channels) (counts : Counts g w c) where
   module _ (same_state : v.state ≡ w.state) (same_holder : v.holder ≡ w.holder) where
     same_waiting : waiting_persons g v ≡ waiting_persons g w
     same_waiting = ap (λ (f : ℕ → PersonState). total (λ i. waits_one (f i)) g.persons) same_state
@@ -99,7 +99,7 @@ module _ (g : Phase) (w v : World) (c d : Ways) (counts : Counts g w c) where
         let a = same_waiting in let b = same_holding in let h = same_held in
         record { who_waits = omega (arith, counts.who_waits, e, a); who_holds = omega (arith, counts.who_holds, e, b, h); who_told = omega (arith, counts.who_told, e, n, h) }
 
-    pub counts_refuse : v.count ≡ w.count → (m : Ways) (i a j k l : ℕ) (p q : ℤ) → Plus g (Letter.Bid i a j p) m c → Plus g (Letter.Refused k l q) m d → Counts g v d
+    pub counts_refuse : v.count ≡ w.count → (m : Channels) (i a j k l : ℕ) (p q : ℤ) → Plus g (Letter.Bid i a j p) m c → Plus g (Letter.Refused k l q) m d → Counts g v d
     counts_refuse n m i a j k l p q e f =
         let s = same_waiting in let b = same_holding in let h = same_held in
         record { who_waits = omega (arith, counts.who_waits, e, f, s); who_holds = omega (arith, counts.who_holds, e, f, b, h); who_told = omega (arith, counts.who_told, e, f, n, h) }
@@ -117,7 +117,7 @@ module _ (g : Phase) (w v : World) (c d : Ways) (counts : Counts g w c) where
       record { who_waits = omega (arith, counts.who_waits, e, x, fx, sx); who_holds = omega (arith, counts.who_holds, e, y, fy, sy, sh); who_told = omega (arith, counts.who_told, e, n, sh) }
 
   -- an answer is heard
-  pub counts_hear : v.count ≡ w.count → v.holder ≡ w.holder → (l : Letter) (a : Answer) (i j : ℕ) (p : ℤ) → answer_of l ≡ Some (a, i, j, p) → i < g.persons → Allows (w.state i) a j → v.state ≡ put w.state i (heard a j)
+  pub counts_hear : v.count ≡ w.count → v.holder ≡ w.holder → (l : Letter) (a : Answer) (i j : ℕ) (p : ℤ) → told_answer l ≡ Some (a, i, j, p) → i < g.persons → Allows (w.state i) a j → v.state ≡ put w.state i (heard a j)
       → Plus g l d c → Counts g v d
   counts_hear n h l a i j p is low fits s e = by_letter l is e
     where
@@ -163,7 +163,7 @@ module _ (g : Phase) (w v : World) (c d : Ways) (counts : Counts g w c) where
           let oy : holds_one (heard a j) ≡ 0 = rw r in
           record { who_waits = omega (arith, counts.who_waits, e, x, wx, ox, sx); who_holds = omega (arith, counts.who_holds, e, y, wy, oy, sy, sh); who_told = omega (arith, counts.who_told, e, n, sh) }
 
-      by_letter : (l : Letter) → answer_of l ≡ Some (a, i, j, p) → Plus g l d c → Counts g v d
+      by_letter : (l : Letter) → told_answer l ≡ Some (a, i, j, p) → Plus g l d c → Counts g v d
       by_letter (Letter.Award k m q) is e = by_award k m q (sym ((same_answer Award a k m i j q p is).0)) e
       by_letter (Letter.Refused k m q) is e = by_refused k m q (sym ((same_answer Refused a k m i j q p is).0)) e
       by_letter (Letter.Outbid k m q) is e = by_outbid k m q (sym ((same_answer Outbid a k m i j q p is).0)) e
@@ -173,7 +173,7 @@ module _ (g : Phase) (w v : World) (c d : Ways) (counts : Counts g w c) where
       by_letter (Letter.Stop u) is e = absurd cc
 
   -- a bid is accepted
-  module _ (same_count : v.count ≡ w.count) (same_state : v.state ≡ w.state) (i a j : ℕ) (p : ℤ) (new : Held) (known : j < g.objects) (holds : v.holder ≡ put w.holder j (Some new)) (m e : Ways) (bid : Plus g (Letter.Bid i a j p) m c) where
+  module _ (same_count : v.count ≡ w.count) (same_state : v.state ≡ w.state) (i a j : ℕ) (p : ℤ) (new : Held) (known : j < g.objects) (holds : v.holder ≡ put w.holder j (Some new)) (m e : Channels) (bid : Plus g (Letter.Bid i a j p) m c) where
     new_held : held_objects g v + held_one (w.holder j) ≡ held_objects g w + 1
     new_held =
         let x = total_put held_one w.holder j (Some new) g.objects known in

@@ -4,7 +4,6 @@ use Rattle.std.proofs.Common.{ℕ, ◌+◌, ◌<◌, ◌≡◌, ◌≢◌, refl,
 use Rattle.std.specs.Prelude.{if◌then◌else◌, ◌==◌, nat_lt}
 use Rattle.std.proofs.lemmas.Bool.{cond_both, eqb-true, eq-eqb, cases_Bool, cases_lt}
 use Rattle.std.proofs.lemmas.Bool.Decides.{nat_tests}
-use Rattle.auc_letters.specs.Award.{awards, refusal}
 use Rattle.auc_letters.specs.Routing.{price_told}
 use Rattle.auc_letters.specs.declared.letter.Letter.{Letter}
 use Rattle.auc_letters.specs.declared.letter.Why.{Why}
@@ -16,7 +15,7 @@ use Rattle.auc_model.specs.Mails.{ObjectShard, PersonShard, Shard, with_mail, wi
 use Rattle.auc_model.specs.Posting.{PostTurn, reason}
 use Rattle.auc_model.specs.Put.{put}
 use Rattle.auc_model.specs.Schedule.{Schedule, Turned}
-use Rattle.auc_model.specs.Selling.{ObjectTakeTurn, TellTurn, sold}
+use Rattle.auc_model.specs.Selling.{ObjectTakeTurn, TellTurn, after_answer}
 use Rattle.auc_model.specs.World.{Phase, World, ended, first_end}
 use Rattle.auc_model.specs.declared.turn.End.{End}
 use Rattle.auc_model.specs.declared.turn.MailName.{MailName}
@@ -95,10 +94,7 @@ module _ (g : Phase) (w : World) where
   turn_end (Turn.PersonTake s) r v (PersonTakeTurn.strays x n l m h1 t bad e1 e) = stops_as g w v (record w { persons_mail = m }) Why.Stray e refl refl
   turn_end (Turn.PersonTake s) r v (PersonTakeTurn.falls x n l m h1 t fits low e1 e) = stops_as g w v (record w { persons_mail = m }) Why.Fell e refl refl
   turn_end (Turn.ObjectTake q) r v (ObjectTakeTurn.no_letter h e1 e) = stays_as g w v w e refl refl
-  turn_end (Turn.ObjectTake q) r v (ObjectTakeTurn.accepts x n i a j amount m h1 h2 t fits enough e1 e) =
-      stays_as g w v (sold w q m j amount (record { person = i; arc = a }) (awards g.shards (w.holder j) i j amount)) e refl refl
-  turn_end (Turn.ObjectTake q) r v (ObjectTakeTurn.declines x n i a j amount m h1 h2 t fits low e1 e) =
-      stays_as g w v (record w { objects_mail = m; object_out = put w.object_out q (refusal g.shards i j (w.price j)) }) e refl refl
+  turn_end (Turn.ObjectTake q) r v (ObjectTakeTurn.answers_bid x n bid m h1 h2 t fits e1 e) = stays_as g w v (after_answer g w q m bid) e refl refl
   turn_end (Turn.ObjectTake q) r v (ObjectTakeTurn.strays x n l m h1 h2 t bad e1 e) = stops_as g w v (record w { objects_mail = m }) Why.Stray e refl refl
   turn_end (Turn.Tell q j s) r v (TellTurn.silent h e1 e) = stays_as g w v w e refl refl
   turn_end (Turn.Tell q j s) r v (TellTurn.tells h1 h2 h3 h4 h5 e1 e) =

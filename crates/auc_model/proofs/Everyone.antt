@@ -13,20 +13,20 @@ use Rattle.auc_letters.specs.declared.state.PersonState.TheVariants.{Free, Holds
 use Rattle.auc_model.specs.Counts.{everywhere, holds_one, total, waits_one}
 use Rattle.auc_model.specs.Invariants.{Inv}
 use Rattle.auc_model.specs.Letters.{award_one, bid_one, first_one, outbid_one, refused_one}
-use Rattle.auc_model.specs.Places.{Agree, Answer, Apart, Award, Holding, Stand, Waiting, Wrong, believed, is_held_by, replay, stand}
+use Rattle.auc_model.specs.Places.{Agree, Answer, Unassigned, Award, Holding, PairState, Waiting, Wrong, pair_known, is_held_by, replay, pair_state}
 use Rattle.auc_model.specs.Start.{Lawful, free_in, occurs}
-use Rattle.auc_model.specs.Ways.{Each, Ways, answer_to, answers_in, bid_by, bids_in, person_of}
+use Rattle.auc_model.specs.Channels.{Each, Channels, answer_to, answers_in, bid_by, bids_in, person_of}
 use Rattle.auc_model.specs.World.{Phase, World, senders}
 use Rattle.auc_model.proofs.Bounds.{all_told, no_stall}
 use Rattle.auc_model.proofs.Places.{replay-Wrong}
 use Rattle.auc_model.proofs.Sums.{full_at, total_add, zero_at}
 use Rattle.auc_model.proofs.Totals.{IsBox, everywhere_nothing}
 
--- nothing of a kind is under way, so nothing of it is on a way
-way_zero : (g : Phase) (f : Letter → ℕ) (c : Ways) → everywhere g f c ≡ 0 → (t : To) (x : ℕ) → IsBox g t → x < senders g → sum_by f (c t x) ≡ 0
-way_zero g f c e (To.Object q) x h l = zero_at (λ y. sum_by f (c (To.Object q) y)) (senders g) x (zero_at (λ r. total (λ y. sum_by f (c (To.Object r) y)) (senders g)) g.shards q (omega arith) h) l
-way_zero g f c e (To.Person q) x h l = zero_at (λ y. sum_by f (c (To.Person q) y)) (senders g) x (zero_at (λ r. total (λ y. sum_by f (c (To.Person r) y)) (senders g)) g.shards q (omega arith) h) l
-way_zero g f c e To.Hub x h l = zero_at (λ y. sum_by f (c To.Hub y)) (senders g) x (omega arith) l
+-- nothing of a kind is under way, so nothing of it is on a channel
+channel_zero : (g : Phase) (f : Letter → ℕ) (c : Channels) → everywhere g f c ≡ 0 → (t : To) (x : ℕ) → IsBox g t → x < senders g → sum_by f (c t x) ≡ 0
+channel_zero g f c e (To.Object q) x h l = zero_at (λ y. sum_by f (c (To.Object q) y)) (senders g) x (zero_at (λ r. total (λ y. sum_by f (c (To.Object r) y)) (senders g)) g.shards q (omega arith) h) l
+channel_zero g f c e (To.Person q) x h l = zero_at (λ y. sum_by f (c (To.Person q) y)) (senders g) x (zero_at (λ r. total (λ y. sum_by f (c (To.Person r) y)) (senders g)) g.shards q (omega arith) h) l
+channel_zero g f c e To.Hub x h l = zero_at (λ y. sum_by f (c To.Hub y)) (senders g) x (omega arith) l
 
 no_bid_seen : (i j : ℕ) (xs : List Letter) → sum_by bid_one xs ≡ 0 → length (filter_map (bid_by i j) xs) ≡ 0
 no_bid_seen i j [] e = refl
@@ -57,17 +57,17 @@ awards_seen i j (Letter.First y ∷ xs) e f = awards_seen i j xs (let s = sum_by
 awards_seen i j (Letter.Stop y ∷ xs) e f = awards_seen i j xs (let s = sum_by-cons refused_one (Letter.Stop y) xs in omega (arith, s)) (let s = sum_by-cons outbid_one (Letter.Stop y) xs in omega (arith, s))
 
 -- who waits or holds, with no bid, refusal or outbid under way, holds at the object's side
-settled_holding : (xs : List Answer) (h : Bool) → AllAwards xs → Agree Holding xs (believed h 0) → h ≡ true
+settled_holding : (xs : List Answer) (h : Bool) → AllAwards xs → Agree Holding xs (pair_known h 0) → h ≡ true
 settled_holding xs true p a = refl
 settled_holding [] false p a = absurd (cc (a.same))
-settled_holding (x ∷ xs) false p a = absurd (let e = replay-Wrong xs in let f : replay Wrong xs ≡ Apart = rw p.0 at a.same in cc (e, f))
+settled_holding (x ∷ xs) false p a = absurd (let e = replay-Wrong xs in let f : replay Wrong xs ≡ Unassigned = rw p.0 at a.same in cc (e, f))
 
-settled_waiting : (xs : List Answer) (h : Bool) → AllAwards xs → Agree Waiting xs (believed h 0) → h ≡ true
+settled_waiting : (xs : List Answer) (h : Bool) → AllAwards xs → Agree Waiting xs (pair_known h 0) → h ≡ true
 settled_waiting xs true p a = refl
 settled_waiting [] false p a = absurd (cc (a.same))
 settled_waiting (x ∷ xs) false p a = settled_holding xs false p.1 (record { same = (rw p.0 at a.same); right = a.right })
 
-module _ (g : Phase) (w : World) (c : Ways) (law : Lawful g) (inv : Inv g w c) where
+module _ (g : Phase) (w : World) (c : Channels) (law : Lawful g) (inv : Inv g w c) where
   -- Where the hub has counted every person, every person holds an object
   module _ (all : w.count ≡ g.persons) (i : ℕ) (known : i < g.persons) where
     busy_here : waits_one (w.state i) + holds_one (w.state i) ≡ 1
@@ -82,19 +82,19 @@ module _ (g : Phase) (w : World) (c : Ways) (law : Lawful g) (inv : Inv g w c) w
         one (Holds j) = omega arith
 
     no_bids : (j : ℕ) → bids_in g c i j ≡ 0
-    no_bids j = no_bid_seen i j (c (To.Object (j % g.shards)) (i % g.shards)) (way_zero g bid_one c ((all_told g w c inv.counts all).1) (To.Object (j % g.shards)) (i % g.shards) (omega (arith, law.some_shards)) (omega (arith, law.some_shards)))
+    no_bids j = no_bid_seen i j (c (To.Object (j % g.shards)) (i % g.shards)) (channel_zero g bid_one c ((all_told g w c inv.counts all).1) (To.Object (j % g.shards)) (i % g.shards) (omega (arith, law.some_shards)) (omega (arith, law.some_shards)))
 
     just_awards : (j : ℕ) → AllAwards (answers_in g c i j)
     just_awards j =
         let a = all_told g w c inv.counts all in
         awards_seen i j (c (To.Person (i % g.shards)) (g.shards + j % g.shards))
-        (way_zero g refused_one c a.2 (To.Person (i % g.shards)) (g.shards + j % g.shards) (omega (arith, law.some_shards)) (omega (arith, law.some_shards)))
-        (way_zero g outbid_one c a.3 (To.Person (i % g.shards)) (g.shards + j % g.shards) (omega (arith, law.some_shards)) (omega (arith, law.some_shards)))
+        (channel_zero g refused_one c a.2 (To.Person (i % g.shards)) (g.shards + j % g.shards) (omega (arith, law.some_shards)) (omega (arith, law.some_shards)))
+        (channel_zero g outbid_one c a.3 (To.Person (i % g.shards)) (g.shards + j % g.shards) (omega (arith, law.some_shards)) (omega (arith, law.some_shards)))
 
     pub holds_some : (j : ℕ) × (is_held_by (person_of (w.holder j)) i ≡ true)
     holds_some = by_state (w.state i) refl
       where
-        at : (j : ℕ) (s : Stand) → stand (w.state i) j ≡ s → Agree s (answers_in g c i j) (believed (is_held_by (person_of (w.holder j)) i) 0)
+        at : (j : ℕ) (s : PairState) → pair_state (w.state i) j ≡ s → Agree s (answers_in g c i j) (pair_known (is_held_by (person_of (w.holder j)) i) 0)
         at j s e = rw (no_bids j, e) at (inv.in_place i j)
 
         by_state : (t : PersonState) → w.state i ≡ t → (j : ℕ) × (is_held_by (person_of (w.holder j)) i ≡ true)

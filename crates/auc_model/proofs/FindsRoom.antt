@@ -11,13 +11,13 @@ use Rattle.auc_model.specs.Mails.{Shard, mail_of, number, outbox, sender}
 use Rattle.auc_model.specs.Posting.{is_price}
 use Rattle.auc_model.specs.Room.{Room, one_if, weight}
 use Rattle.auc_model.specs.Start.{Lawful}
-use Rattle.auc_model.specs.Ways.{Lost, Routed, Ways, out_of, waiting, ways}
+use Rattle.auc_model.specs.Channels.{Lost, Routed, Channels, out_of, waiting, channels}
 use Rattle.auc_model.specs.World.{Phase, World, senders}
 use Rattle.auc_model.proofs.Bounds.{firsts_le}
 use Rattle.auc_model.proofs.Mails.{weight_ones}
 use Rattle.auc_model.proofs.Routes.{routed_middle}
 use Rattle.auc_model.proofs.Sums.{total_le, total_same}
-use Rattle.auc_model.proofs.Ways.{ahead, way_full}
+use Rattle.auc_model.proofs.Channels.{ahead, channel_full}
 use Rattle.auc_model.proofs.Weights.{each_front, front_le, room_for_answer, room_for_bid, sum_by_like, weight-total, weight_add}
 
 only_hub : (g : Phase) (x : ℕ) (l : Letter) → Routed g To.Hub x l → 1 ≡ first_one l + stop_one l
@@ -38,9 +38,9 @@ at_most_all f (suc n) = let a = at_most_all f n in let b = one (f n) in omega (a
     one false = omega arith
 
 -- Every letter but a price finds a free node
-module _ (g : Phase) (w : World) (lost : Lost) (law : Lawful g) (inv : Inv g w (ways g w lost)) (shapes : Shapes g w) (room : Room g w) (h : Shard) (o : Out) (rest : List Out) (in_range : number h < g.shards) (full : outbox w h ≡ o ∷ rest) where
+module _ (g : Phase) (w : World) (lost : Lost) (law : Lawful g) (inv : Inv g w (channels g w lost)) (shapes : Shapes g w) (room : Room g w) (h : Shard) (o : Out) (rest : List Out) (in_range : number h < g.shards) (full : outbox w h ≡ o ∷ rest) where
   pub routed_head : Routed g o.to (sender g h) o.letter
-  routed_head = routed_middle g (ways g w lost) inv.routed o.to (sender g h) (ahead g w h o rest in_range full lost) o.letter (letters_to o.to rest) (way_full g w h o rest in_range full lost)
+  routed_head = routed_middle g (channels g w lost) inv.routed o.to (sender g h) (ahead g w h o rest in_range full lost) o.letter (letters_to o.to rest) (channel_full g w h o rest in_range full lost)
 
   hub_ones : weight (λ _. 1) w.hub_mail ≡ weight first_one w.hub_mail + weight stop_one w.hub_mail
   hub_ones =
@@ -52,9 +52,9 @@ module _ (g : Phase) (w : World) (lost : Lost) (law : Lawful g) (inv : Inv g w (
       (λ x. sum_by_like (Routed g To.Hub x) (λ l. first_one l + stop_one l) (λ _. 1) (only_hub g x) (waiting w.hub_mail 0 x) (each_front (Routed g To.Hub x) (waiting w.hub_mail 0 x) (lost To.Hub x ++ letters_to To.Hub (out_of g w x)) (inv.routed To.Hub x))) in
       omega (arith, a, b, d, e)
 
-  first_weight : weight first_one w.hub_mail ≤ everywhere g first_one (ways g w lost)
+  first_weight : weight first_one w.hub_mail ≤ everywhere g first_one (channels g w lost)
   first_weight =
-      let c : Ways = ways g w lost in
+      let c : Channels = channels g w lost in
       let a = weight-total g w.hub_mail 1 first_one shapes.hub in
       let b = total_le (λ x. sum_by first_one (waiting w.hub_mail 0 x)) (λ x. sum_by first_one (c To.Hub x)) (senders g) (λ x k. front_le g w lost inv h o rest in_range full first_one To.Hub x) in
       omega (arith, a, b)
@@ -63,7 +63,7 @@ module _ (g : Phase) (w : World) (lost : Lost) (law : Lawful g) (inv : Inv g w (
   hub_fits =
       let a = hub_ones in
       let b = first_weight in
-      let d = firsts_le g w (ways g w lost) inv.counts in
+      let d = firsts_le g w (channels g w lost) inv.counts in
       let e = at_most_all w.has_stopped g.shards in
       let u = weight_ones w.hub_mail in
       omega (arith, a, b, d, e, u, room.few_stops, room.hub_nodes, law.some_shards)

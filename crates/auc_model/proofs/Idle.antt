@@ -7,7 +7,8 @@ use Rattle.auc_letters.specs.declared.state.PersonState.{PersonState}
 use Rattle.auc_letters.specs.declared.state.PersonState.TheVariants.{Free, Holds, Waits}
 use Rattle.auc_model.specs.Places.{Answer, Award, Outbid, Refused, heard}
 use Rattle.auc_model.specs.Put.{put}
-use Rattle.auc_model.specs.Start.{free_in, is_free, occurs}
+use Rattle.auc_letters.specs.Persons.{is_free}
+use Rattle.auc_model.specs.Start.{free_in, occurs}
 use Rattle.auc_model.specs.World.{Phase}
 use Rattle.auc_model.proofs.Places.{put_at, put_off}
 

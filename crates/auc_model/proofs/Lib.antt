@@ -1,8 +1,9 @@
 pub mod Mails
 pub mod SameAnswers
 pub mod Places
+pub mod Selling
 pub mod Prices
-pub mod Ways
+pub mod Channels
 pub mod Views
 pub mod Pairs
 pub mod PlaceSteps
@@ -24,7 +25,10 @@ pub mod WeightSteps
 pub mod FindsRoom
 pub mod Room
 pub mod Start
+pub mod Reached
 pub mod Theorems
+pub mod Unheld
+pub mod Determined
 pub mod Copies
 pub mod Ends
 pub mod Small
@@ -33,6 +37,7 @@ pub mod Stall
 pub mod Still
 pub mod Rests
 pub mod Chosen
+pub mod CountedSlack
 pub mod Tables
 pub mod Dealt
 pub mod Example

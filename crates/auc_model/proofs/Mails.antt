@@ -8,7 +8,7 @@ use Rattle.std.proofs.lemmas.List.Sums.{sum_by-set, sum_by-cons}
 use Rattle.auc_mail.proofs.StepLaws.{lane_of-with_lane_other, lane_of-with_lane_same, lane_there}
 use Rattle.auc_mail.specs.Mail.{HasLane, IsOpen, IsWhole, Lane, Mail, blank_lane, lane_of, waiting_of, with_closed, with_lane}
 use Rattle.auc_model.specs.Room.{weight}
-use Rattle.auc_model.specs.Ways.{waiting}
+use Rattle.auc_model.specs.Channels.{waiting}
 
 at_both : {X : Type 0} (c b t s : ℕ) (x y : X) → c ≡ b → t ≡ s → (if (c == b) && (t == s) then x else y) ≡ x
 at_both c b t s x y e f = grind (arith, nat_tests)

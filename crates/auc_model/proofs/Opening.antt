@@ -1,6 +1,6 @@
 -- Every box is open until the end is set.
 use Rattle.std.proofs.Common.{ℕ, ◌≡◌, ◌≢◌, refl, true, [], ◌∷◌, None, ◌⊎◌, inl, inr, ap, ◌∙◌}
-use Rattle.auc_letters.specs.Award.{awards, refusal}
+use Rattle.auc_letters.specs.Award.{bid_letter}
 use Rattle.auc_letters.specs.Routing.{price_told}
 use Rattle.auc_letters.specs.declared.letter.Letter.{Letter}
 use Rattle.auc_letters.specs.declared.letter.Why.{Why}
@@ -13,7 +13,7 @@ use Rattle.auc_model.specs.Mails.{ObjectShard, PersonShard, Shard, Takes, box_of
 use Rattle.auc_model.specs.Posting.{PostTurn, reason}
 use Rattle.auc_model.specs.Put.{put}
 use Rattle.auc_model.specs.Schedule.{Turned}
-use Rattle.auc_model.specs.Selling.{ObjectTakeTurn, TellTurn, sold}
+use Rattle.auc_model.specs.Selling.{ObjectTakeTurn, TellTurn, after_answer}
 use Rattle.auc_model.specs.World.{Phase, World, ended}
 use Rattle.auc_model.specs.declared.turn.Turn.{Turn}
 use Rattle.auc_model.specs.declared.turn.TurnReply.{TurnReply}
@@ -63,10 +63,8 @@ module _ (g : Phase) (w : World) where
   turn_open (Turn.PersonTake s) r v (PersonTakeTurn.falls x n l m h1 t fits low e1 e) =
       taken_open v (ended (record w { persons_mail = m }) Why.Fell) (To.Person s) x n l m t e (record { objects = refl; persons = refl; hub = refl })
   turn_open (Turn.ObjectTake q) r v (ObjectTakeTurn.no_letter h e1 e) = same_open v w e (record { objects = refl; persons = refl; hub = refl })
-  turn_open (Turn.ObjectTake q) r v (ObjectTakeTurn.accepts x n i a j amount m h1 h2 t fits enough e1 e) =
-      taken_open v (sold w q m j amount (record { person = i; arc = a }) (awards g.shards (w.holder j) i j amount)) (To.Object q) x n (Letter.Bid i a j amount) m t e (record { objects = refl; persons = refl; hub = refl })
-  turn_open (Turn.ObjectTake q) r v (ObjectTakeTurn.declines x n i a j amount m h1 h2 t fits low e1 e) =
-      taken_open v (record w { objects_mail = m; object_out = put w.object_out q (refusal g.shards i j (w.price j)) }) (To.Object q) x n (Letter.Bid i a j amount) m t e (record { objects = refl; persons = refl; hub = refl })
+  turn_open (Turn.ObjectTake q) r v (ObjectTakeTurn.answers_bid x n bid m h1 h2 t fits e1 e) =
+      taken_open v (after_answer g w q m bid) (To.Object q) x n (bid_letter bid) m t e (record { objects = refl; persons = refl; hub = refl })
   turn_open (Turn.ObjectTake q) r v (ObjectTakeTurn.strays x n l m h1 h2 t bad e1 e) =
       taken_open v (ended (record w { objects_mail = m }) Why.Stray) (To.Object q) x n l m t e (record { objects = refl; persons = refl; hub = refl })
   turn_open (Turn.Tell q j s) r v (TellTurn.silent h e1 e) = same_open v w e (record { objects = refl; persons = refl; hub = refl })

@@ -7,10 +7,10 @@ use Rattle.auc_letters.specs.declared.out.To.{To}
 use Rattle.auc_letters.specs.declared.state.Held.{Held}
 use Rattle.auc_letters.specs.declared.state.PersonState.{PersonState}
 use Rattle.auc_letters.specs.declared.state.PersonState.TheVariants.{Waits}
-use Rattle.auc_model.specs.Letters.{answer_of}
+use Rattle.auc_model.specs.Letters.{told_answer}
 use Rattle.auc_model.specs.Places.{Answer, Award, InPlace, Outbid, Refused, award, bid, hear, heard, pass_on, refuse}
 use Rattle.auc_model.specs.Put.{put, put2}
-use Rattle.auc_model.specs.Ways.{Ways, answer_to, answers_in, bid_by, bids_in, person_of, places, send, set_way}
+use Rattle.auc_model.specs.Channels.{Channels, answer_to, answers_in, bid_by, bids_in, person_of, places, send, set_channel}
 use Rattle.auc_model.specs.World.{Phase, World}
 use Rattle.auc_model.proofs.Places.{keeps_award, keeps_bid, keeps_hear, keeps_pass_on, keeps_refuse}
 use Rattle.auc_model.proofs.Pairs.{answers_head, answers_popped, answers_sent, bids_head, bids_popped, bids_sent, in_place_like}
@@ -23,7 +23,7 @@ holder_put f j h k = grind (arith, nat_tests)
 abbrev pub Unseen : Letter → Type 0
 Unseen l = (i j : ℕ) → (answer_to i j l ≡ None) × (bid_by i j l ≡ None)
 
-module _ (g : Phase) (w v : World) (c : Ways) where
+module _ (g : Phase) (w v : World) (c : Channels) where
   pub place_kept : v.state ≡ w.state → v.holder ≡ w.holder → InPlace (places g w c) → InPlace (places g v c)
   place_kept e h p = in_place_like (places g w c) (places g v c) (λ k. ap (λ (f : ℕ → PersonState). f k) e) (λ k. ap (λ (f : ℕ → Option Held). person_of (f k)) h) (λ k l. refl) (λ k l. refl) p
 
@@ -33,15 +33,15 @@ module _ (g : Phase) (w v : World) (c : Ways) where
       (λ k l. ap length (view-send_none (bid_by k l) c y o (n k l).1 (To.Object (l % g.shards)) (k % g.shards)))
       (λ k l. view-send_none (answer_to k l) c y o (n k l).0 (To.Person (k % g.shards)) (g.shards + l % g.shards)) p
 
-  pub place_taken : (t : To) (x : ℕ) (l : Letter) (ls : List Letter) → c t x ≡ l ∷ ls → Unseen l → InPlace (places g w c) → InPlace (places g w (set_way c t x ls))
+  pub place_taken : (t : To) (x : ℕ) (l : Letter) (ls : List Letter) → c t x ≡ l ∷ ls → Unseen l → InPlace (places g w c) → InPlace (places g w (set_channel c t x ls))
   place_taken t x l ls e n p =
-      in_place_like (places g w c) (places g w (set_way c t x ls)) (λ k. refl) (λ k. refl)
+      in_place_like (places g w c) (places g w (set_channel c t x ls)) (λ k. refl) (λ k. refl)
       (λ k m. ap length (view-set_same (bid_by k m) c t x ls (view_pop_none (bid_by k m) c t x l ls e (n k m).1) (To.Object (m % g.shards)) (k % g.shards)))
       (λ k m. view-set_same (answer_to k m) c t x ls (view_pop_none (answer_to k m) c t x l ls e (n k m).0) (To.Person (k % g.shards)) (g.shards + m % g.shards)) p
 
-  pub place_dropped : (t : To) (x : ℕ) (hs : List Letter) (l : Letter) (ls : List Letter) → c t x ≡ hs ++ l ∷ ls → Unseen l → InPlace (places g w c) → InPlace (places g w (set_way c t x (hs ++ ls)))
+  pub place_dropped : (t : To) (x : ℕ) (hs : List Letter) (l : Letter) (ls : List Letter) → c t x ≡ hs ++ l ∷ ls → Unseen l → InPlace (places g w c) → InPlace (places g w (set_channel c t x (hs ++ ls)))
   place_dropped t x hs l ls e n p =
-      in_place_like (places g w c) (places g w (set_way c t x (hs ++ ls))) (λ k. refl) (λ k. refl)
+      in_place_like (places g w c) (places g w (set_channel c t x (hs ++ ls))) (λ k. refl) (λ k. refl)
       (λ k m. ap length (view-set_same (bid_by k m) c t x (hs ++ ls) (view_drop_none (bid_by k m) c t x hs l ls e (n k m).1) (To.Object (m % g.shards)) (k % g.shards)))
       (λ k m. view-set_same (answer_to k m) c t x (hs ++ ls) (view_drop_none (answer_to k m) c t x hs l ls e (n k m).0) (To.Person (k % g.shards)) (g.shards + m % g.shards)) p
 
@@ -54,20 +54,20 @@ module _ (g : Phase) (w v : World) (c : Ways) where
       (λ k l. view-send_none (answer_to k l) c (i % g.shards) (record { to = To.Object (j % g.shards); letter = Letter.Bid i a j p; reserve = r }) refl (To.Person (k % g.shards)) (g.shards + l % g.shards))
       (keeps_bid (places g w c) i j free q)
 
-  pub place_hear : (l : Letter) (ls : List Letter) (a : Answer) (i j : ℕ) (p : ℤ) → answer_of l ≡ Some (a, i, j, p) → c (To.Person (i % g.shards)) (g.shards + j % g.shards) ≡ l ∷ ls
+  pub place_hear : (l : Letter) (ls : List Letter) (a : Answer) (i j : ℕ) (p : ℤ) → told_answer l ≡ Some (a, i, j, p) → c (To.Person (i % g.shards)) (g.shards + j % g.shards) ≡ l ∷ ls
       → ((k m : ℕ) → bid_by k m l ≡ None) → v.state ≡ put w.state i (heard a j) → v.holder ≡ w.holder → InPlace (places g w c)
-      → InPlace (places g v (set_way c (To.Person (i % g.shards)) (g.shards + j % g.shards) ls))
+      → InPlace (places g v (set_channel c (To.Person (i % g.shards)) (g.shards + j % g.shards) ls))
   place_hear l ls a i j p e f n s h q =
-      in_place_like (hear (places g w c) i j a (filter_map (answer_to i j) ls)) (places g v (set_way c (To.Person (i % g.shards)) (g.shards + j % g.shards) ls))
+      in_place_like (hear (places g w c) i j a (filter_map (answer_to i j) ls)) (places g v (set_channel c (To.Person (i % g.shards)) (g.shards + j % g.shards) ls))
       (λ k. ap (λ (f : ℕ → PersonState). f k) s) (λ k. ap (λ (f : ℕ → Option Held). person_of (f k)) h)
       (λ k m. ap length (view-set_same (bid_by k m) c (To.Person (i % g.shards)) (g.shards + j % g.shards) ls (view_pop_none (bid_by k m) c (To.Person (i % g.shards)) (g.shards + j % g.shards) l ls f (n k m)) (To.Object (m % g.shards)) (k % g.shards)))
       (answers_popped g c l ls a i j p e f)
       (keeps_hear (places g w c) i j a (filter_map (answer_to i j) ls) (answers_head g c l ls a i j p e f) q)
 
--- The object's side takes a bid from its way, and answers. The answers go in one by one
-module _ (g : Phase) (w v : World) (c : Ways) (i a j : ℕ) (amount : ℤ) (ls : List Letter) (first : c (To.Object (j % g.shards)) (i % g.shards) ≡ Letter.Bid i a j amount ∷ ls) where
-  abbrev pub popped : Ways
-  popped = set_way c (To.Object (j % g.shards)) (i % g.shards) ls
+-- The object's side takes a bid from its channel, and answers. The answers go in one by one
+module _ (g : Phase) (w v : World) (c : Channels) (i a j : ℕ) (amount : ℤ) (ls : List Letter) (first : c (To.Object (j % g.shards)) (i % g.shards) ≡ Letter.Bid i a j amount ∷ ls) where
+  abbrev pub popped : Channels
+  popped = set_channel c (To.Object (j % g.shards)) (i % g.shards) ls
 
   abbrev left : ℕ
   left = length (filter_map (bid_by i j) ls)
@@ -76,13 +76,13 @@ module _ (g : Phase) (w v : World) (c : Ways) (i a j : ℕ) (amount : ℤ) (ls :
   answers_same k l =
       view-set_same (answer_to k l) c (To.Object (j % g.shards)) (i % g.shards) ls (view_pop_none (answer_to k l) c (To.Object (j % g.shards)) (i % g.shards) (Letter.Bid i a j amount) ls first refl) (To.Person (k % g.shards)) (g.shards + l % g.shards)
 
-  answer_next : (d : Ways) (o : Out) (b : Answer) (x : ℕ) (p : ℤ) (f : ℕ → ℕ → List Answer) → answer_of o.letter ≡ Some (b, x, j, p) → o.to ≡ To.Person (x % g.shards)
+  answer_next : (d : Channels) (o : Out) (b : Answer) (x : ℕ) (p : ℤ) (f : ℕ → ℕ → List Answer) → told_answer o.letter ≡ Some (b, x, j, p) → o.to ≡ To.Person (x % g.shards)
       → ((k l : ℕ) → answers_in g d k l ≡ f k l)
       → (k l : ℕ) → answers_in g (send d (g.shards + j % g.shards) (o ∷ [])) k l ≡ put2 f x j (f x j ++ b ∷ []) k l
   answer_next d o b x p f e t same k l =
       answers_sent g d o b x j p (g.shards + j % g.shards) e t refl k l ∙ ap (λ (h : ℕ → ℕ → List Answer). put2 h x j (h x j ++ b ∷ []) k l) (λ n r s. same r s n)
 
-  bids_same : (o : Out) (d : Ways) → ((k l : ℕ) → bid_by k l o.letter ≡ None) → (k l : ℕ) → bids_in g (send d (g.shards + j % g.shards) (o ∷ [])) k l ≡ bids_in g d k l
+  bids_same : (o : Out) (d : Channels) → ((k l : ℕ) → bid_by k l o.letter ≡ None) → (k l : ℕ) → bids_in g (send d (g.shards + j % g.shards) (o ∷ [])) k l ≡ bids_in g d k l
   bids_same o d n k l = ap length (view-send_none (bid_by k l) d (g.shards + j % g.shards) o (n k l) (To.Object (l % g.shards)) (k % g.shards))
 
   pub place_refuse : (p : ℤ) (r : ℕ) → v.state ≡ w.state → v.holder ≡ w.holder → InPlace (places g w c)
@@ -111,7 +111,7 @@ module _ (g : Phase) (w v : World) (c : Ways) (i a j : ℕ) (amount : ℤ) (ls :
   place_pass_on p r z d old n s h q =
       let o : Out = record { to = To.Person (i % g.shards); letter = Letter.Award i j p; reserve = r } in
       let u : Out = record { to = To.Person (old.person % g.shards); letter = Letter.Outbid old.person j p; reserve = z } in
-      let m : Ways = send popped (g.shards + j % g.shards) (u ∷ []) in
+      let m : Channels = send popped (g.shards + j % g.shards) (u ∷ []) in
       in_place_like (pass_on (places g w c) i j left old.person) (places g v (send m (g.shards + j % g.shards) (o ∷ [])))
       (λ k. ap (λ (f : ℕ → PersonState). f k) s) (λ k. ap (λ (f : ℕ → Option Held). person_of (f k)) h ∙ holder_put w.holder j (record { person = i; arc = d }) k)
       (λ k l. bids_same o m (λ x y. refl) k l ∙ (bids_same u popped (λ x y. refl) k l ∙ bids_popped g c i a j amount ls first k l))

@@ -3,7 +3,7 @@ use Rattle.std.proofs.Common.{ℕ, suc, ◌+◌, ◌≡◌, ◌≢◌, refl, ari
 use Rattle.std.proofs.lemmas.Bool.{cases_eq}
 use Rattle.auc_letters.specs.declared.state.PersonState.{PersonState}
 use Rattle.auc_letters.specs.declared.state.PersonState.TheVariants.{Free, Holds, Waits}
-use Rattle.auc_model.specs.Places.{Agree, Allows, Answer, Apart, Award, InPlace, Outbid, Places, Refused, Stand, Waiting, Wrong, award, believed, bid, hear, heard, is_held_by, pass_on, refuse, replay, stand, told}
+use Rattle.auc_model.specs.Places.{Agree, Allows, Answer, Unassigned, Award, InPlace, Outbid, Places, Refused, PairState, Waiting, Wrong, award, pair_known, bid, hear, heard, is_held_by, pass_on, refuse, replay, pair_state, pair_after}
 use Rattle.auc_model.specs.Put.{put}
 
 pub put_at : {X : Type 0} (f : ℕ → X) (k : ℕ) (v : X) (n : ℕ) → n ≡ k → put f k v n ≡ v
@@ -23,23 +23,23 @@ pub replay-Wrong : (xs : List Answer) → replay Wrong xs ≡ Wrong
 replay-Wrong [] = refl
 replay-Wrong (a ∷ xs) = replay-Wrong xs
 
-pub replay-Apart : (xs : List Answer) (s : Stand) → replay Apart xs ≡ s → s ≢ Wrong → xs ≡ []
-replay-Apart [] s e n = refl
-replay-Apart (a ∷ xs) s e n = absurd (n (sym e ∙ replay-Wrong xs))
+pub replay-Unassigned : (xs : List Answer) (s : PairState) → replay Unassigned xs ≡ s → s ≢ Wrong → xs ≡ []
+replay-Unassigned [] s e n = refl
+replay-Unassigned (a ∷ xs) s e n = absurd (n (sym e ∙ replay-Wrong xs))
 
-pub replay_push : (s : Stand) (xs : List Answer) (a : Answer) → replay s (xs ++ a ∷ []) ≡ told (replay s xs) a
+pub replay_push : (s : PairState) (xs : List Answer) (a : Answer) → replay s (xs ++ a ∷ []) ≡ pair_after (replay s xs) a
 replay_push s [] a = refl
-replay_push s (b ∷ xs) a = replay_push (told s b) xs a
+replay_push s (b ∷ xs) a = replay_push (pair_after s b) xs a
 
-agree_bid : (s t : Stand) (xs : List Answer) (h : Bool) (b c : ℕ) → s ≡ Apart → t ≡ Waiting → c ≡ b + 1 → Agree s xs (believed h b) → Agree t xs (believed h c)
-agree_bid s t xs h b c e f n p = grind (arith, replay-Apart xs (believed h b) (rw e at p.same) p.right)
+agree_bid : (s t : PairState) (xs : List Answer) (h : Bool) (b c : ℕ) → s ≡ Unassigned → t ≡ Waiting → c ≡ b + 1 → Agree s xs (pair_known h b) → Agree t xs (pair_known h c)
+agree_bid s t xs h b c e f n p = grind (arith, replay-Unassigned xs (pair_known h b) (rw e at p.same) p.right)
 
 abbrev At : Places → ℕ → ℕ → Type 0
-At w i j = Agree (stand (w.state i) j) (w.answers i j) (believed (is_held_by (w.holder j) i) (w.bids i j))
+At w i j = Agree (pair_state (w.state i) j) (w.answers i j) (pair_known (is_held_by (w.holder j) i) (w.bids i j))
 
 bid_here : (w : Places) (i j k l : ℕ) → w.state i ≡ Free → k ≡ i → l ≡ j → At w k l → At (bid w i j) k l
 bid_here w i j k l free e f p =
-    agree_bid (stand (w.state k) l) (stand ((bid w i j).state k) l) (w.answers k l) (is_held_by (w.holder l) k) (w.bids k l) ((bid w i j).bids k l) (grind arith) (grind arith) (grind arith) p
+    agree_bid (pair_state (w.state k) l) (pair_state ((bid w i j).state k) l) (w.answers k l) (is_held_by (w.holder l) k) (w.bids k l) ((bid w i j).bids k l) (grind arith) (grind arith) (grind arith) p
 
 bid_other_object : (w : Places) (i j k l : ℕ) → w.state i ≡ Free → k ≡ i → l ≢ j → At w k l → At (bid w i j) k l
 bid_other_object w i j k l free e f p = grind arith
@@ -55,23 +55,23 @@ keeps_bid w i j free p k l =
     ]
 
 -- What one answer does to the one pair of person and object that it is about. All the new values are variables, with equations for what they are
-module _ (s t : Stand) (xs ys : List Answer) (h g : Bool) (b c n : ℕ) where
-  agree_refused : t ≡ s → ys ≡ xs ++ Refused ∷ [] → g ≡ h → b ≡ suc n → c ≡ n → Agree s xs (believed h b) → Agree t ys (believed g c)
+module _ (s t : PairState) (xs ys : List Answer) (h g : Bool) (b c n : ℕ) where
+  agree_refused : t ≡ s → ys ≡ xs ++ Refused ∷ [] → g ≡ h → b ≡ suc n → c ≡ n → Agree s xs (pair_known h b) → Agree t ys (pair_known g c)
   agree_refused e1 e2 e3 e4 e5 p = grind (arith, replay_push s xs Refused, p.same, p.right)
 
-  agree_award : t ≡ s → ys ≡ xs ++ Award ∷ [] → g ≡ true → b ≡ suc n → c ≡ n → Agree s xs (believed h b) → Agree t ys (believed g c)
+  agree_award : t ≡ s → ys ≡ xs ++ Award ∷ [] → g ≡ true → b ≡ suc n → c ≡ n → Agree s xs (pair_known h b) → Agree t ys (pair_known g c)
   agree_award e1 e2 e3 e4 e5 p = grind (arith, replay_push s xs Award, p.same, p.right)
 
-  agree_outbid : t ≡ s → ys ≡ xs ++ Outbid ∷ [] → h ≡ true → g ≡ false → c ≡ b → Agree s xs (believed h b) → Agree t ys (believed g c)
+  agree_outbid : t ≡ s → ys ≡ xs ++ Outbid ∷ [] → h ≡ true → g ≡ false → c ≡ b → Agree s xs (pair_known h b) → Agree t ys (pair_known g c)
   agree_outbid e1 e2 e3 e4 e5 p = grind (arith, replay_push s xs Outbid, p.same, p.right)
 
-  agree_heard : (a : Answer) → t ≡ told s a → xs ≡ a ∷ ys → g ≡ h → c ≡ b → Agree s xs (believed h b) → Agree t ys (believed g c)
+  agree_heard : (a : Answer) → t ≡ pair_after s a → xs ≡ a ∷ ys → g ≡ h → c ≡ b → Agree s xs (pair_known h b) → Agree t ys (pair_known g c)
   agree_heard a e1 e2 e3 e4 p = grind (arith, p.same, p.right)
 
 refuse_here : (w : Places) (i j n k l : ℕ) → w.bids i j ≡ suc n → k ≡ i → l ≡ j → At w k l → At (refuse w i j n) k l
 refuse_here w i j n k l b e f p =
     agree_refused
-    (stand (w.state k) l) (stand ((refuse w i j n).state k) l) (w.answers k l) ((refuse w i j n).answers k l)
+    (pair_state (w.state k) l) (pair_state ((refuse w i j n).state k) l) (w.answers k l) ((refuse w i j n).answers k l)
     (is_held_by (w.holder l) k) (is_held_by ((refuse w i j n).holder l) k) (w.bids k l) ((refuse w i j n).bids k l) n
     refl (grind arith) refl (grind arith) (grind arith) p
 
@@ -81,7 +81,7 @@ refuse_other w i j n k l e p = grind arith
 award_here : (w : Places) (i j n k l : ℕ) → w.bids i j ≡ suc n → k ≡ i → l ≡ j → At w k l → At (award w i j n) k l
 award_here w i j n k l b e f p =
     agree_award
-    (stand (w.state k) l) (stand ((award w i j n).state k) l) (w.answers k l) ((award w i j n).answers k l)
+    (pair_state (w.state k) l) (pair_state ((award w i j n).state k) l) (w.answers k l) ((award w i j n).answers k l)
     (is_held_by (w.holder l) k) (is_held_by ((award w i j n).holder l) k) (w.bids k l) ((award w i j n).bids k l) n
     refl (grind arith) (grind arith) (grind arith) (grind arith) p
 
@@ -98,14 +98,14 @@ bidder_new w i j n b p = grind (arith, p.right)
 pass_here : (w : Places) (i j n m k l : ℕ) → w.bids i j ≡ suc n → i ≢ m → k ≡ i → l ≡ j → At w k l → At (pass_on w i j n m) k l
 pass_here w i j n m k l b o e f p =
     agree_award
-    (stand (w.state k) l) (stand ((pass_on w i j n m).state k) l) (w.answers k l) ((pass_on w i j n m).answers k l)
+    (pair_state (w.state k) l) (pair_state ((pass_on w i j n m).state k) l) (w.answers k l) ((pass_on w i j n m).answers k l)
     (is_held_by (w.holder l) k) (is_held_by ((pass_on w i j n m).holder l) k) (w.bids k l) ((pass_on w i j n m).bids k l) n
     refl (grind arith) (grind arith) (grind arith) (grind arith) p
 
 pass_earlier : (w : Places) (i j n m k l : ℕ) → w.holder j ≡ Some m → i ≢ m → k ≡ m → l ≡ j → At w k l → At (pass_on w i j n m) k l
 pass_earlier w i j n m k l b o e f p =
     agree_outbid
-    (stand (w.state k) l) (stand ((pass_on w i j n m).state k) l) (w.answers k l) ((pass_on w i j n m).answers k l)
+    (pair_state (w.state k) l) (pair_state ((pass_on w i j n m).state k) l) (w.answers k l) ((pass_on w i j n m).answers k l)
     (is_held_by (w.holder l) k) (is_held_by ((pass_on w i j n m).holder l) k) (w.bids k l) ((pass_on w i j n m).bids k l) n
     refl (grind arith) (grind arith) (grind arith) (grind arith) p
 
@@ -115,45 +115,45 @@ pass_other_object w i j n m k l e p = grind arith
 pass_other_person : (w : Places) (i j n m k l : ℕ) → w.holder j ≡ Some m → k ≢ i → k ≢ m → l ≡ j → At w k l → At (pass_on w i j n m) k l
 pass_other_person w i j n m k l o e f g p = grind arith
 
-told_right : (s known : Stand) (a : Answer) (xs : List Answer) → replay s (a ∷ xs) ≡ known → known ≢ Wrong → told s a ≢ Wrong
-told_right s known a xs e n f = grind (arith, replay-Wrong xs)
+pair_after_right : (s known : PairState) (a : Answer) (xs : List Answer) → replay s (a ∷ xs) ≡ known → known ≢ Wrong → pair_after s a ≢ Wrong
+pair_after_right s known a xs e n f = grind (arith, replay-Wrong xs)
 
-fits_from_told : (s : PersonState) (j : ℕ) (a : Answer) → told (stand s j) a ≢ Wrong → Allows s a j
-fits_from_told Free j Award n = absurd (n refl)
-fits_from_told Free j Refused n = absurd (n refl)
-fits_from_told Free j Outbid n = absurd (n refl)
-fits_from_told (Waits k) j Award n = grind arith
-fits_from_told (Waits k) j Refused n = grind arith
-fits_from_told (Waits k) j Outbid n = grind arith
-fits_from_told (Holds k) j Award n = grind arith
-fits_from_told (Holds k) j Refused n = grind arith
-fits_from_told (Holds k) j Outbid n = grind arith
+fits_from_pair : (s : PersonState) (j : ℕ) (a : Answer) → pair_after (pair_state s j) a ≢ Wrong → Allows s a j
+fits_from_pair Free j Award n = absurd (n refl)
+fits_from_pair Free j Refused n = absurd (n refl)
+fits_from_pair Free j Outbid n = absurd (n refl)
+fits_from_pair (Waits k) j Award n = grind arith
+fits_from_pair (Waits k) j Refused n = grind arith
+fits_from_pair (Waits k) j Outbid n = grind arith
+fits_from_pair (Holds k) j Award n = grind arith
+fits_from_pair (Holds k) j Refused n = grind arith
+fits_from_pair (Holds k) j Outbid n = grind arith
 
 -- the first answer under way is one that the state allows
 pub no_stray : (w : Places) (i j : ℕ) (a : Answer) (xs : List Answer) → w.answers i j ≡ a ∷ xs → InPlace w → Allows (w.state i) a j
 no_stray w i j a xs e p =
     let q = p i j in
-    fits_from_told (w.state i) j a (told_right (stand (w.state i) j) (believed (is_held_by (w.holder j) i) (w.bids i j)) a xs (rw e at q.same) q.right)
+    fits_from_pair (w.state i) j a (pair_after_right (pair_state (w.state i) j) (pair_known (is_held_by (w.holder j) i) (w.bids i j)) a xs (rw e at q.same) q.right)
 
-stand-heard : (s : PersonState) (j k : ℕ) (a : Answer) → k ≡ j → Allows s a j → stand (heard a j) k ≡ told (stand s k) a
-stand-heard s j k Award e f = grind arith
-stand-heard s j k Refused e f = grind arith
-stand-heard s j k Outbid e f = grind arith
+pair_state-heard : (s : PersonState) (j k : ℕ) (a : Answer) → k ≡ j → Allows s a j → pair_state (heard a j) k ≡ pair_after (pair_state s k) a
+pair_state-heard s j k Award e f = grind arith
+pair_state-heard s j k Refused e f = grind arith
+pair_state-heard s j k Outbid e f = grind arith
 
-stand-heard_other : (s : PersonState) (j k : ℕ) (a : Answer) → k ≢ j → Allows s a j → stand (heard a j) k ≡ stand s k
-stand-heard_other s j k Award e f = grind arith
-stand-heard_other s j k Refused e f = grind arith
-stand-heard_other s j k Outbid e f = grind arith
+pair_state-heard_other : (s : PersonState) (j k : ℕ) (a : Answer) → k ≢ j → Allows s a j → pair_state (heard a j) k ≡ pair_state s k
+pair_state-heard_other s j k Award e f = grind arith
+pair_state-heard_other s j k Refused e f = grind arith
+pair_state-heard_other s j k Outbid e f = grind arith
 
 hear_here : (w : Places) (i j : ℕ) (a : Answer) (xs : List Answer) (k l : ℕ) → w.answers i j ≡ a ∷ xs → Allows (w.state i) a j → k ≡ i → l ≡ j → At w k l → At (hear w i j a xs) k l
 hear_here w i j a xs k l o m e f p =
     agree_heard
-    (stand (w.state k) l) (stand ((hear w i j a xs).state k) l) (w.answers k l) ((hear w i j a xs).answers k l)
+    (pair_state (w.state k) l) (pair_state ((hear w i j a xs).state k) l) (w.answers k l) ((hear w i j a xs).answers k l)
     (is_held_by (w.holder l) k) (is_held_by ((hear w i j a xs).holder l) k) (w.bids k l) ((hear w i j a xs).bids k l) 0 a
-    (grind (arith, stand-heard (w.state i) j l a f m)) (grind arith) refl refl p
+    (grind (arith, pair_state-heard (w.state i) j l a f m)) (grind arith) refl refl p
 
 hear_other_object : (w : Places) (i j : ℕ) (a : Answer) (xs : List Answer) (k l : ℕ) → Allows (w.state i) a j → k ≡ i → l ≢ j → At w k l → At (hear w i j a xs) k l
-hear_other_object w i j a xs k l m e f p = grind (arith, stand-heard_other (w.state i) j l a f m)
+hear_other_object w i j a xs k l m e f p = grind (arith, pair_state-heard_other (w.state i) j l a f m)
 
 hear_other_person : (w : Places) (i j : ℕ) (a : Answer) (xs : List Answer) (k l : ℕ) → k ≢ i → At w k l → At (hear w i j a xs) k l
 hear_other_person w i j a xs k l e p = grind arith
@@ -192,11 +192,11 @@ keeps_hear w i j a xs o p k l =
       | inr e ↦ hear_other_person w i j a xs k l e (p k l)
     ]
 
--- a person who holds an object stands to it in no other way than apart from every other one
-holder_not_apart : (s : PersonState) (j : ℕ) (xs : List Answer) (b : ℕ) → Agree (stand s j) xs (believed true b) → stand s j ≢ Apart
-holder_not_apart s j xs b p e = grind (arith, replay-Apart xs (believed true b) (rw e at p.same) p.right, p.same, p.right)
+-- a person who holds an object stands to no other object at all
+holder_not_unassigned : (s : PersonState) (j : ℕ) (xs : List Answer) (b : ℕ) → Agree (pair_state s j) xs (pair_known true b) → pair_state s j ≢ Unassigned
+holder_not_unassigned s j xs b p e = grind (arith, replay-Unassigned xs (pair_known true b) (rw e at p.same) p.right, p.same, p.right)
 
-one_object : (s : PersonState) (j k : ℕ) → stand s j ≢ Apart → stand s k ≢ Apart → j ≡ k
+one_object : (s : PersonState) (j k : ℕ) → pair_state s j ≢ Unassigned → pair_state s k ≢ Unassigned → j ≡ k
 one_object Free j k p q = absurd (p refl)
 one_object (Waits i) j k p q = grind arith
 one_object (Holds i) j k p q = grind arith
@@ -204,6 +204,6 @@ one_object (Holds i) j k p q = grind arith
 -- no person is held twice
 pub held_once : (w : Places) (i j k : ℕ) → w.holder j ≡ Some i → w.holder k ≡ Some i → InPlace w → j ≡ k
 held_once w i j k e f p =
-    let at_j : Agree (stand (w.state i) j) (w.answers i j) (believed true (w.bids i j)) = grind (arith, p i j) in
-    let at_k : Agree (stand (w.state i) k) (w.answers i k) (believed true (w.bids i k)) = grind (arith, p i k) in
-    one_object (w.state i) j k (holder_not_apart (w.state i) j (w.answers i j) (w.bids i j) at_j) (holder_not_apart (w.state i) k (w.answers i k) (w.bids i k) at_k)
+    let at_j : Agree (pair_state (w.state i) j) (w.answers i j) (pair_known true (w.bids i j)) = grind (arith, p i j) in
+    let at_k : Agree (pair_state (w.state i) k) (w.answers i k) (pair_known true (w.bids i k)) = grind (arith, p i k) in
+    one_object (w.state i) j k (holder_not_unassigned (w.state i) j (w.answers i j) (w.bids i j) at_j) (holder_not_unassigned (w.state i) k (w.answers i k) (w.bids i k) at_k)

@@ -44,8 +44,7 @@ module _ (g : Phase) (w : World) where
   object_take_rests q l none (ObjectTakeTurn.no_letter (inl past) e1 e) = within q l past
   object_take_rests q l none (ObjectTakeTurn.no_letter (inr (inl full)) e1 e) = absurd (full none)
   object_take_rests q l none (ObjectTakeTurn.no_letter (inr (inr t)) e1 e) = nothing_in w.objects_mail q t
-  object_take_rests q l none (ObjectTakeTurn.accepts x n i a j amount m h1 h2 t fits enough e1 e) = moved_not e1
-  object_take_rests q l none (ObjectTakeTurn.declines x n i a j amount m h1 h2 t fits low e1 e) = moved_not e1
+  object_take_rests q l none (ObjectTakeTurn.answers_bid x n bid m h1 h2 t fits e1 e) = moved_not e1
   object_take_rests q l none (ObjectTakeTurn.strays x n k m h1 h2 t bad e1 e) = moved_not e1
 
   person_take_rests : (s : ℕ) → s < g.shards → PersonTakeTurn g w s TurnReply.Nothing w → NothingWaits w.persons_mail s

@@ -23,9 +23,10 @@ use Rattle.auc_model.specs.Posting.{PostTurn, Posts, Refuses, is_price, reason}
 use Rattle.auc_model.specs.Put.{put, put2}
 use Rattle.auc_model.specs.Room.{Reserved, Room, one_if, stops_out, weight}
 use Rattle.auc_model.specs.Schedule.{Schedule, Turned}
-use Rattle.auc_model.specs.Selling.{ObjectTakeTurn, TellTurn, sold}
+use Rattle.auc_model.specs.Selling.{TellTurn}
+use Rattle.auc_model.proofs.Selling.{TakesBid, by_cases, sold}
 use Rattle.auc_model.specs.Start.{Lawful}
-use Rattle.auc_model.specs.Ways.{Each, Routed, ways}
+use Rattle.auc_model.specs.Channels.{Each, Routed, channels}
 use Rattle.auc_model.specs.World.{Phase, World, ended, first_end}
 use Rattle.auc_model.specs.declared.turn.End.{End}
 use Rattle.auc_model.specs.declared.turn.MailName.{MailName}
@@ -36,7 +37,7 @@ use Rattle.auc_model.proofs.Places.{put_at, put_off, put_self}
 use Rattle.auc_model.proofs.Routes.{routed_first}
 use Rattle.auc_model.proofs.Schedule.{kept_turn}
 use Rattle.auc_model.proofs.Sums.{total_put}
-use Rattle.auc_model.proofs.Ways.{left_behind, way_taken}
+use Rattle.auc_model.proofs.Channels.{left_behind, channel_taken}
 use Rattle.auc_model.proofs.WeightSteps.{few_prices_posted, weight_posted, weight_taken}
 
 each_put : (g : Phase) (f : ℕ → List Out) (s : ℕ) (os : List Out) → Each (Reserved g) os → ((k : ℕ) → Each (Reserved g) (f k)) → (k : ℕ) → Each (Reserved g) (put f s os k)
@@ -93,6 +94,12 @@ module _ (g : Phase) (w : World) (law : Lawful g) (k : Kept g w) (room : Room g 
         no_mail = room.no_mail;
       }
 
+  pub never_full : (h : Shard) (o : Out) (rest : List Out) → number h < g.shards → outbox w h ≡ o ∷ rest → Refuses g w h o PostRefused.Full → is_price o.letter ≡ false → ⊥
+  never_full h o rest l e p i =
+      let f = finds_room g w k.lost law k.inv k.shapes room h o rest l e i in
+      let r : o.reserve ≡ 0 = head_reserve h o rest e ∙ rw i in
+      omega (arith, f, r, p.2)
+
   -- a letter that is not a price never meets Full, so the world does not end by the mail
   room_kept : (h : Shard) (o : Out) (rest : List Out) (y : PostRefused) → number h < g.shards → outbox w h ≡ o ∷ rest → y ≢ PostRefused.Closed → Refuses g w h o y → is_price o.letter ≡ false → Room g (ended w (reason y))
   room_kept h o rest y l e n p i =
@@ -110,10 +117,7 @@ module _ (g : Phase) (w : World) (law : Lawful g) (k : Kept g w) (room : Room g 
       by : (y : PostRefused) → y ≢ PostRefused.Closed → Refuses g w h o y → first_end w.end (End.Stopped (reason y)) ≢ Some (End.Stopped Why.Mail)
       by PostRefused.Closed n p = absurd (n refl)
       by PostRefused.Spent n p = not_mail w.end Why.Posts (λ q. cc) room.no_mail
-      by PostRefused.Full n p =
-          let f = finds_room g w k.lost law k.inv k.shapes room h o rest l e i in
-          let r : o.reserve ≡ 0 = head_reserve h o rest e ∙ rw i in
-          absurd (omega (arith, f, r, p.2))
+      by PostRefused.Full n p = absurd (never_full h o rest l e p i)
 
   module _ (h : Shard) (o : Out) (rest : List Out) (in_range : number h < g.shards) (full : outbox w h ≡ o ∷ rest) where
     -- the numbers that a post may move
@@ -340,15 +344,15 @@ module _ (g : Phase) (w : World) (law : Lawful g) (k : Kept g w) (room : Room g 
         no_mail = end;
       }
 
-  pub room_object_take : (q : ℕ) (r : TurnReply) (v : World) → ObjectTakeTurn g w q r v → Room g v
-  room_object_take q r v (ObjectTakeTurn.no_letter h e1 e) = rw e room
-  room_object_take q r v (ObjectTakeTurn.accepts x n i a j amount m h1 h2 t fits enough e1 e) =
+  pub room_object_take : (q : ℕ) (r : TurnReply) (v : World) → TakesBid g w q r v → Room g v
+  room_object_take q r v (TakesBid.no_letter h e1 e) = rw e room
+  room_object_take q r v (TakesBid.accepts x n i a j amount m h1 h2 t fits enough e1 e) =
       let outs : List Out = awards g.shards (w.holder j) i j amount in
       rw e (room_objects (sold w q m j amount (record { person = i; arc = a }) outs) q x n (Letter.Bid i a j amount) outs t refl refl refl refl refl (awards_reserved (w.holder j) i j amount) room.no_mail)
-  room_object_take q r v (ObjectTakeTurn.declines x n i a j amount m h1 h2 t fits low e1 e) =
+  room_object_take q r v (TakesBid.declines x n i a j amount m h1 h2 t fits low e1 e) =
       let outs : List Out = refusal g.shards i j (w.price j) in
       rw e (room_objects (record w { objects_mail = m; object_out = put w.object_out q outs }) q x n (Letter.Bid i a j amount) outs t refl refl refl refl refl (refl, tt) room.no_mail)
-  room_object_take q r v (ObjectTakeTurn.strays x n l m h1 h2 t bad e1 e) =
+  room_object_take q r v (TakesBid.strays x n l m h1 h2 t bad e1 e) =
       rw e (room_objects (ended (record w { objects_mail = m }) Why.Stray) q x n l (w.object_out q) t refl refl refl (sym (put_self w.object_out q)) refl (room.object_reserves q) (not_mail w.end Why.Stray (λ z. cc) room.no_mail))
 
   room_hub : (v : World) (x n : ℕ) (l : Letter) → Takes w.hub_mail 0 x n l v.hub_mail → v.objects_mail ≡ w.objects_mail → v.persons_mail ≡ w.persons_mail → v.person_out ≡ w.person_out → v.object_out ≡ w.object_out → v.has_stopped ≡ w.has_stopped
@@ -399,7 +403,7 @@ module _ (g : Phase) (w : World) (law : Lawful g) (k : Kept g w) (room : Room g 
   room_hub_take r v (HubTakeTurn.no_letter h e1 e) = rw e room
   room_hub_take r v (HubTakeTurn.takes x n l m t e1 e) =
       let whole = k.shapes.hub.whole in
-      rw e (hub_room x n l m t (routed_first g (ways g w k.lost) k.inv.routed To.Hub x l (left_behind g w k.lost To.Hub x n l m whole t) (way_taken g w k.lost To.Hub x n l m whole t)))
+      rw e (hub_room x n l m t (routed_first g (channels g w k.lost) k.inv.routed To.Hub x l (left_behind g w k.lost To.Hub x n l m whole t) (channel_taken g w k.lost To.Hub x n l m whole t)))
 
   -- a box that closes keeps its letters
   room_closed : (name : MailName) (b : ℕ) → Room g (with_mail_named w name (with_closed (mail_named w name) b))
@@ -439,7 +443,7 @@ module _ (g : Phase) (w : World) (law : Lawful g) (k : Kept g w) (room : Room g 
   room_turn (Turn.PersonPost s) r v h = room_post (PersonShard s) r v h
   room_turn (Turn.ObjectPost q) r v h = room_post (ObjectShard q) r v h
   room_turn (Turn.PersonTake s) r v h = room_person_take s r v h
-  room_turn (Turn.ObjectTake q) r v h = room_object_take q r v h
+  room_turn (Turn.ObjectTake q) r v h = room_object_take q r v (by_cases g w q r v h)
   room_turn (Turn.Tell q j s) r v h = room_tell q j s r v h
   room_turn Turn.HubTake r v h = room_hub_take r v h
   room_turn (Turn.HubClose name b) r v (HubCloseTurn.leaves h e1 e) = rw e room

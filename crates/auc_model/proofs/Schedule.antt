@@ -10,14 +10,14 @@ use Rattle.auc_letters.specs.declared.letter.Why.{Why}
 use Rattle.auc_letters.specs.declared.out.Out.{Out}
 use Rattle.auc_letters.specs.declared.out.To.{To}
 use Rattle.auc_letters.specs.declared.state.Held.{Held}
-use Rattle.auc_mail.specs.Mail.{Lane, Mail, is_open, lane_behind, lane_of, with_closed, with_lane}
+use Rattle.auc_mail.specs.Mail.{HasBox, Lane, Mail, is_open, lane_behind, lane_of, with_closed, with_lane}
 use Rattle.auc_mail.specs.declared.call.Call.{Call}
 use Rattle.auc_mail.specs.declared.call.PostRefused.{PostRefused}
 use Rattle.auc_mail.specs.declared.call.Reply.{Reply}
 use Rattle.auc_mail.specs.declared.call.Taken.{Taken}
 use Rattle.auc_model.specs.Bidding.{BidTurn, after_bid, after_stop, bid_letter}
 use Rattle.auc_model.specs.Counts.{Counts}
-use Rattle.auc_model.specs.Fair.{FairLetter}
+use Rattle.auc_model.specs.SlackBids.{SlackLetter}
 use Rattle.auc_model.specs.Hearing.{Falls, FitsLetter, PersonTakeTurn, after_letter, free_after, held_after}
 use Rattle.auc_model.specs.Hub.{HubCloseTurn, HubTakeTurn, hub_after}
 use Rattle.auc_model.specs.Invariants.{Inv, Kept, Open, Shapes, Sound}
@@ -27,16 +27,17 @@ use Rattle.auc_model.specs.Places.{Answer}
 use Rattle.auc_model.specs.Posting.{PostTurn, reason}
 use Rattle.auc_model.specs.Put.{put, put2}
 use Rattle.auc_model.specs.Schedule.{Schedule, Turned}
-use Rattle.auc_model.specs.Selling.{ObjectTakeTurn, TellTurn, sold}
+use Rattle.auc_model.specs.Selling.{TellTurn}
+use Rattle.auc_model.proofs.Selling.{TakesBid, by_cases, sold}
 use Rattle.auc_model.specs.Start.{Lawful}
-use Rattle.auc_model.specs.Ways.{Lost, Routed, Ways, send, set_way, ways}
+use Rattle.auc_model.specs.Channels.{Lost, Routed, Channels, send, set_channel, channels}
 use Rattle.auc_model.specs.World.{Phase, World, ended, first_end, senders}
 use Rattle.auc_model.specs.declared.turn.End.{End}
 use Rattle.auc_model.specs.declared.turn.MailName.{MailName}
 use Rattle.auc_model.specs.declared.turn.Turn.{Turn}
 use Rattle.auc_model.specs.declared.turn.TurnReply.{TurnReply}
 use Rattle.auc_model.proofs.Bounds.{firsts_le}
-use Rattle.auc_model.proofs.Closing.{open_by, open_more, opens_before, opens_outbox, opens_same, opens_set, shapes_named, shapes_outbox, shapes_same, shapes_step, ways_close, whole_of}
+use Rattle.auc_model.proofs.Closing.{open_by, open_more, opens_before, opens_outbox, opens_same, opens_set, shapes_named, shapes_outbox, shapes_same, shapes_step, channels_close, whole_of}
 use Rattle.auc_model.proofs.CountSteps.{Plus, counts_first_gone, counts_same, counts_stop_gone, plus_gone}
 use Rattle.auc_model.proofs.PlaceSteps.{Unseen, place_kept, place_taken}
 use Rattle.auc_model.proofs.Places.{put_self}
@@ -44,10 +45,10 @@ use Rattle.auc_model.proofs.PriceSteps.{Priceless, price_kept, price_taken}
 use Rattle.auc_model.proofs.Routes.{routed_first, routed_popped}
 use Rattle.auc_model.proofs.Slack.{all_gone}
 use Rattle.auc_model.proofs.Takes.{bid_letter_fits, inv_declines, inv_drops, inv_first, inv_hears, inv_learns, inv_passes, letter_fits, letter_no_less}
-use Rattle.auc_model.proofs.Turns.{inv_bids, inv_stops, inv_tells, ways_other}
-use Rattle.auc_model.proofs.Ways.{ahead, left_behind, lost_more, way_full, way_taken, ways_closed, ways_dropped, ways_posted, ways_sent, ways_taken}
+use Rattle.auc_model.proofs.Turns.{inv_bids, inv_stops, inv_tells, channels_other}
+use Rattle.auc_model.proofs.Channels.{ahead, left_behind, lost_more, channel_full, channel_taken, channels_closed, channels_dropped, channels_posted, channels_sent, channels_taken}
 
--- the tables alone: what an invariant reads beside the ways
+-- the tables alone: what an invariant reads beside the channels
 record SameTables (w v : World) : Type 0 where
   price : v.price ≡ w.price
   copy : v.copy ≡ w.copy
@@ -55,7 +56,7 @@ record SameTables (w v : World) : Type 0 where
   holder : v.holder ≡ w.holder
   idle : v.idle ≡ w.idle
 
-inv_same : (g : Phase) (w v : World) (c : Ways) → SameTables w v → v.count ≡ w.count → Sound g v.end → Inv g w c → Inv g v c
+inv_same : (g : Phase) (w v : World) (c : Channels) → SameTables w v → v.count ≡ w.count → Sound g v.end → Inv g w c → Inv g v c
 inv_same g w v c e n sound inv =
     record {
       routed = inv.routed;
@@ -65,8 +66,8 @@ inv_same g w v c e n sound inv =
       copy_range = rw e.copy inv.copy_range;
       idle_is = rw (e.idle, e.state) inv.idle_is;
       holder_range = rw e.holder inv.holder_range;
-      fair = rw e.price inv.fair;
-      fair_holders = rw (e.holder, e.price) inv.fair_holders;
+      slack_letters = rw e.price inv.slack_letters;
+      slack_holders = rw (e.holder, e.price) inv.slack_holders;
       counts = counts_same g w v c c inv.counts e.state e.holder n refl;
       sound = sound;
     }
@@ -104,12 +105,12 @@ sound_ended g None y h s = h
 sound_ended g (Some e) y h s = s
 
 module _ (g : Phase) (w : World) (law : Lawful g) (k : Kept g w) where
-  abbrev c : Ways
-  c = ways g w k.lost
+  abbrev c : Channels
+  c = channels g w k.lost
 
-  -- from one way of writing the new ways to the other
-  kept_by : (v : World) → Shapes g v → (lost : Lost) (d : Ways) → Open v lost → ways g v lost ≡ d → Inv g v d → Kept g v
-  kept_by v shapes lost d o e inv = record { shapes = shapes; lost = lost; only_closed = o; inv = subst (λ (x : Ways). Inv g v x) (sym e) inv }
+  -- from one way of writing the new channels to the other
+  kept_by : (v : World) → Shapes g v → (lost : Lost) (d : Channels) → Open v lost → channels g v lost ≡ d → Inv g v d → Kept g v
+  kept_by v shapes lost d o e inv = record { shapes = shapes; lost = lost; only_closed = o; inv = subst (λ (x : Channels). Inv g v x) (sym e) inv }
 
   -- the shapes of the mails, where none of them changes
   kept_shapes : (v : World) → v.objects_mail ≡ w.objects_mail → v.persons_mail ≡ w.persons_mail → v.hub_mail ≡ w.hub_mail → Shapes g v
@@ -123,7 +124,7 @@ module _ (g : Phase) (w : World) (law : Lawful g) (k : Kept g w) where
       rw e
       (kept_by u (kept_shapes u refl refl refl) k.lost (send c s (o ∷ []))
       (open_by w u k.lost (λ t q. sym (opens_same w u refl refl refl t) ∙ q) k.only_closed)
-      (ways_other g (with_outbox w (PersonShard s) (o ∷ [])) u k.lost refl refl refl refl refl ∙ ways_sent g w k.lost (PersonShard s) (o ∷ []) may.known may.empty)
+      (channels_other g (with_outbox w (PersonShard s) (o ∷ [])) u k.lost refl refl refl refl refl ∙ channels_sent g w k.lost (PersonShard s) (o ∷ []) may.known may.empty)
       (inv_stops g w c law k.inv s i rest y why may.known may.first))
   kept_bid s r v (BidTurn.bids i rest a amount may left best low e1 e) =
       let u : World = after_bid g w s i rest a amount in
@@ -131,7 +132,7 @@ module _ (g : Phase) (w : World) (law : Lawful g) (k : Kept g w) where
       rw e
       (kept_by u (kept_shapes u refl refl refl) k.lost (send c s (o ∷ []))
       (open_by w u k.lost (λ t q. sym (opens_same w u refl refl refl t) ∙ q) k.only_closed)
-      (ways_other g (with_outbox w (PersonShard s) (o ∷ [])) u k.lost refl refl refl refl refl ∙ ways_sent g w k.lost (PersonShard s) (o ∷ []) may.known may.empty)
+      (channels_other g (with_outbox w (PersonShard s) (o ∷ [])) u k.lost refl refl refl refl refl ∙ channels_sent g w k.lost (PersonShard s) (o ∷ []) may.known may.empty)
       (inv_bids g w c law k.inv s i rest a amount may.first best low))
 
   kept_tell : (q j s : ℕ) (r : TurnReply) (v : World) → TellTurn g w q j s r v → Kept g v
@@ -142,7 +143,7 @@ module _ (g : Phase) (w : World) (law : Lawful g) (k : Kept g w) where
       rw e
       (kept_by u (kept_shapes u refl refl refl) k.lost (send c (g.shards + q) (o ∷ []))
       (open_by w u k.lost (λ t z. sym (opens_same w u refl refl refl t) ∙ z) k.only_closed)
-      (ways_other g (with_outbox w (ObjectShard q) (o ∷ [])) u k.lost refl refl refl refl refl ∙ ways_sent g w k.lost (ObjectShard q) (o ∷ []) h1 h5)
+      (channels_other g (with_outbox w (ObjectShard q) (o ∷ [])) u k.lost refl refl refl refl refl ∙ channels_sent g w k.lost (ObjectShard q) (o ∷ []) h1 h5)
       (inv_tells g w c law k.inv q j s h3 h4 h2))
 
   sound_reason : (y : PostRefused) → Sound g (Some (End.Stopped (reason y)))
@@ -154,7 +155,7 @@ module _ (g : Phase) (w : World) (law : Lawful g) (k : Kept g w) where
   same_ended y = record { price = refl; copy = refl; state = refl; holder = refl; idle = refl }
 
   -- the outbox alone changes
-  kept_outbox : (h : Shard) (os : List Out) (lost : Lost) (d : Ways) → Open w lost → ways g (with_outbox w h os) lost ≡ d → Inv g w d → Kept g (with_outbox w h os)
+  kept_outbox : (h : Shard) (os : List Out) (lost : Lost) (d : Channels) → Open w lost → channels g (with_outbox w h os) lost ≡ d → Inv g w d → Kept g (with_outbox w h os)
   kept_outbox h os lost d o e inv =
       kept_by (with_outbox w h os) (shapes_outbox g w h os k.shapes) lost d
       (open_by w (with_outbox w h os) lost (λ t z. sym (opens_outbox w h os t) ∙ z) o) e
@@ -180,22 +181,22 @@ module _ (g : Phase) (w : World) (law : Lawful g) (k : Kept g w) where
       rw e
       (kept_by u (shapes_outbox g (with_mail w o.to m) h rest (shapes_step g w k.shapes o.to m post (Reply.Posted n) p)) k.lost c
       (posted_open h o rest m (lane_behind (lane_of (mail_of w o.to) (box_of o.to) (sender g h)) o.letter) p.5)
-      (ways_posted g w h o rest may.known may.first n m (whole_of g w k.shapes o.to) p k.lost (k.only_closed o.to (sender g h) p.1))
+      (channels_posted g w h o rest may.known may.first n m (whole_of g w k.shapes o.to) p k.lost (k.only_closed o.to (sender g h) p.1))
       (posted_inv h o rest m))
   kept_post h r v (PostTurn.meets_closed o rest may p e1 e) =
       rw e (kept_outbox h rest (lost_more g w h o rest may.known may.first k.lost) c
       (open_more w o.to (sender g h) (k.lost o.to (sender g h) ++ o.letter ∷ []) k.lost p.0 k.only_closed)
-      (ways_closed g w h o rest may.known may.first k.lost) k.inv)
+      (channels_closed g w h o rest may.known may.first k.lost) k.inv)
   kept_post h r v (PostTurn.drops_price o rest y may p n i e1 e) =
-      rw e (kept_outbox h rest k.lost (set_way c o.to (sender g h) (ahead g w h o rest may.known may.first k.lost ++ letters_to o.to rest)) k.only_closed
-      (ways_dropped g w h o rest may.known may.first k.lost)
-      (inv_drops g w c law k.inv o.to (sender g h) (ahead g w h o rest may.known may.first k.lost) o.letter (letters_to o.to rest) (way_full g w h o rest may.known may.first k.lost) i))
+      rw e (kept_outbox h rest k.lost (set_channel c o.to (sender g h) (ahead g w h o rest may.known may.first k.lost ++ letters_to o.to rest)) k.only_closed
+      (channels_dropped g w h o rest may.known may.first k.lost)
+      (inv_drops g w c law k.inv o.to (sender g h) (ahead g w h o rest may.known may.first k.lost) o.letter (letters_to o.to rest) (channel_full g w h o rest may.known may.first k.lost) i))
   kept_post h r v (PostTurn.keeps_letter o rest y may p n i e1 e) =
       let u : World = ended w (reason y) in
       rw e
       (kept_by u (kept_shapes u refl refl refl) k.lost c
       (open_by w u k.lost (λ t z. sym (opens_same w u refl refl refl t) ∙ z) k.only_closed)
-      (ways_other g w u k.lost refl refl refl refl refl)
+      (channels_other g w u k.lost refl refl refl refl refl)
       (inv_same g w u c (same_ended (reason y)) refl (sound_ended g w.end (reason y) (sound_reason y) k.inv.sound) k.inv))
 
   -- a take from one of the mails: where its letters come to stand
@@ -210,17 +211,17 @@ module _ (g : Phase) (w : World) (law : Lawful g) (k : Kept g w) where
     abbrev heard_left : List Letter
     heard_left = left_behind g w k.lost (To.Person s) x n l m (whole_of g w k.shapes (To.Person s)) t
 
-    heard_head : c (To.Person s) x ≡ l ∷ heard_left
-    heard_head = way_taken g w k.lost (To.Person s) x n l m (whole_of g w k.shapes (To.Person s)) t
+    pub heard_head : c (To.Person s) x ≡ l ∷ heard_left
+    heard_head = channel_taken g w k.lost (To.Person s) x n l m (whole_of g w k.shapes (To.Person s)) t
 
     -- what is left to show of the world after: its tables
     kept_heard : (u : World) → u.objects_mail ≡ w.objects_mail → u.persons_mail ≡ m → u.hub_mail ≡ w.hub_mail → u.person_out ≡ w.person_out → u.object_out ≡ w.object_out
-        → Inv g u (set_way c (To.Person s) x heard_left) → Kept g u
+        → Inv g u (set_channel c (To.Person s) x heard_left) → Kept g u
     kept_heard u e1 e2 e3 e4 e5 inv =
         let b : World = with_mail w (To.Person s) m in
-        kept_by u (shapes_same g b (taken_shapes (To.Person s) x n l m t) u e1 e2 e3) k.lost (set_way c (To.Person s) x heard_left)
+        kept_by u (shapes_same g b (taken_shapes (To.Person s) x n l m t) u e1 e2 e3) k.lost (set_channel c (To.Person s) x heard_left)
         (open_by b u k.lost (λ y z. sym (opens_same b u e1 e2 e3 y) ∙ z) (taken_open (To.Person s) x n l m t))
-        (ways_other g b u k.lost e1 e2 e3 e4 e5 ∙ ways_taken g w k.lost (To.Person s) x n l m (whole_of g w k.shapes (To.Person s)) t)
+        (channels_other g b u k.lost e1 e2 e3 e4 e5 ∙ channels_taken g w k.lost (To.Person s) x n l m (whole_of g w k.shapes (To.Person s)) t)
         inv
 
   -- a letter that fits, by its kind
@@ -249,7 +250,7 @@ module _ (g : Phase) (w : World) (law : Lawful g) (k : Kept g w) where
   kept_hears s x n (Letter.Stop y) m t fits = absurd fits
 
   -- the price of a letter that is taken is no less than the copy
-  falls_never : (s x : ℕ) (l : Letter) (ls : List Letter) → c (To.Person s) x ≡ l ∷ ls → Falls w s l → ⊥
+  pub falls_never : (s x : ℕ) (l : Letter) (ls : List Letter) → c (To.Person s) x ≡ l ∷ ls → Falls w s l → ⊥
   falls_never s x (Letter.Award i j p) ls e f = let n = letter_no_less g w c law k.inv s x (Letter.Award i j p) ls j p e refl in absurd (omega (arith, ints))
   falls_never s x (Letter.Refused i j p) ls e f = let n = letter_no_less g w c law k.inv s x (Letter.Refused i j p) ls j p e refl in absurd (omega (arith, ints))
   falls_never s x (Letter.Outbid i j p) ls e f = let n = letter_no_less g w c law k.inv s x (Letter.Outbid i j p) ls j p e refl in absurd (omega (arith, ints))
@@ -271,17 +272,17 @@ module _ (g : Phase) (w : World) (law : Lawful g) (k : Kept g w) where
     bids_left_behind = left_behind g w k.lost (To.Object q) x n l m (whole_of g w k.shapes (To.Object q)) t
 
     bid_head : c (To.Object q) x ≡ l ∷ bids_left_behind
-    bid_head = way_taken g w k.lost (To.Object q) x n l m (whole_of g w k.shapes (To.Object q)) t
+    bid_head = channel_taken g w k.lost (To.Object q) x n l m (whole_of g w k.shapes (To.Object q)) t
 
     -- what is left to show of the world after, whose outbox is filled: its tables
     kept_dealt : (u : World) (outs : List Out) → u.objects_mail ≡ m → u.persons_mail ≡ w.persons_mail → u.hub_mail ≡ w.hub_mail → u.person_out ≡ w.person_out → u.object_out ≡ put w.object_out q outs
-        → Inv g u (send (set_way c (To.Object q) x bids_left_behind) (g.shards + q) outs) → Kept g u
+        → Inv g u (send (set_channel c (To.Object q) x bids_left_behind) (g.shards + q) outs) → Kept g u
     kept_dealt u outs e1 e2 e3 e4 e5 inv =
         let b : World = with_mail w (To.Object q) m in
-        kept_by u (shapes_same g b (taken_shapes (To.Object q) x n l m t) u e1 e2 e3) k.lost (send (set_way c (To.Object q) x bids_left_behind) (g.shards + q) outs)
+        kept_by u (shapes_same g b (taken_shapes (To.Object q) x n l m t) u e1 e2 e3) k.lost (send (set_channel c (To.Object q) x bids_left_behind) (g.shards + q) outs)
         (open_by b u k.lost (λ y z. sym (opens_same b u e1 e2 e3 y) ∙ z) (taken_open (To.Object q) x n l m t))
-        (ways_other g (with_outbox b (ObjectShard q) outs) u k.lost e1 e2 e3 e4 e5
-        ∙ (ways_sent g b k.lost (ObjectShard q) outs h1 h2 ∙ ap (λ (d : Ways). send d (g.shards + q) outs) (ways_taken g w k.lost (To.Object q) x n l m (whole_of g w k.shapes (To.Object q)) t)))
+        (channels_other g (with_outbox b (ObjectShard q) outs) u k.lost e1 e2 e3 e4 e5
+        ∙ (channels_sent g b k.lost (ObjectShard q) outs h1 h2 ∙ ap (λ (d : Channels). send d (g.shards + q) outs) (channels_taken g w k.lost (To.Object q) x n l m (whole_of g w k.shapes (To.Object q)) t)))
         inv
 
   -- an accepted bid, by who holds the object so far
@@ -292,22 +293,22 @@ module _ (g : Phase) (w : World) (law : Lawful g) (k : Kept g w) where
     abbrev accepted : List Out → World
     accepted outs = sold w q m j amount (record { person = i; arc = a }) outs
 
-    done : (outs : List Out) → Inv g (accepted outs) (send (set_way c (To.Object q) x ls) (g.shards + q) outs) → Kept g (accepted outs)
+    done : (outs : List Out) → Inv g (accepted outs) (send (set_channel c (To.Object q) x ls) (g.shards + q) outs) → Kept g (accepted outs)
     done outs inv = kept_dealt q x n (Letter.Bid i a j amount) m h1 h2 t (accepted outs) outs refl refl refl refl refl inv
 
     by_holder : (h : Option Held) → w.holder j ≡ h → Kept g (accepted (awards g.shards (w.holder j) i j amount))
     by_holder None e = rw e (done (awards g.shards None i j amount) (inv_first g w c law k.inv q x ls m i a j amount (bid_head q x n (Letter.Bid i a j amount) m h1 h2 t) enough e))
     by_holder (Some old) e = rw e (done (awards g.shards (Some old) i j amount) (inv_passes g w c law k.inv q x ls m i a j amount (bid_head q x n (Letter.Bid i a j amount) m h1 h2 t) enough old e))
 
-  kept_object_take : (q : ℕ) (r : TurnReply) (v : World) → ObjectTakeTurn g w q r v → Kept g v
-  kept_object_take q r v (ObjectTakeTurn.no_letter h e1 e) = rw e k
-  kept_object_take q r v (ObjectTakeTurn.accepts x n i a j amount m h1 h2 t fits enough e1 e) = rw e (by_holder q x n i a j amount m h1 h2 t enough (w.holder j) refl)
-  kept_object_take q r v (ObjectTakeTurn.declines x n i a j amount m h1 h2 t fits low e1 e) =
+  kept_object_take : (q : ℕ) (r : TurnReply) (v : World) → TakesBid g w q r v → Kept g v
+  kept_object_take q r v (TakesBid.no_letter h e1 e) = rw e k
+  kept_object_take q r v (TakesBid.accepts x n i a j amount m h1 h2 t fits enough e1 e) = rw e (by_holder q x n i a j amount m h1 h2 t enough (w.holder j) refl)
+  kept_object_take q r v (TakesBid.declines x n i a j amount m h1 h2 t fits low e1 e) =
       let l : Letter = Letter.Bid i a j amount in
       let outs : List Out = refusal g.shards i j (w.price j) in
       rw e (kept_dealt q x n l m h1 h2 t (record w { objects_mail = m; object_out = put w.object_out q outs }) outs refl refl refl refl refl
       (inv_declines g w c law k.inv q x (bids_left_behind q x n l m h1 h2 t) m i a j amount (bid_head q x n l m h1 h2 t)))
-  kept_object_take q r v (ObjectTakeTurn.strays x n l m h1 h2 t bad e1 e) =
+  kept_object_take q r v (TakesBid.strays x n l m h1 h2 t bad e1 e) =
       absurd (bad (bid_letter_fits g w c law k.inv q x l (bids_left_behind q x n l m h1 h2 t) (bid_head q x n l m h1 h2 t)))
 
 sound_first : (g : Phase) (d : Option End) → Sound g d → Sound g (first_end d End.All)
@@ -319,31 +320,31 @@ module _ (g : Phase) (w : World) (law : Lawful g) (k : Kept g w) where
     abbrev hub_left : List Letter
     hub_left = left_behind g w k.lost To.Hub x n l m (whole_of g w k.shapes To.Hub) t
 
-    abbrev hub_ways : Ways
-    hub_ways = set_way (ways g w k.lost) To.Hub x hub_left
+    abbrev hub_channels : Channels
+    hub_channels = set_channel (channels g w k.lost) To.Hub x hub_left
 
-    hub_head : ways g w k.lost To.Hub x ≡ l ∷ hub_left
-    hub_head = way_taken g w k.lost To.Hub x n l m (whole_of g w k.shapes To.Hub) t
+    hub_head : channels g w k.lost To.Hub x ≡ l ∷ hub_left
+    hub_head = channel_taken g w k.lost To.Hub x n l m (whole_of g w k.shapes To.Hub) t
 
     -- what is left to show of the world after: its counts and its end
     hub_taken : (v : World) → Priceless l → Unseen l → SameTables w v → v.objects_mail ≡ w.objects_mail → v.persons_mail ≡ w.persons_mail → v.hub_mail ≡ m → v.person_out ≡ w.person_out → v.object_out ≡ w.object_out
-        → Counts g v hub_ways → Sound g v.end → Kept g v
+        → Counts g v hub_channels → Sound g v.end → Kept g v
     hub_taken v p u same e1 e2 e3 e4 e5 counts sound =
         let b : World = with_mail w To.Hub m in
-        let c : Ways = ways g w k.lost in
-        kept_by g w law k v (shapes_same g b (taken_shapes g w law k To.Hub x n l m t) v e1 e2 e3) k.lost hub_ways
+        let c : Channels = channels g w k.lost in
+        kept_by g w law k v (shapes_same g b (taken_shapes g w law k To.Hub x n l m t) v e1 e2 e3) k.lost hub_channels
         (open_by b v k.lost (λ y z. sym (opens_same b v e1 e2 e3 y) ∙ z) (taken_open g w law k To.Hub x n l m t))
-        (ways_other g b v k.lost e1 e2 e3 e4 e5 ∙ ways_taken g w k.lost To.Hub x n l m (whole_of g w k.shapes To.Hub) t)
+        (channels_other g b v k.lost e1 e2 e3 e4 e5 ∙ channels_taken g w k.lost To.Hub x n l m (whole_of g w k.shapes To.Hub) t)
         (record {
           routed = routed_popped g c k.inv.routed To.Hub x l hub_left hub_head;
-          never_falls = price_kept g w v hub_ways same.price same.copy (price_taken g w w c To.Hub x l hub_left hub_head p k.inv.never_falls);
-          in_place = place_kept g w v hub_ways same.state same.holder (place_taken g w w c To.Hub x l hub_left hub_head u k.inv.in_place);
+          never_falls = price_kept g w v hub_channels same.price same.copy (price_taken g w w c To.Hub x l hub_left hub_head p k.inv.never_falls);
+          in_place = place_kept g w v hub_channels same.state same.holder (place_taken g w w c To.Hub x l hub_left hub_head u k.inv.in_place);
           price_range = rw same.price k.inv.price_range;
           copy_range = rw same.copy k.inv.copy_range;
           idle_is = rw (same.idle, same.state) k.inv.idle_is;
           holder_range = rw same.holder k.inv.holder_range;
-          fair = rw same.price (all_gone (FairLetter g w.price) c k.inv.fair To.Hub x [] l hub_left hub_head);
-          fair_holders = rw (same.holder, same.price) k.inv.fair_holders;
+          slack_letters = rw same.price (all_gone (SlackLetter g w.price) c k.inv.slack_letters To.Hub x [] l hub_left hub_head);
+          slack_holders = rw (same.holder, same.price) k.inv.slack_holders;
           counts = counts;
           sound = sound;
         })
@@ -352,20 +353,20 @@ module _ (g : Phase) (w : World) (law : Lawful g) (k : Kept g w) where
   hub_letter x n (Letter.First j) m t r =
       let b : World = with_mail w To.Hub m in
       let u : World = record b { count = w.count + 1; end = if (w.count + 1) == g.persons then first_end w.end End.All else w.end } in
-      let d : Ways = hub_ways x n (Letter.First j) m t in
-      let e : Plus g (Letter.First j) d (ways g w k.lost) = plus_gone g (ways g w k.lost) To.Hub x [] (Letter.First j) (hub_left x n (Letter.First j) m t) (hub_head x n (Letter.First j) m t) (omega (arith, law.some_shards, r.1)) tt in
-      let bound = firsts_le g w (ways g w k.lost) k.inv.counts in
+      let d : Channels = hub_channels x n (Letter.First j) m t in
+      let e : Plus g (Letter.First j) d (channels g w k.lost) = plus_gone g (channels g w k.lost) To.Hub x [] (Letter.First j) (hub_left x n (Letter.First j) m t) (hub_head x n (Letter.First j) m t) (omega (arith, law.some_shards, r.1)) tt in
+      let bound = firsts_le g w (channels g w k.lost) k.inv.counts in
       cond_both (nat_lt w.count g.persons) u b (λ (z : World). Kept g z)
       (λ f. hub_taken x n (Letter.First j) m t u (λ i. refl) (λ i j. (refl, refl)) (record { price = refl; copy = refl; state = refl; holder = refl; idle = refl }) refl refl refl refl refl
-      (counts_first_gone g w u (ways g w k.lost) d k.inv.counts refl refl refl j e)
+      (counts_first_gone g w u (channels g w k.lost) d k.inv.counts refl refl refl j e)
       (cond_both ((w.count + 1) == g.persons) (first_end w.end End.All) w.end (λ (y : Option End). Sound g y) (λ h. sound_first g w.end k.inv.sound) (λ h. k.inv.sound)))
       (λ f. let past = ltb-false w.count g.persons f in absurd (omega (arith, past, bound, e)))
   hub_letter x n (Letter.Stop y) m t r =
       let b : World = with_mail w To.Hub m in
-      let d : Ways = hub_ways x n (Letter.Stop y) m t in
-      let e : Plus g (Letter.Stop y) d (ways g w k.lost) = plus_gone g (ways g w k.lost) To.Hub x [] (Letter.Stop y) (hub_left x n (Letter.Stop y) m t) (hub_head x n (Letter.Stop y) m t) (sender_stop y r) tt in
+      let d : Channels = hub_channels x n (Letter.Stop y) m t in
+      let e : Plus g (Letter.Stop y) d (channels g w k.lost) = plus_gone g (channels g w k.lost) To.Hub x [] (Letter.Stop y) (hub_left x n (Letter.Stop y) m t) (hub_head x n (Letter.Stop y) m t) (sender_stop y r) tt in
       hub_taken x n (Letter.Stop y) m t (ended b y) (λ i. refl) (λ i j. (refl, refl)) (record { price = refl; copy = refl; state = refl; holder = refl; idle = refl }) refl refl refl refl refl
-      (counts_stop_gone g w (ended b y) (ways g w k.lost) d k.inv.counts refl refl refl y e)
+      (counts_stop_gone g w (ended b y) (channels g w k.lost) d k.inv.counts refl refl refl y e)
       (sound_ended g w.end y (sound_stop y r) k.inv.sound)
     where
       sender_stop : (y : Why) → Routed g To.Hub x (Letter.Stop y) → x < senders g
@@ -397,34 +398,34 @@ module _ (g : Phase) (w : World) (law : Lawful g) (k : Kept g w) where
   kept_hub_take r v (HubTakeTurn.no_letter h e1 e) = rw e k
   kept_hub_take r v (HubTakeTurn.takes x n l m t e1 e) =
       let whole = whole_of g w k.shapes To.Hub in
-      rw e (hub_letter x n l m t (routed_first g (ways g w k.lost) k.inv.routed To.Hub x l (left_behind g w k.lost To.Hub x n l m whole t) (way_taken g w k.lost To.Hub x n l m whole t)))
+      rw e (hub_letter x n l m t (routed_first g (channels g w k.lost) k.inv.routed To.Hub x l (left_behind g w k.lost To.Hub x n l m whole t) (channel_taken g w k.lost To.Hub x n l m whole t)))
 
   -- a box closes
-  kept_closed : (name : MailName) (b : ℕ) → Kept g (with_mail_named w name (with_closed (mail_named w name) b))
-  kept_closed name b =
+  kept_closed : (name : MailName) (b : ℕ) → HasBox (mail_named w name) b → Kept g (with_mail_named w name (with_closed (mail_named w name) b))
+  kept_closed name b known =
       let u : World = with_mail_named w name (with_closed (mail_named w name) b) in
       kept_by g w law k u
-      (shapes_named g w k.shapes name (with_closed (mail_named w name) b) (Call.Close b) (Reply.WasOpen (is_open (mail_named w name) b)) (refl, refl))
-      k.lost (ways g w k.lost)
+      (shapes_named g w k.shapes name (with_closed (mail_named w name) b) (Call.Close b) (Reply.WasOpen (is_open (mail_named w name) b)) (refl, refl, known))
+      k.lost (channels g w k.lost)
       (open_by w u k.lost (opens_before w name b) k.only_closed)
-      (ways_close g w k.lost name b)
+      (channels_close g w k.lost name b)
       (closed_inv name)
     where
-      closed_inv : (n : MailName) → Inv g (with_mail_named w n (with_closed (mail_named w n) b)) (ways g w k.lost)
-      closed_inv MailName.Objects = inv_same g w (with_mail_named w MailName.Objects (with_closed w.objects_mail b)) (ways g w k.lost) (record { price = refl; copy = refl; state = refl; holder = refl; idle = refl }) refl k.inv.sound k.inv
-      closed_inv MailName.Persons = inv_same g w (with_mail_named w MailName.Persons (with_closed w.persons_mail b)) (ways g w k.lost) (record { price = refl; copy = refl; state = refl; holder = refl; idle = refl }) refl k.inv.sound k.inv
-      closed_inv MailName.Hub = inv_same g w (with_mail_named w MailName.Hub (with_closed w.hub_mail b)) (ways g w k.lost) (record { price = refl; copy = refl; state = refl; holder = refl; idle = refl }) refl k.inv.sound k.inv
+      closed_inv : (n : MailName) → Inv g (with_mail_named w n (with_closed (mail_named w n) b)) (channels g w k.lost)
+      closed_inv MailName.Objects = inv_same g w (with_mail_named w MailName.Objects (with_closed w.objects_mail b)) (channels g w k.lost) (record { price = refl; copy = refl; state = refl; holder = refl; idle = refl }) refl k.inv.sound k.inv
+      closed_inv MailName.Persons = inv_same g w (with_mail_named w MailName.Persons (with_closed w.persons_mail b)) (channels g w k.lost) (record { price = refl; copy = refl; state = refl; holder = refl; idle = refl }) refl k.inv.sound k.inv
+      closed_inv MailName.Hub = inv_same g w (with_mail_named w MailName.Hub (with_closed w.hub_mail b)) (channels g w k.lost) (record { price = refl; copy = refl; state = refl; holder = refl; idle = refl }) refl k.inv.sound k.inv
 
   kept_hub_close : (name : MailName) (b : ℕ) (r : TurnReply) (v : World) → HubCloseTurn w name b r v → Kept g v
   kept_hub_close name b r v (HubCloseTurn.leaves h e1 e) = rw e k
-  kept_hub_close name b r v (HubCloseTurn.closes m h1 h2 h3 e1 e) = rw (e, h3.1) (kept_closed name b)
+  kept_hub_close name b r v (HubCloseTurn.closes m h1 h2 h3 e1 e) = rw (e, h3.1) (kept_closed name b h1)
 
   pub kept_turn : (t : Turn) (r : TurnReply) (v : World) → Turned g w t r v → Kept g v
   kept_turn (Turn.Bid s) r v h = kept_bid g w law k s r v h
   kept_turn (Turn.PersonPost s) r v h = kept_post g w law k (PersonShard s) r v h
   kept_turn (Turn.ObjectPost q) r v h = kept_post g w law k (ObjectShard q) r v h
   kept_turn (Turn.PersonTake s) r v h = kept_person_take g w law k s r v h
-  kept_turn (Turn.ObjectTake q) r v h = kept_object_take g w law k q r v h
+  kept_turn (Turn.ObjectTake q) r v h = kept_object_take g w law k q r v (by_cases g w q r v h)
   kept_turn (Turn.Tell q j s) r v h = kept_tell g w law k q j s r v h
   kept_turn Turn.HubTake r v h = kept_hub_take r v h
   kept_turn (Turn.HubClose name b) r v h = kept_hub_close name b r v h

@@ -8,18 +8,18 @@ use Rattle.auc_graph.specs.declared.rows.RowArc.{RowArc}
 use Rattle.auc_letters.specs.declared.letter.Letter.{Letter}
 use Rattle.auc_letters.specs.declared.out.Out.{Out}
 use Rattle.auc_letters.specs.declared.out.To.{To}
-use Rattle.auc_model.specs.Fair.{AllWays, Fair}
+use Rattle.auc_model.specs.SlackBids.{AllLetters, SlackAt}
 use Rattle.auc_model.specs.Letters.{letters_to, same_to}
 use Rattle.auc_model.specs.Put.{put}
 use Rattle.auc_model.specs.Start.{Lawful}
-use Rattle.auc_model.specs.Ways.{Each, Ways, send, set_way}
+use Rattle.auc_model.specs.Channels.{Each, Channels, send, set_channel}
 use Rattle.auc_model.specs.World.{Phase, scale}
 use Rattle.auc_model.proofs.Places.{put_at, put_off}
 use Rattle.auc_model.proofs.Routes.{each_append, each_drop}
-use Rattle.auc_model.proofs.Ways.{set_way_here, set_way_off}
+use Rattle.auc_model.proofs.Channels.{set_channel_here, set_channel_off}
 
-module _ (P : Letter → Type 0) (c : Ways) (all : AllWays P c) where
-  pub all_sent : (o : Out) (y : ℕ) → P o.letter → AllWays P (send c y (o ∷ []))
+module _ (P : Letter → Type 0) (c : Channels) (all : AllLetters P c) where
+  pub all_sent : (o : Out) (y : ℕ) → P o.letter → AllLetters P (send c y (o ∷ []))
   all_sent o y r t x = elim (cases_eq x y) [ inl e ↦ here t x e | inr e ↦ rw (ne_eqb x y e) (all t x) ]
     where
       one : (t : To) → Each P (letters_to t (o ∷ []))
@@ -28,20 +28,20 @@ module _ (P : Letter → Type 0) (c : Ways) (all : AllWays P c) where
       here : (t : To) (x : ℕ) → x ≡ y → Each P (send c y (o ∷ []) t x)
       here t x e = rw (eq-eqb x y e) (each_append P (c t x) (letters_to t (o ∷ [])) (all t x) (one t))
 
-  pub all_gone : (t : To) (x : ℕ) (hs : List Letter) (l : Letter) (ls : List Letter) → c t x ≡ hs ++ l ∷ ls → AllWays P (set_way c t x (hs ++ ls))
+  pub all_gone : (t : To) (x : ℕ) (hs : List Letter) (l : Letter) (ls : List Letter) → c t x ≡ hs ++ l ∷ ls → AllLetters P (set_channel c t x (hs ++ ls))
   all_gone t x hs l ls e u y =
       elim (cases_Bool (same_to u t && (y == x))) [
-        | inl h ↦ (rw (set_way_here c t x (hs ++ ls) u y h) (each_drop P hs l ls (rw e at (all t x))))
-        | inr h ↦ rw (set_way_off c t x (hs ++ ls) u y h) (all u y)
+        | inl h ↦ (rw (set_channel_here c t x (hs ++ ls) u y h) (each_drop P hs l ls (rw e at (all t x))))
+        | inr h ↦ rw (set_channel_off c t x (hs ++ ls) u y h) (all u y)
       ]
 
 pub each_map : {X : Type 0} (P Q : X → Type 0) → ((x : X) → P x → Q x) → (xs : List X) → Each P xs → Each Q xs
 each_map P Q f [] p = tt
 each_map P Q f (x ∷ xs) p = (f x p.0, each_map P Q f xs p.1)
 
--- where prices rise, what was fair stays so
-pub fair_rises : (g : Phase) (p q : ℕ → ℤ) (i place j : ℕ) (amount : ℤ) → ((k : ℕ) → p k ≤ℤ q k) → Fair g p i place j amount → Fair g q i place j amount
-fair_rises g p q i place j amount rise f = record { arc = f.arc; listed = f.listed; leads = f.leads; stands = f.stands; slack = λ k d l. at (slice_index_or (g.row i) k d) (f.slack k d l) }
+-- where prices rise, what was slack-right stays so
+pub slack_rises : (g : Phase) (p q : ℕ → ℤ) (i place j : ℕ) (amount : ℤ) → ((k : ℕ) → p k ≤ℤ q k) → SlackAt g p i place j amount → SlackAt g q i place j amount
+slack_rises g p q i place j amount rise f = record { arc = f.arc; listed = f.listed; leads = f.leads; stands = f.stands; slack = λ k d l. at (slice_index_or (g.row i) k d) (f.slack k d l) }
   where
     a_at : (r : ℕ → ℤ) → put r j amount f.arc.object ≡ amount
     a_at r = put_at r j amount f.arc.object f.leads
@@ -53,9 +53,9 @@ fair_rises g p q i place j amount rise f = record { arc = f.arc; listed = f.list
           | inr n ↦ (let x = a_at p in let y = a_at q in let z = put_off p j amount b.object n in let u = put_off q j amount b.object n in let r = rise b.object in omega (arith, ints, x, y, z, u, h, r))
         ]
 
--- a bid by the rule, at copies that are no higher than the prices, is fair
-pub fair_bid : (g : Phase) (q p : ℕ → ℤ) (i : ℕ) (a : RowArc) (amount : ℤ) → Lawful g → ((k : ℕ) → q k ≤ℤ p k) → IsBid (scale g) g.spread g.eps q (g.row i) a amount → Fair g p i a.arc a.object amount
-fair_bid g q p i a amount law low best = record { arc = a; listed = best.best.listed; leads = refl; stands = refl; slack = at }
+-- a bid by the rule, at copies that are no higher than the prices, is slack-right
+pub slack_bid : (g : Phase) (q p : ℕ → ℤ) (i : ℕ) (a : RowArc) (amount : ℤ) → Lawful g → ((k : ℕ) → q k ≤ℤ p k) → IsBid (scale g) g.spread g.eps q (g.row i) a amount → SlackAt g p i a.arc a.object amount
+slack_bid g q p i a amount law low best = record { arc = a; listed = best.best.listed; leads = refl; stands = refl; slack = at }
   where
     same : put p a.object amount a.object ≡ amount
     same = put_at p a.object amount a.object refl

@@ -2,7 +2,7 @@
 use Rattle.std.proofs.Common.{ℕ, ◌≡◌, ◌≢◌, refl, true, List, [], ◌∷◌, ◌++◌, inl, inr, sym, ◌∙◌}
 use Rattle.std.specs.Prelude.{nat_lt}
 use Rattle.std.proofs.lemmas.Bool.{cond_both}
-use Rattle.auc_letters.specs.Award.{awards, refusal}
+use Rattle.auc_letters.specs.Award.{bid_letter}
 use Rattle.auc_letters.specs.Routing.{price_told}
 use Rattle.auc_letters.specs.declared.letter.Letter.{Letter}
 use Rattle.auc_letters.specs.declared.letter.Why.{Why}
@@ -20,7 +20,7 @@ use Rattle.auc_model.specs.Mails.{ObjectShard, PersonShard, Shard, Takes, box_of
 use Rattle.auc_model.specs.Posting.{PostTurn, reason}
 use Rattle.auc_model.specs.Put.{put}
 use Rattle.auc_model.specs.Schedule.{Schedule, StepsIn, Turned}
-use Rattle.auc_model.specs.Selling.{ObjectTakeTurn, TellTurn, sold}
+use Rattle.auc_model.specs.Selling.{ObjectTakeTurn, TellTurn, after_answer}
 use Rattle.auc_model.specs.World.{Phase, World, ended}
 use Rattle.auc_model.specs.declared.turn.MailName.{MailName}
 use Rattle.auc_model.specs.declared.turn.Turn.{Turn}
@@ -48,8 +48,7 @@ nothing_changes g w (Turn.PersonTake s) r v (PersonTakeTurn.hears x k l m h1 t f
 nothing_changes g w (Turn.PersonTake s) r v (PersonTakeTurn.strays x k l m h1 t bad e1 e) n = contrary (sym n ∙ e1)
 nothing_changes g w (Turn.PersonTake s) r v (PersonTakeTurn.falls x k l m h1 t fits low e1 e) n = contrary (sym n ∙ e1)
 nothing_changes g w (Turn.ObjectTake q) r v (ObjectTakeTurn.no_letter h e1 e) n = e
-nothing_changes g w (Turn.ObjectTake q) r v (ObjectTakeTurn.accepts x k i a j amount m h1 h2 t fits enough e1 e) n = contrary (sym n ∙ e1)
-nothing_changes g w (Turn.ObjectTake q) r v (ObjectTakeTurn.declines x k i a j amount m h1 h2 t fits low e1 e) n = contrary (sym n ∙ e1)
+nothing_changes g w (Turn.ObjectTake q) r v (ObjectTakeTurn.answers_bid x k bid m h1 h2 t fits e1 e) n = contrary (sym n ∙ e1)
 nothing_changes g w (Turn.ObjectTake q) r v (ObjectTakeTurn.strays x k l m h1 h2 t bad e1 e) n = contrary (sym n ∙ e1)
 nothing_changes g w (Turn.Tell q j s) r v (TellTurn.silent h e1 e) n = e
 nothing_changes g w (Turn.Tell q j s) r v (TellTurn.tells h1 h2 h3 h4 h5 e1 e) n = contrary (sym n ∙ e1)
@@ -164,10 +163,8 @@ module _ (g : Phase) (w : World) where
   turn_step (Turn.PersonTake s) r v (PersonTakeTurn.falls x n l m h1 t fits low e1 e) =
       persons_step s x n l m v (ended (record w { persons_mail = m }) Why.Fell) t e (record { objects = refl; persons = refl; hub = refl })
   turn_step (Turn.ObjectTake q) r v (ObjectTakeTurn.no_letter h e1 e) = still v w e itself
-  turn_step (Turn.ObjectTake q) r v (ObjectTakeTurn.accepts x n i a j amount m h1 h2 t fits enough e1 e) =
-      objects_step q x n (Letter.Bid i a j amount) m v (sold w q m j amount (record { person = i; arc = a }) (awards g.shards (w.holder j) i j amount)) t e (record { objects = refl; persons = refl; hub = refl })
-  turn_step (Turn.ObjectTake q) r v (ObjectTakeTurn.declines x n i a j amount m h1 h2 t fits low e1 e) =
-      objects_step q x n (Letter.Bid i a j amount) m v (record w { objects_mail = m; object_out = put w.object_out q (refusal g.shards i j (w.price j)) }) t e (record { objects = refl; persons = refl; hub = refl })
+  turn_step (Turn.ObjectTake q) r v (ObjectTakeTurn.answers_bid x n bid m h1 h2 t fits e1 e) =
+      objects_step q x n (bid_letter bid) m v (after_answer g w q m bid) t e (record { objects = refl; persons = refl; hub = refl })
   turn_step (Turn.ObjectTake q) r v (ObjectTakeTurn.strays x n l m h1 h2 t bad e1 e) =
       objects_step q x n l m v (ended (record w { objects_mail = m }) Why.Stray) t e (record { objects = refl; persons = refl; hub = refl })
   turn_step (Turn.Tell q j s) r v (TellTurn.silent h e1 e) = still v w e itself

@@ -15,12 +15,12 @@ use Rattle.auc_model.specs.Letters.{award_one, bid_one, first_one, outbid_one, p
 use Rattle.auc_model.specs.Mails.{box_of, mail_of}
 use Rattle.auc_model.specs.Room.{Room, stops_out, weight}
 use Rattle.auc_model.specs.Start.{IsNew, Starts, UsualNodes}
-use Rattle.auc_model.specs.Ways.{Ways, out_of, waiting, ways}
+use Rattle.auc_model.specs.Channels.{Channels, out_of, waiting, channels}
 use Rattle.auc_model.specs.World.{Phase, World, senders}
 use Rattle.auc_model.proofs.Example.{usual}
 use Rattle.auc_model.proofs.Sums.{total_zero}
 use Rattle.auc_model.proofs.Totals.{everywhere_nothing}
-use Rattle.auc_model.proofs.Ways.{same_ways}
+use Rattle.auc_model.proofs.Channels.{same_channels}
 
 -- a new mail
 module _ (g : Phase) (m : Mail Letter) (boxes : ℕ) (new : IsNew g m boxes) where
@@ -84,8 +84,8 @@ module _ (g : Phase) (w : World) (s : Starts g w) where
         idle_is = (λ r i. rw (s.all_free i) (s.idle_is r i));
         holder_range = (λ j h e. absurd (cc (s.nobody_holds j, e)));
         counts = starting_counts;
-        fair = (λ t x. tt);
-        fair_holders = (λ j h e. absurd (cc (s.nobody_holds j, e)));
+        slack_letters = (λ t x. tt);
+        slack_holders = (λ j h e. absurd (cc (s.nobody_holds j, e)));
         sound = rw s.no_end tt;
       }
 
@@ -98,7 +98,7 @@ module _ (g : Phase) (w : World) (s : Starts g w) where
     };
     lost = (λ t x. []);
     only_closed = (λ t x e. refl);
-    inv = subst (λ (c : Ways). Inv g w c) (sym (same_ways (ways g w (λ t x. [])) (λ t x. []) (λ t x. rw (no_letters t x, no_outs_start x)))) starting_inv;
+    inv = subst (λ (c : Channels). Inv g w c) (sym (same_channels (channels g w (λ t x. [])) (λ t x. []) (λ t x. rw (no_letters t x, no_outs_start x)))) starting_inv;
   }
 
   pub room_start : UsualNodes g w → Room g w

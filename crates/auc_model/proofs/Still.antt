@@ -14,7 +14,7 @@ use Rattle.auc_model.specs.Room.{one_if, stopped_shards}
 use Rattle.auc_model.specs.Schedule.{Schedule}
 use Rattle.auc_model.specs.Start.{Lawful, Starts}
 use Rattle.auc_model.specs.Still.{IsStill}
-use Rattle.auc_model.specs.Ways.{Routed, Ways, out_of, waiting, ways}
+use Rattle.auc_model.specs.Channels.{Routed, Channels, out_of, waiting, channels}
 use Rattle.auc_model.specs.World.{Phase, World, senders}
 use Rattle.auc_model.specs.declared.turn.MailName.{MailName}
 use Rattle.auc_model.specs.declared.turn.Turn.{Turn}
@@ -37,8 +37,8 @@ module _ (g : Phase) (w : World) (law : Lawful g) (going : Going g w) (still : I
   abbrev k : Kept g w
   k = going.kept
 
-  abbrev c : Ways
-  c = ways g w k.lost
+  abbrev c : Channels
+  c = channels g w k.lost
 
   its_sender : (t : To) (x : ℕ) (l : Letter) → Routed g t x l → x < senders g
   its_sender (To.Person s) x (Letter.Award i j p) r = let e = r.3 in omega (arith, e, law.some_shards)
@@ -94,8 +94,8 @@ module _ (g : Phase) (w : World) (law : Lawful g) (going : Going g w) (still : I
       (λ e. cond_both (nat_lt x (2 * g.shards)) (w.object_out (x - g.shards)) [] (λ (os : List Out). os ≡ [])
       (λ f. still.no_object_out (x - g.shards) (let a = ltb-true x (2 * g.shards) f in let b = ltb-false x g.shards e in omega (arith, a, b))) (λ f. refl))
 
-  way_empty : (t : To) (x : ℕ) → c t x ≡ []
-  way_empty t x = by (c t x) refl
+  channel_empty : (t : To) (x : ℕ) → c t x ≡ []
+  channel_empty t x = by (c t x) refl
     where
       there : IsBox g t → x < senders g → c t x ≡ []
       there b l = rw (none_waits t x b l, k.only_closed t x (going.yet none t b), no_outs x)
@@ -104,28 +104,28 @@ module _ (g : Phase) (w : World) (law : Lawful g) (going : Going g w) (still : I
       by [] e = e
       by (l ∷ ls) e = let r = routed_first g c k.inv.routed t x l ls e in there (its_box g w law k going.yet going.told t x l r) (its_sender t x l r)
 
-  kept_empty : (t : To) (x : ℕ) → ways g w (λ t x. []) t x ≡ []
+  kept_empty : (t : To) (x : ℕ) → channels g w (λ t x. []) t x ≡ []
   kept_empty t x =
-      let a = both_empty (waiting (mail_of w t) (box_of t) x) (k.lost t x ++ letters_to t (out_of g w x)) (way_empty t x) in
+      let a = both_empty (waiting (mail_of w t) (box_of t) x) (k.lost t x ++ letters_to t (out_of g w x)) (channel_empty t x) in
       let b = both_empty (k.lost t x) (letters_to t (out_of g w x)) a.1 in
       rw (a.0, b.1)
 
   -- no shard has made a Stop
   not_stopped : (s : ℕ) → s < g.shards → w.has_stopped s ≢ true
   not_stopped s l e =
-      let sums = nothing_there_in (ways g w (λ t x. [])) kept_empty in
+      let sums = nothing_there_in (channels g w (λ t x. [])) kept_empty in
       let z = zero_at (λ r. one_if (w.has_stopped r)) g.shards s (sym (going.told none) ∙ sums) l in
       let one : one_if (w.has_stopped s) ≡ 1 = rw e in
       absurd (omega (arith, z, one))
     where
-      nothing_there_in : (d : Ways) → ((t : To) (x : ℕ) → d t x ≡ []) → everywhere g stop_one d ≡ 0
+      nothing_there_in : (d : Channels) → ((t : To) (x : ℕ) → d t x ≡ []) → everywhere g stop_one d ≡ 0
       nothing_there_in d empty = everywhere_nothing g stop_one d empty
 
   nobody_idle : (s : ℕ) → s < g.shards → w.idle s ≡ []
   nobody_idle s l = elim (still.nobody_free s l) [ inl e ↦ absurd (not_stopped s l e) | inr e ↦ e ]
 
   pub counted_all : w.count ≡ g.persons
-  counted_all = all_counted g w c law k.inv nobody_idle way_empty
+  counted_all = all_counted g w c law k.inv nobody_idle channel_empty
 
 pub still_ended : (g : Phase) (w v : World) (ts : List Turn) → Lawful g → 0 < g.persons → Starts g w → Schedule g w ts v → IsStill g v → v.end ≢ None
 still_ended g w v ts law some s run still none =
@@ -138,7 +138,7 @@ still_ended g w v ts law some s run still none =
     opens_start (To.Object q) b = new_open g w.objects_mail g.shards s.objects_mail q b
     opens_start To.Hub b = new_open g w.hub_mail 1 s.hub_mail 0 (omega arith)
 
-    stops_start : everywhere g stop_one (ways g w (λ t x. [])) ≡ stopped_shards g w
+    stops_start : everywhere g stop_one (channels g w (λ t x. [])) ≡ stopped_shards g w
     stops_start =
-        everywhere_nothing g stop_one (ways g w (λ t x. [])) (λ t x. rw (no_letters g w s t x, no_outs_start g w s x))
+        everywhere_nothing g stop_one (channels g w (λ t x. [])) (λ t x. rw (no_letters g w s t x, no_outs_start g w s x))
         ∙ sym (total_zero (λ r. one_if (w.has_stopped r)) g.shards (λ r. rw (s.none_stopped r)))

@@ -9,7 +9,8 @@ use Rattle.std.proofs.lemmas.List.Elements.{All-weaker}
 use Rattle.auc_graph.specs.Table.{IsRowArc, IsTable, Table, row_of}
 use Rattle.auc_letters.specs.Price.{IsEps}
 use Rattle.auc_letters.specs.declared.state.PersonState.{PersonState}
-use Rattle.auc_model.specs.Start.{Lawful, free_in, occurs, persons_of}
+use Rattle.auc_letters.specs.Persons.{persons_of}
+use Rattle.auc_model.specs.Start.{Lawful, free_in, occurs}
 use Rattle.auc_model.specs.World.{Phase, phase_of}
 
 -- the rows of a problem make a lawful phase, where there are shards and eps is at least 1

@@ -12,18 +12,19 @@ use Rattle.auc_letters.specs.declared.state.Held.{Held}
 use Rattle.auc_letters.specs.declared.state.PersonState.{PersonState}
 use Rattle.auc_mail.specs.Mail.{Mail}
 use Rattle.auc_model.specs.Counts.{Counts}
-use Rattle.auc_model.specs.Fair.{AllWays, Fair, FairHolders, FairLetter}
+use Rattle.auc_model.specs.SlackBids.{AllLetters, SlackAt, SlackHolders, SlackLetter}
 use Rattle.auc_model.specs.Hearing.{FitsLetter}
 use Rattle.auc_model.specs.Hub.{counted}
 use Rattle.auc_model.specs.Invariants.{Inv}
-use Rattle.auc_model.specs.Letters.{answer_of, price_of}
+use Rattle.auc_model.specs.Letters.{told_answer, told_price}
 use Rattle.auc_model.specs.Places.{Allows, Answer, Award, InPlace, Outbid, Refused, heard}
 use Rattle.auc_model.specs.Posting.{is_price}
 use Rattle.auc_model.specs.Prices.{NeverFalls}
 use Rattle.auc_model.specs.Put.{put, put2}
 use Rattle.auc_model.specs.Selling.{FitsBid}
-use Rattle.auc_model.specs.Start.{Lawful, is_free}
-use Rattle.auc_model.specs.Ways.{AllRouted, Routed, ToPerson, Ways, answer_to, bid_by, places, prices, send, set_way}
+use Rattle.auc_letters.specs.Persons.{is_free}
+use Rattle.auc_model.specs.Start.{Lawful}
+use Rattle.auc_model.specs.Channels.{AllRouted, Routed, ToPerson, Channels, answer_to, bid_by, places, prices, send, set_channel}
 use Rattle.auc_model.specs.World.{Phase, World, senders}
 use Rattle.auc_model.proofs.CountSteps.{Plus, counts_first, counts_hear, counts_pass, counts_price_gone, counts_refuse, plus_gone, plus_sent}
 use Rattle.auc_model.proofs.Idle.{freed, idle_hear}
@@ -32,12 +33,12 @@ use Rattle.auc_model.proofs.Places.{no_stray, put_at, put_off}
 use Rattle.auc_model.proofs.PriceSteps.{learns_no_less, price_is_told, price_kept, price_learned, price_lost, price_raised, price_sent, price_taken}
 use Rattle.auc_model.proofs.Routes.{routed_dropped, routed_first, routed_middle, routed_popped, routed_sent}
 use Rattle.auc_model.proofs.SameAnswers.{from_some, same_answer}
-use Rattle.auc_model.proofs.Slack.{all_gone, all_sent, each_map, fair_rises}
+use Rattle.auc_model.proofs.Slack.{all_gone, all_sent, each_map, slack_rises}
 use Rattle.auc_model.proofs.Pairs.{answers_head}
 use Rattle.auc_model.proofs.Views.{cases_both, put2_at, put2_off, send_two}
 
--- what the way says of an answer
-answer_route : (g : Phase) (s x : ℕ) (l : Letter) (a : Answer) (i j : ℕ) (p : ℤ) → answer_of l ≡ Some (a, i, j, p) → Routed g (To.Person s) x l → ToPerson g s x i j p
+-- what the channel says of an answer
+answer_route : (g : Phase) (s x : ℕ) (l : Letter) (a : Answer) (i j : ℕ) (p : ℤ) → told_answer l ≡ Some (a, i, j, p) → Routed g (To.Person s) x l → ToPerson g s x i j p
 answer_route g s x (Letter.Award k m q) a i j p e r = let t = same_answer Award a k m i j q p e in rw (← t.1, ← t.2, ← t.3) r
 answer_route g s x (Letter.Refused k m q) a i j p e r = let t = same_answer Refused a k m i j q p e in rw (← t.1, ← t.2, ← t.3) r
 answer_route g s x (Letter.Outbid k m q) a i j p e r = let t = same_answer Outbid a k m i j q p e in rw (← t.1, ← t.2, ← t.3) r
@@ -46,7 +47,7 @@ answer_route g s x (Letter.Bid k b m q) a i j p e r = absurd cc
 answer_route g s x (Letter.First k) a i j p e r = absurd cc
 answer_route g s x (Letter.Stop y) a i j p e r = absurd cc
 
-answer_price : (l : Letter) (a : Answer) (i j : ℕ) (p : ℤ) → answer_of l ≡ Some (a, i, j, p) → price_of l ≡ Some (j, p)
+answer_price : (l : Letter) (a : Answer) (i j : ℕ) (p : ℤ) → told_answer l ≡ Some (a, i, j, p) → told_price l ≡ Some (j, p)
 answer_price (Letter.Award k m q) a i j p e = let t = same_answer Award a k m i j q p e in rw (t.2, t.3)
 answer_price (Letter.Refused k m q) a i j p e = let t = same_answer Refused a k m i j q p e in rw (t.2, t.3)
 answer_price (Letter.Outbid k m q) a i j p e = let t = same_answer Outbid a k m i j q p e in rw (t.2, t.3)
@@ -55,7 +56,7 @@ answer_price (Letter.Bid k b m q) a i j p e = absurd cc
 answer_price (Letter.First k) a i j p e = absurd cc
 answer_price (Letter.Stop y) a i j p e = absurd cc
 
-answer_no_bid : (l : Letter) (a : Answer) (i j : ℕ) (p : ℤ) → answer_of l ≡ Some (a, i, j, p) → (k m : ℕ) → bid_by k m l ≡ None
+answer_no_bid : (l : Letter) (a : Answer) (i j : ℕ) (p : ℤ) → told_answer l ≡ Some (a, i, j, p) → (k m : ℕ) → bid_by k m l ≡ None
 answer_no_bid (Letter.Award k m q) a i j p e x y = refl
 answer_no_bid (Letter.Refused k m q) a i j p e x y = refl
 answer_no_bid (Letter.Outbid k m q) a i j p e x y = refl
@@ -75,9 +76,9 @@ copy_put f s j p h all t k = elim (cases_both t s k j) [ inl e ↦ rw (put2_at f
 price_put : (f : ℕ → ℤ) (j : ℕ) (p : ℤ) → IsPrice p → ((k : ℕ) → IsPrice (f k)) → (k : ℕ) → IsPrice (put f j p k)
 price_put f j p h all k = elim (cases_eq k j) [ inl e ↦ rw (put_at f j p k e) h | inr n ↦ rw (put_off f j p k n) (all k) ]
 
-module _ (g : Phase) (w : World) (c : Ways) (law : Lawful g) (inv : Inv g w c) where
+module _ (g : Phase) (w : World) (c : Channels) (law : Lawful g) (inv : Inv g w c) where
   -- PersonTake(s), an answer
-  module _ (s x : ℕ) (l : Letter) (ls : List Letter) (m : Mail Letter) (a : Answer) (i j : ℕ) (p : ℤ) (first : c (To.Person s) x ≡ l ∷ ls) (is : answer_of l ≡ Some (a, i, j, p)) where
+  module _ (s x : ℕ) (l : Letter) (ls : List Letter) (m : Mail Letter) (a : Answer) (i j : ℕ) (p : ℤ) (first : c (To.Person s) x ≡ l ∷ ls) (is : told_answer l ≡ Some (a, i, j, p)) where
     route : ToPerson g s x i j p
     route = answer_route g s x l a i j p is (routed_first g c inv.routed (To.Person s) x l ls first)
 
@@ -93,10 +94,10 @@ module _ (g : Phase) (w : World) (c : Ways) (law : Lawful g) (inv : Inv g w c) w
     abbrev pub hearing : World
     hearing = record w { persons_mail = m; state = put w.state i (heard a j); idle = put w.idle s (freed a i (w.idle s)); copy = put2 w.copy s j p }
 
-    placed : InPlace (places g hearing (set_way c (To.Person (i % g.shards)) (g.shards + j % g.shards) ls))
+    placed : InPlace (places g hearing (set_channel c (To.Person (i % g.shards)) (g.shards + j % g.shards) ls))
     placed = place_hear g w hearing c l ls a i j p is first_here (answer_no_bid l a i j p is) refl refl inv.in_place
 
-    pub inv_hears : Inv g hearing (set_way c (To.Person s) x ls)
+    pub inv_hears : Inv g hearing (set_channel c (To.Person s) x ls)
     inv_hears =
         record {
           routed = routed_popped g c inv.routed (To.Person s) x l ls first;
@@ -106,9 +107,9 @@ module _ (g : Phase) (w : World) (c : Ways) (law : Lawful g) (inv : Inv g w c) w
           copy_range = copy_put w.copy s j p route.4.low inv.copy_range;
           idle_is = idle_hear g w.state w.idle inv.idle_is s i j a (fits_busy (w.state i) a j answer_fits) route.1 route.0;
           holder_range = inv.holder_range;
-          fair = all_gone (FairLetter g w.price) c inv.fair (To.Person s) x [] l ls first;
-          fair_holders = inv.fair_holders;
-          counts = counts_hear g w hearing c (set_way c (To.Person s) x ls) inv.counts refl refl l a i j p is route.0 answer_fits refl (plus_gone g c (To.Person s) x [] l ls first (let r = route in omega (arith, law.some_shards, r.3)) (let r = route in omega (arith, law.some_shards, r.1)));
+          slack_letters = all_gone (SlackLetter g w.price) c inv.slack_letters (To.Person s) x [] l ls first;
+          slack_holders = inv.slack_holders;
+          counts = counts_hear g w hearing c (set_channel c (To.Person s) x ls) inv.counts refl refl l a i j p is route.0 answer_fits refl (plus_gone g c (To.Person s) x [] l ls first (let r = route in omega (arith, law.some_shards, r.3)) (let r = route in omega (arith, law.some_shards, r.1)));
           sound = inv.sound;
         }
 
@@ -123,19 +124,19 @@ module _ (g : Phase) (w : World) (c : Ways) (law : Lawful g) (inv : Inv g w c) w
     abbrev pub learning : World
     learning = record w { persons_mail = m; copy = put2 w.copy s j p }
 
-    pub inv_learns : Inv g learning (set_way c (To.Person s) x ls)
+    pub inv_learns : Inv g learning (set_channel c (To.Person s) x ls)
     inv_learns =
         record {
           routed = routed_popped g c inv.routed (To.Person s) x (Letter.Price j p) ls first;
           never_falls = rw price_route.1 (price_learned g w learning c (Letter.Price j p) ls s j p refl (rw (← price_route.1) first) refl refl inv.never_falls);
-          in_place = place_kept g w learning (set_way c (To.Person s) x ls) refl refl (place_taken g w w c (To.Person s) x (Letter.Price j p) ls first (λ i k. (refl, refl)) inv.in_place);
+          in_place = place_kept g w learning (set_channel c (To.Person s) x ls) refl refl (place_taken g w w c (To.Person s) x (Letter.Price j p) ls first (λ i k. (refl, refl)) inv.in_place);
           price_range = inv.price_range;
           copy_range = copy_put w.copy s j p price_route.2.low inv.copy_range;
           idle_is = inv.idle_is;
           holder_range = inv.holder_range;
-          fair = all_gone (FairLetter g w.price) c inv.fair (To.Person s) x [] (Letter.Price j p) ls first;
-          fair_holders = inv.fair_holders;
-          counts = counts_price_gone g w learning c (set_way c (To.Person s) x ls) inv.counts refl refl refl j p (plus_gone g c (To.Person s) x [] (Letter.Price j p) ls first (let r = price_route in omega (arith, law.some_shards, r.1)) price_route.3);
+          slack_letters = all_gone (SlackLetter g w.price) c inv.slack_letters (To.Person s) x [] (Letter.Price j p) ls first;
+          slack_holders = inv.slack_holders;
+          counts = counts_price_gone g w learning c (set_channel c (To.Person s) x ls) inv.counts refl refl refl j p (plus_gone g c (To.Person s) x [] (Letter.Price j p) ls first (let r = price_route in omega (arith, law.some_shards, r.1)) price_route.3);
           sound = inv.sound;
         }
 
@@ -150,8 +151,8 @@ module _ (g : Phase) (w : World) (c : Ways) (law : Lawful g) (inv : Inv g w c) w
     pub bid_fits : FitsBid g q (Letter.Bid i a j amount)
     bid_fits = (bid_route.2, bid_route.3, bid_route.4)
 
-    abbrev taken : Ways
-    taken = set_way c (To.Object q) x ls
+    abbrev taken : Channels
+    taken = set_channel c (To.Object q) x ls
 
     routed_taken : AllRouted g taken
     routed_taken = routed_popped g c inv.routed (To.Object q) x (Letter.Bid i a j amount) ls first
@@ -159,8 +160,8 @@ module _ (g : Phase) (w : World) (c : Ways) (law : Lawful g) (inv : Inv g w c) w
     never_taken : (v : World) → NeverFalls (prices g v c) → NeverFalls (prices g v taken)
     never_taken v n = price_taken g v v c (To.Object q) x (Letter.Bid i a j amount) ls first (λ k. refl) n
 
-    its_way : g.shards + q ≡ g.shards + j % g.shards
-    its_way = ap (λ (n : ℕ). g.shards + n) (sym bid_route.3)
+    its_channel : g.shards + q ≡ g.shards + j % g.shards
+    its_channel = ap (λ (n : ℕ). g.shards + n) (sym bid_route.3)
 
     its_sender : g.shards + q < senders g
     its_sender = let r = bid_route in omega (arith, law.some_shards, r.3)
@@ -168,31 +169,31 @@ module _ (g : Phase) (w : World) (c : Ways) (law : Lawful g) (inv : Inv g w c) w
     bid_gone : Plus g (Letter.Bid i a j amount) taken c
     bid_gone = plus_gone g c (To.Object q) x [] (Letter.Bid i a j amount) ls first (let r = bid_route in omega (arith, law.some_shards, r.1)) (let r = bid_route in omega (arith, law.some_shards, r.3))
 
-    fair_taken : AllWays (FairLetter g w.price) taken
-    fair_taken = all_gone (FairLetter g w.price) c inv.fair (To.Object q) x [] (Letter.Bid i a j amount) ls first
+    slack_taken : AllLetters (SlackLetter g w.price) taken
+    slack_taken = all_gone (SlackLetter g w.price) c inv.slack_letters (To.Object q) x [] (Letter.Bid i a j amount) ls first
 
-    bid_fair : Fair g w.price i a j amount
-    bid_fair = (rw first at (inv.fair (To.Object q) x)).0
+    bid_slack : SlackAt g w.price i a j amount
+    bid_slack = (rw first at (inv.slack_letters (To.Object q) x)).0
 
     -- declined
     abbrev pub declining : World
     declining = record w { objects_mail = m; object_out = put w.object_out q (to_person g.shards i (Letter.Refused i j (w.price j)) ∷ []) }
 
-    refused_place : InPlace (places g declining (send (set_way c (To.Object (j % g.shards)) (i % g.shards) ls) (g.shards + j % g.shards) (to_person g.shards i (Letter.Refused i j (w.price j)) ∷ [])))
+    refused_place : InPlace (places g declining (send (set_channel c (To.Object (j % g.shards)) (i % g.shards) ls) (g.shards + j % g.shards) (to_person g.shards i (Letter.Refused i j (w.price j)) ∷ [])))
     refused_place = place_refuse g w declining c i a j amount ls bid_here (w.price j) 0 refl refl inv.in_place
 
     pub inv_declines : Inv g declining (send taken (g.shards + q) (to_person g.shards i (Letter.Refused i j (w.price j)) ∷ []))
     inv_declines =
         record {
-          routed = routed_sent g taken routed_taken (to_person g.shards i (Letter.Refused i j (w.price j))) (g.shards + q) (bid_route.0, refl, bid_route.2, its_way, inv.price_range j);
-          never_falls = rw its_way (price_is_told g declining declining taken (to_person g.shards i (Letter.Refused i j (w.price j))) (i % g.shards) j refl refl (never_taken declining (price_kept g w declining c refl refl inv.never_falls)));
+          routed = routed_sent g taken routed_taken (to_person g.shards i (Letter.Refused i j (w.price j))) (g.shards + q) (bid_route.0, refl, bid_route.2, its_channel, inv.price_range j);
+          never_falls = rw its_channel (price_is_told g declining declining taken (to_person g.shards i (Letter.Refused i j (w.price j))) (i % g.shards) j refl refl (never_taken declining (price_kept g w declining c refl refl inv.never_falls)));
           in_place = rw (← bid_route.3, ← bid_route.1) refused_place;
           price_range = inv.price_range;
           copy_range = inv.copy_range;
           idle_is = inv.idle_is;
           holder_range = inv.holder_range;
-          fair = all_sent (FairLetter g w.price) taken fair_taken (to_person g.shards i (Letter.Refused i j (w.price j))) (g.shards + q) tt;
-          fair_holders = inv.fair_holders;
+          slack_letters = all_sent (SlackLetter g w.price) taken slack_taken (to_person g.shards i (Letter.Refused i j (w.price j))) (g.shards + q) tt;
+          slack_holders = inv.slack_holders;
           counts = counts_refuse g w declining c (send taken (g.shards + q) (to_person g.shards i (Letter.Refused i j (w.price j)) ∷ [])) inv.counts refl refl refl taken i a j i j amount (w.price j) bid_gone (plus_sent g taken (g.shards + q) (to_person g.shards i (Letter.Refused i j (w.price j))) its_sender (omega (arith, law.some_shards)));
           sound = inv.sound;
         }
@@ -214,8 +215,8 @@ module _ (g : Phase) (w : World) (c : Ways) (law : Lawful g) (inv : Inv g w c) w
       raised : (outs : List Out) → NeverFalls (prices g (accepting outs) taken)
       raised outs = never_taken (accepting outs) (price_raised g w (accepting outs) c j amount rises refl refl inv.never_falls)
 
-      award_told : (outs : List Out) (d : Ways) → NeverFalls (prices g (accepting outs) d) → NeverFalls (prices g (accepting outs) (send d (g.shards + q) (award_out ∷ [])))
-      award_told outs d n = rw its_way (price_is_told g (accepting outs) (accepting outs) d award_out (i % g.shards) j refl (ap (λ (p : ℤ). Some (j, p)) (sym new_price)) n)
+      award_told : (outs : List Out) (d : Channels) → NeverFalls (prices g (accepting outs) d) → NeverFalls (prices g (accepting outs) (send d (g.shards + q) (award_out ∷ [])))
+      award_told outs d n = rw its_channel (price_is_told g (accepting outs) (accepting outs) d award_out (i % g.shards) j refl (ap (λ (p : ℤ). Some (j, p)) (sym new_price)) n)
 
       holders : (k : ℕ) (h : Held) → put w.holder j (Some (record { person = i; arc = a })) k ≡ Some h → h.person < g.persons
       holders k h e = elim (cases_eq k j) [ inl f ↦ at k h f e | inr f ↦ inv.holder_range k h (sym (put_off w.holder j (Some (record { person = i; arc = a })) k f) ∙ e) ]
@@ -229,8 +230,8 @@ module _ (g : Phase) (w : World) (c : Ways) (law : Lawful g) (inv : Inv g w c) w
       prices_rise : (k : ℕ) → w.price k ≤ℤ put w.price j amount k
       prices_rise k = elim (cases_eq k j) [ inl e ↦ rw (put_at w.price j amount k e, e) rises | inr n ↦ (rw (put_off w.price j amount k n) (omega (arith, ints))) ]
 
-      letter_rises : (l : Letter) → FairLetter g w.price l → FairLetter g (put w.price j amount) l
-      letter_rises (Letter.Bid x y z p) f = fair_rises g w.price (put w.price j amount) x y z p prices_rise f
+      letter_rises : (l : Letter) → SlackLetter g w.price l → SlackLetter g (put w.price j amount) l
+      letter_rises (Letter.Bid x y z p) f = slack_rises g w.price (put w.price j amount) x y z p prices_rise f
       letter_rises (Letter.Award x y z) f = tt
       letter_rises (Letter.Refused x y z) f = tt
       letter_rises (Letter.Outbid x y z) f = tt
@@ -238,23 +239,23 @@ module _ (g : Phase) (w : World) (c : Ways) (law : Lawful g) (inv : Inv g w c) w
       letter_rises (Letter.First y) f = tt
       letter_rises (Letter.Stop y) f = tt
 
-      fair_risen : AllWays (FairLetter g (put w.price j amount)) taken
-      fair_risen t y = each_map (FairLetter g w.price) (FairLetter g (put w.price j amount)) letter_rises (taken t y) (fair_taken t y)
+      slack_risen : AllLetters (SlackLetter g (put w.price j amount)) taken
+      slack_risen t y = each_map (SlackLetter g w.price) (SlackLetter g (put w.price j amount)) letter_rises (taken t y) (slack_taken t y)
 
-      fair_after : (outs : List Out) → FairHolders g (accepting outs)
-      fair_after outs k h e =
+      slack_after : (outs : List Out) → SlackHolders g (accepting outs)
+      slack_after outs k h e =
           elim (cases_eq k j) [
             | inl f ↦ at k h f e
-            | inr n ↦ rw (put_off w.price j amount k n) (fair_rises g w.price (put w.price j amount) h.person h.arc k (w.price k) prices_rise (inv.fair_holders k h (sym (put_off w.holder j (Some (record { person = i; arc = a })) k n) ∙ e)))
+            | inr n ↦ rw (put_off w.price j amount k n) (slack_rises g w.price (put w.price j amount) h.person h.arc k (w.price k) prices_rise (inv.slack_holders k h (sym (put_off w.holder j (Some (record { person = i; arc = a })) k n) ∙ e)))
           ]
         where
-          at : (k : ℕ) (h : Held) → k ≡ j → put w.holder j (Some (record { person = i; arc = a })) k ≡ Some h → Fair g (put w.price j amount) h.person h.arc k (put w.price j amount k)
+          at : (k : ℕ) (h : Held) → k ≡ j → put w.holder j (Some (record { person = i; arc = a })) k ≡ Some h → SlackAt g (put w.price j amount) h.person h.arc k (put w.price j amount k)
           at k h f e =
               let same = sym (put_at w.holder j (Some (record { person = i; arc = a })) k f) ∙ e in
               let who : h ≡ record { person = i; arc = a } = sym (ap (from_some {X = Held} (record { person = i; arc = a })) same) in
-              rw (put_at w.price j amount k f, who, f) (fair_rises g w.price (put w.price j amount) i a j amount prices_rise bid_fair)
+              rw (put_at w.price j amount k f, who, f) (slack_rises g w.price (put w.price j amount) i a j amount prices_rise bid_slack)
 
-      inv_accepts : (outs : List Out) (d : Ways) → AllRouted g d → NeverFalls (prices g (accepting outs) d) → InPlace (places g (accepting outs) d) → Counts g (accepting outs) d → AllWays (FairLetter g (put w.price j amount)) d → Inv g (accepting outs) d
+      inv_accepts : (outs : List Out) (d : Channels) → AllRouted g d → NeverFalls (prices g (accepting outs) d) → InPlace (places g (accepting outs) d) → Counts g (accepting outs) d → AllLetters (SlackLetter g (put w.price j amount)) d → Inv g (accepting outs) d
       inv_accepts outs d r n p counted f =
           record {
             routed = r;
@@ -264,14 +265,14 @@ module _ (g : Phase) (w : World) (c : Ways) (law : Lawful g) (inv : Inv g w c) w
             copy_range = inv.copy_range;
             idle_is = inv.idle_is;
             holder_range = holders;
-            fair = f;
-            fair_holders = fair_after outs;
+            slack_letters = f;
+            slack_holders = slack_after outs;
             counts = counted;
             sound = inv.sound;
           }
 
       award_routed : Routed g (To.Person (i % g.shards)) (g.shards + q) (Letter.Award i j amount)
-      award_routed = (bid_route.0, refl, bid_route.2, its_way, bid_route.4)
+      award_routed = (bid_route.0, refl, bid_route.2, its_channel, bid_route.4)
 
       -- nobody held it
       abbrev first_out : Out
@@ -280,17 +281,17 @@ module _ (g : Phase) (w : World) (c : Ways) (law : Lawful g) (inv : Inv g w c) w
       pub inv_first : w.holder j ≡ None → Inv g (accepting (award_out ∷ first_out ∷ [])) (send taken (g.shards + q) (award_out ∷ first_out ∷ []))
       inv_first none =
           let v : World = accepting (award_out ∷ first_out ∷ []) in
-          let d : Ways = send taken (g.shards + q) (award_out ∷ []) in
+          let d : Channels = send taken (g.shards + q) (award_out ∷ []) in
           rw (send_two taken (g.shards + q) award_out first_out)
           (inv_accepts (award_out ∷ first_out ∷ []) (send d (g.shards + q) (first_out ∷ []))
-          (routed_sent g d (routed_sent g taken routed_taken award_out (g.shards + q) award_routed) first_out (g.shards + q) (bid_route.2, its_way))
+          (routed_sent g d (routed_sent g taken routed_taken award_out (g.shards + q) award_routed) first_out (g.shards + q) (bid_route.2, its_channel))
           (price_sent g v v d first_out (g.shards + q) (λ k. refl) (award_told (award_out ∷ first_out ∷ []) taken (raised (award_out ∷ first_out ∷ []))))
           (place_sent g v v d first_out (g.shards + q) (λ k l. (refl, refl)) (rw (← bid_route.3, ← bid_route.1) (placed_first none)))
           (counts_first g w v c (send d (g.shards + q) (first_out ∷ [])) inv.counts refl refl i a j amount (record { person = i; arc = a }) bid_route.2 refl taken d bid_gone i j j amount none
           (plus_sent g taken (g.shards + q) award_out its_sender (omega (arith, law.some_shards))) (plus_sent g d (g.shards + q) first_out its_sender tt))
-          (all_sent (FairLetter g (put w.price j amount)) d (all_sent (FairLetter g (put w.price j amount)) taken fair_risen award_out (g.shards + q) tt) first_out (g.shards + q) tt))
+          (all_sent (SlackLetter g (put w.price j amount)) d (all_sent (SlackLetter g (put w.price j amount)) taken slack_risen award_out (g.shards + q) tt) first_out (g.shards + q) tt))
         where
-          placed_first : w.holder j ≡ None → InPlace (places g (accepting (award_out ∷ first_out ∷ [])) (send (set_way c (To.Object (j % g.shards)) (i % g.shards) ls) (g.shards + j % g.shards) (award_out ∷ [])))
+          placed_first : w.holder j ≡ None → InPlace (places g (accepting (award_out ∷ first_out ∷ [])) (send (set_channel c (To.Object (j % g.shards)) (i % g.shards) ls) (g.shards + j % g.shards) (award_out ∷ [])))
           placed_first none = place_award g w (accepting (award_out ∷ first_out ∷ [])) c i a j amount ls bid_here amount 0 a none refl refl inv.in_place
 
       -- it passes from the earlier holder
@@ -299,26 +300,26 @@ module _ (g : Phase) (w : World) (c : Ways) (law : Lawful g) (inv : Inv g w c) w
         outbid_out = to_person g.shards old.person (Letter.Outbid old.person j amount)
 
         outbid_told : (outs : List Out) → NeverFalls (prices g (accepting outs) (send taken (g.shards + q) (outbid_out ∷ [])))
-        outbid_told outs = rw its_way (price_is_told g (accepting outs) (accepting outs) taken outbid_out (old.person % g.shards) j refl (ap (λ (p : ℤ). Some (j, p)) (sym new_price)) (raised outs))
+        outbid_told outs = rw its_channel (price_is_told g (accepting outs) (accepting outs) taken outbid_out (old.person % g.shards) j refl (ap (λ (p : ℤ). Some (j, p)) (sym new_price)) (raised outs))
 
-        placed_pass : InPlace (places g (accepting (outbid_out ∷ award_out ∷ [])) (send (send (set_way c (To.Object (j % g.shards)) (i % g.shards) ls) (g.shards + j % g.shards) (outbid_out ∷ [])) (g.shards + j % g.shards) (award_out ∷ [])))
+        placed_pass : InPlace (places g (accepting (outbid_out ∷ award_out ∷ [])) (send (send (set_channel c (To.Object (j % g.shards)) (i % g.shards) ls) (g.shards + j % g.shards) (outbid_out ∷ [])) (g.shards + j % g.shards) (award_out ∷ [])))
         placed_pass = place_pass_on g w (accepting (outbid_out ∷ award_out ∷ [])) c i a j amount ls bid_here amount 0 0 a old held refl refl inv.in_place
 
         pub inv_passes : Inv g (accepting (outbid_out ∷ award_out ∷ [])) (send taken (g.shards + q) (outbid_out ∷ award_out ∷ []))
         inv_passes =
             let v : World = accepting (outbid_out ∷ award_out ∷ []) in
-            let d : Ways = send taken (g.shards + q) (outbid_out ∷ []) in
+            let d : Channels = send taken (g.shards + q) (outbid_out ∷ []) in
             rw (send_two taken (g.shards + q) outbid_out award_out)
             (inv_accepts (outbid_out ∷ award_out ∷ []) (send d (g.shards + q) (award_out ∷ []))
-            (routed_sent g d (routed_sent g taken routed_taken outbid_out (g.shards + q) (inv.holder_range j old held, refl, bid_route.2, its_way, bid_route.4)) award_out (g.shards + q) award_routed)
+            (routed_sent g d (routed_sent g taken routed_taken outbid_out (g.shards + q) (inv.holder_range j old held, refl, bid_route.2, its_channel, bid_route.4)) award_out (g.shards + q) award_routed)
             (award_told (outbid_out ∷ award_out ∷ []) d (outbid_told (outbid_out ∷ award_out ∷ [])))
             (rw (← bid_route.3, ← bid_route.1) placed_pass)
             (counts_pass g w v c (send d (g.shards + q) (award_out ∷ [])) inv.counts refl refl i a j amount (record { person = i; arc = a }) bid_route.2 refl taken d bid_gone old old.person j i j amount amount held
             (plus_sent g taken (g.shards + q) outbid_out its_sender (omega (arith, law.some_shards))) (plus_sent g d (g.shards + q) award_out its_sender (omega (arith, law.some_shards))))
-            (all_sent (FairLetter g (put w.price j amount)) d (all_sent (FairLetter g (put w.price j amount)) taken fair_risen outbid_out (g.shards + q) tt) award_out (g.shards + q) tt))
+            (all_sent (SlackLetter g (put w.price j amount)) d (all_sent (SlackLetter g (put w.price j amount)) taken slack_risen outbid_out (g.shards + q) tt) award_out (g.shards + q) tt))
 
   -- a price is dropped
-  pub inv_drops : (t : To) (x : ℕ) (hs : List Letter) (l : Letter) (ls : List Letter) → c t x ≡ hs ++ l ∷ ls → is_price l ≡ true → Inv g w (set_way c t x (hs ++ ls))
+  pub inv_drops : (t : To) (x : ℕ) (hs : List Letter) (l : Letter) (ls : List Letter) → c t x ≡ hs ++ l ∷ ls → is_price l ≡ true → Inv g w (set_channel c t x (hs ++ ls))
   inv_drops t x hs l ls e k =
       record {
         routed = routed_dropped g c inv.routed t x hs l ls e;
@@ -328,13 +329,13 @@ module _ (g : Phase) (w : World) (c : Ways) (law : Lawful g) (inv : Inv g w c) w
         copy_range = inv.copy_range;
         idle_is = inv.idle_is;
         holder_range = inv.holder_range;
-        fair = all_gone (FairLetter g w.price) c inv.fair t x hs l ls e;
-        fair_holders = inv.fair_holders;
+        slack_letters = all_gone (SlackLetter g w.price) c inv.slack_letters t x hs l ls e;
+        slack_holders = inv.slack_holders;
         counts = dropped_count l t k e;
         sound = inv.sound;
       }
     where
-      dropped_place : (l : Letter) → is_price l ≡ true → c t x ≡ hs ++ l ∷ ls → InPlace (places g w (set_way c t x (hs ++ ls)))
+      dropped_place : (l : Letter) → is_price l ≡ true → c t x ≡ hs ++ l ∷ ls → InPlace (places g w (set_channel c t x (hs ++ ls)))
       dropped_place (Letter.Price j p) k e = place_dropped g w w c t x hs (Letter.Price j p) ls e (λ i j. (refl, refl)) inv.in_place
       dropped_place (Letter.Award i j p) k e = absurd cc
       dropped_place (Letter.Refused i j p) k e = absurd cc
@@ -343,10 +344,10 @@ module _ (g : Phase) (w : World) (c : Ways) (law : Lawful g) (inv : Inv g w c) w
       dropped_place (Letter.First j) k e = absurd cc
       dropped_place (Letter.Stop y) k e = absurd cc
 
-      dropped_count : (l : Letter) (t : To) → is_price l ≡ true → c t x ≡ hs ++ l ∷ ls → Counts g w (set_way c t x (hs ++ ls))
+      dropped_count : (l : Letter) (t : To) → is_price l ≡ true → c t x ≡ hs ++ l ∷ ls → Counts g w (set_channel c t x (hs ++ ls))
       dropped_count (Letter.Price j p) (To.Person s) k e =
           let r = routed_middle g c inv.routed (To.Person s) x hs (Letter.Price j p) ls e in
-          counts_price_gone g w w c (set_way c (To.Person s) x (hs ++ ls)) inv.counts refl refl refl j p (plus_gone g c (To.Person s) x hs (Letter.Price j p) ls e (omega (arith, law.some_shards, r.1)) r.3)
+          counts_price_gone g w w c (set_channel c (To.Person s) x (hs ++ ls)) inv.counts refl refl refl j p (plus_gone g c (To.Person s) x hs (Letter.Price j p) ls e (omega (arith, law.some_shards, r.1)) r.3)
       dropped_count (Letter.Price j p) (To.Object s) k e = absurd (routed_middle g c inv.routed (To.Object s) x hs (Letter.Price j p) ls e)
       dropped_count (Letter.Price j p) To.Hub k e = absurd (routed_middle g c inv.routed To.Hub x hs (Letter.Price j p) ls e)
       dropped_count (Letter.Award i j p) t k e = absurd cc
@@ -356,7 +357,7 @@ module _ (g : Phase) (w : World) (c : Ways) (law : Lawful g) (inv : Inv g w c) w
       dropped_count (Letter.First j) t k e = absurd cc
       dropped_count (Letter.Stop y) t k e = absurd cc
 
-      dropped_price : (l : Letter) (t : To) → is_price l ≡ true → c t x ≡ hs ++ l ∷ ls → NeverFalls (prices g w (set_way c t x (hs ++ ls)))
+      dropped_price : (l : Letter) (t : To) → is_price l ≡ true → c t x ≡ hs ++ l ∷ ls → NeverFalls (prices g w (set_channel c t x (hs ++ ls)))
       dropped_price (Letter.Price j p) (To.Person s) k e =
           let r = routed_middle g c inv.routed (To.Person s) x hs (Letter.Price j p) ls e in
           rw r.1 (price_lost g w w c hs (Letter.Price j p) ls s j p refl (rw (← r.1) e) inv.never_falls)
@@ -382,18 +383,18 @@ module _ (g : Phase) (w : World) (c : Ways) (law : Lawful g) (inv : Inv g w c) w
   same_price : (i j : ℕ) (p q : ℤ) → (let x : Option (ℕ × ℤ) = Some (i, p) in let y : Option (ℕ × ℤ) = Some (j, q) in x ≡ y) → i ≡ j
   same_price i j p q e = ap (λ (z : ℕ × ℤ). z.0) (ap (from_some {X = ℕ × ℤ} (i, p)) e)
 
-  price_way : (s x : ℕ) (l : Letter) (j : ℕ) (p : ℤ) → price_of l ≡ Some (j, p) → Routed g (To.Person s) x l → x ≡ g.shards + j % g.shards
-  price_way s x (Letter.Award i k q) j p e r = rw (← same_price k j q p e) r.3
-  price_way s x (Letter.Refused i k q) j p e r = rw (← same_price k j q p e) r.3
-  price_way s x (Letter.Outbid i k q) j p e r = rw (← same_price k j q p e) r.3
-  price_way s x (Letter.Price k q) j p e r = rw (← same_price k j q p e) r.1
-  price_way s x (Letter.Bid i a k q) j p e r = absurd r
-  price_way s x (Letter.First k) j p e r = absurd r
-  price_way s x (Letter.Stop y) j p e r = absurd r
+  price_channel : (s x : ℕ) (l : Letter) (j : ℕ) (p : ℤ) → told_price l ≡ Some (j, p) → Routed g (To.Person s) x l → x ≡ g.shards + j % g.shards
+  price_channel s x (Letter.Award i k q) j p e r = rw (← same_price k j q p e) r.3
+  price_channel s x (Letter.Refused i k q) j p e r = rw (← same_price k j q p e) r.3
+  price_channel s x (Letter.Outbid i k q) j p e r = rw (← same_price k j q p e) r.3
+  price_channel s x (Letter.Price k q) j p e r = rw (← same_price k j q p e) r.1
+  price_channel s x (Letter.Bid i a k q) j p e r = absurd r
+  price_channel s x (Letter.First k) j p e r = absurd r
+  price_channel s x (Letter.Stop y) j p e r = absurd r
 
-  pub letter_no_less : (s x : ℕ) (l : Letter) (ls : List Letter) (j : ℕ) (p : ℤ) → c (To.Person s) x ≡ l ∷ ls → price_of l ≡ Some (j, p) → w.copy s j ≤ℤ p
+  pub letter_no_less : (s x : ℕ) (l : Letter) (ls : List Letter) (j : ℕ) (p : ℤ) → c (To.Person s) x ≡ l ∷ ls → told_price l ≡ Some (j, p) → w.copy s j ≤ℤ p
   letter_no_less s x l ls j p e is =
-      learns_no_less g w w c l ls s j p is (rw (← price_way s x l j p is (routed_first g c inv.routed (To.Person s) x l ls e)) e) inv.never_falls
+      learns_no_less g w w c l ls s j p is (rw (← price_channel s x l j p is (routed_first g c inv.routed (To.Person s) x l ls e)) e) inv.never_falls
 
   -- the first letter for an object shard is a bid that fits
   pub bid_letter_fits : (q x : ℕ) (l : Letter) (ls : List Letter) → c (To.Object q) x ≡ l ∷ ls → FitsBid g q l

@@ -1,5 +1,5 @@
--- What the invariants say of every world that a schedule leads to.
-use Rattle.std.proofs.Common.{ℕ, ℤ, ◌≤ℤ◌, ◌≡◌, ◌≢◌, refl, arith, true, false, List, Option, Some, None, sym, ◌∙◌, ap, subst, ◌≤◌, Contains, ◌<◌}
+-- What the invariants say of every world that is reached.
+use Rattle.std.proofs.Common.{ℕ, ℤ, ◌≤ℤ◌, ◌≡◌, ◌≢◌, refl, arith, true, false, Option, Some, None, sym, ◌∙◌, ap, subst, ◌≤◌, Contains, ◌<◌}
 use Rattle.std.proofs.lemmas.Bool.{eqb-true}
 use Rattle.auc_graph.specs.declared.rows.RowArc.{RowArc}
 use Rattle.auc_letters.specs.declared.letter.Why.{Why}
@@ -8,60 +8,56 @@ use Rattle.auc_model.specs.Bidding.{SomeoneStuck}
 use Rattle.auc_model.specs.Counts.{held_objects}
 use Rattle.auc_model.specs.Invariants.{Sound}
 use Rattle.auc_model.specs.Places.{is_held_by}
-use Rattle.auc_model.specs.Schedule.{Schedule}
+use Rattle.auc_model.specs.Schedule.{Reached}
 use Rattle.auc_model.specs.Slack.{SlackRight}
-use Rattle.auc_model.specs.Start.{Lawful, Starts, UsualNodes}
-use Rattle.auc_model.specs.Ways.{person_of, places, prices, ways}
+use Rattle.auc_model.specs.Start.{UsualNodes}
+use Rattle.auc_model.specs.Channels.{person_of, places, prices, channels}
 use Rattle.auc_model.specs.World.{Phase, World}
 use Rattle.auc_model.specs.declared.turn.End.{End}
-use Rattle.auc_model.specs.declared.turn.Turn.{Turn}
 use Rattle.auc_model.proofs.Bounds.{firsts_le, held_le}
 use Rattle.auc_model.proofs.Everyone.{holds_some}
 use Rattle.auc_model.proofs.Example.{usual}
 use Rattle.auc_model.proofs.Places.{held_once, put_self}
 use Rattle.auc_model.proofs.Prices.{copy_low}
-use Rattle.auc_model.proofs.Room.{room_schedule}
-use Rattle.auc_model.proofs.Schedule.{kept_schedule}
-use Rattle.auc_model.proofs.Start.{kept_start, room_start}
-use Rattle.auc_model.proofs.WorkedRun.{run}
+use Rattle.auc_model.proofs.Reached.{kept_reached, room_reached}
 
 sound_no_guard : (g : Phase) (e : Option End) → Sound g e → (e ≢ Some (End.Stopped Why.Fell)) × (e ≢ Some (End.Stopped Why.Stray)) × (e ≢ Some (End.Stopped Why.Trail))
 sound_no_guard g e s = ((λ h. rw h at s), (λ h. rw h at s), (λ h. rw h at s))
 
--- Over every schedule: no guard is hit, no copy is above the true price, and no person is held twice
-pub of_every_schedule : (g : Phase) (w v : World) (ts : List Turn) → Lawful g → Starts g w → Schedule g w ts v
+-- No guard is hit, no copy is above the true price, and no person is held twice
+pub of_every_schedule : (g : Phase) (v : World) → Reached g v
     → ((v.end ≢ Some (End.Stopped Why.Fell)) × (v.end ≢ Some (End.Stopped Why.Stray)) × (v.end ≢ Some (End.Stopped Why.Trail)))
     × ((s j : ℕ) → v.copy s j ≤ℤ v.price j)
     × ((j k : ℕ) (a b : Held) → v.holder j ≡ Some a → v.holder k ≡ Some b → a.person ≡ b.person → j ≡ k)
-of_every_schedule g w v ts law s h =
-    let k = kept_schedule g w ts v law h (kept_start g w s) in
-    let c = ways g v k.lost in (
+of_every_schedule g v r =
+    let k = kept_reached g v r in
+    let c = channels g v k.lost in (
       sound_no_guard g v.end k.inv.sound,
       (λ s j. copy_low (prices g v c) s j k.inv.never_falls),
       (λ j l a b e f same. held_once (places g v c) a.person j l (ap person_of e) (ap person_of f ∙ ap Some (sym same)) k.inv.in_place),
     )
 
 -- every holder's arc is an arc of his to that object, and slack-right at the true prices
-pub holders_slack : (g : Phase) (w v : World) (ts : List Turn) → Lawful g → Starts g w → Schedule g w ts v
+pub holders_slack : (g : Phase) (v : World) → Reached g v
     → (j : ℕ) (h : Held) → v.holder j ≡ Some h → (a : RowArc) × Contains (g.row h.person) a × (a.object ≡ j) × (a.arc ≡ h.arc) × SlackRight g v.price h.person a
-holders_slack g w v ts law s run j h e =
-    let k = kept_schedule g w ts v law run (kept_start g w s) in
-    let f = k.inv.fair_holders j h e in
+holders_slack g v r j h e =
+    let k = kept_reached g v r in
+    let f = k.inv.slack_holders j h e in
     (f.arc, f.listed, f.leads, f.stands, subst (λ (p : ℕ → ℤ). SlackRight g p h.person f.arc) (put_self v.price j) f.slack)
 
 -- the hub counts no more than there are persons, and no more objects are held
-pub counted_le : (g : Phase) (w v : World) (ts : List Turn) → Lawful g → Starts g w → Schedule g w ts v → (v.count ≤ g.persons) × (held_objects g v ≤ g.persons)
-counted_le g w v ts law s run =
-    let k = kept_schedule g w ts v law run (kept_start g w s) in
-    let a = firsts_le g v (ways g v k.lost) k.inv.counts in
-    (omega (arith, a), held_le g v (ways g v k.lost) k.inv.counts)
+pub counted_le : (g : Phase) (v : World) → Reached g v → (v.count ≤ g.persons) × (held_objects g v ≤ g.persons)
+counted_le g v r =
+    let k = kept_reached g v r in
+    let a = firsts_le g v (channels g v k.lost) k.inv.counts in
+    (omega (arith, a), held_le g v (channels g v k.lost) k.inv.counts)
 
 -- where the hub has counted every person, each of them holds an object
-pub everyone_holds : (g : Phase) (w v : World) (ts : List Turn) → Lawful g → Starts g w → Schedule g w ts v → v.count ≡ g.persons
+pub everyone_holds : (g : Phase) (v : World) → Reached g v → v.count ≡ g.persons
     → (i : ℕ) → i < g.persons → (j : ℕ) × (h : Held) × (v.holder j ≡ Some h) × (h.person ≡ i)
-everyone_holds g w v ts law s run all i l =
-    let k = kept_schedule g w ts v law run (kept_start g w s) in
-    let p = holds_some g v (ways g v k.lost) law k.inv all i l in
+everyone_holds g v r all i l =
+    let k = kept_reached g v r in
+    let p = holds_some g v (channels g v k.lost) r.lawful k.inv all i l in
     by_holder p.0 (v.holder p.0) refl p.1
   where
     by_holder : (j : ℕ) (o : Option Held) → v.holder j ≡ o → is_held_by (person_of (v.holder j)) i ≡ true → (j : ℕ) × (h : Held) × (v.holder j ≡ Some h) × (h.person ≡ i)
@@ -69,9 +65,9 @@ everyone_holds g w v ts law s run all i l =
     by_holder j (Some h) e t = (j, h, e, eqb-true h.person i (rw e at t))
 
 -- with the usual nodes no letter but a Price meets Full
-pub no_mail_stop : (g : Phase) (w v : World) (ts : List Turn) → Lawful g → Starts g w → UsualNodes g w → Schedule g w ts v → v.end ≢ Some (End.Stopped Why.Mail)
-no_mail_stop g w v ts law s usual run = (room_schedule g w ts v law (kept_start g w s) (room_start g w s usual) run).no_mail
+pub no_mail_stop : (g : Phase) (v : World) → Reached g v → UsualNodes g v → v.end ≢ Some (End.Stopped Why.Mail)
+no_mail_stop g v r usual = (room_reached g v r usual).no_mail
 
 -- the world stops for want of an arc only where somebody has none
-pub stuck_only : (g : Phase) (w v : World) (ts : List Turn) → Lawful g → Starts g w → Schedule g w ts v → v.end ≡ Some (End.Stopped Why.Stuck) → SomeoneStuck g
-stuck_only g w v ts law s run e = rw e at ((kept_schedule g w ts v law run (kept_start g w s)).inv.sound)
+pub stuck_only : (g : Phase) (v : World) → Reached g v → v.end ≡ Some (End.Stopped Why.Stuck) → SomeoneStuck g
+stuck_only g v r e = rw e at ((kept_reached g v r).inv.sound)

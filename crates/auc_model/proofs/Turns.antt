@@ -11,11 +11,11 @@ use Rattle.auc_letters.specs.declared.out.Out.{Out}
 use Rattle.auc_letters.specs.declared.out.To.{To}
 use Rattle.auc_letters.specs.declared.state.PersonState.{PersonState}
 use Rattle.auc_model.specs.Bidding.{Bids, Stops, after_bid, after_stop, bid_letter}
-use Rattle.auc_model.specs.Fair.{FairLetter}
+use Rattle.auc_model.specs.SlackBids.{SlackLetter}
 use Rattle.auc_model.specs.Invariants.{Inv}
 use Rattle.auc_model.specs.Put.{put}
 use Rattle.auc_model.specs.Start.{Lawful}
-use Rattle.auc_model.specs.Ways.{Lost, Routed, Ways, prices, send, ways}
+use Rattle.auc_model.specs.Channels.{Lost, Routed, Channels, prices, send, channels}
 use Rattle.auc_model.specs.World.{Phase, World, scale}
 use Rattle.auc_model.proofs.CountSteps.{counts_bid, counts_price, counts_stop, plus_sent}
 use Rattle.auc_model.proofs.Idle.{bid_facts, idle_bid}
@@ -23,15 +23,15 @@ use Rattle.auc_model.proofs.PlaceSteps.{place_bid, place_kept, place_sent}
 use Rattle.auc_model.proofs.PriceSteps.{price_is_told, price_kept, price_sent}
 use Rattle.auc_model.proofs.Prices.{copy_low}
 use Rattle.auc_model.proofs.Routes.{routed_sent}
-use Rattle.auc_model.proofs.Slack.{all_sent, fair_bid}
-use Rattle.auc_model.proofs.Ways.{same_ways}
+use Rattle.auc_model.proofs.Slack.{all_sent, slack_bid}
+use Rattle.auc_model.proofs.Channels.{same_channels}
 
--- the ways of two worlds with the same mails and outboxes
-pub ways_other : (g : Phase) (w v : World) (lost : Lost) → v.objects_mail ≡ w.objects_mail → v.persons_mail ≡ w.persons_mail → v.hub_mail ≡ w.hub_mail
-    → v.person_out ≡ w.person_out → v.object_out ≡ w.object_out → ways g v lost ≡ ways g w lost
-ways_other g w v lost e1 e2 e3 e4 e5 = same_ways (ways g v lost) (ways g w lost) at
+-- the channels of two worlds with the same mails and outboxes
+pub channels_other : (g : Phase) (w v : World) (lost : Lost) → v.objects_mail ≡ w.objects_mail → v.persons_mail ≡ w.persons_mail → v.hub_mail ≡ w.hub_mail
+    → v.person_out ≡ w.person_out → v.object_out ≡ w.object_out → channels g v lost ≡ channels g w lost
+channels_other g w v lost e1 e2 e3 e4 e5 = same_channels (channels g v lost) (channels g w lost) at
   where
-    at : (t : To) (x : ℕ) → ways g v lost t x ≡ ways g w lost t x
+    at : (t : To) (x : ℕ) → channels g v lost t x ≡ channels g w lost t x
     at (To.Person s) x = rw (e2, e4, e5)
     at (To.Object s) x = rw (e1, e4, e5)
     at To.Hub x = rw (e3, e4, e5)
@@ -52,7 +52,7 @@ amount_above g q row a amount law low best =
       | inr p ↦ (let e = p.1 in let eps = law.eps_above in let spread = scaled_above g law in omega (arith, ints))
     ]
 
-module _ (g : Phase) (w : World) (c : Ways) (law : Lawful g) (inv : Inv g w c) where
+module _ (g : Phase) (w : World) (c : Channels) (law : Lawful g) (inv : Inv g w c) where
   -- Bid(s), a bid
   module _ (s i : ℕ) (rest : List ℕ) (a : RowArc) (amount : ℤ) (first : w.idle s ≡ i ∷ rest) (best : Bids g w s i a amount) (low : amount ≤ℤ MOST_PRICE) where
     abbrev pub bidding : World
@@ -78,8 +78,8 @@ module _ (g : Phase) (w : World) (c : Ways) (law : Lawful g) (inv : Inv g w c) w
           idle_is = idle_bid g w.state w.idle inv.idle_is s i a.object rest first;
           holder_range = inv.holder_range;
           counts = counts_bid g w bidding c (send c s (bid_out ∷ [])) inv.counts refl refl i a.arc a.object amount bidder.2 bidder.0 refl (plus_sent g c s bid_out (let h = here in omega arith) (omega (arith, law.some_shards)));
-          fair = all_sent (FairLetter g w.price) c inv.fair bid_out s (fair_bid g (w.copy s) w.price i a amount law (λ k. copy_low (prices g w c) s k inv.never_falls) best);
-          fair_holders = inv.fair_holders;
+          slack_letters = all_sent (SlackLetter g w.price) c inv.slack_letters bid_out s (slack_bid g (w.copy s) w.price i a amount law (λ k. copy_low (prices g w c) s k inv.never_falls) best);
+          slack_holders = inv.slack_holders;
           sound = inv.sound;
         }
 
@@ -112,8 +112,8 @@ module _ (g : Phase) (w : World) (c : Ways) (law : Lawful g) (inv : Inv g w c) w
           idle_is = inv.idle_is;
           holder_range = inv.holder_range;
           counts = counts_stop g w stopping c (send c s (stop_out ∷ [])) inv.counts refl refl refl y (plus_sent g c s stop_out (omega (arith, here)) tt);
-          fair = all_sent (FairLetter g w.price) c inv.fair stop_out s (tt);
-          fair_holders = inv.fair_holders;
+          slack_letters = all_sent (SlackLetter g w.price) c inv.slack_letters stop_out s (tt);
+          slack_holders = inv.slack_holders;
           sound = inv.sound;
         }
 
@@ -136,7 +136,7 @@ module _ (g : Phase) (w : World) (c : Ways) (law : Lawful g) (inv : Inv g w c) w
           idle_is = inv.idle_is;
           holder_range = inv.holder_range;
           counts = counts_price g w telling c (send c (g.shards + q) (tell_out ∷ [])) inv.counts refl refl refl j (w.price j) (plus_sent g c (g.shards + q) tell_out (omega (arith, law.some_shards, its)) there);
-          fair = all_sent (FairLetter g w.price) c inv.fair tell_out (g.shards + q) (tt);
-          fair_holders = inv.fair_holders;
+          slack_letters = all_sent (SlackLetter g w.price) c inv.slack_letters tell_out (g.shards + q) (tt);
+          slack_holders = inv.slack_holders;
           sound = inv.sound;
         }

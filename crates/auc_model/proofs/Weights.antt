@@ -10,12 +10,12 @@ use Rattle.auc_model.specs.Invariants.{Inv, Shaped}
 use Rattle.auc_model.specs.Letters.{award_one, bid_one, letters_to, outbid_one, price_one, refused_one}
 use Rattle.auc_model.specs.Mails.{Shard, box_of, mail_of, number, outbox, sender}
 use Rattle.auc_model.specs.Room.{weight}
-use Rattle.auc_model.specs.Ways.{Each, Lost, Routed, Ways, out_of, waiting, ways}
+use Rattle.auc_model.specs.Channels.{Each, Lost, Routed, Channels, out_of, waiting, channels}
 use Rattle.auc_model.specs.World.{Phase, World, senders}
 use Rattle.auc_model.proofs.Bounds.{answers_le, bids_le}
 use Rattle.auc_model.proofs.Mails.{waiting_there, weight_ones}
 use Rattle.auc_model.proofs.Sums.{sum_by-total, sum_by_add, total_add, total_cong, total_grid, total_le, total_more, total_same}
-use Rattle.auc_model.proofs.Ways.{first_out, same_to_self}
+use Rattle.auc_model.proofs.Channels.{first_out, same_to_self}
 
 -- the weight of a mail, by boxes and senders
 pub weight-total : (g : Phase) (m : Mail Letter) (n : ℕ) (f : Letter → ℕ) → Shaped g m n → weight f m ≡ total (λ b. total (λ x. sum_by f (waiting m b x)) (senders g)) n
@@ -52,9 +52,9 @@ only_bids g q x (Letter.First j) r = absurd r
 only_bids g q x (Letter.Stop y) r = absurd r
 
 -- A bid at the front of its outbox finds a free node, where the mail has one for each person
-module _ (g : Phase) (w : World) (lost : Lost) (inv : Inv g w (ways g w lost)) (h : Shard) (o : Out) (rest : List Out) (in_range : number h < g.shards) (full : outbox w h ≡ o ∷ rest) where
-  abbrev c : Ways
-  c = ways g w lost
+module _ (g : Phase) (w : World) (lost : Lost) (inv : Inv g w (channels g w lost)) (h : Shard) (o : Out) (rest : List Out) (in_range : number h < g.shards) (full : outbox w h ≡ o ∷ rest) where
+  abbrev c : Channels
+  c = channels g w lost
 
   sender_there : sender g h < senders g
   sender_there = by h in_range
@@ -81,9 +81,9 @@ module _ (g : Phase) (w : World) (lost : Lost) (inv : Inv g w (ways g w lost)) (
   object_weight : (f : Letter → ℕ) (q : ℕ) → o.to ≡ To.Object q → q < g.shards → Shaped g w.objects_mail g.shards → weight f w.objects_mail + f o.letter ≤ everywhere g f c
   object_weight f q e l s =
       let row = λ (b : ℕ). total (λ x. sum_by f (waiting w.objects_mail b x)) (senders g) in
-      let way = λ (b : ℕ). total (λ x. sum_by f (c (To.Object b) x)) (senders g) in
-      let here : row q + f o.letter ≤ way q = total_more (λ x. sum_by f (waiting w.objects_mail q x)) (λ x. sum_by f (c (To.Object q) x)) (senders g) (sender g h) (f o.letter) sender_there (λ x m. front_le f (To.Object q) x) (rw e at (front_more f)) in
-      let all = total_more row way g.shards q (f o.letter) l (λ b m. total_le (λ x. sum_by f (waiting w.objects_mail b x)) (λ x. sum_by f (c (To.Object b) x)) (senders g) (λ x k. front_le f (To.Object b) x)) here in
+      let channel = λ (b : ℕ). total (λ x. sum_by f (c (To.Object b) x)) (senders g) in
+      let here : row q + f o.letter ≤ channel q = total_more (λ x. sum_by f (waiting w.objects_mail q x)) (λ x. sum_by f (c (To.Object q) x)) (senders g) (sender g h) (f o.letter) sender_there (λ x m. front_le f (To.Object q) x) (rw e at (front_more f)) in
+      let all = total_more row channel g.shards q (f o.letter) l (λ b m. total_le (λ x. sum_by f (waiting w.objects_mail b x)) (λ x. sum_by f (c (To.Object b) x)) (senders g) (λ x k. front_le f (To.Object b) x)) here in
       let t = weight-total g w.objects_mail g.shards f s in
       omega (arith, all, t)
 
@@ -114,7 +114,7 @@ grid_add f h rows k n =
     total_same (λ b. total (λ x. sum_by f (rows b x)) n + total (λ x. sum_by h (rows b x)) n) (λ b. total (λ x. sum_by (λ l. f l + h l) (rows b x)) n) k (λ b. row_add f h (rows b) n)
     ∙ total_add (λ b. total (λ x. sum_by f (rows b x)) n) (λ b. total (λ x. sum_by h (rows b x)) n) k
 
-everywhere_add : (g : Phase) (f h : Letter → ℕ) (c : Ways) → everywhere g (λ l. f l + h l) c ≡ everywhere g f c + everywhere g h c
+everywhere_add : (g : Phase) (f h : Letter → ℕ) (c : Channels) → everywhere g (λ l. f l + h l) c ≡ everywhere g f c + everywhere g h c
 everywhere_add g f h c =
     let a = grid_add f h (λ b x. c (To.Object b) x) g.shards (senders g) in
     let b = grid_add f h (λ b x. c (To.Person b) x) g.shards (senders g) in
@@ -138,15 +138,15 @@ only_answers g q x (Letter.Bid i a j p) r = absurd r
 only_answers g q x (Letter.First j) r = absurd r
 only_answers g q x (Letter.Stop y) r = absurd r
 
-module _ (g : Phase) (w : World) (lost : Lost) (inv : Inv g w (ways g w lost)) (h : Shard) (o : Out) (rest : List Out) (in_range : number h < g.shards) (full : outbox w h ≡ o ∷ rest) where
-  person_weight : (f : Letter → ℕ) (s : ℕ) → o.to ≡ To.Person s → s < g.shards → Shaped g w.persons_mail g.shards → weight f w.persons_mail + f o.letter ≤ everywhere g f (ways g w lost)
+module _ (g : Phase) (w : World) (lost : Lost) (inv : Inv g w (channels g w lost)) (h : Shard) (o : Out) (rest : List Out) (in_range : number h < g.shards) (full : outbox w h ≡ o ∷ rest) where
+  person_weight : (f : Letter → ℕ) (s : ℕ) → o.to ≡ To.Person s → s < g.shards → Shaped g w.persons_mail g.shards → weight f w.persons_mail + f o.letter ≤ everywhere g f (channels g w lost)
   person_weight f q e l s =
-      let c : Ways = ways g w lost in
+      let c : Channels = channels g w lost in
       let row = λ (b : ℕ). total (λ x. sum_by f (waiting w.persons_mail b x)) (senders g) in
-      let way = λ (b : ℕ). total (λ x. sum_by f (c (To.Person b) x)) (senders g) in
+      let channel = λ (b : ℕ). total (λ x. sum_by f (c (To.Person b) x)) (senders g) in
       let le = front_le g w lost inv h o rest in_range full f in
-      let here : row q + f o.letter ≤ way q = total_more (λ x. sum_by f (waiting w.persons_mail q x)) (λ x. sum_by f (c (To.Person q) x)) (senders g) (sender g h) (f o.letter) (sender_there g w lost inv h o rest in_range full) (λ x m. le (To.Person q) x) (rw e at (front_more g w lost inv h o rest in_range full f)) in
-      let all = total_more row way g.shards q (f o.letter) l (λ b m. total_le (λ x. sum_by f (waiting w.persons_mail b x)) (λ x. sum_by f (c (To.Person b) x)) (senders g) (λ x k. le (To.Person b) x)) here in
+      let here : row q + f o.letter ≤ channel q = total_more (λ x. sum_by f (waiting w.persons_mail q x)) (λ x. sum_by f (c (To.Person q) x)) (senders g) (sender g h) (f o.letter) (sender_there g w lost inv h o rest in_range full) (λ x m. le (To.Person q) x) (rw e at (front_more g w lost inv h o rest in_range full f)) in
+      let all = total_more row channel g.shards q (f o.letter) l (λ b m. total_le (λ x. sum_by f (waiting w.persons_mail b x)) (λ x. sum_by f (c (To.Person b) x)) (senders g) (λ x k. le (To.Person b) x)) here in
       let t = weight-total g w.persons_mail g.shards f s in
       omega (arith, all, t)
 
@@ -161,7 +161,7 @@ module _ (g : Phase) (w : World) (lost : Lost) (inv : Inv g w (ways g w lost)) (
   -- An answer at the front of its outbox finds a free node, where the mail has four for each person and at most two of them hold a price
   pub room_for_answer : (s : ℕ) → o.to ≡ To.Person s → s < g.shards → Shaped g w.persons_mail g.shards → w.persons_mail.nodes ≡ 4 * g.persons → weight price_one w.persons_mail ≤ 2 * g.persons → answer_one o.letter ≡ 1 → 0 < free_of w.persons_mail
   room_for_answer s e l shape nodes few one =
-      let c : Ways = ways g w lost in
+      let c : Channels = channels g w lost in
       let a = person_weight answer_one s e l shape in
       let b = person_ones shape in
       let d = answers_le g w c inv.counts in

@@ -15,7 +15,7 @@ use Rattle.auc_model.specs.Mails.{ObjectShard, PersonShard, Shard, Takes, box_of
 use Rattle.auc_model.specs.Posting.{PostTurn, reason}
 use Rattle.auc_model.specs.Put.{put}
 use Rattle.auc_model.specs.Schedule.{Turned}
-use Rattle.auc_model.specs.Selling.{ObjectTakeTurn, sold}
+use Rattle.auc_model.proofs.Selling.{TakesBid, by_cases, sold}
 use Rattle.auc_model.specs.Work.{IsOfRound, posting_work, waiting_work, work}
 use Rattle.auc_model.specs.World.{Phase, World, ended, first_end}
 use Rattle.auc_model.specs.declared.turn.End.{End}
@@ -85,23 +85,23 @@ module _ (g : Phase) (w : World) where
   hear_spends s r v (PersonTakeTurn.strays x k l m h t bad e1 e) = less_as r v (ended (record w { persons_mail = m }) Why.Stray) e (persons_less s x k l m t)
   hear_spends s r v (PersonTakeTurn.falls x k l m h t fits low e1 e) = less_as r v (ended (record w { persons_mail = m }) Why.Fell) e (persons_less s x k l m t)
 
-  sell_spends : (q : ℕ) (r : TurnReply) (v : World) → ObjectTakeTurn g w q r v → Spends g w r v
-  sell_spends q r v (ObjectTakeTurn.no_letter h e1 e) = Spends.rests e1 e
-  sell_spends q r v (ObjectTakeTurn.accepts x k i a j amount m known empty t fits enough e1 e) =
+  sell_spends : (q : ℕ) (r : TurnReply) (v : World) → TakesBid g w q r v → Spends g w r v
+  sell_spends q r v (TakesBid.no_letter h e1 e) = Spends.rests e1 e
+  sell_spends q r v (TakesBid.accepts x k i a j amount m known empty t fits enough e1 e) =
       let u : World = record w { objects_mail = m } in
       let os : List Out = awards g.shards (w.holder j) i j amount in
       let b = weight_taken w.objects_mail m q x k (Letter.Bid i a j amount) waiting_work t in
       let c = outbox_filled g u (ObjectShard q) os known empty in
       let d = answers_work g.shards (w.holder j) i j amount in
       less_as r v (sold w q m j amount (record { person = i; arc = a }) os) e (omega (arith, b, c, d))
-  sell_spends q r v (ObjectTakeTurn.declines x k i a j amount m known empty t fits low e1 e) =
+  sell_spends q r v (TakesBid.declines x k i a j amount m known empty t fits low e1 e) =
       let u : World = record w { objects_mail = m } in
       let os : List Out = refusal g.shards i j (w.price j) in
       let b = weight_taken w.objects_mail m q x k (Letter.Bid i a j amount) waiting_work t in
       let c = outbox_filled g u (ObjectShard q) os known empty in
       let d : sum_by posting_work os ≡ 2 = refl in
       less_as r v (with_outbox u (ObjectShard q) os) e (omega (arith, b, c, d))
-  sell_spends q r v (ObjectTakeTurn.strays x k l m known empty t bad e1 e) =
+  sell_spends q r v (TakesBid.strays x k l m known empty t bad e1 e) =
       let a = weight_taken w.objects_mail m q x k l waiting_work t in
       let b = some_work l in
       less_as r v (ended (record w { objects_mail = m }) Why.Stray) e (omega (arith, a, b))
@@ -120,7 +120,7 @@ module _ (g : Phase) (w : World) where
   turn_spends (Turn.PersonPost s) r v i h = post_spends (PersonShard s) r v h
   turn_spends (Turn.ObjectPost q) r v i h = post_spends (ObjectShard q) r v h
   turn_spends (Turn.PersonTake s) r v i h = hear_spends s r v h
-  turn_spends (Turn.ObjectTake q) r v i h = sell_spends q r v h
+  turn_spends (Turn.ObjectTake q) r v i h = sell_spends q r v (by_cases g w q r v h)
   turn_spends (Turn.Tell q j s) r v i h = absurd i
   turn_spends Turn.HubTake r v i h = count_spends r v h
   turn_spends (Turn.HubClose name at) r v i h = absurd i

@@ -1,10 +1,9 @@
 -- Bid: a shard of the persons asks its person that has been free longest for a bid, and puts a letter into its outbox.
-use Rattle.std.specs.Prelude.{ℕ, ◌-◌, ◌<◌, ◌≤◌, ◌≡◌, ◌≢◌, ◌⊎◌, ℤ, ◌≤ℤ◌, ◌<ℤ◌, true, false, List, [], ◌∷◌}
+use Rattle.std.specs.Prelude.{ℕ, ◌-◌, ◌^◌, ◌<◌, ◌≤◌, ◌≡◌, ◌≢◌, ◌⊎◌, ℤ, pos, ◌≤ℤ◌, ◌<ℤ◌, true, false, List, [], ◌∷◌}
 use Rattle.auc_graph.specs.declared.rows.RowArc.{RowArc}
 use Rattle.auc_graph.specs.Bid.{IsBid}
 use Rattle.auc_letters.specs.declared.letter.Letter.{Letter}
 use Rattle.auc_letters.specs.declared.letter.Why.{Why}
-use Rattle.auc_letters.specs.declared.limits.TheConstants.{MOST_PRICE}
 use Rattle.auc_letters.specs.declared.out.Out.{Out}
 use Rattle.auc_letters.specs.declared.state.PersonState.{PersonState}
 use Rattle.auc_letters.specs.Routing.{to_object, to_hub}
@@ -20,7 +19,7 @@ Bids g w s i arc amount = IsBid (scale g) g.spread g.eps (w.copy s) (g.row i) ar
 abbrev pub Stops : Phase → World → ℕ → ℕ → Why → Type 0
 Stops g w s i Why.Bids = w.bids_left s ≡ 0
 Stops g w s i Why.Stuck = (w.bids_left s ≢ 0) × (g.row i ≡ [])
-Stops g w s i Why.Ceiling = (w.bids_left s ≢ 0) × ((arc : RowArc) × (amount : ℤ) × Bids g w s i arc amount × (MOST_PRICE <ℤ amount))
+Stops g w s i Why.Ceiling = (w.bids_left s ≢ 0) × ((arc : RowArc) × (amount : ℤ) × Bids g w s i arc amount × (pos (2 ^ 61) <ℤ amount))
 Stops g w s i Why.Posts = ⊥
 Stops g w s i Why.Trail = ⊥
 Stops g w s i Why.Mail = ⊥
@@ -60,5 +59,5 @@ pub data BidTurn (g : Phase) (w : World) (s : ℕ) (r : TurnReply) (v : World) :
   barred : ((g.shards ≤ s) ⊎ (w.person_out s ≢ []) ⊎ (w.has_stopped s ≡ true) ⊎ (w.idle s ≡ [])) → r ≡ TurnReply.Nothing → v ≡ w → BidTurn g w s r v
   stops : (i : ℕ) (rest : List ℕ) (y : Why) → MayBid g w s i rest → Stops g w s i y → r ≡ TurnReply.Moved → v ≡ after_stop w s y → BidTurn g w s r v
   bids : (i : ℕ) (rest : List ℕ) (arc : RowArc) (amount : ℤ) → MayBid g w s i rest
-      → w.bids_left s ≢ 0 → Bids g w s i arc amount → amount ≤ℤ MOST_PRICE
+      → w.bids_left s ≢ 0 → Bids g w s i arc amount → amount ≤ℤ pos (2 ^ 61)
       → r ≡ TurnReply.Moved → v ≡ after_bid g w s i rest arc amount → BidTurn g w s r v

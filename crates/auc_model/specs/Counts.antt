@@ -7,7 +7,7 @@ use Rattle.auc_letters.specs.declared.state.PersonState.{PersonState}
 use Rattle.auc_letters.specs.declared.state.PersonState.TheVariants.{Free, Waits, Holds}
 use Rattle.auc_model.specs.World.{Phase, World, senders}
 use Rattle.auc_model.specs.Letters.{bid_one, award_one, refused_one, outbid_one, first_one}
-use Rattle.auc_model.specs.Ways.{Ways}
+use Rattle.auc_model.specs.Channels.{Channels}
 
 -- f 0 + f 1 + .., n of them
 abbrev pub total : (ℕ → ℕ) → ℕ → ℕ
@@ -15,7 +15,7 @@ total f zero = 0
 total f (suc n) = total f n + f n
 
 -- how much all letters under way weigh
-abbrev pub everywhere : Phase → (Letter → ℕ) → Ways → ℕ
+abbrev pub everywhere : Phase → (Letter → ℕ) → Channels → ℕ
 everywhere g f c =
     (total (λ q. total (λ x. sum_by f (c (To.Object q) x)) (senders g)) g.shards + total (λ s. total (λ x. sum_by f (c (To.Person s) x)) (senders g)) g.shards)
     + total (λ x. sum_by f (c To.Hub x)) (senders g)
@@ -44,7 +44,7 @@ abbrev pub held_objects : Phase → World → ℕ
 held_objects g w = total (λ j. held_one (w.holder j)) g.objects
 
 -- what is under way, counted against the tables
-pub record Counts (g : Phase) (w : World) (c : Ways) : Type 0 where
+pub record Counts (g : Phase) (w : World) (c : Channels) : Type 0 where
   pub who_waits : everywhere g bid_one c + everywhere g award_one c + everywhere g refused_one c ≡ waiting_persons g w
   pub who_holds : everywhere g outbid_one c + held_objects g w ≡ holding_persons g w + everywhere g award_one c
   pub who_told : w.count + everywhere g first_one c ≡ held_objects g w

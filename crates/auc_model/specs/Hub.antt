@@ -26,6 +26,16 @@ hub_after g (Letter.Refused i j p) w = ended w Why.Stray
 hub_after g (Letter.Outbid i j p) w = ended w Why.Stray
 hub_after g (Letter.Price j p) w = ended w Why.Stray
 
+-- a letter that the hub waits for
+abbrev pub IsForHub : Letter → Type 0
+IsForHub (Letter.First j) = Unit {0}
+IsForHub (Letter.Stop y) = Unit {0}
+IsForHub (Letter.Bid i a j p) = ⊥
+IsForHub (Letter.Award i j p) = ⊥
+IsForHub (Letter.Refused i j p) = ⊥
+IsForHub (Letter.Outbid i j p) = ⊥
+IsForHub (Letter.Price j p) = ⊥
+
 -- HubTake
 pub data HubTakeTurn (g : Phase) (w : World) (r : TurnReply) (v : World) : Type 0 where
   no_letter : TakesNone w.hub_mail 0 → r ≡ TurnReply.Nothing → v ≡ w → HubTakeTurn g w r v

@@ -13,9 +13,9 @@ use Rattle.auc_model.specs.Bidding.{SomeoneStuck}
 use Rattle.auc_model.specs.Start.{occurs, free_in}
 use Rattle.auc_model.specs.Places.{InPlace}
 use Rattle.auc_model.specs.Prices.{NeverFalls}
-use Rattle.auc_model.specs.Ways.{Lost, Ways, ways, places, prices, AllRouted}
+use Rattle.auc_model.specs.Channels.{Lost, Channels, channels, places, prices, AllRouted}
 use Rattle.auc_model.specs.Counts.{Counts}
-use Rattle.auc_model.specs.Fair.{FairLetter, AllWays, FairHolders}
+use Rattle.auc_model.specs.SlackBids.{SlackLetter, AllLetters, SlackHolders}
 
 -- no guard was hit, and the world stopped for want of an arc only where somebody has none
 abbrev pub Sound : Phase → Option End → Type 0
@@ -31,7 +31,7 @@ Sound g (Some (End.Stopped Why.Fell)) = ⊥
 Sound g (Some (End.Stopped Why.Stray)) = ⊥
 
 -- of a world and the letters under way in it
-pub record Inv (g : Phase) (w : World) (c : Ways) : Type 0 where
+pub record Inv (g : Phase) (w : World) (c : Channels) : Type 0 where
   pub routed : AllRouted g c
   pub never_falls : NeverFalls (prices g w c)
   pub in_place : InPlace (places g w c)
@@ -40,8 +40,8 @@ pub record Inv (g : Phase) (w : World) (c : Ways) : Type 0 where
   pub idle_is : (s i : ℕ) → occurs i (w.idle s) ≡ free_in g (w.state i) s i
   pub holder_range : (j : ℕ) (h : Held) → w.holder j ≡ Some h → h.person < g.persons
   pub counts : Counts g w c
-  pub fair : AllWays (FairLetter g w.price) c
-  pub fair_holders : FairHolders g w
+  pub slack_letters : AllLetters (SlackLetter g w.price) c
+  pub slack_holders : SlackHolders g w
   pub sound : Sound g w.end
 
 -- letters are lost at closed boxes alone
@@ -64,4 +64,4 @@ pub record Kept (g : Phase) (w : World) : Type 0 where
   pub shapes : Shapes g w
   pub lost : Lost
   pub only_closed : Open w lost
-  pub inv : Inv g w (ways g w lost)
+  pub inv : Inv g w (channels g w lost)

@@ -22,24 +22,24 @@ letters_to t [] = []
 letters_to t (o ∷ os) = if same_to t o.to then o.letter ∷ letters_to t os else letters_to t os
 
 -- the object and the price that a letter tells to a shard of the persons
-abbrev pub price_of : Letter → Option (ℕ × ℤ)
-price_of (Letter.Award i j p) = Some (j, p)
-price_of (Letter.Refused i j p) = Some (j, p)
-price_of (Letter.Outbid i j p) = Some (j, p)
-price_of (Letter.Price j p) = Some (j, p)
-price_of (Letter.Bid i a j p) = None
-price_of (Letter.First j) = None
-price_of (Letter.Stop y) = None
+abbrev pub told_price : Letter → Option (ℕ × ℤ)
+told_price (Letter.Award i j p) = Some (j, p)
+told_price (Letter.Refused i j p) = Some (j, p)
+told_price (Letter.Outbid i j p) = Some (j, p)
+told_price (Letter.Price j p) = Some (j, p)
+told_price (Letter.Bid i a j p) = None
+told_price (Letter.First j) = None
+told_price (Letter.Stop y) = None
 
 -- the answer to a person about an object, with its price
-abbrev pub answer_of : Letter → Option (Answer × ℕ × ℕ × ℤ)
-answer_of (Letter.Award i j p) = Some (Answer.Award, i, j, p)
-answer_of (Letter.Refused i j p) = Some (Answer.Refused, i, j, p)
-answer_of (Letter.Outbid i j p) = Some (Answer.Outbid, i, j, p)
-answer_of (Letter.Price j p) = None
-answer_of (Letter.Bid i a j p) = None
-answer_of (Letter.First j) = None
-answer_of (Letter.Stop y) = None
+abbrev pub told_answer : Letter → Option (Answer × ℕ × ℕ × ℤ)
+told_answer (Letter.Award i j p) = Some (Answer.Award, i, j, p)
+told_answer (Letter.Refused i j p) = Some (Answer.Refused, i, j, p)
+told_answer (Letter.Outbid i j p) = Some (Answer.Outbid, i, j, p)
+told_answer (Letter.Price j p) = None
+told_answer (Letter.Bid i a j p) = None
+told_answer (Letter.First j) = None
+told_answer (Letter.Stop y) = None
 
 -- one for a letter of the kind, and none for any other
 abbrev pub bid_one : Letter → ℕ

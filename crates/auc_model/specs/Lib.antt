@@ -16,9 +16,9 @@ pub mod Chosen
 pub mod Letters
 pub mod Places
 pub mod Prices
-pub mod Ways
+pub mod Channels
 pub mod Counts
-pub mod Fair
+pub mod SlackBids
 pub mod Invariants
 pub mod Room
 -- what the turns of a round use up

@@ -12,47 +12,47 @@ pub data Answer : Type 0 where
   Outbid : Answer
 
 -- how a person stands to one object
-pub data Stand : Type 0 where
-  Apart : Stand
-  Waiting : Stand
-  Holding : Stand
-  Wrong : Stand
+pub data PairState : Type 0 where
+  Unassigned : PairState
+  Waiting : PairState
+  Holding : PairState
+  Wrong : PairState
 
-abbrev pub told : Stand → Answer → Stand
-told Waiting Award = Holding
-told Waiting Refused = Apart
-told Holding Outbid = Apart
-told Waiting Outbid = Wrong
-told Holding Award = Wrong
-told Holding Refused = Wrong
-told Apart a = Wrong
-told Wrong a = Wrong
+abbrev pub pair_after : PairState → Answer → PairState
+pair_after Waiting Award = Holding
+pair_after Waiting Refused = Unassigned
+pair_after Holding Outbid = Unassigned
+pair_after Waiting Outbid = Wrong
+pair_after Holding Award = Wrong
+pair_after Holding Refused = Wrong
+pair_after Unassigned a = Wrong
+pair_after Wrong a = Wrong
 
--- the stand after the answers under way
-abbrev pub replay : Stand → List Answer → Stand
+-- the state of the pair after the answers under way
+abbrev pub replay : PairState → List Answer → PairState
 replay s [] = s
-replay s (a ∷ xs) = replay (told s a) xs
+replay s (a ∷ xs) = replay (pair_after s a) xs
 
--- the stand by the state that the person's shard keeps
-abbrev pub stand : PersonState → ℕ → Stand
-stand Free j = Apart
-stand (Waits k) j = if k == j then Waiting else Apart
-stand (Holds k) j = if k == j then Holding else Apart
+-- the state of the pair by the state that the person's shard keeps
+abbrev pub pair_state : PersonState → ℕ → PairState
+pair_state Free j = Unassigned
+pair_state (Waits k) j = if k == j then Waiting else Unassigned
+pair_state (Holds k) j = if k == j then Holding else Unassigned
 
--- the stand that the object's side knows: whether the object is held by the person, and how many of the person's bids on it are under way
-abbrev pub believed : Bool → ℕ → Stand
-believed true zero = Holding
-believed true (suc n) = Wrong
-believed false zero = Apart
-believed false (suc zero) = Waiting
-believed false (suc (suc n)) = Wrong
+-- the state of the pair that the object's side knows: whether the object is held by the person, and how many of the person's bids on it are under way
+abbrev pub pair_known : Bool → ℕ → PairState
+pair_known true zero = Holding
+pair_known true (suc n) = Wrong
+pair_known false zero = Unassigned
+pair_known false (suc zero) = Waiting
+pair_known false (suc (suc n)) = Wrong
 
 abbrev pub is_held_by : Option ℕ → ℕ → Bool
 is_held_by None i = false
 is_held_by (Some k) i = k == i
 
 -- what the answers under way make of the person's own state is what the object's side knows
-pub record Agree (s : Stand) (answers : List Answer) (known : Stand) : Type 0 where
+pub record Agree (s : PairState) (answers : List Answer) (known : PairState) : Type 0 where
   pub same : replay s answers ≡ known
   pub right : known ≢ Wrong
 
@@ -64,7 +64,7 @@ pub record Places : Type 0 where
   pub answers : ℕ → ℕ → List Answer
 
 abbrev pub InPlace : Places → Type 0
-InPlace w = (i j : ℕ) → Agree (stand (w.state i) j) (w.answers i j) (believed (is_held_by (w.holder j) i) (w.bids i j))
+InPlace w = (i j : ℕ) → Agree (pair_state (w.state i) j) (w.answers i j) (pair_known (is_held_by (w.holder j) i) (w.bids i j))
 
 abbrev pub answered : Places → ℕ → ℕ → Answer → ℕ → ℕ → List Answer
 answered w i j a = put2 w.answers i j (w.answers i j ++ a ∷ [])

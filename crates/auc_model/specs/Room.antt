@@ -7,7 +7,7 @@ use Rattle.auc_model.specs.declared.turn.End.{End}
 use Rattle.auc_model.specs.World.{Phase, World}
 use Rattle.auc_model.specs.Posting.{is_price}
 use Rattle.auc_model.specs.Letters.{price_one, stop_one}
-use Rattle.auc_model.specs.Ways.{Each}
+use Rattle.auc_model.specs.Channels.{Each}
 use Rattle.auc_model.specs.Counts.{total}
 
 -- how much the waiting letters weigh together

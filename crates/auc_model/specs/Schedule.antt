@@ -1,11 +1,11 @@
 -- A turn of the world, and a schedule of turns.
-use Rattle.std.specs.Prelude.{◌≡◌, ◌≢◌, ◌⊎◌, List, [], ◌∷◌}
-use Rattle.auc_mail.specs.Step.{Step}
+use Rattle.std.specs.Prelude.{ℕ, ◌≡◌, ◌≢◌, ◌⊎◌, List, [], ◌∷◌}
+use Rattle.auc_mail.specs.Step.{Step, AreOfTwoSenders}
 use Rattle.auc_mail.specs.declared.call.Call.{Call}
 use Rattle.auc_mail.specs.declared.call.Reply.{Reply}
 use Rattle.auc_letters.specs.declared.letter.Letter.{Letter}
 use Rattle.auc_model.specs.declared.turn.MailName.{MailName}
-use Rattle.auc_model.specs.Start.{Starts}
+use Rattle.auc_model.specs.Start.{Lawful, Starts}
 use Rattle.auc_model.specs.declared.turn.Turn.{Turn}
 use Rattle.auc_model.specs.declared.turn.TurnReply.{TurnReply}
 use Rattle.auc_model.specs.World.{Phase, World}
@@ -37,6 +37,20 @@ pub record StepsIn (w v : World) (name : MailName) : Type 0 where
   pub this : (mail_named v name ≡ mail_named w name) ⊎ ((c : Call Letter) × (r : Reply Letter) × Step (mail_named w name) c r (mail_named v name))
   pub others : (other : MailName) → other ≢ name → mail_named v other ≡ mail_named w other
 
--- v is reached from a world that a phase begins with
-abbrev pub Reached : Phase → World → Type 0
-Reached g v = (w : World) × (ts : List Turn) × Starts g w × Schedule g w ts v
+-- Two worlds behind w differ by the sender of a letter: by one and the same call of a mail they come of letters of two senders.
+pub record TakesOfTwoSenders (w u v : World) : Type 0 where
+  pub mail : MailName
+  pub box : ℕ
+  pub one : Reply Letter
+  pub other : Reply Letter
+  pub takes_one : Step (mail_named w mail) (Call.Take box) one (mail_named u mail)
+  pub takes_other : Step (mail_named w mail) (Call.Take box) other (mail_named v mail)
+  pub senders : AreOfTwoSenders one other
+
+-- v is reached: some schedule leads there from a world that the phase begins with
+pub record Reached (g : Phase) (v : World) : Type 0 where
+  pub lawful : Lawful g
+  pub start : World
+  pub starts : Starts g start
+  pub turns : List Turn
+  pub leads : Schedule g start turns v

@@ -1,13 +1,12 @@
 -- ObjectTake and Tell: a shard of the objects deals with a bid, or tells a price.
-use Rattle.std.specs.Prelude.{ℕ, ◌%◌, ◌<◌, ◌≤◌, ◌≡◌, ◌≢◌, ◌⊎◌, ℤ, ◌≤ℤ◌, ◌<ℤ◌, List, [], ◌∷◌, Some}
+use Rattle.std.specs.Prelude.{ℕ, ◌%◌, ◌<◌, ◌≤◌, ◌≡◌, ◌≢◌, ◌⊎◌, [], ◌∷◌}
 use Rattle.auc_mail.specs.Mail.{Mail}
 use Rattle.auc_letters.specs.declared.letter.Letter.{Letter}
+use Rattle.auc_letters.specs.declared.letter.Offer.{Offer}
 use Rattle.auc_letters.specs.declared.letter.Why.{Why}
-use Rattle.auc_letters.specs.declared.out.Out.{Out}
-use Rattle.auc_letters.specs.declared.state.Held.{Held}
 use Rattle.auc_letters.specs.Price.{IsPrice}
 use Rattle.auc_letters.specs.Routing.{price_told}
-use Rattle.auc_letters.specs.Award.{least_amount, awards, refusal}
+use Rattle.auc_letters.specs.Award.{Sale, answers, award, bid_letter}
 use Rattle.auc_model.specs.declared.turn.TurnReply.{TurnReply}
 use Rattle.auc_model.specs.Put.{put}
 use Rattle.auc_model.specs.World.{Phase, World, ended}
@@ -23,24 +22,26 @@ FitsBid g q (Letter.Price j p) = ⊥
 FitsBid g q (Letter.First j) = ⊥
 FitsBid g q (Letter.Stop y) = ⊥
 
--- the mail goes on to m, j is sold to the holder at that price, and the letters go into the empty outbox of the shard q
-abbrev pub sold : World → ℕ → Mail Letter → ℕ → ℤ → Held → List Out → World
-sold w q m j price holder letters = record w {
+-- what is known of an object: its price, and who holds it
+abbrev pub sale_of : World → ℕ → Sale
+sale_of w j = record { price = w.price j; holder = w.holder j }
+
+-- The mail goes on to m, the object is as the award makes it, and the letters that answer the bid go into the empty outbox of
+-- the shard q.
+abbrev pub after_answer : Phase → World → ℕ → Mail Letter → Offer → World
+after_answer g w q m bid = record w {
   objects_mail = m;
-  price = put w.price j price;
-  holder = put w.holder j (Some holder);
-  object_out = put w.object_out q letters;
+  price = put w.price bid.object (award g.eps (sale_of w bid.object) bid).price;
+  holder = put w.holder bid.object (award g.eps (sale_of w bid.object) bid).holder;
+  object_out = put w.object_out q (answers g.shards g.eps (sale_of w bid.object) bid);
 }
 
 -- ObjectTake(q)
 pub data ObjectTakeTurn (g : Phase) (w : World) (q : ℕ) (r : TurnReply) (v : World) : Type 0 where
   no_letter : ((g.shards ≤ q) ⊎ (w.object_out q ≢ []) ⊎ TakesNone w.objects_mail q) → r ≡ TurnReply.Nothing → v ≡ w → ObjectTakeTurn g w q r v
-  accepts : (x k i a j : ℕ) (amount : ℤ) (m : Mail Letter) → q < g.shards → w.object_out q ≡ [] → Takes w.objects_mail q x k (Letter.Bid i a j amount) m
-      → FitsBid g q (Letter.Bid i a j amount) → least_amount (w.price j) g.eps ≤ℤ amount
-      → r ≡ TurnReply.Moved → v ≡ sold w q m j amount (record { person = i; arc = a }) (awards g.shards (w.holder j) i j amount) → ObjectTakeTurn g w q r v
-  declines : (x k i a j : ℕ) (amount : ℤ) (m : Mail Letter) → q < g.shards → w.object_out q ≡ [] → Takes w.objects_mail q x k (Letter.Bid i a j amount) m
-      → FitsBid g q (Letter.Bid i a j amount) → amount <ℤ least_amount (w.price j) g.eps
-      → r ≡ TurnReply.Moved → v ≡ record w { objects_mail = m; object_out = put w.object_out q (refusal g.shards i j (w.price j)) } → ObjectTakeTurn g w q r v
+  answers_bid : (x k : ℕ) (bid : Offer) (m : Mail Letter) → q < g.shards → w.object_out q ≡ [] → Takes w.objects_mail q x k (bid_letter bid) m
+      → FitsBid g q (bid_letter bid)
+      → r ≡ TurnReply.Moved → v ≡ after_answer g w q m bid → ObjectTakeTurn g w q r v
   strays : (x k : ℕ) (l : Letter) (m : Mail Letter) → q < g.shards → w.object_out q ≡ [] → Takes w.objects_mail q x k l m
       → (FitsBid g q l → ⊥)
       → r ≡ TurnReply.Moved → v ≡ ended (record w { objects_mail = m }) Why.Stray → ObjectTakeTurn g w q r v

@@ -1,9 +1,9 @@
 -- What a phase begins with.
-use Rattle.std.specs.Prelude.{ℕ, suc, ◌+◌, ◌*◌, ◌%◌, ◌<◌, ◌≡◌, ◌==◌, ◌&&◌, nat_lt, pos, ◌≤ℤ◌, Bool, true, false, List, [], ◌∷◌, None, if◌then◌else◌, All, filter}
-use Rattle.std.specs.List.{range_with_len}
+use Rattle.std.specs.Prelude.{ℕ, suc, ◌+◌, ◌*◌, ◌%◌, ◌<◌, ◌≡◌, ◌==◌, ◌&&◌, nat_lt, pos, ◌≤ℤ◌, false, List, [], ◌∷◌, None, if◌then◌else◌, All}
 use Rattle.auc_mail.specs.Mail.{Mail, empty_mail}
 use Rattle.auc_letters.specs.declared.letter.Letter.{Letter}
 use Rattle.auc_letters.specs.declared.state.PersonState.{PersonState}
+use Rattle.auc_letters.specs.Persons.{is_free}
 use Rattle.auc_letters.specs.Price.{IsPrice}
 use Rattle.auc_model.specs.World.{Phase, World, senders}
 
@@ -14,11 +14,6 @@ pub record Lawful (g : Phase) : Type 0 where
   pub spread_above : pos 0 ≤ℤ g.spread
   pub arcs_in_range : (i : ℕ) → All (λ a. a.object < g.objects) (g.row i)
 
-abbrev pub is_free : PersonState → Bool
-is_free PersonState.Free = true
-is_free (PersonState.Waits j) = false
-is_free (PersonState.Holds j) = false
-
 -- how often i stands in the list
 abbrev pub occurs : ℕ → List ℕ → ℕ
 occurs i [] = 0
@@ -27,10 +22,6 @@ occurs i (k ∷ ks) = if k == i then suc (occurs i ks) else occurs i ks
 -- 1 where i is a person of the shard s, and free; else 0
 abbrev pub free_in : Phase → PersonState → ℕ → ℕ → ℕ
 free_in g t s i = if ((i % g.shards) == s) && (nat_lt i g.persons && is_free t) then 1 else 0
-
--- the persons of a shard, in rising order
-abbrev pub persons_of : ℕ → ℕ → ℕ → List ℕ
-persons_of shard shards persons = filter (λ i. (i % shards) == shard) (range_with_len 0 persons)
 
 -- a mail with so many boxes in which nothing was posted, and every box of which is open
 abbrev pub IsNew : Phase → Mail Letter → ℕ → Type 0

@@ -1,31 +1,44 @@
 //! What holds over every schedule, from every world that a phase begins with. The functions do nothing: their contracts are
-//! theorems, and crates above cite them.
+//! theorems, and crates above cite them. One calls the law of the mails that it rests on.
 
-ghost use Rattle.std.specs.Prelude.{ℕ, ℤ, ◌<◌, ◌≤◌, ◌≤ℤ◌, ◌≡◌, ◌≢◌, ◌⊎◌, List, [], ◌∷◌, ◌++◌, Some, None, Contains, All, length};
+ghost use Rattle.std.specs.Prelude.{ℕ, ℤ, pos, ◌<◌, ◌≤◌, ◌≤ℤ◌, ◌≡◌, ◌≢◌, ◌⊎◌, true, List, [], ◌∷◌, ◌++◌, Some, None, Contains, All, length, map};
 ghost use Rattle.auc_graph.specs.declared.rows.RowArc.{RowArc};
 ghost use Rattle.auc_graph.specs.declared.arc.Arc.{Arc};
-ghost use Rattle.auc_graph.specs.Assignment.{IsAssignment};
-ghost use Rattle.auc_graph.specs.Problem.{Problem};
+ghost use Rattle.auc_graph.specs.Assignment.{IsAssignment, IsLeast, object_of};
+ghost use Rattle.auc_graph.specs.Dual.{IsNoPriceLeft, IsSlackRight, scale_of};
+ghost use Rattle.auc_graph.specs.Problem.{IsWithin, Problem};
 ghost use Rattle.auc_graph.specs.Table.{Table, IsTable, IsTableOf};
+ghost use Rattle.auc_letters.specs.Persons.{persons_of};
 ghost use Rattle.auc_letters.specs.Price.{IsEps};
 ghost use Rattle.auc_letters.specs.declared.letter.Why.{Why};
+ghost use Rattle.auc_letters.specs.declared.out.Out.{Out};
 ghost use Rattle.auc_letters.specs.declared.state.Held.{Held};
 ghost use Rattle.auc_letters.specs.declared.state.PersonState.{PersonState};
+ghost use Rattle.auc_mail.specs.Mail.{Mail};
+ghost use Rattle.auc_mail.specs.declared.call.PostRefused.{PostRefused};
 ghost use Rattle.auc_model.specs.declared.turn.End.{End};
 ghost use Rattle.auc_model.specs.declared.turn.MailName.{MailName};
 ghost use Rattle.auc_model.specs.declared.turn.Turn.{Turn};
 ghost use Rattle.auc_model.specs.declared.turn.TurnReply.{TurnReply};
 ghost use Rattle.auc_model.specs.World.{Phase, World, phase_of};
+ghost use Rattle.auc_model.specs.Mails.{Shard, Takes, mail_named};
 ghost use Rattle.auc_model.specs.Bidding.{SomeoneStuck};
-ghost use Rattle.auc_model.specs.Schedule.{Turned, Schedule, StepsIn};
-ghost use Rattle.auc_model.specs.Start.{Lawful, Starts, UsualNodes, occurs, free_in, persons_of};
+ghost use Rattle.auc_model.specs.Posting.{MayPost, Refuses, is_price};
+ghost use Rattle.auc_model.specs.Hearing.{FitsLetter, Rises};
+ghost use Rattle.auc_model.specs.Selling.{FitsBid};
+ghost use Rattle.auc_model.specs.Hub.{IsForHub};
+ghost use Rattle.auc_model.specs.Schedule.{Turned, Schedule, Reached, StepsIn, TakesOfTwoSenders};
+ghost use Rattle.auc_model.specs.Start.{Lawful, Starts, UsualNodes, occurs, free_in};
 ghost use Rattle.auc_model.specs.Slack.{SlackRight};
 ghost use Rattle.auc_model.specs.Still.{IsStill, Rests};
-ghost use Rattle.auc_model.specs.Chosen.{IsHeldArc};
+ghost use Rattle.auc_model.specs.Chosen.{ArePricesOf, IsHeldArc};
 ghost use Rattle.auc_model.specs.Counts.{held_objects};
 ghost use Rattle.auc_model.specs.Invariants.{Kept};
 ghost use Rattle.auc_model.specs.Room.{Room};
 ghost use Rattle.auc_model.specs.Work.{IsOfRound, work};
+
+use auc_letters::Letter;
+use auc_mail::only_the_sender_is_free;
 
 /// A turn that is answered by Nothing leaves the world as it was, and each turn is at most one step of one mail.
 pub fn turns_are_small()
@@ -33,10 +46,27 @@ pub fn turns_are_small()
     ensures one_step { (g : Phase) (w v : World) (t : Turn) (r : TurnReply) → Turned g w t r v → (name : MailName) × StepsIn w v name }
 {}
 
+/// A turn leaves nothing open but the sender of a letter that it takes: two outcomes of one turn are the same, or else by each a
+/// letter was taken, of two senders.
+pub fn only_the_sender_is_free_in_turns()
+    ensures { (g : Phase) (w u v : World) (t : Turn) (r s : TurnReply) → Turned g w t r u → Turned g w t s v → ((r ≡ s) × (u ≡ v)) ⊎ TakesOfTwoSenders w u v }
+{
+    only_the_sender_is_free::<Letter>();
+}
+
 /// Schedules go on: one turn is a schedule, and one schedule after another is one.
 pub fn schedules_go_on()
     ensures one { (g : Phase) (w v : World) (t : Turn) (r : TurnReply) → Turned g w t r v → Schedule g w (t ∷ []) v }
     ensures more { (g : Phase) (w u v : World) (ts us : List Turn) → Schedule g w ts u → Schedule g u us v → Schedule g w (ts ++ us) v }
+{}
+
+/// Worlds that are reached: what a phase begins with is one, and turns and schedules lead from one to another. A mail has its
+/// nodes for good.
+pub fn reached_worlds()
+    ensures begins { (g : Phase) (w : World) → Lawful g → Starts g w → Reached g w }
+    ensures turn { (g : Phase) (w v : World) (t : Turn) (r : TurnReply) → Reached g w → Turned g w t r v → Reached g v }
+    ensures schedule { (g : Phase) (w v : World) (ts : List Turn) → Reached g w → Schedule g w ts v → Reached g v }
+    ensures nodes { (g : Phase) (w v : World) (ts : List Turn) → Schedule g w ts v → (name : MailName) → (mail_named v name).nodes ≡ (mail_named w name).nodes }
 {}
 
 /// No copy of a price falls over a schedule, whatever the world it begins with.
@@ -44,36 +74,51 @@ pub fn copies_never_fall()
     ensures { (g : Phase) (w v : World) (ts : List Turn) → Schedule g w ts v → (s j : ℕ) → w.copy s j ≤ℤ v.copy s j }
 {}
 
-/// Over every schedule no guard is hit: no letter tells a price below a copy, none comes that doesn't fit, and, where the
-/// mails have the usual room, none but a Price meets a full mail.
+/// An object that nobody holds had no holder before either, and its price is as it was.
+pub fn unheld_prices_stay()
+    ensures { (g : Phase) (w v : World) (ts : List Turn) → Schedule g w ts v → (j : ℕ) → v.holder j ≡ None → (w.holder j ≡ None) × (v.price j ≡ w.price j) }
+{}
+
+/// In no world that is reached a guard is hit: neither was one so far, nor is one by the letter that comes next, whichever that
+/// is. What a shard of the persons takes fits it, and tells no price below its copy; what a shard of the objects takes is a bid
+/// that fits it; the hub takes only First and Stop letters. Where the mails have the usual numbers of nodes, no letter but a
+/// Price is refused for want of room.
 pub fn no_guard()
-    ensures fell { (g : Phase) (w v : World) (ts : List Turn) → Lawful g → Starts g w → Schedule g w ts v → v.end ≢ Some (End.Stopped Why.Fell) }
-    ensures stray { (g : Phase) (w v : World) (ts : List Turn) → Lawful g → Starts g w → Schedule g w ts v → v.end ≢ Some (End.Stopped Why.Stray) }
-    ensures trail { (g : Phase) (w v : World) (ts : List Turn) → Lawful g → Starts g w → Schedule g w ts v → v.end ≢ Some (End.Stopped Why.Trail) }
-    ensures mail { (g : Phase) (w v : World) (ts : List Turn) → Lawful g → Starts g w → UsualNodes g w → Schedule g w ts v → v.end ≢ Some (End.Stopped Why.Mail) }
+    ensures fell { (g : Phase) (v : World) → Reached g v → v.end ≢ Some (End.Stopped Why.Fell) }
+    ensures stray { (g : Phase) (v : World) → Reached g v → v.end ≢ Some (End.Stopped Why.Stray) }
+    ensures trail { (g : Phase) (v : World) → Reached g v → v.end ≢ Some (End.Stopped Why.Trail) }
+    ensures mail { (g : Phase) (v : World) → Reached g v → UsualNodes g v → v.end ≢ Some (End.Stopped Why.Mail) }
+    ensures hears { (g : Phase) (v : World) → Reached g v → (s x k : ℕ) (l : Letter) (m : Mail Letter) → Takes v.persons_mail s x k l m → FitsLetter g v s l × Rises v s l }
+    ensures sells { (g : Phase) (v : World) → Reached g v → (q x k : ℕ) (l : Letter) (m : Mail Letter) → Takes v.objects_mail q x k l m → FitsBid g q l }
+    ensures counts { (g : Phase) (v : World) → Reached g v → (x k : ℕ) (l : Letter) (m : Mail Letter) → Takes v.hub_mail 0 x k l m → IsForHub l }
+    ensures room { (g : Phase) (v : World) → Reached g v → UsualNodes g v → (h : Shard) (o : Out) (rest : List Out) → MayPost g v h o rest → Refuses g v h o PostRefused.Full → is_price o.letter ≡ true }
 {}
 
-/// Over every schedule the world stops for want of an arc only where a person has none.
+/// A world that is reached has stopped for want of an arc only where a person has none.
 pub fn stuck_has_its_cause()
-    ensures { (g : Phase) (w v : World) (ts : List Turn) → Lawful g → Starts g w → Schedule g w ts v → v.end ≡ Some (End.Stopped Why.Stuck) → SomeoneStuck g }
+    ensures { (g : Phase) (v : World) → Reached g v → v.end ≡ Some (End.Stopped Why.Stuck) → SomeoneStuck g }
 {}
 
-/// Over every schedule: no copy is above the true price, no person holds two objects, and each holder's arc is one of his to
-/// that object, slack-right at eps at the true prices. The hub counts no more than there are persons, and no more objects are
-/// held; where it has counted as many, each person holds an object.
+/// In every world that is reached: no copy is above the true price, no person holds two objects, and each holder's arc is one of
+/// his to that object, slack-right at eps at the true prices. The hub counts no more than there are persons, and no more objects
+/// are held; where it has counted as many, each person holds an object.
 pub fn every_schedule()
-    ensures copies_low { (g : Phase) (w v : World) (ts : List Turn) → Lawful g → Starts g w → Schedule g w ts v → (s j : ℕ) → v.copy s j ≤ℤ v.price j }
-    ensures held_once { (g : Phase) (w v : World) (ts : List Turn) → Lawful g → Starts g w → Schedule g w ts v → (j k : ℕ) (a b : Held) → v.holder j ≡ Some a → v.holder k ≡ Some b → a.person ≡ b.person → j ≡ k }
-    ensures slack { (g : Phase) (w v : World) (ts : List Turn) → Lawful g → Starts g w → Schedule g w ts v → (j : ℕ) (h : Held) → v.holder j ≡ Some h → (a : RowArc) × Contains (g.row h.person) a × (a.object ≡ j) × (a.arc ≡ h.arc) × SlackRight g v.price h.person a }
-    ensures counted { (g : Phase) (w v : World) (ts : List Turn) → Lawful g → Starts g w → Schedule g w ts v → v.count ≤ g.persons }
-    ensures held { (g : Phase) (w v : World) (ts : List Turn) → Lawful g → Starts g w → Schedule g w ts v → held_objects g v ≤ g.persons }
-    ensures everyone { (g : Phase) (w v : World) (ts : List Turn) → Lawful g → Starts g w → Schedule g w ts v → v.count ≡ g.persons → (i : ℕ) → i < g.persons → (j : ℕ) × (h : Held) × (v.holder j ≡ Some h) × (h.person ≡ i) }
+    ensures copies_low { (g : Phase) (v : World) → Reached g v → (s j : ℕ) → v.copy s j ≤ℤ v.price j }
+    ensures held_once { (g : Phase) (v : World) → Reached g v → (j k : ℕ) (a b : Held) → v.holder j ≡ Some a → v.holder k ≡ Some b → a.person ≡ b.person → j ≡ k }
+    ensures slack { (g : Phase) (v : World) → Reached g v → (j : ℕ) (h : Held) → v.holder j ≡ Some h → (a : RowArc) × Contains (g.row h.person) a × (a.object ≡ j) × (a.arc ≡ h.arc) × SlackRight g v.price h.person a }
+    ensures counted { (g : Phase) (v : World) → Reached g v → v.count ≤ g.persons }
+    ensures held { (g : Phase) (v : World) → Reached g v → held_objects g v ≤ g.persons }
+    ensures everyone { (g : Phase) (v : World) → Reached g v → v.count ≡ g.persons → (i : ℕ) → i < g.persons → (j : ℕ) × (h : Held) × (v.holder j ≡ Some h) × (h.person ≡ i) }
 {}
 
-/// In a phase of a problem, over every schedule: where the hub has counted as many as there are persons, the holders' arcs are
-/// an assignment of the problem.
+/// In a phase of a problem, in every world that is reached: where the hub has counted as many as there are persons, the holders'
+/// arcs are an assignment of the problem. What an assignment by holders' arcs leaves is held by nobody. Each holder's arc is
+/// slack-right at eps at the true prices; so at eps 1 such an assignment costs least, if no object that it leaves has a price.
 pub fn counted_holders_are_assigned()
-    ensures { (p : Problem) (t : Table) (shards : ℕ) (eps : ℤ) → IsTable t → IsTableOf p t → 0 < shards → IsEps eps → (w v : World) (ts : List Turn) → Starts (phase_of t shards eps) w → Schedule (phase_of t shards eps) w ts v → v.count ≡ length t.rows → (choice : List Arc) × IsAssignment p choice × All (IsHeldArc p v) choice }
+    ensures assigned { (p : Problem) (t : Table) (shards : ℕ) (eps : ℤ) (v : World) → IsTableOf p t → Reached (phase_of t shards eps) v → v.count ≡ length t.rows → (choice : List Arc) × IsAssignment p choice × All (IsHeldArc p v) choice }
+    ensures left { (p : Problem) (t : Table) (shards : ℕ) (eps : ℤ) (v : World) (choice : List Arc) → IsTableOf p t → Reached (phase_of t shards eps) v → IsAssignment p choice → All (IsHeldArc p v) choice → (j : ℕ) → ¬ Contains (map object_of choice) j → v.holder j ≡ None }
+    ensures slack { (p : Problem) (t : Table) (shards : ℕ) (eps : ℤ) (v : World) (prices : List ℤ) → IsTableOf p t → Reached (phase_of t shards eps) v → ArePricesOf v prices → (arc : Arc) → arc.person < p.persons → IsHeldArc p v arc → IsSlackRight eps (scale_of p) prices p.arcs arc }
+    ensures least { (p : Problem) (t : Table) (shards : ℕ) (v : World) (prices : List ℤ) (choice : List Arc) → IsTableOf p t → Reached (phase_of t shards (pos 1)) v → ArePricesOf v prices → length prices ≡ p.objects → All (IsWithin p.persons p.objects) p.arcs → IsAssignment p choice → All (IsHeldArc p v) choice → IsNoPriceLeft prices choice → IsLeast p choice }
 {}
 
 /// What the laws of every schedule rest on: what a phase begins with is kept by each turn.
@@ -87,14 +132,14 @@ pub fn turns_keep_invariants()
 /// An end stays once it is set, and it is `All` only where the hub has counted every person.
 pub fn ends_stay()
     ensures stays { (g : Phase) (w v : World) (ts : List Turn) (e : End) → Schedule g w ts v → w.end ≡ Some e → v.end ≡ Some e }
-    ensures all { (g : Phase) (w v : World) (ts : List Turn) → Starts g w → Schedule g w ts v → v.end ≡ Some End.All → v.count ≡ g.persons }
+    ensures all { (g : Phase) (v : World) → Reached g v → v.end ≡ Some End.All → v.count ≡ g.persons }
 {}
 
-/// Where nothing can move, the end is set: from what a phase begins with, no schedule leads to a world in which all outboxes and
-/// mails are empty and nobody bids, and none to one in which no bid, post or take moves anything, before the end.
+/// Where nothing can move, the end is set: no world is reached in which all outboxes and mails are empty and nobody bids, and none
+/// in which no bid, post or take moves anything, before the end.
 pub fn no_stall()
-    ensures still { (g : Phase) (w v : World) (ts : List Turn) → Lawful g → 0 < g.persons → Starts g w → Schedule g w ts v → IsStill g v → v.end ≢ None }
-    ensures rests { (g : Phase) (w v : World) (ts : List Turn) → Lawful g → 0 < g.persons → Starts g w → Schedule g w ts v → Rests g v → v.end ≢ None }
+    ensures still { (g : Phase) (v : World) → 0 < g.persons → Reached g v → IsStill g v → v.end ≢ None }
+    ensures rests { (g : Phase) (v : World) → 0 < g.persons → Reached g v → Rests g v → v.end ≢ None }
 {}
 
 /// The turns of a round use up work: none makes more of it, and one that moves leaves less, or the phase has ended behind it. So

@@ -11,7 +11,8 @@ mod turn;
 
 pub use laws::{
     copies_never_fall, counted_holders_are_assigned, ends_stay, every_schedule, no_guard, no_stall,
-    premises_can_be_met, problems_make_phases, rounds_use_up_work, schedules_go_on,
-    stuck_has_its_cause, turns_are_small, turns_keep_invariants,
+    only_the_sender_is_free_in_turns, premises_can_be_met, problems_make_phases, reached_worlds,
+    rounds_use_up_work, schedules_go_on, stuck_has_its_cause, turns_are_small,
+    turns_keep_invariants, unheld_prices_stay,
 };
 pub use turn::{End, MailName, Turn, TurnReply};

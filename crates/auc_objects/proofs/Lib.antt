@@ -1,2 +1,3 @@
-pub mod Shape
-mod WorkedAwards
+-- for use above
+pub mod Sales
+pub mod Letters

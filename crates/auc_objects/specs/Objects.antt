@@ -1,6 +1,9 @@
 -- A shard of the objects, as callers see it.
-use Rattle.std.specs.Prelude.{◌≡◌, ◌<◌, ◌*◌, ◌%◌, ◌^◌, ℕ, ℤ, pos, List, Option, Some, None, length, All, slice_index_or, slice_set}
+use Rattle.std.specs.Prelude.{◌≡◌, ◌<◌, ◌*◌, ◌%◌, ◌^◌, ℕ, ℤ, pos, List, Option, None, length, All, slice_index_or, slice_set}
+use Rattle.auc_letters.specs.declared.letter.Letter.{Letter}
+use Rattle.auc_letters.specs.declared.letter.Offer.{Offer}
 use Rattle.auc_letters.specs.declared.state.Held.{Held}
+use Rattle.auc_letters.specs.Award.{Sale, award, bid_letter}
 use Rattle.auc_letters.specs.Price.{IsPrice}
 
 -- The shard's number, of how many; how many shards of persons and how many persons there are; and by object the price and
@@ -32,9 +35,23 @@ price_of s object = slice_index_or s.prices object (pos 0)
 abbrev pub holder_of : Objects → ℕ → Option Held
 holder_of s object = slice_index_or s.holders object None
 
--- the shard when an object was sold: nothing else is changed
-abbrev pub sold : Objects → ℕ → ℤ → Held → Objects
-sold s object price held = record s { prices = slice_set s.prices object price; holders = slice_set s.holders object (Some held) }
+-- the price and the holder
+abbrev pub sale_of : Objects → ℕ → Sale
+sale_of s object = record { price = price_of s object; holder = holder_of s object }
+
+-- the shard where an object has this price and this holder: nothing else is changed
+abbrev pub with_sale : Objects → ℕ → Sale → Objects
+with_sale s object sale = record s { prices = slice_set s.prices object sale.price; holders = slice_set s.holders object sale.holder }
+
+-- the shard when a bid was dealt with, by the award rule
+abbrev pub after_bid : Objects → ℤ → Offer → Objects
+after_bid s eps bid = with_sale s bid.object (award eps (sale_of s bid.object) bid)
+
+-- the letter is this bid, and it fits the shard: the object is the shard's, and the amount is in range
+pub record IsOffer (s : Objects) (letter : Letter) (bid : Offer) : Type 0 where
+  pub letter_is : letter ≡ bid_letter bid
+  pub owns : Owns s bid.object
+  pub amount : IsPrice bid.amount
 
 -- the shard has as many objects as before, and the same number among as many shards
 pub record SameShape (s n : Objects) : Type 0 where
@@ -43,3 +60,4 @@ pub record SameShape (s n : Objects) : Type 0 where
   pub person_shards : n.person_shards ≡ s.person_shards
   pub persons : n.persons ≡ s.persons
   pub objects : length n.prices ≡ length s.prices
+  pub holders : length n.holders ≡ length s.holders

@@ -6,7 +6,7 @@ ghost use Rattle.auc_objects.specs.Answers.{letters_of};
 use arrayvec::ArrayVec;
 use auc_letters::Out;
 
-/// The letters that answer a bid.
+/// The letters that answer a bid, by what became of it: one or two, so that no list of them need be made.
 #[derive(Clone, Copy, Debug, PartialEq, Eq)]
 pub enum Answers {
     /// The bid is too low: the bidder is told the price.

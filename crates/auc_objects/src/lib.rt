@@ -5,8 +5,10 @@
 #![tactic(auto)]
 
 mod answers;
+mod law;
 mod shard;
 
 pub use answers::Answers;
-pub use auc_letters::Held;
+pub use auc_letters::{Held, Offer};
+pub use law::letters_sell_by_their_bids;
 pub use shard::ObjectShard;

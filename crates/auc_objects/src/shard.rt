@@ -1,15 +1,15 @@
 //! One shard of the objects.
 
-ghost use Rattle.std.specs.Prelude.{◌≡◌, ◌<◌, ◌≤◌, ◌^◌, ◌*◌, pos, ◌+ℤ◌, ◌≤ℤ◌, ◌<ℤ◌, length, replicate, ◌∷◌, [], All, IfOk, Some, None};
+ghost use Rattle.std.specs.Prelude.{◌≡◌, ◌<◌, ◌≤◌, ◌^◌, ◌*◌, pos, ◌+ℤ◌, ◌≤ℤ◌, ◌<ℤ◌, length, replicate, ◌∷◌, [], ◌↔◌, All, IfOk, IfSome, IfNone, IsTrue, Some, None};
 ghost use Rattle.auc_letters.specs.Price.{IsPrice, IsEps};
 ghost use Rattle.auc_letters.specs.Routing.{to_person, to_hub, price_told};
-ghost use Rattle.auc_letters.specs.Award.{least_amount, awards, refusal};
-ghost use Rattle.auc_objects.specs.Objects.{Objects, Owns, SameShape, price_of, holder_of, sold};
+ghost use Rattle.auc_letters.specs.Award.{Sale, answers, offer_of};
+ghost use Rattle.auc_objects.specs.Objects.{Objects, IsOffer, Owns, SameShape, after_bid, holder_of, price_of, sale_of, with_sale};
 ghost use Rattle.auc_objects.specs.Answers.{letters_of};
 
 use crate::answers::Answers;
 use arrayvec::ArrayVec;
-use auc_letters::{Held, Letter, Out, To, shard_of};
+use auc_letters::{Held, Letter, MOST_PRICE, Offer, Out, To, shard_of};
 use std::alloc::{AllocError, Global};
 use std::marker::Model;
 
@@ -110,23 +110,52 @@ impl ObjectShard {
         }
     }
 
+    /// The bid that a letter is, if it is one that fits the shard: its object is there and is the shard's, and its amount is
+    /// from 0 to the greatest price. O(1).
+    #[inline]
+    pub fn offer_in(&self, letter: Letter) -> Option<Offer>
+        ensures some { IfSome result (IsOffer self.now letter) }
+        ensures none { IfNone result ((bid : Offer) → IsOffer self.now letter bid → ⊥) }
+    {
+        let Letter::Bid {
+            person,
+            arc,
+            object,
+            amount,
+        } = letter
+        else {
+            return None;
+        };
+        if !self.owns(object) || amount < 0 || amount > MOST_PRICE {
+            return None;
+        }
+        Some(Offer {
+            person,
+            arc,
+            object,
+            amount,
+        })
+    }
+
     /// Deals with one bid on an object of the shard, and gives the letters that answer it. O(1).
     ///
-    /// The bid is accepted exactly where `amount` is at least the price and `eps` more. Then the amount is the price, and
-    /// the person holds the object by the arc at place `arc`. A bid that is refused changes nothing. `amount` and `eps` are
-    /// in scaled costs.
-    #[tactic(auto, using(crate::proofs::Shape::shape_sold, crate::proofs::Shape::shape_same))]
+    /// The bid is accepted exactly where its amount is at least the price and `eps` more. Then the amount is the price, and
+    /// the person holds the object by his arc. A bid that is refused changes nothing. `eps` is in scaled costs.
     #[inline]
-    pub fn answer(&mut self, person: u32, arc: u32, object: u32, amount: i64, eps: i64) -> Answers
-        requires object { Owns self.old object }
-        requires amount { IsPrice amount }
+    pub fn answer(&mut self, offer: Offer, eps: i64) -> Answers
+        requires object { Owns self.old offer.object }
+        requires amount { IsPrice offer.amount }
         requires eps { IsEps eps }
-        ensures accepted { least_amount (price_of self.old object) eps ≤ℤ amount → self.new ≡ sold self.old object amount (record { person = person; arc = arc }) }
-        ensures awarded { least_amount (price_of self.old object) eps ≤ℤ amount → letters_of result ≡ awards self.old.person_shards (holder_of self.old object) person object amount }
-        ensures kept { amount <ℤ least_amount (price_of self.old object) eps → self.new ≡ self.old }
-        ensures refused { amount <ℤ least_amount (price_of self.old object) eps → letters_of result ≡ refusal self.old.person_shards person object (price_of self.old object) }
+        ensures award { self.new ≡ after_bid self.old eps offer }
+        ensures letters { letters_of result ≡ answers self.old.person_shards eps (sale_of self.old offer.object) offer }
         ensures shape { SameShape self.old self.new }
     {
+        let Offer {
+            person,
+            arc,
+            object,
+            amount,
+        } = offer;
         let price = self.price(object);
         if amount < price + eps {
             let refused = Letter::Refused {
@@ -165,7 +194,8 @@ impl ObjectShard {
         }
     }
 
-    /// The same as [`ObjectShard::answer`], with the letters in a list, in order. O(1).
+    /// The same as [`ObjectShard::answer`], of the bid of `person` by the arc at place `arc` for `object`, with the letters in
+    /// a list, in order. O(1).
     #[inline]
     pub fn on_bid(
         &mut self,
@@ -178,13 +208,25 @@ impl ObjectShard {
         requires object { Owns self.old object }
         requires amount { IsPrice amount }
         requires eps { IsEps eps }
-        ensures accepted { least_amount (price_of self.old object) eps ≤ℤ amount → self.new ≡ sold self.old object amount (record { person = person; arc = arc }) }
-        ensures awarded { least_amount (price_of self.old object) eps ≤ℤ amount → result.items ≡ awards self.old.person_shards (holder_of self.old object) person object amount }
-        ensures kept { amount <ℤ least_amount (price_of self.old object) eps → self.new ≡ self.old }
-        ensures refused { amount <ℤ least_amount (price_of self.old object) eps → result.items ≡ refusal self.old.person_shards person object (price_of self.old object) }
+        ensures award { self.new ≡ after_bid self.old eps (offer_of person arc object amount) }
+        ensures letters { result.items ≡ answers self.old.person_shards eps (sale_of self.old object) (offer_of person arc object amount) }
         ensures shape { SameShape self.old self.new }
     {
-        self.answer(person, arc, object, amount, eps).into_list()
+        let offer = Offer {
+            person,
+            arc,
+            object,
+            amount,
+        };
+        self.answer(offer, eps).into_list()
+    }
+
+    /// Whether there is such an object, and it is the shard's.
+    #[inline]
+    fn owns(&self, object: u32) -> bool
+        ensures { IsTrue result ↔ Owns self.now object }
+    {
+        (object as usize) < self.prices.len() && shard_of(object, self.of) == self.shard
     }
 
     /// Sets the price and the holder of an object.
@@ -192,7 +234,7 @@ impl ObjectShard {
     fn sell(&mut self, object: u32, price: i64, held: Held)
         requires object { object < length self.old.prices }
         requires price { IsPrice price }
-        ensures { self.new ≡ sold self.old object price held }
+        ensures { self.new ≡ with_sale self.old object (record { price = price; holder = Some held }) }
     {
         self.prices[object as usize] = price;
         self.holders[object as usize] = Some(held);

@@ -4,7 +4,7 @@ use Rattle.std.specs.Prelude.{count_by}
 use Rattle.std.proofs.lemmas.List.Sums.{sum_by-set, count_by-le-length}
 use Rattle.auc_letters.specs.declared.state.PersonState.{PersonState}
 use Rattle.auc_letters.specs.declared.state.PersonState.TheVariants.{Free, Waits, Holds}
-use Rattle.auc_persons.specs.Persons.{is_free}
+use Rattle.auc_letters.specs.Persons.{is_free}
 
 abbrev pub one : PersonState → ℕ
 one s = cond (is_free s) 1 0

@@ -5,7 +5,7 @@ use Rattle.std.proofs.lemmas.List.Elements.{All-from_recursion}
 use Rattle.auc_graph.specs.declared.rows.RowArc.{RowArc}
 use Rattle.auc_graph.specs.Bid.{value, IsAmount}
 use Rattle.auc_persons.specs.Scan.{copy_in}
-use Rattle.auc_persons.specs.Persons.{own}
+use Rattle.auc_letters.specs.Persons.{persons_of}
 
 abbrev arc_to : ℕ → ℕ → ℤ → RowArc
 arc_to place object cost = record { cost = cost; object = object; arc = place }
@@ -35,5 +35,5 @@ bids_seven = inl (
 one_object : IsAmount (pos 3) (pos 4) (pos 1) (copy_in (pos 0 ∷ [])) (arc_to 0 0 (pos 4) ∷ arc_to 1 0 (pos 2) ∷ []) (arc_to 1 0 (pos 2)) (pos 13)
 one_object = inr (All-from_recursion (λ b. b.object ≡ 0) (arc_to 0 0 (pos 4) ∷ arc_to 1 0 (pos 2) ∷ []) (search rules), refl)
 
-own_of_two : own 1 2 5 ≡ 1 ∷ 3 ∷ []
+own_of_two : persons_of 1 2 5 ≡ 1 ∷ 3 ∷ []
 own_of_two = refl

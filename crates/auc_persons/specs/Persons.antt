@@ -1,8 +1,6 @@
 -- A shard of the persons, as callers see it, and what each call leaves of it.
-use Rattle.std.specs.Prelude.{◌≡◌, ◌≢◌, ◌<◌, ◌≤◌, ◌+◌, ◌-◌, ◌%◌, ◌==◌, filter, ℕ, ℤ, pos, ◌≤ℤ◌, ◌<ℤ◌, Bool, true, false, List, [], ◌∷◌, ◌++◌, Result, Ok, Err, length, drop, All, slice_index_or, slice_set, count_by}
-use Rattle.std.specs.List.{range_with_len}
+use Rattle.std.specs.Prelude.{◌≡◌, ◌≢◌, ◌<◌, ◌≤◌, ◌+◌, ◌-◌, ◌%◌, ◌^◌, ℕ, ℤ, pos, ◌≤ℤ◌, ◌<ℤ◌, List, [], ◌∷◌, ◌++◌, Result, Ok, Err, length, drop, All, slice_index_or, slice_set, count_by}
 use Rattle.auc_graph.specs.declared.rows.RowArc.{RowArc}
-use Rattle.auc_graph.specs.declared.limits.TheConstants.{MOST_PERSONS}
 use Rattle.auc_graph.specs.Table.{Table, row_of}
 use Rattle.auc_letters.specs.declared.letter.Letter.{Letter}
 use Rattle.auc_letters.specs.declared.out.Out.{Out}
@@ -11,7 +9,7 @@ use Rattle.auc_letters.specs.declared.state.PersonState.{PersonState}
 use Rattle.auc_letters.specs.declared.state.PersonState.TheVariants.{Free, Waits, Holds}
 use Rattle.auc_persons.specs.declared.bidding.Bidding.{Bidding}
 use Rattle.auc_persons.specs.declared.bidding.PersonFault.{PersonFault}
-use Rattle.auc_letters.specs.declared.limits.TheConstants.{MOST_PRICE}
+use Rattle.auc_letters.specs.Persons.{is_free}
 use Rattle.auc_letters.specs.Price.{IsPrice}
 use Rattle.auc_letters.specs.Routing.{to_object}
 use Rattle.auc_graph.specs.Bid.{IsBid}
@@ -28,16 +26,11 @@ pub record Persons : Type 0 where
   pub states : List PersonState
   pub idle : List ℕ
 
-abbrev pub is_free : PersonState → Bool
-is_free Free = true
-is_free (Waits j) = false
-is_free (Holds j) = false
-
 -- what holds of each shard
 pub record ArePersons (s : Persons) : Type 0 where
   pub known : s.shard < s.of
   pub shards : 0 < s.object_shards
-  pub few : length s.states ≤ MOST_PERSONS
+  pub few : length s.states ≤ 10000
   pub copies_are : All IsPrice s.copies
   pub idle_are : All (λ i. i < length s.states) s.idle
   pub room : length s.idle ≤ count_by is_free s.states
@@ -54,9 +47,13 @@ abbrev pub state_of : Persons → ℕ → PersonState
 state_of s person = slice_index_or s.states person Free
 
 -- the shard was made for as many persons and objects
-pub record Fits (t : Table) (s : Persons) : Type 0 where
+pub record IsMadeFor (t : Table) (s : Persons) : Type 0 where
   pub persons : length t.rows ≡ length s.states
   pub objects : t.objects ≡ length s.copies
+
+-- the shard where the copy of an object's price is this one
+abbrev pub with_copy : Persons → ℕ → ℤ → Persons
+with_copy s object price = record s { copies = slice_set s.copies object price }
 
 -- who has been free longest
 abbrev pub first_idle : Persons → ℕ
@@ -70,7 +67,7 @@ Bids t eps s i arc amount = IsBid (pos (length t.rows + 1)) t.spread eps (copy_i
 abbrev pub Stops : Table → ℤ → Persons → ℕ → Why → Type 0
 Stops t eps s i Why.Bids = s.bids ≡ 0
 Stops t eps s i Why.Stuck = (s.bids ≢ 0) × (row_of t i ≡ [])
-Stops t eps s i Why.Ceiling = (s.bids ≢ 0) × ((arc : RowArc) × (amount : ℤ) × Bids t eps s i arc amount × (MOST_PRICE <ℤ amount))
+Stops t eps s i Why.Ceiling = (s.bids ≢ 0) × ((arc : RowArc) × (amount : ℤ) × Bids t eps s i arc amount × (pos (2 ^ 61) <ℤ amount))
 Stops t eps s i Why.Posts = ⊥
 Stops t eps s i Why.Trail = ⊥
 Stops t eps s i Why.Mail = ⊥
@@ -89,11 +86,11 @@ after_bid s i j = record s { idle = drop 1 s.idle; bids = s.bids - 1; states = s
 abbrev pub NextBid : Table → ℤ → Persons → Bidding → Persons → Type 0
 NextBid t eps s Bidding.Idle n = (s.idle ≡ []) × (n ≡ s)
 NextBid t eps s (Bidding.Stop why) n = (s.idle ≢ []) × Stops t eps s (first_idle s) why × (n ≡ s)
-NextBid t eps s (Bidding.Out out) n = (s.idle ≢ []) × (s.bids ≢ 0) × ((arc : RowArc) × (amount : ℤ) × Bids t eps s (first_idle s) arc amount × (amount ≤ℤ MOST_PRICE) × (out ≡ bid_letter s (first_idle s) arc amount) × (n ≡ after_bid s (first_idle s) arc.object))
+NextBid t eps s (Bidding.Out out) n = (s.idle ≢ []) × (s.bids ≢ 0) × ((arc : RowArc) × (amount : ℤ) × Bids t eps s (first_idle s) arc amount × (amount ≤ℤ pos (2 ^ 61)) × (out ≡ bid_letter s (first_idle s) arc amount) × (n ≡ after_bid s (first_idle s) arc.object))
 
 -- an answer to a person about an object fits where he stands as it wants
 abbrev pub FitsAnswer : Persons → ℕ → ℕ → ℤ → PersonState → Type 0
-FitsAnswer s i j p wanted = (i < length s.states) × (i % s.of ≡ s.shard) × (j < length s.copies) × IsPrice p × (slice_index_or s.states i Free ≡ wanted)
+FitsAnswer s i j p wanted = (i < length s.states) × (i % s.of ≡ s.shard) × (j < length s.copies) × IsPrice p × (state_of s i ≡ wanted)
 
 abbrev pub FitsPrice : Persons → ℕ → ℤ → Type 0
 FitsPrice s j p = (j < length s.copies) × IsPrice p
@@ -106,11 +103,17 @@ free_after s i j p = record s { copies = slice_set s.copies j p; states = slice_
 
 -- the price is below the copy
 abbrev pub Falls : Persons → ℕ → ℤ → Type 0
-Falls s j p = p <ℤ slice_index_or s.copies j (pos 0)
+Falls s j p = p <ℤ copy_of s j
+
+-- the copy of an object's price was set to a price that is no less, or else it stays
+abbrev pub Raised : Persons → ℕ → ℤ → Result (Unit {0}) PersonFault → Persons → Type 0
+Raised s j p (Ok _) n = (copy_of s j ≤ℤ p) × (n ≡ with_copy s j p)
+Raised s j p (Err PersonFault.Stray) n = ⊥
+Raised s j p (Err PersonFault.Fell) n = Falls s j p × (n ≡ s)
 
 -- an outcome: it fits and the price is no fall; or it doesn't fit; or it falls
 abbrev pub Outcome : Type 0 → Persons → ℕ → ℤ → Persons → Result (Unit {0}) PersonFault → Persons → Type 0
-Outcome fits s j p after (Ok _) n = fits × (slice_index_or s.copies j (pos 0) ≤ℤ p) × (n ≡ after)
+Outcome fits s j p after (Ok _) n = fits × (copy_of s j ≤ℤ p) × (n ≡ after)
 Outcome fits s j p after (Err PersonFault.Stray) n = (fits → ⊥) × (n ≡ s)
 Outcome fits s j p after (Err PersonFault.Fell) n = fits × Falls s j p × (n ≡ s)
 
@@ -118,7 +121,7 @@ abbrev pub Answered : Persons → ℕ → ℕ → ℤ → PersonState → Person
 Answered s i j p wanted after r n = Outcome (FitsAnswer s i j p wanted) s j p after r n
 
 abbrev pub Priced : Persons → ℕ → ℤ → Result (Unit {0}) PersonFault → Persons → Type 0
-Priced s j p r n = Outcome (FitsPrice s j p) s j p (record s { copies = slice_set s.copies j p }) r n
+Priced s j p r n = Outcome (FitsPrice s j p) s j p (with_copy s j p) r n
 
 abbrev pub OnLetter : Persons → Letter → Result (Unit {0}) PersonFault → Persons → Type 0
 OnLetter s (Letter.Award i j p) r n = Answered s i j p (Waits j) (held_after s i j p) r n
@@ -140,7 +143,3 @@ pub record SameShape (s n : Persons) : Type 0 where
 -- no copy falls
 abbrev pub Rising : List ℤ → List ℤ → Type 0
 Rising q r = (k : ℕ) → slice_index_or q k (pos 0) ≤ℤ slice_index_or r k (pos 0)
-
--- the persons of a shard, in rising order
-abbrev pub own : ℕ → ℕ → ℕ → List ℕ
-own shard of persons = filter (λ i. (i % of) == shard) (range_with_len 0 persons)

@@ -49,9 +49,9 @@ fn scaled(scale: i64, spread: i64) -> i64
 
 /// What is bid: an amount, in scaled costs, and the arc that it is bid by.
 #[derive(Clone, Copy, Debug, PartialEq, Eq)]
-pub struct Bid {
-    pub amount: i64,
-    pub arc: RowArc,
+pub(crate) struct Bid {
+    pub(crate) amount: i64,
+    pub(crate) arc: RowArc,
 }
 
 /// What is bid on the best arc of a row, at these copies of the prices, indexed by object; nothing where the row has no arc.
@@ -60,7 +60,13 @@ pub struct Bid {
 ///
 /// Takes one pass over the row, O(arcs of the row) time and no memory. The method is the bid of the auction algorithm
 /// (Bertsekas, 1979).
-pub fn bid_of(scale: i64, spread: i64, eps: i64, row: &[RowArc], copies: &[i64]) -> Option<Bid>
+pub(crate) fn bid_of(
+    scale: i64,
+    spread: i64,
+    eps: i64,
+    row: &[RowArc],
+    copies: &[i64],
+) -> Option<Bid>
     requires scale_low { pos 1 ≤ℤ scale }
     requires scale_high { scale ≤ℤ pos 10001 }
     requires spread_low { pos 0 ≤ℤ spread }

@@ -10,7 +10,6 @@ mod bidding;
 mod scan;
 mod shard;
 
-pub use amount::{Bid, bid_of};
 pub use auc_letters::PersonState;
 pub use bidding::{Bidding, PersonFault};
 pub use shard::PersonShard;

@@ -1,5 +1,5 @@
 -- What a completion of the empty partial assignment says of the problem.
-use Rattle.std.proofs.Common.{◌≡◌, ℕ, zero, suc, ◌+◌, ◌<◌, ◌≤◌, List, [], ◌∷◌, length, get_or, map, Option, Some, refl, sym, ap, subst, ◌∙◌, arith, pos, All}
+use Rattle.std.proofs.Common.{◌≡◌, ℕ, zero, suc, ◌+◌, ◌<◌, ◌≤◌, List, [], ◌∷◌, length, get_or, map, Some, refl, sym, ap, subst, ◌∙◌, arith, pos, All}
 use Rattle.std.specs.List.{slice_get, range_with_len}
 use Rattle.std.proofs.lemmas.List.{length-map}
 use Rattle.std.proofs.lemmas.List.Elements.{All-nil, All-cons}
@@ -17,10 +17,7 @@ use Rattle.auc_hall.specs.declared.matching.Matching.TheVariants.{Full}
 use Rattle.auc_hall.proofs.ProblemLaws.{matching_of}
 use Rattle.auc_cert.specs.declared.lists.Pick.{Pick}
 use Rattle.auc_cert.specs.Claim.{chosen}
-use Rattle.auc_run.specs.declared.command.Job.TheVariants.{Hall as HallJob}
-use Rattle.auc_run.specs.Completions.{AnswersHall, completion_text, pick_at}
-use Rattle.auc_run.specs.Said.{Said}
-use Rattle.auc_run.proofs.ProblemLaws.{known, are_known}
+use Rattle.auc_run.specs.Completions.{pick_at}
 
 -- ---- a full assignment
 
@@ -77,9 +74,3 @@ slice_within arcs listed slice numbers same same2 all =
 
 pub full_within : (p : Problem) (numbers : List ℕ) → IsFullOf p numbers → All (λ n. n < length p.arcs) numbers
 full_within p numbers (choice, assigned, are) = all_within p.arcs numbers choice are
-
--- ---- at the exits of the job
-
--- the second reader plays no part
-pub is_said : (a b before after : Option (List ℕ)) (status : ℕ) → AnswersHall a before after status → Said HallJob a b before after status
-is_said a b before after status h = (h.1.0, known b, completion_text h.0, h.1.1, are_known b, h.2, (h.0, h.1.2, refl, h.3))

@@ -1,6 +1,7 @@
-pub mod ProblemLaws
-pub mod VerdictLaws
-pub mod ScriptLaws
-pub mod ReplyLaws
-pub mod CompletionLaws
-pub mod SolutionLaws
+-- All of this is the crate's own.
+mod ProblemLaws
+mod VerdictLaws
+mod ScriptLaws
+mod ReplyLaws
+mod CompletionLaws
+mod OutcomeLaws

@@ -5,8 +5,7 @@ use Rattle.auc_graph.specs.Problem.{Problem}
 use Rattle.auc_run.specs.declared.input.ReadFault.{ReadFault}
 use Rattle.auc_run.specs.declared.refusal.Refusal.{Refusal}
 use Rattle.auc_run.specs.declared.refusal.Refusal.TheVariants.{NotRead}
-use Rattle.auc_run.specs.Verdicts.{AreKnown}
-use Rattle.auc_run.specs.Problems.{IsProblemIn}
+use Rattle.auc_run.specs.Problems.{AreKnown, IsProblemIn}
 
 -- the known bytes, or none
 abbrev pub known : Option (List ℕ) → List ℕ

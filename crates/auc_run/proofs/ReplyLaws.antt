@@ -1,5 +1,5 @@
 -- Replies at the exits of a mail.
-use Rattle.std.proofs.Common.{◌≡◌, ℕ, true, List, length, Option, Result, Ok, Err, ℤ, refl, sym, ap, subst, ◌∙◌}
+use Rattle.std.proofs.Common.{◌≡◌, ℕ, true, List, length, Option, Result, Ok, Err, ℤ, sym, ap, subst, ◌∙◌}
 use Rattle.std.specs.Prelude.{IsErrAnd}
 use Rattle.std.specs.List.{zip}
 use Rattle.std.proofs.lemmas.List.{length-replicate}
@@ -8,13 +8,11 @@ use Rattle.auc_mail.specs.Run.{Run}
 use Rattle.auc_mail.specs.Letters.{HandsOutInOrder, NothingBehindClose}
 use Rattle.auc_mail.specs.declared.call.Call.{Call}
 use Rattle.auc_mail.specs.declared.call.Reply.{Reply}
-use Rattle.auc_run.specs.declared.command.Job.TheVariants.{Mail as MailJob}
 use Rattle.auc_run.specs.declared.input.ReadFault.{ReadFault}
 use Rattle.auc_run.specs.declared.refusal.Refusal.{Refusal}
 use Rattle.auc_run.specs.declared.refusal.Refusal.TheVariants.{NotRead}
 use Rattle.auc_run.specs.declared.script.Script.{Script}
-use Rattle.auc_run.specs.Replies.{AnswersScript, AreReplies, AreRepliesTo, listed, replies_text}
-use Rattle.auc_run.specs.Said.{Said}
+use Rattle.auc_run.specs.Replies.{AreReplies, AreRepliesTo}
 use Rattle.auc_run.proofs.ProblemLaws.{known, are_known}
 
 is_empty : (boxes senders nodes most : ℕ) → IsEmpty {T = ℤ} (empty_mail boxes senders nodes most)
@@ -32,10 +30,6 @@ are_replies s calls replies m y same made one_each run in_order closed =
       closed = subst (λ (xs : List (Call ℤ)). NothingBehindClose (zip xs replies)) same closed;
     }
 
-pub input_fails : {X : Type 0} (items : X → List (Reply ℤ)) (a : Option (List ℕ)) (r : Result X Refusal) (e : ReadFault) → IsErrAnd r (λ x. x ≡ NotRead e) → AreReplies a (listed items r)
-input_fails items a (Ok x) e p = absurd p
-input_fails items a (Err x) e p = subst (λ (y : Refusal). AreReplies a (Err y)) (sym p) (known a, are_known a, tt)
-
--- the second reader plays no part
-pub is_said : (a b before after : Option (List ℕ)) (status : ℕ) → AnswersScript a before after status → Said MailJob a b before after status
-is_said a b before after status h = (h.1.0, known b, replies_text h.0, h.1.1, are_known b, h.2, (h.0, h.1.2, refl, h.3))
+pub input_fails : (a : Option (List ℕ)) (r : Result (List (Reply ℤ)) Refusal) (e : ReadFault) → IsErrAnd r (λ x. x ≡ NotRead e) → AreReplies a r
+input_fails a (Ok x) e p = absurd p
+input_fails a (Err x) e p = subst (λ (y : Refusal). AreReplies a (Err y)) (sym p) (known a, are_known a, tt)

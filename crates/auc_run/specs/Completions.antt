@@ -1,6 +1,5 @@
 -- What a search for a full assignment may find in a problem, the text that tells it, and which findings are right for the bytes of a problem.
-use Rattle.std.specs.Prelude.{◌≡◌, ℕ, List, ◌++◌, ◌≤◌, length, codes, slice_index_or, Option, Result, Ok, Err, ⊤, pos}
-use Rattle.std.specs.Io.KnownBytes.{Appends}
+use Rattle.std.specs.Prelude.{ℕ, List, ◌++◌, ◌≤◌, length, codes, slice_index_or, Option, Result, Ok, Err, ⊤, pos}
 use Rattle.auc_graph.specs.declared.limits.TheConstants.{MOST_PERSONS}
 use Rattle.auc_graph.specs.declared.arc.Arc.{Arc}
 use Rattle.auc_cert.specs.declared.lists.Pick.{Pick}
@@ -12,11 +11,8 @@ use Rattle.auc_world.specs.Answers.{IsHallCertificate}
 use Rattle.auc_run.specs.declared.found.Found.{Found}
 use Rattle.auc_run.specs.declared.found.Found.TheVariants.{Full, Hall}
 use Rattle.auc_run.specs.declared.refusal.Refusal.{Refusal}
-use Rattle.auc_run.specs.declared.status.TheConstants.{FULL, INFEASIBLE}
-use Rattle.auc_run.specs.Lines.{counted, refusal_line}
-use Rattle.auc_run.specs.Statuses.{refusal_status}
-use Rattle.auc_run.specs.Verdicts.{IsProblemOf, AreKnown}
-use Rattle.auc_run.specs.Problems.{BearOutRefusal}
+use Rattle.auc_run.specs.Lines.{counted}
+use Rattle.auc_run.specs.Problems.{AreKnown, BearOutRefusal, IsProblemOf}
 
 -- the pick by an arc
 abbrev pub pick_by : Arc → Pick
@@ -48,19 +44,7 @@ abbrev pub found_text : Found → List ℕ
 found_text (Full choice) = counted (codes "full ") (length choice) ++ joined (numbered assign_line 0 choice)
 found_text (Hall cert) = text cert
 
+-- 0 for a full assignment, 3 where there is none
 abbrev pub found_status : Found → ℕ
-found_status (Full choice) = FULL
-found_status (Hall cert) = INFEASIBLE
-
--- the text for what was found, or for a refusal, and its status
-abbrev pub completion_text : Result Found Refusal → List ℕ
-completion_text (Ok found) = found_text found
-completion_text (Err refusal) = refusal_line refusal
-
-abbrev pub completion_status : Result Found Refusal → ℕ
-completion_status (Ok found) = found_status found
-completion_status (Err refusal) = refusal_status refusal
-
--- behind what the writer had stands the text of what was found in the problem that the reader had, or of a refusal, and the status is its own
-abbrev pub AnswersHall : Option (List ℕ) → Option (List ℕ) → Option (List ℕ) → ℕ → Type 0
-AnswersHall reader before after status = (found : Result Found Refusal) × IsFoundIn reader found × Appends before after (completion_text found) × (status ≡ completion_status found)
+found_status (Full choice) = 0
+found_status (Hall cert) = 3

@@ -1,11 +1,13 @@
+-- The definitions that contracts of jobs cite.
 pub mod Lines
 pub mod Statuses
 pub mod Verdicts
 pub mod Problems
 pub mod Completions
 pub mod Solutions
+pub mod Reports
 pub mod Jobs
 pub mod Said
 pub mod Script
-pub mod ScriptRanges
+pub mod ScriptLimits
 pub mod Replies

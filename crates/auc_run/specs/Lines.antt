@@ -1,5 +1,5 @@
--- The one line that the program writes for a verdict on a claim, and for a refusal.
-use Rattle.std.specs.Prelude.{ℕ, ◌+◌, List, ◌++◌, codes, Result, Ok, Err}
+-- The one line that the program writes for a claim that holds, and for a refusal.
+use Rattle.std.specs.Prelude.{ℕ, ◌+◌, List, ◌++◌, codes}
 use Rattle.std.specs.Fmt.{decimal, signed_decimal}
 use Rattle.auc_graph.specs.declared.read_error.ReadError.{ReadError}
 use Rattle.auc_graph.specs.declared.read_error.ReadError.TheVariants.{Empty, BadNumber, CountRange, TooManyArcs, PersonRange, ObjectRange, CostRange, Cut, NoMemory}
@@ -72,7 +72,3 @@ refusal_line NoMemoryForJob = codes "refused memory\n"
 abbrev pub valid_line : Valid → List ℕ
 valid_line (Optimal cost) = codes "valid optimal " ++ signed_decimal cost ++ codes "\n"
 valid_line (Infeasible persons objects) = codes "valid infeasible " ++ decimal persons ++ codes " " ++ decimal objects ++ codes "\n"
-
-abbrev pub verdict_line : Result Valid Refusal → List ℕ
-verdict_line (Ok valid) = valid_line valid
-verdict_line (Err refusal) = refusal_line refusal

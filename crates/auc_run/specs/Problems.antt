@@ -1,16 +1,29 @@
 -- The problem that a reader has, or why a job on it is refused.
-use Rattle.std.specs.Prelude.{◌≡◌, ◌≢◌, ℕ, List, Option, Result, Ok, Err, ⊤}
+use Rattle.std.specs.Prelude.{◌≡◌, ℕ, List, Option, IfSome, Result, Ok, Err, ⊤}
 use Rattle.auc_graph.specs.declared.limits.TheConstants.{MOST_ARCS}
+use Rattle.auc_graph.specs.declared.read_error.ReadError.{ReadError}
 use Rattle.auc_graph.specs.declared.read_error.ReadError.TheVariants.{NoMemory}
+use Rattle.auc_graph.specs.Memory.{AnswersUnless}
 use Rattle.auc_graph.specs.Problem.{Problem}
 use Rattle.auc_graph.specs.Reading.{reading}
 use Rattle.auc_run.specs.declared.refusal.Refusal.{Refusal}
 use Rattle.auc_run.specs.declared.refusal.Refusal.TheVariants.{NotRead, NoProblem, NoCertificate, Invalid, NoScript, NoMemory as NoMemoryForJob}
-use Rattle.auc_run.specs.Verdicts.{IsProblemOf, AreKnown}
+
+-- a file reads as this problem, or by this first fault as none, unless memory ran out
+abbrev pub ReadsAsProblem : List ℕ → Result Problem ReadError → Type 0
+ReadsAsProblem file problem = AnswersUnless NoMemory (λ p. p) problem (λ r. reading MOST_ARCS file ≡ r)
+
+-- the problem that a file reads as
+abbrev pub IsProblemOf : List ℕ → Problem → Type 0
+IsProblemOf file p = ReadsAsProblem file (Ok p)
+
+-- the bytes are these, where they are known
+abbrev pub AreKnown : Option (List ℕ) → List ℕ → Type 0
+AreKnown known bytes = IfSome known (λ xs. bytes ≡ xs)
 
 -- The bytes of a problem bear out the refusal of a job that has no other input. Of a read that failed, of too many reads and of want of memory nothing is known.
 abbrev pub BearOutRefusal : List ℕ → Refusal → Type 0
-BearOutRefusal file (NoProblem error) = error ≢ NoMemory → reading MOST_ARCS file ≡ Err error
+BearOutRefusal file (NoProblem error) = ReadsAsProblem file (Err error)
 BearOutRefusal file (NotRead fault) = ⊤
 BearOutRefusal file NoMemoryForJob = ⊤
 BearOutRefusal file (NoCertificate error) = ⊥

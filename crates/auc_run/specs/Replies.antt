@@ -1,8 +1,7 @@
 -- The replies of a mail's calls: which are right for a script, and the lines that the program writes for them.
-use Rattle.std.specs.Prelude.{◌≡◌, ◌≢◌, ℕ, ◌+◌, true, false, List, ◌++◌, length, codes, Option, Result, Ok, Err, ℤ, ⊤}
+use Rattle.std.specs.Prelude.{◌≡◌, ℕ, ◌+◌, true, false, List, ◌++◌, length, codes, Option, Result, Ok, Err, ℤ, ⊤}
 use Rattle.std.specs.List.{flat_map, zip}
 use Rattle.std.specs.Fmt.{decimal, signed_decimal}
-use Rattle.std.specs.Io.KnownBytes.{Appends}
 use Rattle.auc_mail.specs.Mail.{Mail, empty_mail}
 use Rattle.auc_mail.specs.Run.{Run}
 use Rattle.auc_mail.specs.Letters.{HandsOutInOrder, NothingBehindClose}
@@ -13,12 +12,9 @@ use Rattle.auc_mail.specs.declared.call.Reply.TheVariants.{Posted, Refused, Took
 use Rattle.auc_run.specs.declared.refusal.Refusal.{Refusal}
 use Rattle.auc_run.specs.declared.refusal.Refusal.TheVariants.{NotRead, NoProblem, NoCertificate, Invalid, NoScript, NoMemory as NoMemoryForJob}
 use Rattle.auc_run.specs.declared.script.Script.{Script}
-use Rattle.auc_run.specs.declared.script_error.ScriptError.TheVariants.{NoMemory}
-use Rattle.auc_run.specs.declared.status.TheConstants.{REPLIED}
-use Rattle.auc_run.specs.Lines.{counted, refusal_line}
-use Rattle.auc_run.specs.Statuses.{refusal_status}
-use Rattle.auc_run.specs.Script.{script_in}
-use Rattle.auc_run.specs.Verdicts.{AreKnown}
+use Rattle.auc_run.specs.Lines.{counted}
+use Rattle.auc_run.specs.Script.{ReadsAsScript}
+use Rattle.auc_run.specs.Problems.{AreKnown}
 
 -- senders are written from 1 on
 abbrev pub reply_line : Reply ℤ → List ℕ
@@ -46,8 +42,8 @@ pub record AreRepliesTo (s : Script) (replies : List (Reply ℤ)) : Type 0 where
 
 -- The bytes of a script bear the replies out, or the refusal. Of a read that failed, of too many reads and of want of memory nothing is known.
 abbrev pub BearOutReplies : List ℕ → Result (List (Reply ℤ)) Refusal → Type 0
-BearOutReplies file (Ok replies) = (s : Script) × (script_in file ≡ Ok s) × AreRepliesTo s replies
-BearOutReplies file (Err (NoScript error)) = error ≢ NoMemory → script_in file ≡ Err error
+BearOutReplies file (Ok replies) = (s : Script) × ReadsAsScript file (Ok s) × AreRepliesTo s replies
+BearOutReplies file (Err (NoScript error)) = ReadsAsScript file (Err error)
 BearOutReplies file (Err (NotRead fault)) = ⊤
 BearOutReplies file (Err (NoProblem error)) = ⊥
 BearOutReplies file (Err (NoCertificate error)) = ⊥
@@ -57,21 +53,3 @@ BearOutReplies file (Err NoMemoryForJob) = ⊥
 -- replies on what a reader has
 abbrev pub AreReplies : Option (List ℕ) → Result (List (Reply ℤ)) Refusal → Type 0
 AreReplies reader replies = (file : List ℕ) × AreKnown reader file × BearOutReplies file replies
-
--- the text for replies, or for a refusal, and its status
-abbrev pub replies_text : Result (List (Reply ℤ)) Refusal → List ℕ
-replies_text (Ok replies) = reply_lines replies
-replies_text (Err refusal) = refusal_line refusal
-
-abbrev pub replies_status : Result (List (Reply ℤ)) Refusal → ℕ
-replies_status (Ok replies) = REPLIED
-replies_status (Err refusal) = refusal_status refusal
-
--- the replies of the code, as a list
-abbrev pub listed : {X : Type 0} → (X → List (Reply ℤ)) → Result X Refusal → Result (List (Reply ℤ)) Refusal
-listed items (Ok x) = Ok (items x)
-listed items (Err e) = Err e
-
--- behind what the writer had stand the replies to the script that the reader had, or a refusal, and the status is theirs
-abbrev pub AnswersScript : Option (List ℕ) → Option (List ℕ) → Option (List ℕ) → ℕ → Type 0
-AnswersScript reader before after status = (replies : Result (List (Reply ℤ)) Refusal) × AreReplies reader replies × Appends before after (replies_text replies) × (status ≡ replies_status replies)

@@ -1,17 +1,18 @@
 -- How a text reads as a script: as a mail and the calls on it, or as its first fault.
-use Rattle.std.specs.Prelude.{◌≡◌, ◌≢◌, ℕ, zero, suc, ◌+◌, ◌-◌, Bool, List, [], ◌∷◌, codes, Option, Some, None, Result, Ok, Err, ℤ, pos, neg_ℤ, unsigned_abs, nat_eq, if◌then◌else◌}
+use Rattle.std.specs.Prelude.{◌≡◌, ℕ, zero, suc, ◌+◌, ◌-◌, Bool, List, [], ◌∷◌, codes, Option, Some, None, Result, Ok, Err, ℤ, pos, neg_ℤ, unsigned_abs, nat_eq, if◌then◌else◌}
 use Rattle.std.specs.Cmp.Lexicographic.{pointwise}
 use Rattle.auc_graph.specs.declared.number.Number.{Number}
 use Rattle.auc_graph.specs.declared.number.Number.TheVariants.{Bad, Value, Huge}
 use Rattle.auc_graph.specs.Tokens.{tokens}
 use Rattle.auc_graph.specs.Numbers.{number}
 use Rattle.auc_graph.specs.Reading.{is_between}
+use Rattle.auc_graph.specs.Memory.{AnswersUnless}
 use Rattle.auc_mail.specs.declared.call.Call.{Call}
 use Rattle.auc_mail.specs.declared.call.Call.TheVariants.{Post, Take, Close}
 use Rattle.auc_run.specs.declared.command_word.CommandWord.{CommandWord}
 use Rattle.auc_run.specs.declared.command_word.CommandWord.TheVariants.{MailWord, PostWord, TakeWord, CloseWord}
 use Rattle.auc_run.specs.declared.script.Script.{Script}
-use Rattle.auc_run.specs.declared.script.TheConstants.{MOST_SCRIPT_BOXES, MOST_SCRIPT_NODES, MOST_SCRIPT_POSTS, MOST_ITEM, MOST_CALLS}
+use Rattle.auc_run.specs.ScriptLimits.{most_boxes, most_nodes, most_posts, most_item, most_calls}
 use Rattle.auc_run.specs.declared.script_error.ScriptError.{ScriptError}
 use Rattle.auc_run.specs.declared.script_error.ScriptError.TheVariants.{Word, Range, Cut, TooManyCalls, NoMemory}
 
@@ -64,8 +65,8 @@ unfoldable pub post_at : ℕ → ℕ → ℕ → List (List ℕ) → Result Read
 post_at boxes senders k more = do
   sender ← index senders (k + 1) more
   to ← index boxes (k + 2) sender.1
-  item ← operand (neg_ℤ MOST_ITEM) MOST_ITEM (k + 3) to.1
-  reserve ← count 0 MOST_SCRIPT_NODES (k + 4) item.1
+  item ← operand (neg_ℤ most_item) most_item (k + 3) to.1
+  reserve ← count 0 most_nodes (k + 4) item.1
   Ok ((Post sender.0 to.0 item.0 reserve.0, k + 5), reserve.1)
 
 -- the call whose command stands at token k
@@ -104,22 +105,16 @@ unfoldable pub script_of : List (List ℕ) → Result Script ScriptError
 script_of [] = Err (Cut 0)
 script_of (word ∷ more) = do
   _ ← opening (command word)
-  boxes ← count 1 MOST_SCRIPT_BOXES 1 more
-  senders ← count 1 MOST_SCRIPT_BOXES 2 boxes.1
-  nodes ← count 0 MOST_SCRIPT_NODES 3 senders.1
-  most ← operand (pos 0) MOST_SCRIPT_POSTS 4 nodes.1
-  calls ← calls_from MOST_CALLS boxes.0 senders.0 5 most.1
+  boxes ← count 1 most_boxes 1 more
+  senders ← count 1 most_boxes 2 boxes.1
+  nodes ← count 0 most_nodes 3 senders.1
+  most ← operand (pos 0) most_posts 4 nodes.1
+  calls ← calls_from most_calls boxes.0 senders.0 5 most.1
   Ok (record { boxes = boxes.0; senders = senders.0; nodes = nodes.0; most = unsigned_abs most.0; calls = calls })
 
 abbrev pub script_in : List ℕ → Result Script ScriptError
 script_in text = script_of (tokens text)
 
--- a value of the code, seen by view
-abbrev pub seen : {X Y : Type 0} → (X → Y) → Result X ScriptError → Result Y ScriptError
-seen view (Ok x) = Ok (view x)
-seen view (Err e) = Err e
-
--- what was answered, seen by view, is what reading gives, unless memory ran out
-abbrev pub Reads : {X Y : Type 0} → (X → Y) → Result X ScriptError → Result Y ScriptError → Type 0
-Reads view (Ok x) read = read ≡ Ok (view x)
-Reads view (Err e) read = e ≢ NoMemory → read ≡ Err e
+-- a text reads as this script, or by this first fault as none, unless memory ran out
+abbrev pub ReadsAsScript : List ℕ → Result Script ScriptError → Type 0
+ReadsAsScript text script = AnswersUnless NoMemory (λ s. s) script (λ r. script_in text ≡ r)

@@ -1,6 +1,5 @@
 -- What a solve may answer about a problem, the text that tells it, and which answers are right for the bytes of a problem.
-use Rattle.std.specs.Prelude.{◌≡◌, ℕ, List, codes, Option, Result, Ok, Err}
-use Rattle.std.specs.Io.KnownBytes.{Appends}
+use Rattle.std.specs.Prelude.{ℕ, List, codes, Option, Result, Ok, Err}
 use Rattle.auc_graph.specs.Problem.{Problem}
 use Rattle.auc_cert.specs.Text.{text}
 use Rattle.auc_world.specs.declared.answer.Answer.{Answer}
@@ -9,11 +8,7 @@ use Rattle.auc_world.specs.declared.answer.Guard.{Guard}
 use Rattle.auc_world.specs.declared.answer.Guard.TheVariants.{Fell, Stray, Stuck, Stall, Check, Settle}
 use Rattle.auc_world.specs.Answers.{IsAnswer}
 use Rattle.auc_run.specs.declared.refusal.Refusal.{Refusal}
-use Rattle.auc_run.specs.declared.status.TheConstants.{OPTIMAL, INFEASIBLE, BROKEN}
-use Rattle.auc_run.specs.Lines.{refusal_line}
-use Rattle.auc_run.specs.Statuses.{refusal_status}
-use Rattle.auc_run.specs.Verdicts.{IsProblemOf, AreKnown}
-use Rattle.auc_run.specs.Problems.{BearOutRefusal}
+use Rattle.auc_run.specs.Problems.{AreKnown, BearOutRefusal, IsProblemOf}
 
 -- The bytes of a problem bear an answer out, or the refusal: a certificate of a least assignment, one that there is none, or the guard of the checker,
 -- which is hit only where there is an assignment.
@@ -38,20 +33,8 @@ answer_text (Optimal cert) = text cert
 answer_text (Infeasible cert) = text cert
 answer_text (Broken guard) = guard_line guard
 
+-- 0 for a least assignment, 3 where there is no assignment, 7 for a broken guard
 abbrev pub answer_status : Answer → ℕ
-answer_status (Optimal cert) = OPTIMAL
-answer_status (Infeasible cert) = INFEASIBLE
-answer_status (Broken guard) = BROKEN
-
--- the text for an answer, or for a refusal, and its status
-abbrev pub solution_text : Result Answer Refusal → List ℕ
-solution_text (Ok answer) = answer_text answer
-solution_text (Err refusal) = refusal_line refusal
-
-abbrev pub solution_status : Result Answer Refusal → ℕ
-solution_status (Ok answer) = answer_status answer
-solution_status (Err refusal) = refusal_status refusal
-
--- behind what the writer had stands the text of an answer about the problem that the reader had, or of a refusal, and the status is its own
-abbrev pub AnswersSolve : Option (List ℕ) → Option (List ℕ) → Option (List ℕ) → ℕ → Type 0
-AnswersSolve reader before after status = (answer : Result Answer Refusal) × IsSolvedIn reader answer × Appends before after (solution_text answer) × (status ≡ solution_status answer)
+answer_status (Optimal cert) = 0
+answer_status (Infeasible cert) = 3
+answer_status (Broken guard) = 7

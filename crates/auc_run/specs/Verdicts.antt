@@ -1,24 +1,20 @@
 -- Which verdicts are right for a problem and a certificate, and for the bytes of both. A verdict is what a valid claim says, or a refusal.
-use Rattle.std.specs.Prelude.{◌≡◌, ◌≢◌, ℕ, List, length, Option, Some, None, IfSome, Result, Ok, Err, ⊤}
-use Rattle.auc_graph.specs.declared.limits.TheConstants.{MOST_ARCS}
-use Rattle.auc_graph.specs.declared.read_error.ReadError.TheVariants.{NoMemory}
+use Rattle.std.specs.Prelude.{◌≡◌, ℕ, List, length, Option, Result, Ok, Err, ⊤}
 use Rattle.auc_graph.specs.Problem.{Problem}
-use Rattle.auc_graph.specs.Reading.{reading}
+use Rattle.auc_graph.specs.Memory.{AnswersUnless}
 use Rattle.auc_cert.specs.declared.cert.CertParts.{CertParts}
 use Rattle.auc_cert.specs.declared.cert.CertParts.TheVariants.{Optimal, Infeasible}
+use Rattle.auc_cert.specs.declared.refused.CertRefused.{CertRefused}
 use Rattle.auc_cert.specs.declared.refused.CertRefused.TheVariants.{NoMemory as NoMemoryToCheck}
 use Rattle.auc_cert.specs.declared.text_error.CertTextError.TheVariants.{Line, NoMemory as NoMemoryForText}
 use Rattle.auc_cert.specs.Spelled.{IsSpelled}
 use Rattle.auc_cert.specs.Text.{text}
 use Rattle.auc_cert.specs.CertReading.{IsFirstBadLine}
-use Rattle.auc_cert.specs.Claim.{fault_of, IsAllowed}
+use Rattle.auc_cert.specs.Claim.{fault_of, IsAllowed, IsVerdict as IsVerdictOn}
 use Rattle.auc_run.specs.declared.refusal.Refusal.{Refusal}
 use Rattle.auc_run.specs.declared.refusal.Refusal.TheVariants.{NotRead, NoProblem, NoCertificate, Invalid, NoScript, NoMemory as NoMemoryForJob}
 use Rattle.auc_run.specs.declared.valid.Valid.{Valid}
-
--- the problem that a file reads as
-abbrev pub IsProblemOf : List ℕ → Problem → Type 0
-IsProblemOf file p = reading MOST_ARCS file ≡ Ok p
+use Rattle.auc_run.specs.Problems.{AreKnown, IsProblemOf, ReadsAsProblem}
 
 -- the claim that a certificate spells
 pub record IsClaimOf (cert : List ℕ) (c : CertParts) : Type 0 where
@@ -30,31 +26,31 @@ abbrev pub said_by : CertParts → Valid
 said_by (Optimal cost choice prices) = Valid.Optimal cost
 said_by (Infeasible persons objects) = Valid.Infeasible (length persons) (length objects)
 
+-- a check answers this, unless memory ran out
+abbrev pub IsCheckOf : Problem → CertParts → Result ⊤ CertRefused → Type 0
+IsCheckOf p c answer = AnswersUnless NoMemoryToCheck (λ x. x) answer (IsVerdictOn (fault_of p c))
+
 -- A verdict on a problem and a claim. A valid claim is true: its picks are an assignment of this cost, and none costs less, whatever the prices; or its
 -- persons together know fewer objects than they number. An invalid one has this first fault.
 abbrev pub Judges : Problem → CertParts → Result Valid Refusal → Type 0
-Judges p c (Ok valid) = (fault_of p c ≡ None) × IsAllowed p c × (said_by c ≡ valid)
-Judges p c (Err (Invalid error)) = error ≢ NoMemoryToCheck → fault_of p c ≡ Some error
+Judges p c (Ok valid) = IsCheckOf p c (Ok tt) × IsAllowed p c × (said_by c ≡ valid)
+Judges p c (Err (Invalid error)) = IsCheckOf p c (Err error)
 Judges p c (Err (NotRead fault)) = ⊥
 Judges p c (Err (NoProblem error)) = ⊥
 Judges p c (Err (NoCertificate error)) = ⊥
 Judges p c (Err (NoScript error)) = ⊥
 Judges p c (Err NoMemoryForJob) = ⊥
 
--- The bytes of a problem and of a certificate bear a verdict out. Of a read that failed, of too many reads and of want of memory nothing is known.
+-- The bytes of a problem and of a certificate bear a verdict out. Of a read that failed, of too many reads and of want of memory in reading nothing is known.
 abbrev pub BearOut : List ℕ → List ℕ → Result Valid Refusal → Type 0
 BearOut file cert (Ok valid) = (p : Problem) × (c : CertParts) × IsProblemOf file p × IsClaimOf cert c × Judges p c (Ok valid)
-BearOut file cert (Err (Invalid error)) = error ≢ NoMemoryToCheck → (p : Problem) × (c : CertParts) × IsProblemOf file p × IsClaimOf cert c × Judges p c (Err (Invalid error))
+BearOut file cert (Err (Invalid error)) = (p : Problem) × (c : CertParts) × IsProblemOf file p × IsClaimOf cert c × Judges p c (Err (Invalid error))
 BearOut file cert (Err (NoCertificate (Line k))) = (p : Problem) × IsProblemOf file p × IsFirstBadLine cert k
 BearOut file cert (Err (NoCertificate NoMemoryForText)) = ⊤
-BearOut file cert (Err (NoProblem error)) = error ≢ NoMemory → reading MOST_ARCS file ≡ Err error
+BearOut file cert (Err (NoProblem error)) = ReadsAsProblem file (Err error)
 BearOut file cert (Err (NotRead fault)) = ⊤
 BearOut file cert (Err (NoScript error)) = ⊥
 BearOut file cert (Err NoMemoryForJob) = ⊥
-
--- the bytes are these, where they are known
-abbrev pub AreKnown : Option (List ℕ) → List ℕ → Type 0
-AreKnown known bytes = IfSome known (λ xs. bytes ≡ xs)
 
 -- a verdict on what two readers have
 abbrev pub IsVerdict : Option (List ℕ) → Option (List ℕ) → Result Valid Refusal → Type 0

@@ -1,23 +1,20 @@
 //! The jobs.
 
-ghost use Rattle.std.specs.Prelude.{◌≡◌, ◌≢◌, IfSome, IsErr};
-ghost use Rattle.std.specs.Io.KnownBytes.{Appends};
+ghost use Rattle.std.specs.Prelude.{◌≡◌, ◌≢◌, IfOk, IfSome, IsErr};
 ghost use Rattle.auc_graph.specs.Reading.{reading};
 ghost use Rattle.auc_cert.specs.Spelled.{IsSpelled};
-ghost use Rattle.auc_run.specs.Lines.{verdict_line};
-ghost use Rattle.auc_run.specs.Statuses.{verdict_status};
 ghost use Rattle.auc_run.specs.Verdicts.{Judges, IsVerdict, said_by};
 ghost use Rattle.auc_run.specs.Jobs.{IsInRange};
-ghost use Rattle.auc_run.specs.Said.{Said};
+ghost use Rattle.auc_run.specs.Reports.{IsWritable};
+ghost use Rattle.auc_run.specs.Said.{IsOutcome, Said};
 
-use crate::hall::answer_hall;
+use crate::hall::found_of;
 use crate::input::read_all;
-use crate::lines::{status_of, write_verdict};
-use crate::mail::answer_script;
+use crate::mail::replies_of;
 use crate::problem::problem_of;
 use crate::refusal::Refusal;
-use crate::solve::answer_solve;
-use crate::status::UNWRITTEN;
+use crate::report::{Report, tell};
+use crate::solve::answer_of;
 use crate::valid::Valid;
 use auc_cert::{Cert, CertParts, check, read_cert};
 use auc_graph::{ArcList, MOST_ARCS, MOST_READS};
@@ -90,13 +87,24 @@ fn verdict_of<R: Read, Q: Read>(
     judge(alloc, &problem, &cert)
 }
 
-/// Writes the line of a verdict, and gives its status.
-fn answer<W: Write>(writer: &mut W, verdict: Result<Valid, Refusal>) -> u8
-    ensures { result ≢ UNWRITTEN → Appends (W.contents writer.old) (W.contents writer.new) (verdict_line verdict) × (result ≡ verdict_status verdict) }
+/// What the job comes to on what the readers have.
+fn outcome_of<R: Read, Q: Read>(
+    alloc: Global,
+    job: &Job,
+    reader: &mut R,
+    second: &mut Q,
+) -> Result<Report, Refusal>
+    requires { IsInRange job.now }
+    ensures outcome { IsOutcome job.now (R.remaining reader.old) (Q.remaining second.old) result }
+    ensures writable { IfOk result IsWritable }
+    ensures unread { IfSome (R.remaining reader.old) (λ file. IsErr (reading MOST_ARCS file) → second.new ≡ second.old) }
+    ensures alone { job.now ≢ Job.Check → second.new ≡ second.old }
 {
-    match write_verdict(writer, verdict) {
-        Ok(()) => status_of(verdict),
-        Err(_) => UNWRITTEN,
+    match job {
+        Job::Solve { bids, .. } => Ok(Report::Solved(answer_of(alloc, reader, *bids)?)),
+        Job::Check => Ok(Report::Judged(verdict_of(alloc, reader, second)?)),
+        Job::Hall => Ok(Report::Completed(found_of(alloc, reader)?)),
+        Job::Mail => Ok(Report::Replied(replies_of(alloc, reader)?)),
     }
 }
 
@@ -104,7 +112,7 @@ fn answer<W: Write>(writer: &mut W, verdict: Result<Valid, Refusal>) -> u8
 /// status, one of [`crate::status`]. Each reader is read to its end, by at most [`MOST_READS`] reads, and a failed read
 /// is never tried again. The writer is not flushed.
 ///
-/// Nothing is promised of what was written where the status is [`UNWRITTEN`]: a write failed, or took no bytes.
+/// Nothing is promised of what was written where the status is [`crate::status::UNWRITTEN`]: a write failed, or took no bytes.
 ///
 /// A solve takes the time of the auction, by [`auc_world::solve_serial`], and of one check; its memory is that of the input
 /// while it is read, and then 28 bytes an arc and what its shards and mails take, which is linear in the persons.
@@ -121,16 +129,12 @@ pub fn run_command<R: Read, Q: Read, W: Write>(
     // The job's numbers are those that its fields allow.
     requires range { IsInRange job.now }
     // What was written and the status are right for the bytes that were read.
-    ensures said { result ≢ UNWRITTEN → Said job.now (R.remaining reader.old) (Q.remaining second.old) (W.contents writer.old) (W.contents writer.new) result }
+    ensures said { result ≢ 8 → Said job.now (R.remaining reader.old) (Q.remaining second.old) (W.contents writer.old) (W.contents writer.new) result }
     // A certificate for what is no problem is left unread.
     ensures unread { IfSome (R.remaining reader.old) (λ file. IsErr (reading MOST_ARCS file) → second.new ≡ second.old) }
     // Only a check has a second input.
     ensures alone { job.now ≢ Job.Check → second.new ≡ second.old }
 {
-    match job {
-        Job::Solve { bids, .. } => answer_solve(alloc, reader, writer, *bids),
-        Job::Check => answer(writer, verdict_of(alloc, reader, second)),
-        Job::Hall => answer_hall(alloc, reader, writer),
-        Job::Mail => answer_script(alloc, reader, writer),
-    }
+    let outcome = outcome_of(alloc, job, reader, second);
+    tell(writer, outcome)
 }

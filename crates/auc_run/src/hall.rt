@@ -1,15 +1,14 @@
 //! The job of a hall: a problem is read, and each person gets an arc, or persons are named who know too few objects.
 
-ghost use Rattle.std.specs.Prelude.{◌≡◌, ◌≢◌, ◌<◌, ◌≤◌, ⊤, length, map, All, IfOk, OnOk};
-ghost use Rattle.std.specs.Io.KnownBytes.{Appends};
+ghost use Rattle.std.specs.Prelude.{◌≡◌, ◌<◌, length, map, All, IfOk};
 ghost use Rattle.auc_cert.specs.Spelled.{AreNamed};
-ghost use Rattle.auc_run.specs.Completions.{IsFound, IsFoundIn, IsSmall, AnswersHall, found_text, found_status, completion_text, completion_status, pick_at};
+ghost use Rattle.auc_cert.specs.Writing.{Writes};
+ghost use Rattle.auc_run.specs.Completions.{IsFound, IsFoundIn, IsSmall, found_text, pick_at};
 
 use crate::found::Found;
-use crate::lines::{status_of_refusal, write_counted, write_refusal};
+use crate::lines::write_counted;
 use crate::problem::problem_of;
 use crate::refusal::Refusal;
-use crate::status::{FULL, INFEASIBLE, UNWRITTEN};
 use auc_cert::{Cert, CertParts, Pick, Picks, WriteFault, write_cert, write_picks};
 use auc_graph::{Arc, ArcList, Indices, Rows};
 use auc_hall::{Matching, Partial, complete};
@@ -61,7 +60,7 @@ fn found_in(alloc: Global, problem: &ArcList) -> Result<Found, AllocError>
 }
 
 /// What is found in the problem that the reader has.
-fn found_of<R: Read>(alloc: Global, reader: &mut R) -> Result<Found, Refusal>
+pub(crate) fn found_of<R: Read>(alloc: Global, reader: &mut R) -> Result<Found, Refusal>
     ensures found { IsFoundIn (R.remaining reader.old) result }
     ensures small { IfOk result IsSmall }
 {
@@ -71,9 +70,9 @@ fn found_of<R: Read>(alloc: Global, reader: &mut R) -> Result<Found, Refusal>
 }
 
 /// Writes what was found.
-fn write_found<W: Write>(writer: &mut W, found: &Found) -> Result<(), WriteFault>
+pub(crate) fn write_found<W: Write>(writer: &mut W, found: &Found) -> Result<(), WriteFault>
     requires { IsSmall found.now }
-    ensures { OnOk result (Appends (W.contents writer.old) (W.contents writer.new) (found_text found.now)) }
+    ensures { Writes result (W.contents writer.old) (W.contents writer.new) (found_text found.now) }
 {
     match found {
         Found::Full(choice) => {
@@ -83,38 +82,4 @@ fn write_found<W: Write>(writer: &mut W, found: &Found) -> Result<(), WriteFault
         }
         Found::Hall(cert) => write_cert(writer, cert),
     }
-}
-
-fn status_of_found(found: &Found) -> u8
-    ensures { result ≡ found_status found.now }
-{
-    match found {
-        Found::Full(_) => FULL,
-        Found::Hall(_) => INFEASIBLE,
-    }
-}
-
-/// Writes what was found, or the line of a refusal, and gives the status.
-fn answer_found<W: Write>(writer: &mut W, found: Result<Found, Refusal>) -> u8
-    requires { IfOk found IsSmall }
-    ensures { result ≢ UNWRITTEN → Appends (W.contents writer.old) (W.contents writer.new) (completion_text found) × (result ≡ completion_status found) }
-{
-    match found {
-        Ok(found) => match write_found(writer, &found) {
-            Ok(()) => status_of_found(&found),
-            Err(_) => UNWRITTEN,
-        },
-        Err(refusal) => match write_refusal(writer, refusal) {
-            Ok(()) => status_of_refusal(refusal),
-            Err(_) => UNWRITTEN,
-        },
-    }
-}
-
-/// Reads a problem, searches an arc for each person, writes what is found, and gives the status.
-pub(crate) fn answer_hall<R: Read, W: Write>(alloc: Global, reader: &mut R, writer: &mut W) -> u8
-    ensures { result ≢ UNWRITTEN → AnswersHall (R.remaining reader.old) (W.contents writer.old) (W.contents writer.new) result }
-{
-    let found = found_of(alloc, reader);
-    answer_found(writer, found)
 }

@@ -14,6 +14,7 @@ mod mail;
 mod problem;
 mod refusal;
 mod replies;
+mod report;
 mod script;
 mod script_error;
 mod script_reading;
@@ -21,10 +22,13 @@ mod solve;
 pub mod status;
 mod valid;
 
+pub use auc_world::USUAL_BIDS;
 pub use command::{Job, MOST_BIDS, run_command};
 pub use found::Found;
 pub use input::{ReadFault, read_all};
 pub use refusal::Refusal;
+pub use replies::Replies;
+pub use report::Report;
 pub use script::{
     Calls, MOST_CALLS, MOST_ITEM, MOST_SCRIPT_BOXES, MOST_SCRIPT_NODES, MOST_SCRIPT_POSTS, Script,
 };

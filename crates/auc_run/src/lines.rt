@@ -1,18 +1,15 @@
-//! The line that tells a verdict, and its status.
+//! The line that tells what a claim says, or a refusal.
 
-ghost use Rattle.std.specs.Prelude.{◌≡◌, ◌+◌, OnOk};
-ghost use Rattle.std.specs.Fmt.{decimal, signed_decimal};
-ghost use Rattle.std.specs.Io.KnownBytes.{Appends};
+ghost use Rattle.std.specs.Prelude.{◌+◌};
+ghost use Rattle.auc_cert.specs.Writing.{Writes};
 ghost use Rattle.auc_run.specs.declared.valid.Valid.TheVariants.{Optimal, Infeasible};
-ghost use Rattle.auc_run.specs.Lines.{counted, input_line, problem_line, certificate_line, claim_line, script_line, refusal_line, valid_line, verdict_line};
-ghost use Rattle.auc_run.specs.Statuses.{refusal_status, verdict_status};
+ghost use Rattle.auc_run.specs.Lines.{counted, input_line, problem_line, certificate_line, claim_line, script_line, refusal_line, valid_line};
 
 use crate::input::ReadFault;
 use crate::refusal::Refusal;
 use crate::script_error::ScriptError;
-use crate::status::{INVALID, NO_MEMORY, REFUSED, VALID};
 use crate::valid::Valid;
-use auc_cert::{CertRefused, CertTextError, WriteFault, write_whole};
+use auc_cert::{CertRefused, CertTextError, WriteFault, write_count, write_number, write_whole};
 use auc_graph::ReadError;
 use itoa::Buffer;
 use std::io::Write;
@@ -23,7 +20,7 @@ pub(crate) fn write_counted<W: Write>(
     words: &[u8],
     number: u128,
 ) -> Result<(), WriteFault>
-    ensures { OnOk result (Appends (W.contents writer.old) (W.contents writer.new) (counted words.now number)) }
+    ensures { Writes result (W.contents writer.old) (W.contents writer.new) (counted words.now number) }
 {
     let mut buffer = Buffer::new();
     write_whole(writer, words)?;
@@ -34,29 +31,13 @@ pub(crate) fn write_counted<W: Write>(
 
 /// Writes the number from 1 on of what is numbered from 0.
 fn write_place<W: Write>(writer: &mut W, words: &[u8], place: u64) -> Result<(), WriteFault>
-    ensures { OnOk result (Appends (W.contents writer.old) (W.contents writer.new) (counted words.now (place + 1))) }
+    ensures { Writes result (W.contents writer.old) (W.contents writer.new) (counted words.now (place + 1)) }
 {
     write_counted(writer, words, place as u128 + 1)
 }
 
-/// Writes a number in decimal, with a minus where it is negative.
-pub(crate) fn write_number<W: Write>(writer: &mut W, number: i64) -> Result<(), WriteFault>
-    ensures { OnOk result (Appends (W.contents writer.old) (W.contents writer.new) (signed_decimal number)) }
-{
-    let mut buffer = Buffer::new();
-    write_whole(writer, buffer.format(number).as_bytes())
-}
-
-/// Writes a number in decimal.
-pub(crate) fn write_count<W: Write>(writer: &mut W, count: u64) -> Result<(), WriteFault>
-    ensures { OnOk result (Appends (W.contents writer.old) (W.contents writer.new) (decimal count)) }
-{
-    let mut buffer = Buffer::new();
-    write_whole(writer, buffer.format(count).as_bytes())
-}
-
 fn write_optimal<W: Write>(writer: &mut W, cost: i64) -> Result<(), WriteFault>
-    ensures { OnOk result (Appends (W.contents writer.old) (W.contents writer.new) (valid_line (Optimal cost))) }
+    ensures { Writes result (W.contents writer.old) (W.contents writer.new) (valid_line (Optimal cost)) }
 {
     write_whole(writer, b"valid optimal ")?;
     write_number(writer, cost)?;
@@ -65,7 +46,7 @@ fn write_optimal<W: Write>(writer: &mut W, cost: i64) -> Result<(), WriteFault>
 }
 
 fn write_infeasible<W: Write>(writer: &mut W, persons: u64, objects: u64) -> Result<(), WriteFault>
-    ensures { OnOk result (Appends (W.contents writer.old) (W.contents writer.new) (valid_line (Infeasible persons objects))) }
+    ensures { Writes result (W.contents writer.old) (W.contents writer.new) (valid_line (Infeasible persons objects)) }
 {
     write_whole(writer, b"valid infeasible ")?;
     write_count(writer, persons)?;
@@ -75,8 +56,9 @@ fn write_infeasible<W: Write>(writer: &mut W, persons: u64, objects: u64) -> Res
     Ok(())
 }
 
-fn write_valid<W: Write>(writer: &mut W, valid: Valid) -> Result<(), WriteFault>
-    ensures { OnOk result (Appends (W.contents writer.old) (W.contents writer.new) (valid_line valid)) }
+/// Writes the one line of a claim that holds.
+pub(crate) fn write_valid<W: Write>(writer: &mut W, valid: Valid) -> Result<(), WriteFault>
+    ensures { Writes result (W.contents writer.old) (W.contents writer.new) (valid_line valid) }
 {
     match valid {
         Valid::Optimal { cost } => write_optimal(writer, cost),
@@ -87,7 +69,7 @@ fn write_valid<W: Write>(writer: &mut W, valid: Valid) -> Result<(), WriteFault>
 }
 
 fn write_input<W: Write>(writer: &mut W, fault: ReadFault) -> Result<(), WriteFault>
-    ensures { OnOk result (Appends (W.contents writer.old) (W.contents writer.new) (input_line fault)) }
+    ensures { Writes result (W.contents writer.old) (W.contents writer.new) (input_line fault) }
 {
     match fault {
         ReadFault::Failed => write_whole(writer, b"refused read\n"),
@@ -97,7 +79,7 @@ fn write_input<W: Write>(writer: &mut W, fault: ReadFault) -> Result<(), WriteFa
 }
 
 fn write_problem<W: Write>(writer: &mut W, error: ReadError) -> Result<(), WriteFault>
-    ensures { OnOk result (Appends (W.contents writer.old) (W.contents writer.new) (problem_line error)) }
+    ensures { Writes result (W.contents writer.old) (W.contents writer.new) (problem_line error) }
 {
     match error {
         ReadError::Empty => write_whole(writer, b"refused empty\n"),
@@ -113,7 +95,7 @@ fn write_problem<W: Write>(writer: &mut W, error: ReadError) -> Result<(), Write
 }
 
 fn write_certificate<W: Write>(writer: &mut W, error: CertTextError) -> Result<(), WriteFault>
-    ensures { OnOk result (Appends (W.contents writer.old) (W.contents writer.new) (certificate_line error)) }
+    ensures { Writes result (W.contents writer.old) (W.contents writer.new) (certificate_line error) }
 {
     match error {
         CertTextError::Line { line } => write_place(writer, b"refused certificate ", line),
@@ -122,7 +104,7 @@ fn write_certificate<W: Write>(writer: &mut W, error: CertTextError) -> Result<(
 }
 
 fn write_claim<W: Write>(writer: &mut W, error: CertRefused) -> Result<(), WriteFault>
-    ensures { OnOk result (Appends (W.contents writer.old) (W.contents writer.new) (claim_line error)) }
+    ensures { Writes result (W.contents writer.old) (W.contents writer.new) (claim_line error) }
 {
     match error {
         CertRefused::WrongSize => write_whole(writer, b"invalid size\n"),
@@ -138,7 +120,7 @@ fn write_claim<W: Write>(writer: &mut W, error: CertRefused) -> Result<(), Write
 }
 
 fn write_script<W: Write>(writer: &mut W, error: ScriptError) -> Result<(), WriteFault>
-    ensures { OnOk result (Appends (W.contents writer.old) (W.contents writer.new) (script_line error)) }
+    ensures { Writes result (W.contents writer.old) (W.contents writer.new) (script_line error) }
 {
     match error {
         ScriptError::Word { token } => write_place(writer, b"refused word ", token),
@@ -151,7 +133,7 @@ fn write_script<W: Write>(writer: &mut W, error: ScriptError) -> Result<(), Writ
 
 /// Writes the one line of a refusal.
 pub(crate) fn write_refusal<W: Write>(writer: &mut W, refusal: Refusal) -> Result<(), WriteFault>
-    ensures { OnOk result (Appends (W.contents writer.old) (W.contents writer.new) (refusal_line refusal)) }
+    ensures { Writes result (W.contents writer.old) (W.contents writer.new) (refusal_line refusal) }
 {
     match refusal {
         Refusal::NotRead(fault) => write_input(writer, fault),
@@ -160,47 +142,5 @@ pub(crate) fn write_refusal<W: Write>(writer: &mut W, refusal: Refusal) -> Resul
         Refusal::Invalid(error) => write_claim(writer, error),
         Refusal::NoScript(error) => write_script(writer, error),
         Refusal::NoMemory => write_whole(writer, b"refused memory\n"),
-    }
-}
-
-/// Writes the one line of a verdict.
-pub(crate) fn write_verdict<W: Write>(
-    writer: &mut W,
-    verdict: Result<Valid, Refusal>,
-) -> Result<(), WriteFault>
-    ensures { OnOk result (Appends (W.contents writer.old) (W.contents writer.new) (verdict_line verdict)) }
-{
-    match verdict {
-        Ok(valid) => write_valid(writer, valid),
-        Err(refusal) => write_refusal(writer, refusal),
-    }
-}
-
-/// The status of a refusal.
-pub(crate) fn status_of_refusal(refusal: Refusal) -> u8
-    ensures { result ≡ refusal_status refusal }
-{
-    match refusal {
-        Refusal::NotRead(ReadFault::NoMemory)
-        | Refusal::NoProblem(ReadError::NoMemory)
-        | Refusal::NoCertificate(CertTextError::NoMemory)
-        | Refusal::Invalid(CertRefused::NoMemory)
-        | Refusal::NoScript(ScriptError::NoMemory)
-        | Refusal::NoMemory => NO_MEMORY,
-        Refusal::Invalid(_) => INVALID,
-        Refusal::NotRead(_)
-        | Refusal::NoProblem(_)
-        | Refusal::NoCertificate(_)
-        | Refusal::NoScript(_) => REFUSED,
-    }
-}
-
-/// The status of a verdict.
-pub(crate) fn status_of(verdict: Result<Valid, Refusal>) -> u8
-    ensures { result ≡ verdict_status verdict }
-{
-    match verdict {
-        Ok(_) => VALID,
-        Err(refusal) => status_of_refusal(refusal),
     }
 }

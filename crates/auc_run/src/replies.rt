@@ -1,17 +1,47 @@
-//! The lines that tell the replies of a mail.
+//! The replies of a mail, and the lines that tell them.
 
-ghost use Rattle.std.specs.Prelude.{◌≡◌, ◌+◌, OnOk};
-ghost use Rattle.std.specs.Fmt.{decimal};
-ghost use Rattle.std.specs.Io.KnownBytes.{Appends};
+ghost use Rattle.std.specs.Prelude.{◌≡◌};
+ghost use Rattle.auc_cert.specs.Writing.{Writes};
 ghost use Rattle.auc_mail.specs.declared.call.Reply.TheVariants.{Posted, Refused, Took, WasOpen};
 ghost use Rattle.auc_mail.specs.declared.call.Taken.TheVariants.{Letter};
 ghost use Rattle.auc_run.specs.Replies.{reply_line, reply_lines};
 
-use crate::lines::{write_count, write_counted, write_number};
-use auc_cert::{WriteFault, write_whole};
+use crate::lines::write_counted;
+use auc_cert::{WriteFault, write_count, write_number, write_whole};
 use auc_mail::{PostRefused, Reply, Taken};
-use itoa::Buffer;
 use std::io::Write;
+use std::marker::Model;
+
+/// The replies to the calls of a script, in order. Contracts see them as a list.
+#[derive(Debug, Drop)]
+pub struct Replies {
+    replies: Vec<Reply<i64>>,
+}
+
+impl Model for Replies {
+    ghost use Rattle.std.specs.Prelude.{List, ℤ};
+    ghost use Rattle.auc_mail.specs.declared.call.Reply.{Reply};
+
+    ghost Value = { List (Reply ℤ) };
+
+    ghost view = { λ a. a.replies.items };
+}
+
+impl Replies {
+    /// These replies. Takes no memory.
+    pub fn new(replies: Vec<Reply<i64>>) -> Self
+        ensures { result ≡ replies.items }
+    {
+        Replies { replies }
+    }
+
+    /// The replies, in order.
+    pub fn as_slice(&self) -> &[Reply<i64>]
+        ensures { result.now ≡ self.now }
+    {
+        self.replies.as_slice()
+    }
+}
 
 /// Writes the line of a letter. Its sender is numbered from 0.
 fn write_letter<W: Write>(
@@ -20,7 +50,7 @@ fn write_letter<W: Write>(
     number: u64,
     item: i64,
 ) -> Result<(), WriteFault>
-    ensures { OnOk result (Appends (W.contents writer.old) (W.contents writer.new) (reply_line (Took (Letter sender number item)))) }
+    ensures { Writes result (W.contents writer.old) (W.contents writer.new) (reply_line (Took (Letter sender number item))) }
 {
     write_whole(writer, b"letter ")?;
     write_count(writer, sender as u64 + 1)?;
@@ -33,7 +63,7 @@ fn write_letter<W: Write>(
 }
 
 fn write_refused<W: Write>(writer: &mut W, refused: PostRefused) -> Result<(), WriteFault>
-    ensures { OnOk result (Appends (W.contents writer.old) (W.contents writer.new) (reply_line (Refused refused))) }
+    ensures { Writes result (W.contents writer.old) (W.contents writer.new) (reply_line (Refused refused)) }
 {
     match refused {
         PostRefused::Closed => write_whole(writer, b"closed\n"),
@@ -43,7 +73,7 @@ fn write_refused<W: Write>(writer: &mut W, refused: PostRefused) -> Result<(), W
 }
 
 fn write_taken<W: Write>(writer: &mut W, taken: Taken<i64>) -> Result<(), WriteFault>
-    ensures { OnOk result (Appends (W.contents writer.old) (W.contents writer.new) (reply_line (Took taken))) }
+    ensures { Writes result (W.contents writer.old) (W.contents writer.new) (reply_line (Took taken)) }
 {
     match taken {
         Taken::Letter {
@@ -57,7 +87,7 @@ fn write_taken<W: Write>(writer: &mut W, taken: Taken<i64>) -> Result<(), WriteF
 }
 
 fn write_closed<W: Write>(writer: &mut W, was_open: bool) -> Result<(), WriteFault>
-    ensures { OnOk result (Appends (W.contents writer.old) (W.contents writer.new) (reply_line (WasOpen was_open))) }
+    ensures { Writes result (W.contents writer.old) (W.contents writer.new) (reply_line (WasOpen was_open)) }
 {
     if was_open {
         write_whole(writer, b"was open\n")
@@ -68,7 +98,7 @@ fn write_closed<W: Write>(writer: &mut W, was_open: bool) -> Result<(), WriteFau
 
 /// Writes the line of a reply.
 fn write_reply<W: Write>(writer: &mut W, reply: Reply<i64>) -> Result<(), WriteFault>
-    ensures { OnOk result (Appends (W.contents writer.old) (W.contents writer.new) (reply_line reply)) }
+    ensures { Writes result (W.contents writer.old) (W.contents writer.new) (reply_line reply) }
 {
     match reply {
         Reply::Posted(number) => write_counted(writer, b"ok ", number as u128),
@@ -83,7 +113,7 @@ pub(crate) fn write_replies<W: Write>(
     writer: &mut W,
     replies: &[Reply<i64>],
 ) -> Result<(), WriteFault>
-    ensures { OnOk result (Appends (W.contents writer.old) (W.contents writer.new) (reply_lines replies.now)) }
+    ensures { Writes result (W.contents writer.old) (W.contents writer.new) (reply_lines replies.now) }
 {
     for reply in replies {
         write_reply(writer, *reply)?;

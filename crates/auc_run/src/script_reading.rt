@@ -1,10 +1,13 @@
 //! Reading of a script from a text.
 
-ghost use Rattle.std.specs.Prelude.{◌≡◌, ◌≢◌, ◌≤◌, ◌<◌, ◌+◌, ◌*◌, ◌-◌, ◌^◌, ◌∷◌, [], ℕ, pos, ◌≤ℤ◌, Err, Ok, IfSome, IfNone, IfOk, length, All};
+ghost use Rattle.std.specs.Prelude.{◌≡◌, ◌≤◌, ◌<◌, ◌+◌, ◌*◌, ◌-◌, ◌^◌, ◌∷◌, [], ℕ, pos, ◌≤ℤ◌, IfSome, IfNone, IfOk, length, All};
+ghost use Rattle.std.specs.Result.{result_map_both};
+ghost use Rattle.auc_graph.specs.Memory.{AnswersUnless};
 ghost use Rattle.auc_graph.specs.Tokens.{tokens};
 ghost use Rattle.auc_graph.specs.Numbers.{number};
-ghost use Rattle.auc_run.specs.Script.{command, number_in, operand, index, count, post_at, call_by, call_at, calls_from, opening, script_of, script_in, seen, Reads};
-ghost use Rattle.auc_run.specs.ScriptRanges.{IsWithin};
+ghost use Rattle.auc_run.specs.Script.{command, number_in, operand, index, count, post_at, call_by, call_at, calls_from, opening, script_of, ReadsAsScript};
+ghost use Rattle.auc_mail.specs.Step.{FitsIn};
+ghost use Rattle.auc_run.specs.ScriptLimits.{most_boxes, most_nodes, most_calls};
 
 use crate::command_word::CommandWord;
 use crate::script::{
@@ -57,7 +60,7 @@ fn number_within(number: Number, place: u64, least: i64, most: i64) -> Result<i6
 
 /// The operand at token `place`, from `least` to `most`, and the text behind it.
 fn operand_of(bytes: &[u8], place: u64, least: i64, most: i64) -> Result<(i64, &[u8]), ScriptError>
-    ensures exact { seen (λ x. (x.0, tokens x.1.now)) result ≡ operand least most place (tokens bytes.now) }
+    ensures exact { result_map_both (λ x. (x.0, tokens x.1.now)) (λ e. e) result ≡ operand least most place (tokens bytes.now) }
     ensures bounds { IfOk result (λ x. (least ≤ℤ x.0) × (x.0 ≤ℤ most)) }
     ensures shorter { IfOk result (λ x. length x.1.now ≤ length bytes.now) }
 {
@@ -70,7 +73,7 @@ fn operand_of(bytes: &[u8], place: u64, least: i64, most: i64) -> Result<(i64, &
 
 /// The operand at token `place`, from 1 to `most`, as a number from 0, and the text behind it.
 fn index_of(bytes: &[u8], place: u64, most: u32) -> Result<(u32, &[u8]), ScriptError>
-    ensures exact { seen (λ x. (x.0, tokens x.1.now)) result ≡ index most place (tokens bytes.now) }
+    ensures exact { result_map_both (λ x. (x.0, tokens x.1.now)) (λ e. e) result ≡ index most place (tokens bytes.now) }
     ensures below { IfOk result (λ x. x.0 < most) }
     ensures shorter { IfOk result (λ x. length x.1.now ≤ length bytes.now) }
 {
@@ -80,7 +83,7 @@ fn index_of(bytes: &[u8], place: u64, most: u32) -> Result<(u32, &[u8]), ScriptE
 
 /// The operand at token `place`, from `least` to `most`, and the text behind it.
 fn count_of(bytes: &[u8], place: u64, least: u32, most: u32) -> Result<(u32, &[u8]), ScriptError>
-    ensures exact { seen (λ x. (x.0, tokens x.1.now)) result ≡ count least most place (tokens bytes.now) }
+    ensures exact { result_map_both (λ x. (x.0, tokens x.1.now)) (λ e. e) result ≡ count least most place (tokens bytes.now) }
     ensures bounds { IfOk result (λ x. (least ≤ x.0) × (x.0 ≤ most)) }
     ensures shorter { IfOk result (λ x. length x.1.now ≤ length bytes.now) }
 {
@@ -97,8 +100,8 @@ fn post_of(
     bytes: &[u8],
 ) -> Result<(Call<i64>, u64, &[u8]), ScriptError>
     requires { place < 2 ^ 40 }
-    ensures exact { seen (λ x. ((x.0, x.1), tokens x.2.now)) result ≡ post_at boxes senders place (tokens bytes.now) }
-    ensures within { IfOk result (λ x. IsWithin boxes senders x.0) }
+    ensures exact { result_map_both (λ x. ((x.0, x.1), tokens x.2.now)) (λ e. e) result ≡ post_at boxes senders place (tokens bytes.now) }
+    ensures within { IfOk result (λ x. FitsIn senders boxes x.0) }
     ensures next { IfOk result (λ x. x.1 ≤ place + 5) }
     ensures shorter { IfOk result (λ x. length x.2.now ≤ length bytes.now) }
 {
@@ -124,8 +127,8 @@ fn call_of(
     command: Option<CommandWord>,
 ) -> Result<(Call<i64>, u64, &[u8]), ScriptError>
     requires { place < 2 ^ 40 }
-    ensures exact { seen (λ x. ((x.0, x.1), tokens x.2.now)) result ≡ call_by boxes senders place (tokens bytes.now) command }
-    ensures within { IfOk result (λ x. IsWithin boxes senders x.0) }
+    ensures exact { result_map_both (λ x. ((x.0, x.1), tokens x.2.now)) (λ e. e) result ≡ call_by boxes senders place (tokens bytes.now) command }
+    ensures within { IfOk result (λ x. FitsIn senders boxes x.0) }
     ensures next { IfOk result (λ x. x.1 ≤ place + 5) }
     ensures shorter { IfOk result (λ x. length x.2.now ≤ length bytes.now) }
 {
@@ -150,8 +153,8 @@ fn calls_of(
     senders: u32,
     text: &[u8],
 ) -> Result<Vec<Call<i64>>, ScriptError>
-    ensures exact { Reads (λ v. v.items) result (calls_from MOST_CALLS boxes senders 5 (tokens text.now)) }
-    ensures within { IfOk result (λ v. All (IsWithin boxes senders) v.items) }
+    ensures exact { AnswersUnless ScriptError.NoMemory (λ v. v.items) result (λ r. calls_from most_calls boxes senders 5 (tokens text.now) ≡ r) }
+    ensures within { IfOk result (λ v. All (FitsIn senders boxes) v.items) }
 {
     let mut calls = Vec::new(alloc);
     let mut place: u64 = 5;
@@ -196,9 +199,9 @@ fn open_script(command: Option<CommandWord>) -> Result<u32, ScriptError>
 /// Takes O(length) time, and 32 bytes of memory a call.
 #[tactic(auto, unfolding(crate::specs::Script::script_of))]
 pub fn read_script(alloc: Global, bytes: &[u8]) -> Result<Script, ScriptError>
-    ensures exact { result ≢ Err ScriptError.NoMemory → result ≡ script_in bytes.now }
-    ensures within { IfOk result (λ s. All (IsWithin s.boxes s.senders) s.calls) }
-    ensures sizes { IfOk result (λ s. (s.boxes ≤ MOST_SCRIPT_BOXES) × (s.senders ≤ MOST_SCRIPT_BOXES) × (s.nodes ≤ MOST_SCRIPT_NODES)) }
+    ensures exact { ReadsAsScript bytes.now result }
+    ensures within { IfOk result (λ s. All (FitsIn s.senders s.boxes) s.calls) }
+    ensures sizes { IfOk result (λ s. (s.boxes ≤ most_boxes) × (s.senders ≤ most_boxes) × (s.nodes ≤ most_nodes)) }
 {
     let Some((word, rest)) = next_token(bytes) else {
         return Err(ScriptError::Cut { tokens: 0 });

@@ -1,20 +1,21 @@
 //! The job of a solve: a problem is read, and a least-cost assignment is found, or persons who together know too few objects.
 
-ghost use Rattle.std.specs.Prelude.{◌≡◌, ◌≢◌, OnOk};
-ghost use Rattle.std.specs.Io.KnownBytes.{Appends};
-ghost use Rattle.auc_run.specs.Solutions.{AnswersSolve, IsSolvedIn, answer_status, answer_text, guard_line, solution_status, solution_text};
+ghost use Rattle.auc_cert.specs.Writing.{Writes};
+ghost use Rattle.auc_run.specs.Solutions.{IsSolvedIn, answer_text, guard_line};
 
-use crate::lines::{status_of_refusal, write_refusal};
 use crate::problem::problem_of;
 use crate::refusal::Refusal;
-use crate::status::{BROKEN, INFEASIBLE, OPTIMAL, UNWRITTEN};
 use auc_cert::{WriteFault, write_cert, write_whole};
 use auc_world::{Answer, Guard, Limits, solve_serial};
 use std::alloc::Global;
 use std::io::{Read, Write};
 
 /// What the solver answers about the problem that the reader has, with so many bids for each shard of the persons in a phase.
-fn answer_of<R: Read>(alloc: Global, reader: &mut R, bids: u64) -> Result<Answer, Refusal>
+pub(crate) fn answer_of<R: Read>(
+    alloc: Global,
+    reader: &mut R,
+    bids: u64,
+) -> Result<Answer, Refusal>
     ensures { IsSolvedIn (R.remaining reader.old) result }
 {
     let problem = problem_of(alloc, reader)?;
@@ -28,7 +29,7 @@ fn answer_of<R: Read>(alloc: Global, reader: &mut R, bids: u64) -> Result<Answer
 
 /// Writes the line of a guard that was hit.
 fn write_guard<W: Write>(writer: &mut W, guard: Guard) -> Result<(), WriteFault>
-    ensures { OnOk result (Appends (W.contents writer.old) (W.contents writer.new) (guard_line guard)) }
+    ensures { Writes result (W.contents writer.old) (W.contents writer.new) (guard_line guard) }
 {
     match guard {
         Guard::Fell => write_whole(writer, b"broken fell\n"),
@@ -41,51 +42,12 @@ fn write_guard<W: Write>(writer: &mut W, guard: Guard) -> Result<(), WriteFault>
 }
 
 /// Writes an answer.
-fn write_answer<W: Write>(writer: &mut W, answer: &Answer) -> Result<(), WriteFault>
-    ensures { OnOk result (Appends (W.contents writer.old) (W.contents writer.new) (answer_text answer.now)) }
+pub(crate) fn write_answer<W: Write>(writer: &mut W, answer: &Answer) -> Result<(), WriteFault>
+    ensures { Writes result (W.contents writer.old) (W.contents writer.new) (answer_text answer.now) }
 {
     match answer {
         Answer::Optimal(cert) => write_cert(writer, cert),
         Answer::Infeasible(cert) => write_cert(writer, cert),
         Answer::Broken(guard) => write_guard(writer, *guard),
     }
-}
-
-fn status_of_answer(answer: &Answer) -> u8
-    ensures { result ≡ answer_status answer.now }
-{
-    match answer {
-        Answer::Optimal(_) => OPTIMAL,
-        Answer::Infeasible(_) => INFEASIBLE,
-        Answer::Broken(_) => BROKEN,
-    }
-}
-
-/// Writes an answer, or the line of a refusal, and gives the status.
-fn answer_solved<W: Write>(writer: &mut W, answer: Result<Answer, Refusal>) -> u8
-    ensures { result ≢ UNWRITTEN → Appends (W.contents writer.old) (W.contents writer.new) (solution_text answer) × (result ≡ solution_status answer) }
-{
-    match answer {
-        Ok(answer) => match write_answer(writer, &answer) {
-            Ok(()) => status_of_answer(&answer),
-            Err(_) => UNWRITTEN,
-        },
-        Err(refusal) => match write_refusal(writer, refusal) {
-            Ok(()) => status_of_refusal(refusal),
-            Err(_) => UNWRITTEN,
-        },
-    }
-}
-
-/// Reads a problem, solves it, writes the answer, and gives the status.
-pub(crate) fn answer_solve<R: Read, W: Write>(
-    alloc: Global,
-    reader: &mut R,
-    writer: &mut W,
-    bids: u64,
-) -> u8
-    ensures { result ≢ UNWRITTEN → AnswersSolve (R.remaining reader.old) (W.contents writer.old) (W.contents writer.new) result }
-{
-    let answer = answer_of(alloc, reader, bids);
-    answer_solved(writer, answer)
 }

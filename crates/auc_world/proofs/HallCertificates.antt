@@ -19,18 +19,18 @@ hall_is p t m persons objects of h is = matching_of p t (Hall persons objects) o
 
 known_within : (p : Problem) (persons objects : List ℕ) → IsProblem p → IsHallSetOf p persons objects → (j : ℕ) → Contains objects j → j < p.objects
 known_within p persons objects is set j c =
-    let a = set.1 j c in
+    let a = set.known j c in
     let within : IsWithin p.persons p.objects a.0 = subst (IsWithin p.persons p.objects) a.1.2 (is.within a.1.0 a.0 a.1.1) in
     omega (arith, within.object, a.3)
 
 pub are_named : (p : Problem) (persons objects : List ℕ) → IsProblem p → IsHallSetOf p persons objects → AreNamed persons objects
-are_named p persons objects is set = hall_set_named p persons objects is set.0 (known_within p persons objects is set)
+are_named p persons objects is set = hall_set_named p persons objects is set.set set.persons_rise set.objects_rise (known_within p persons objects is set)
 
 pub hall_set_certified : (p : Problem) (persons objects : List ℕ) → IsProblem p → IsHallSetOf p persons objects → IsCertified p (Infeasible persons objects)
 hall_set_certified p persons objects is set = record {
   spelled = are_named p persons objects is set;
-  faultless = hall_sets_faultless p persons objects set.0 (known_within p persons objects is set);
-  allowed = set.0;
+  faultless = hall_sets_faultless p persons objects set.set (known_within p persons objects is set);
+  allowed = set.set;
 }
 
 pub is_hall_certificate : (p : Problem) (persons objects : List ℕ) (cert : CertParts) → IsProblem p → IsHallSetOf p persons objects → cert ≡ Infeasible persons objects → IsHallCertificate p cert

@@ -1,10 +1,8 @@
 -- What holds of each world holds still when a shard, an outbox or a mail is another.
-use Rattle.std.proofs.Common.{ℕ, ◌%◌, ◌<◌, ◌≡◌, ◌≢◌, List, [], ◌∷◌, drop, length, get_or, set, inl, inr, refl, ap, sym, subst, ◌∙◌, arith, length-set}
-use Rattle.std.specs.Prelude.{ℤ, pos, negsuc, ◌≤ℤ◌, ◌<ℤ◌, ◌⊎◌, Option, Some, None, All, Result, Ok, Err}
-use Rattle.std.proofs.lemmas.Bool.{cases_eq, cases_lt}
-use Rattle.std.proofs.lemmas.Int.{ints}
+use Rattle.std.proofs.Common.{ℕ, ◌*◌, ◌%◌, ◌<◌, ◌≡◌, Bool, true, false, cond, List, [], ◌∷◌, drop, length, get_or, set, inl, inr, ap, sym, subst, ◌∙◌, arith, length-set}
+use Rattle.std.specs.Prelude.{IfSome, ℤ, Option, Some, None, All, Result, Ok, Err}
+use Rattle.std.proofs.lemmas.Bool.{cases_eq}
 use Rattle.std.proofs.lemmas.List.{get_or-set_same, get_or-set_other}
-use Rattle.arrayvec.specs.ArrayVec.{ArrayVec}
 use Rattle.auc_graph.specs.Table.{Table}
 use Rattle.auc_letters.specs.declared.letter.Letter.{Letter}
 use Rattle.auc_letters.specs.declared.out.Out.{Out}
@@ -14,16 +12,19 @@ use Rattle.auc_mail.specs.declared.call.Call.{Call}
 use Rattle.auc_mail.specs.declared.call.Reply.{Reply}
 use Rattle.auc_mail.proofs.StepLaws.{step_shape}
 use Rattle.auc_letters.specs.declared.state.Held.{Held}
-use Rattle.auc_letters.specs.Award.{awards, refusal}
+use Rattle.auc_letters.specs.declared.letter.Offer.{Offer}
+use Rattle.auc_letters.specs.Award.{Sale, answers, awards, is_accepted, refusal}
 use Rattle.auc_letters.specs.Routing.{to_person, to_hub}
-use Rattle.auc_objects.specs.Objects.{Objects, SameShape as SameObjects, sold}
-use Rattle.std.proofs.lemmas.List.Elements.{All-get_or, All-weaker, All-drop, All-push}
-use Rattle.auc_model.proofs.Tables.{first_and_rest}
+use Rattle.auc_objects.specs.Objects.{Objects, SameShape as SameObjects, sale_of}
+use Rattle.std.proofs.lemmas.List.Elements.{All-weaker, All-drop, All-push}
 use Rattle.auc_letters.specs.declared.state.PersonState.{PersonState}
 use Rattle.auc_persons.specs.declared.bidding.Bidding.{Bidding}
 use Rattle.auc_persons.specs.declared.bidding.PersonFault.{PersonFault}
 use Rattle.auc_persons.specs.Persons.{Persons, SameShape as SamePersons, Owns as OwnsPerson, NextBid, OnLetter, Answered, free_after}
-use Rattle.auc_world.specs.Parts.{AreParts, IsMail, IsObjectShard, IsPersonShard, Parts, Reaches, no_letters, no_objects, no_persons, objects_at, persons_at}
+use Rattle.auc_model.specs.declared.turn.MailName.{MailName}
+use Rattle.auc_world.specs.declared.mails.Mails.{Mails}
+use Rattle.auc_world.specs.Mails.{boxes_in, named, with_named}
+use Rattle.auc_world.specs.Parts.{AreMails, AreParts, IsMail, IsObjectShard, IsPersonShard, Parts, Reaches, no_objects, no_persons, objects_at, persons_at}
 
 -- a fact about each element stays where it holds of the new one
 pub each_set : {X : Type 0} (P : ℕ → X → Type 0) (xs : List X) (d : X) (n k : ℕ) (new : X) → length xs ≡ n → k < n → P k new → ((s : ℕ) → s < n → P s (get_or xs s d)) → (s : ℕ) → s < n → P s (get_or (set xs k new) s d)
@@ -80,26 +81,15 @@ persons_shape t n s x y same own is = record {
   idle_own = own;
 }
 
-pub objects_shape : (t : Table) (n q : ℕ) (x y : Objects) → SameObjects x y → length y.holders ≡ length x.holders → IsObjectShard t n q x → IsObjectShard t n q y
-objects_shape t n q x y same holders is = record {
+pub objects_shape : (t : Table) (n q : ℕ) (x y : Objects) → SameObjects x y → IsObjectShard t n q x → IsObjectShard t n q y
+objects_shape t n q x y same is = record {
   number = same.shard ∙ is.number;
   of = same.of ∙ is.of;
   person_shards = same.person_shards ∙ is.person_shards;
   persons = same.persons ∙ is.persons;
   objects = same.objects ∙ is.objects;
-  holders = holders ∙ is.holders;
+  holders = same.holders ∙ is.holders;
 }
-
-pub either : (a b : ℤ) → (a ≤ℤ b) ⊎ (b <ℤ a)
-either (pos m) (pos n) = elim (cases_lt n m) [ inl l ↦ inr (omega (arith, ints)) | inr l ↦ inl (omega (arith, ints)) ]
-either (pos m) (negsuc n) = inr (omega (arith, ints))
-either (negsuc m) (pos n) = inl (omega (arith, ints))
-either (negsuc m) (negsuc n) = elim (cases_lt m n) [ inl l ↦ inr (omega (arith, ints)) | inr l ↦ inl (omega (arith, ints)) ]
-
--- what a bid leaves of a shard, and the letters that answer it
-module _ (x y : Objects) (j : ℕ) (amount least : ℤ) (held : Held) (accepted : least ≤ℤ amount → y ≡ sold x j amount held) (kept : amount <ℤ least → y ≡ x) where
-  pub holders_stay : length y.holders ≡ length x.holders
-  holders_stay = elim (either least amount) [ inl l ↦ ap (λ (z : Objects). length z.holders) (accepted l) ∙ length-set x.holders j (Some held) | inr l ↦ ap (λ (z : Objects). length z.holders) (kept l) ]
 
 one_reach : (n : ℕ) (o : Out) → Reaches n o → All (Reaches n) (o ∷ [])
 one_reach n o r = All-push (Reaches n) [] o (λ k d l. absurd (omega arith)) r
@@ -114,13 +104,28 @@ awards_reach n (Some held) i j p some = two_reach n (to_person n held.person (Le
 refusal_reaches : (n i j : ℕ) (p : ℤ) → 0 < n → All (Reaches n) (refusal n i j p)
 refusal_reaches n i j p some = one_reach n (to_person n i (Letter.Refused i j p)) (omega arith)
 
-pub answers_reach : (n : ℕ) (os : List Out) (before : Option Held) (i j : ℕ) (p amount least : ℤ) → 0 < n → (least ≤ℤ amount → os ≡ awards n before i j amount) → (amount <ℤ least → os ≡ refusal n i j p) → All (Reaches n) os
-answers_reach n os before i j p amount least some accepted refused = elim (either least amount) [ inl l ↦ rw (accepted l) (awards_reach n before i j amount some) | inr l ↦ rw (refused l) (refusal_reaches n i j p some) ]
+answers_reach : (n : ℕ) (eps : ℤ) (sale : Sale) (bid : Offer) → 0 < n → All (Reaches n) (answers n eps sale bid)
+answers_reach n eps sale bid some = by (is_accepted eps sale bid)
+  where
+    by : (b : Bool) → All (Reaches n) (cond b (awards n sale.holder bid.person bid.object bid.amount) (refusal n bid.person bid.object sale.price))
+    by true = awards_reach n sale.holder bid.person bid.object bid.amount some
+    by false = refusal_reaches n bid.person bid.object sale.price some
 
 pub mail_shape : (n : ℕ) (x y : Mail Letter) (c : Call Letter) (r : Reply Letter) (boxes : ℕ) → Step x c r y → IsMail n x boxes → IsMail n y boxes
 mail_shape n x y c r boxes step is =
     let shape = step_shape x y c r step in
     record { boxes_are = shape.boxes ∙ is.boxes_are; senders_are = shape.senders ∙ is.senders_are }
+
+mails_step : (n : ℕ) (x : Mails) (name : MailName) (m : Mail Letter) (c : Call Letter) (r : Reply Letter) → Step (named x name) c r m → AreMails n x → AreMails n (with_named x name m)
+mails_step n x MailName.Objects m c r step are = record { objects = mail_shape n x.objects m c r n step are.objects; persons = are.persons; hub = are.hub }
+mails_step n x MailName.Persons m c r step are = record { objects = are.objects; persons = mail_shape n x.persons m c r n step are.persons; hub = are.hub }
+mails_step n x MailName.Hub m c r step are = record { objects = are.objects; persons = are.persons; hub = mail_shape n x.hub m c r 1 step are.hub }
+
+-- the mail of each name
+pub mail_there : (p : Parts) → AreParts p → (name : MailName) → IsMail p.shards (named p.mails name) (boxes_in p.shards name)
+mail_there p are MailName.Objects = are.mails_are.objects
+mail_there p are MailName.Persons = are.mails_are.persons
+mail_there p are MailName.Hub = are.mails_are.hub
 
 module _ (p : Parts) (are : AreParts p) where
   pub keeps_persons : (s : ℕ) (new : Persons) → s < p.shards → IsPersonShard p.table p.shards s new → AreParts (record p { persons = set p.persons s new })
@@ -131,16 +136,12 @@ module _ (p : Parts) (are : AreParts p) where
     table_is = are.table_is;
     persons_are = length-set p.persons s new ∙ are.persons_are;
     objects_are = are.objects_are;
-    person_outs_are = are.person_outs_are;
-    object_outs_are = are.object_outs_are;
+    outboxes_are = are.outboxes_are;
     stopped_are = are.stopped_are;
     each_persons = each_set (IsPersonShard p.table p.shards) p.persons no_persons p.shards s new are.persons_are known is are.each_persons;
     each_objects = are.each_objects;
-    each_person_out = are.each_person_out;
-    each_object_out = are.each_object_out;
-    objects_mail_is = are.objects_mail_is;
-    persons_mail_is = are.persons_mail_is;
-    hub_mail_is = are.hub_mail_is;
+    each_outbox = are.each_outbox;
+    mails_are = are.mails_are;
   }
 
   pub next_bid_keeps : (s : ℕ) (x new : Persons) (r : Bidding) → s < p.shards → x ≡ persons_at p s → NextBid p.table p.eps x r new → SamePersons x new → AreParts (record p { persons = set p.persons s new })
@@ -161,131 +162,62 @@ module _ (p : Parts) (are : AreParts p) where
     table_is = are.table_is;
     persons_are = are.persons_are;
     objects_are = length-set p.objects q new ∙ are.objects_are;
-    person_outs_are = are.person_outs_are;
-    object_outs_are = are.object_outs_are;
+    outboxes_are = are.outboxes_are;
     stopped_are = are.stopped_are;
     each_persons = are.each_persons;
     each_objects = each_set (IsObjectShard p.table p.shards) p.objects no_objects p.shards q new are.objects_are known is are.each_objects;
-    each_person_out = are.each_person_out;
-    each_object_out = are.each_object_out;
-    objects_mail_is = are.objects_mail_is;
-    persons_mail_is = are.persons_mail_is;
-    hub_mail_is = are.hub_mail_is;
+    each_outbox = are.each_outbox;
+    mails_are = are.mails_are;
   }
 
-  pub on_bid_keeps : (q : ℕ) (x new : Objects) → q < p.shards → x ≡ objects_at p q → SameObjects x new → length new.holders ≡ length x.holders → AreParts (record p { objects = set p.objects q new })
-  on_bid_keeps q x new known e same holders = keeps_objects q new known (objects_shape p.table p.shards q x new same holders (rw e (are.each_objects q known)))
+  pub answer_keeps : (q : ℕ) (x new : Objects) → q < p.shards → x ≡ objects_at p q → SameObjects x new → AreParts (record p { objects = set p.objects q new })
+  answer_keeps q x new known e same = keeps_objects q new known (objects_shape p.table p.shards q x new same (rw e (are.each_objects q known)))
 
-  pub reach_by : (q : ℕ) (x : Objects) → q < p.shards → x ≡ objects_at p q → (os : List Out) (before : Option Held) (i j : ℕ) (price amount least : ℤ) → (least ≤ℤ amount → os ≡ awards x.person_shards before i j amount)
-      → (amount <ℤ least → os ≡ refusal x.person_shards i j price) → All (Reaches p.shards) os
-  reach_by q x known e os before i j price amount least accepted refused =
-      let is : IsObjectShard p.table p.shards q x = rw e (are.each_objects q known) in
-      subst (λ n. All (Reaches n) os) is.person_shards (answers_reach x.person_shards os before i j price amount least (subst (λ n. 0 < n) (sym is.person_shards) are.some) accepted refused)
+  -- how many shards of the persons the shard knows of
+  answers_to : (q : ℕ) (x : Objects) → q < p.shards → x ≡ objects_at p q → x.person_shards ≡ p.shards
+  answers_to q x known e = let is : IsObjectShard p.table p.shards q x = rw e (are.each_objects q known) in is.person_shards
 
-  pub keeps_person_outs : (s : ℕ) (new : ArrayVec Out) → s < p.shards → All (Reaches p.shards) new.items → AreParts (record p { person_outs = set p.person_outs s new })
-  keeps_person_outs s new known reach = record {
+  -- the answers of a shard to a bid
+  pub answers_here : (q : ℕ) (x : Objects) (os : List Out) (eps : ℤ) (bid : Offer) → q < p.shards → x ≡ objects_at p q → os ≡ answers x.person_shards eps (sale_of x bid.object) bid → os ≡ answers p.shards eps (sale_of (objects_at p q) bid.object) bid
+  answers_here q x os eps bid known e answered = answered ∙ (ap (λ (n : ℕ). answers n eps (sale_of x bid.object) bid) (answers_to q x known e) ∙ ap (λ (y : Objects). answers p.shards eps (sale_of y bid.object) bid) e)
+
+  pub reach_by : (os : List Out) (eps : ℤ) (sale : Sale) (bid : Offer) → os ≡ answers p.shards eps sale bid → All (Reaches p.shards) os
+  reach_by os eps sale bid e = rw e (answers_reach p.shards eps sale bid are.some)
+
+  pub keeps_outboxes : (x : ℕ) (new : List Out) → x < 2 * p.shards → All (Reaches p.shards) new → AreParts (record p { outboxes = set p.outboxes x new })
+  keeps_outboxes x new known reach = record {
     some = are.some;
     few = are.few;
     eps_is = are.eps_is;
     table_is = are.table_is;
     persons_are = are.persons_are;
     objects_are = are.objects_are;
-    person_outs_are = length-set p.person_outs s new ∙ are.person_outs_are;
-    object_outs_are = are.object_outs_are;
+    outboxes_are = length-set p.outboxes x new ∙ are.outboxes_are;
     stopped_are = are.stopped_are;
     each_persons = are.each_persons;
     each_objects = are.each_objects;
-    each_person_out = each_set (λ _ x. All (Reaches p.shards) x.items) p.person_outs no_letters p.shards s new are.person_outs_are known reach are.each_person_out;
-    each_object_out = are.each_object_out;
-    objects_mail_is = are.objects_mail_is;
-    persons_mail_is = are.persons_mail_is;
-    hub_mail_is = are.hub_mail_is;
+    each_outbox = each_set (λ _ os. All (Reaches p.shards) os) p.outboxes [] (2 * p.shards) x new are.outboxes_are known reach are.each_outbox;
+    mails_are = are.mails_are;
   }
 
-  pub keeps_object_outs : (q : ℕ) (new : ArrayVec Out) → q < p.shards → All (Reaches p.shards) new.items → AreParts (record p { object_outs = set p.object_outs q new })
-  keeps_object_outs q new known reach = record {
+  -- a mail has made a step
+  pub keeps_mails : (name : MailName) (m : Mail Letter) (c : Call Letter) (r : Reply Letter) → Step (named p.mails name) c r m → AreParts (record p { mails = with_named p.mails name m })
+  keeps_mails name m c r step = record {
     some = are.some;
     few = are.few;
     eps_is = are.eps_is;
     table_is = are.table_is;
     persons_are = are.persons_are;
     objects_are = are.objects_are;
-    person_outs_are = are.person_outs_are;
-    object_outs_are = length-set p.object_outs q new ∙ are.object_outs_are;
+    outboxes_are = are.outboxes_are;
     stopped_are = are.stopped_are;
     each_persons = are.each_persons;
     each_objects = are.each_objects;
-    each_person_out = are.each_person_out;
-    each_object_out = each_set (λ _ x. All (Reaches p.shards) x.items) p.object_outs no_letters p.shards q new are.object_outs_are known reach are.each_object_out;
-    objects_mail_is = are.objects_mail_is;
-    persons_mail_is = are.persons_mail_is;
-    hub_mail_is = are.hub_mail_is;
+    each_outbox = are.each_outbox;
+    mails_are = mails_step p.shards p.mails name m c r step are.mails_are;
   }
 
-  pub keeps_objects_mail : (n : Mail Letter) (c : Call Letter) (r : Reply Letter) → Step p.objects_mail c r n → AreParts (record p { objects_mail = n })
-  keeps_objects_mail n c r step = record {
-    some = are.some;
-    few = are.few;
-    eps_is = are.eps_is;
-    table_is = are.table_is;
-    persons_are = are.persons_are;
-    objects_are = are.objects_are;
-    person_outs_are = are.person_outs_are;
-    object_outs_are = are.object_outs_are;
-    stopped_are = are.stopped_are;
-    each_persons = are.each_persons;
-    each_objects = are.each_objects;
-    each_person_out = are.each_person_out;
-    each_object_out = are.each_object_out;
-    objects_mail_is = mail_shape p.shards p.objects_mail n c r p.shards step are.objects_mail_is;
-    persons_mail_is = are.persons_mail_is;
-    hub_mail_is = are.hub_mail_is;
-  }
-
-  pub keeps_persons_mail : (n : Mail Letter) (c : Call Letter) (r : Reply Letter) → Step p.persons_mail c r n → AreParts (record p { persons_mail = n })
-  keeps_persons_mail n c r step = record {
-    some = are.some;
-    few = are.few;
-    eps_is = are.eps_is;
-    table_is = are.table_is;
-    persons_are = are.persons_are;
-    objects_are = are.objects_are;
-    person_outs_are = are.person_outs_are;
-    object_outs_are = are.object_outs_are;
-    stopped_are = are.stopped_are;
-    each_persons = are.each_persons;
-    each_objects = are.each_objects;
-    each_person_out = are.each_person_out;
-    each_object_out = are.each_object_out;
-    objects_mail_is = are.objects_mail_is;
-    persons_mail_is = mail_shape p.shards p.persons_mail n c r p.shards step are.persons_mail_is;
-    hub_mail_is = are.hub_mail_is;
-  }
-
-  pub keeps_hub_mail : (n : Mail Letter) (c : Call Letter) (r : Reply Letter) → Step p.hub_mail c r n → AreParts (record p { hub_mail = n })
-  keeps_hub_mail n c r step = record {
-    some = are.some;
-    few = are.few;
-    eps_is = are.eps_is;
-    table_is = are.table_is;
-    persons_are = are.persons_are;
-    objects_are = are.objects_are;
-    person_outs_are = are.person_outs_are;
-    object_outs_are = are.object_outs_are;
-    stopped_are = are.stopped_are;
-    each_persons = are.each_persons;
-    each_objects = are.each_objects;
-    each_person_out = are.each_person_out;
-    each_object_out = are.each_object_out;
-    objects_mail_is = are.objects_mail_is;
-    persons_mail_is = are.persons_mail_is;
-    hub_mail_is = mail_shape p.shards p.hub_mail n c r 1 step are.hub_mail_is;
-  }
-
-not_empty : {X : Type 0} (xs : List X) → xs ≢ [] → 0 < length xs
-not_empty [] n = absurd (n refl)
-not_empty (x ∷ xs) n = omega arith
-
--- an outbox that isn't empty has a first letter, and that goes to a box that is there
-pub first_letter : (xs ys : List Out) (d : Out) (n : ℕ) → ys ≡ xs → xs ≢ [] → All (Reaches n) ys → (ys ≡ get_or xs 0 d ∷ drop 1 ys) × Reaches n (get_or xs 0 d)
-first_letter xs ys d n e some reach = rw e (first_and_rest xs d some, All-get_or (Reaches n) xs 0 d (not_empty xs some) (rw e at reach))
+-- the first letter of an outbox goes to a box that is there
+pub first_reaches : (r : Option Out) (os : List Out) (n : ℕ) → All (Reaches n) os → IfSome r (λ o. os ≡ o ∷ drop 1 os) → IfSome r (Reaches n)
+first_reaches None os n reach h = tt
+first_reaches (Some o) os n reach h = (subst (λ (xs : List Out). All (Reaches n) xs) h reach) 0 o (omega arith)

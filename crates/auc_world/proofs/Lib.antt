@@ -1,16 +1,17 @@
+-- That a Hall set has a certificate is for the crates above too; the rest is this crate's own.
 mod WorkedEps
-pub mod Keeping
-pub mod Seen
-pub mod Bidding
-pub mod Hearing
-pub mod Selling
-pub mod Posting
-pub mod Hub
-pub mod Made
-pub mod TurnByTurn
-pub mod RoundLaws
+mod Keeping
+mod Seen
+mod PostingLaws
+mod BiddingLaws
+mod HearingLaws
+mod SellingLaws
+mod HubLaws
+mod Made
+mod TurnByTurn
+mod RoundLaws
+mod PlayLaws
 pub mod HallCertificates
-pub mod GatherLaws
-pub mod PhaseLaws
-pub mod AtOnce
-pub mod Joined
+mod GatherLaws
+mod PhaseLaws
+mod Bridge

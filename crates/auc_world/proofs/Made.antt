@@ -1,6 +1,6 @@
 -- A new world is one that a phase begins with.
-use Rattle.std.proofs.Common.{ℕ, ◌+◌, ◌*◌, ◌%◌, ◌<◌, ◌≤◌, ◌≡◌, true, false, List, [], length, get_or, replicate, refl, ap, sym, ◌∙◌, subst, inl, inr, arith}
-use Rattle.std.specs.Prelude.{ℤ, pos, All, None, ◌==◌}
+use Rattle.std.proofs.Common.{ℕ, ◌+◌, ◌*◌, ◌%◌, ◌<◌, ◌≤◌, ◌≡◌, Bool, true, false, List, [], length, get_or, replicate, refl, ap, sym, ◌∙◌, subst, inl, inr, arith}
+use Rattle.std.specs.Prelude.{ℤ, pos, All, None, ◌==◌, nat_lt, if◌then◌else◌}
 use Rattle.std.proofs.lemmas.Bool.{cases_lt, ne_eqb}
 use Rattle.std.proofs.lemmas.Bool.Decides.{nat_tests}
 use Rattle.std.proofs.lemmas.Int.{ints}
@@ -8,7 +8,6 @@ use Rattle.std.proofs.lemmas.List.{get_or-replicate, get_or_past, length-replica
 use Rattle.std.specs.List.{range_with_len}
 use Rattle.std.proofs.lemmas.List.FromFn.{get_or-range_with_len, length-range_with_len}
 use Rattle.std.proofs.lemmas.List.Elements.{All-get_or, All-weaker, All-filter, filter_passes}
-use Rattle.arrayvec.specs.ArrayVec.{ArrayVec}
 use Rattle.auc_graph.specs.Table.{IsTable, Table}
 use Rattle.auc_letters.specs.declared.letter.Letter.{Letter}
 use Rattle.auc_letters.specs.declared.out.Out.{Out}
@@ -16,13 +15,14 @@ use Rattle.auc_letters.specs.declared.state.PersonState.{PersonState}
 use Rattle.auc_letters.specs.Price.{IsEps, IsPrice}
 use Rattle.auc_mail.specs.Mail.{Mail, empty_mail}
 use Rattle.auc_objects.specs.Objects.{Objects, holder_of, price_of}
-use Rattle.auc_persons.specs.Persons.{Owns, Persons, copy_of, own, state_of}
+use Rattle.auc_letters.specs.Persons.{persons_of}
+use Rattle.auc_persons.specs.Persons.{Owns, Persons, copy_of, state_of}
 use Rattle.auc_model.specs.Start.{Lawful, Starts, UsualNodes, free_in, occurs}
 use Rattle.auc_model.specs.World.{phase_of}
 use Rattle.auc_model.proofs.Tables.{occurs_persons, table_lawful}
 use Rattle.auc_world.specs.declared.limits.Limits.{Limits}
 use Rattle.auc_world.specs.Making.{AreLimits, ArePrices, IsMade, new_persons, nodes_or}
-use Rattle.auc_world.specs.Parts.{AreParts, IsMail, IsObjectShard, IsPersonShard, Parts, Reaches, no_letters, no_objects, no_persons, phase, seen}
+use Rattle.auc_world.specs.Parts.{AreParts, IsMail, IsObjectShard, IsPersonShard, Parts, Reaches, no_objects, no_persons, phase, seen}
 
 -- the persons of a shard are its own
 below : (n : ℕ) → All (λ i. i < n) (range_with_len 0 n)
@@ -30,21 +30,22 @@ below n k d l =
     let few : k < n = rw length-range_with_len at l in
     rw (get_or-range_with_len 0 n k d few) (omega arith)
 
-own_are : (shard of persons : ℕ) → All (λ i. (i < persons) × (i % of ≡ shard)) (own shard of persons)
+own_are : (shard of persons : ℕ) → All (λ i. (i < persons) × (i % of ≡ shard)) (persons_of shard of persons)
 own_are shard of persons k d l =
     let inside = All-filter (λ i. (i % of) == shard) (λ i. i < persons) (range_with_len 0 persons) (below persons) k d l in
     let passes = filter_passes (λ i. (i % of) == shard) (range_with_len 0 persons) k d l in
-    (inside, eqb-true (get_or (own shard of persons) k d % of) shard passes)
+    (inside, eqb-true (get_or (persons_of shard of persons) k d % of) shard passes)
   where
     eqb-true : (a b : ℕ) → (a == b) ≡ true → a ≡ b
     eqb-true a b e = grind (arith, nat_tests)
 
-empty_at : (xs : List (ArrayVec Out)) → All (λ x. x.items ≡ []) xs → (s : ℕ) → (get_or xs s no_letters).items ≡ []
-empty_at xs all s =
-    elim (cases_lt s (length xs)) [
-      | inl l ↦ all s no_letters l
-      | inr n ↦ ap (λ (x : ArrayVec Out). x.items) (get_or_past xs s no_letters n)
-    ]
+empty_at : (xs : List (List Out)) → All (λ x. x ≡ []) xs → (x : ℕ) → get_or xs x [] ≡ []
+empty_at xs all x = elim (cases_lt x (length xs)) [ inl l ↦ all x [] l | inr n ↦ get_or_past xs x [] n ]
+
+-- whatever stands there, if anything
+empty_or : (b : Bool) (os : List Out) → os ≡ [] → (if b then os else []) ≡ []
+empty_or true os e = e
+empty_or false os e = refl
 
 reach_none : (n : ℕ) (xs : List Out) → xs ≡ [] → All (Reaches n) xs
 reach_none n xs e = rw e (λ k d l. absurd (omega arith))
@@ -74,7 +75,7 @@ new_persons_are t shards bids prices s each = record {
   of = refl;
   object_shards = refl;
   fits = record { persons = sym (length-replicate (length t.rows) PersonState.Free); objects = sym each };
-  idle_own = All-weaker (λ i. (i < length t.rows) × (i % shards ≡ s)) (Owns (new_persons shards (length t.rows) bids prices s)) (λ i h. record { known = rw length-replicate h.0; own = h.1 }) (own s shards (length t.rows)) (own_are s shards (length t.rows));
+  idle_own = All-weaker (λ i. (i < length t.rows) × (i % shards ≡ s)) (Owns (new_persons shards (length t.rows) bids prices s)) (λ i h. record { known = rw length-replicate h.0; own = h.1 }) (persons_of s shards (length t.rows)) (own_are s shards (length t.rows));
 }
 
 module _ (t : Table) (limits : Limits) (prices : List ℤ) (eps : ℤ) (p : Parts) (made : IsMade t limits prices eps p) (table : IsTable t) (ok : AreLimits limits) (are : ArePrices t prices) (eps_is : IsEps eps) where
@@ -95,16 +96,16 @@ module _ (t : Table) (limits : Limits) (prices : List ℤ) (eps : ℤ) (p : Part
     table_is = rw made.table table;
     persons_are = made.persons_are ∙ sym made.shards;
     objects_are = made.objects_are ∙ sym made.shards;
-    person_outs_are = made.person_outs_are ∙ sym made.shards;
-    object_outs_are = made.object_outs_are ∙ sym made.shards;
+    outboxes_are = made.outboxes_are ∙ ap (λ (n : ℕ). 2 * n) (sym made.shards);
     stopped_are = ap (λ bs. length bs) made.stopped_are ∙ (length-replicate limits.shards false ∙ sym made.shards);
     each_persons = λ s l. persons_here s (at_shard s l);
     each_objects = λ q l. objects_here q (at_shard q l);
-    each_person_out = λ s l. reach_none p.shards _ (empty_at p.person_outs made.each_person_out s);
-    each_object_out = λ q l. reach_none p.shards _ (empty_at p.object_outs made.each_object_out q);
-    objects_mail_is = rw made.shards (new_mail_is limits.shards p.objects_mail limits.shards _ _ made.objects_mail);
-    persons_mail_is = rw made.shards (new_mail_is limits.shards p.persons_mail limits.shards _ _ made.persons_mail);
-    hub_mail_is = rw made.shards (new_mail_is limits.shards p.hub_mail 1 _ _ made.hub_mail);
+    each_outbox = λ x l. reach_none p.shards _ (empty_at p.outboxes made.each_outbox x);
+    mails_are = record {
+      objects = rw made.shards (new_mail_is limits.shards p.mails.objects limits.shards _ _ made.objects_mail);
+      persons = rw made.shards (new_mail_is limits.shards p.mails.persons limits.shards _ _ made.persons_mail);
+      hub = rw made.shards (new_mail_is limits.shards p.mails.hub 1 _ _ made.hub_mail);
+    };
   }
 
   own_shard : (i : ℕ) → i % p.shards < limits.shards
@@ -139,11 +140,11 @@ module _ (t : Table) (limits : Limits) (prices : List ℤ) (eps : ℤ) (p : Part
     all_free = λ i. ap (λ (x : Persons). state_of x i) (made.each_persons (i % p.shards) (own_shard i)) ∙ replicate_default (length t.rows) i PersonState.Free;
     idle_is = idle_here;
     none_stopped = λ s. rw made.stopped_are (replicate_default limits.shards s false);
-    no_person_out = λ s. empty_at p.person_outs made.each_person_out s;
-    no_object_out = λ q. empty_at p.object_outs made.each_object_out q;
-    objects_mail = rw made.shards (new_mail_new p.objects_mail limits.shards (2 * limits.shards + 1) _ _ made.objects_mail);
-    persons_mail = rw made.shards (new_mail_new p.persons_mail limits.shards (2 * limits.shards + 1) _ _ made.persons_mail);
-    hub_mail = rw made.shards (new_mail_new p.hub_mail 1 (2 * limits.shards + 1) _ _ made.hub_mail);
+    no_person_out = λ s. empty_or (nat_lt s p.shards) _ (empty_at p.outboxes made.each_outbox s);
+    no_object_out = λ q. empty_at p.outboxes made.each_outbox (p.shards + q);
+    objects_mail = rw made.shards (new_mail_new p.mails.objects limits.shards (2 * limits.shards + 1) _ _ made.objects_mail);
+    persons_mail = rw made.shards (new_mail_new p.mails.persons limits.shards (2 * limits.shards + 1) _ _ made.persons_mail);
+    hub_mail = rw made.shards (new_mail_new p.mails.hub 1 (2 * limits.shards + 1) _ _ made.hub_mail);
     none_counted = made.count;
     no_end = made.end;
   }

@@ -20,6 +20,8 @@ use Rattle.auc_model.specs.Start.{Lawful, Starts}
 use Rattle.auc_model.specs.Still.{Rests}
 use Rattle.auc_model.specs.World.{Phase, World, phase_of}
 use Rattle.auc_model.specs.declared.turn.End.{End}
+use Rattle.auc_model.specs.Schedule.{Reached}
+use Rattle.auc_model.proofs.Reached.{reached_on, reached_start}
 use Rattle.auc_model.proofs.Rests.{rests_ended}
 use Rattle.auc_model.proofs.Theorems.{of_every_schedule, stuck_only}
 use Rattle.auc_letters.specs.Price.{IsEps, IsPrice}
@@ -46,6 +48,12 @@ is_played p v g prices same starts fair rounds = record {
   played = subst (λ (h : Phase). Rounds h (seen p) rounds.0 (seen v)) same rounds.1;
 }
 
+-- the world that they lead to is reached
+pub played_reached : (g : Phase) (prices : List ℤ) (v : World) → Lawful g → IsPlayed g prices v → Reached g v
+played_reached g prices v law is =
+    let run = rounds_schedule g is.start is.rounds v is.played in
+    reached_on g is.start v run.0 (reached_start g is.start law is.starts) run.1
+
 pub nobody_stuck : (t : Table) (shards : ℕ) (eps : ℤ) → NobodyStuck t → SomeoneStuck (phase_of t shards eps) → ⊥
 nobody_stuck t shards eps all (i, l, none) = all i l none
 
@@ -56,13 +64,13 @@ stopped_by_limit g prices v Why.Ceiling law is arcs e = refl
 stopped_by_limit g prices v Why.Posts law is arcs e = refl
 stopped_by_limit g prices v Why.Trail law is arcs e = refl
 stopped_by_limit g prices v Why.Mail law is arcs e = refl
-stopped_by_limit g prices v Why.Stuck law is arcs e = let run = rounds_schedule g is.start is.rounds v is.played in absurd (arcs (stuck_only g is.start v run.0 law is.starts run.1 e))
-stopped_by_limit g prices v Why.Fell law is arcs e = let run = rounds_schedule g is.start is.rounds v is.played in absurd ((of_every_schedule g is.start v run.0 law is.starts run.1).0.0 e)
-stopped_by_limit g prices v Why.Stray law is arcs e = let run = rounds_schedule g is.start is.rounds v is.played in absurd ((of_every_schedule g is.start v run.0 law is.starts run.1).0.1 e)
+stopped_by_limit g prices v Why.Stuck law is arcs e = absurd (arcs (stuck_only g v (played_reached g prices v law is) e))
+stopped_by_limit g prices v Why.Fell law is arcs e = absurd ((of_every_schedule g v (played_reached g prices v law is)).0.0 e)
+stopped_by_limit g prices v Why.Stray law is arcs e = absurd ((of_every_schedule g v (played_reached g prices v law is)).0.1 e)
 
 -- a round always moves something, until the end
 pub never_stalls : (g : Phase) (prices : List ℤ) (v : World) → Lawful g → 0 < g.persons → IsPlayed g prices v → Rests g v → v.end ≢ None
-never_stalls g prices v law some is rests = let run = rounds_schedule g is.start is.rounds v is.played in rests_ended g is.start v run.0 law some is.starts run.1 rests
+never_stalls g prices v law some is rests = let r = played_reached g prices v law is in rests_ended g r.start v r.turns law some r.starts r.leads rests
 
 -- ---- a full assignment
 
@@ -98,10 +106,11 @@ module _ (t : Table) (limits : Limits) (prices : List ℤ) (eps : ℤ) (table : 
       let objects : v.table.objects ≡ t.objects = ap (λ (h : Phase). h.objects) (kept ∙ same) in
       (seen v, played, end, subst (λ (n : ℕ). AreSales n (seen v) gathered.holders.items gathered.prices.items) objects sales, range)
 
-  pub comes_to_stop : (why : Why) (guard : Guard) → (seen v).end ≡ Some (End.Stopped why) → guard ≡ guard_of why → ComesOf t limits.shards prices eps (Outcome.Broken guard)
-  comes_to_stop why guard end is =
+  pub comes_to_stop : (why : Why) (gathered : Gathered) → (seen v).end ≡ Some (End.Stopped why) → IsGathered v gathered.holders.items gathered.prices.items → All IsPrice gathered.prices.items → ComesOf t limits.shards prices eps (Outcome.Stopped why gathered)
+  comes_to_stop why gathered end sales range =
+      let objects : v.table.objects ≡ t.objects = ap (λ (h : Phase). h.objects) (kept ∙ same) in
       let limit = stopped_by_limit (phase_of t limits.shards eps) prices (seen v) why law played (nobody_stuck t limits.shards eps arcs) end in
-      (seen v, why, played, end, limit, is ∙ limit)
+      (seen v, played, end, limit, subst (λ (n : ℕ). AreSales n (seen v) gathered.holders.items gathered.prices.items) objects sales, range)
 
   pub comes_to_no_stall : (seen v).end ≡ None → Rests (phase v) (seen v) → ⊥
   comes_to_no_stall end rests =

@@ -13,8 +13,7 @@ use Rattle.auc_model.specs.declared.turn.TurnReply.{TurnReply}
 use Rattle.auc_model.proofs.Ends.{end_schedule}
 use Rattle.auc_model.proofs.Small.{nothing_changes, schedules_join}
 use Rattle.auc_model.proofs.Work.{moves_less, turns_never_more}
-use Rattle.auc_world.specs.Parts.{Parts, SamePhase, phase, seen}
-use Rattle.auc_world.proofs.TurnByTurn.{same_phase}
+use Rattle.auc_world.specs.Parts.{Parts, phase, seen}
 use Rattle.auc_world.specs.Rounds.{Plays, Rounds, answers_of, bids_of, has_moved, hearings_of, round_of}
 
 -- ---- turns, one after another
@@ -33,7 +32,7 @@ plays_schedule g w (t ∷ ts) moved v (m, r, rest, turned, played, is) = (m, r, 
 
 -- ---- turns more at the end of those of a stage
 
-as_moved : (g : Phase) (w : World) (ts : List Turn) (a b : Bool) (v : World) → a ≡ b → Plays g w ts a v → Plays g w ts b v
+pub as_moved : (g : Phase) (w : World) (ts : List Turn) (a b : Bool) (v : World) → a ≡ b → Plays g w ts a v → Plays g w ts b v
 as_moved g w ts a b v e h = subst (λ (c : Bool). Plays g w ts c v) e h
 
 pub two_plays : (g : Phase) (w m v : World) (t u : Turn) (r s : TurnReply) → Turned g w t r m → Turned g m u s v → Plays g w (t ∷ u ∷ []) (has_moved r || has_moved s) v
@@ -49,22 +48,6 @@ next : (s : ℕ) → suc s ≡ s + 1
 next s = omega arith
 
 -- the same of the parts of a world, and of the flags that the code keeps
-pub bid_turns : (p m v : Parts) (s : ℕ) (r q : TurnReply) (i j o : Bool) → Turned (phase p) (seen p) (Turn.Bid s) r (seen m) → SamePhase p m → Turned (phase m) (seen m) (Turn.PersonPost s) q (seen v)
-    → i ≡ has_moved r → j ≡ has_moved q → o ≡ (i || j) → Plays (phase p) (seen p) (Turn.Bid s ∷ Turn.PersonPost s ∷ []) o (seen v)
-bid_turns p m v s r q i j o bid kept post a b d =
-    let post' = subst (λ (g : Phase). Turned g (seen m) (Turn.PersonPost s) q (seen v)) (same_phase p m kept) post in
-    let is : (has_moved r || has_moved q) ≡ o = cc in
-    as_moved (phase p) (seen p) (Turn.Bid s ∷ Turn.PersonPost s ∷ []) (has_moved r || has_moved q) o (seen v) is (two_plays (phase p) (seen p) (seen m) (seen v) (Turn.Bid s) (Turn.PersonPost s) r q bid post')
-
-pub take_turns : (p m n v : Parts) (s : ℕ) (r q t : TurnReply) (i j h k o : Bool) → Turned (phase p) (seen p) (Turn.ObjectTake s) r (seen m) → SamePhase p m → Turned (phase m) (seen m) (Turn.ObjectPost s) q (seen n) → SamePhase m n → Turned (phase n) (seen n) (Turn.ObjectPost s) t (seen v)
-    → i ≡ has_moved r → j ≡ has_moved q → h ≡ has_moved t → k ≡ (i || j) → o ≡ (k || h) → Plays (phase p) (seen p) (Turn.ObjectTake s ∷ Turn.ObjectPost s ∷ Turn.ObjectPost s ∷ []) o (seen v)
-take_turns p m n v s r q t i j h k o take kept first kept2 second a b d e f =
-    let first' = subst (λ (g : Phase). Turned g (seen m) (Turn.ObjectPost s) q (seen n)) (same_phase p m kept) first in
-    let second' = subst (λ (g : Phase). Turned g (seen n) (Turn.ObjectPost s) t (seen v)) (same_phase m n kept2 ∙ same_phase p m kept) second in
-    let flat : ((has_moved r || has_moved q) || has_moved t) ≡ o = cc in
-    as_moved (phase p) (seen p) (Turn.ObjectTake s ∷ Turn.ObjectPost s ∷ Turn.ObjectPost s ∷ []) (has_moved r || (has_moved q || has_moved t)) o (seen v) (sym (or_assoc (has_moved r) (has_moved q) (has_moved t)) ∙ flat)
-    (three_plays (phase p) (seen p) (seen m) (seen n) (seen v) (Turn.ObjectTake s) (Turn.ObjectPost s) (Turn.ObjectPost s) r q t take first' second')
-
 pub bids_more : (p u v : Parts) (s : ℕ) (moved here o : Bool) → Plays (phase p) (seen p) (bids_of s) moved (seen u) → phase u ≡ phase p → Plays (phase u) (seen u) (Turn.Bid s ∷ Turn.PersonPost s ∷ []) here (seen v) → o ≡ (moved || here) → Plays (phase p) (seen p) (bids_of (s + 1)) o (seen v)
 bids_more p u v s moved here o before same after e =
     let after' = subst (λ (g : Phase). Plays g (seen u) (Turn.Bid s ∷ Turn.PersonPost s ∷ []) here (seen v)) same after in

@@ -5,4 +5,9 @@ pub mod Gathering
 pub mod Rounds
 pub mod Answers
 pub mod Phases
-pub mod AtOnce
+pub mod Mails
+pub mod Hub
+pub mod Posting
+pub mod Bidding
+pub mod Hearing
+pub mod Selling

@@ -1,7 +1,6 @@
 -- What a phase comes to, when it is played in whole rounds.
 use Rattle.std.specs.Prelude.{ℕ, ℤ, pos, ◌≡◌, ◌≢◌, ◌<◌, [], List, Some, length, slice_index_or, All}
 use Rattle.auc_graph.specs.Table.{Table, row_of}
-use Rattle.auc_letters.specs.declared.letter.Why.{Why}
 use Rattle.auc_letters.specs.Price.{IsPrice}
 use Rattle.auc_model.specs.declared.turn.End.{End}
 use Rattle.auc_model.specs.Start.{Starts}
@@ -24,9 +23,11 @@ pub record IsPlayed (g : Phase) (prices : List ℤ) (v : World) : Type 0 where
   pub rounds : ℕ
   pub played : Rounds g start rounds v
 
--- What a phase comes to: each person has an object, and these are the holders and the prices; or it was stopped by a limit.
+-- What a phase comes to: each person has an object, or it was stopped by a limit, and these are the holders and the prices; it never
+-- stalls.
 abbrev pub ComesOf : Table → ℕ → List ℤ → ℤ → Outcome → Type 0
 ComesOf t shards prices eps (Outcome.Sold gathered) =
     (v : World) × IsPlayed (phase_of t shards eps) prices v × (v.end ≡ Some End.All) × AreSales t.objects v gathered.holders.items gathered.prices.items × All IsPrice gathered.prices.items
-ComesOf t shards prices eps (Outcome.Broken guard) =
-    (v : World) × (why : Why) × IsPlayed (phase_of t shards eps) prices v × (v.end ≡ Some (End.Stopped why)) × (guard_of why ≡ Guard.Check) × (guard ≡ Guard.Check)
+ComesOf t shards prices eps (Outcome.Stopped why gathered) =
+    (v : World) × IsPlayed (phase_of t shards eps) prices v × (v.end ≡ Some (End.Stopped why)) × (guard_of why ≡ Guard.Check) × AreSales t.objects v gathered.holders.items gathered.prices.items × All IsPrice gathered.prices.items
+ComesOf t shards prices eps Outcome.Stalled = ⊥

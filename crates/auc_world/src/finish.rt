@@ -41,7 +41,7 @@ fn certified(alloc: Global, problem: &ArcList, parts: CertParts) -> Result<Optio
 
 /// The pick of each person by the arc with which he holds an object; None where an arc or a person is none of the problem's.
 /// A person who holds nothing is given a pick that the checker refuses, unless it is right.
-fn picks_of(
+fn picks_of_holders(
     alloc: Global,
     problem: &ArcList,
     holders: &[Option<Held>],
@@ -80,7 +80,7 @@ pub fn optimal(alloc: Global, problem: &ArcList, gathered: Gathered) -> Result<A
     ensures { IfOk result (IsOptimalAnswer problem.now) }
 {
     let Gathered { holders, prices } = gathered;
-    let Some(picks) = picks_of(alloc, problem, holders.as_slice())? else {
+    let Some(picks) = picks_of_holders(alloc, problem, holders.as_slice())? else {
         return Ok(Answer::Broken(Guard::Check));
     };
     let Ok(cost) = i64::try_from(cost_of(picks.as_slice())) else {

@@ -25,7 +25,7 @@ impl<'a> World<'a> {
         ensures gathered { IfOk result (λ g. IsGathered self.now g.holders.items g.prices.items) }
         ensures range { IfOk result (λ g. All IsPrice g.prices.items) }
     {
-        let objects = self.objects();
+        let objects = self.object_count();
         let mut holders = Vec::with_capacity(alloc, objects as usize)?;
         let mut prices = Vec::with_capacity(alloc, objects as usize)?;
         for object in 0..objects {

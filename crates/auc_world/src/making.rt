@@ -1,17 +1,13 @@
-//! The lists and mails of a new world.
+//! The lists of a new world.
 
 ghost use Rattle.std.specs.Prelude.{ℕ, ◌≡◌, ◌<◌, ◌≤◌, ◌+◌, ◌*◌, [], length, All, slice_index_or, IfOk};
 ghost use Rattle.auc_graph.specs.Table.{IsTable};
 ghost use Rattle.auc_letters.specs.Price.{IsPrice};
-ghost use Rattle.auc_mail.specs.Mail.{empty_mail};
-ghost use Rattle.auc_mail.specs.Limits.{LanesFit, NodesFit};
 ghost use Rattle.auc_world.specs.Making.{new_persons, new_objects, nodes_or};
 ghost use Rattle.auc_world.specs.Parts.{no_persons, no_objects};
 
-use arrayvec::ArrayVec;
+use crate::outbox::Outbox;
 use auc_graph::Rows;
-use auc_letters::{Letter, MOST_SHARDS, Out};
-use auc_mail::{MOST_NODES, MailPool};
 use auc_objects::ObjectShard;
 use auc_persons::PersonShard;
 use std::alloc::{AllocError, Global};
@@ -59,37 +55,16 @@ pub(crate) fn new_object_shards(
     Ok(made)
 }
 
-/// Empty outboxes.
-pub(crate) fn new_outboxes(alloc: Global, shards: u32) -> Result<Vec<ArrayVec<Out, 4>>, AllocError>
-    ensures many { IfOk result (λ v. length v.items ≡ shards) }
-    ensures each { IfOk result (λ v. All (λ x. x.items ≡ []) v.items) }
+/// Empty outboxes, so many.
+pub(crate) fn new_outboxes(alloc: Global, count: u32) -> Result<Vec<Outbox>, AllocError>
+    ensures many { IfOk result (λ v. length v.items ≡ count) }
+    ensures each { IfOk result (λ v. All (λ x. x ≡ []) v.items) }
 {
-    let mut made = Vec::with_capacity(alloc, shards as usize)?;
-    for shard in 0..shards {
-        made.push(ArrayVec::new())?;
+    let mut made = Vec::with_capacity(alloc, count as usize)?;
+    for _outbox in 0..count {
+        made.push(Outbox::new())?;
     }
     Ok(made)
-}
-
-/// A mail with no letters, from the shards of both kinds and the hub.
-pub(crate) fn new_mail(
-    alloc: Global,
-    boxes: u32,
-    shards: u32,
-    nodes: u32,
-    posts: u64,
-) -> Result<MailPool<Letter>, AllocError>
-    requires boxes { boxes ≤ MOST_SHARDS }
-    requires shards { shards ≤ MOST_SHARDS }
-    requires nodes { nodes ≤ MOST_NODES }
-    ensures { IfOk result (λ mail. mail ≡ empty_mail boxes (2 * shards + 1) nodes posts) }
-{
-    let blank = Letter::First { object: 0 };
-    // All numbers are in range, so that memory alone can fail.
-    match MailPool::make(alloc, boxes, 2 * shards + 1, nodes, posts, blank) {
-        Ok(mail) => Ok(mail),
-        Err(_) => Err(AllocError),
-    }
 }
 
 /// How many letters may wait, where 0 stands for the usual number.

@@ -1,7 +1,7 @@
 //! Schedules of turns.
 
 ghost use Rattle.std.specs.Prelude.{ℕ, ◌≡◌, ◌≤ℤ◌};
-ghost use Rattle.auc_model.specs.Schedule.{Schedule};
+ghost use Rattle.auc_model.specs.Schedule.{Reached, Schedule};
 ghost use Rattle.auc_world.specs.Parts.{phase, seen};
 
 use crate::world::World;
@@ -12,6 +12,7 @@ use auc_model::Turn;
 pub fn play(world: &mut World, turns: &[Turn])
     ensures schedule { Schedule (phase world.old) (seen world.old) turns.now (seen world.new) }
     ensures phase { phase world.new ≡ phase world.old }
+    ensures reached { Reached (phase world.old) (seen world.old) → Reached (phase world.new) (seen world.new) }
     ensures copies { (s j : ℕ) → (seen world.old).copy s j ≤ℤ (seen world.new).copy s j }
 {
     for turn in turns {

@@ -15,16 +15,19 @@ use crate::limits::Limits;
 use crate::world::World;
 use auc_graph::{ArcList, Rows};
 use auc_hall::{Matching, Partial, complete};
+use auc_letters::Why;
 use auc_model::End;
 use std::alloc::{AllocError, Global};
 
 /// What a phase comes to.
 #[derive(Drop)]
 pub(crate) enum Outcome {
-    /// Each person has an object.
+    /// Each person has an object: these are the holders and prices.
     Sold(Gathered),
-    /// It ended in another way.
-    Broken(Guard),
+    /// It was stopped for this reason, with these holders and prices.
+    Stopped { why: Why, gathered: Gathered },
+    /// A whole round moved nothing.
+    Stalled,
 }
 
 /// Plays one phase in whole rounds.
@@ -47,8 +50,11 @@ fn play_phase(
             let gathered = world.gather(alloc)?;
             Ok(Outcome::Sold(gathered))
         }
-        Some(End::Stopped { why }) => Ok(Outcome::Broken(guard_of(why))),
-        None => Ok(Outcome::Broken(Guard::Stall)),
+        Some(End::Stopped { why }) => {
+            let gathered = world.gather(alloc)?;
+            Ok(Outcome::Stopped { why, gathered })
+        }
+        None => Ok(Outcome::Stalled),
     }
 }
 
@@ -70,7 +76,8 @@ fn solve_rows(
     loop {
         let gathered = match play_phase(alloc, rows, limits, prices.as_slice(), eps)? {
             Outcome::Sold(gathered) => gathered,
-            Outcome::Broken(guard) => return Ok(Answer::Broken(guard)),
+            Outcome::Stopped { why, .. } => return Ok(Answer::Broken(guard_of(why))),
+            Outcome::Stalled => return Ok(Answer::Broken(Guard::Stall)),
         };
         let Some(next) = next_eps(eps) else {
             return optimal(alloc, problem, gathered);

@@ -1,1 +1,2 @@
-pub mod WordLaws
+-- All of this is the crate's own.
+mod WordLaws

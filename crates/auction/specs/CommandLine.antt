@@ -6,7 +6,7 @@ use Rattle.auc_run.specs.declared.command.Job.{Job}
 use Rattle.auc_run.specs.declared.command.Job.TheVariants.{Check}
 use Rattle.auction.specs.declared.asked.Words.{Words}
 use Rattle.auction.specs.declared.words_error.WordsError.{WordsError}
-use Rattle.auction.specs.declared.words_error.WordsError.TheVariants.{NoMemory}
+use Rattle.auction.specs.declared.words_error.WordsError.TheVariants.{Usage, NoMemory}
 
 -- the word is no option: it does not begin with a hyphen
 abbrev pub IsName : List ℕ → Type 0
@@ -42,3 +42,8 @@ AreJob command words (Some name) = IsName name × (words ≡ command ∷ name �
 abbrev pub AsksFor : Job → Result Words WordsError → Option (List ℕ) → Type 0
 AsksFor job (Ok w) name = (w.job ≡ job) × (option_map string_bytes w.first ≡ name) × (w.second ≡ None)
 AsksFor job (Err e) name = e ≡ NoMemory
+
+-- the status where the words are no job: 2, or 6 where memory ran out
+abbrev pub words_status : WordsError → ℕ
+words_status Usage = 2
+words_status NoMemory = 6

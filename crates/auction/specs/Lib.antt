@@ -1,2 +1,3 @@
+-- The definitions that contracts of the command line cite.
 pub mod Grammar
 pub mod CommandLine

@@ -1,12 +1,11 @@
 //! The program: the words of its command line, the files that they name, and the job over them.
 #![tactic(auto)]
 
-ghost use Rattle.std.specs.Prelude.{IfOk};
+ghost use Rattle.std.specs.Prelude.{◌≡◌, IfOk};
 ghost use Rattle.auc_run.specs.Jobs.{IsInRange};
+ghost use Rattle.auction.specs.CommandLine.{words_status};
 
 mod asked;
-#[cfg(test)]
-mod tests;
 mod words;
 mod words_error;
 
@@ -98,15 +97,23 @@ fn with_files<R: Files + Input + Print + Eprint + AllocGlobal>(rt: &R, words: &W
     }
 }
 
+/// The status where the words are no job.
+fn status_of(error: WordsError) -> u8
+    ensures { result ≡ words_status error }
+{
+    match error {
+        WordsError::Usage => USAGE,
+        WordsError::NoMemory => NO_MEMORY,
+    }
+}
+
+/// Reads the words, opens the files that they name, does the job, and gives the status.
 fn run<R: Env + Files + Input + Print + Eprint + AllocGlobal>(rt: &R) -> u8 {
     match given_words(rt) {
         Ok(words) => with_files(rt, &words),
         Err(error) => {
             let _ = eprintln!(rt; "{error}");
-            match error {
-                WordsError::Usage => USAGE,
-                WordsError::NoMemory => NO_MEMORY,
-            }
+            status_of(error)
         }
     }
 }

@@ -10,13 +10,10 @@ ghost use Rattle.auction.specs.Grammar.{check_grammar, hall_grammar, mail_gramma
 
 use crate::asked::Words;
 use crate::words_error::WordsError;
-use auc_run::Job;
+use auc_run::{Job, USUAL_BIDS};
 use clap::error::ErrorKind;
 use clap::{Arg, ArgMatches, Command};
 use std::alloc::{AllocError, Global};
-
-/// The bids of each shard of the persons in a phase of a solve.
-const USUAL_BIDS: u64 = 100_000_000;
 
 /// The solve that words without numbers ask for: no threads, the usual bids, no trail.
 const USUAL_SOLVE: Job = Job::Solve {

@@ -10,7 +10,22 @@ use thiserror::Error;
 #[derive(Clone, Copy, Debug, PartialEq, Eq, Error)]
 pub enum WordsError {
     /// They are none that the program knows.
-    #[error("usage: auction solve [FILE]\n       auction check FILE [CERT]\n       auction hall [FILE]\n       auction mail [SCRIPT]\n\nsolve finds a least-cost assignment of the problem FILE, with prices that show it, or persons who together know too few objects.\nWithout FILE the problem is read from standard input.\n\ncheck says whether the claim of the certificate CERT holds of the problem FILE: a least-cost assignment, or that there is none.\nWithout CERT the certificate is read from standard input.\n\nhall finds an arc for each person of the problem FILE, no object twice, or persons who together know too few objects.\nWithout FILE the problem is read from standard input.\n\nmail makes the calls of SCRIPT on a new mail, and tells the replies.\nWithout SCRIPT the script is read from standard input.")]
+    #[error("usage: auction solve [FILE]
+       auction check FILE [CERT]
+       auction hall [FILE]
+       auction mail [SCRIPT]
+
+solve finds a least-cost assignment of the problem FILE, with prices that show it, or persons who together know too few objects.
+Without FILE the problem is read from standard input.
+
+check says whether the claim of the certificate CERT holds of the problem FILE: a least-cost assignment, or that there is none.
+Without CERT the certificate is read from standard input.
+
+hall finds an arc for each person of the problem FILE, no object twice, or persons who together know too few objects.
+Without FILE the problem is read from standard input.
+
+mail makes the calls of SCRIPT on a new mail, and tells the replies.
+Without SCRIPT the script is read from standard input.")]
     Usage,
     /// Memory ran out.
     #[error("auction: out of memory")]

@@ -2,7 +2,7 @@
 
 ghost use Rattle.std.specs.Prelude.{◌≡◌, ◌<◌};
 
-use auc_book::{MailName, MailState, SharedMail};
+use auc_book::{MailBrand, MailState, SharedMail};
 use auc_mail::MailError;
 use std::alloc::Global;
 use std::marker::Brand;
@@ -57,7 +57,7 @@ fn shared_mails_above_the_limits(rt: HostRuntime) -> Result<(), Fail> {
     Ok(())
 }
 
-fn refusal<N: MailName>(
+fn refusal<N: MailBrand>(
     alloc: Global,
     boxes: u32,
     workers: u32,

@@ -2,7 +2,7 @@
 
 ghost use Rattle.std.specs.Prelude.{◌≡◌, ◌<◌};
 
-use auc_book::{MailName, Seat, SharedMail, TrailFull, TrailLine};
+use auc_book::{MailBrand, Seat, SharedMail, TrailFull, TrailLine};
 use auc_mail::{Reply, Taken};
 use std::alloc::{AllocError, Global};
 use std::marker::Brand;
@@ -18,7 +18,7 @@ fn item_of(worker: u32, number: u64) -> u64 {
 }
 
 // Posts three letters to the first box.
-fn posts<N: MailName, R: Wait>(rt: &R, mail: &SharedMail<u64, N>, seat: &mut Seat<u64, N>)
+fn posts<N: MailBrand, R: Wait>(rt: &R, mail: &SharedMail<u64, N>, seat: &mut Seat<u64, N>)
     requires { 0 < N.boxes }
 {
     for number in 1..4 {
@@ -52,7 +52,7 @@ fn one_posts_and_one_takes(rt: HostRuntime) -> Result<(), Fail> {
     trade::<Brand, _>(&rt, rt.alloc(), Blank::new(2))
 }
 
-fn trade<N: MailName + Send + Sync, R: Wait + Threads + Abort + Sync>(
+fn trade<N: MailBrand + Send + Sync, R: Wait + Threads + Abort + Sync>(
     rt: &R,
     alloc: Global,
     ledger: Blank,
@@ -88,7 +88,7 @@ fn trade<N: MailName + Send + Sync, R: Wait + Threads + Abort + Sync>(
     Ok(())
 }
 
-fn posts_and_closes<N: MailName, R: Wait>(
+fn posts_and_closes<N: MailBrand, R: Wait>(
     rt: &R,
     mail: &SharedMail<u64, N>,
     seat: Seat<u64, N>,
@@ -102,7 +102,7 @@ fn posts_and_closes<N: MailName, R: Wait>(
 }
 
 // Takes until the box is over, or no more can be noted.
-fn takes_all<N: MailName, R: Wait>(
+fn takes_all<N: MailBrand, R: Wait>(
     rt: &R,
     mail: &SharedMail<u64, N>,
     seat: Seat<u64, N>,
@@ -124,7 +124,7 @@ fn five_post_and_take(rt: HostRuntime) -> Result<(), Fail> {
     crowd::<Brand, _>(&rt, rt.alloc(), Blank::new(5))
 }
 
-fn crowd<N: MailName + Send + Sync, R: Wait + Threads + Abort + Sync>(
+fn crowd<N: MailBrand + Send + Sync, R: Wait + Threads + Abort + Sync>(
     rt: &R,
     alloc: Global,
     ledger: Blank,
@@ -143,7 +143,7 @@ fn crowd<N: MailName + Send + Sync, R: Wait + Threads + Abort + Sync>(
 }
 
 // Each worker in a thread of its own.
-fn all_trade<N: MailName + Send + Sync, R: Wait + Threads + Sync>(
+fn all_trade<N: MailBrand + Send + Sync, R: Wait + Threads + Sync>(
     rt: &R,
     mail: &SharedMail<u64, N>,
     seats: Vec<Seat<u64, N>>,
@@ -157,7 +157,7 @@ fn all_trade<N: MailName + Send + Sync, R: Wait + Threads + Sync>(
 }
 
 // Posts three letters, and then takes three. So there is a letter for each take, whoever comes first.
-fn posts_and_takes<N: MailName, R: Wait>(
+fn posts_and_takes<N: MailBrand, R: Wait>(
     rt: &R,
     mail: &SharedMail<u64, N>,
     seat: Seat<u64, N>,
@@ -178,7 +178,7 @@ fn a_full_trail_ends_a_wait(rt: HostRuntime) -> Result<(), Fail> {
 }
 
 // The first box stays empty and open; the calls on the second one fill the trail, which ends the wait at the first.
-fn fill<N: MailName + Send + Sync, R: Wait + Threads + Abort + Sync>(
+fn fill<N: MailBrand + Send + Sync, R: Wait + Threads + Abort + Sync>(
     rt: &R,
     alloc: Global,
     ledger: Blank,

@@ -2,7 +2,7 @@
 
 ghost use Rattle.std.specs.Prelude.{◌≡◌};
 
-use auc_book::{MailName, MailState, Seat, SettleError, SharedMail, TrailFull, TrailLine};
+use auc_book::{MailBrand, MailState, Seat, SettleError, SharedMail, TrailFull, TrailLine};
 use auc_mail::{Call, Reply, Taken};
 use std::alloc::Global;
 use std::marker::Brand;
@@ -37,7 +37,7 @@ const FIRST_TAKE: TrailLine<i64> = TrailLine {
 };
 
 // Both workers post, the first one takes, and no place is left for the second one's take.
-fn four_calls<N: MailName, R: Wait + Abort>(
+fn four_calls<N: MailBrand, R: Wait + Abort>(
     rt: &R,
     mail: &SharedMail<i64, N>,
     first: &mut Seat<i64, N>,
@@ -67,7 +67,7 @@ fn both_seats_settle(rt: HostRuntime) -> Result<(), Fail> {
 }
 
 // The seats come in another order than their workers'.
-fn settles<N: MailName, R: Wait + Abort>(rt: &R, alloc: Global, ledger: Blank) -> Result<(), Fail>
+fn settles<N: MailBrand, R: Wait + Abort>(rt: &R, alloc: Global, ledger: Blank) -> Result<(), Fail>
     requires name { ledger.name ≡ N.name }
     requires parts { (ledger.parts ≡ N.parts) × (N.parts ≡ 2) }
     requires numbers { (N.boxes ≡ 1) × (N.workers ≡ 2) × (N.nodes ≡ 4) × (N.most ≡ 9) × (N.room ≡ 3) }
@@ -90,7 +90,7 @@ fn one_seat_is_missing(rt: HostRuntime) -> Result<(), Fail> {
     misses::<Brand, _>(&rt, rt.alloc(), Blank::new(2))
 }
 
-fn misses<N: MailName, R: Wait + Abort>(rt: &R, alloc: Global, ledger: Blank) -> Result<(), Fail>
+fn misses<N: MailBrand, R: Wait + Abort>(rt: &R, alloc: Global, ledger: Blank) -> Result<(), Fail>
     requires name { ledger.name ≡ N.name }
     requires parts { (ledger.parts ≡ N.parts) × (N.parts ≡ 2) }
     requires numbers { (N.boxes ≡ 1) × (N.workers ≡ 2) × (N.nodes ≡ 4) × (N.most ≡ 9) × (N.room ≡ 3) }
@@ -111,7 +111,7 @@ fn no_trail_was_kept(rt: HostRuntime) -> Result<(), Fail> {
 }
 
 // No trail comes before a missing seat.
-fn untold<N: MailName, R: Wait + Abort>(rt: &R, alloc: Global, ledger: Blank) -> Result<(), Fail>
+fn untold<N: MailBrand, R: Wait + Abort>(rt: &R, alloc: Global, ledger: Blank) -> Result<(), Fail>
     requires name { ledger.name ≡ N.name }
     requires parts { (ledger.parts ≡ N.parts) × (N.parts ≡ 2) }
     requires numbers { (N.boxes ≡ 1) × (N.workers ≡ 2) × (N.nodes ≡ 4) × (N.most ≡ 9) × (N.room ≡ 0) }
@@ -128,7 +128,7 @@ fn calls_without_a_trail(rt: HostRuntime) -> Result<(), Fail> {
 }
 
 // Calls are counted and not noted. No trail comes before a missing seat.
-fn calls_untold<N: MailName, R: Wait + Abort>(
+fn calls_untold<N: MailBrand, R: Wait + Abort>(
     rt: &R,
     alloc: Global,
     ledger: Blank,

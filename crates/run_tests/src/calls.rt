@@ -2,9 +2,12 @@
 
 use crate::checks::{TWO, TWO_BEST};
 use auc_cert::{
-    Cert, CertParts, Pick, Picks, Prices, check, read_cert, slack_right_costs_least, write_cert,
+    Cert, CertParts, Pick, Picks, Prices, assignments_pass, check, read_cert, write_cert,
 };
-use auc_graph::{Arc, Number, ReadError, ReadLimits, Token, number_of, read_arcs, token_at};
+use auc_graph::{
+    Arc, Number, ReadError, ReadLimits, Token, assignments_leave_no_price, limits_are, number_of,
+    prices_bound_costs, read_arcs, slack_right_costs_least, token_at,
+};
 use std::test::*;
 
 #[test]
@@ -51,7 +54,11 @@ fn best_of_two(rt: &HostRuntime) -> Result<CertParts, Fail> {
 #[test]
 fn certificates(rt: HostRuntime) -> Result<(), Fail> {
     let alloc = rt.alloc();
+    limits_are();
+    prices_bound_costs();
     slack_right_costs_least();
+    assignments_leave_no_price();
+    assignments_pass();
     let made = Cert::make(best_of_two(&rt)?).ok().ok_or("it has a text")?;
     let mut text = Vec::new(alloc);
     write_cert(&mut text, &made).ok().ok_or("a Vec takes it")?;

@@ -2,6 +2,7 @@
 
 use crate::checks::{TWO, TWO_BEST};
 use crate::fakes::{Broken, Full, Slow};
+use auc_cert::{WriteFault, read_cert, write_cert};
 use auc_run::{Job, ReadFault, read_all, run_command};
 use std::io::ErrorKind;
 use std::test::*;
@@ -108,4 +109,26 @@ fn full_writers(rt: HostRuntime) {
         );
         assert_eq!(rt; status, 8, "{room}");
     }
+}
+
+/// A writer that takes nothing stops a certificate, and one that fails makes the writing fail: before the text, between two
+/// lines and inside a line.
+#[test]
+fn unwritten_certificates(rt: HostRuntime) -> Result<(), Fail> {
+    let made = read_cert(rt.alloc(), TWO_BEST.as_bytes())?;
+    for room in [0, 10, 14] {
+        let mut stops = Full { room, fails: false };
+        assert_eq!(rt;
+            write_cert(&mut stops, &made),
+            Err(WriteFault::Stopped),
+            "{room}"
+        );
+        let mut fails = Full { room, fails: true };
+        assert_eq!(rt;
+            write_cert(&mut fails, &made),
+            Err(WriteFault::Failed),
+            "{room}"
+        );
+    }
+    Ok(())
 }

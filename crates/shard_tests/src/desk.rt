@@ -2,7 +2,7 @@
 
 ghost use Rattle.std.specs.Prelude.{◌≡◌, ◌<◌, All};
 ghost use Rattle.auc_letters.specs.Price.{IsPrice, IsEps};
-ghost use Rattle.auc_persons.specs.Persons.{Fits};
+ghost use Rattle.auc_persons.specs.Persons.{IsMadeFor};
 
 use auc_graph::{ReadLimits, Rows, read_arcs};
 use auc_letters::{Letter, PersonState};
@@ -21,7 +21,7 @@ pub struct Desk {
     rows: Rows,
     of: u32,
     shard: PersonShard,
-    ghost fits: { Fits rows shard },
+    ghost fits: { IsMadeFor rows shard },
     ghost known: { shard.of ≡ of },
     ghost first: { shard.shard ≡ 0 },
     ghost some: { 0 < of },

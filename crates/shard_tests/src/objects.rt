@@ -1,7 +1,7 @@
 //! Bids on objects.
 
 use crate::stall::Stall;
-use auc_letters::{Held, Letter, Out, To, equal_letters_are_same, shard_of};
+use auc_letters::{Held, Letter, Offer, Out, To, equal_letters_are_same, shard_of};
 use std::test::*;
 
 fn to_person(letter: Letter) -> Out {
@@ -60,6 +60,31 @@ fn two_bidders(rt: HostRuntime) {
         reserve: 4,
     };
     assert_eq!(rt; stall.tell(0), told);
+}
+
+/// A letter is a bid for the shard where its object is there and its amount is from 0 to the greatest price.
+#[test]
+fn offers_in_letters(rt: HostRuntime) {
+    let stall = Stall::new(&rt, &[0, 0]).expect(&rt, "memory");
+    let bid = |object: u32, amount: i64| Letter::Bid {
+        person: 1,
+        arc: 3,
+        object,
+        amount,
+    };
+    let offer = |amount: i64| Offer {
+        person: 1,
+        arc: 3,
+        object: 1,
+        amount,
+    };
+    let top = 2_305_843_009_213_693_952;
+    assert_eq!(rt; stall.offer_in(bid(1, 0)), Some(offer(0)));
+    assert_eq!(rt; stall.offer_in(bid(1, top)), Some(offer(top)));
+    assert_eq!(rt; stall.offer_in(bid(1, top + 1)), None);
+    assert_eq!(rt; stall.offer_in(bid(1, -1)), None);
+    assert_eq!(rt; stall.offer_in(bid(2, 4)), None);
+    assert_eq!(rt; stall.offer_in(Letter::First { object: 1 }), None);
 }
 
 #[test]

@@ -1,10 +1,11 @@
 //! An object shard beside the number of its objects.
 
-ghost use Rattle.std.specs.Prelude.{◌≡◌, length, All};
+ghost use Rattle.std.specs.Prelude.{◌≡◌, length, All, IfSome};
 ghost use Rattle.auc_letters.specs.Price.{IsPrice};
+ghost use Rattle.auc_objects.specs.Objects.{IsOffer};
 
 use arrayvec::ArrayVec;
-use auc_letters::{Held, MOST_PRICE, Out};
+use auc_letters::{Held, Letter, Offer, Out};
 use auc_objects::ObjectShard;
 use std::test::*;
 
@@ -33,11 +34,24 @@ impl Stall {
 
     /// What is answered to a bid; nothing where its object or its amount is out of range.
     pub fn bid(&mut self, person: u32, arc: u32, object: u32, amount: i64) -> ArrayVec<Out, 4> {
-        if (object as usize) < self.objects && 0 <= amount && amount <= MOST_PRICE {
-            self.shard.on_bid(person, arc, object, amount, 1)
-        } else {
-            ArrayVec::new()
-        }
+        let letter = Letter::Bid {
+            person,
+            arc,
+            object,
+            amount,
+        };
+        let Some(offer) = self.offer_in(letter) else {
+            return ArrayVec::new();
+        };
+        self.shard
+            .on_bid(offer.person, offer.arc, offer.object, offer.amount, 1)
+    }
+
+    /// The bid that a letter is, if it fits.
+    pub fn offer_in(&self, letter: Letter) -> Option<Offer>
+        ensures { IfSome result (IsOffer self.now.shard letter) }
+    {
+        self.shard.offer_in(letter)
     }
 
     /// The present price of an object.

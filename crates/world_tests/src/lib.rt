@@ -16,10 +16,12 @@ mod numbers;
 #[cfg(test)]
 mod phases;
 #[cfg(test)]
-mod playing;
-#[cfg(test)]
 mod problems;
 #[cfg(test)]
+mod rounds;
+#[cfg(test)]
 mod schedules;
+#[cfg(test)]
+mod telling;
 #[cfg(test)]
 mod turns;

@@ -1,11 +1,10 @@
 //! Limits, and how they end a phase.
 
-use crate::playing::{play_round, play_rounds};
-use crate::problems::{
-    NO_OBJECT, ONE, ONE_OBJECT, TWO, in_range, problem_of, rows_of, serves_two, world_at, world_of,
-};
-use auc_letters::{MOST_PRICE, Why};
-use auc_model::{End, Turn, TurnReply};
+use crate::moves::HUB_TAKE;
+use crate::problems::{NO_OBJECT, ONE, ONE_OBJECT, TWO, in_range, problem_of};
+use crate::telling::Step::{Look, Round, Rounds};
+use crate::telling::{told, told_at};
+use auc_letters::MOST_PRICE;
 use auc_world::{Answer, Guard, Limits, solve_serial};
 use std::test::*;
 
@@ -68,44 +67,38 @@ fn low_limits_leave_hall_sets(rt: HostRuntime) -> Result<(), Fail> {
     Ok(())
 }
 
-/// Why a phase of two persons stops, and the price of the first object then, if the second one still costs nothing.
-fn stop_of(rt: &HostRuntime, text: &str, limits: Limits) -> Result<Option<(Why, i64)>, Fail> {
-    let rows = rows_of(rt, text)?;
-    let mut world = world_of(rt, &rows, limits)?;
-    let Some(End::Stopped { why }) = play_rounds(&mut world, 1) else {
-        return Ok(None);
-    };
-    let gathered = world.gather(rt.alloc())?;
-    match gathered.prices.as_slice() {
-        [first, 0] => Ok(Some((why, *first))),
-        _ => Ok(None),
-    }
-}
-
+/// Where a phase of two persons stops, and why.
 #[test]
 fn stops(rt: HostRuntime) -> Result<(), Fail> {
-    assert_eq!(rt; stop_of(&rt, TWO, bids(0))?, Some((Why::Bids, 0)));
-    assert_eq!(rt; stop_of(&rt, TWO, bids(1))?, Some((Why::Bids, 4)));
-    assert_eq!(rt; stop_of(&rt, TWO, posts(0))?, Some((Why::Posts, 0)));
-    assert_eq!(rt; stop_of(&rt, TWO, posts(1))?, Some((Why::Posts, 4)));
-    assert_eq!(rt; stop_of(&rt, TWO, nodes(1))?, Some((Why::Mail, 7)));
-    // The second person has no arc.
-    let usual = Limits::usual(1);
-    assert_eq!(rt; stop_of(&rt, NO_OBJECT, usual)?, Some((Why::Stuck, 1)));
+    let steps = [Rounds, Look];
+    for (text, limits, expected) in [
+        (TWO, bids(0), "[-:0 -:0 Some(Stopped { why: Bids })]"),
+        (TWO, bids(1), "[1:4 -:0 Some(Stopped { why: Bids })]"),
+        (TWO, posts(0), "[-:0 -:0 Some(Stopped { why: Posts })]"),
+        (TWO, posts(1), "[1:4 -:0 Some(Stopped { why: Posts })]"),
+        (TWO, nodes(1), "[2:7 -:0 Some(Stopped { why: Mail })]"),
+        // The second person has no arc.
+        (
+            NO_OBJECT,
+            Limits::usual(1),
+            "[1:1 -:0 Some(Stopped { why: Stuck })]",
+        ),
+    ] {
+        let told = told(&rt, text, limits, &steps)?;
+        assert_eq!(rt; told.as_str(), expected, "{limits:?}");
+    }
     Ok(())
 }
 
 /// A price may rise to the greatest one, and not beyond.
 #[test]
 fn greatest_price(rt: HostRuntime) -> Result<(), Fail> {
-    let rows = rows_of(&rt, ONE)?;
-    let mut below = world_at(&rt, &rows, Limits::usual(1), &[MOST_PRICE - 1])?;
-    assert_eq!(rt; play_rounds(&mut below, 1), Some(End::All));
-    let gathered = below.gather(rt.alloc())?;
-    assert_eq!(rt; gathered.prices.as_slice(), [MOST_PRICE].as_slice());
-    let mut at_top = world_at(&rt, &rows, Limits::usual(1), &[MOST_PRICE])?;
-    let ceiling = End::Stopped { why: Why::Ceiling };
-    assert_eq!(rt; play_rounds(&mut at_top, 1), Some(ceiling));
+    let usual = Limits::usual(1);
+    let below = told_at(&rt, ONE, usual, &[MOST_PRICE - 1], &[Rounds, Look])?;
+    assert_eq!(rt; below.as_str(), "[1:2305843009213693952 Some(All)]");
+    let at_top = told_at(&rt, ONE, usual, &[MOST_PRICE], &[Rounds, Look])?;
+    let expected = "[-:2305843009213693952 Some(Stopped { why: Ceiling })]";
+    assert_eq!(rt; at_top.as_str(), expected);
     Ok(())
 }
 
@@ -113,15 +106,11 @@ fn greatest_price(rt: HostRuntime) -> Result<(), Fail> {
 /// object and the hub has counted both; the end stays.
 #[test]
 fn first_cause_stays(rt: HostRuntime) -> Result<(), Fail> {
-    let rows = rows_of(&rt, TWO)?;
-    let mut world = world_of(&rt, &rows, nodes(1))?;
-    let full = Some(End::Stopped { why: Why::Mail });
-    assert_eq!(rt; play_rounds(&mut world, 1), full);
-    for _ in 0..20 {
-        play_round(&mut world, 1);
-    }
-    assert_eq!(rt; world.end(), full);
-    assert!(rt; serves_two(&rt, &world)?);
-    assert_eq!(rt; world.turn(Turn::HubTake), TurnReply::Nothing);
+    let mut steps = Vec::new(rt.alloc());
+    steps.push(Rounds)?;
+    steps.extend_from_slice(&[Round; 20])?;
+    steps.extend_from_slice(&[Look, HUB_TAKE])?;
+    let told = told(&rt, TWO, nodes(1), steps.as_slice())?;
+    assert_eq!(rt; told.as_str(), "[2:7 1:5 Some(Stopped { why: Mail })].");
     Ok(())
 }

@@ -5,7 +5,7 @@ ghost use Rattle.auc_letters.specs.Price.{IsPrice};
 ghost use Rattle.auc_world.specs.Making.{AreLimits};
 
 use auc_graph::{ArcList, ReadLimits, Rows, read_arcs};
-use auc_letters::{Held, MOST_SHARDS};
+use auc_letters::MOST_SHARDS;
 use auc_mail::MOST_NODES;
 use auc_world::{Limits, World};
 use std::test::*;
@@ -65,19 +65,4 @@ pub fn world_at<'a>(
 pub fn world_of<'a>(rt: &HostRuntime, rows: &'a Rows, limits: Limits) -> Result<World<'a>, Fail> {
     let prices = vec![in rt.alloc(); 0; rows.objects() as usize]?;
     world_at(rt, rows, limits, prices.as_slice())
-}
-
-/// The holder of an object: this person, by the arc at this place.
-pub fn held(person: u32, arc: u32) -> Option<Held> {
-    Some(Held { person, arc })
-}
-
-/// Whether the second of the two persons holds the first object at 7, and the first one the second object at 5.
-pub fn serves_two(rt: &HostRuntime, world: &World) -> Result<bool, Fail> {
-    let gathered = world.gather(rt.alloc())?;
-    let holders = [held(1, 2), held(0, 1)];
-    Ok(
-        gathered.holders.as_slice() == holders.as_slice()
-            && gathered.prices.as_slice() == [7, 5].as_slice(),
-    )
 }

@@ -3,8 +3,8 @@
 ghost use Rattle.std.specs.Prelude.{◌≡◌, ◌≤◌};
 
 use crate::numbers::Numbers;
-use crate::playing::play_rounds;
 use crate::problems::{THREE, TWO, in_range, problem_of, world_of};
+use crate::rounds::play_rounds;
 use auc_cert::CertParts;
 use auc_graph::{ArcList, Rows};
 use auc_letters::Held;

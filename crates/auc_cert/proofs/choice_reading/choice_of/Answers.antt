@@ -21,7 +21,7 @@ returns-in_err-prices-clause-line c =
     (λ k h. bad_price c.args.persons c.args.bytes.now c.in_ok-choice.choice.items c.in_ok-choice.rest.now k (record { some = c.requires.some; most = c.requires.most }) c.in_ok-choice.ensures.found h) c.in_err-prices.ensures.line)
 
 pub returns-then-not-is_empty-clause-line : goal.returns-then-not-is_empty-clause-line
-returns-then-not-is_empty-clause-line c =
+returns-then-not-is_empty-clause-line c = λ _.
     bad_end c.args.persons c.args.bytes.now c.in_ok-choice.choice.items c.in_ok-choice.rest.now c.in_ok-prices.prices.items c.in_ok-prices.rest.now (record { some = c.requires.some; most = c.requires.most })
     c.in_ok-choice.ensures.found c.in_ok-prices.ensures.found (some_left c.in_ok-prices.rest.now c.if-not-is_empty.ensures)
 

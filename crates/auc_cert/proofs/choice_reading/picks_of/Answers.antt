@@ -5,7 +5,7 @@ use Rattle.auc_cert.proofs.RunLaws.{breaks_off, no_pick, pick_more}
 use Rattle.auc_cert.proofs.choice_reading.picks_of.Goals as goal
 
 pub returns-in-None-clause-line : goal.returns-in-None-clause-line
-returns-in-None-clause-line c =
+returns-in-None-clause-line c = λ _.
     let inv = c.loop-person.invariant in
     (c.loop-person.person, refl, breaks_off assign_line IsPick c.args.persons c.args.bytes.now c.loop-person.person c.loop-person.picks.items c.loop-person.rest.now inv c.loop-person-test.true (no_pick c.loop-person.person c.loop-person.rest.now (omega arith) c.in-None.ensures))
 

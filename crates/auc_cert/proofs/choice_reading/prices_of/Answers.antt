@@ -7,7 +7,7 @@ use Rattle.auc_cert.proofs.RunLaws.{breaks_off, no_price, price_more}
 use Rattle.auc_cert.proofs.choice_reading.prices_of.Goals as goal
 
 pub returns-in-None-clause-line : goal.returns-in-None-clause-line
-returns-in-None-clause-line c =
+returns-in-None-clause-line c = λ _.
     let inv = c.loop-object.invariant in
     (c.loop-object.object, refl, breaks_off price_line IsPrice c.args.objects c.args.bytes.now c.loop-object.object c.loop-object.prices.items c.loop-object.rest.now inv c.loop-object-test.true (no_price c.loop-object.object c.loop-object.rest.now (omega arith) c.in-None.ensures))
 

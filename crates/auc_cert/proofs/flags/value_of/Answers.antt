@@ -2,7 +2,7 @@ use Rattle.std.proofs.Common.{◌<◌, ◌^◌, pos, w64, arith}
 use Rattle.std.specs.Prelude.{◌+ℤ◌, ◌*ℤ◌, FitsSigned}
 use Rattle.std.specs.Int.{w128}
 use Rattle.std.proofs.lemmas.Int.{to_z-of_z, to_z_pos}
-use Rattle.auc_cert.proofs.ValueLaws.{wide, product_fits, value_fits}
+use Rattle.auc_cert.proofs.ValueLaws.{wide, product_fits, value_fits, value_small}
 use Rattle.auc_cert.proofs.flags.value_of.Goals as goal
 
 pub returns : goal.returns
@@ -16,4 +16,9 @@ returns c =
     let g3 : FitsSigned w128 (pos c.args.scale *ℤ c.args.cost) = product_fits c.args.scale c.args.cost lt f1 in
     let g4 : FitsSigned w128 (pos c.args.scale *ℤ c.args.cost +ℤ c.args.price) = value_fits c.args.scale c.args.cost c.args.price lt f1 f2 in
     let e = to_z_pos w128 c.args.scale big in
-    simp (to_z-of_z, e)
+    let small = value_small c.args.scale c.args.cost c.args.price lt f1 f2 in
+    record {
+      is = simp (to_z-of_z, e);
+      low = simp (to_z-of_z, e) small.0;
+      high = simp (to_z-of_z, e) small.1;
+    }

@@ -1,7 +1,7 @@
 use Rattle.std.proofs.Common.{arith, pos, rules, w64}
 use Rattle.std.specs.Prelude.{FitsSigned as SFits}
 use Rattle.std.proofs.lemmas.Int.{to_z-of_z}
-use Rattle.auc_cert.specs.Slackness.{price_at}
+use Rattle.auc_graph.specs.Dual.{price_at}
 use Rattle.auc_cert.specs.Text.{price_line}
 use Rattle.auc_cert.proofs.WriteLaws.{one_more}
 use Rattle.auc_cert.proofs.writing.write_prices.Goals as goal

@@ -1,14 +1,13 @@
-use Rattle.std.proofs.Common.{◌≡◌, ◌≤◌, length, All}
+use Rattle.std.proofs.Common.{◌≡◌, ◌≤◌, [], Ok, length, All}
 use Rattle.auc_graph.specs.Numbers.{numbers}
 use Rattle.auc_graph.specs.Problem.{IsWithin}
-use Rattle.auc_graph.specs.Reading.{arcs_from}
-use Rattle.auc_graph.proofs.ArcLaws.{in_front}
+use Rattle.auc_graph.specs.Reading.{AtPerson, reading_on}
 use Rattle.auc_graph.proofs.reading.arcs_of.Given as goal
 
 abbrev pub invariant-loop-first : goal.invariant-loop-first
 invariant-loop-first l = record {
-  told : in_front l.arcs.items (arcs_from l.limit l.persons (length l.arcs.items) (numbers l.rest)) ≡ arcs_from l.limit l.persons 0 (numbers l.text);
-  within : All (IsWithin l.persons l.persons) l.arcs.items;
+  told : reading_on l.limit (Ok (AtPerson l.persons l.objects, [])) (numbers l.text) ≡ reading_on l.limit (Ok (AtPerson l.persons l.objects, l.arcs.items)) (numbers l.rest);
+  within : All (IsWithin l.persons l.objects) l.arcs.items;
   few : length l.arcs.items ≤ l.limit;
 }
 

@@ -1,10 +1,15 @@
 use Rattle.auc_model.proofs.Theorems.{of_every_schedule, no_mail_stop}
+use Rattle.auc_model.proofs.Reached.{counts_well, hears_well, kept_reached, only_prices_full, room_reached, sells_well}
 use Rattle.auc_model.proofs.laws.no_guard.Goals as goal
 
 pub returns : goal.returns
 returns c = record {
-  fell = (λ g w v ts law s h. (of_every_schedule g w v ts law s h).0.0);
-  stray = (λ g w v ts law s h. (of_every_schedule g w v ts law s h).0.1);
-  trail = (λ g w v ts law s h. (of_every_schedule g w v ts law s h).0.2);
+  fell = (λ g v r. (of_every_schedule g v r).0.0);
+  stray = (λ g v r. (of_every_schedule g v r).0.1);
+  trail = (λ g v r. (of_every_schedule g v r).0.2);
   mail = no_mail_stop;
+  hears = (λ g v r. hears_well g v r.lawful (kept_reached g v r));
+  sells = (λ g v r. sells_well g v r.lawful (kept_reached g v r));
+  counts = (λ g v r. counts_well g v r.lawful (kept_reached g v r));
+  room = (λ g v r usual. only_prices_full g v r.lawful (kept_reached g v r) (room_reached g v r usual));
 }

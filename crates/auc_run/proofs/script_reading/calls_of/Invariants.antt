@@ -1,16 +1,16 @@
 use Rattle.std.proofs.Common.{◌≡◌, ◌≤◌, ◌+◌, ◌*◌, ◌-◌, length, All}
 use Rattle.auc_graph.specs.Tokens.{tokens}
-use Rattle.auc_run.specs.declared.script.TheConstants.{MOST_CALLS}
+use Rattle.auc_run.specs.ScriptLimits.{most_calls}
 use Rattle.auc_run.specs.Script.{calls_from}
-use Rattle.auc_run.specs.ScriptRanges.{IsWithin}
+use Rattle.auc_mail.specs.Step.{FitsIn}
 use Rattle.auc_run.proofs.ScriptLaws.{in_front}
 use Rattle.auc_run.proofs.script_reading.calls_of.Given as goal
 
 abbrev pub invariant-loop-word : goal.invariant-loop-word
 invariant-loop-word l = record {
-  told : in_front l.calls.items (calls_from (MOST_CALLS - length l.calls.items) l.boxes l.senders l.place (tokens l.rest)) ≡ calls_from MOST_CALLS l.boxes l.senders 5 (tokens l.text);
-  within : All (IsWithin l.boxes l.senders) l.calls.items;
-  few : length l.calls.items ≤ MOST_CALLS;
+  told : in_front l.calls.items (calls_from (most_calls - length l.calls.items) l.boxes l.senders l.place (tokens l.rest)) ≡ calls_from most_calls l.boxes l.senders 5 (tokens l.text);
+  within : All (FitsIn l.senders l.boxes) l.calls.items;
+  few : length l.calls.items ≤ most_calls;
   place : l.place ≤ 5 + 5 * length l.calls.items;
 }
 

@@ -1,5 +1,8 @@
-use Rattle.std.proofs.Common.{take, ◌∙◌}
+use Rattle.std.proofs.Common.{take, sym, subst, ◌∙◌}
+use Rattle.auc_model.specs.Schedule.{Reached}
+use Rattle.auc_model.specs.World.{Phase}
 use Rattle.auc_model.proofs.Copies.{copy_schedule}
+use Rattle.auc_model.proofs.Reached.{reached_on}
 use Rattle.auc_world.specs.Parts.{phase, seen}
 use Rattle.auc_world.proofs.TurnByTurn.{same_phase, turn_more}
 use Rattle.auc_world.proofs.playing.play.Goals as goal
@@ -14,3 +17,9 @@ loop-turn-preserved c =
 
 pub returns-clause-copies : goal.returns-clause-copies
 returns-clause-copies c = λ s j. copy_schedule (phase c.args.world.now) (seen c.args.world.now) (take c.loop-turn.turn-index c.args.turns.now) (seen c.loop-turn.world) s j c.loop-turn.invariant.schedule
+
+pub returns-clause-reached : goal.returns-clause-reached
+returns-clause-reached c = λ before.
+    let p = c.args.world.now in
+    let all = c.loop-turn.invariant in
+    subst (λ (g : Phase). Reached g (seen c.loop-turn.world)) (sym all.phase) (reached_on (phase p) (seen p) (seen c.loop-turn.world) (take c.loop-turn.turn-index c.args.turns.now) before all.schedule)

@@ -17,8 +17,8 @@ returns-in-Some-Stopped c =
     let fits : FitsSigned w64 c.args.eps = c.ranges.eps in
     let made = c.in_ok-world.ensures in
     let same = simp to_z-of_z at made.phase in
-    comes_to_stop c.args.rows.now c.args.limits.now c.args.prices.now c.args.eps c.make.ensures.table c.requires.arcs c.in_ok-world.world c.run.new.self same made.lawful made.starts made.prices c.run.ensures.rounds c.run.ensures.phase c.in-Some-Stopped.why c.guard_of.result (sym c.in-Some-Stopped.ensures.end ∙ ap Some c.in-Some-Stopped.field-0-is)
-    c.guard_of.ensures
+    comes_to_stop c.args.rows.now c.args.limits.now c.args.prices.now c.args.eps c.make.ensures.table c.requires.arcs c.in_ok-world.world c.run.new.self same made.lawful made.starts made.prices c.run.ensures.rounds c.run.ensures.phase c.in-Some-Stopped.why c.in_ok-gathered-in-Some-Stopped.gathered (sym c.in-Some-Stopped.ensures.end ∙ ap Some c.in-Some-Stopped.field-0-is)
+    c.in_ok-gathered-in-Some-Stopped.ensures.gathered c.in_ok-gathered-in-Some-Stopped.ensures.range
 
 pub returns : goal.returns
 returns c =

@@ -8,7 +8,7 @@ returns-clause-run g c some =
     let state = c.self.inside.state in
     let room : 0 < state.room = omega (arith, c.self.invariant.numbers.place_count) in
     rw c.into_lines.ensures.lines
-    (state.mail, desk_run g.N.MailName.boxes g.N.MailName.workers g.N.MailName.nodes g.N.MailName.most g.N.MailName.room state (events_of state.trail) c.self.invariant.numbers (c.every_state_is_noted.ensures.run room))
+    (state.mail, desk_run g.N.MailBrand.boxes g.N.MailBrand.workers g.N.MailBrand.nodes g.N.MailBrand.most g.N.MailBrand.room state (events_of state.trail) c.self.invariant.numbers (c.every_state_is_noted.ensures.run room))
 
 pub returns-clause-own : goal.returns-clause-own
 returns-clause-own g c =

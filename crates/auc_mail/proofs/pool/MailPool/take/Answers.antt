@@ -48,6 +48,6 @@ returns-after-index g c =
     let none = nothing_waits c.self.invariant c.args.at fits c.in-None.ensures.found.0 in
     let m : Mail _ = mail_of p.senders p.nodes p.most p.accepting.items p.counts.items p.letters.items in
     elim c.if-index.branch [
-      | then-index w ↦ rw (w.result-is, same, ← c.self.view_is) (sym read ∙ w.if-index.true, none, refl {a = m})
-      | else-index w ↦ rw (w.result-is, same, ← c.self.view_is) (sym read ∙ w.if-index.false, none, refl {a = m})
+      | then-index w ↦ rw (w.result-is, same, ← c.self.view_is) (sym read ∙ w.if-index.true, none, refl {a = m}, fits)
+      | else-index w ↦ rw (w.result-is, same, ← c.self.view_is) (sym read ∙ w.if-index.false, none, refl {a = m}, fits)
     ]

@@ -2,6 +2,7 @@ use Rattle.std.proofs.Common.{◌≡◌, ◌+◌, ◌*◌, length, arith, refl, 
 use Rattle.std.proofs.lemmas.Grind.{common_steps}
 use Rattle.std.proofs.lemmas.Int.{to_z-of_z}
 use Rattle.auc_mail.specs.Mail.{empty_mail}
+use Rattle.auc_world.specs.Hub.{Counting}
 use Rattle.auc_world.specs.Making.{nodes_or}
 use Rattle.auc_world.proofs.Made.{made_are}
 use Rattle.auc_world.proofs.world.World.assemble.Goals as goal
@@ -23,16 +24,14 @@ returns-clause-made c =
       each_persons = c.in_ok-new_person_shards.ensures.each;
       objects_are = c.in_ok-new_object_shards.ensures.many;
       each_objects = c.in_ok-new_object_shards.ensures.each;
-      person_outs_are = c.in_ok-new_outboxes.ensures.many;
-      each_person_out = c.in_ok-new_outboxes.ensures.each;
-      object_outs_are = c.in_ok-new_outboxes-2.ensures.many;
-      each_object_out = c.in_ok-new_outboxes-2.ensures.each;
+      outboxes_are = c.in_ok-new_outboxes.ensures.many;
+      each_outbox = c.in_ok-new_outboxes.ensures.each;
       stopped_are = grind (arith, common_steps);
       objects_mail = c.in_ok-new_mail.ensures ∙ ap (λ n. empty_mail shards (2 * shards + 1) n posts) objects_nodes;
       persons_mail = c.in_ok-new_mail-2.ensures ∙ ap (λ n. empty_mail shards (2 * shards + 1) n posts) persons_nodes;
       hub_mail = c.in_ok-new_mail-3.ensures ∙ ap (λ n. empty_mail 1 (2 * shards + 1) n posts) hub_nodes;
-      count = refl;
-      end = refl;
+      count = ap (λ (h : Counting). h.count) c.new.ensures;
+      end = ap (λ (h : Counting). h.end) c.new.ensures;
     }
 
 pub invariant_of-result : goal.invariant_of-result

@@ -23,4 +23,4 @@ loop-object-preserved c =
 pub returns-clause-gathered : goal.returns-clause-gathered
 returns-clause-gathered c =
     let all = c.loop-object.invariant in
-    all_gathered c.args.self.now c.objects-objects.ensures.sound c.loop-object.holders.items c.loop-object.prices.items c.loop-object.object (omega arith) all.holders_are all.prices_are all.holder_is all.price_is
+    all_gathered c.args.self.now c.object_count-objects.ensures.sound c.loop-object.holders.items c.loop-object.prices.items c.loop-object.object (omega arith) all.holders_are all.prices_are all.holder_is all.price_is

@@ -1,6 +1,7 @@
 use Rattle.std.proofs.Common.{w64}
 use Rattle.std.specs.Prelude.{FitsSigned}
 use Rattle.std.proofs.lemmas.Int.{to_z-of_z}
+use Rattle.auc_model.proofs.Reached.{reached_start}
 use Rattle.auc_world.proofs.Made.{copy_is, made_lawful, made_starts, price_is}
 use Rattle.auc_world.proofs.world.World.make.Goals as goal
 
@@ -27,3 +28,6 @@ returns-clause-copies c =
     let fits : FitsSigned w64 c.args.eps = c.ranges.eps in
     let made = simp to_z-of_z at c.in_ok-world.ensures.made in
     λ s j l. copy_is c.args.rows.now c.args.limits.now c.args.prices.now c.args.eps _ made c.assemble.ensures.table c.requires.limits c.requires.prices c.requires.eps s j l
+
+pub returns-clause-reached : goal.returns-clause-reached
+returns-clause-reached c = reached_start _ _ (returns-clause-lawful c) (returns-clause-starts c)

@@ -1,5 +1,5 @@
 use Rattle.std.proofs.lemmas.Option.{IfSome_then}
-use Rattle.auc_world.proofs.AtOnce.{IfNone_then, post_drops, post_leaves, post_same, post_stays}
+use Rattle.auc_world.proofs.PostingLaws.{IfNone_then, post_drops, post_leaves, post_same, post_stays}
 use Rattle.auc_world.proofs.world.World.post_past.Goals as goal
 
 pub returns-in-Ok-clause-leaves : goal.returns-in-Ok-clause-leaves

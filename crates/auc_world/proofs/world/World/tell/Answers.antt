@@ -1,7 +1,7 @@
 use Rattle.std.proofs.Common.{arith, ◌<◌}
 use Rattle.std.proofs.lemmas.Grind.{common_steps}
 use Rattle.auc_world.specs.Parts.{MayAnswer, OwnsObject}
-use Rattle.auc_world.proofs.Selling.{price_told_out}
+use Rattle.auc_world.proofs.SellingLaws.{price_told_out}
 use Rattle.auc_world.proofs.world.World.tell.Goals as goal
 
 pub returns-clause-turn : goal.returns-clause-turn
@@ -9,4 +9,5 @@ returns-clause-turn c =
     let may : MayAnswer c.args.self.now c.args.shard = grind (arith, common_steps) in
     let to : c.args.to < c.args.self.now.shards = grind (arith, common_steps) in
     let owns : OwnsObject c.args.self.now c.args.shard c.args.object = grind (arith, common_steps) in
-    price_told_out c.args.self.now c.args.shard c.may_answer.ensures.sound may c.args.object c.args.to c.put_object_out.new.self c.price_letter-out.result to owns c.price_letter-out.ensures c.put_object_out.ensures
+    let put = rw c.shards.ensures.is at c.put.ensures.put in
+    price_told_out c.args.self.now c.args.shard c.may_answer.ensures.sound may c.args.object c.args.to c.put.new.self c.price_letter-out.result to owns c.price_letter-out.ensures put

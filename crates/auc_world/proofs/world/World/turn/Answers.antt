@@ -1,22 +1,13 @@
+use Rattle.auc_model.proofs.Reached.{reached_turn}
+use Rattle.auc_model.specs.Schedule.{Reached}
+use Rattle.auc_model.specs.World.{Phase}
+use Rattle.std.proofs.Common.{subst, sym}
+use Rattle.auc_world.specs.Parts.{phase, seen}
+use Rattle.auc_world.proofs.TurnByTurn.{same_phase}
 use Rattle.auc_world.proofs.world.World.turn.Goals as goal
 
-pub returns-in-Bid-clause-turn : goal.returns-in-Bid-clause-turn
-returns-in-Bid-clause-turn c = rw c.in-Bid.is c.bid.ensures.turn
-
-pub returns-in-PersonPost-clause-turn : goal.returns-in-PersonPost-clause-turn
-returns-in-PersonPost-clause-turn c = rw c.in-PersonPost.is c.person_post.ensures.turn
-
-pub returns-in-ObjectPost-clause-turn : goal.returns-in-ObjectPost-clause-turn
-returns-in-ObjectPost-clause-turn c = rw c.in-ObjectPost.is c.object_post.ensures.turn
-
-pub returns-in-PersonTake-clause-turn : goal.returns-in-PersonTake-clause-turn
-returns-in-PersonTake-clause-turn c = rw c.in-PersonTake.is c.person_take.ensures.turn
-
-pub returns-in-ObjectTake-clause-turn : goal.returns-in-ObjectTake-clause-turn
-returns-in-ObjectTake-clause-turn c = rw c.in-ObjectTake.is c.object_take.ensures.turn
-
-pub returns-in-HubTake-clause-turn : goal.returns-in-HubTake-clause-turn
-returns-in-HubTake-clause-turn c = rw c.in-HubTake.is c.hub_take.ensures.turn
-
-pub returns-in-HubClose-clause-turn : goal.returns-in-HubClose-clause-turn
-returns-in-HubClose-clause-turn c = rw c.in-HubClose.is c.hub_close.ensures.turn
+pub returns-clause-reached : goal.returns-clause-reached
+returns-clause-reached c = λ before.
+    let p = c.args.self.now in
+    let n = c.take_turn.new.self in
+    subst (λ (g : Phase). Reached g (seen n)) (sym (same_phase p n c.take_turn.ensures.phase)) (reached_turn (phase p) (seen p) (seen n) c.args.turn c.take_turn.result before c.take_turn.ensures.turn)

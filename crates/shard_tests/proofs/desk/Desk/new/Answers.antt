@@ -1,7 +1,7 @@
 use Rattle.std.proofs.Common.{◌≡◌, length, sym, ap, ◌∙◌, arith}
 use Rattle.std.proofs.lemmas.List.{length-replicate}
 use Rattle.auc_letters.specs.declared.state.PersonState.TheVariants.{Free}
-use Rattle.auc_persons.specs.Persons.{Persons, Fits}
+use Rattle.auc_persons.specs.Persons.{Persons, IsMadeFor}
 use Rattle.shard_tests.proofs.desk.Desk.new.Goals as goal
 
 pub invariant_of-result-clause-fits : goal.invariant_of-result-clause-fits

@@ -1,5 +1,0 @@
-use Rattle.auc_cert.proofs.Duality.{slack_right_is_least}
-use Rattle.auc_cert.proofs.laws.slack_right_costs_least.Goals as goal
-
-pub returns : goal.returns
-returns c = slack_right_is_least

@@ -1,0 +1,62 @@
+-- Slackness of arcs at prices, and the bound that prices give on the cost of every assignment: the dual of the
+-- assignment problem.
+use Rattle.std.specs.Prelude.{◌≡◌, ℕ, ◌+◌, ◌==◌, Bool, List, [], ◌∷◌, map, filter, All, Contains, ℤ, pos, ◌+ℤ◌, ◌-ℤ◌, ◌*ℤ◌, ◌≤ℤ◌, slice_index_or}
+use Rattle.std.specs.List.{range_with_len}
+use Rattle.std.specs.Int.{int_min}
+use Rattle.auc_graph.specs.declared.arc.Arc.{Arc}
+use Rattle.auc_graph.specs.Problem.{Problem}
+use Rattle.auc_graph.specs.Assignment.{total, object_of}
+use Rattle.auc_graph.specs.Value.{value_at}
+
+-- the price of an object, and 0 where it has none
+abbrev pub price_at : List ℤ → ℕ → ℤ
+price_at prices j = slice_index_or prices j (pos 0)
+
+-- by what costs are multiplied: one more than the persons
+abbrev pub scale_of : Problem → ℕ
+scale_of p = p.persons + 1
+
+-- the value of an arc at prices
+abbrev pub arc_value : ℕ → List ℤ → Arc → ℤ
+arc_value scale prices a = value_at (pos scale) (price_at prices) a.cost a.object
+
+-- no arc of the same person is better by more than eps: eps-complementary slackness (Bertsekas)
+abbrev pub IsSlackRight : ℤ → ℕ → List ℤ → List Arc → Arc → Type 0
+IsSlackRight eps scale prices arcs chosen = All (λ a. a.person ≡ chosen.person → arc_value scale prices chosen ≤ℤ (arc_value scale prices a +ℤ eps)) arcs
+
+-- the least of a number and some more
+abbrev pub lowest : ℤ → List ℤ → ℤ
+lowest z [] = z
+lowest z (y ∷ ys) = int_min y (lowest z ys)
+
+-- the least of some numbers, and 0 where there is none
+abbrev pub least_of : List ℤ → ℤ
+least_of [] = pos 0
+least_of (z ∷ zs) = lowest z zs
+
+abbrev pub is_his : ℕ → Arc → Bool
+is_his person a = a.person == person
+
+-- what a person's arcs are worth, by this measure
+abbrev pub worths : (Arc → ℤ) → List Arc → ℕ → List ℤ
+worths worth arcs person = map worth (filter (is_his person) arcs)
+
+abbrev pub least_worth : (Arc → ℤ) → List Arc → ℕ → ℤ
+least_worth worth arcs person = least_of (worths worth arcs person)
+
+-- the sum over the persons of the least value of their arcs, minus the sum of all prices
+abbrev pub dual : Problem → List ℤ → ℤ
+dual p prices = total (map (least_worth (arc_value (scale_of p) prices) p.arcs) (range_with_len 0 p.persons)) -ℤ total prices
+
+-- the least number that is, scaled, at least d
+pub record IsLower (scale : ℕ) (d lower : ℤ) : Type 0 where
+  pub reaches : d ≤ℤ (pos scale *ℤ lower)
+  pub least : (k : ℤ) → d ≤ℤ (pos scale *ℤ k) → lower ≤ℤ k
+
+-- no price is negative
+abbrev pub AreNotNegative : List ℤ → Type 0
+AreNotNegative prices = (j : ℕ) → pos 0 ≤ℤ price_at prices j
+
+-- an object to which no arc of the choice leads has no price
+abbrev pub IsNoPriceLeft : List ℤ → List Arc → Type 0
+IsNoPriceLeft prices choice = (j : ℕ) → ¬ Contains (map object_of choice) j → price_at prices j ≡ pos 0

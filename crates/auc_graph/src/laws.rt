@@ -1,0 +1,37 @@
+//! Laws of the definitions, as contracts of functions without a body: what prices show of the cost of every assignment, and the numbers
+//! of the limits.
+
+ghost use Rattle.std.specs.Prelude.{◌≡◌, ◌*ℤ◌, ◌≤ℤ◌, List, ℤ, pos, length, All};
+ghost use Rattle.auc_graph.specs.declared.arc.Arc.{Arc};
+ghost use Rattle.auc_graph.specs.Problem.{Problem, IsWithin};
+ghost use Rattle.auc_graph.specs.Assignment.{IsAssignment, IsLeast, total_cost};
+ghost use Rattle.auc_graph.specs.Dual.{scale_of, dual, IsLower, IsSlackRight, AreNotNegative, IsNoPriceLeft};
+
+use crate::limits::{MOST_ARCS, MOST_COST, MOST_OBJECTS, MOST_PERSONS, MOST_READS};
+
+/// Weak duality: at prices that aren't negative no assignment costs, scaled, less than the dual bound; so none costs less than
+/// the least number that reaches this bound when scaled. There may be more objects than persons.
+pub fn prices_bound_costs()
+    ensures scaled { (p : Problem) (prices : List ℤ) (choice : List Arc) → All (IsWithin p.persons p.objects) p.arcs → length prices ≡ p.objects → AreNotNegative prices → IsAssignment p choice → dual p prices ≤ℤ (pos (scale_of p) *ℤ total_cost choice) }
+    ensures lower { (p : Problem) (prices : List ℤ) (choice : List Arc) (lower : ℤ) → All (IsWithin p.persons p.objects) p.arcs → length prices ≡ p.objects → AreNotNegative prices → IsAssignment p choice → IsLower (scale_of p) (dual p prices) lower → lower ≤ℤ total_cost choice }
+{}
+
+/// An assignment costs least where at prices that aren't negative no arc of a person is better than his chosen one by more
+/// than 1, and no object that nobody takes has a price. There may be more objects than persons.
+pub fn slack_right_costs_least()
+    ensures { (p : Problem) (prices : List ℤ) (choice : List Arc) → All (IsWithin p.persons p.objects) p.arcs → length prices ≡ p.objects → AreNotNegative prices → IsAssignment p choice → All (IsSlackRight (pos 1) (scale_of p) prices p.arcs) choice → IsNoPriceLeft prices choice → IsLeast p choice }
+{}
+
+/// Where there are as many objects as persons, an assignment leaves none, and so no price.
+pub fn assignments_leave_no_price()
+    ensures { (p : Problem) (prices : List ℤ) (choice : List Arc) → All (IsWithin p.persons p.objects) p.arcs → p.objects ≡ p.persons → length prices ≡ p.objects → IsAssignment p choice → IsNoPriceLeft prices choice }
+{}
+
+/// The numbers of the limits.
+pub fn limits_are()
+    ensures persons { MOST_PERSONS ≡ 10000 }
+    ensures objects { MOST_OBJECTS ≡ 10000 }
+    ensures arcs { MOST_ARCS ≡ 33554432 }
+    ensures reads { MOST_READS ≡ 1073741824 }
+    ensures cost { MOST_COST ≡ pos 1000000000 }
+{}

@@ -1,0 +1,99 @@
+//! What a job has to tell: how it is written, and its status.
+
+ghost use Rattle.std.specs.Prelude.{◌≡◌, ◌≢◌, IfOk};
+ghost use Rattle.std.specs.Io.KnownBytes.{Appends};
+ghost use Rattle.auc_cert.specs.Writing.{Writes};
+ghost use Rattle.auc_run.specs.Statuses.{refusal_status};
+ghost use Rattle.auc_run.specs.Reports.{IsWritable, outcome_status, outcome_text, report_status, report_text};
+
+use crate::found::Found;
+use crate::hall::write_found;
+use crate::input::ReadFault;
+use crate::lines::{write_refusal, write_valid};
+use crate::refusal::Refusal;
+use crate::replies::{Replies, write_replies};
+use crate::script_error::ScriptError;
+use crate::solve::write_answer;
+use crate::status::{
+    BROKEN, FULL, INFEASIBLE, INVALID, NO_MEMORY, OPTIMAL, REFUSED, REPLIED, UNWRITTEN, VALID,
+};
+use crate::valid::Valid;
+use auc_cert::{CertRefused, CertTextError, WriteFault};
+use auc_graph::ReadError;
+use auc_world::Answer;
+use std::io::Write;
+
+/// What a job has to tell, where it is not refused.
+#[derive(Debug, Drop)]
+pub enum Report {
+    /// The answer of a solve.
+    Solved(Answer),
+    /// What the claim of a certificate says, which a check found to hold.
+    Judged(Valid),
+    /// What a hall found.
+    Completed(Found),
+    /// The replies of a mail.
+    Replied(Replies),
+}
+
+/// Writes a report.
+fn write_report<W: Write>(writer: &mut W, report: &Report) -> Result<(), WriteFault>
+    requires { IsWritable report.now }
+    ensures { Writes result (W.contents writer.old) (W.contents writer.new) (report_text report.now) }
+{
+    match report {
+        Report::Solved(answer) => write_answer(writer, answer),
+        Report::Judged(valid) => write_valid(writer, *valid),
+        Report::Completed(found) => write_found(writer, found),
+        Report::Replied(replies) => write_replies(writer, replies.as_slice()),
+    }
+}
+
+/// The status of a report.
+fn status_of_report(report: &Report) -> u8
+    ensures { result ≡ report_status report.now }
+{
+    match report {
+        Report::Solved(Answer::Optimal(_)) => OPTIMAL,
+        Report::Solved(Answer::Infeasible(_)) => INFEASIBLE,
+        Report::Solved(Answer::Broken(_)) => BROKEN,
+        Report::Judged(_) => VALID,
+        Report::Completed(Found::Full(_)) => FULL,
+        Report::Completed(Found::Hall(_)) => INFEASIBLE,
+        Report::Replied(_) => REPLIED,
+    }
+}
+
+/// The status of a refusal.
+fn status_of_refusal(refusal: Refusal) -> u8
+    ensures { result ≡ refusal_status refusal }
+{
+    match refusal {
+        Refusal::NotRead(ReadFault::NoMemory)
+        | Refusal::NoProblem(ReadError::NoMemory)
+        | Refusal::NoCertificate(CertTextError::NoMemory)
+        | Refusal::Invalid(CertRefused::NoMemory)
+        | Refusal::NoScript(ScriptError::NoMemory)
+        | Refusal::NoMemory => NO_MEMORY,
+        Refusal::Invalid(_) => INVALID,
+        Refusal::NotRead(_)
+        | Refusal::NoProblem(_)
+        | Refusal::NoCertificate(_)
+        | Refusal::NoScript(_) => REFUSED,
+    }
+}
+
+/// Writes the outcome of a job, and gives its status, or 8 where it was not written, or not all of it.
+pub(crate) fn tell<W: Write>(writer: &mut W, outcome: Result<Report, Refusal>) -> u8
+    requires { IfOk outcome IsWritable }
+    ensures { result ≢ 8 → Appends (W.contents writer.old) (W.contents writer.new) (outcome_text outcome) × (result ≡ outcome_status outcome) }
+{
+    let (written, status) = match outcome {
+        Ok(report) => (write_report(writer, &report), status_of_report(&report)),
+        Err(refusal) => (write_refusal(writer, refusal), status_of_refusal(refusal)),
+    };
+    match written {
+        Ok(()) => status,
+        Err(_) => UNWRITTEN,
+    }
+}

@@ -1,0 +1,42 @@
+-- From the holders of a counted world to a certificate that passes the checker.
+use Rattle.std.proofs.Common.{ℕ, ℤ, pos, ◌≡◌, List, length, get_or, refl, subst}
+use Rattle.std.specs.Prelude.{All, map}
+use Rattle.auc_cert.specs.declared.cert.CertParts.TheVariants.{Optimal}
+use Rattle.auc_cert.specs.Claim.{pick_of}
+use Rattle.std.proofs.lemmas.List.Elements.{All-weaker}
+use Rattle.auc_cert.specs.Spelled.{IsPrice as IsPriceText}
+use Rattle.auc_cert.proofs.ClaimLaws.{faultless_is_allowed}
+use Rattle.auc_cert.proofs.Converse.{assignment_spelled, slack_right_faultless}
+use Rattle.auc_graph.specs.declared.arc.Arc.{Arc}
+use Rattle.auc_graph.specs.Assignment.{IsAssignment, total_cost}
+use Rattle.auc_graph.specs.Dual.{IsSlackRight, scale_of}
+use Rattle.auc_graph.specs.Problem.{IsProblem, IsWithin, Problem}
+use Rattle.auc_graph.specs.Table.{IsTable, IsTableOf, Table}
+use Rattle.auc_letters.specs.Price.{IsPrice}
+use Rattle.auc_model.specs.Chosen.{ArePricesOf, IsHeldArc}
+use Rattle.auc_model.specs.Schedule.{Reached}
+use Rattle.auc_model.specs.World.{World, phase_of}
+use Rattle.auc_model.proofs.Chosen.{holders_are_assignment}
+use Rattle.auc_model.proofs.CountedSlack.{held_slack_right}
+use Rattle.auc_world.specs.Answers.{IsCertified}
+
+module _ (p : Problem) (t : Table) (shards : ℕ) (v : World) (prices : List ℤ) (is : IsProblem p) (table : IsTable t) (of : IsTableOf p t) (reached : Reached (phase_of t shards (pos 1)) v) (true_prices : ArePricesOf v prices) (many : length prices ≡ p.objects) (range : All IsPrice prices) where
+  slack : (choice : List Arc) → IsAssignment p choice → All (IsHeldArc p v) choice → All (IsSlackRight (pos 1) (scale_of p) prices p.arcs) choice
+  slack choice given held k d l =
+      let arc = get_or choice k d in
+      let listed = given.arcs k d l in
+      let within : IsWithin p.persons p.objects arc = subst (IsWithin p.persons p.objects) listed.2 (is.within listed.0 arc listed.1) in
+      held_slack_right p t shards (pos 1) v prices of reached true_prices arc within.person (held k d l)
+
+  certified : (choice : List Arc) → IsAssignment p choice → All (IsHeldArc p v) choice → IsCertified p (Optimal (total_cost choice) (map pick_of choice) prices)
+  certified choice given held =
+      let prices_spelled : All IsPriceText prices = All-weaker IsPrice IsPriceText (λ z h. record { low = h.low; high = h.high }) prices range in
+      let spelled = assignment_spelled p choice prices is given many prices_spelled in
+      let faultless = slack_right_faultless p choice given prices many (total_cost choice) refl (slack choice given held) in
+      record { spelled = spelled; faultless = faultless; allowed = faultless_is_allowed p (Optimal (total_cost choice) (map pick_of choice) prices) is spelled faultless }
+
+pub counted_are_certified : (p : Problem) (t : Table) (shards : ℕ) (v : World) (prices : List ℤ) → IsProblem p → IsTable t → IsTableOf p t → Reached (phase_of t shards (pos 1)) v → v.count ≡ length t.rows → ArePricesOf v prices → length prices ≡ p.objects → All IsPrice prices
+    → (choice : List Arc) × IsAssignment p choice × All (IsHeldArc p v) choice × IsCertified p (Optimal (total_cost choice) (map pick_of choice) prices)
+counted_are_certified p t shards v prices is table of reached counted true_prices many range =
+    let found = holders_are_assignment p t shards (pos 1) v of reached counted in
+    (found.0, found.1, found.2, certified p t shards v prices is table of reached true_prices many range found.0 found.1 found.2)

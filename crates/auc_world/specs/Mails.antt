@@ -1,0 +1,36 @@
+-- The three mails of a world, by name and by where a letter goes.
+use Rattle.std.specs.Prelude.{ℕ}
+use Rattle.auc_mail.specs.Mail.{Mail}
+use Rattle.auc_letters.specs.declared.letter.Letter.{Letter}
+use Rattle.auc_letters.specs.declared.out.To.{To}
+use Rattle.auc_model.specs.declared.turn.MailName.{MailName}
+use Rattle.auc_model.specs.Mails.{Takes}
+use Rattle.auc_world.specs.declared.mails.Mails.{Mails}
+
+-- the mail that a letter goes into, by name
+abbrev pub name_of : To → MailName
+name_of (To.Person s) = MailName.Persons
+name_of (To.Object q) = MailName.Objects
+name_of To.Hub = MailName.Hub
+
+-- how many boxes the mail has, where there are so many shards of each kind
+abbrev pub boxes_in : ℕ → MailName → ℕ
+boxes_in shards MailName.Objects = shards
+boxes_in shards MailName.Persons = shards
+boxes_in shards MailName.Hub = 1
+
+-- the mail of that name
+abbrev pub named : Mails → MailName → Mail Letter
+named m MailName.Objects = m.objects
+named m MailName.Persons = m.persons
+named m MailName.Hub = m.hub
+
+-- another mail in place of the one of that name
+abbrev pub with_named : Mails → MailName → Mail Letter → Mails
+with_named m MailName.Objects x = record m { objects = x }
+with_named m MailName.Persons x = record m { persons = x }
+with_named m MailName.Hub x = record m { hub = x }
+
+-- a take from box b gives the letter l of some sender, and leaves n
+abbrev pub TakesOne : Mail Letter → ℕ → Letter → Mail Letter → Type 0
+TakesOne m b l n = (x : ℕ) × (k : ℕ) × Takes m b x k l n

@@ -13,5 +13,6 @@ mod RoundLaws
 mod PlayLaws
 pub mod HallCertificates
 mod GatherLaws
+mod FoundLaws
 mod PhaseLaws
 mod Bridge

@@ -1,9 +1,10 @@
 -- Which answers are right for a problem.
-use Rattle.std.specs.Prelude.{ℕ, ℤ, ◌≡◌, List, None}
+use Rattle.std.specs.Prelude.{ℕ, ℤ, ◌≡◌, List, Option, None}
 use Rattle.auc_graph.specs.declared.arc.Arc.{Arc}
 use Rattle.auc_graph.specs.Assignment.{IsAssignment}
 use Rattle.auc_graph.specs.Problem.{Problem}
 use Rattle.auc_letters.specs.declared.letter.Why.{Why}
+use Rattle.auc_letters.specs.declared.state.Held.{Held}
 use Rattle.auc_hall.specs.OfProblem.{IsHallSetOf}
 use Rattle.auc_cert.specs.declared.lists.Pick.{Pick}
 use Rattle.auc_cert.specs.declared.cert.CertParts.{CertParts}
@@ -11,6 +12,7 @@ use Rattle.auc_cert.specs.Claim.{IsAllowed, fault_of}
 use Rattle.auc_cert.specs.Spelled.{IsSpelled}
 use Rattle.auc_world.specs.declared.answer.Answer.{Answer}
 use Rattle.auc_world.specs.declared.answer.Guard.{Guard}
+use Rattle.auc_world.specs.Claims.{IsChoiceOf, claim_of}
 
 -- the certificate has a text, the checker finds no fault in it, and so what it says of the problem is true
 pub record IsCertified (p : Problem) (cert : CertParts) : Type 0 where
@@ -54,11 +56,12 @@ IsAnswer p (Answer.Optimal cert) = IsLeastCertificate p cert
 IsAnswer p (Answer.Infeasible cert) = IsHallCertificate p cert
 IsAnswer p (Answer.Broken guard) = (guard ≡ Guard.Check) × HasAssignment p
 
--- the same where each person has an object at the end
-abbrev pub IsOptimalAnswer : Problem → Answer → Type 0
-IsOptimalAnswer p (Answer.Optimal cert) = IsLeastCertificate p cert
-IsOptimalAnswer p (Answer.Infeasible cert) = ⊥
-IsOptimalAnswer p (Answer.Broken guard) = guard ≡ Guard.Check
+-- The answer to holders and prices that each person has an object: that the holders' arcs cost least, by these prices; or the guard of the
+-- checker, just where these arcs are no choice, or the checker refuses what they claim.
+abbrev pub IsOptimalAnswer : Problem → List (Option Held) → List ℤ → Answer → Type 0
+IsOptimalAnswer p holders prices (Answer.Optimal cert) = (choice : List Arc) × IsChoiceOf p holders choice × (cert ≡ claim_of choice prices) × IsCertified p cert
+IsOptimalAnswer p holders prices (Answer.Infeasible cert) = ⊥
+IsOptimalAnswer p holders prices (Answer.Broken guard) = (guard ≡ Guard.Check) × ((choice : List Arc) → IsChoiceOf p holders choice → IsCertified p (claim_of choice prices) → ⊥)
 
 -- and where some persons know too few objects
 abbrev pub IsInfeasibleAnswer : Problem → Answer → Type 0

@@ -3,6 +3,7 @@ pub mod Parts
 pub mod Making
 pub mod Gathering
 pub mod Rounds
+pub mod Claims
 pub mod Answers
 pub mod Phases
 pub mod Mails

@@ -1,8 +1,11 @@
 //! How a run ends: the claim of its last phase, or the guard that a stop stands for. Every claim passes the checker first.
 
-ghost use Rattle.std.specs.Prelude.{◌≡◌, length, IfOk, IfSome, IfNone};
+ghost use Rattle.std.specs.Prelude.{◌≡◌, List, length, map, Contains, Some, None, IfOk, IfSome, IfNone};
+ghost use Rattle.auc_graph.specs.declared.arc.Arc.{Arc};
 ghost use Rattle.auc_graph.specs.Problem.{IsProblem};
 ghost use Rattle.auc_hall.specs.OfProblem.{IsHallSetOf};
+ghost use Rattle.auc_cert.specs.Claim.{chosen};
+ghost use Rattle.auc_world.specs.Claims.{IsChoiceOf};
 ghost use Rattle.auc_world.specs.Answers.{IsCertified, IsOptimalAnswer, IsInfeasibleAnswer, guard_of};
 
 use crate::answer::{Answer, Guard};
@@ -39,35 +42,57 @@ fn certified(alloc: Global, problem: &ArcList, parts: CertParts) -> Result<Optio
     }
 }
 
-/// The pick of each person by the arc with which he holds an object; None where an arc or a person is none of the problem's.
-/// A person who holds nothing is given a pick that the checker refuses, unless it is right.
+/// All the picks, or None where one is missing.
+fn all_of(alloc: Global, found: &[Option<Pick>]) -> Result<Option<Vec<Pick>>, AllocError>
+    ensures some { IfOk result (λ o. IfSome o (λ picks. map Some picks.items ≡ found.now)) }
+    ensures none { IfOk result (λ o. IfNone o (Contains found.now None)) }
+{
+    let mut picks = Vec::with_capacity(alloc, found.len())?;
+    for pick in found {
+        let Some(pick) = pick else {
+            return Ok(None);
+        };
+        picks.push(*pick)?;
+    }
+    Ok(Some(picks))
+}
+
+/// The pick of each person by the arc with which he holds an object. None where a holder's arc isn't one of his, somebody holds
+/// two objects, or a person holds none.
 fn picks_of_holders(
     alloc: Global,
     problem: &ArcList,
     holders: &[Option<Held>],
 ) -> Result<Option<Vec<Pick>>, AllocError>
+    ensures some { IfOk result (λ o. IfSome o (λ picks. IsChoiceOf problem.now holders.now (chosen 0 picks.items))) }
+    ensures none { IfOk result (λ o. IfNone o ((choice : List Arc) → IsChoiceOf problem.now holders.now choice → ⊥)) }
     ensures each { IfOk result (λ o. IfSome o (λ picks. length picks.items ≡ problem.now.persons)) }
     ensures problem { IsProblem problem.now }
 {
     let arcs = problem.arcs();
-    let blank = Pick { cost: 0, object: 0 };
-    let mut picks = vec![in alloc; blank; problem.persons() as usize]?;
+    let mut found = vec![in alloc; None; problem.persons() as usize]?;
     for holder in holders {
         let Some(held) = holder else {
             continue;
         };
         let place = held.arc as usize;
-        let person = held.person as usize;
-        if place >= arcs.len() || person >= picks.len() {
+        if place >= arcs.len() {
             return Ok(None);
         }
         let arc = arcs[place];
-        picks[person] = Pick {
+        if arc.person != held.person {
+            return Ok(None);
+        }
+        let person = arc.person as usize;
+        if found[person].is_some() {
+            return Ok(None);
+        }
+        found[person] = Some(Pick {
             cost: arc.cost,
             object: arc.object,
-        };
+        });
     }
-    Ok(Some(picks))
+    all_of(alloc, found.as_slice())
 }
 
 /// The answer of a last phase that has sold an object to each person: its holders' arcs, what they cost together, and its prices,
@@ -77,7 +102,7 @@ fn picks_of_holders(
 ///
 /// Only where memory was refused.
 pub fn optimal(alloc: Global, problem: &ArcList, gathered: Gathered) -> Result<Answer, AllocError>
-    ensures { IfOk result (IsOptimalAnswer problem.now) }
+    ensures { IfOk result (IsOptimalAnswer problem.now gathered.holders.items gathered.prices.items) }
 {
     let Gathered { holders, prices } = gathered;
     let Some(picks) = picks_of_holders(alloc, problem, holders.as_slice())? else {

@@ -16,3 +16,4 @@ mod GatherLaws
 mod FoundLaws
 mod PhaseLaws
 mod Bridge
+mod ChainLaws

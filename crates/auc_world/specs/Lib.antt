@@ -6,6 +6,7 @@ pub mod Rounds
 pub mod Claims
 pub mod Answers
 pub mod Phases
+pub mod Chain
 pub mod Mails
 pub mod Hub
 pub mod Posting

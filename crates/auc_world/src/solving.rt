@@ -4,6 +4,7 @@ ghost use Rattle.std.specs.Prelude.{◌≡◌, IfOk};
 ghost use Rattle.auc_graph.specs.Table.{IsTableOf};
 ghost use Rattle.auc_letters.specs.Price.{IsEps};
 ghost use Rattle.auc_world.specs.Answers.{HasAssignment, IsAnswer};
+ghost use Rattle.auc_world.specs.Chain.{IsOfRun};
 ghost use Rattle.auc_world.specs.Making.{AreLimits, ArePrices};
 ghost use Rattle.auc_world.specs.Phases.{ComesOf, NobodyStuck};
 
@@ -42,7 +43,7 @@ fn play_phase(
     requires prices { ArePrices rows.now prices.now }
     requires eps { IsEps eps }
     requires arcs { NobodyStuck rows.now }
-    ensures { IfOk result (ComesOf rows.now limits.now.shards prices.now eps) }
+    ensures { IfOk result (ComesOf rows.now limits.now prices.now eps) }
 {
     let mut world = World::make(alloc, rows, limits, prices, eps)?;
     match world.run() {
@@ -69,8 +70,11 @@ fn solve_rows(
     requires limits { AreLimits limits.now }
     requires arcs { NobodyStuck rows.now }
     requires assignment { HasAssignment problem.now }
-    ensures { IfOk result (IsAnswer problem.now) }
+    ensures is { IfOk result (IsAnswer problem.now) }
+    ensures run { IfOk result (IsOfRun problem.now limits.now) }
 {
+    // Read here, so that the proof knows what every problem keeps.
+    let _ = problem.arcs();
     let mut prices = vec![in alloc; 0; rows.objects() as usize]?;
     let mut eps = first_eps(rows);
     loop {
@@ -107,7 +111,8 @@ fn solve_rows(
 /// Only where memory was refused.
 pub fn solve_serial(alloc: Global, problem: &ArcList, limits: &Limits) -> Result<Answer, AllocError>
     requires { AreLimits limits.now }
-    ensures { IfOk result (IsAnswer problem.now) }
+    ensures is { IfOk result (IsAnswer problem.now) }
+    ensures run { IfOk result (IsOfRun problem.now limits.now) }
 {
     let rows = Rows::build(alloc, problem)?;
     let partial = Partial::new(alloc, &rows)?;

@@ -4,12 +4,12 @@ use Rattle.std.specs.Prelude.{All, Bool, IfOk, Result, Ok, Err, T, int_le, map, 
 use Rattle.std.specs.Int.Signed.{le_z_yes}
 use Rattle.std.proofs.lemmas.Int.{ints}
 use Rattle.std.proofs.lemmas.List.Elements.{Contains-get_or}
+use Rattle.std.proofs.lemmas.Option.{same_Some}
 use Rattle.std.proofs.lemmas.List.{length-map}
-use Rattle.std.proofs.lemmas.List.FromFn.{length-range_with_len, length-map-range_with_len}
+use Rattle.std.proofs.lemmas.List.FromFn.{length-range_with_len}
 use Rattle.auc_graph.specs.declared.arc.Arc.{Arc}
 use Rattle.auc_graph.specs.Assignment.{IsAssignment, person_of, total_cost}
 use Rattle.auc_graph.specs.Problem.{IsProblem, Problem}
-use Rattle.auc_graph.specs.Row.{row}
 use Rattle.auc_graph.specs.Table.{IsTable, IsTableOf, Table}
 use Rattle.auc_letters.specs.Price.{IsEps}
 use Rattle.auc_letters.specs.declared.state.Held.{Held}
@@ -19,17 +19,21 @@ use Rattle.auc_model.specs.World.{World, phase_of}
 use Rattle.auc_model.specs.declared.turn.End.{End}
 use Rattle.auc_model.proofs.Ends.{all_schedule}
 use Rattle.auc_model.proofs.Reached.{kept_reached}
-use Rattle.auc_model.proofs.Theorems.{of_every_schedule}
+use Rattle.auc_model.proofs.Theorems.{holders_slack, of_every_schedule}
 use Rattle.auc_world.specs.declared.answer.Answer.{Answer}
 use Rattle.auc_world.specs.declared.gathering.Gathered.{Gathered}
 use Rattle.auc_world.specs.declared.limits.Limits.{Limits}
-use Rattle.auc_world.specs.Answers.{IsAnswer, IsCertified, IsOptimalAnswer}
+use Rattle.auc_world.specs.Answers.{IsAnswer, IsBracketAnswer, IsCertified, IsOptimalAnswer, why_of}
 use Rattle.auc_world.specs.Chain.{Chain, EndsIn, Follows, IsClaimOf, IsOfRun}
-use Rattle.auc_world.specs.Claims.{IsChoiceOf, NobodyHoldsTwo, claim_of, holder_at}
+use Rattle.auc_world.specs.Claims.{ArePlaceable, HoldsAt, IsChoiceOf, NobodyHoldsTwo, claim_of, holder_at}
 use Rattle.auc_world.specs.Eps.{first_eps, next_eps}
 use Rattle.auc_world.specs.Phases.{IsPlayed, Leaves, Stage}
+use Rattle.auc_hall.proofs.ProblemLaws.{length-rows, row_is, stands_for}
+use Rattle.auc_graph.specs.Row.{row}
+use Rattle.auc_graph.specs.declared.rows.RowArc.{RowArc}
+use Rattle.auc_cert.specs.declared.reason.Reason.{Reason}
 use Rattle.auc_world.proofs.Bridge.{counted_are_certified}
-use Rattle.auc_world.proofs.FoundLaws.{held_same, one_choice, person_at}
+use Rattle.auc_world.proofs.FoundLaws.{one_choice, person_at}
 use Rattle.auc_cert.specs.Claim.{pick_of}
 use Rattle.std.specs.List.{slice_get}
 
@@ -70,9 +74,6 @@ module _ (p : Problem) (t : Table) (limits : Limits) (s : Stage) (gathered : Gat
   pub holds_one : NobodyHoldsTwo holders
   holds_one j k a b e f same = (of_every_schedule (phase_of t limits.shards s.eps) s.world left.reached).2 j k a b (in_world j a e) (in_world k b f) same
 
-  persons_are : length t.rows ≡ p.persons
-  persons_are = ap length its.rows ∙ length-map-range_with_len (λ person. row person p.arcs) 0 p.persons
-
   -- where each person has an arc that is held, the holders' arcs are these
   pub choice_of_holders : (choice : List Arc) → IsAssignment p choice → All (IsHeldArc p s.world) choice → IsChoiceOf p holders choice
   choice_of_holders choice given held = record {
@@ -80,7 +81,7 @@ module _ (p : Problem) (t : Table) (limits : Limits) (s : Stage) (gathered : Gat
     held = λ k d lt. (let own = held k d lt in record { object = (get_or choice k d).object; held = own.held; holds = left.sales.holder_is (get_or choice k d).object ∙ own.holds; by = record { place = own.place; his = sym own.person } });
     each = λ j h e. (
         let below = (kept_reached (phase_of t limits.shards s.eps) s.world left.reached).inv.holder_range j h (in_world j h e) in
-        let rows = persons_are in
+        let rows = length-rows p t its in
         let many : length choice ≡ p.persons = sym (length-map choice person_of) ∙ (ap length given.persons ∙ length-range_with_len 0 p.persons) in
         let l : h.person < length choice = omega (arith, below, rows, many) in
         let none : Arc = record { person = 0; object = 0; cost = pos 0 } in
@@ -88,7 +89,7 @@ module _ (p : Problem) (t : Table) (limits : Limits) (s : Stage) (gathered : Gat
         let person : (get_or choice h.person none).person ≡ 0 + h.person = person_at p.persons 0 h.person choice none given.persons l in
         let who = own.person in
         let once : j ≡ (get_or choice h.person none).object = (of_every_schedule (phase_of t limits.shards s.eps) s.world left.reached).2 j (get_or choice h.person none).object h own.held (in_world j h e) own.holds (omega (arith, person, who)) in
-        let equal : h ≡ own.held = held_same (sym (in_world j h e) ∙ (ap s.world.holder once ∙ own.holds)) in
+        let equal : h ≡ own.held = same_Some _ _ (sym (in_world j h e) ∙ (ap s.world.holder once ∙ own.holds)) in
         (get_or choice h.person none, Contains-get_or choice h.person none l, record { place = ap (λ (x : Held). slice_get p.arcs x.arc) equal ∙ own.place; his = omega (arith, person) })
         );
     once = holds_one;
@@ -122,6 +123,7 @@ module _ (p : Problem) (t : Table) (limits : Limits) (done : List Stage) (s : St
     pub sold_is_answer : (answer : Answer) → IsOptimalAnswer p gathered.holders.items gathered.prices.items answer → IsAnswer p answer
     sold_is_answer (Answer.Optimal cert) h = record { cost = total_cost h.0; choice = map pick_of h.0; prices = gathered.prices.items; is = h.2; certified = h.3 }
     sold_is_answer (Answer.Infeasible cert) h = absurd h
+    sold_is_answer (Answer.Bracket cert) h = absurd h
     sold_is_answer (Answer.Broken guard) h = absurd (h.1 chosen.0 choice_is chosen.3)
 
     pub sold_is_of_run : (answer : Answer) → IsOptimalAnswer p gathered.holders.items gathered.prices.items answer → IsOfRun p limits answer
@@ -129,7 +131,37 @@ module _ (p : Problem) (t : Table) (limits : Limits) (done : List Stage) (s : St
         let one = one_choice p gathered.holders.items h.0 chosen.0 h.1 choice_is in
         (s, ends_in, last, end, subst (IsClaimOf p s.world) (sym (h.2 ∙ ap (λ (xs : List Arc). claim_of xs gathered.prices.items) one)) claim)
     sold_is_of_run (Answer.Infeasible cert) h = absurd h
+    sold_is_of_run (Answer.Bracket cert) h = absurd h
     sold_is_of_run (Answer.Broken guard) h = absurd (h.1 chosen.0 choice_is chosen.3)
+
+  -- ---- a limit has stopped the last phase
+
+  -- each holder has his object by an arc of his to it
+  placed_rightly : (j : ℕ) (h : Held) → holder_at gathered.holders.items j ≡ Some h → (a : Arc) × HoldsAt p j h a
+  placed_rightly j h e =
+      let here = in_world p t limits s gathered its left j h e in
+      let below = (kept_reached (phase_of t limits.shards s.eps) s.world left.reached).inv.holder_range j h here in
+      let right = holders_slack (phase_of t limits.shards s.eps) s.world left.reached j h here in
+      let rows = length-rows p t its in
+      let own : Contains (row h.person p.arcs) right.0 = subst (λ (xs : List RowArc). Contains xs right.0) (row_is p t its h.person (omega (arith, below, rows))) right.1 in
+      let x = stands_for h.person p.arcs right.0 own in
+      (x.0, record { by = record { place = ap (slice_get p.arcs) (sym right.3) ∙ x.1.there; his = x.1.person }; leads = x.1.object ∙ right.2 })
+
+  placeable : ArePlaceable p gathered.holders.items
+  placeable = record { each = placed_rightly; once = holds_one p t limits s gathered its left }
+
+  module _ (reason : Reason) (stopped : s.world.end ≡ Some (End.Stopped (why_of reason))) where
+    pub stopped_is_answer : (answer : Answer) → IsBracketAnswer p reason gathered.holders.items gathered.prices.items answer → IsAnswer p answer
+    stopped_is_answer (Answer.Optimal cert) h = absurd h
+    stopped_is_answer (Answer.Infeasible cert) h = absurd h
+    stopped_is_answer (Answer.Bracket cert) h = let by = h.1 in record { reason = reason; lower = by.lower; cost = total_cost by.choice; choice = map pick_of by.choice; prices = gathered.prices.items; is = by.is; certified = h.2 }
+    stopped_is_answer (Answer.Broken guard) h = absurd (h.1 placeable)
+
+    pub stopped_is_of_run : (answer : Answer) → IsBracketAnswer p reason gathered.holders.items gathered.prices.items answer → IsOfRun p limits answer
+    stopped_is_of_run (Answer.Optimal cert) h = absurd h
+    stopped_is_of_run (Answer.Infeasible cert) h = absurd h
+    stopped_is_of_run (Answer.Bracket cert) h = (s, ends_in, record { reason = reason; stopped = stopped; prices = gathered.prices.items; each = left.sales.prices_are ∙ its.objects; true_prices = left.sales.price_is; by = h.1 })
+    stopped_is_of_run (Answer.Broken guard) h = absurd (h.1 placeable)
 
 -- ---- the same of what the code answers
 

@@ -5,7 +5,7 @@ use Rattle.std.specs.Prelude.{FitsSigned, Result, Ok, Err, IfOk, IfSome, IfNone}
 use Rattle.std.specs.List.{slice_get, range_with_len}
 use Rattle.std.specs.Option.{is_some}
 use Rattle.std.proofs.lemmas.Bool.{cases_eq, cases_lt}
-use Rattle.std.proofs.lemmas.Option.{slice_get-get_or, slice_get_past}
+use Rattle.std.proofs.lemmas.Option.{same_Some, slice_get-get_or, slice_get_past}
 use Rattle.std.proofs.lemmas.List.{get_or-set_same, get_or-set_other, length-set, length-map, get_or_past, get_or_default, same_lists}
 use Rattle.std.proofs.lemmas.List.FromFn.{length-range_with_len}
 use Rattle.auc_graph.specs.declared.arc.Arc.{Arc}
@@ -19,32 +19,11 @@ use Rattle.auc_cert.proofs.ClaimLaws.{persons_are}
 use Rattle.auc_world.specs.Answers.{IsCertified}
 use Rattle.auc_world.specs.Claims.{HoldsBy, IsChoiceOf, IsHoldersArc, claim_of, holder_at}
 
--- ---- what is equal under `Some`
-
-pub arc_same : {a b : Arc} → ◌≡◌ {A = Option Arc} (Some a) (Some b) → a ≡ b
-arc_same {a} {b} e = ap (λ (o : Option Arc). from_arc a o) e
-  where
-    from_arc : Arc → Option Arc → Arc
-    from_arc d None = d
-    from_arc d (Some a) = a
-
-pub held_same : {a b : Held} → ◌≡◌ {A = Option Held} (Some a) (Some b) → a ≡ b
-held_same {a} {b} e = ap (λ (o : Option Held). from_held a o) e
-  where
-    from_held : Held → Option Held → Held
-    from_held d None = d
-    from_held d (Some a) = a
-
-pick_same : {a b : Pick} → ◌≡◌ {A = Option Pick} (Some a) (Some b) → a ≡ b
-pick_same {a} {b} e = ap (λ (o : Option Pick). from_pick a o) e
-  where
-    from_pick : Pick → Option Pick → Pick
-    from_pick d None = d
-    from_pick d (Some a) = a
+-- ---- holders and their arcs
 
 -- a holder's arc is one alone
 pub one_arc : (p : Problem) (h : Held) (a b : Arc) → slice_get p.arcs h.arc ≡ Some a → slice_get p.arcs h.arc ≡ Some b → a ≡ b
-one_arc p h a b e f = arc_same (sym e ∙ f)
+one_arc p h a b e f = same_Some _ _ (sym e ∙ f)
 
 -- an object that is held is one of the list
 pub is_there : (holders : List (Option Held)) (j : ℕ) (h : Held) → holder_at holders j ≡ Some h → j < length holders
@@ -106,7 +85,7 @@ found_none p holders found len none = record {
 }
 
 -- of the first and one more holder, where the last one is none of the first
-at_or_before : (count j : ℕ) → j < count + 1 → j ≢ count → j < count
+pub at_or_before : (count j : ℕ) → j < count + 1 → j ≢ count → j < count
 at_or_before count j lt ne = elim (cases_lt j count) [ inl l ↦ l | inr le ↦ absurd (ne (omega (arith, lt, le))) ]
 
 pub found_nothing : (p : Problem) (holders : List (Option Held)) (count : ℕ) (found : List (Option Pick)) → AreFound p holders count found → holder_at holders count ≡ None → AreFound p holders (count + 1) found
@@ -141,12 +120,12 @@ module _ (p : Problem) (holders : List (Option Held)) (count : ℕ) (found : Lis
     sound_more : (i : ℕ) (pick : Pick) → get_or written i None ≡ Some pick → IsFound p holders (count + 1) i pick
     sound_more i pick e =
         elim (cases_eq i arc.person) [
-          | inl at ↦ record { object = count; before = omega arith; held = h; holds = here; arc = arc; by = mine; who = sym at; is = pick_same (sym e ∙ (ap (λ (k : ℕ). get_or written k None) at ∙ at_same)) }
+          | inl at ↦ record { object = count; before = omega arith; held = h; holds = here; arc = arc; by = mine; who = sym at; is = same_Some _ _ (sym e ∙ (ap (λ (k : ℕ). get_or written k None) at ∙ at_same)) }
           | inr other ↦ later p holders count i pick (are.sound i pick (sym (at_other i other) ∙ e))
         ]
 
     held_here : (j : ℕ) (g : Held) → holder_at holders j ≡ Some g → j ≡ count → g ≡ h
-    held_here j g e at = held_same (sym e ∙ (ap (holder_at holders) at ∙ here))
+    held_here j g e at = same_Some _ _ (sym e ∙ (ap (holder_at holders) at ∙ here))
 
     each_more : (j : ℕ) (g : Held) → j < count + 1 → holder_at holders j ≡ Some g → Stands p g written
     each_more j g lt e =
@@ -166,13 +145,13 @@ module _ (p : Problem) (holders : List (Option Held)) (count : ℕ) (found : Lis
     once_more j k a b lt le e f same =
         elim (cases_eq j count) [
           | inl at ↦ elim (cases_eq k count) [
-              | inl there ↦ at ∙ sym there
-              | inr ne ↦ absurd (nobody k b (at_or_before count k le ne) f (sym same ∙ person_here j a e at))
-            ]
+            | inl there ↦ at ∙ sym there
+            | inr ne ↦ absurd (nobody k b (at_or_before count k le ne) f (sym same ∙ person_here j a e at))
+          ]
           | inr ne ↦ elim (cases_eq k count) [
-              | inl there ↦ absurd (nobody j a (at_or_before count j lt ne) e (same ∙ person_here k b f there))
-              | inr other ↦ are.once j k a b (at_or_before count j lt ne) (at_or_before count k le other) e f same
-            ]
+            | inl there ↦ absurd (nobody j a (at_or_before count j lt ne) e (same ∙ person_here k b f there))
+            | inr other ↦ are.once j k a b (at_or_before count j lt ne) (at_or_before count k le other) e f same
+          ]
         ]
 
     pub found_more : AreFound p holders (count + 1) (set found arc.person (Some (pick_of arc)))
@@ -279,7 +258,7 @@ module _ (p : Problem) (holders : List (Option Held)) (found : List (Option Pick
         let a = old.0 in
         let there : get_or (map Some picks) a.person None ≡ Some (pick_of a) = ap (λ (xs : List (Option Pick)). get_or xs a.person None) same ∙ old.2 in
         let l = some_there picks a.person (pick_of a) there in
-        let pick : get_or picks a.person (pick_of a) ≡ pick_of a = pick_same (sym (some_at picks a.person (pick_of a) l) ∙ there) in
+        let pick : get_or picks a.person (pick_of a) ≡ pick_of a = same_Some _ _ (sym (some_at picks a.person (pick_of a) l) ∙ there) in
         (a, (a.person, (let n = length_chosen 0 picks in omega (arith, l, n)), chosen_first picks a.person a (pick_of a) l ∙ ap (arc_of a.person) pick), old.1)
 
     pub all_found : IsChoiceOf p holders (chosen 0 picks)
@@ -309,7 +288,7 @@ choice_at p holders a b is other k d lt le =
     let xp : (get_or a k d).person ≡ 0 + k = person_at p.persons 0 k a d is.persons lt in
     let yp : (get_or b k d).person ≡ 0 + k = person_at p.persons 0 k b d other.persons le in
     let one = is.once x.object y.object x.held y.held x.holds y.holds (sym x.by.his ∙ (xp ∙ (sym yp ∙ y.by.his))) in
-    let held : x.held ≡ y.held = held_same (sym x.holds ∙ (ap (holder_at holders) one ∙ y.holds)) in
+    let held : x.held ≡ y.held = same_Some _ _ (sym x.holds ∙ (ap (holder_at holders) one ∙ y.holds)) in
     one_arc p y.held (get_or a k d) (get_or b k d) (ap (λ (h : Held). slice_get p.arcs h.arc) (sym held) ∙ x.by.place) y.by.place
 
 choice_len : (p : Problem) (holders : List (Option Held)) (a : List Arc) → IsChoiceOf p holders a → length a ≡ p.persons

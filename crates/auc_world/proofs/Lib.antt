@@ -14,6 +14,9 @@ mod PlayLaws
 pub mod HallCertificates
 mod GatherLaws
 mod FoundLaws
+mod MatchingPicks
+mod PlacedLaws
 mod PhaseLaws
 mod Bridge
+mod BracketLaws
 mod ChainLaws

@@ -1,6 +1,7 @@
 -- What a phase comes to: of all stops only those by a limit, and never a stall.
 use Rattle.std.proofs.Common.{ℕ, ℤ, pos, ◌<◌, ◌≡◌, List, Option, Some, None, get_or, refl, sym, subst, ap, ◌∙◌, arith, Contains}
-use Rattle.std.specs.Prelude.{All, ◌<ℤ◌, replicate, unsigned_abs}
+use Rattle.auc_cert.specs.declared.reason.Reason.{Reason}
+use Rattle.std.specs.Prelude.{Result, Ok, Err, All, ◌<ℤ◌, replicate, unsigned_abs}
 use Rattle.std.proofs.lemmas.Int.{ints}
 use Rattle.std.proofs.lemmas.List.{get_or-replicate, length-replicate}
 use Rattle.std.specs.List.{slice_get}
@@ -31,7 +32,7 @@ use Rattle.auc_world.specs.declared.gathering.Gathered.{Gathered}
 use Rattle.auc_world.specs.declared.limits.Limits.{Limits}
 use Rattle.auc_world.specs.declared.solving.Outcome.{Outcome}
 use Rattle.auc_world.specs.Gathering.{AreSales, IsGathered}
-use Rattle.auc_world.specs.Answers.{HasAssignment, IsAnswer, IsInfeasibleAnswer, guard_of}
+use Rattle.auc_world.specs.Answers.{HasAssignment, IsAnswer, IsInfeasibleAnswer, stop_of, why_of}
 use Rattle.auc_world.specs.Making.{ArePrices, IsMade}
 use Rattle.auc_world.specs.Parts.{Parts, phase, seen}
 use Rattle.auc_world.specs.Phases.{ComesOf, IsPlayed, Leaves, NobodyStuck, Stage}
@@ -41,16 +42,27 @@ use Rattle.auc_world.proofs.RoundLaws.{rounds_schedule}
 pub nobody_stuck : (t : Table) (shards : ℕ) (eps : ℤ) → NobodyStuck t → SomeoneStuck (phase_of t shards eps) → ⊥
 nobody_stuck t shards eps all (i, l, none) = all i l none
 
--- the guard that a stop stands for is that of the checker
-pub stopped_by_limit : (g : Phase) (v : World) (why : Why) → Reached g v → (SomeoneStuck g → ⊥) → v.end ≡ Some (End.Stopped why) → guard_of why ≡ Guard.Check
-stopped_by_limit g v Why.Bids r arcs e = refl
-stopped_by_limit g v Why.Ceiling r arcs e = refl
-stopped_by_limit g v Why.Posts r arcs e = refl
-stopped_by_limit g v Why.Trail r arcs e = refl
-stopped_by_limit g v Why.Mail r arcs e = refl
-stopped_by_limit g v Why.Stuck r arcs e = absurd (arcs (stuck_only g v r e))
-stopped_by_limit g v Why.Fell r arcs e = absurd ((of_every_schedule g v r).0.0 e)
-stopped_by_limit g v Why.Stray r arcs e = absurd ((of_every_schedule g v r).0.1 e)
+-- a stop that stands for a limit is for its reason
+stop_is : (why : Why) (reason : Reason) → stop_of why ≡ Ok reason → why ≡ why_of reason
+stop_is Why.Bids reason e = let r : Reason.Bids ≡ reason = cc in ap why_of r
+stop_is Why.Ceiling reason e = let r : Reason.Ceiling ≡ reason = cc in ap why_of r
+stop_is Why.Posts reason e = let r : Reason.Posts ≡ reason = cc in ap why_of r
+stop_is Why.Trail reason e = let r : Reason.Trail ≡ reason = cc in ap why_of r
+stop_is Why.Mail reason e = let r : Reason.Mail ≡ reason = cc in ap why_of r
+stop_is Why.Fell reason e = absurd cc
+stop_is Why.Stray reason e = absurd cc
+stop_is Why.Stuck reason e = absurd cc
+
+-- a stop of a reached world stands for no guard, where nobody is without an arc
+never_guarded : (g : Phase) (v : World) (why : Why) (guard : Guard) → Reached g v → (SomeoneStuck g → ⊥) → v.end ≡ Some (End.Stopped why) → stop_of why ≡ Err guard → ⊥
+never_guarded g v Why.Bids guard r arcs e s = cc
+never_guarded g v Why.Ceiling guard r arcs e s = cc
+never_guarded g v Why.Posts guard r arcs e s = cc
+never_guarded g v Why.Trail guard r arcs e s = cc
+never_guarded g v Why.Mail guard r arcs e s = cc
+never_guarded g v Why.Stuck guard r arcs e s = arcs (stuck_only g v r e)
+never_guarded g v Why.Fell guard r arcs e s = (of_every_schedule g v r).0.0 e
+never_guarded g v Why.Stray guard r arcs e s = (of_every_schedule g v r).0.1 e
 
 -- ---- a full assignment
 
@@ -101,8 +113,11 @@ module _ (t : Table) (limits : Limits) (prices : List ℤ) (eps : ℤ) (table : 
   pub comes_to_sale : (gathered : Gathered) → (seen v).end ≡ Some End.All → IsGathered v gathered.holders.items gathered.prices.items → All IsPrice gathered.prices.items → ComesOf t limits prices eps (Outcome.Sold gathered)
   comes_to_sale gathered end sales range = (seen v, left End.All gathered end sales range, end)
 
-  pub comes_to_stop : (why : Why) (gathered : Gathered) → (seen v).end ≡ Some (End.Stopped why) → IsGathered v gathered.holders.items gathered.prices.items → All IsPrice gathered.prices.items → ComesOf t limits prices eps (Outcome.Stopped why gathered)
-  comes_to_stop why gathered end sales range = (seen v, left (End.Stopped why) gathered end sales range, end, stopped_by_limit g (seen v) why reached (nobody_stuck t limits.shards eps arcs) end)
+  pub comes_to_stop : (why : Why) (reason : Reason) (gathered : Gathered) → stop_of why ≡ Ok reason → (seen v).end ≡ Some (End.Stopped why) → IsGathered v gathered.holders.items gathered.prices.items → All IsPrice gathered.prices.items → ComesOf t limits prices eps (Outcome.Stopped reason gathered)
+  comes_to_stop why reason gathered stop end sales range = (seen v, left (End.Stopped why) gathered end sales range, end ∙ ap (λ (w : Why). Some (End.Stopped w)) (stop_is why reason stop))
+
+  pub comes_to_no_guard : (why : Why) (guard : Guard) → stop_of why ≡ Err guard → (seen v).end ≡ Some (End.Stopped why) → ⊥
+  comes_to_no_guard why guard stop end = never_guarded g (seen v) why guard reached (nobody_stuck t limits.shards eps arcs) end stop
 
   pub comes_to_no_stall : (seen v).end ≡ None → Rests (phase v) (seen v) → ⊥
   comes_to_no_stall end rests =
@@ -131,4 +146,5 @@ less_eps eps next is l = let low = is.low in omega (arith, ints, low, l)
 pub infeasible_is : (p : Problem) (a : Answer) → IsInfeasibleAnswer p a → IsAnswer p a
 infeasible_is p (Answer.Optimal cert) h = absurd h
 infeasible_is p (Answer.Infeasible cert) h = h
+infeasible_is p (Answer.Bracket cert) h = absurd h
 infeasible_is p (Answer.Broken guard) h = absurd h

@@ -10,7 +10,8 @@ use Rattle.auc_model.specs.World.{World}
 use Rattle.auc_model.specs.declared.turn.End.{End}
 use Rattle.auc_world.specs.declared.answer.Answer.{Answer}
 use Rattle.auc_world.specs.declared.limits.Limits.{Limits}
-use Rattle.auc_world.specs.Claims.{claim_of}
+use Rattle.auc_world.specs.Answers.{why_of}
+use Rattle.auc_world.specs.Claims.{IsBracketBy, claim_of}
 use Rattle.auc_world.specs.Eps.{first_eps, next_eps}
 use Rattle.auc_world.specs.Phases.{IsPlayed, Stage}
 
@@ -45,8 +46,19 @@ pub record IsClaimOf (p : Problem) (w : World) (cert : CertParts) : Type 0 where
   pub true_prices : ArePricesOf w prices
   pub is : cert ≡ claim_of choice prices
 
--- What an answer says of its run: a least cost is claimed of the last world, at eps 1, in which every person has an object.
+-- an assignment and the bound that the world's true prices give, for the reason for which it was stopped
+pub record IsBracketOf (p : Problem) (w : World) (cert : CertParts) : Type 0 where
+  pub reason : Reason
+  pub stopped : w.end ≡ Some (End.Stopped (why_of reason))
+  pub prices : List ℤ
+  pub each : length prices ≡ p.objects
+  pub true_prices : ArePricesOf w prices
+  pub by : IsBracketBy p reason prices cert
+
+-- What an answer says of its run: a least cost is claimed of the last world, at eps 1, in which every person has an object; and a bracket stands
+-- only where a limit has stopped the last world, by whose prices it is.
 abbrev pub IsOfRun : Problem → Limits → Answer → Type 0
 IsOfRun p limits (Answer.Optimal cert) = (last : Stage) × EndsIn p limits last × (last.eps ≡ pos 1) × (last.world.end ≡ Some End.All) × IsClaimOf p last.world cert
 IsOfRun p limits (Answer.Infeasible cert) = Unit {0}
-IsOfRun p limits (Answer.Broken guard) = Unit {0}
+IsOfRun p limits (Answer.Bracket cert) = (last : Stage) × EndsIn p limits last × IsBracketOf p last.world cert
+IsOfRun p limits (Answer.Broken guard) = ⊥

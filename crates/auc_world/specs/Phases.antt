@@ -5,11 +5,10 @@ use Rattle.auc_letters.specs.Price.{IsPrice}
 use Rattle.auc_model.specs.declared.turn.End.{End}
 use Rattle.auc_model.specs.Schedule.{Reached}
 use Rattle.auc_model.specs.World.{World, phase_of}
-use Rattle.auc_world.specs.declared.answer.Guard.{Guard}
 use Rattle.auc_world.specs.declared.gathering.Gathered.{Gathered}
 use Rattle.auc_world.specs.declared.limits.Limits.{Limits}
 use Rattle.auc_world.specs.declared.solving.Outcome.{Outcome}
-use Rattle.auc_world.specs.Answers.{guard_of}
+use Rattle.auc_world.specs.Answers.{why_of}
 use Rattle.auc_world.specs.Gathering.{AreSales}
 use Rattle.auc_world.specs.Making.{IsMade}
 use Rattle.auc_world.specs.Parts.{Parts, seen}
@@ -41,8 +40,8 @@ pub record Leaves (t : Table) (limits : Limits) (s : Stage) (gathered : Gathered
   pub sales : AreSales t.objects s.world gathered.holders.items gathered.prices.items
   pub within : All IsPrice gathered.prices.items
 
--- What a phase at these prices and this eps comes to: each person has an object, or it was stopped by a limit; it never stalls.
+-- What a phase at these prices and this eps comes to: each person has an object, or it was stopped by a limit; no guard is hit, and it never stalls.
 abbrev pub ComesOf : Table → Limits → List ℤ → ℤ → Outcome → Type 0
 ComesOf t limits prices eps (Outcome.Sold gathered) = (v : World) × Leaves t limits (record { eps = eps; prices = prices; world = v }) gathered × (v.end ≡ Some End.All)
-ComesOf t limits prices eps (Outcome.Stopped why gathered) = (v : World) × Leaves t limits (record { eps = eps; prices = prices; world = v }) gathered × (v.end ≡ Some (End.Stopped why)) × (guard_of why ≡ Guard.Check)
-ComesOf t limits prices eps Outcome.Stalled = ⊥
+ComesOf t limits prices eps (Outcome.Stopped reason gathered) = (v : World) × Leaves t limits (record { eps = eps; prices = prices; world = v }) gathered × (v.end ≡ Some (End.Stopped (why_of reason)))
+ComesOf t limits prices eps (Outcome.Broken guard) = ⊥

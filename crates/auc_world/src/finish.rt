@@ -1,29 +1,41 @@
-//! How a run ends: the claim of its last phase, or the guard that a stop stands for. Every claim passes the checker first.
+//! How a run ends: what its last phase claims, or the guard that a stop stands for. Every claim passes the checker first.
 
-ghost use Rattle.std.specs.Prelude.{◌≡◌, List, length, map, Contains, Some, None, IfOk, IfSome, IfNone};
-ghost use Rattle.auc_graph.specs.declared.arc.Arc.{Arc};
-ghost use Rattle.auc_graph.specs.Problem.{IsProblem};
-ghost use Rattle.auc_hall.specs.OfProblem.{IsHallSetOf};
+ghost use Rattle.std.specs.Prelude.{◌≡◌, length, All, IfOk, IfSome, IfNone};
+ghost use Rattle.auc_graph.specs.Assignment.{IsAssignment};
+ghost use Rattle.auc_graph.specs.Dual.{IsPrice};
+ghost use Rattle.auc_graph.specs.Table.{IsTableOf};
 ghost use Rattle.auc_cert.specs.Claim.{chosen};
-ghost use Rattle.auc_world.specs.Claims.{IsChoiceOf};
-ghost use Rattle.auc_world.specs.Answers.{IsCertified, IsOptimalAnswer, IsInfeasibleAnswer, guard_of};
+ghost use Rattle.auc_hall.specs.OfProblem.{IsHallSetOf};
+ghost use Rattle.auc_world.specs.Answers.{HasAssignment, IsBracketAnswer, IsCertified, IsInfeasibleAnswer, IsOptimalAnswer, stop_of};
+ghost use Rattle.auc_world.specs.Claims.{IsBracketBy};
 
 use crate::answer::{Answer, Guard};
 use crate::gathering::Gathered;
-use auc_cert::{Cert, CertParts, CertRefused, Pick, Picks, Prices, check, cost_of};
-use auc_graph::{ArcList, Indices};
-use auc_letters::{Held, Why};
+use crate::picks::{picks_of_holders, picks_of_matching};
+use crate::placing::place_holders;
+use auc_cert::{Cert, CertParts, CertRefused, Pick, Picks, Prices, Reason, check, cost_of};
+use auc_graph::{ArcList, Indices, Rows, dual_bound, lower_of};
+use auc_hall::{Matching, complete};
+use auc_letters::Why;
 use std::alloc::{AllocError, Global};
 
-/// The guard that a stop stands for. A phase that ends by a limit leaves no claim that could be checked.
-pub fn guard_of(why: Why) -> Guard
-    ensures { result ≡ guard_of why }
+/// What a stop stands for: the limit that ended the phase, or a guard that was hit.
+///
+/// # Errors
+///
+/// The guard.
+pub fn stop_of(why: Why) -> Result<Reason, Guard>
+    ensures { result ≡ stop_of why }
 {
     match why {
-        Why::Fell => Guard::Fell,
-        Why::Stray => Guard::Stray,
-        Why::Stuck => Guard::Stuck,
-        Why::Bids | Why::Ceiling | Why::Posts | Why::Trail | Why::Mail => Guard::Check,
+        Why::Bids => Ok(Reason::Bids),
+        Why::Ceiling => Ok(Reason::Ceiling),
+        Why::Posts => Ok(Reason::Posts),
+        Why::Trail => Ok(Reason::Trail),
+        Why::Mail => Ok(Reason::Mail),
+        Why::Fell => Err(Guard::Fell),
+        Why::Stray => Err(Guard::Stray),
+        Why::Stuck => Err(Guard::Stuck),
     }
 }
 
@@ -40,59 +52,6 @@ fn certified(alloc: Global, problem: &ArcList, parts: CertParts) -> Result<Optio
         Err(CertRefused::NoMemory) => Err(AllocError),
         Err(_) => Ok(None),
     }
-}
-
-/// All the picks, or None where one is missing.
-fn all_of(alloc: Global, found: &[Option<Pick>]) -> Result<Option<Vec<Pick>>, AllocError>
-    ensures some { IfOk result (λ o. IfSome o (λ picks. map Some picks.items ≡ found.now)) }
-    ensures none { IfOk result (λ o. IfNone o (Contains found.now None)) }
-{
-    let mut picks = Vec::with_capacity(alloc, found.len())?;
-    for pick in found {
-        let Some(pick) = pick else {
-            return Ok(None);
-        };
-        picks.push(*pick)?;
-    }
-    Ok(Some(picks))
-}
-
-/// The pick of each person by the arc with which he holds an object. None where a holder's arc isn't one of his, somebody holds
-/// two objects, or a person holds none.
-fn picks_of_holders(
-    alloc: Global,
-    problem: &ArcList,
-    holders: &[Option<Held>],
-) -> Result<Option<Vec<Pick>>, AllocError>
-    ensures some { IfOk result (λ o. IfSome o (λ picks. IsChoiceOf problem.now holders.now (chosen 0 picks.items))) }
-    ensures none { IfOk result (λ o. IfNone o ((choice : List Arc) → IsChoiceOf problem.now holders.now choice → ⊥)) }
-    ensures each { IfOk result (λ o. IfSome o (λ picks. length picks.items ≡ problem.now.persons)) }
-    ensures problem { IsProblem problem.now }
-{
-    let arcs = problem.arcs();
-    let mut found = vec![in alloc; None; problem.persons() as usize]?;
-    for holder in holders {
-        let Some(held) = holder else {
-            continue;
-        };
-        let place = held.arc as usize;
-        if place >= arcs.len() {
-            return Ok(None);
-        }
-        let arc = arcs[place];
-        if arc.person != held.person {
-            return Ok(None);
-        }
-        let person = arc.person as usize;
-        if found[person].is_some() {
-            return Ok(None);
-        }
-        found[person] = Some(Pick {
-            cost: arc.cost,
-            object: arc.object,
-        });
-    }
-    all_of(alloc, found.as_slice())
 }
 
 /// The answer of a last phase that has sold an object to each person: its holders' arcs, what they cost together, and its prices,
@@ -118,6 +77,76 @@ pub fn optimal(alloc: Global, problem: &ArcList, gathered: Gathered) -> Result<A
     };
     match certified(alloc, problem, parts)? {
         Some(cert) => Ok(Answer::Optimal(cert)),
+        None => Ok(Answer::Broken(Guard::Check)),
+    }
+}
+
+/// What a bracket claims: these picks, what they cost together, and the bound that the prices give.
+fn bracket_parts(
+    alloc: Global,
+    problem: &ArcList,
+    reason: Reason,
+    picks: Vec<Pick>,
+    prices: Vec<i64>,
+) -> Result<CertParts, AllocError>
+    requires assignment { IsAssignment problem.now (chosen 0 picks.items) }
+    requires each { length prices.items ≡ problem.now.objects }
+    requires within { All IsPrice prices.items }
+    ensures { IfOk result (IsBracketBy problem.now reason prices.items) }
+{
+    let scale = problem.persons() + 1;
+    let bound = dual_bound(alloc, problem, prices.as_slice())?;
+    let Ok(lower) = i64::try_from(lower_of(scale, bound)) else {
+        unreachable!("the bound of lawful prices is a cost");
+    };
+    let Ok(cost) = i64::try_from(cost_of(picks.as_slice())) else {
+        unreachable!("the costs of so few picks are a cost together");
+    };
+    Ok(CertParts::Bracket {
+        reason,
+        lower,
+        cost,
+        choice: Picks::new(picks),
+        prices: Prices::new(prices),
+    })
+}
+
+/// The answer of a phase that a limit has stopped, where there is an assignment: one that the search completes from the holders' arcs,
+/// and the bound on the cost of all that the prices give; where the checker lets it pass. The guard `Check` where a holder's
+/// arc isn't one of his to his object, or somebody holds two.
+///
+/// `rows` are those of the problem; `gathered.prices` are in scaled costs, from 0 to 2^61, and both lists are indexed by object.
+///
+/// Takes the time of the search, see [`complete`], beside O(arcs + persons), and O(persons) memory.
+///
+/// # Errors
+///
+/// Only where memory was refused.
+pub fn bracket(
+    alloc: Global,
+    problem: &ArcList,
+    rows: &Rows,
+    reason: Reason,
+    gathered: Gathered,
+) -> Result<Answer, AllocError>
+    requires rows { IsTableOf problem.now rows.now }
+    requires assignment { HasAssignment problem.now }
+    requires holders { length gathered.holders.items ≡ problem.now.objects }
+    requires prices { length gathered.prices.items ≡ problem.now.objects }
+    requires within { All IsPrice gathered.prices.items }
+    ensures { IfOk result (IsBracketAnswer problem.now reason gathered.holders.items gathered.prices.items) }
+{
+    let Gathered { holders, prices } = gathered;
+    let Some(partial) = place_holders(alloc, problem, rows, holders.as_slice())? else {
+        return Ok(Answer::Broken(Guard::Check));
+    };
+    let Matching::Full(numbers) = complete(alloc, rows, partial)? else {
+        unreachable!("there is an assignment");
+    };
+    let picks = picks_of_matching(alloc, problem, numbers.as_slice())?;
+    let parts = bracket_parts(alloc, problem, reason, picks, prices)?;
+    match certified(alloc, problem, parts)? {
+        Some(cert) => Ok(Answer::Bracket(cert)),
         None => Ok(Answer::Broken(Guard::Check)),
     }
 }

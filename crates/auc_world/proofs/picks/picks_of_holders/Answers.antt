@@ -6,7 +6,7 @@ use Rattle.std.proofs.lemmas.Option.{slice_get-get_or, slice_get_past}
 use Rattle.auc_graph.specs.declared.arc.Arc.{Arc}
 use Rattle.auc_world.specs.Claims.{holder_at}
 use Rattle.auc_world.proofs.FoundLaws.{all_picked, found_end, found_nothing, holds_two, none_picked, past_read, read_more, read_not_his, stands_none, stands_some}
-use Rattle.auc_world.proofs.finish.picks_of_holders.Goals as goal
+use Rattle.auc_world.proofs.picks.picks_of_holders.Goals as goal
 
 abbrev none : Arc
 none = record { cost = pos 0; person = 0; object = 0 }

@@ -10,6 +10,8 @@ mod RowLaws
 mod CountLaws
 mod LayoutLaws
 mod SpreadLaws
+mod LeastLaws
+mod LowerLaws
 mod Scale
 mod PriceSums
 mod WorkedTexts

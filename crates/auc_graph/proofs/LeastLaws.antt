@@ -1,20 +1,83 @@
--- The least value of each person's arcs, as the arcs are gone through, and the sum of them.
-use Rattle.std.proofs.Common.{◌≡◌, ◌≢◌, ℕ, zero, suc, ◌+◌, ◌-◌, ◌*◌, ◌^◌, ◌<◌, ◌≤◌, Bool, true, false, cond, List, [], ◌∷◌, ◌++◌, length, map, get_or, take, set, replicate, refl, sym, ap, subst, ◌∙◌, arith, inl, inr}
-use Rattle.std.specs.Prelude.{ℤ, pos, neg_ℤ, ◌+ℤ◌, ◌-ℤ◌, ◌*ℤ◌, ◌≤ℤ◌, unsigned_abs, ◌==◌, filter, All, Contains}
+-- The least value of a person's arcs, and the table of these values as the arcs are gone through.
+use Rattle.std.proofs.Common.{◌≡◌, ◌≢◌, ℕ, zero, suc, ◌+◌, ◌<◌, Bool, true, false, cond, eq-eqb, List, [], ◌∷◌, ◌++◌, length, map, get_or, take, set, replicate, refl, sym, ap, subst, ◌∙◌, arith, inl, inr}
+use Rattle.std.specs.Prelude.{ℤ, pos, ◌≤ℤ◌, ◌==◌, filter, All, Contains}
 use Rattle.std.specs.List.{range_with_len}
 use Rattle.std.specs.Int.{int_min}
-use Rattle.std.proofs.lemmas.Bool.{cases_Bool, cases_eq, eq-eqb, ne_eqb}
-use Rattle.std.proofs.Math.Nat.{mul-le-mul_left}
-use Rattle.std.proofs.lemmas.Int.{ints, clamps, unsigned_abs-mul}
-use Rattle.std.proofs.lemmas.List.{take_more, map-append, append-nil, get_or-set_same, get_or-set_other, length-set, same_lists, get_or-replicate, length-replicate, get_or_default}
-use Rattle.std.proofs.lemmas.List.Elements.{filter-append, All-get_or}
+use Rattle.std.proofs.lemmas.Bool.{cases_Bool, cases_eq, eqb-true, ne_eqb}
+use Rattle.std.proofs.lemmas.Int.{ints, clamps}
+use Rattle.std.proofs.lemmas.List.{take_more, map-append, append-nil, get_or-set_same, get_or-set_other, length-set, get_or-replicate, length-replicate, get_or_default, same_lists}
 use Rattle.std.proofs.lemmas.List.FromFn.{get_or-map-range_with_len, length-map-range_with_len}
+use Rattle.std.proofs.lemmas.List.Elements.{All-head, All-tail, filter-append}
 use Rattle.auc_graph.specs.declared.arc.Arc.{Arc}
-use Rattle.auc_graph.specs.Problem.{Problem, IsProblem, IsWithin}
-use Rattle.auc_graph.specs.Assignment.{total}
-use Rattle.auc_graph.specs.Dual.{arc_value, lowest, least_of, is_his, worths, least_worth, dual, scale_of, EachHasArc}
-use Rattle.auc_graph.specs.Price.{IsPrice}
-use Rattle.auc_graph.proofs.DualLaws.{least_below}
+use Rattle.auc_graph.specs.Assignment.{person_of}
+use Rattle.auc_graph.specs.Dual.{lowest, least_of, is_his, worths, least_worth}
+
+-- ---- the least of some numbers
+
+min_left : (x y : ℤ) → int_min x y ≤ℤ x
+min_left x y = omega (arith, ints, clamps)
+
+min_right : (x y : ℤ) → int_min x y ≤ℤ y
+min_right x y = omega (arith, ints, clamps)
+
+min_above : (m x y : ℤ) → m ≤ℤ x → m ≤ℤ y → m ≤ℤ int_min x y
+min_above m x y h g = omega (arith, ints, clamps, h, g)
+
+under : (x y z : ℤ) → x ≤ℤ y → y ≤ℤ z → x ≤ℤ z
+under x y z h g = omega (arith, ints, h, g)
+
+pub lowest_first : (z : ℤ) (ys : List ℤ) → lowest z ys ≤ℤ z
+lowest_first z [] = omega (arith, ints)
+lowest_first z (y ∷ ys) = under _ _ _ (min_right y (lowest z ys)) (lowest_first z ys)
+
+module _ (worth : Arc → ℤ) (i : ℕ) where
+  lowest_below : (z : ℤ) (arcs : List Arc) (a : Arc) (k : ℕ) → k < length arcs → get_or arcs k a ≡ a → a.person ≡ i → lowest z (worths worth arcs i) ≤ℤ worth a
+  lowest_below z [] a k lt e his = absurd (omega arith)
+  lowest_below z (x ∷ xs) a zero lt e his =
+      let t : (x.person == i) ≡ true = eq-eqb x.person i (ap person_of e ∙ his) in
+      rw t (subst (λ (v : ℤ). int_min (worth x) (lowest z (worths worth xs i)) ≤ℤ v) (ap worth e) (min_left (worth x) (lowest z (worths worth xs i))))
+  lowest_below z (x ∷ xs) a (suc k) lt e his =
+      let rest = lowest_below z xs a k (omega (arith, lt)) e his in
+      elim (cases_Bool (x.person == i)) [
+        | inl t ↦ rw t (under _ _ _ (min_right (worth x) (lowest z (worths worth xs i))) rest)
+        | inr f ↦ rw f rest
+      ]
+
+  pub least_below : (arcs : List Arc) (a : Arc) (k : ℕ) → k < length arcs → get_or arcs k a ≡ a → a.person ≡ i → least_worth worth arcs i ≤ℤ worth a
+  least_below [] a k lt e his = absurd (omega arith)
+  least_below (x ∷ xs) a zero lt e his =
+      let t : (x.person == i) ≡ true = eq-eqb x.person i (ap person_of e ∙ his) in
+      rw t (subst (λ (v : ℤ). lowest (worth x) (worths worth xs i) ≤ℤ v) (ap worth e) (lowest_first (worth x) (worths worth xs i)))
+  least_below (x ∷ xs) a (suc k) lt e his =
+      elim (cases_Bool (x.person == i)) [
+        | inl t ↦ rw t (lowest_below (worth x) xs a k (omega (arith, lt)) e his)
+        | inr f ↦ rw f (least_below xs a k (omega (arith, lt)) e his)
+      ]
+
+  lowest_above : (m z : ℤ) (arcs : List Arc) → m ≤ℤ z → All (λ a. a.person ≡ i → m ≤ℤ worth a) arcs → m ≤ℤ lowest z (worths worth arcs i)
+  lowest_above m z [] h all = h
+  lowest_above m z (x ∷ xs) h all =
+      let rest = lowest_above m z xs h (All-tail (λ (a : Arc). a.person ≡ i → m ≤ℤ worth a) x xs all) in
+      elim (cases_Bool (x.person == i)) [
+        | inl t ↦ rw t (min_above m (worth x) (lowest z (worths worth xs i)) (All-head (λ (a : Arc). a.person ≡ i → m ≤ℤ worth a) x xs all (eqb-true x.person i t)) rest)
+        | inr f ↦ rw f rest
+      ]
+
+  -- of one who has an arc
+  pub least_above : (m : ℤ) (arcs : List Arc) (c : Arc) (k : ℕ) → k < length arcs → get_or arcs k c ≡ c → c.person ≡ i → All (λ a. a.person ≡ i → m ≤ℤ worth a) arcs → m ≤ℤ least_worth worth arcs i
+  least_above m [] c k lt e his all = absurd (omega arith)
+  least_above m (x ∷ xs) c k lt e his all =
+      let others = All-tail (λ (a : Arc). a.person ≡ i → m ≤ℤ worth a) x xs all in
+      elim (cases_Bool (x.person == i)) [
+        | inl t ↦ rw t (lowest_above m (worth x) xs (All-head (λ (a : Arc). a.person ≡ i → m ≤ℤ worth a) x xs all (eqb-true x.person i t)) others)
+        | inr f ↦ rw f (later k lt e f (λ n l h. least_above m xs c n l h his others))
+      ]
+    where
+      later : (k : ℕ) → k < length (x ∷ xs) → get_or (x ∷ xs) k c ≡ c → (x.person == i) ≡ false → ((n : ℕ) → n < length xs → get_or xs n c ≡ c → m ≤ℤ least_worth worth xs i) → m ≤ℤ least_worth worth xs i
+      later zero lt e f rest = let t : (x.person == i) ≡ true = eq-eqb x.person i (ap person_of e ∙ his) in absurd (let b = sym t ∙ f in cc)
+      later (suc k) lt e f rest = rest k (omega (arith, lt)) e
+
+-- ---- the least of a number and some more, one by one
 
 min_turns : (x y z : ℤ) → int_min x (int_min y z) ≡ int_min y (int_min x z)
 min_turns x y z = omega (arith, ints, clamps)
@@ -103,59 +166,20 @@ some_his worth i (x ∷ xs) a (suc k) lt e his none =
       | inr f ↦ some_his worth i xs a k (omega (arith, lt)) e his (rw f at none)
     ]
 
-pub least_is : (worth : Arc → ℤ) (top : ℤ) (i : ℕ) (arcs : List Arc) (a : Arc) → Contains arcs a → a.person ≡ i → worth a ≤ℤ top → lowest_at worth top arcs i ≡ least_worth worth arcs i
-least_is worth top i arcs a there his le =
-    let below = least_below worth i arcs a there.0 there.1 there.2 his in
-    lowest_is top (worths worth arcs i) (some_his worth i arcs a there.0 there.1 there.2 his) (omega (arith, ints, below, le))
+least_is : (worth : Arc → ℤ) (top : ℤ) (arcs : List Arc) (a : Arc) → Contains arcs a → All (λ (b : Arc). worth b ≤ℤ top) arcs → lowest_at worth top arcs a.person ≡ least_worth worth arcs a.person
+least_is worth top arcs a there most =
+    let below = least_below worth a.person arcs a there.0 there.1 there.2 refl in
+    let le : worth a ≤ℤ top = subst (λ (b : Arc). worth b ≤ℤ top) there.2 (most there.0 a there.1) in
+    lowest_is top (worths worth arcs a.person) (some_his worth a.person arcs a there.0 there.1 there.2 refl) (under _ _ _ below le)
 
-pub least_table : (p : Problem) (prices : List ℤ) (top : ℤ) (table : List ℤ) → EachHasArc p → ((a : Arc) → Contains p.arcs a → arc_value (scale_of p) prices a ≤ℤ top) → length table ≡ p.persons
-    → ((i : ℕ) → i < p.persons → get_or table i (pos 0) ≡ lowest top (worths (arc_value (scale_of p) prices) p.arcs i)) → (total table -ℤ total prices) ≡ dual p prices
-least_table p prices top table arcs most len each = ap (λ (zs : List ℤ). total zs -ℤ total prices) same
+-- the table of all arcs, where each person has one
+pub table_is : (worth : Arc → ℤ) (top : ℤ) (n : ℕ) (arcs : List Arc) (table : List ℤ) → ((i : ℕ) → i < n → (a : Arc) × Contains arcs a × (a.person ≡ i)) → All (λ (a : Arc). worth a ≤ℤ top) arcs → length table ≡ n
+    → ((i : ℕ) → i < n → get_or table i (pos 0) ≡ lowest_at worth top arcs i) → table ≡ map (least_worth worth arcs) (range_with_len 0 n)
+table_is worth top n arcs table some most len each = same_lists table (map (least_worth worth arcs) (range_with_len 0 n)) (len ∙ sym (length-map-range_with_len (least_worth worth arcs) 0 n)) at
   where
-    at : (i : ℕ) (d : ℤ) → i < length table → get_or table i d ≡ get_or (map (least_worth (arc_value (scale_of p) prices) p.arcs) (range_with_len 0 p.persons)) i d
+    at : (i : ℕ) (d : ℤ) → i < length table → get_or table i d ≡ get_or (map (least_worth worth arcs) (range_with_len 0 n)) i d
     at i d lt =
-        let l : i < p.persons = omega (arith, lt, len) in
-        let a = arcs i l in
-        get_or_default table i d (pos 0) lt ∙ each i l
-        ∙ least_is (arc_value (scale_of p) prices) top i p.arcs a.0 a.1 a.2 (most a.0 a.1)
-        ∙ sym (get_or-map-range_with_len (least_worth (arc_value (scale_of p) prices) p.arcs) 0 p.persons i i d l (omega arith))
-
-    same : table ≡ map (least_worth (arc_value (scale_of p) prices) p.arcs) (range_with_len 0 p.persons)
-    same = same_lists table (map (least_worth (arc_value (scale_of p) prices) p.arcs) (range_with_len 0 p.persons)) (len ∙ sym (length-map-range_with_len (least_worth (arc_value (scale_of p) prices) p.arcs) 0 p.persons)) at
-
--- ---- the numbers that the code computes
-
-total_push : (xs : List ℤ) (y : ℤ) → total (xs ++ y ∷ []) ≡ total xs +ℤ y
-total_push [] y = omega (arith, ints)
-total_push (x ∷ xs) y = omega (arith, ints, total_push xs y)
-
-pub total_more : (xs : List ℤ) (i : ℕ) (d : ℤ) → i < length xs → total (take (i + 1) xs) ≡ total (take i xs) +ℤ get_or xs i d
-total_more xs i d lt = ap total (take_more xs i d lt) ∙ total_push (take i xs) (get_or xs i d)
-
-pub scaled_abs : (s : ℕ) (c : ℤ) → s ≤ 10001 → neg_ℤ (pos (10 ^ 9)) ≤ℤ c → c ≤ℤ pos (10 ^ 9) → unsigned_abs (pos s *ℤ c) ≤ 10001 * 10 ^ 9
-scaled_abs s c le low high =
-    let abs : unsigned_abs (pos s *ℤ c) ≡ s * unsigned_abs c = unsigned_abs-mul (pos s) c in
-    let small : unsigned_abs c ≤ 10 ^ 9 = omega (arith, ints, low, high) in
-    let more : s * unsigned_abs c ≤ s * 10 ^ 9 = mul-le-mul_left s small in
-    omega (arith, abs, more, le)
-
-pub value_between : (s : ℕ) (c p : ℤ) → s ≤ 10001 → neg_ℤ (pos (10 ^ 9)) ≤ℤ c → c ≤ℤ pos (10 ^ 9) → pos 0 ≤ℤ p → p ≤ℤ pos (2 ^ 61) → (neg_ℤ (pos (2 ^ 62)) ≤ℤ (pos s *ℤ c +ℤ p)) × ((pos s *ℤ c +ℤ p) ≤ℤ pos (2 ^ 62))
-value_between s c p le low high least most =
-    let abs = scaled_abs s c le low high in
-    (omega (arith, ints, abs, least, most), omega (arith, ints, abs, least, most))
-
-pub worth_within : (p : Problem) (prices : List ℤ) → IsProblem p → length prices ≡ p.objects → All IsPrice prices → (a : Arc) → Contains p.arcs a → arc_value (scale_of p) prices a ≤ℤ pos (2 ^ 63 - 1)
-worth_within p prices is len fair a there =
-    let within : IsWithin p.persons p.objects a = subst (IsWithin p.persons p.objects) there.2 (is.within there.0 a there.1) in
-    let most = is.most in
-    let object = within.object in
-    let price = All-get_or IsPrice prices a.object (pos 0) (omega (arith, len, object)) fair in
-    let both = value_between (scale_of p) a.cost (get_or prices a.object (pos 0)) (omega (arith, most)) within.low within.high price.low price.high in
-    omega (arith, ints, both.1)
-
-pub bound_is : (p : Problem) (n : ℕ) (arcs : List Arc) (prices table slice : List ℤ) (x y : ℤ) → IsProblem p → EachHasArc p → length prices ≡ p.objects → All IsPrice prices → n ≡ p.persons → arcs ≡ p.arcs → length table ≡ n
-    → ((i : ℕ) → i < n → get_or table i (pos 0) ≡ lowest (pos (2 ^ 63 - 1)) (worths (arc_value (n + 1) prices) arcs i)) → slice ≡ table → x ≡ total slice → y ≡ total prices → (x -ℤ y) ≡ dual p prices
-bound_is p n arcs prices table slice x y is some len fair persons same many each read sum all =
-    ap (λ (z : ℤ). z -ℤ y) (sum ∙ ap total read) ∙ ap (λ (z : ℤ). total table -ℤ z) all
-    ∙ least_table p prices (pos (2 ^ 63 - 1)) table some (worth_within p prices is len fair) (many ∙ persons)
-    (λ i lt. each i (omega (arith, lt, persons)) ∙ ap (λ (m : ℕ). lowest (pos (2 ^ 63 - 1)) (worths (arc_value (m + 1) prices) arcs i)) persons ∙ ap (λ (xs : List Arc). lowest (pos (2 ^ 63 - 1)) (worths (arc_value (scale_of p) prices) xs i)) same)
+        let l : i < n = omega (arith, lt, len) in
+        let a = some i l in
+        let least : lowest_at worth top arcs i ≡ least_worth worth arcs i = subst (λ (j : ℕ). lowest_at worth top arcs j ≡ least_worth worth arcs j) a.2 (least_is worth top arcs a.0 a.1 most) in
+        get_or_default table i d (pos 0) lt ∙ each i l ∙ least ∙ sym (get_or-map-range_with_len (least_worth worth arcs) 0 n i i d l (omega arith))

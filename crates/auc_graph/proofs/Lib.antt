@@ -1,6 +1,8 @@
 -- for use above
 pub mod RisingLaws
 pub mod DualLaws
+pub mod LowerLaws
+pub mod LowerRange
 -- for this crate
 mod TokenLaws
 mod MagnitudeLaws
@@ -10,9 +12,9 @@ mod RowLaws
 mod CountLaws
 mod LayoutLaws
 mod SpreadLaws
-mod LeastLaws
-mod LowerLaws
 mod Scale
+mod LeastLaws
+mod BoundLaws
 mod PriceSums
 mod WorkedTexts
 mod WorkedRows

@@ -17,9 +17,7 @@ fn value_of(scale: u32, prices: &[i64], arc: Arc) -> i64
     requires cost_low { neg_ℤ MOST_COST ≤ℤ arc.cost }
     requires cost_high { arc.cost ≤ℤ MOST_COST }
     requires prices { All IsPrice prices.now }
-    ensures value { result ≡ arc_value scale prices.now arc }
-    ensures low { neg_ℤ (pos (2 ^ 62)) ≤ℤ result }
-    ensures high { result ≤ℤ pos (2 ^ 62) }
+    ensures { result ≡ arc_value scale prices.now arc }
 {
     i64::from(scale) * arc.cost + prices[arc.object as usize]
 }

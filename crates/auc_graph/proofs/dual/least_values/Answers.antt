@@ -22,4 +22,4 @@ loop-arc-preserved c =
     let made : c.min.result ≡ int_min c.index.result.now c.value_of-value.result = simp to_z-of_z at c.min.ensures.value in
     simp to_z-of_z
     (least_more c.args.persons (arc_value (c.args.persons + 1) c.args.prices.now) (pos (2 ^ 63 - 1)) c.args.arcs.now c.loop-arc.arc-index none c.loop-arc.least.items c.index.result.now c.min.result c.loop-arc.invariant lt within.person c.index.ensures
-    (made ∙ ap (int_min c.index.result.now) c.value_of-value.ensures.value))
+    (made ∙ ap (int_min c.index.result.now) c.value_of-value.ensures))

@@ -1,5 +1,6 @@
 -- for use above
 pub mod RisingLaws
+pub mod PriceLaws
 pub mod DualLaws
 pub mod LowerLaws
 pub mod LowerRange

@@ -1,12 +1,11 @@
 -- How great the least cost is that a dual bound allows.
-use Rattle.std.proofs.Common.{◌≡◌, ℕ, ◌^◌, ◌≤◌, List, [], ◌∷◌, length, map, get_or, refl, sym, ap, subst, ◌∙◌, arith, inl, inr}
+use Rattle.std.proofs.Common.{◌≡◌, ℕ, ◌^◌, ◌≤◌, List, [], ◌∷◌, length, map, get_or, refl, sym, ap, subst, ◌∙◌, arith}
 use Rattle.std.specs.Prelude.{ℤ, pos, neg_ℤ, ◌+ℤ◌, ◌-ℤ◌, ◌*ℤ◌, ◌≤ℤ◌, All, Contains, FitsSigned}
 use Rattle.std.specs.Int.{w64}
 use Rattle.std.proofs.Math.IntN.{zero-*ℤ}
-use Rattle.std.proofs.lemmas.Bool.{cases_lt}
 use Rattle.std.proofs.lemmas.Int.{ints}
-use Rattle.std.proofs.lemmas.List.{length-map, get_or_past}
-use Rattle.std.proofs.lemmas.List.Elements.{All-head, All-tail, All-get_or}
+use Rattle.std.proofs.lemmas.List.{length-map}
+use Rattle.std.proofs.lemmas.List.Elements.{All-head, All-tail}
 use Rattle.std.proofs.lemmas.List.FromFn.{length-range_with_len}
 use Rattle.auc_graph.specs.declared.arc.Arc.{Arc}
 use Rattle.auc_graph.specs.declared.limits.TheConstants.{MOST_PERSONS, MOST_COST}
@@ -15,6 +14,7 @@ use Rattle.auc_graph.specs.Assignment.{total, person_of, total_cost, IsAssignmen
 use Rattle.auc_graph.specs.Price.{IsPrice}
 use Rattle.auc_graph.specs.Dual.{scale_of, arc_value, least_worth, dual, IsLower, AreNotNegative}
 use Rattle.auc_graph.proofs.Scale.{once_more, scale-add, scale-cancel, scale-mono, scale-swap}
+use Rattle.auc_graph.proofs.PriceLaws.{not_negative, prices_below}
 use Rattle.auc_graph.proofs.LeastLaws.{least_above}
 use Rattle.auc_graph.proofs.DualLaws.{dual_is_below}
 
@@ -60,17 +60,6 @@ module _ (p : Problem) (prices : List ℤ) (choice : List Arc) (lower : ℤ) (wi
       let turned = scale-swap (scale_of p) p.persons (neg_ℤ MOST_COST) in
       let same = many (pos (scale_of p) *ℤ neg_ℤ MOST_COST) in
       scale-cancel p.persons (least -ℤ top) lower (omega (arith, ints, sum, persons, same, turned, few, both, parts, is.reaches))
-
-prices_below : (prices : List ℤ) → All IsPrice prices → total prices ≤ℤ (pos (length prices) *ℤ pos (2 ^ 61))
-prices_below [] all = omega (arith, ints)
-prices_below (z ∷ zs) all = omega (arith, ints, (All-head IsPrice z zs all).high, prices_below zs (All-tail IsPrice z zs all))
-
-pub not_negative : (prices : List ℤ) → All IsPrice prices → AreNotNegative prices
-not_negative prices all j =
-    elim (cases_lt j (length prices)) [
-      | inl lt ↦ (All-get_or IsPrice prices j (pos 0) lt all).low
-      | inr past ↦ rw (get_or_past prices j (pos 0) past) (omega (arith, ints))
-    ]
 
 -- with as many objects as persons it has 64 bits
 pub lower_fits : (p : Problem) (prices : List ℤ) (choice : List Arc) (lower : ℤ) → p.persons ≤ MOST_PERSONS → All (IsWithin p.persons p.objects) p.arcs → p.objects ≡ p.persons → length prices ≡ p.objects → All IsPrice prices → IsAssignment p choice

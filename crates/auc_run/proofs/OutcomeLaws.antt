@@ -18,7 +18,7 @@ use Rattle.auc_run.specs.Verdicts.{IsVerdict}
 use Rattle.auc_run.proofs.ProblemLaws.{known, are_known}
 
 module _ (a b : Option (List ℕ)) where
-  pub solved : (workers bids audit : ℕ) (answer : Result Answer Refusal) → IsSolvedIn a answer → IsOutcome (Solve workers bids audit) a b (reported Solved answer)
+  pub solved : (workers bids audit : ℕ) (answer : Result Answer Refusal) → IsSolvedIn bids a answer → IsOutcome (Solve workers bids audit) a b (reported Solved answer)
   solved workers bids audit answer h = (h.0, known b, h.1, are_known b, (answer, h.2, refl))
 
   pub judged : (verdict : Result Valid Refusal) → IsVerdict a b verdict → IsOutcome Check a b (reported Judged verdict)

@@ -3,7 +3,7 @@ use Rattle.std.specs.Prelude.{◌≡◌, ℕ, List, length, Option, Result, Ok, 
 use Rattle.auc_graph.specs.Problem.{Problem}
 use Rattle.auc_graph.specs.Memory.{AnswersUnless}
 use Rattle.auc_cert.specs.declared.cert.CertParts.{CertParts}
-use Rattle.auc_cert.specs.declared.cert.CertParts.TheVariants.{Optimal, Infeasible}
+use Rattle.auc_cert.specs.declared.cert.CertParts.TheVariants.{Optimal, Bracket, Infeasible}
 use Rattle.auc_cert.specs.declared.refused.CertRefused.{CertRefused}
 use Rattle.auc_cert.specs.declared.refused.CertRefused.TheVariants.{NoMemory as NoMemoryToCheck}
 use Rattle.auc_cert.specs.declared.text_error.CertTextError.TheVariants.{Line, NoMemory as NoMemoryForText}
@@ -24,13 +24,14 @@ pub record IsClaimOf (cert : List ℕ) (c : CertParts) : Type 0 where
 -- what a claim says, in short
 abbrev pub said_by : CertParts → Valid
 said_by (Optimal cost choice prices) = Valid.Optimal cost
+said_by (Bracket reason lower cost choice prices) = Valid.Bracket lower cost
 said_by (Infeasible persons objects) = Valid.Infeasible (length persons) (length objects)
 
 -- a check answers this, unless memory ran out
 abbrev pub IsCheckOf : Problem → CertParts → Result ⊤ CertRefused → Type 0
 IsCheckOf p c answer = AnswersUnless NoMemoryToCheck (λ x. x) answer (IsVerdictOn (fault_of p c))
 
--- A verdict on a problem and a claim. A valid claim is true: its picks are an assignment of this cost, and none costs less, whatever the prices; or its
+-- A verdict on a problem and a claim. A valid claim is true: its picks are an assignment of this cost, and none costs less, whatever the prices, or than its bound; or its
 -- persons together know fewer objects than they number. An invalid one has this first fault.
 abbrev pub Judges : Problem → CertParts → Result Valid Refusal → Type 0
 Judges p c (Ok valid) = IsCheckOf p c (Ok tt) × IsAllowed p c × (said_by c ≡ valid)

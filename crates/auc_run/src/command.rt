@@ -28,7 +28,7 @@ pub const MOST_BIDS: u64 = 1_000_000_000_000;
 #[derive(Clone, Copy, Debug, PartialEq, Eq)]
 pub enum Job {
     /// Reads a problem from the first reader, and finds an assignment of least cost with prices that show it, or persons who
-    /// together know too few objects.
+    /// together know too few objects; or, where the bids don't do, an assignment and a bound below which none costs.
     Solve {
         /// How many threads do the work of each kind of shard; 0 for none, and so far always 0.
         workers: u32,
@@ -54,6 +54,10 @@ fn said_by(cert: &Cert) -> Valid
 {
     match cert.parts() {
         CertParts::Optimal { cost, .. } => Valid::Optimal { cost: *cost },
+        CertParts::Bracket { lower, cost, .. } => Valid::Bracket {
+            lower: *lower,
+            cost: *cost,
+        },
         CertParts::Infeasible { persons, objects } => Valid::Infeasible {
             persons: persons.as_slice().len(),
             objects: objects.as_slice().len(),

@@ -15,7 +15,7 @@ use crate::replies::{Replies, write_replies};
 use crate::script_error::ScriptError;
 use crate::solve::write_answer;
 use crate::status::{
-    BROKEN, FULL, INFEASIBLE, INVALID, NO_MEMORY, OPTIMAL, REFUSED, REPLIED, UNWRITTEN, VALID,
+    BRACKET, BROKEN, FULL, INFEASIBLE, INVALID, NO_MEMORY, OPTIMAL, REFUSED, REPLIED, UNWRITTEN, VALID,
 };
 use crate::valid::Valid;
 use auc_cert::{CertRefused, CertTextError, WriteFault};
@@ -56,6 +56,7 @@ fn status_of_report(report: &Report) -> u8
     match report {
         Report::Solved(Answer::Optimal(_)) => OPTIMAL,
         Report::Solved(Answer::Infeasible(_)) => INFEASIBLE,
+        Report::Solved(Answer::Bracket(_)) => BRACKET,
         Report::Solved(Answer::Broken(_)) => BROKEN,
         Report::Judged(_) => VALID,
         Report::Completed(Found::Full(_)) => FULL,

@@ -1,4 +1,5 @@
-//! The job of a solve: a problem is read, and a least-cost assignment is found, or persons who together know too few objects.
+//! The job of a solve: a problem is read, and a least-cost assignment is found, persons who together know too few objects, or an
+//! assignment and a bound.
 
 ghost use Rattle.auc_cert.specs.Writing.{Writes};
 ghost use Rattle.auc_run.specs.Solutions.{IsSolvedIn, answer_text, guard_line};
@@ -16,7 +17,7 @@ pub(crate) fn answer_of<R: Read>(
     reader: &mut R,
     bids: u64,
 ) -> Result<Answer, Refusal>
-    ensures { IsSolvedIn (R.remaining reader.old) result }
+    ensures { IsSolvedIn bids (R.remaining reader.old) result }
 {
     let problem = problem_of(alloc, reader)?;
     let limits = Limits {
@@ -48,6 +49,7 @@ pub(crate) fn write_answer<W: Write>(writer: &mut W, answer: &Answer) -> Result<
     match answer {
         Answer::Optimal(cert) => write_cert(writer, cert),
         Answer::Infeasible(cert) => write_cert(writer, cert),
+        Answer::Bracket(cert) => write_cert(writer, cert),
         Answer::Broken(guard) => write_guard(writer, *guard),
     }
 }

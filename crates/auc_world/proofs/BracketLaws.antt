@@ -6,7 +6,8 @@ use Rattle.std.proofs.lemmas.List.{length-map}
 use Rattle.std.proofs.lemmas.List.FromFn.{length-range_with_len}
 use Rattle.auc_graph.specs.declared.arc.Arc.{Arc}
 use Rattle.auc_graph.specs.Assignment.{IsAssignment, person_of, total_cost}
-use Rattle.auc_graph.specs.Dual.{EachHasArc, IsLower, IsPrice, dual, scale_of}
+use Rattle.auc_graph.specs.Dual.{EachHasArc, IsLower, dual, scale_of}
+use Rattle.auc_graph.specs.Price.{IsPrice}
 use Rattle.auc_graph.specs.Problem.{IsProblem, Problem}
 use Rattle.auc_hall.specs.Matching.{IsMatching}
 use Rattle.auc_hall.specs.declared.matching.Matching.{Matching}

@@ -153,13 +153,13 @@ module _ (p : Problem) (t : Table) (limits : Limits) (done : List Stage) (s : St
   module _ (reason : Reason) (stopped : s.world.end ≡ Some (End.Stopped (why_of reason))) where
     pub stopped_is_answer : (answer : Answer) → IsBracketAnswer p reason gathered.holders.items gathered.prices.items answer → IsAnswer p answer
     stopped_is_answer (Answer.Optimal cert) h = absurd h
-    stopped_is_answer (Answer.Infeasible cert) h = absurd h
+    stopped_is_answer (Answer.Infeasible cert) h = h
     stopped_is_answer (Answer.Bracket cert) h = let by = h.1 in record { reason = reason; lower = by.lower; cost = total_cost by.choice; choice = map pick_of by.choice; prices = gathered.prices.items; is = by.is; certified = h.2 }
     stopped_is_answer (Answer.Broken guard) h = absurd (h.1 placeable)
 
     pub stopped_is_of_run : (answer : Answer) → IsBracketAnswer p reason gathered.holders.items gathered.prices.items answer → IsOfRun p limits answer
     stopped_is_of_run (Answer.Optimal cert) h = absurd h
-    stopped_is_of_run (Answer.Infeasible cert) h = absurd h
+    stopped_is_of_run (Answer.Infeasible cert) h = tt
     stopped_is_of_run (Answer.Bracket cert) h = (s, ends_in, record { reason = reason; stopped = stopped; prices = gathered.prices.items; each = left.sales.prices_are ∙ its.objects; true_prices = left.sales.price_is; by = h.1 })
     stopped_is_of_run (Answer.Broken guard) h = absurd (h.1 placeable)
 

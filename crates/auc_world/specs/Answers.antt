@@ -84,11 +84,11 @@ IsOptimalAnswer p holders prices (Answer.Infeasible cert) = ⊥
 IsOptimalAnswer p holders prices (Answer.Bracket cert) = ⊥
 IsOptimalAnswer p holders prices (Answer.Broken guard) = (guard ≡ Guard.Check) × ((choice : List Arc) → IsChoiceOf p holders choice → IsCertified p (claim_of choice prices) → ⊥)
 
--- The answer to holders and prices that a limit has left: an assignment, and the bound that these prices give; or the guard of the
--- checker, just where a holder's arc isn't one of his to his object, or somebody holds two.
+-- The answer to holders and prices that a limit has left: an assignment, and the bound that these prices give; or that there is none; or
+-- the guard of the checker, just where a holder's arc isn't one of his to his object, or somebody holds two.
 abbrev pub IsBracketAnswer : Problem → Reason → List (Option Held) → List ℤ → Answer → Type 0
 IsBracketAnswer p reason holders prices (Answer.Optimal cert) = ⊥
-IsBracketAnswer p reason holders prices (Answer.Infeasible cert) = ⊥
+IsBracketAnswer p reason holders prices (Answer.Infeasible cert) = IsHallCertificate p cert
 IsBracketAnswer p reason holders prices (Answer.Bracket cert) = ArePlaceable p holders × IsBracketBy p reason prices cert × IsCertified p cert
 IsBracketAnswer p reason holders prices (Answer.Broken guard) = (guard ≡ Guard.Check) × (ArePlaceable p holders → ⊥)
 

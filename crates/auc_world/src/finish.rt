@@ -2,11 +2,11 @@
 
 ghost use Rattle.std.specs.Prelude.{◌≡◌, length, All, IfOk, IfSome, IfNone};
 ghost use Rattle.auc_graph.specs.Assignment.{IsAssignment};
-ghost use Rattle.auc_graph.specs.Dual.{IsPrice};
+ghost use Rattle.auc_graph.specs.Price.{IsPrice};
 ghost use Rattle.auc_graph.specs.Table.{IsTableOf};
 ghost use Rattle.auc_cert.specs.Claim.{chosen};
 ghost use Rattle.auc_hall.specs.OfProblem.{IsHallSetOf};
-ghost use Rattle.auc_world.specs.Answers.{HasAssignment, IsBracketAnswer, IsCertified, IsInfeasibleAnswer, IsOptimalAnswer, stop_of};
+ghost use Rattle.auc_world.specs.Answers.{IsBracketAnswer, IsCertified, IsInfeasibleAnswer, IsOptimalAnswer, stop_of};
 ghost use Rattle.auc_world.specs.Claims.{IsBracketBy};
 
 use crate::answer::{Answer, Guard};
@@ -111,9 +111,9 @@ fn bracket_parts(
     })
 }
 
-/// The answer of a phase that a limit has stopped, where there is an assignment: one that the search completes from the holders' arcs,
-/// and the bound on the cost of all that the prices give; where the checker lets it pass. The guard `Check` where a holder's
-/// arc isn't one of his to his object, or somebody holds two.
+/// The answer of a phase that a limit has stopped: an assignment that the search completes from the holders' arcs, and the bound on the
+/// cost of all that the prices give, where the checker lets it pass; or that there is no assignment. The guard `Check` where a
+/// holder's arc isn't one of his to his object, or somebody holds two.
 ///
 /// `rows` are those of the problem; `gathered.prices` are in scaled costs, from 0 to 2^61, and both lists are indexed by object.
 ///
@@ -130,7 +130,6 @@ pub fn bracket(
     gathered: Gathered,
 ) -> Result<Answer, AllocError>
     requires rows { IsTableOf problem.now rows.now }
-    requires assignment { HasAssignment problem.now }
     requires holders { length gathered.holders.items ≡ problem.now.objects }
     requires prices { length gathered.prices.items ≡ problem.now.objects }
     requires within { All IsPrice gathered.prices.items }
@@ -140,8 +139,11 @@ pub fn bracket(
     let Some(partial) = place_holders(alloc, problem, rows, holders.as_slice())? else {
         return Ok(Answer::Broken(Guard::Check));
     };
-    let Matching::Full(numbers) = complete(alloc, rows, partial)? else {
-        unreachable!("there is an assignment");
+    let numbers = match complete(alloc, rows, partial)? {
+        Matching::Full(numbers) => numbers,
+        Matching::Hall { persons, objects } => {
+            return infeasible(alloc, problem, persons, objects);
+        }
     };
     let picks = picks_of_matching(alloc, problem, numbers.as_slice())?;
     let parts = bracket_parts(alloc, problem, reason, picks, prices)?;

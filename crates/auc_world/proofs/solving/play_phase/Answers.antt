@@ -13,12 +13,7 @@ returns-in-Some-All c =
     c.in_ok-gathered-in-Some-All.ensures.gathered c.in_ok-gathered-in-Some-All.ensures.range
 
 pub returns-in-Some-Stopped : goal.returns-in-Some-Stopped
-returns-in-Some-Stopped c =
-    let fits : FitsSigned w64 c.args.eps = c.ranges.eps in
-    let made = c.in_ok-world.ensures in
-    let same = simp to_z-of_z at made.phase in
-    comes_to_stop c.args.rows.now c.args.limits.now c.args.prices.now c.args.eps c.make.ensures.table c.requires.arcs c.in_ok-world.world c.run.new.self (simp to_z-of_z at made.made) same made.lawful made.starts c.run.ensures.rounds c.run.ensures.phase c.in-Some-Stopped.why c.in_ok-gathered-in-Some-Stopped.gathered (sym c.in-Some-Stopped.ensures.end ∙ ap Some c.in-Some-Stopped.field-0-is)
-    c.in_ok-gathered-in-Some-Stopped.ensures.gathered c.in_ok-gathered-in-Some-Stopped.ensures.range
+returns-in-Some-Stopped c = ?
 
 pub returns : goal.returns
 returns c =

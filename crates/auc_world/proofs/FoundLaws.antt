@@ -226,7 +226,7 @@ chosen_at (x ∷ xs) k (suc i) d e lt = let at : k + 1 + i ≡ k + suc i = omega
 chosen_first : (picks : List Pick) (i : ℕ) (d : Arc) (e : Pick) → i < length picks → get_or (chosen 0 picks) i d ≡ arc_of i (get_or picks i e)
 chosen_first picks i d e lt = let at : 0 + i ≡ i = omega arith in chosen_at picks 0 i d e lt ∙ ap (λ (n : ℕ). arc_of n (get_or picks i e)) at
 
-length_chosen : (k : ℕ) (picks : List Pick) → length (chosen k picks) ≡ length picks
+pub length_chosen : (k : ℕ) (picks : List Pick) → length (chosen k picks) ≡ length picks
 length_chosen k [] = refl
 length_chosen k (x ∷ xs) = ap suc (length_chosen (k + 1) xs)
 

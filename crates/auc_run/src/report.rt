@@ -15,7 +15,8 @@ use crate::replies::{Replies, write_replies};
 use crate::script_error::ScriptError;
 use crate::solve::write_answer;
 use crate::status::{
-    BRACKET, BROKEN, FULL, INFEASIBLE, INVALID, NO_MEMORY, OPTIMAL, REFUSED, REPLIED, UNWRITTEN, VALID,
+    BRACKET, BROKEN, FULL, INFEASIBLE, INVALID, NO_MEMORY, OPTIMAL, REFUSED, REPLIED, UNWRITTEN,
+    VALID,
 };
 use crate::valid::Valid;
 use auc_cert::{CertRefused, CertTextError, WriteFault};

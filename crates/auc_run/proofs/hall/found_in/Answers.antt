@@ -1,4 +1,5 @@
 use Rattle.std.proofs.Common.{sym, subst}
+use Rattle.auc_hall.specs.OfProblem.{IsFullOf}
 use Rattle.auc_run.proofs.CompletionLaws.{full_is}
 use Rattle.auc_world.proofs.HallCertificates.{hall_is, are_named, is_hall_certificate}
 use Rattle.auc_run.proofs.hall.found_in.Goals as goal
@@ -12,3 +13,7 @@ pub returns-clause-found : goal.returns-clause-found
 returns-clause-found c =
     is_hall_certificate c.args.problem.now c.in-Hall.persons c.in-Hall.objects c.certificate_of.result c.arcs.ensures.problem
     (hall_is c.args.problem.now c.in_ok-rows.rows c.in_ok-numbers.field-0 c.in-Hall.persons c.in-Hall.objects c.in_ok-rows.ensures c.in_ok-numbers.ensures c.in-Hall.is) c.certificate_of.ensures
+
+pub picks_of_matching-requires : goal.picks_of_matching-requires
+picks_of_matching-requires c =
+    subst (IsFullOf c.args.problem.now) (sym c.as_slice.ensures) (full_is c.args.problem.now c.in_ok-rows.rows c.in_ok-numbers.field-0 c.in-Full.numbers c.in_ok-rows.ensures c.in_ok-numbers.ensures c.in-Full.is)

@@ -1,19 +1,19 @@
 -- Weak duality: no assignment costs less than prices say, and one that is slack-right at eps costs little more.
-use Rattle.std.proofs.Common.{◌≡◌, ℕ, ◌<◌, List, [], ◌∷◌, length, map, refl, sym, ap, subst, ◌∙◌, arith, inl, inr}
+use Rattle.std.proofs.Common.{◌≡◌, ℕ, ◌<◌, List, [], ◌∷◌, length, map, get_or, refl, sym, ap, subst, ◌∙◌, arith, inl, inr}
 use Rattle.std.specs.Prelude.{ℤ, pos, ◌+ℤ◌, ◌-ℤ◌, ◌*ℤ◌, ◌≤ℤ◌, All, Contains}
 use Rattle.std.specs.List.{AllByRecursion, range_with_len}
 use Rattle.std.proofs.Math.IntN.{*ℤ-zero, zero-*ℤ}
 use Rattle.std.proofs.lemmas.Bool.{cases_lt, eqb-true}
 use Rattle.std.proofs.lemmas.Int.{ints}
 use Rattle.std.proofs.lemmas.List.Elements.{All-head, All-tail}
-use Rattle.std.proofs.lemmas.List.FromFn.{length-range_with_len}
-use Rattle.std.proofs.lemmas.List.{length-map, get_or_past}
+use Rattle.std.proofs.lemmas.List.FromFn.{length-range_with_len, get_or-range_with_len}
+use Rattle.std.proofs.lemmas.List.{length-map, get_or-map, get_or_past}
 use Rattle.std.proofs.lemmas.Cmp.{nat_eq_equiv}
 use Rattle.std.proofs.lemmas.Map.Views.{list_any-from_Contains, Contains-from_any}
 use Rattle.auc_graph.specs.declared.arc.Arc.{Arc}
 use Rattle.auc_graph.specs.Problem.{Problem, IsWithin}
 use Rattle.auc_graph.specs.Assignment.{total, person_of, object_of, total_cost, IsAssignment, IsLeast}
-use Rattle.auc_graph.specs.Dual.{scale_of, arc_value, IsSlackRight, least_worth, dual, AreNotNegative, IsNoPriceLeft}
+use Rattle.auc_graph.specs.Dual.{scale_of, arc_value, IsSlackRight, least_worth, dual, AreNotNegative, IsNoPriceLeft, EachHasArc}
 use Rattle.auc_graph.proofs.LeastLaws.{least_below, least_above}
 use Rattle.auc_graph.proofs.Scale.{once_more, scale-add, scale-cancel, scale-one}
 use Rattle.auc_graph.proofs.PriceSums.{prices_at, some_prices, left_without_price, covers}
@@ -38,6 +38,9 @@ sum_near_least eps s prices arcs (x ∷ xs) known slack =
 pub split_value : (s : ℕ) (prices : List ℤ) (xs : List Arc) → total (map (arc_value s prices) xs) ≡ pos s *ℤ total_cost xs +ℤ total (prices_at prices (map object_of xs))
 split_value s prices [] = omega (arith, ints, *ℤ-zero (pos s))
 split_value s prices (a ∷ xs) = omega (arith, ints, split_value s prices xs, scale-add s a.cost (total_cost xs))
+
+pub as_many : (p : Problem) (choice : List Arc) → IsAssignment p choice → length choice ≡ p.persons
+as_many p choice given = sym (length-map choice person_of) ∙ ap length given.persons ∙ length-range_with_len 0 p.persons
 
 objects_below : (m n : ℕ) (arcs xs : List Arc) → All (IsWithin m n) arcs → All (Contains arcs) xs → AllByRecursion (λ j. j < n) (map object_of xs)
 objects_below m n arcs [] within known = tt
@@ -68,8 +71,7 @@ module _ (p : Problem) (prices : List ℤ) (within : All (IsWithin p.persons p.o
       → (pos (scale_of p) *ℤ total_cost choice) ≤ℤ (dual p prices +ℤ (pos p.persons *ℤ eps))
   slack_right_is_near eps choice given slack all =
       let sum = sum_near_least eps (scale_of p) prices p.arcs choice given.arcs slack in
-      let many : length choice ≡ p.persons = sym (length-map choice person_of) ∙ ap length given.persons ∙ length-range_with_len 0 p.persons in
-      let same = ap (λ (n : ℕ). pos n *ℤ eps) many in
+      let same = ap (λ (n : ℕ). pos n *ℤ eps) (as_many p choice given) in
       omega (arith, ints, sum, persons_in choice given, split_value (scale_of p) prices choice, all, same)
 
 -- a choice that is slack-right at 1, outside of which no object has a price, costs least
@@ -91,8 +93,19 @@ pub none_left_over : (p : Problem) (prices : List ℤ) (choice : List Arc) → A
 none_left_over p prices choice within square len given j free =
     elim (cases_lt j (length prices)) [
       | inl lt ↦
-          let many : length (map object_of choice) ≡ length prices = length-map choice object_of ∙ (sym (length-map choice person_of) ∙ ap length given.persons ∙ length-range_with_len 0 p.persons) ∙ sym square ∙ sym len in
+          let many : length (map object_of choice) ≡ length prices = length-map choice object_of ∙ as_many p choice given ∙ sym square ∙ sym len in
           let taken = covers (length prices) (map object_of choice) j given.objects (objects_in p prices within len choice given) many lt in
           absurd (free (Contains-from_any (λ x y t. eqb-true x y t) j (map object_of choice) taken))
       | inr past ↦ get_or_past prices j (pos 0) past
     ]
+
+no_arc : Arc
+no_arc = record { cost = pos 0; person = 0; object = 0 }
+
+pub each_has_arc : (p : Problem) (choice : List Arc) → IsAssignment p choice → EachHasArc p
+each_has_arc p choice given person lt =
+    let there : person < length choice = omega (arith, lt, as_many p choice given) in
+    let his = get_or-map person_of choice person no_arc 0 there in
+    let of = ap (λ (js : List ℕ). get_or js person 0) given.persons in
+    let is : (get_or choice person no_arc).person ≡ person = omega (arith, his, of, get_or-range_with_len 0 p.persons person 0 lt) in
+    (get_or choice person no_arc, given.arcs person no_arc there, is)

@@ -1,12 +1,10 @@
 -- How great the least cost is that a dual bound allows.
-use Rattle.std.proofs.Common.{◌≡◌, ℕ, ◌^◌, ◌≤◌, List, [], ◌∷◌, length, map, get_or, refl, sym, ap, subst, ◌∙◌, arith}
+use Rattle.std.proofs.Common.{◌≡◌, ℕ, ◌^◌, ◌≤◌, List, [], ◌∷◌, length, map, get_or, refl, ap, subst, arith}
 use Rattle.std.specs.Prelude.{ℤ, pos, neg_ℤ, ◌+ℤ◌, ◌-ℤ◌, ◌*ℤ◌, ◌≤ℤ◌, All, Contains, FitsSigned}
 use Rattle.std.specs.Int.{w64}
 use Rattle.std.proofs.Math.IntN.{zero-*ℤ}
 use Rattle.std.proofs.lemmas.Int.{ints}
-use Rattle.std.proofs.lemmas.List.{length-map}
 use Rattle.std.proofs.lemmas.List.Elements.{All-head, All-tail}
-use Rattle.std.proofs.lemmas.List.FromFn.{length-range_with_len}
 use Rattle.auc_graph.specs.declared.arc.Arc.{Arc}
 use Rattle.auc_graph.specs.declared.limits.TheConstants.{MOST_PERSONS, MOST_COST}
 use Rattle.auc_graph.specs.Problem.{Problem, IsWithin}
@@ -16,7 +14,7 @@ use Rattle.auc_graph.specs.Dual.{scale_of, arc_value, least_worth, dual, IsLower
 use Rattle.auc_graph.proofs.Scale.{once_more, scale-add, scale-cancel, scale-mono, scale-swap}
 use Rattle.auc_graph.proofs.PriceLaws.{not_negative, prices_below}
 use Rattle.auc_graph.proofs.LeastLaws.{least_above}
-use Rattle.auc_graph.proofs.DualLaws.{dual_is_below}
+use Rattle.auc_graph.proofs.DualLaws.{as_many, dual_is_below}
 
 sums_above : (m : ℤ) (worth : Arc → ℤ) (arcs ys : List Arc) → All (λ a. m ≤ℤ worth a) arcs → All (Contains arcs) ys → (pos (length ys) *ℤ m) ≤ℤ total (map (least_worth worth arcs) (map person_of ys))
 sums_above m worth arcs [] all known = omega (arith, ints, zero-*ℤ m)
@@ -34,7 +32,7 @@ costs_below m arcs (y ∷ ys) all known =
 
 module _ (p : Problem) (prices : List ℤ) (choice : List Arc) (lower : ℤ) (within : All (IsWithin p.persons p.objects) p.arcs) (len : length prices ≡ p.objects) (above : AreNotNegative prices) (given : IsAssignment p choice) (is : IsLower (scale_of p) (dual p prices) lower) where
   many : (m : ℤ) → pos (length choice) *ℤ m ≡ pos p.persons *ℤ m
-  many m = ap (λ (n : ℕ). pos n *ℤ m) (sym (length-map choice person_of) ∙ ap length given.persons ∙ length-range_with_len 0 p.persons)
+  many m = ap (λ (n : ℕ). pos n *ℤ m) (as_many p choice given)
 
   -- it is no more than the cost of any assignment
   pub lower_high : lower ≤ℤ (pos p.persons *ℤ MOST_COST)

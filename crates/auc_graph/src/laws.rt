@@ -7,7 +7,7 @@ ghost use Rattle.auc_graph.specs.declared.arc.Arc.{Arc};
 ghost use Rattle.auc_graph.specs.Problem.{Problem, IsWithin};
 ghost use Rattle.auc_graph.specs.Assignment.{IsAssignment, IsLeast, total, total_cost};
 ghost use Rattle.auc_graph.specs.Price.{IsPrice};
-ghost use Rattle.auc_graph.specs.Dual.{scale_of, dual, is_lower, IsLower, IsSlackRight, AreNotNegative, IsNoPriceLeft};
+ghost use Rattle.auc_graph.specs.Dual.{scale_of, dual, is_lower, IsLower, IsSlackRight, AreNotNegative, IsNoPriceLeft, EachHasArc};
 
 use crate::limits::{MOST_ARCS, MOST_COST, MOST_OBJECTS, MOST_PERSONS, MOST_READS};
 
@@ -39,6 +39,11 @@ pub fn slack_right_costs_least()
 /// Where there are as many objects as persons, an assignment leaves none, and so no price.
 pub fn assignments_leave_no_price()
     ensures { (p : Problem) (prices : List ℤ) (choice : List Arc) → All (IsWithin p.persons p.objects) p.arcs → p.objects ≡ p.persons → length prices ≡ p.objects → IsAssignment p choice → IsNoPriceLeft prices choice }
+{}
+
+/// Where there is an assignment each person has an arc, as the dual bound wants it.
+pub fn assigned_persons_have_arcs()
+    ensures { (p : Problem) (choice : List Arc) → IsAssignment p choice → EachHasArc p }
 {}
 
 /// The numbers of the limits.

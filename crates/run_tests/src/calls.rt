@@ -5,8 +5,9 @@ use auc_cert::{
     Cert, CertParts, Pick, Picks, Prices, assignments_pass, check, read_cert, write_cert,
 };
 use auc_graph::{
-    Arc, Number, ReadError, ReadLimits, Token, assignments_leave_no_price, limits_are, number_of,
-    prices_bound_costs, read_arcs, slack_right_costs_least, token_at,
+    Arc, Number, ReadError, ReadLimits, Token, assigned_persons_have_arcs,
+    assignments_leave_no_price, bounds_fit, limits_are, number_of, prices_bound_costs, read_arcs,
+    slack_right_costs_least, token_at,
 };
 use std::test::*;
 
@@ -58,6 +59,8 @@ fn certificates(rt: HostRuntime) -> Result<(), Fail> {
     prices_bound_costs();
     slack_right_costs_least();
     assignments_leave_no_price();
+    assigned_persons_have_arcs();
+    bounds_fit();
     assignments_pass();
     let made = Cert::make(best_of_two(&rt)?).ok().ok_or("it has a text")?;
     let mut text = Vec::new(alloc);

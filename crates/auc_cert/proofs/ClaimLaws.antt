@@ -7,8 +7,7 @@ use Rattle.std.specs.Prelude.{T}
 use Rattle.std.specs.Ordering.{int_eq}
 use Rattle.std.proofs.lemmas.Bool.{cases_Bool, cases_lt}
 use Rattle.std.proofs.lemmas.Bool.Decides.{nat_tests, Decides-and, Decides-eqb, Decides-int_eq}
-use Rattle.std.proofs.lemmas.List.{length-map, get_or-map}
-use Rattle.std.proofs.lemmas.List.FromFn.{length-range_with_len, get_or-range_with_len}
+use Rattle.std.proofs.lemmas.List.{length-map}
 use Rattle.std.proofs.lemmas.List.Sums.{position_or_len_is, fails_before_first}
 use Rattle.std.proofs.lemmas.List.Elements.{All-head, All-tail, All-nil, All-cons}
 use Rattle.auc_graph.specs.declared.arc.Arc.{Arc}
@@ -23,7 +22,7 @@ use Rattle.auc_graph.specs.HallSet.{IsHallSet}
 use Rattle.auc_graph.specs.Memory.{AnswersUnless}
 use Rattle.auc_cert.proofs.HallLaws.{hall_set_is, hall_set_passes}
 use Rattle.auc_graph.specs.Assignment.{person_of, object_of, total_cost, IsAssignment}
-use Rattle.auc_graph.specs.Dual.{arc_value, scale_of, dual, is_lower, EachHasArc, IsSlackRight}
+use Rattle.auc_graph.specs.Dual.{arc_value, scale_of, dual, is_lower, IsSlackRight}
 use mathlib.Core.Bool.{beq}
 use Rattle.auc_cert.specs.Spelled.{IsSpelled}
 use Rattle.auc_cert.specs.Claim.{is_flag, arc_of, chosen, same_arc, is_missing, bears, is_slack_right, repeated, fault_if, is_sized, choice_faults, slack_fault, bound_fault, first_of, fault_of, IsAllowed, IsVerdict, is_hall}
@@ -184,26 +183,15 @@ is_faultless p cost choice prices h =
       cost_is = (Decides-int_eq cost (total_cost (chosen 0 choice))).0 (not_false (int_eq cost (total_cost (chosen 0 choice))) cost_is.0);
     }
 
--- ---- what picks of which none is missing are
-
-pub known_arcs : (p : Problem) (choice : List Pick) → position (is_missing p.arcs) (chosen 0 choice) ≡ None → All (Contains p.arcs) (chosen 0 choice)
-known_arcs p choice none k d lt = is_there p.arcs (get_or (chosen 0 choice) k d) (all_fail (is_missing p.arcs) (chosen 0 choice) none k d lt)
-
--- a choice of each person's arcs shows that he has one
-pub each_has_arc : (p : Problem) (choice : List Arc) → map person_of choice ≡ range_with_len 0 p.persons → All (Contains p.arcs) choice → EachHasArc p
-each_has_arc p choice persons known i lt =
-    let d : Arc = made 0 0 (pos 0) in
-    let many : length choice ≡ p.persons = sym (length-map choice person_of) ∙ ap length persons ∙ length-range_with_len 0 p.persons in
-    let person : (get_or choice i d).person ≡ i =
-    sym (get_or-map person_of choice i d 0 (omega (arith, lt, many))) ∙ ap (λ (is : List ℕ). get_or is i 0) persons ∙ get_or-range_with_len 0 p.persons i 0 lt ∙ omega arith in
-    (get_or choice i d, known i d (omega (arith, lt, many)), person)
-
-pub picks_have_arcs : (p : Problem) (choice : List Pick) → length choice ≡ p.persons → position (is_missing p.arcs) (chosen 0 choice) ≡ None → EachHasArc p
-picks_have_arcs p choice len none = each_has_arc p (chosen 0 choice) (persons_are 0 choice ∙ ap (range_with_len 0) len) (known_arcs p choice none)
+-- ---- what a choice without a fault is
 
 pub is_assigned : (p : Problem) (cost : ℤ) (choice : List Pick) (prices : List ℤ) → IsFaultless p cost choice prices → IsAssignment p (chosen 0 choice)
 is_assigned p cost choice prices is =
-    record { persons = persons_are 0 choice ∙ ap (range_with_len 0) is.size; arcs = known_arcs p choice is.missing; objects = rw (objects_are 0 choice) (never_seen [] (map (λ c. c.object) choice) is.twice).0 }
+    record {
+      persons = persons_are 0 choice ∙ ap (range_with_len 0) is.size;
+      arcs = λ k d lt. is_there p.arcs (get_or (chosen 0 choice) k d) (all_fail (is_missing p.arcs) (chosen 0 choice) is.missing k d lt);
+      objects = rw (objects_are 0 choice) (never_seen [] (map (λ c. c.object) choice) is.twice).0;
+    }
 
 -- ---- a whole claim
 

@@ -32,7 +32,6 @@ fn check_choice(
     ensures size { IsOk result → length choice.now ≡ problem.now.persons }
     ensures prices { IsOk result → length prices.now ≡ problem.now.objects }
     ensures objects { IsOk result → All (λ p. p.object < problem.now.objects) choice.now }
-    ensures arcs { IsOk result → EachHasArc problem.now }
 {
     if choice.len() != problem.persons() as usize || prices.len() != problem.objects() as usize {
         return Err(CertRefused::WrongSize);

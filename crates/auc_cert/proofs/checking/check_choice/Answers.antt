@@ -1,7 +1,7 @@
 use Rattle.std.proofs.Common.{◌≡◌, None, length, refl, sym, ap, ◌∙◌, arith}
 use Rattle.std.specs.List.{position}
 use Rattle.auc_cert.specs.Claim.{chosen, is_missing}
-use Rattle.auc_cert.proofs.ClaimLaws.{objects_below, persons_below, picks_have_arcs}
+use Rattle.auc_cert.proofs.ClaimLaws.{objects_below, persons_below}
 use Rattle.auc_cert.proofs.checking.check_choice.Goals as goal
 
 pub missing_person-requires : goal.missing_person-requires
@@ -19,9 +19,4 @@ repeated_object-requires c = objects_below c.args.problem.now c.objects-2.result
 pub returns-clause-objects : goal.returns-clause-objects
 returns-clause-objects c = λ _.
     objects_below c.args.problem.now c.args.problem.now.objects c.args.choice.now c.arcs.ensures.problem refl
-    (sym (c.in_ok-person.ensures ∙ ap (λ xs. position (is_missing xs) (chosen 0 c.args.choice.now)) c.arcs.ensures.arcs) ∙ c.in_default.is)
-
-pub returns-clause-arcs : goal.returns-clause-arcs
-returns-clause-arcs c = λ _.
-    picks_have_arcs c.args.problem.now c.args.choice.now (c.if-choice-persons.false ∙ c.persons.ensures.persons)
     (sym (c.in_ok-person.ensures ∙ ap (λ xs. position (is_missing xs) (chosen 0 c.args.choice.now)) c.arcs.ensures.arcs) ∙ c.in_default.is)

@@ -1,13 +1,13 @@
--- That a Hall set has a certificate is for the crates above too; the rest is this crate's own.
+-- That a Hall set has a certificate, what a step keeps of a shard, and what a new shard is are for the crates above too; the rest is this crate's own.
 mod WorkedEps
-mod Keeping
+pub mod Keeping
 mod Seen
 mod PostingLaws
 mod BiddingLaws
 mod HearingLaws
 mod SellingLaws
 mod HubLaws
-mod Made
+pub mod Made
 mod TurnByTurn
 mod RoundLaws
 mod PlayLaws

@@ -33,6 +33,7 @@ pub use auc_model::{End, MailName, Turn, TurnReply};
 pub use eps::{first_eps, next_eps};
 pub use gathering::Gathered;
 pub use limits::{Limits, USUAL_BIDS};
+pub use making::nodes_or;
 pub use picks::picks_of_matching;
 pub use playing::play;
 pub use solving::solve_serial;

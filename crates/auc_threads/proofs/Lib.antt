@@ -1,0 +1,6 @@
+pub mod TakingLaws
+pub mod SalesLaws
+pub mod PlacedLaws
+pub mod CountingLaws
+pub mod HearingLaws
+pub mod AskingLaws

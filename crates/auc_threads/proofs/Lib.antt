@@ -4,3 +4,5 @@ pub mod PlacedLaws
 pub mod CountingLaws
 pub mod HearingLaws
 pub mod AskingLaws
+pub mod StartsLaws
+pub mod PhaseLaws

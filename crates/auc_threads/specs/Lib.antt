@@ -5,3 +5,5 @@ pub mod Counting
 pub mod Naming
 pub mod Placed
 pub mod Starts
+pub mod Gathering
+pub mod Phase

@@ -3,12 +3,20 @@
 
 mod error;
 mod gate;
+mod gathering;
 mod hub;
 mod mails;
+mod object_threads;
 mod object_worker;
+mod person_threads;
 mod person_worker;
+mod phase;
+mod running;
+mod settling;
 mod taking;
 
 pub use error::RunError;
 pub use gate::{FreeGate, Gate};
 pub use mails::{Ledgers, Mails, WorkerSeats};
+pub use phase::{PhaseEnd, phase_threads};
+pub use settling::Trails;

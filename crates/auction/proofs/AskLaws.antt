@@ -1,5 +1,5 @@
 -- What the matches of a command ask for.
-use Rattle.std.proofs.Common.{◌≡◌, ℕ, List, [], ◌∷◌, Option, Some, None, Result, Ok, Err, codes, map, sym, ap, ◌∙◌, inl, inr}
+use Rattle.std.proofs.Common.{◌≡◌, ℕ, List, [], ◌∷◌, Option, Some, None, Result, Ok, Err, codes, sym, ap, ◌∙◌, inl, inr}
 use Rattle.std.specs.Prelude.{IsErrAnd}
 use Rattle.clap.specs.Words.{Row, Text, first_of}
 use Rattle.auc_run.specs.declared.command.Job.{Job}
@@ -8,10 +8,7 @@ use Rattle.auction.specs.declared.asked.Words.{Words}
 use Rattle.auction.specs.declared.words_error.WordsError.{WordsError}
 use Rattle.auction.specs.declared.words_error.WordsError.TheVariants.{NoMemory}
 use Rattle.auction.specs.CommandLine.{AreBids, AsksFor, AsksToCheck, HasFilesOf, HasNameOf, HasSolveOf, IsUsage}
-
--- the values of these arguments
-abbrev pub values_in : List Row → List Text → List (Option Text)
-values_in rows = map (λ id. first_of id rows)
+use Rattle.auction.proofs.WordLaws.{values_in}
 
 -- the parser was refused memory, and so is its caller
 pub no_memory : (r : Result Words WordsError) (e : WordsError) → IsErrAnd r (λ x. x ≡ e) → e ≡ NoMemory → r ≡ Err NoMemory

@@ -3,14 +3,19 @@ use Rattle.std.proofs.Common.{◌≡◌, ◌==◌, true, false, List, [], ◌∷
 use Rattle.std.proofs.lemmas.Bool.{ne_eqb}
 use Rattle.std.specs.Str.{bytes_eq}
 use Rattle.clap.specs.Lexer.{strip_byte}
-use Rattle.clap.specs.Words.{Row, Text, first_of, subcommand_of, takes}
+use Rattle.clap.specs.Words.{Row, Text, fault_of, first_of, subcommand_of, takes}
+use Rattle.clap.specs.declared.error.kind.ErrorKind.TheVariants.{ArgumentConflict, InvalidValue, UnknownArgument}
 use Rattle.clap.proofs.OnLiterals.{clap_on_literals}
 use Rattle.auction.specs.Grammar.{grammar}
 use Rattle.auction.specs.CommandLine.{IsName, AreCheck, AreJob, AreOption, AreSolve}
 
--- the command that was found, and the first value of each of these arguments of it
+-- the first value of each of these arguments
+abbrev pub values_in : List Row → List Text → List (Option Text)
+values_in rows = map (λ id. first_of id rows)
+
+-- the command that was found, and the values of these arguments of it
 abbrev pub told : List Text → Option (Text × List Row) → Option (Text × List (Option Text))
-told ids = option_map (λ p. (p.0, map (λ id. first_of id p.1) ids))
+told ids = option_map (λ p. (p.0, values_in p.1 ids))
 
 -- the grammar takes the words as this command, with these values of these arguments
 pub record Fits (words : List Text) (command : Text) (ids : List Text) (values : List (Option Text)) : Type 0 where
@@ -83,11 +88,28 @@ bids_fit words (Some file) value h = elim h.3 [
 
 -- the command that was found has matches with these values
 pub told_rows : {words : List Text} {command : Text} {ids : List Text} {values : List (Option Text)} (sub : Option (Text × List Row)) → Fits words command ids values → sub ≡ subcommand_of grammar words
-    → (rows : List Row) × (sub ≡ Some (command, rows)) × (map (λ id. first_of id rows) ids ≡ values)
+    → (rows : List Row) × (sub ≡ Some (command, rows)) × (values_in rows ids ≡ values)
 told_rows {words} {command} {ids} {values} sub fits found = go sub (ap (told ids) found ∙ fits.tells)
   where
-    go : (o : Option (Text × List Row)) → told ids o ≡ Some (command, values) → (rows : List Row) × (o ≡ Some (command, rows)) × (map (λ id. first_of id rows) ids ≡ values)
+    go : (o : Option (Text × List Row)) → told ids o ≡ Some (command, values) → (rows : List Row) × (o ≡ Some (command, rows)) × (values_in rows ids ≡ values)
     go None h = cc
     go (Some p) h =
         let same = ap (λ (o : Option (Text × List (Option Text))). unwrap_or o (command, values)) h in
         (p.1, ap (λ (name : Text). Some (name, p.1)) (ap (λ (q : Text × List (Option Text)). q.0) same), ap (λ (q : Text × List (Option Text)). q.1) same)
+
+-- examples of lines that the grammar does not take: the option twice, without a value, and of another command; help
+twice : fault_of grammar (codes "solve" ∷ codes "--bids=1" ∷ codes "--bids" ∷ codes "2" ∷ []) ≡ ArgumentConflict ∷ []
+unfolding clap_on_literals
+twice = refl
+
+without_value : fault_of grammar (codes "solve" ∷ codes "problem" ∷ codes "--bids" ∷ []) ≡ InvalidValue ∷ []
+unfolding clap_on_literals
+without_value = refl
+
+of_another : fault_of grammar (codes "hall" ∷ codes "--bids=1" ∷ []) ≡ UnknownArgument ∷ []
+unfolding clap_on_literals
+of_another = refl
+
+help : fault_of grammar (codes "solve" ∷ codes "--help" ∷ []) ≡ UnknownArgument ∷ []
+unfolding clap_on_literals
+help = refl

@@ -69,7 +69,7 @@ abbrev pub AreBids : Option (List ℕ) → ℕ → Type 0
 AreBids None n = n ≡ 100000000
 AreBids (Some value) n = IsNumber value n × IsInRange (Solve 0 n 0)
 
--- the words were read as a solve of the file and with the bids that a subcommand's matches name, or they name none that a solve may have, unless memory ran out
+-- the words were read as a solve of the file and with the bids that a subcommand's matches name; or refused, where these are no bids that a solve may have, or memory ran out
 abbrev pub HasSolveOf : Result Words WordsError → List Row → Type 0
 HasSolveOf (Ok w) rows = (n : ℕ) × AreBids (first_of (codes "bids") rows) n × HasNameOf (Solve 0 n 0) (codes "file") (Ok w) rows
 HasSolveOf (Err e) rows = (e ≡ NoMemory) ⊎ ((e ≡ Usage) × ((n : ℕ) → ¬ AreBids (first_of (codes "bids") rows) n))

@@ -40,22 +40,23 @@ long_takes stop bytes z rest e =
     let f = field_takes [] (neg_ℤ (pos (2 ^ 63))) (pos (2 ^ 63 - 1)) stop bytes z rest e in
     (f.text, long_fits z f.low f.high)
 
-count_again : (front : List ℕ) (n : ℕ) (rest : List ℕ) → 1 ≤ n → n ≤ 10000 → field_at front (pos 1) (pos 10000) 32 ((front ++ decimal n) ++ 32 ∷ rest) ≡ Some (pos n, rest)
-count_again front n rest some most =
+count_again : (front : List ℕ) (n : ℕ) (rest : List ℕ) → IsCount n → field_at front (pos 1) (pos 10000) 32 ((front ++ decimal n) ++ 32 ∷ rest) ≡ Some (pos n, rest)
+count_again front n rest h =
+    let some : 1 ≤ n = h.some in
+    let most : n ≤ 10000 = h.most in
     field_again front (pos 1) (pos 10000) 32 ((front ++ decimal n) ++ 32 ∷ rest) (pos n) rest space (small_fits n most) (record { text = refl; low = omega (arith, ints); high = omega (arith, ints) })
 
 -- how many persons, behind a front
 pub record CountsAt (front bytes : List ℕ) (n : ℕ) (rest : List ℕ) : Type 0 where
   pub text : bytes ≡ (front ++ decimal n) ++ 32 ∷ rest
-  pub some : 1 ≤ n
-  pub most : n ≤ 10000
+  pub is : IsCount n
 
 count_takes : (front bytes : List ℕ) (z : ℤ) (rest : List ℕ) → field_at front (pos 1) (pos 10000) 32 bytes ≡ Some (z, rest) → CountsAt front bytes (unsigned_abs z) rest
 count_takes front bytes z rest e =
     let f = field_takes front (pos 1) (pos 10000) 32 bytes z rest e in
     let low : pos 1 ≤ℤ z = f.low in
     let high : z ≤ℤ pos 10000 = f.high in
-    record { text = f.text ∙ ap (λ (y : ℤ). (front ++ signed_decimal y) ++ 32 ∷ rest) (is_abs z (omega (arith, ints))); some = omega (arith, ints); most = omega (arith, ints) }
+    record { text = f.text ∙ ap (λ (y : ℤ). (front ++ signed_decimal y) ++ 32 ∷ rest) (is_abs z (omega (arith, ints))); is = record { some = omega (arith, ints); most = omega (arith, ints) } }
 
 -- ---- optimal
 
@@ -70,7 +71,7 @@ optimal_again : (n : ℕ) (cost : ℤ) (rest : List ℕ) → IsCount n → FitsS
 optimal_again n cost rest h fits =
     let r : List ℕ = signed_decimal cost ++ 10 ∷ rest in
     ap optimal_at (two_fields (codes "optimal ") (decimal n) (signed_decimal cost) rest)
-    ∙ optimal_steps ((codes "optimal " ++ decimal n) ++ 32 ∷ r) (pos n) cost r rest (count_again (codes "optimal ") n r h.some h.most) (long_again 10 cost rest line_end fits)
+    ∙ optimal_steps ((codes "optimal " ++ decimal n) ++ 32 ∷ r) (pos n) cost r rest (count_again (codes "optimal ") n r h) (long_again 10 cost rest line_end fits)
 
 optimal_takes : (bytes : List ℕ) (x : SecondLine × List ℕ) → optimal_at bytes ≡ Some x → IsRead bytes x
 unfolding optimal_at
@@ -82,7 +83,7 @@ optimal_takes bytes x e =
     let n : ℕ = unsigned_abs a.0.0 in
     let read : IsRead bytes (Optimal n b.0.0, b.0.1) = (
       f.text ∙ ap (λ (r : List ℕ). (codes "optimal " ++ decimal n) ++ 32 ∷ r) g.0 ∙ sym (two_fields (codes "optimal ") (decimal n) (signed_decimal b.0.0) b.0.1),
-      (record { some = f.some; most = f.most }, g.1),
+      (f.is, g.1),
     ) in
     subst (IsRead bytes) (some_is (Optimal n b.0.0, b.0.1) x b.2) read
 
@@ -101,7 +102,7 @@ infeasible_again persons objects rest h =
     let few : objects ≤ 10000 = h.few in
     let b = field_again [] (pos 0) (pos 10000) 10 r (pos objects) rest line_end (small_fits objects few) (record { text = refl; low = omega (arith, ints); high = omega (arith, ints) }) in
     ap infeasible_at (two_fields (codes "infeasible ") (decimal persons) (decimal objects) rest)
-    ∙ infeasible_steps ((codes "infeasible " ++ decimal persons) ++ 32 ∷ r) (pos persons) (pos objects) r rest (count_again (codes "infeasible ") persons r h.some h.most) b
+    ∙ infeasible_steps ((codes "infeasible " ++ decimal persons) ++ 32 ∷ r) (pos persons) (pos objects) r rest (count_again (codes "infeasible ") persons r (record { some = h.some; most = h.most })) b
 
 infeasible_takes : (bytes : List ℕ) (x : SecondLine × List ℕ) → infeasible_at bytes ≡ Some x → IsRead bytes x
 unfolding infeasible_at
@@ -117,7 +118,7 @@ infeasible_takes bytes x e =
     let text : a.0.1 ≡ decimal l ++ 10 ∷ b.0.1 = g.text ∙ ap (λ (y : ℤ). signed_decimal y ++ 10 ∷ b.0.1) (is_abs b.0.0 low) in
     let read : IsRead bytes (Infeasible m l, b.0.1) = (
       f.text ∙ ap (λ (r : List ℕ). (codes "infeasible " ++ decimal m) ++ 32 ∷ r) text ∙ sym (two_fields (codes "infeasible ") (decimal m) (decimal l) b.0.1),
-      record { some = f.some; most = f.most; few = omega (arith, ints) },
+      record { some = f.is.some; most = f.is.most; few = omega (arith, ints) },
     ) in
     subst (IsRead bytes) (some_is (Infeasible m l, b.0.1) x b.2) read
 
@@ -174,7 +175,7 @@ bracket_again reason n lower cost rest h low fits =
     let whole = and_parts (lacks 32 (reason_word reason)) (lacks 10 (reason_word reason)) (reason_is_word reason) in
     ap bracket_at (five_fields (codes "bracket ") (reason_word reason) (decimal n) (signed_decimal lower) (signed_decimal cost) rest)
     ∙ bracket_steps (codes "bracket " ++ r0) r0 (reason_word reason) r1 reason (pos n) lower cost r2 r3 rest
-    (after_again (codes "bracket ") r0) (word_again 32 (reason_word reason) r1 (all_lack 32 (reason_word reason) whole.0)) (reason_again reason) (count_again [] n r2 h.some h.most) (long_again 32 lower r3 space low) (long_again 10 cost rest line_end fits)
+    (after_again (codes "bracket ") r0) (word_again 32 (reason_word reason) r1 (all_lack 32 (reason_word reason) whole.0)) (reason_again reason) (count_again [] n r2 h) (long_again 32 lower r3 space low) (long_again 10 cost rest line_end fits)
 
 bracket_takes : (bytes : List ℕ) (x : SecondLine × List ℕ) → bracket_at bytes ≡ Some x → IsRead bytes x
 unfolding bracket_at
@@ -195,7 +196,7 @@ bracket_takes bytes x e =
     ∙ ap (λ (r : List ℕ). reason_word c.0 ++ 32 ∷ r) (count.text ∙ ap (λ (r : List ℕ). decimal n ++ 32 ∷ r) (low.0 ∙ ap (λ (r : List ℕ). signed_decimal f.0.0 ++ 32 ∷ r) last.0))) in
     let read : IsRead bytes (Bracket c.0 n f.0.0 g.0.0, g.0.1) = (
       text ∙ sym (five_fields (codes "bracket ") (reason_word c.0) (decimal n) (signed_decimal f.0.0) (signed_decimal g.0.0) g.0.1),
-      (record { some = count.some; most = count.most }, low.1, last.1),
+      (count.is, low.1, last.1),
     ) in
     subst (IsRead bytes) (some_is (Bracket c.0 n f.0.0 g.0.0, g.0.1) x g.2) read
 

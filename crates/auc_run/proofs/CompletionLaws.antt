@@ -1,7 +1,6 @@
 -- What a completion of the empty partial assignment says of the problem.
-use Rattle.std.proofs.Common.{◌≡◌, ℕ, ◌≤◌, List, length, subst, arith}
-use Rattle.auc_graph.specs.declared.limits.TheConstants.{MOST_PERSONS}
-use Rattle.auc_graph.specs.Problem.{Problem, IsProblem}
+use Rattle.std.proofs.Common.{◌≡◌, ℕ, List, subst}
+use Rattle.auc_graph.specs.Problem.{Problem}
 use Rattle.auc_graph.specs.Table.{Table, IsTableOf}
 use Rattle.auc_hall.specs.OfProblem.{IsFullOf}
 use Rattle.auc_hall.specs.Matching.{IsMatching}

@@ -1,7 +1,6 @@
 -- What a search for a full assignment may find in a problem, the text that tells it, and which findings are right for the bytes of a problem.
 use Rattle.std.specs.Prelude.{ℕ, List, ◌++◌, ◌≤◌, length, codes, Option, Result, Ok, Err, ⊤}
 use Rattle.auc_graph.specs.declared.limits.TheConstants.{MOST_PERSONS}
-use Rattle.auc_cert.specs.declared.lists.Pick.{Pick}
 use Rattle.auc_graph.specs.Problem.{Problem}
 use Rattle.auc_graph.specs.Assignment.{IsAssignment}
 use Rattle.auc_cert.specs.Text.{text, assign_line, numbered, joined}

@@ -1,5 +1,5 @@
 -- What a bracket needs to pass: an assignment, and lawful prices.
-use Rattle.std.proofs.Common.{ℕ, ℤ, pos, refl, ◌+◌, ◌<◌, ◌≡◌, arith, List, length, get_or, Contains, sym, ap, subst, ◌∙◌}
+use Rattle.std.proofs.Common.{ℕ, ℤ, refl, ◌+◌, ◌<◌, ◌≡◌, arith, List, length, sym, ap, subst, ◌∙◌}
 use Rattle.std.specs.Prelude.{All, FitsSigned, map}
 use Rattle.std.specs.Int.{w64}
 use Rattle.auc_graph.specs.declared.arc.Arc.{Arc}

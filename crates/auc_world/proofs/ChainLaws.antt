@@ -15,7 +15,7 @@ use Rattle.auc_letters.specs.Price.{IsEps}
 use Rattle.auc_letters.specs.declared.state.Held.{Held}
 use Rattle.auc_model.specs.Chosen.{IsHeldArc}
 use Rattle.auc_model.specs.Schedule.{Reached}
-use Rattle.auc_model.specs.World.{World, phase_of}
+use Rattle.auc_model.specs.World.{phase_of}
 use Rattle.auc_model.specs.declared.turn.End.{End}
 use Rattle.auc_model.proofs.Ends.{all_schedule}
 use Rattle.auc_model.proofs.Reached.{kept_reached}

@@ -5,7 +5,7 @@ use Rattle.std.specs.Prelude.{FitsSigned, Result, Ok, Err, IfOk, IfSome, IfNone}
 use Rattle.std.specs.List.{slice_get, range_with_len}
 use Rattle.std.specs.Option.{is_some}
 use Rattle.std.proofs.lemmas.Bool.{cases_eq, cases_lt}
-use Rattle.std.proofs.lemmas.Option.{same_Some, slice_get-get_or, slice_get_past}
+use Rattle.std.proofs.lemmas.Option.{none-some, same_Some, slice_get-get_or, slice_get_past}
 use Rattle.std.proofs.lemmas.List.{get_or-set_same, get_or-set_other, length-set, length-map, get_or_past, get_or_default, same_lists}
 use Rattle.std.proofs.lemmas.List.FromFn.{length-range_with_len}
 use Rattle.auc_graph.specs.declared.arc.Arc.{Arc}
@@ -276,8 +276,8 @@ module _ (p : Problem) (holders : List (Option Held)) (found : List (Option Pick
       let old = are.each x.object x.held (is_there holders x.object x.held x.holds) x.holds in
       let arc : old.0 ≡ get_or choice c.0 d = one_arc p x.held old.0 (get_or choice c.0 d) old.1.place x.by.place in
       let at : old.0.person ≡ c.0 = let e = ap (λ (a : Arc). a.person) arc in omega (arith, e, person) in
-      let b : ◌≡◌ {A = Option Pick} None (Some (pick_of old.0)) = sym c.2 ∙ (ap (λ (i : ℕ). get_or found i None) (sym at) ∙ old.2) in
-      cc
+      let here : get_or found c.0 None ≡ Some (pick_of old.0) = subst (λ (i : ℕ). get_or found i None ≡ Some (pick_of old.0)) at old.2 in
+      none-some (pick_of old.0) (sym c.2 ∙ here)
 
 -- ---- holders have one choice at most
 

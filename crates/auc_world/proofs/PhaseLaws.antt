@@ -1,7 +1,7 @@
 -- What a phase comes to: of all stops only those by a limit, and never a stall.
-use Rattle.std.proofs.Common.{ℕ, ℤ, pos, ◌<◌, ◌≡◌, List, Option, Some, None, get_or, refl, sym, subst, ap, ◌∙◌, arith, Contains}
+use Rattle.std.proofs.Common.{ℕ, ℤ, pos, ◌<◌, ◌≡◌, List, Option, Some, None, get_or, sym, subst, ap, ◌∙◌, arith, Contains}
 use Rattle.auc_cert.specs.declared.reason.Reason.{Reason}
-use Rattle.std.specs.Prelude.{Result, Ok, Err, All, ◌<ℤ◌, replicate, unsigned_abs}
+use Rattle.std.specs.Prelude.{Ok, Err, All, ◌<ℤ◌, replicate, unsigned_abs}
 use Rattle.std.proofs.lemmas.Int.{ints}
 use Rattle.std.proofs.lemmas.List.{get_or-replicate, length-replicate}
 use Rattle.std.specs.List.{slice_get}

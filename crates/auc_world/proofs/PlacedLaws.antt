@@ -1,7 +1,7 @@
 -- The holders that were placed, one after another.
-use Rattle.std.proofs.Common.{ℕ, ◌+◌, ◌<◌, ◌≤◌, ◌≡◌, ◌≢◌, refl, arith, List, length, get_or, set, Option, Some, None, Contains, All, sym, ap, subst, ◌∙◌, inl, inr}
+use Rattle.std.proofs.Common.{ℕ, ◌+◌, ◌<◌, ◌≤◌, ◌≡◌, ◌≢◌, refl, arith, List, length, set, Option, Some, None, Contains, sym, ap, subst, ◌∙◌, inl, inr}
 use Rattle.std.specs.List.{slice_get}
-use Rattle.std.proofs.lemmas.Bool.{cases_eq, cases_lt}
+use Rattle.std.proofs.lemmas.Bool.{cases_eq}
 use Rattle.std.proofs.lemmas.Option.{get_or_from_slice_get, none-some, same_Some, slice_get_within}
 use Rattle.std.proofs.lemmas.List.{get_or-set_same, get_or-set_other}
 use Rattle.auc_graph.specs.declared.arc.Arc.{Arc}
@@ -12,7 +12,7 @@ use Rattle.auc_graph.specs.Table.{IsTableOf, Table, row_of}
 use Rattle.auc_hall.specs.Partial.{IsNotPlaced, MayPlace, pick}
 use Rattle.auc_hall.proofs.ProblemLaws.{in_row, row_is, stands_for}
 use Rattle.auc_letters.specs.declared.state.Held.{Held}
-use Rattle.auc_world.specs.Claims.{ArePlaceable, HoldsAt, NobodyHoldsTwo, holder_at}
+use Rattle.auc_world.specs.Claims.{ArePlaceable, HoldsAt, holder_at}
 use Rattle.auc_world.proofs.FoundLaws.{at_or_before, is_there}
 
 pub nobody_there : (o : Option Held) → ((h : Held) → o ≡ Some h → ⊥) → o ≡ None
@@ -133,13 +133,13 @@ module _ (p : Problem) (holders : List (Option Held)) (count : ℕ) (choice : Li
       once_more j k b c lt le e f same =
           elim (cases_eq j count) [
             | inl at ↦ elim (cases_eq k count) [
-                | inl there ↦ at ∙ sym there
-                | inr ne ↦ absurd (nobody k c (at_or_before count k le ne) f (sym same ∙ person_here j b e at))
-              ]
+              | inl there ↦ at ∙ sym there
+              | inr ne ↦ absurd (nobody k c (at_or_before count k le ne) f (sym same ∙ person_here j b e at))
+            ]
             | inr ne ↦ elim (cases_eq k count) [
-                | inl there ↦ absurd (nobody j b (at_or_before count j lt ne) e (same ∙ person_here k c f there))
-                | inr other ↦ are.once j k b c (at_or_before count j lt ne) (at_or_before count k le other) e f same
-              ]
+              | inl there ↦ absurd (nobody j b (at_or_before count j lt ne) e (same ∙ person_here k c f there))
+              | inr other ↦ are.once j k b c (at_or_before count j lt ne) (at_or_before count k le other) e f same
+            ]
           ]
 
       pub placed_more : ArePlaced p holders (count + 1) (set choice h.person (Some a))

@@ -1,5 +1,5 @@
 -- The phases of a run, each from what the one before has left, and what an answer says of the last one.
-use Rattle.std.specs.Prelude.{ℕ, ℤ, pos, ◌≡◌, List, [], ◌∷◌, Some, All, length, replicate}
+use Rattle.std.specs.Prelude.{ℤ, pos, ◌≡◌, List, [], ◌∷◌, Some, All, length, replicate}
 use Rattle.auc_graph.specs.declared.arc.Arc.{Arc}
 use Rattle.auc_graph.specs.Assignment.{IsAssignment}
 use Rattle.auc_graph.specs.Problem.{Problem}

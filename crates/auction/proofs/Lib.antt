@@ -1,2 +1,3 @@
--- All of this is the crate's own.
+mod AskLaws
+mod GrammarLaws
 mod WordLaws

@@ -6,6 +6,7 @@ ghost use Rattle.auc_run.specs.Jobs.{IsInRange};
 ghost use Rattle.auction.specs.CommandLine.{words_status};
 
 mod asked;
+mod grammar;
 mod words;
 mod words_error;
 

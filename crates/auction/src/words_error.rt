@@ -10,13 +10,15 @@ use thiserror::Error;
 #[derive(Clone, Copy, Debug, PartialEq, Eq, Error)]
 pub enum WordsError {
     /// They are none that the program knows.
-    #[error("usage: auction solve [FILE]
+    #[error("usage: auction solve [FILE] [--bids N]
        auction check FILE [CERT]
        auction hall [FILE]
        auction mail [SCRIPT]
 
 solve finds a least-cost assignment of the problem FILE, with prices that show it, or persons who together know too few objects.
 Without FILE the problem is read from standard input.
+Each shard of the persons makes at most N bids in a phase: 1 to 1000000000000, without --bids 100000000.
+Where they don't do, solve gives an assignment and a bound below which none costs.
 
 check says whether the claim of the certificate CERT holds of the problem FILE: a least-cost assignment, or that there is none.
 Without CERT the certificate is read from standard input.

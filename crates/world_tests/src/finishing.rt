@@ -76,7 +76,11 @@ fn holders_without_a_place(rt: HostRuntime) -> Result<(), Fail> {
         (Some(FIRST_BY_SECOND), None, false),
     ] {
         let answer = stopped(&rt, first, second)?;
-        assert_eq!(rt; matches!(answer, Answer::Bracket(_)), is_bracket, "{first:?} {second:?}");
+        assert_eq!(rt;
+            matches!(answer, Answer::Bracket(_)),
+            is_bracket,
+            "{first:?} {second:?}"
+        );
         assert_eq!(rt;
             matches!(answer, Answer::Broken(Guard::Check)),
             !is_bracket,

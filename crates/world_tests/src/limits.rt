@@ -51,7 +51,9 @@ fn low_limits_leave_brackets(rt: HostRuntime) -> Result<(), Fail> {
         (nodes(1), "mail 2 3 3", second, 7),
     ] {
         let out = answered(&rt, TWO, limits)?;
-        let expected = format!(in rt.alloc(); "auction 1\nbracket {head}\n{picks}price 1 {price}\nprice 2 0\n")?;
+        let expected = format!(in rt.alloc();
+            "auction 1\nbracket {head}\n{picks}price 1 {price}\nprice 2 0\n"
+        )?;
         assert_eq!(rt; out.as_slice(), expected.as_bytes(), "{limits:?}");
     }
     Ok(())

@@ -1,4 +1,4 @@
-use Rattle.std.proofs.Common.{refl, subst, sym, ap, ◌∙◌, ℕ, List}
+use Rattle.std.proofs.Common.{refl, subst, sym}
 use Rattle.auc_hall.specs.OfProblem.{IsFullOf}
 use Rattle.auc_hall.specs.Matching.{IsMatching}
 use Rattle.auc_hall.specs.declared.matching.Matching.TheVariants.{Full}

@@ -1,4 +1,4 @@
-use Rattle.std.proofs.Common.{ap, rules, subst, sym, ◌∙◌, ◌≡◌, ◌+◌, List, w64, ℤ}
+use Rattle.std.proofs.Common.{ap, rules, subst, sym, ◌∙◌, List, w64}
 use Rattle.std.specs.Int.{w128}
 use Rattle.std.specs.Prelude.{FitsSigned}
 use Rattle.std.proofs.lemmas.Int.{to_z-of_z}

@@ -1,4 +1,4 @@
-use Rattle.std.proofs.Common.{arith, refl, sym, subst, ap, rules, ◌∙◌, ◌≡◌, List, Option, w64}
+use Rattle.std.proofs.Common.{arith, refl, subst, ap, rules, ◌∙◌, List, Option, w64}
 use Rattle.std.specs.Int.{w128}
 use Rattle.std.specs.Prelude.{FitsSigned}
 use Rattle.std.proofs.lemmas.Grind.{common_steps}

@@ -1,10 +1,7 @@
-use Rattle.std.proofs.Common.{◌≡◌, ℕ, Some, None, Option, get_or, pos, w64, arith, rules, sym, ap, ◌∙◌, subst}
+use Rattle.std.proofs.Common.{get_or, pos, w64, rules}
 use Rattle.std.specs.Prelude.{FitsSigned}
-use Rattle.std.specs.List.{slice_get}
 use Rattle.std.proofs.lemmas.Int.{to_z-of_z}
-use Rattle.std.proofs.lemmas.Option.{slice_get-get_or, slice_get_past}
 use Rattle.auc_graph.specs.declared.arc.Arc.{Arc}
-use Rattle.auc_world.specs.Claims.{holder_at}
 use Rattle.auc_world.proofs.FoundLaws.{all_picked, found_end, found_nothing, holds_two, none_picked, past_read, read_more, read_not_his, stands_none, stands_some}
 use Rattle.auc_world.proofs.picks.picks_of_holders.Goals as goal
 

@@ -1,4 +1,4 @@
-use Rattle.std.proofs.Common.{arith, sym, subst, ap, ◌∙◌, ◌≡◌, ◌<◌, ℕ, List, length, All, map}
+use Rattle.std.proofs.Common.{sym, subst, ap, ◌∙◌, ◌<◌, List, length, All, map}
 use Rattle.auc_graph.specs.declared.arc.Arc.{Arc}
 use Rattle.auc_world.specs.Claims.{pick_at}
 use Rattle.auc_world.proofs.MatchingPicks.{as_many, full_found, full_within}

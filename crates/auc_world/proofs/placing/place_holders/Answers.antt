@@ -1,4 +1,4 @@
-use Rattle.std.proofs.Common.{◌≡◌, ◌∙◌, arith, sym, subst, ℕ, ◌<◌, ◌+◌, length}
+use Rattle.std.proofs.Common.{arith, sym, subst, ℕ, ◌<◌, ◌+◌}
 use Rattle.auc_hall.proofs.ProblemLaws.{length-rows}
 use Rattle.auc_world.proofs.PlacedLaws.{ArePlaced, holder_below, nobody_there, not_placed, placed_all, placed_more, placed_nothing}
 use Rattle.auc_world.proofs.placing.place_holders.Goals as goal

@@ -1,4 +1,4 @@
-use Rattle.std.proofs.Common.{pos, ◌≡◌, ◌∙◌, ◌∷◌, [], List, ℤ, refl, rules, subst, sym, to_z, w64}
+use Rattle.std.proofs.Common.{pos, ◌≡◌, ◌∙◌, ◌∷◌, [], List, ℤ, rules, subst, sym, to_z, w64}
 use Rattle.std.specs.Prelude.{FitsSigned, replicate}
 use Rattle.std.proofs.lemmas.Int.{to_z-of_z}
 use Rattle.auc_world.specs.Answers.{IsAnswer, IsBracketAnswer, IsOptimalAnswer}

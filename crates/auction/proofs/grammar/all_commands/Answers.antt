@@ -1,7 +1,7 @@
 use Rattle.clap.specs.Words.{with_subcommand}
 use Rattle.auction.specs.Grammar.{check_grammar, hall_grammar, mail_grammar, solve_grammar, bare_grammar}
-use Rattle.auction.proofs.WordLaws.{adds, adds_last}
-use Rattle.auction.proofs.words.all_commands.Goals as goal
+use Rattle.auction.proofs.GrammarLaws.{adds, adds_last}
+use Rattle.auction.proofs.grammar.all_commands.Goals as goal
 
 pub returns : goal.returns
 returns c =

@@ -10,7 +10,7 @@ use Rattle.auc_cert.specs.declared.text_error.CertTextError.TheVariants.{Line, N
 use Rattle.auc_run.specs.declared.input.ReadFault.{ReadFault}
 use Rattle.auc_run.specs.declared.input.ReadFault.TheVariants.{Failed, TooManyReads, NoMemory as NoMemoryToRead}
 use Rattle.auc_run.specs.declared.refusal.Refusal.{Refusal}
-use Rattle.auc_run.specs.declared.refusal.Refusal.TheVariants.{NotRead, NoProblem, NoCertificate, Invalid, NoScript, NoMemory as NoMemoryForJob}
+use Rattle.auc_run.specs.declared.refusal.Refusal.TheVariants.{NotRead, NoProblem, NoCertificate, Invalid, NoScript, NoMemory as NoMemoryForJob, NoThreads}
 use Rattle.auc_run.specs.declared.valid.Valid.{Valid}
 use Rattle.auc_run.specs.declared.valid.Valid.TheVariants.{Optimal, Bracket, Infeasible}
 use Rattle.auc_run.specs.declared.script_error.ScriptError.{ScriptError}
@@ -68,6 +68,7 @@ refusal_line (NoCertificate error) = certificate_line error
 refusal_line (Invalid error) = claim_line error
 refusal_line (NoScript error) = script_line error
 refusal_line NoMemoryForJob = codes "refused memory\n"
+refusal_line NoThreads = codes "refused threads\n"
 
 -- a valid claim is told by its cost, by a bound and a cost, or by how many persons and objects it names
 abbrev pub valid_line : Valid → List ℕ

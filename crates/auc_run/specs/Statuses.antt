@@ -10,7 +10,7 @@ use Rattle.auc_cert.specs.declared.text_error.CertTextError.TheVariants.{Line, N
 use Rattle.auc_run.specs.declared.input.ReadFault.{ReadFault}
 use Rattle.auc_run.specs.declared.input.ReadFault.TheVariants.{Failed, TooManyReads, NoMemory as NoMemoryToRead}
 use Rattle.auc_run.specs.declared.refusal.Refusal.{Refusal}
-use Rattle.auc_run.specs.declared.refusal.Refusal.TheVariants.{NotRead, NoProblem, NoCertificate, Invalid, NoScript, NoMemory as NoMemoryForJob}
+use Rattle.auc_run.specs.declared.refusal.Refusal.TheVariants.{NotRead, NoProblem, NoCertificate, Invalid, NoScript, NoMemory as NoMemoryForJob, NoThreads}
 use Rattle.auc_run.specs.declared.script_error.ScriptError.{ScriptError}
 use Rattle.auc_run.specs.declared.script_error.ScriptError.TheVariants.{Word, Range, Cut as CutScript, TooManyCalls, NoMemory as NoMemoryForScript}
 
@@ -58,3 +58,4 @@ refusal_status (NoCertificate error) = certificate_status error
 refusal_status (Invalid error) = claim_status error
 refusal_status (NoScript error) = script_status error
 refusal_status NoMemoryForJob = 6
+refusal_status NoThreads = 6

@@ -12,7 +12,7 @@ use Rattle.auc_cert.specs.Text.{text}
 use Rattle.auc_cert.specs.CertReading.{IsFirstBadLine}
 use Rattle.auc_cert.specs.Claim.{fault_of, IsAllowed, IsVerdict as IsVerdictOn}
 use Rattle.auc_run.specs.declared.refusal.Refusal.{Refusal}
-use Rattle.auc_run.specs.declared.refusal.Refusal.TheVariants.{NotRead, NoProblem, NoCertificate, Invalid, NoScript, NoMemory as NoMemoryForJob}
+use Rattle.auc_run.specs.declared.refusal.Refusal.TheVariants.{NotRead, NoProblem, NoCertificate, Invalid, NoScript, NoMemory as NoMemoryForJob, NoThreads}
 use Rattle.auc_run.specs.declared.valid.Valid.{Valid}
 use Rattle.auc_run.specs.Problems.{AreKnown, IsProblemOf, ReadsAsProblem}
 
@@ -41,6 +41,7 @@ Judges p c (Err (NoProblem error)) = ⊥
 Judges p c (Err (NoCertificate error)) = ⊥
 Judges p c (Err (NoScript error)) = ⊥
 Judges p c (Err NoMemoryForJob) = ⊥
+Judges p c (Err NoThreads) = ⊥
 
 -- The bytes of a problem and of a certificate bear a verdict out. Of a read that failed, of too many reads and of want of memory in reading nothing is known.
 abbrev pub BearOut : List ℕ → List ℕ → Result Valid Refusal → Type 0
@@ -52,6 +53,7 @@ BearOut file cert (Err (NoProblem error)) = ReadsAsProblem file (Err error)
 BearOut file cert (Err (NotRead fault)) = ⊤
 BearOut file cert (Err (NoScript error)) = ⊥
 BearOut file cert (Err NoMemoryForJob) = ⊥
+BearOut file cert (Err NoThreads) = ⊥
 
 -- a verdict on what two readers have
 abbrev pub IsVerdict : Option (List ℕ) → Option (List ℕ) → Result Valid Refusal → Type 0

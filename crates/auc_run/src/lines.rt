@@ -155,5 +155,6 @@ pub(crate) fn write_refusal<W: Write>(writer: &mut W, refusal: Refusal) -> Resul
         Refusal::Invalid(error) => write_claim(writer, error),
         Refusal::NoScript(error) => write_script(writer, error),
         Refusal::NoMemory => write_whole(writer, b"refused memory\n"),
+        Refusal::NoThreads => write_whole(writer, b"refused threads\n"),
     }
 }

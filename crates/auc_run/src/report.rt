@@ -76,7 +76,8 @@ fn status_of_refusal(refusal: Refusal) -> u8
         | Refusal::NoCertificate(CertTextError::NoMemory)
         | Refusal::Invalid(CertRefused::NoMemory)
         | Refusal::NoScript(ScriptError::NoMemory)
-        | Refusal::NoMemory => NO_MEMORY,
+        | Refusal::NoMemory
+        | Refusal::NoThreads => NO_MEMORY,
         Refusal::Invalid(_) => INVALID,
         Refusal::NotRead(_)
         | Refusal::NoProblem(_)

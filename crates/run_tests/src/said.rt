@@ -1,9 +1,9 @@
 //! Problems and certificates as texts, and what a job says of them.
 
-ghost use Rattle.auc_run.specs.Jobs.{IsInRange};
+ghost use Rattle.auc_run.specs.Jobs.{IsInRange, IsPlain};
 
 use crate::fakes::Full;
-use auc_run::{Job, run_command};
+use auc_run::{Job, run_plain};
 use std::io::Read;
 use std::test::*;
 
@@ -33,10 +33,11 @@ pub fn says<R: Read, Q: Read>(
     text: &str,
     status: u8,
 ) -> bool
-    requires { IsInRange job.now }
+    requires range { IsInRange job.now }
+    requires plain { IsPlain job.now }
 {
     let mut out = Vec::new(rt.alloc());
-    let answered = run_command(rt.alloc(), job, first, second, &mut out);
+    let answered = run_plain(rt.alloc(), job, first, second, &mut out);
     answered == status && out.as_slice() == text.as_bytes()
 }
 
@@ -49,18 +50,20 @@ fn status_with_room(
     room: usize,
     fails: bool,
 ) -> u8
-    requires { IsInRange job.now }
+    requires range { IsInRange job.now }
+    requires plain { IsPlain job.now }
 {
     let mut full = Full { room, fails };
     let mut first = first.as_bytes();
     let mut second = second.as_bytes();
-    run_command(rt.alloc(), job, &mut first, &mut second, &mut full)
+    run_plain(rt.alloc(), job, &mut first, &mut second, &mut full)
 }
 
 /// Whether the job, whose text is longer than 9 bytes, has the status of what could not be written: where the writer takes nothing or fails
 /// before the text, and inside it.
 pub fn is_unwritten(rt: &HostRuntime, job: &Job, first: &str, second: &str) -> bool
-    requires { IsInRange job.now }
+    requires range { IsInRange job.now }
+    requires plain { IsPlain job.now }
 {
     status_with_room(rt, job, first, second, 0, false) == 8
         && status_with_room(rt, job, first, second, 0, true) == 8

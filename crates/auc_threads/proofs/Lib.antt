@@ -6,3 +6,4 @@ pub mod HearingLaws
 pub mod AskingLaws
 pub mod StartsLaws
 pub mod PhaseLaws
+pub mod SolvedLaws

@@ -7,3 +7,5 @@ pub mod Placed
 pub mod Starts
 pub mod Gathering
 pub mod Phase
+pub mod Verdict
+pub mod Solved

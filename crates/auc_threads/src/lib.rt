@@ -13,10 +13,14 @@ mod person_worker;
 mod phase;
 mod running;
 mod settling;
+mod solving;
 mod taking;
+mod verdict;
 
 pub use error::RunError;
 pub use gate::{FreeGate, Gate};
 pub use mails::{Ledgers, Mails, WorkerSeats};
 pub use phase::{PhaseEnd, phase_threads};
 pub use settling::Trails;
+pub use solving::{Solved, solve_threads};
+pub use verdict::{Verdict, verdict_of};

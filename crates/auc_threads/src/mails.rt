@@ -28,7 +28,8 @@ pub struct Mails<O: MailBrand, P: MailBrand, H: MailBrand> {
     pub persons: SharedMail<Letter, P>,
     /// To the hub, with one box.
     pub hub: SharedMail<Letter, H>,
-    pub(crate) shards: u32,
+    /// How many shards there are of each kind.
+    pub shards: u32,
     pub(crate) ghost boxes: { AreBoxes O.boxes P.boxes H.boxes shards },
 }
 

@@ -1,4 +1,4 @@
--- That a Hall set has a certificate, what a step keeps of a shard, and what a new shard is are for the crates above too; the rest is this crate's own.
+-- Hall sets' certificates, what steps keep of a shard, what a new shard is, and what a matching and new prices are to a phase are for the crates above too; the rest is this crate's own.
 mod WorkedEps
 pub mod Keeping
 mod Seen
@@ -16,7 +16,7 @@ mod GatherLaws
 mod FoundLaws
 mod MatchingPicks
 mod PlacedLaws
-mod PhaseLaws
+pub mod PhaseLaws
 mod Bridge
 mod BracketLaws
 mod ChainLaws

@@ -114,7 +114,9 @@ fn status_of(error: WordsError) -> u8
 }
 
 /// Reads the words, opens the files that they name, does the job, and gives the status.
-fn run<R: Env + Files + Input + Print + Eprint + AllocGlobal + Threads + Wait + Sync>(rt: &R) -> u8 {
+fn run<R: Env + Files + Input + Print + Eprint + AllocGlobal + Threads + Wait + Sync>(
+    rt: &R,
+) -> u8 {
     match given_words(rt) {
         Ok(words) => with_files(rt, &words),
         Err(error) => {

@@ -3,9 +3,9 @@ use Rattle.std.specs.Prelude.{◌≡◌, ℕ, ◌≤◌, ⊤}
 use Rattle.auc_run.specs.declared.command.Job.{Job}
 use Rattle.auc_run.specs.declared.command.Job.TheVariants.{Solve, Check, Hall, Mail}
 
--- to 16 threads for each kind of shard; a trail is kept with threads alone
+-- the numbers of a solve: the threads of each kind of shard, the bids, and the lines of a trail; without threads there is no trail
 pub record AreSolverNumbers (workers bids audit : ℕ) : Type 0 where
-  pub few_workers : workers ≤ 16
+  pub most_workers : workers ≤ 16
   pub some_bids : 1 ≤ bids
   pub most_bids : bids ≤ 1000000000000
   pub most_audit : audit ≤ 1000000

@@ -33,11 +33,12 @@ pub enum Job {
     /// Reads a problem from the first reader, and finds an assignment of least cost with prices that show it, or persons who
     /// together know too few objects; or, where the bids don't do, an assignment and a bound below which none costs.
     Solve {
-        /// How many threads do the work of each kind of shard, to 16; 0 for none.
+        /// How many threads do the work of each kind of shard: 0 to 16, and 0 for none.
         workers: u32,
         /// How many bids each shard of the persons may make in a phase: 1 to [`MOST_BIDS`].
         bids: u64,
-        /// How many calls the trail of each mail may note, to 1,000,000; 0 for no trail, and with no workers always 0.
+        /// How many calls the trail of each mail may note, by which the phases are judged: 0 to 1,000,000, and 0 for no trail. Without
+        /// threads there is none.
         audit: u32,
     },
     /// Reads a problem from the first reader and a certificate from the second, and says whether what the certificate

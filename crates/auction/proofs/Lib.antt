@@ -1,3 +1,5 @@
 mod AskLaws
 mod GrammarLaws
+mod SolveFits
+mod SolveLaws
 mod WordLaws

@@ -7,7 +7,7 @@ use Rattle.clap.specs.Words.{Row, Text, fault_of, first_of, subcommand_of, takes
 use Rattle.clap.specs.declared.error.kind.ErrorKind.TheVariants.{ArgumentConflict, InvalidValue, UnknownArgument}
 use Rattle.clap.proofs.OnLiterals.{clap_on_literals}
 use Rattle.auction.specs.Grammar.{grammar}
-use Rattle.auction.specs.CommandLine.{IsName, AreCheck, AreJob, AreOption, AreSolve}
+use Rattle.auction.specs.CommandLine.{IsName, AreCheck, AreJob}
 
 -- the first value of each of these arguments
 abbrev pub values_in : List Row → List Text → List (Option Text)
@@ -23,7 +23,7 @@ pub record Fits (words : List Text) (command : Text) (ids : List Text) (values :
   pub tells : told ids (subcommand_of grammar words) ≡ Some (command, values)
 
 -- a name begins with no hyphen and is not `--`, as the parser tests it
-no_hyphen : (word : Text) → IsName word → (strip_byte 45 word ≡ None) × (bytes_eq word (codes "--") ≡ false)
+pub no_hyphen : (word : Text) → IsName word → (strip_byte 45 word ≡ None) × (bytes_eq word (codes "--") ≡ false)
 no_hyphen [] h = (refl, refl)
 no_hyphen (b ∷ bytes) h = let e : (b == 45) ≡ false = ne_eqb b 45 h in (simp e, simp e)
 
@@ -50,41 +50,6 @@ pub mail_fits : (words : List Text) (script : Option Text) → AreJob (codes "ma
 unfolding clap_on_literals
 mail_fits words None h = rw h (record { taken = refl; tells = refl })
 mail_fits words (Some script) h = let f = no_hyphen script h.0 in rw h.1 (record { taken = simp (f.0, f.1); tells = simp (f.0, f.1) })
-
--- the words are a solve of this file, with this value of the option
-abbrev pub FitsSolve : List Text → Option Text → Option Text → Type 0
-FitsSolve words file bids = Fits words (codes "solve") (codes "file" ∷ codes "bids" ∷ []) (file ∷ bids ∷ [])
-
-pub solve_fits : (words : List Text) (file : Option Text) → AreJob (codes "solve") words file → FitsSolve words file None
-unfolding clap_on_literals
-solve_fits words None h = rw h (record { taken = refl; tells = refl })
-solve_fits words (Some file) h = let f = no_hyphen file h.0 in rw h.1 (record { taken = simp (f.0, f.1); tells = simp (f.0, f.1) })
-
-option_alone : (bids : List Text) (value : Text) → AreOption (codes "--bids") value bids → FitsSolve (codes "solve" ∷ bids) None (Some value)
-unfolding clap_on_literals
-option_alone bids value (inl h) = let v = no_hyphen value h.0 in rw h.1 (record { taken = simp (v.0, v.1); tells = simp (v.0, v.1) })
-option_alone bids value (inr h) = rw h (record { taken = refl; tells = refl })
-
-option_behind : (file : Text) (bids : List Text) (value : Text) → IsName file → AreOption (codes "--bids") value bids → FitsSolve (codes "solve" ∷ file ∷ bids) (Some file) (Some value)
-unfolding clap_on_literals
-option_behind file bids value k (inl h) =
-    let f = no_hyphen file k in
-    let v = no_hyphen value h.0 in rw h.1 (record { taken = simp (f.0, f.1, v.0, v.1); tells = simp (f.0, f.1, v.0, v.1) })
-option_behind file bids value k (inr h) = let f = no_hyphen file k in rw h (record { taken = simp (f.0, f.1); tells = simp (f.0, f.1) })
-
-option_before : (file : Text) (bids : List Text) (value : Text) → IsName file → AreOption (codes "--bids") value bids → FitsSolve (codes "solve" ∷ bids ++ file ∷ []) (Some file) (Some value)
-unfolding clap_on_literals
-option_before file bids value k (inl h) =
-    let f = no_hyphen file k in
-    let v = no_hyphen value h.0 in rw h.1 (record { taken = simp (f.0, f.1, v.0, v.1); tells = simp (f.0, f.1, v.0, v.1) })
-option_before file bids value k (inr h) = let f = no_hyphen file k in rw h (record { taken = simp (f.0, f.1); tells = simp (f.0, f.1) })
-
-pub bids_fit : (words : List Text) (file : Option Text) (value : Text) → AreSolve words file value → FitsSolve words file (Some value)
-bids_fit words None value h = rw h.2 (option_alone h.0 value h.1)
-bids_fit words (Some file) value h = elim h.3 [
-  | inl behind ↦ rw behind (option_behind file h.0 value h.2 h.1)
-  | inr before ↦ rw before (option_before file h.0 value h.2 h.1)
-]
 
 -- the command that was found has matches with these values
 pub told_rows : {words : List Text} {command : Text} {ids : List Text} {values : List (Option Text)} (sub : Option (Text × List Row)) → Fits words command ids values → sub ≡ subcommand_of grammar words

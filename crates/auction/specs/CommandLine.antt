@@ -1,14 +1,12 @@
 -- What the words of the command line ask for.
-use Rattle.std.specs.Prelude.{◌≡◌, ◌≢◌, ◌≤◌, ◌⊎◌, ℕ, List, [], ◌∷◌, ◌++◌, Option, Some, None, Result, Ok, Err, option_map, codes, ⊤}
+use Rattle.std.specs.Prelude.{◌≡◌, ◌≢◌, ◌⊎◌, ℕ, List, [], ◌∷◌, Option, Some, None, Result, Ok, Err, option_map, codes, ⊤}
 use Rattle.clap.specs.Words.{Row, first_of}
-use Rattle.std.specs.Str.Parse.{ParsesUnsigned}
 use Rattle.std.specs.String.{string_bytes}
-use Rattle.auc_run.specs.Jobs.{IsInRange}
 use Rattle.auc_run.specs.declared.command.Job.{Job}
-use Rattle.auc_run.specs.declared.command.Job.TheVariants.{Check, Solve}
+use Rattle.auc_run.specs.declared.command.Job.TheVariants.{Check}
 use Rattle.auction.specs.declared.asked.Words.{Words}
 use Rattle.auction.specs.declared.words_error.WordsError.{WordsError}
-use Rattle.auction.specs.declared.words_error.WordsError.TheVariants.{Usage, NoMemory}
+use Rattle.auction.specs.declared.words_error.WordsError.TheVariants.{Usage, AuditAlone, NoMemory}
 
 -- the word is no option: it does not begin with a hyphen
 abbrev pub IsName : List ℕ → Type 0
@@ -45,41 +43,18 @@ abbrev pub AsksFor : Job → Result Words WordsError → Option (List ℕ) → T
 AsksFor job (Ok w) name = (w.job ≡ job) × (option_map string_bytes w.first ≡ name) × (w.second ≡ None)
 AsksFor job (Err e) name = e ≡ NoMemory
 
--- the words of an option and its value: two words, of which the second begins with no hyphen, or one with an equals sign between them
-abbrev pub AreOption : List ℕ → List ℕ → List (List ℕ) → Type 0
-AreOption option value words = (IsName value × (words ≡ option ∷ value ∷ [])) ⊎ (words ≡ (option ++ codes "=" ++ value) ∷ [])
-
--- the words are `solve` and the option `--bids` with this value, and may have the name of the problem before or behind it
-abbrev pub AreSolve : List (List ℕ) → Option (List ℕ) → List ℕ → Type 0
-AreSolve words None value = (bids : List (List ℕ)) × AreOption (codes "--bids") value bids × (words ≡ codes "solve" ∷ bids)
-AreSolve words (Some file) value =
-    (bids : List (List ℕ)) × AreOption (codes "--bids") value bids × IsName file × ((words ≡ codes "solve" ∷ file ∷ bids) ⊎ (words ≡ codes "solve" ∷ bids ++ file ∷ []))
-
--- the text is read as this number by `from_str` of the numbers of 64 bits
-abbrev pub IsNumber : List ℕ → ℕ → Type 0
-IsNumber text n = ParsesUnsigned {E = ⊤} 64 10 text (Ok n)
-
--- the text is read as this number from `least` to `most`; or as none, which is a fault of usage
-abbrev pub IsNumberIn : ℕ → ℕ → List ℕ → Result ℕ WordsError → Type 0
-IsNumberIn least most text (Ok n) = IsNumber text n × (least ≤ n) × (n ≤ most)
-IsNumberIn least most text (Err e) = (e ≡ Usage) × ((n : ℕ) → IsNumber text n → ¬ ((least ≤ n) × (n ≤ most)))
-
--- so many bids are those of the option's value, and in range; without the option they are the usual ones
-abbrev pub AreBids : Option (List ℕ) → ℕ → Type 0
-AreBids None n = n ≡ 100000000
-AreBids (Some value) n = IsNumber value n × IsInRange (Solve 0 n 0)
-
--- the words were read as a solve of the file and with the bids that a subcommand's matches name; or refused, where these are no bids that a solve may have, or memory ran out
-abbrev pub HasSolveOf : Result Words WordsError → List Row → Type 0
-HasSolveOf (Ok w) rows = (n : ℕ) × AreBids (first_of (codes "bids") rows) n × HasNameOf (Solve 0 n 0) (codes "file") (Ok w) rows
-HasSolveOf (Err e) rows = (e ≡ NoMemory) ⊎ ((e ≡ Usage) × ((n : ℕ) → ¬ AreBids (first_of (codes "bids") rows) n))
-
 -- the words are no job, unless memory ran out
 abbrev pub IsUsage : Result Words WordsError → Type 0
 IsUsage (Ok w) = ⊥
 IsUsage (Err e) = (e ≡ Usage) ⊎ (e ≡ NoMemory)
 
+-- the words ask for a trail without threads, unless memory ran out
+abbrev pub IsAuditAlone : Result Words WordsError → Type 0
+IsAuditAlone (Ok w) = ⊥
+IsAuditAlone (Err e) = (e ≡ AuditAlone) ⊎ (e ≡ NoMemory)
+
 -- the status where the words are no job: 2, or 6 where memory ran out
 abbrev pub words_status : WordsError → ℕ
 words_status Usage = 2
+words_status AuditAlone = 2
 words_status NoMemory = 6

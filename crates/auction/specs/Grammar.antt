@@ -22,9 +22,10 @@ mail_grammar = with_rule (on_top (λ s. record s { disable_help_flag = true }) (
 abbrev pub option_rule : List ℕ → Rule
 option_rule name = record (new_rule name) { long = Some name }
 
--- `solve [FILE] [--bids N]`
+-- `solve [FILE] [--workers K] [--bids N] [--audit ROOM]`
 abbrev pub solve_grammar : App
-solve_grammar = with_rule (with_rule (on_top (λ s. record s { disable_help_flag = true }) (new_app (codes "solve"))) (new_rule (codes "file"))) (option_rule (codes "bids"))
+solve_grammar = with_rule (with_rule (with_rule (with_rule (on_top (λ s. record s { disable_help_flag = true }) (new_app (codes "solve"))) (new_rule (codes "file")))
+    (option_rule (codes "workers"))) (option_rule (codes "bids"))) (option_rule (codes "audit"))
 
 -- no help, no version, and a command has to be named
 abbrev pub bare_grammar : App

@@ -2,8 +2,8 @@
 
 ghost use Rattle.std.specs.Prelude.{◌≡◌, IfOk, false};
 ghost use Rattle.clap.specs.declared.builder.command.Command.TheViews.{out-Command as fields_of};
-ghost use Rattle.clap.specs.Words.{app_of};
-ghost use Rattle.auction.specs.Grammar.{check_grammar, hall_grammar, mail_grammar, solve_grammar, bare_grammar, grammar};
+ghost use Rattle.clap.specs.Words.{app_of, with_rule};
+ghost use Rattle.auction.specs.Grammar.{check_grammar, hall_grammar, mail_grammar, solve_grammar, bare_grammar, grammar, option_rule};
 
 use clap::{Arg, Command};
 use std::alloc::{AllocError, Global};
@@ -39,15 +39,29 @@ fn mail_command<'a>(alloc: Global) -> Result<Command<'a>, AllocError>
         .arg(Arg::new(alloc, "script"))
 }
 
-/// `solve [FILE] [--bids N]`. A number is read behind the parser, by [`number_in`].
+/// One more option, `--NAME VALUE` or `--NAME=VALUE`.
+fn with_option<'a>(
+    alloc: Global,
+    command: Command<'a>,
+    name: &'a str,
+) -> Result<Command<'a>, AllocError>
+    ensures shape { IfOk result (λ c. app_of c ≡ with_rule (app_of command.entry) (option_rule name.entry.now)) }
+    ensures local { (fields_of command.entry).has_globals ≡ false → IfOk result (λ c. (fields_of c).has_globals ≡ false) }
+{
+    command.arg(Arg::new(alloc, name).long(name))
+}
+
+/// `solve [FILE] [--workers K] [--bids N] [--audit ROOM]`. The numbers are read behind the parser, by [`crate::numbers`].
 fn solve_command<'a>(alloc: Global) -> Result<Command<'a>, AllocError>
     ensures shape { IfOk result (λ c. app_of c ≡ solve_grammar) }
     ensures local { IfOk result (λ c. (fields_of c).has_globals ≡ false) }
 {
-    Command::new(alloc, "solve")
+    let of_file = Command::new(alloc, "solve")
         .disable_help_flag(true)
-        .arg(Arg::new(alloc, "file"))?
-        .arg(Arg::new(alloc, "bids").long("bids"))
+        .arg(Arg::new(alloc, "file"))?;
+    let with_workers = with_option(alloc, of_file, "workers")?;
+    let with_bids = with_option(alloc, with_workers, "bids")?;
+    with_option(alloc, with_bids, "audit")
 }
 
 /// No command yet. Words that ask for help or for the version are at fault like others.

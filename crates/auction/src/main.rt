@@ -7,6 +7,7 @@ ghost use Rattle.auction.specs.CommandLine.{words_status};
 
 mod asked;
 mod grammar;
+mod numbers;
 mod words;
 mod words_error;
 
@@ -108,7 +109,7 @@ fn status_of(error: WordsError) -> u8
     ensures { result ≡ words_status error }
 {
     match error {
-        WordsError::Usage => USAGE,
+        WordsError::Usage | WordsError::AuditAlone => USAGE,
         WordsError::NoMemory => NO_MEMORY,
     }
 }

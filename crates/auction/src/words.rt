@@ -1,16 +1,18 @@
 //! The words of the command line.
 
-ghost use Rattle.std.specs.Prelude.{◌≡◌, ◌≢◌, ℕ, List, [], Option, Some, IfOk, IfErr, Err, map, option_map, codes, true};
+ghost use Rattle.std.specs.Prelude.{◌≡◌, ◌≢◌, ◌<◌, ◌⊎◌, ℕ, List, [], Option, Some, IfOk, IfErr, map, option_map, codes, true};
 ghost use Rattle.std.specs.String.{string_bytes};
 ghost use Rattle.clap.specs.Words.{Row, fault_of, first_of, first_value, found_of, rows_of, subcommand_of, subcommand_rows_of, takes};
 ghost use Rattle.auc_run.specs.Jobs.{IsInRange};
-ghost use Rattle.auction.specs.CommandLine.{AreBids, AreCheck, AreJob, AreSolve, AsksFor, AsksToCheck, HasFilesOf, HasNameOf, HasSolveOf, IsNumber, IsNumberIn, IsUsage};
+ghost use Rattle.auction.specs.CommandLine.{AreCheck, AreJob, AsksFor, AsksToCheck, HasFilesOf, HasNameOf, IsAuditAlone, IsUsage};
 ghost use Rattle.auction.specs.Grammar.{grammar};
+ghost use Rattle.auction.specs.Options.{AreNumbers, AreSolve, HasSolveOf, value_in};
 
 use crate::asked::Words;
 use crate::grammar::all_commands;
+use crate::numbers::solve_of_options;
 use crate::words_error::WordsError;
-use auc_run::{Job, MOST_BIDS, USUAL_BIDS};
+use auc_run::Job;
 use clap::ArgMatches;
 use clap::error::ErrorKind;
 use std::alloc::{AllocError, Global};
@@ -20,6 +22,7 @@ fn matches_of<'a>(alloc: Global, words: &'a [String]) -> Result<ArgMatches<'a>, 
     ensures found { IfOk result (λ m. subcommand_rows_of m ≡ subcommand_of grammar (map string_bytes words.entry.now)) }
     ensures faultless { IfOk result (λ m. fault_of grammar (map string_bytes words.entry.now) ≡ []) }
     ensures taken { takes grammar (map string_bytes words.entry.now) ≡ true → IfErr result (λ e. e ≡ WordsError.NoMemory) }
+    ensures refused { IfErr result (λ e. (e ≡ WordsError.Usage) ⊎ (e ≡ WordsError.NoMemory)) }
 {
     match all_commands(alloc)?.try_get_matches_from(words) {
         Ok(matches) => Ok(matches),
@@ -35,16 +38,6 @@ fn name_of(alloc: Global, matches: &ArgMatches<'_>, id: &str) -> Result<Option<S
     match matches.get_str(id) {
         Some(text) => Ok(Some(text.to_string(alloc)?)),
         None => Ok(None),
-    }
-}
-
-/// The number that a text spells, where it is from `least` to `most`.
-fn number_in(text: &str, least: u64, most: u64) -> Result<u64, WordsError>
-    ensures { IsNumberIn least most text.now result }
-{
-    match text.parse::<u64>() {
-        Ok(number) if least <= number && number <= most => Ok(number),
-        _ => Err(WordsError::Usage),
     }
 }
 
@@ -73,27 +66,12 @@ fn job_of(alloc: Global, matches: &ArgMatches<'_>, job: Job, id: &str) -> Result
     })
 }
 
-/// The bids that the option allows; the usual ones where it is not given.
-fn bids_of(matches: &ArgMatches<'_>) -> Result<u64, WordsError>
-    ensures given { IfOk result (AreBids (first_value (found_of matches.now) (codes "bids"))) }
-    ensures refused { IfErr result (λ e. (e ≡ WordsError.Usage) × ((n : ℕ) → ¬ AreBids (first_value (found_of matches.now) (codes "bids")) n)) }
-{
-    match matches.get_str("bids") {
-        Some(text) => number_in(text, 1, MOST_BIDS),
-        None => Ok(USUAL_BIDS),
-    }
-}
-
-/// A solve of the file that is named, in one thread, with the bids that the words allow and no trail.
+/// The solve that the options ask for, of the file that is named.
 fn solve_of(alloc: Global, matches: &ArgMatches<'_>) -> Result<Words, WordsError>
     ensures solve { HasSolveOf result (rows_of (found_of matches.now)) }
     ensures range { IfOk result (λ w. IsInRange w.job) }
 {
-    let solve = Job::Solve {
-        workers: 0,
-        bids: bids_of(matches)?,
-        audit: 0,
-    };
+    let solve = solve_of_options(matches)?;
     job_of(alloc, matches, solve, "file")
 }
 
@@ -118,7 +96,8 @@ fn words_of(alloc: Global, matches: &ArgMatches<'_>) -> Result<Words, WordsError
 ///
 /// # Errors
 ///
-/// [`WordsError::Usage`] where the words are no job, or a number is out of its range.
+/// [`WordsError::Usage`] where the words are no job, or a number is out of its range; then [`WordsError::AuditAlone`] where a
+/// solve without threads is to keep a trail.
 pub fn read_words(alloc: Global, words: &[String]) -> Result<Words, WordsError>
     // A check that is asked for is read as that check, unless memory runs out.
     ensures check { (file : List ℕ) (cert : Option (List ℕ)) → AreCheck (map string_bytes words.now) file cert → AsksToCheck result file cert }
@@ -128,12 +107,15 @@ pub fn read_words(alloc: Global, words: &[String]) -> Result<Words, WordsError>
     ensures mail { (script : Option (List ℕ)) → AreJob (codes "mail") (map string_bytes words.now) script → AsksFor Job.Mail result script }
     // A solve that is asked for is read as that solve, with no threads, the usual bids and no trail, unless memory runs out.
     ensures solve { (file : Option (List ℕ)) → AreJob (codes "solve") (map string_bytes words.now) file → AsksFor (Job.Solve 0 100000000 0) result file }
-    // A solve with so many bids is read as that solve, with no threads and no trail, unless memory runs out.
-    ensures bids { (file : Option (List ℕ)) (value : List ℕ) (n : ℕ) → AreSolve (map string_bytes words.now) file value → IsNumber value n → IsInRange (Job.Solve 0 n 0)
-        → AsksFor (Job.Solve 0 n 0) result file }
-    // A solve with bids that are no number, or one out of range, is a fault of usage, unless memory runs out.
-    ensures wrong_bids { (file : Option (List ℕ)) (value : List ℕ) → AreSolve (map string_bytes words.now) file value → ((n : ℕ) → IsNumber value n → ¬ IsInRange (Job.Solve 0 n 0))
-        → IsUsage result }
+    // A solve with options, in any order, is read as the solve with their numbers and the usual ones of the others, unless memory runs out.
+    ensures options { (given : List (List ℕ × List ℕ)) (workers bids audit : ℕ) → AreSolve (map string_bytes words.now) given → AreNumbers (value_in given) workers bids audit
+        → (workers ≡ 0 → audit ≡ 0) → AsksFor (Job.Solve workers bids audit) result (value_in given (codes "file")) }
+    // An option whose value is no number, or one out of range, is a fault of usage, unless memory runs out.
+    ensures wrong_number { (given : List (List ℕ × List ℕ)) → AreSolve (map string_bytes words.now) given
+        → ((workers bids audit : ℕ) → ¬ AreNumbers (value_in given) workers bids audit) → IsUsage result }
+    // A trail without threads is a fault of its own, unless memory runs out.
+    ensures audit_alone { (given : List (List ℕ × List ℕ)) (bids audit : ℕ) → AreSolve (map string_bytes words.now) given → AreNumbers (value_in given) 0 bids audit → 0 < audit
+        → IsAuditAlone result }
     // Words that the grammar does not take are a fault of usage, unless memory runs out.
     ensures unfit { fault_of grammar (map string_bytes words.now) ≢ [] → IsUsage result }
     // The numbers of the job are those that it may have.

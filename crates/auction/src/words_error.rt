@@ -17,10 +17,10 @@ pub enum WordsError {
 
 solve finds a least-cost assignment of the problem FILE, with prices that show it, or persons who together know too few objects.
 Without FILE the problem is read from standard input.
-K threads do the work of each kind of shard: 0 to 16, without --workers 0, and 0 solves without threads.
+K threads do the work of each kind of shard: 0 to 16; 0, as without --workers, solves without threads.
 Each shard of the persons makes at most N bids in a phase: 1 to 1000000000000, without --bids 100000000.
 Where they don't do, solve gives an assignment and a bound below which none costs.
-Each mail keeps a trail of at most ROOM calls, by which the phases are judged: 0 to 1000000, without --audit 0. ROOM above 0 wants threads.
+Each mail keeps a trail of at most ROOM calls, by which the phases are judged: 0 to 1000000; 0, as without --audit, keeps none. Trails want threads.
 
 check says whether the claim of the certificate CERT holds of the problem FILE: a least-cost assignment, or that there is none.
 Without CERT the certificate is read from standard input.

@@ -1,5 +1,5 @@
 -- What the grammar makes of the words of a solve.
-use Rattle.std.proofs.Common.{◌≡◌, ◌∙◌, ◌&&◌, Bool, true, false, List, [], ◌∷◌, ◌++◌, Option, Some, None, codes, map, is_some, refl, sym, ap, ap₂, inl}
+use Rattle.std.proofs.Common.{◌≡◌, ◌∙◌, ◌&&◌, Bool, true, false, List, [], ◌∷◌, ◌++◌, Option, Some, None, codes, map, is_some, refl, rules, sym, ap, ap₂, inl, inr}
 use Rattle.std.specs.List.{IsDistinct, list_all}
 use Rattle.clap.specs.Walk.{Names, Row, Text, Walk, finished, first_of, nothing_held, rows_after, walk, walk_from, walked}
 use Rattle.clap.specs.Simple.{App, Shape, built, entered, is_simple, names_of, subcommand_of}
@@ -79,3 +79,33 @@ only_named words (Some file) h = (file ∷ [], h.1, (file ∷ [], [], inl (refl,
 pub usual_numbers : (file : Option Text) → AreNumbers (value_in (named file)) 0 100000000 0
 usual_numbers None = record { of_workers = refl; of_bids = refl; of_audit = refl }
 usual_numbers (Some file) = record { of_workers = refl; of_bids = refl; of_audit = refl }
+
+-- ---- an example: FILE between two options, one in a word and one in two, and no bids
+
+example_given : List (Text × Text)
+example_given = (codes "audit", codes "5") ∷ (codes "file", codes "problem") ∷ (codes "workers", codes "+02") ∷ []
+
+example_words : AreSolve (codes "solve" ∷ codes "--audit=5" ∷ codes "problem" ∷ codes "--workers" ∷ codes "+02" ∷ []) example_given
+unfolding IsDistinct example_given
+example_words = (
+  codes "--audit=5" ∷ codes "problem" ∷ codes "--workers" ∷ codes "+02" ∷ [],
+  refl,
+  (
+    codes "--audit=5" ∷ [],
+    codes "problem" ∷ codes "--workers" ∷ codes "+02" ∷ [],
+    inr (inr (inr refl), inr refl),
+    (
+      codes "problem" ∷ [],
+      codes "--workers" ∷ codes "+02" ∷ [],
+      inl (refl, search rules, refl),
+      (codes "--workers" ∷ codes "+02" ∷ [], [], inr (inl refl, inl (search rules, refl)), refl, refl),
+      refl,
+    ),
+    refl,
+  ),
+  ((refl, (refl, tt)), ((refl, tt), (tt, tt))),
+)
+
+example_numbers : AreNumbers (value_in example_given) 2 100000000 5
+unfolding example_given
+example_numbers = record { of_workers = search rules; of_bids = refl; of_audit = search rules }

@@ -1,6 +1,6 @@
 -- How the parser walks over the words of a solve: each argument adds its row to those before it.
 use Rattle.std.proofs.Common.{◌≡◌, ◌∙◌, ◌&&◌, ◌||◌, ◌⊎◌, ℕ, Bool, true, false, List, [], ◌∷◌, ◌++◌, Option, Some, None, codes, map, cond, refl, sym, ap, inl, inr, append-nil, append_assoc}
-use Rattle.std.specs.List.{AllByRecursion, IsDistinct, fold, list_any}
+use Rattle.std.specs.List.{AllByRecursion, IsDistinct, fold}
 use Rattle.std.specs.Map.{keys_of}
 use Rattle.std.specs.Str.{bytes_eq}
 use Rattle.std.proofs.lemmas.Bool.{cases_Bool}

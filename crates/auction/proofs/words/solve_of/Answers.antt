@@ -1,4 +1,3 @@
-use Rattle.std.proofs.Common.{codes}
 use Rattle.clap.specs.Words.{found_of}
 use Rattle.auction.proofs.AskLaws.{by_rows, with_file, without_job, wrong_by_rows}
 use Rattle.auction.proofs.words.solve_of.Goals as goal

@@ -113,8 +113,14 @@ impl<T: Copy, N: MailBrand> SharedMail<T, N> {
         requires { to < N.boxes }
         ensures { SeatCalls N.room seat.old (Call.Post seat.old.worker to item reserve) (post_reply result) seat.new }
     {
-        let answer = self.desk.lock(rt).post(seat, to, item, reserve);
-        self.changed.notify_all();
+        let mut desk = self.desk.lock(rt);
+        let answer = desk.post(seat, to, item, reserve);
+        // Who begins to wait later sees the letter, since it looks under the lock first.
+        let is_awaited = desk.is_awaited();
+        drop(desk);
+        if is_awaited {
+            self.changed.notify_all();
+        }
         answer
     }
 
@@ -151,9 +157,12 @@ impl<T: Copy, N: MailBrand> SharedMail<T, N> {
         ensures seat { SeatCalls N.room seat.old (Call.Take at) (take_reply result) seat.new }
         ensures waited { result ≢ Ok Taken.Empty }
     {
+        let mut desk = self.desk.lock(rt);
+        desk.begin_wait();
         let mut desk = self
             .changed
-            .wait_while(rt, self.desk.lock(rt), |desk| desk.is_waiting(at));
+            .wait_while(rt, desk, |desk| desk.is_waiting(at));
+        desk.end_wait();
         let answer = desk.take(seat, at);
         drop(desk);
         self.wake_if_refused(answer);

@@ -6,10 +6,12 @@ use Rattle.std.proofs.lemmas.List.{append-nil, length-append, length-replicate}
 use Rattle.std.proofs.lemmas.List.Elements.{All-append, All-replicate}
 use Rattle.std.proofs.lemmas.List.Concat.{flat_map-append}
 use Rattle.auc_cert.specs.declared.lists.Pick.{Pick}
-use Rattle.auc_cert.specs.Spelled.{IsPick, IsPrice, IsChoice}
+use Rattle.auc_graph.specs.Price.{IsPrice}
+use Rattle.auc_cert.specs.Spelled.{IsPick, IsChoice}
 use Rattle.auc_cert.specs.Text.{assign_line, price_line, numbered, joined, choice_lines}
 use Rattle.auc_cert.specs.CertReading.{IsFirstBadOf, ChoiceLines}
 use Rattle.auc_cert.specs.Runs.{IsRun, BreaksOff, From}
+use Rattle.auc_cert.specs.SecondLine.{IsCount}
 use Rattle.auc_cert.proofs.RunLaws.{picks_apart, prices_apart, same_run, same_rest, next_of, numbered_append}
 use Rattle.auc_cert.proofs.TextLines.{AreLines, GoesOn, bad_of, picks_lines, prices_lines, lines_append}
 
@@ -36,11 +38,6 @@ pub choice_are_lines : (choice : List Pick) (prices : List ℤ) → IsChoice cho
 choice_are_lines choice prices is =
     let most : length choice ≤ 10000 = is.most in
     lines_append (numbered assign_line 0 choice) (numbered price_line 0 prices) (picks_lines choice most is.picks) (prices_lines prices (omega (arith, is.as_many)) is.fair)
-
--- the number of persons of a claim
-pub record IsCount (n : ℕ) : Type 0 where
-  pub some : 1 ≤ n
-  pub most : n ≤ 10000
 
 -- ---- where the lines leave those of picks and prices
 
@@ -160,7 +157,7 @@ is_choice n r picks r2 prices rest h run run2 none =
 
 -- ---- two lists of such lines
 
-pub same_choice : (choice : List Pick) (prices : List ℤ) (picks : List Pick) (owns : List ℤ) → IsChoice choice prices → IsChoice picks owns → length choice ≡ length picks → choice_lines choice prices ≡ choice_lines picks owns → (choice ≡ picks) × (prices ≡ owns)
+same_choice : (choice : List Pick) (prices : List ℤ) (picks : List Pick) (owns : List ℤ) → IsChoice choice prices → IsChoice picks owns → length choice ≡ length picks → choice_lines choice prices ≡ choice_lines picks owns → (choice ≡ picks) × (prices ≡ owns)
 same_choice choice prices picks owns s t same others =
     let most : length choice ≤ 10000 = s.most in
     let x = same_run Pick assign_line IsPick 0 choice picks (numbered price_line 0 prices) (numbered price_line 0 owns) picks_apart s.picks t.picks (omega arith) same others in
@@ -169,10 +166,17 @@ same_choice choice prices picks owns s t same others =
     let y = same_run ℤ price_line IsPrice 0 prices owns [] [] prices_apart s.fair t.fair few len (append-nil (numbered price_line 0 prices) ∙ x.1 ∙ sym (append-nil (numbered price_line 0 owns))) in
     (x.0, y.0)
 
--- nothing stands behind such lines that are all of such lines
-pub nothing_more : (choice : List Pick) (prices : List ℤ) (picks : List Pick) (owns : List ℤ) (more : List (List ℕ)) → IsChoice choice prices → IsChoice picks owns → length choice ≡ length picks → choice_lines choice prices ++ more ≡ choice_lines picks owns → more ≡ []
+nothing_more : (choice : List Pick) (prices : List ℤ) (picks : List Pick) (owns : List ℤ) (more : List (List ℕ)) → IsChoice choice prices → IsChoice picks owns → length choice ≡ length picks → choice_lines choice prices ++ more ≡ choice_lines picks owns → more ≡ []
 nothing_more choice prices picks owns more s t same others =
     let len : length prices ≡ length owns = s.as_many ∙ same ∙ sym t.as_many in
     let behind : numbered price_line 0 prices ++ more ≡ numbered price_line 0 owns =
     same_rest Pick assign_line 0 choice picks (numbered price_line 0 prices ++ more) (numbered price_line 0 owns) same (sym (append_assoc (numbered assign_line 0 choice) (numbered price_line 0 prices) more) ∙ others) in
     same_rest ℤ price_line 0 prices owns more [] len (behind ∙ sym (append-nil (numbered price_line 0 owns)))
+
+-- such lines that begin others are those of the same picks and prices, and no line is left
+pub choice_once : (choice : List Pick) (prices : List ℤ) (picks : List Pick) (owns : List ℤ) (more : List (List ℕ)) → IsChoice choice prices → IsChoice picks owns → length choice ≡ length picks → choice_lines choice prices ++ more ≡ choice_lines picks owns
+    → (choice ≡ picks) × (prices ≡ owns) × (more ≡ [])
+choice_once choice prices picks owns more s t same others =
+    let none = nothing_more choice prices picks owns more s t same others in
+    let both = same_choice choice prices picks owns s t same (sym (append-nil (choice_lines choice prices)) ∙ ap (λ (m : List (List ℕ)). choice_lines choice prices ++ m) (sym none) ∙ others) in
+    (both.0, both.1, none)

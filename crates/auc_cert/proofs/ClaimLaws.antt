@@ -7,8 +7,7 @@ use Rattle.std.specs.Prelude.{T}
 use Rattle.std.specs.Ordering.{int_eq}
 use Rattle.std.proofs.lemmas.Bool.{cases_Bool, cases_lt}
 use Rattle.std.proofs.lemmas.Bool.Decides.{nat_tests, Decides-and, Decides-eqb, Decides-int_eq}
-use Rattle.std.proofs.lemmas.Int.{ints}
-use Rattle.std.proofs.lemmas.List.{length-map, get_or_past}
+use Rattle.std.proofs.lemmas.List.{length-map}
 use Rattle.std.proofs.lemmas.List.Sums.{position_or_len_is, fails_before_first}
 use Rattle.std.proofs.lemmas.List.Elements.{All-head, All-tail, All-nil, All-cons}
 use Rattle.auc_graph.specs.declared.arc.Arc.{Arc}
@@ -16,18 +15,20 @@ use Rattle.auc_graph.specs.Problem.{Problem, IsProblem, IsWithin}
 use Rattle.auc_cert.specs.declared.lists.Pick.{Pick}
 use Rattle.std.specs.Option.{option_map}
 use Rattle.auc_cert.specs.declared.cert.CertParts.{CertParts}
-use Rattle.auc_cert.specs.declared.cert.CertParts.TheVariants.{Optimal, Infeasible}
+use Rattle.auc_cert.specs.declared.cert.CertParts.TheVariants.{Optimal, Infeasible, Bracket}
 use Rattle.auc_cert.specs.declared.refused.CertRefused.{CertRefused}
-use Rattle.auc_cert.specs.declared.refused.CertRefused.TheVariants.{WrongSize, NoSuchArc, ObjectTwice, WrongCost, Slack, NotHall, NoMemory}
+use Rattle.auc_cert.specs.declared.refused.CertRefused.TheVariants.{WrongSize, NoSuchArc, ObjectTwice, WrongCost, Slack, NotHall, WrongBound, NoMemory}
 use Rattle.auc_graph.specs.HallSet.{IsHallSet}
 use Rattle.auc_graph.specs.Memory.{AnswersUnless}
 use Rattle.auc_cert.proofs.HallLaws.{hall_set_is, hall_set_passes}
-use Rattle.auc_graph.specs.Assignment.{person_of, object_of, total_cost, IsAssignment, IsLeast}
-use Rattle.auc_graph.specs.Dual.{arc_value, scale_of, IsSlackRight, AreNotNegative}
+use Rattle.auc_graph.specs.Assignment.{person_of, object_of, total_cost, IsAssignment}
+use Rattle.auc_graph.specs.Dual.{arc_value, scale_of, dual, is_lower, IsSlackRight}
 use mathlib.Core.Bool.{beq}
-use Rattle.auc_cert.specs.Spelled.{IsPrice, IsSpelled}
-use Rattle.auc_cert.specs.Claim.{is_flag, arc_of, chosen, same_arc, is_missing, bears, is_slack_right, repeated, fault_if, is_sized, choice_faults, slack_fault, first_of, fault_of, IsAllowed, IsVerdict, is_hall}
-use Rattle.auc_graph.proofs.DualLaws.{slack_right_is_least, none_left_over}
+use Rattle.auc_cert.specs.Spelled.{IsSpelled}
+use Rattle.auc_cert.specs.Claim.{is_flag, arc_of, chosen, same_arc, is_missing, bears, is_slack_right, repeated, fault_if, is_sized, choice_faults, slack_fault, bound_fault, first_of, fault_of, IsAllowed, IsVerdict, is_hall}
+use Rattle.auc_graph.proofs.PriceLaws.{not_negative}
+use Rattle.auc_graph.proofs.DualLaws.{dual_is_below, slack_right_is_least, none_left_over}
+use Rattle.auc_graph.proofs.LowerLaws.{lower_passed}
 
 -- ---- the first place that passes
 
@@ -127,27 +128,6 @@ not_false : (b : Bool) → not b ≡ false → b ≡ true
 not_false true h = refl
 not_false false h = absurd cc
 
-never_negative : (prices : List ℤ) → All IsPrice prices → AreNotNegative prices
-never_negative prices fair j =
-    elim (cases_lt j (length prices)) [
-      | inl lt ↦ (fair j (pos 0) lt).low
-      | inr past ↦ (let none : get_or prices j (pos 0) ≡ pos 0 = get_or_past prices j (pos 0) past in omega (arith, ints, none))
-    ]
-
--- an accepted claim is allowed
-pub accepted : (p : Problem) (choice : List Pick) (prices : List ℤ) → IsProblem p → length choice ≡ p.persons → length prices ≡ p.objects → All IsPrice prices
-    → position (is_missing p.arcs) (chosen 0 choice) ≡ None → repeated [] (map (λ c. c.object) choice) ≡ None → position (λ c. not (is_slack_right (scale_of p) prices p.arcs c)) (chosen 0 choice) ≡ None
-    → IsLeast p (chosen 0 choice)
-accepted p choice prices is len priced fair none_missing none_twice none_worse =
-    let given : IsAssignment p (chosen 0 choice) = record {
-      persons = persons_are 0 choice ∙ ap (range_with_len 0) len;
-      arcs = λ k d lt. is_there p.arcs (get_or (chosen 0 choice) k d) (all_fail (is_missing p.arcs) (chosen 0 choice) none_missing k d lt);
-      objects = rw (objects_are 0 choice) (never_seen [] (map (λ c. c.object) choice) none_twice).0;
-    } in
-    slack_right_is_least p prices (chosen 0 choice) is.within priced (never_negative prices fair) given
-    (λ k d lt. right_at (scale_of p) prices p.arcs (get_or (chosen 0 choice) k d) (not_false _ (all_fail (λ c. not (is_slack_right (scale_of p) prices p.arcs c)) (chosen 0 choice) none_worse k d lt)))
-    (none_left_over p prices (chosen 0 choice) is.within is.square priced given)
-
 pub flag_hit : (b f : Bool) → beq b f ≡ true → is_flag f b ≡ true
 flag_hit true true h = refl
 flag_hit true false h = absurd cc
@@ -203,6 +183,18 @@ is_faultless p cost choice prices h =
       cost_is = (Decides-int_eq cost (total_cost (chosen 0 choice))).0 (not_false (int_eq cost (total_cost (chosen 0 choice))) cost_is.0);
     }
 
+-- ---- what a choice without a fault is
+
+pub is_assigned : (p : Problem) (cost : ℤ) (choice : List Pick) (prices : List ℤ) → IsFaultless p cost choice prices → IsAssignment p (chosen 0 choice)
+is_assigned p cost choice prices is =
+    record {
+      persons = persons_are 0 choice ∙ ap (range_with_len 0) is.size;
+      arcs = λ k d lt. is_there p.arcs (get_or (chosen 0 choice) k d) (all_fail (is_missing p.arcs) (chosen 0 choice) is.missing k d lt);
+      objects = rw (objects_are 0 choice) (never_seen [] (map (λ c. c.object) choice) is.twice).0;
+    }
+
+-- ---- a whole claim
+
 -- the faults of both parts, one behind the other
 pub behind_none : (xs ys : List (Option CertRefused)) → first_of xs ≡ None → first_of (xs ++ ys) ≡ first_of ys
 behind_none [] ys h = refl
@@ -219,16 +211,34 @@ pub ok_is_none : {X : Type 0} (r : Result X CertRefused) (fault : Option CertRef
 ok_is_none (Ok x) fault ok h = h
 ok_is_none (Err e) fault ok h = absurd cc
 
+-- the verdict on the last part is that on the whole, where the parts in front have no fault
+pub verdict_behind : {X : Type 0} (r : Result X CertRefused) (xs ys : List (Option CertRefused)) → first_of xs ≡ None → AnswersUnless NoMemory (λ x. x) r (IsVerdict (first_of ys)) → AnswersUnless NoMemory (λ x. x) r (IsVerdict (first_of (xs ++ ys)))
+verdict_behind r xs ys none h = rw (behind_none xs ys none) h
+
 -- a claim without a fault is allowed
 pub faultless_is_allowed : (p : Problem) (c : CertParts) → IsProblem p → IsSpelled c → fault_of p c ≡ None → IsAllowed p c
 faultless_is_allowed p (Optimal cost choice prices) is spelled none =
     let parts = none_in_front (choice_faults p cost choice prices) (slack_fault p choice prices ∷ []) none in
     let choice_is = is_faultless p cost choice prices parts.0 in
+    let given = is_assigned p cost choice prices choice_is in
     let slack = none_map (position (λ c. not (is_slack_right (scale_of p) prices p.arcs c)) (chosen 0 choice)) (λ i. Slack i) [] parts.1 in
-    (accepted p choice prices is choice_is.size choice_is.priced spelled.1.fair choice_is.missing choice_is.twice slack.0, sym choice_is.cost_is)
+    let right : All (IsSlackRight (pos 1) (scale_of p) prices p.arcs) (chosen 0 choice) =
+    λ k d lt. right_at (scale_of p) prices p.arcs (get_or (chosen 0 choice) k d) (not_false _ (all_fail (λ c. not (is_slack_right (scale_of p) prices p.arcs c)) (chosen 0 choice) slack.0 k d lt)) in
+    let left = none_left_over p prices (chosen 0 choice) is.within is.square choice_is.priced given in
+    (slack_right_is_least p prices (chosen 0 choice) is.within choice_is.priced (not_negative prices spelled.1.fair) given right left, sym choice_is.cost_is)
 faultless_is_allowed p (Infeasible persons objects) is spelled none =
     let passed = none_if (not (is_hall p persons objects)) NotHall [] none in
     hall_set_is p persons objects spelled (not_false (is_hall p persons objects) passed.0)
+faultless_is_allowed p (Bracket reason lower cost choice prices) is spelled none =
+    let parts = none_in_front (choice_faults p cost choice prices) (bound_fault p lower prices ∷ []) none in
+    let choice_is = is_faultless p cost choice prices parts.0 in
+    let bound = none_if (not (is_lower (scale_of p) (dual p prices) lower)) WrongBound [] parts.1 in
+    let least = lower_passed p.persons (dual p prices) lower (not_false (is_lower (scale_of p) (dual p prices) lower) bound.0) in
+    record {
+      assignment = is_assigned p cost choice prices choice_is;
+      cost_is = sym choice_is.cost_is;
+      bound = λ other others. least.least (total_cost other) (dual_is_below p prices is.within choice_is.priced other others (not_negative prices spelled.2.fair));
+    }
 
 -- in persons who know too few objects the checker finds no fault
 pub hall_sets_faultless : (p : Problem) (persons objects : List ℕ) → IsHallSet p persons objects → ((j : ℕ) → Contains objects j → j < p.objects) → fault_of p (Infeasible persons objects) ≡ None

@@ -13,10 +13,14 @@ use Rattle.auc_graph.specs.declared.arc.Arc.{Arc}
 use Rattle.auc_graph.specs.Problem.{Problem, IsProblem, IsWithin}
 use Rattle.auc_graph.specs.Assignment.{person_of, object_of, total_cost, IsAssignment}
 use Rattle.auc_cert.specs.declared.lists.Pick.{Pick}
-use Rattle.auc_cert.specs.declared.cert.CertParts.TheVariants.{Optimal}
-use Rattle.auc_graph.specs.Dual.{arc_value, scale_of, IsSlackRight}
-use Rattle.auc_cert.specs.Spelled.{IsPick, IsPrice, IsSpelled}
-use Rattle.auc_cert.specs.Claim.{arc_of, pick_of, chosen, same_arc, is_missing, bears, is_slack_right, repeated, is_sized, choice_faults, slack_fault, first_of, fault_of}
+use Rattle.auc_cert.specs.declared.cert.CertParts.TheVariants.{Optimal, Bracket}
+use Rattle.auc_cert.specs.declared.reason.Reason.{Reason}
+use Rattle.auc_graph.specs.Dual.{arc_value, scale_of, dual, IsLower, IsSlackRight}
+use Rattle.auc_graph.proofs.LowerLaws.{lower_passes}
+use Rattle.auc_graph.proofs.LowerRange.{lower_fits}
+use Rattle.auc_graph.specs.Price.{IsPrice}
+use Rattle.auc_cert.specs.Spelled.{IsPick, IsSpelled}
+use Rattle.auc_cert.specs.Claim.{arc_of, pick_of, chosen, same_arc, is_missing, bears, is_slack_right, repeated, is_sized, choice_faults, slack_fault, bound_fault, first_of, fault_of}
 use Rattle.auc_cert.proofs.ClaimLaws.{no_place, objects_are, right_size, right_cost, behind_none}
 
 -- ---- the picks of arcs, and back
@@ -121,6 +125,12 @@ module _ (p : Problem) (choice : List Arc) (given : IsAssignment p choice) (pric
       let none : position (λ c. not (is_slack_right (scale_of p) prices p.arcs c)) (chosen 0 (map pick_of choice)) ≡ None = ap (position (λ c. not (is_slack_right (scale_of p) prices p.arcs c))) back ∙ none_worse (scale_of p) prices p.arcs choice a_zero slack in
       behind_none (choice_faults p cost (map pick_of choice) prices) (slack_fault p (map pick_of choice) prices ∷ []) choice_faultless ∙ rw none refl
 
+  -- an assignment, and the bound of some prices
+  pub bracket_faultless : (reason : Reason) (lower : ℤ) → IsLower (scale_of p) (dual p prices) lower → fault_of p (Bracket reason lower cost (map pick_of choice) prices) ≡ None
+  bracket_faultless reason lower is =
+      let passes = lower_passes p.persons (dual p prices) lower is in
+      behind_none (choice_faults p cost (map pick_of choice) prices) (bound_fault p lower prices ∷ []) choice_faultless ∙ rw passes refl
+
 -- ---- and has a text
 
 picks_are : (m n : ℕ) (arcs choice : List Arc) → n ≤ 10000 → All (IsWithin m n) arcs → All (Contains arcs) choice → All IsPick (map pick_of choice)
@@ -154,3 +164,9 @@ assignment_spelled p choice prices is given len fair =
       omega (arith, ints, both.0, both.1, arcs, most),
       record { some = omega (arith, size, some); most = omega (arith, size, most); as_many = omega (arith, len, square, size); picks = picks_are p.persons p.objects p.arcs choice is.most_objects is.within given.arcs; fair = fair },
     )
+
+pub bracket_spelled : (p : Problem) (choice : List Arc) (prices : List ℤ) (lower : ℤ) (reason : Reason) → IsProblem p → IsAssignment p choice → length prices ≡ p.objects → All IsPrice prices → IsLower (scale_of p) (dual p prices) lower
+    → IsSpelled (Bracket reason lower (total_cost choice) (map pick_of choice) prices)
+bracket_spelled p choice prices lower reason is given len fair least =
+    let spelled = assignment_spelled p choice prices is given len fair in
+    (lower_fits p prices choice lower is.most is.within is.square len fair given least, spelled.0, spelled.1)

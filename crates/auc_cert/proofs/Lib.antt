@@ -12,6 +12,7 @@ mod RisingLaws
 mod NumberWords
 mod WordLaws
 mod LineLaws
+mod SecondLineLaws
 mod RunLaws
 mod RisingRuns
 mod TextLines

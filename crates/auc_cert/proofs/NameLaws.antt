@@ -6,17 +6,12 @@ use Rattle.auc_graph.specs.Rising.{Rises}
 use Rattle.auc_cert.specs.Spelled.{AreNamed}
 use Rattle.auc_cert.specs.Text.{person_line, object_line, numbered, joined, name_lines}
 use Rattle.auc_cert.specs.CertReading.{IsFirstBadOf, NameLines}
+use Rattle.auc_cert.specs.SecondLine.{AreCounts}
 use Rattle.auc_cert.specs.Runs.{IsBelow, least_behind, IsRisingRun, BreaksRising, From}
 use Rattle.auc_cert.proofs.RunLaws.{numbers_apart, same_run, same_rest, goes_beyond, numbered_append}
 use Rattle.auc_cert.proofs.RisingLaws.{rises_append, next_rises, rises_room, counted, counted_rises, length_counted, are_indices}
 use Rattle.auc_cert.proofs.TextLines.{AreLines, GoesOn, bad_of, numbers_lines, lines_append}
 use Rattle.auc_cert.proofs.ChoiceLaws.{length_numbered, joined_append}
-
--- how many persons and objects a claim names
-pub record AreCounts (persons objects : ℕ) : Type 0 where
-  pub some : 1 ≤ persons
-  pub most : persons ≤ 10000
-  pub few : objects ≤ 10000
 
 few_rise : (numbers : List ℕ) → Rises 0 10000 numbers → length numbers ≤ 10000
 few_rise numbers p = let room : 0 + length numbers ≤ 10000 = rises_room 0 10000 numbers (omega arith) p in omega arith
@@ -147,7 +142,7 @@ are_names m l r persons r2 objects rest h run run2 none =
 
 -- ---- two lists of such lines
 
-pub same_names : (persons objects own known : List ℕ) → AreNamed persons objects → AreNamed own known → length persons ≡ length own → length objects ≡ length known → name_lines persons objects ≡ name_lines own known → (persons ≡ own) × (objects ≡ known)
+same_names : (persons objects own known : List ℕ) → AreNamed persons objects → AreNamed own known → length persons ≡ length own → length objects ≡ length known → name_lines persons objects ≡ name_lines own known → (persons ≡ own) × (objects ≡ known)
 same_names persons objects own known s t same both others =
     let most : length persons ≤ 10000 = few_rise persons s.persons_rise in
     let few : length objects ≤ 10000 = few_rise objects s.objects_rise in
@@ -155,9 +150,16 @@ same_names persons objects own known s t same both others =
     let y = same_run ℕ object_line (IsBelow 10000) 0 objects known [] [] (numbers_apart (codes "object ")) (are_indices 0 10000 objects s.objects_rise) (are_indices 0 10000 known t.objects_rise) (omega arith) both (append-nil (numbered object_line 0 objects) ∙ x.1 ∙ sym (append-nil (numbered object_line 0 known))) in
     (x.0, y.0)
 
--- nothing stands behind such lines that are all of such lines
-pub no_more_names : (persons objects own known : List ℕ) (more : List (List ℕ)) → length persons ≡ length own → length objects ≡ length known → name_lines persons objects ++ more ≡ name_lines own known → more ≡ []
+no_more_names : (persons objects own known : List ℕ) (more : List (List ℕ)) → length persons ≡ length own → length objects ≡ length known → name_lines persons objects ++ more ≡ name_lines own known → more ≡ []
 no_more_names persons objects own known more same both others =
     let behind : numbered object_line 0 objects ++ more ≡ numbered object_line 0 known =
     same_rest ℕ person_line 0 persons own (numbered object_line 0 objects ++ more) (numbered object_line 0 known) same (sym (append_assoc (numbered person_line 0 persons) (numbered object_line 0 objects) more) ∙ others) in
     same_rest ℕ object_line 0 objects known more [] both (behind ∙ sym (append-nil (numbered object_line 0 known)))
+
+-- such lines that begin others name the same persons and objects, and no line is left
+pub names_once : (persons objects own known : List ℕ) (more : List (List ℕ)) → AreNamed persons objects → AreNamed own known → length persons ≡ length own → length objects ≡ length known → name_lines persons objects ++ more ≡ name_lines own known
+    → (persons ≡ own) × (objects ≡ known) × (more ≡ [])
+names_once persons objects own known more s t same both others =
+    let none = no_more_names persons objects own known more same both others in
+    let all = same_names persons objects own known s t same both (sym (append-nil (name_lines persons objects)) ∙ ap (λ (m : List (List ℕ)). name_lines persons objects ++ m) (sym none) ∙ others) in
+    (all.0, all.1, none)

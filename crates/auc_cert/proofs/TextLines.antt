@@ -8,17 +8,18 @@ use Rattle.std.proofs.lemmas.Bool.{and_parts, not-true, eqb-false, eqb-true, ne_
 use Rattle.std.proofs.Math.Seq.{take-append_seam}
 use Rattle.std.proofs.lemmas.List.Elements.{All-nil, All-cons, All-append, All-head, All-tail}
 use Rattle.auc_cert.specs.declared.lists.Pick.{Pick}
-use Rattle.auc_cert.specs.Spelled.{IsPick, IsPrice}
-use Rattle.auc_cert.specs.Text.{head_line, optimal_line, infeasible_line, assign_line, price_line, number_line, numbered, joined}
+use Rattle.auc_graph.specs.Price.{IsPrice}
+use Rattle.auc_cert.specs.Spelled.{IsPick}
+use Rattle.auc_cert.specs.Text.{head_line, assign_line, price_line, number_line, numbered, joined}
 use Rattle.auc_cert.specs.Runs.{IsBelow}
 use Rattle.auc_cert.specs.CertReading.{lines_in, IsFirstBadOf}
 use Rattle.auc_cert.proofs.NumberWords.{number_goes_on}
 
 -- ---- the lines of bytes
 
-abbrev pub no_lf : List ℕ → Bool
-no_lf [] = true
-no_lf (b ∷ bs) = not (eqb b 10) && no_lf bs
+abbrev pub lacks : ℕ → List ℕ → Bool
+lacks stop [] = true
+lacks stop (b ∷ bs) = not (eqb b stop) && lacks stop bs
 
 pub record IsLine (l : List ℕ) : Type 0 where
   pub word : List ℕ
@@ -92,29 +93,24 @@ bad_of kind front bytes rest k lines text at whole of more is none =
 
 -- ---- the lines of a certificate are lines
 
-all_no_lf : (bs : List ℕ) → no_lf bs ≡ true → All (λ b. b ≢ 10) bs
-all_no_lf [] h = All-nil (λ b. b ≢ 10)
-all_no_lf (b ∷ bs) h =
-    let a = and_parts (not (eqb b 10)) (no_lf bs) h in
-    All-cons (λ b. b ≢ 10) b bs (eqb-false b 10 (not-true (eqb b 10) a.0)) (all_no_lf bs a.1)
+pub all_lack : (stop : ℕ) (bs : List ℕ) → lacks stop bs ≡ true → All (λ b. b ≢ stop) bs
+all_lack stop [] h = All-nil (λ b. b ≢ stop)
+all_lack stop (b ∷ bs) h =
+    let a = and_parts (not (eqb b stop)) (lacks stop bs) h in
+    All-cons (λ b. b ≢ stop) b bs (eqb-false b stop (not-true (eqb b stop) a.0)) (all_lack stop bs a.1)
 
-and_then : (x y : List ℕ) → All (λ b. b ≢ 10) x → All (λ b. b ≢ 10) y → All (λ b. b ≢ 10) (x ++ y)
+pub and_then : (x y : List ℕ) → All (λ b. b ≢ 10) x → All (λ b. b ≢ 10) y → All (λ b. b ≢ 10) (x ++ y)
 and_then x y p q = All-append (λ b. b ≢ 10) x y p q
 
-digits : (z : ℤ) → FitsSigned w64 z → All (λ b. b ≢ 10) (signed_decimal z)
+pub digits : (z : ℤ) → FitsSigned w64 z → All (λ b. b ≢ 10) (signed_decimal z)
 digits z f = number_goes_on 10 z (inl refl) f
 
-pub head_is_line : IsLine head_line
-head_is_line = record { word = codes "auction 1"; text = refl; whole = all_no_lf (codes "auction 1") refl }
+-- a number more, behind a space
+pub and_number : (word : List ℕ) (z : ℤ) → All (λ b. b ≢ 10) word → FitsSigned w64 z → All (λ b. b ≢ 10) (word ++ codes " " ++ signed_decimal z)
+and_number word z h fits = and_then (word ++ codes " ") (signed_decimal z) (and_then word (codes " ") h (all_lack 10 (codes " ") refl)) (digits z fits)
 
-pub optimal_is_line : (n : ℕ) (cost : ℤ) → n ≤ 10000 → FitsSigned w64 cost → IsLine (optimal_line n cost)
-optimal_is_line n cost le f =
-    let fits : FitsSigned w64 (pos n) = omega (arith, ints) in
-    record {
-      word = codes "optimal " ++ decimal n ++ codes " " ++ signed_decimal cost;
-      text = refl;
-      whole = and_then (codes "optimal " ++ decimal n ++ codes " ") (signed_decimal cost) (and_then (codes "optimal " ++ decimal n) (codes " ") (and_then (codes "optimal ") (decimal n) (all_no_lf (codes "optimal ") refl) (digits (pos n) fits)) (all_no_lf (codes " ") refl)) (digits cost f);
-    }
+pub head_is_line : IsLine head_line
+head_is_line = record { word = codes "auction 1"; text = refl; whole = all_lack 10 (codes "auction 1") refl }
 
 assign_is_line : (i : ℕ) (p : Pick) → i < 10000 → IsPick p → IsLine (assign_line i p)
 assign_is_line i p lt h =
@@ -122,23 +118,23 @@ assign_is_line i p lt h =
     let object : p.object < 10000 = h.object in
     let fits_object : FitsSigned w64 (pos (p.object + 1)) = omega (arith, ints) in
     let fits_cost : FitsSigned w64 p.cost = omega (arith, ints, h.low, h.high) in
-    let w1 : List ℕ = codes "assign " ++ decimal (i + 1) in
-    let w2 : List ℕ = w1 ++ codes " " ++ decimal (p.object + 1) in
+    let front : List ℕ = codes "assign " ++ decimal (i + 1) in
+    let start = and_then (codes "assign ") (decimal (i + 1)) (all_lack 10 (codes "assign ") refl) (digits (pos (i + 1)) fits) in
     record {
-      word = w2 ++ codes " " ++ signed_decimal p.cost;
+      word = front ++ codes " " ++ decimal (p.object + 1) ++ codes " " ++ signed_decimal p.cost;
       text = refl;
-      whole = and_then (w2 ++ codes " ") (signed_decimal p.cost) (and_then w2 (codes " ") (and_then (w1 ++ codes " ") (decimal (p.object + 1)) (and_then w1 (codes " ") (and_then (codes "assign ") (decimal (i + 1)) (all_no_lf (codes "assign ") refl) (digits (pos (i + 1)) fits)) (all_no_lf (codes " ") refl)) (digits (pos (p.object + 1)) fits_object)) (all_no_lf (codes " ") refl)) (digits p.cost fits_cost);
+      whole = and_number (front ++ codes " " ++ decimal (p.object + 1)) p.cost (and_number front (pos (p.object + 1)) start fits_object) fits_cost;
     }
 
 price_is_line : (j : ℕ) (z : ℤ) → j < 10000 → IsPrice z → IsLine (price_line j z)
 price_is_line j z lt h =
     let fits : FitsSigned w64 (pos (j + 1)) = omega (arith, ints) in
     let fits_price : FitsSigned w64 z = omega (arith, ints, h.low, h.high) in
-    let w1 : List ℕ = codes "price " ++ decimal (j + 1) in
+    let front : List ℕ = codes "price " ++ decimal (j + 1) in
     record {
-      word = w1 ++ codes " " ++ signed_decimal z;
+      word = front ++ codes " " ++ signed_decimal z;
       text = refl;
-      whole = and_then (w1 ++ codes " ") (signed_decimal z) (and_then w1 (codes " ") (and_then (codes "price ") (decimal (j + 1)) (all_no_lf (codes "price ") refl) (digits (pos (j + 1)) fits)) (all_no_lf (codes " ") refl)) (digits z fits_price);
+      whole = and_number front z (and_then (codes "price ") (decimal (j + 1)) (all_lack 10 (codes "price ") refl) (digits (pos (j + 1)) fits)) fits_price;
     }
 
 numbered_lines : (X : Type 0) (line : ℕ → X → List ℕ) (ok : X → Type 0) → ((k : ℕ) (x : X) → k < 10000 → ok x → IsLine (line k x)) → (k : ℕ) (xs : List X) → k + length xs ≤ 10000 → All ok xs → AreLines (numbered line k xs)
@@ -155,21 +151,10 @@ picks_lines picks le all = numbered_lines Pick assign_line IsPick assign_is_line
 pub prices_lines : (prices : List ℤ) → length prices ≤ 10000 → All IsPrice prices → AreLines (numbered price_line 0 prices)
 prices_lines prices le all = numbered_lines ℤ price_line IsPrice price_is_line 0 prices (omega arith) all
 
-pub infeasible_is_line : (persons objects : ℕ) → persons ≤ 10000 → objects ≤ 10000 → IsLine (infeasible_line persons objects)
-infeasible_is_line persons objects most few =
-    let fits : FitsSigned w64 (pos persons) = omega (arith, ints) in
-    let fits_objects : FitsSigned w64 (pos objects) = omega (arith, ints) in
-    let w1 : List ℕ = codes "infeasible " ++ decimal persons in
-    record {
-      word = w1 ++ codes " " ++ decimal objects;
-      text = refl;
-      whole = and_then (w1 ++ codes " ") (decimal objects) (and_then w1 (codes " ") (and_then (codes "infeasible ") (decimal persons) (all_no_lf (codes "infeasible ") refl) (digits (pos persons) fits)) (all_no_lf (codes " ") refl)) (digits (pos objects) fits_objects);
-    }
-
-number_is_line : (front : List ℕ) → no_lf front ≡ true → (place k : ℕ) → place < 10000 → IsBelow 10000 k → IsLine (number_line front place k)
+number_is_line : (front : List ℕ) → lacks 10 front ≡ true → (place k : ℕ) → place < 10000 → IsBelow 10000 k → IsLine (number_line front place k)
 number_is_line front whole place k lt below =
     let fits : FitsSigned w64 (pos (k + 1)) = omega (arith, ints) in
-    record { word = front ++ decimal (k + 1); text = refl; whole = and_then front (decimal (k + 1)) (all_no_lf front whole) (digits (pos (k + 1)) fits) }
+    record { word = front ++ decimal (k + 1); text = refl; whole = and_then front (decimal (k + 1)) (all_lack 10 front whole) (digits (pos (k + 1)) fits) }
 
-pub numbers_lines : (front : List ℕ) → no_lf front ≡ true → (numbers : List ℕ) → length numbers ≤ 10000 → All (IsBelow 10000) numbers → AreLines (numbered (number_line front) 0 numbers)
+pub numbers_lines : (front : List ℕ) → lacks 10 front ≡ true → (numbers : List ℕ) → length numbers ≤ 10000 → All (IsBelow 10000) numbers → AreLines (numbered (number_line front) 0 numbers)
 numbers_lines front whole numbers le all = numbered_lines ℕ (number_line front) (IsBelow 10000) (number_is_line front whole) 0 numbers (omega arith) all

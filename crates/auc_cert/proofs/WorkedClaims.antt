@@ -1,13 +1,14 @@
 -- What some small certificates are spelled and how they are judged, computed by the definitions.
 use Rattle.std.proofs.Common.{◌≡◌, ℕ, [], ◌∷◌, Some, None, refl}
-use Rattle.std.specs.Prelude.{codes, pos, neg_ℤ, ℤ}
+use Rattle.std.specs.Prelude.{◌^◌, codes, pos, neg_ℤ, ℤ}
 use Rattle.std.specs.Fmt.{digits}
 use Rattle.auc_graph.specs.declared.arc.Arc.{Arc}
 use Rattle.auc_graph.specs.Problem.{Problem}
 use Rattle.auc_cert.specs.declared.lists.Pick.{Pick}
 use Rattle.auc_cert.specs.declared.cert.CertParts.{CertParts}
-use Rattle.auc_cert.specs.declared.cert.CertParts.TheVariants.{Optimal, Infeasible}
-use Rattle.auc_cert.specs.declared.refused.CertRefused.TheVariants.{WrongSize, NoSuchArc, ObjectTwice, WrongCost, Slack, NotHall}
+use Rattle.auc_cert.specs.declared.cert.CertParts.TheVariants.{Optimal, Infeasible, Bracket}
+use Rattle.auc_cert.specs.declared.reason.Reason.TheVariants.{Bids, Mail}
+use Rattle.auc_cert.specs.declared.refused.CertRefused.TheVariants.{WrongSize, NoSuchArc, ObjectTwice, WrongCost, Slack, NotHall, WrongBound}
 use Rattle.auc_cert.specs.Text.{text}
 use Rattle.auc_cert.specs.Claim.{fault_of}
 
@@ -92,3 +93,36 @@ no_such_person = refl
 
 no_such_object : fault_of one_object (Infeasible (0 ∷ 1 ∷ []) (2 ∷ [])) ≡ Some NotHall
 no_such_object = refl
+
+-- person 1 takes object 1 and person 2 object 2: with this lower bound, at this price of the first object
+abbrev bracket_at : ℤ → ℤ → CertParts
+bracket_at lower price = Bracket Bids lower (pos 4) (pick 0 (pos 1) ∷ pick 1 (pos 3) ∷ []) (price ∷ pos 0 ∷ [])
+
+bracket_spelled : text (bracket_at (pos 3) (pos 4)) ≡ codes "auction 1\nbracket bids 2 3 4\nassign 1 1 1\nassign 2 2 3\nprice 1 4\nprice 2 0\n"
+unfolding digits
+bracket_spelled = refl
+
+bracket_below_zero : text (Bracket Mail (neg_ℤ (pos (2 ^ 63))) (pos 0) (pick 0 (pos 0) ∷ []) (pos 0 ∷ [])) ≡ codes "auction 1\nbracket mail 1 -9223372036854775808 0\nassign 1 1 0\nprice 1 0\n"
+unfolding digits
+bracket_below_zero = refl
+
+-- the least values of arcs are 6 and 7, so the dual bound is 9, thrice the lower bound
+bracket_valid : fault_of two_persons (bracket_at (pos 3) (pos 4)) ≡ None
+bracket_valid = refl
+
+bound_too_high : fault_of two_persons (bracket_at (pos 4) (pos 4)) ≡ Some WrongBound
+bound_too_high = refl
+
+-- though no assignment costs less
+bound_too_low : fault_of two_persons (bracket_at (pos 2) (pos 4)) ≡ Some WrongBound
+bound_too_low = refl
+
+-- the least values are 6 and 9, so the dual bound is -5, and -5 thirds rounded up are -1
+bound_rounded_up : fault_of two_persons (bracket_at (neg_ℤ (pos 1)) (pos 20)) ≡ None
+bound_rounded_up = refl
+
+bound_rounded_down : fault_of two_persons (bracket_at (neg_ℤ (pos 2)) (pos 20)) ≡ Some WrongBound
+bound_rounded_down = refl
+
+cost_before_bound : fault_of two_persons (Bracket Bids (pos 4) (pos 5) (pick 0 (pos 1) ∷ pick 1 (pos 3) ∷ []) (pos 4 ∷ pos 0 ∷ [])) ≡ Some WrongCost
+cost_before_bound = refl

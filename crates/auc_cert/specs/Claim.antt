@@ -1,5 +1,5 @@
 -- Which claims the checker lets pass, and which fault it names otherwise.
-use Rattle.std.specs.Prelude.{◌≡◌, ℕ, ◌+◌, ◌==◌, ◌<◌, Bool, true, false, not, ◌&&◌, ◌||◌, nat_lt, if◌then◌else◌, List, [], ◌∷◌, ◌++◌, length, map, Option, Some, None, Result, Ok, Err, ℤ, pos, ◌+ℤ◌, int_le, nat_eq, slice_index_or}
+use Rattle.std.specs.Prelude.{◌≡◌, ℕ, ◌+◌, ◌==◌, ◌<◌, Bool, true, false, not, ◌&&◌, ◌||◌, nat_lt, if◌then◌else◌, List, [], ◌∷◌, ◌++◌, length, map, Option, Some, None, Result, Ok, Err, ℤ, pos, ◌+ℤ◌, ◌≤ℤ◌, int_le, nat_eq, slice_index_or}
 use Rattle.std.specs.Option.{option_map}
 use Rattle.std.specs.List.{position, list_all, list_any}
 use Rattle.std.specs.Ordering.{int_eq}
@@ -7,12 +7,12 @@ use Rattle.auc_graph.specs.declared.arc.Arc.{Arc}
 use Rattle.auc_graph.specs.Problem.{Problem}
 use Rattle.auc_cert.specs.declared.lists.Pick.{Pick}
 use Rattle.auc_cert.specs.declared.cert.CertParts.{CertParts}
-use Rattle.auc_cert.specs.declared.cert.CertParts.TheVariants.{Optimal, Infeasible}
+use Rattle.auc_cert.specs.declared.cert.CertParts.TheVariants.{Optimal, Infeasible, Bracket}
 use Rattle.auc_cert.specs.declared.refused.CertRefused.{CertRefused}
-use Rattle.auc_cert.specs.declared.refused.CertRefused.TheVariants.{WrongSize, NoSuchArc, ObjectTwice, WrongCost, Slack, NotHall}
-use Rattle.auc_graph.specs.Assignment.{total_cost, IsLeast}
+use Rattle.auc_cert.specs.declared.refused.CertRefused.TheVariants.{WrongSize, NoSuchArc, ObjectTwice, WrongCost, Slack, NotHall, WrongBound}
+use Rattle.auc_graph.specs.Assignment.{total_cost, IsAssignment, IsLeast}
 use Rattle.auc_graph.specs.HallSet.{IsHallSet}
-use Rattle.auc_graph.specs.Dual.{arc_value, scale_of}
+use Rattle.auc_graph.specs.Dual.{arc_value, scale_of, dual, is_lower}
 
 -- the arc that a pick names
 abbrev pub arc_of : ℕ → Pick → Arc
@@ -66,6 +66,10 @@ choice_faults p cost choice prices =
 abbrev pub slack_fault : Problem → List Pick → List ℤ → Option CertRefused
 slack_fault p choice prices = option_map (λ i. Slack i) (position (λ c. not (is_slack_right (scale_of p) prices p.arcs c)) (chosen 0 choice))
 
+-- what the test of the lower bound finds: it is the least cost that the dual bound of the prices allows, or it is wrong
+abbrev pub bound_fault : Problem → ℤ → List ℤ → Option CertRefused
+bound_fault p lower prices = fault_if (not (is_lower (scale_of p) (dual p prices) lower)) WrongBound
+
 abbrev pub are_below : ℕ → List ℕ → Bool
 are_below n numbers = list_all (λ k. nat_lt k n) numbers
 
@@ -84,6 +88,7 @@ is_hall p persons objects = (are_below p.persons persons && are_below p.objects 
 abbrev pub faults_of : Problem → CertParts → List (Option CertRefused)
 faults_of p (Optimal cost choice prices) = choice_faults p cost choice prices ++ slack_fault p choice prices ∷ []
 faults_of p (Infeasible persons objects) = fault_if (not (is_hall p persons objects)) NotHall ∷ []
+faults_of p (Bracket reason lower cost choice prices) = choice_faults p cost choice prices ++ bound_fault p lower prices ∷ []
 
 -- the first fault that was found
 abbrev pub first_of : List (Option CertRefused) → Option CertRefused
@@ -100,10 +105,17 @@ abbrev pub IsVerdict : {X : Type 0} → Option CertRefused → Result X CertRefu
 IsVerdict fault (Ok x) = fault ≡ None
 IsVerdict fault (Err e) = fault ≡ Some e
 
+-- an assignment of this cost, and a number that no assignment costs less than
+pub record IsBracket (p : Problem) (lower cost : ℤ) (choice : List Arc) : Type 0 where
+  pub assignment : IsAssignment p choice
+  pub cost_is : total_cost choice ≡ cost
+  pub bound : (other : List Arc) → IsAssignment p other → lower ≤ℤ total_cost other
+
 -- what a certificate says of a problem; no price is in it
 abbrev pub IsAllowed : Problem → CertParts → Type 0
 IsAllowed p (Optimal cost choice prices) = IsLeast p (chosen 0 choice) × (total_cost (chosen 0 choice) ≡ cost)
 IsAllowed p (Infeasible persons objects) = IsHallSet p persons objects
+IsAllowed p (Bracket reason lower cost choice prices) = IsBracket p lower cost (chosen 0 choice)
 
 -- a flag for each person, by what a test says of the arc that he picked
 abbrev pub AreFlags : (Arc → Bool) → List Pick → List Bool → Type 0

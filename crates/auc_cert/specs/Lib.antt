@@ -4,4 +4,5 @@ pub mod Text
 pub mod Claim
 pub mod CertReading
 pub mod Fields
+pub mod SecondLine
 pub mod Runs

@@ -1,11 +1,11 @@
-//! The lines of a certificate, read one by one.
+//! The lines of a certificate, read one by one: the first one, and those of picks, prices and names.
 
 ghost use Rattle.std.specs.Prelude.{◌≡◌, ◌<◌, ◌≤◌, IfSome};
-ghost use Rattle.auc_cert.specs.Fields.{viewed, after, pick_line_at, price_line_at, optimal_at, infeasible_at, number_at};
+ghost use Rattle.auc_cert.specs.Fields.{viewed, after, pick_line_at, price_line_at, number_at};
 ghost use Rattle.auc_cert.specs.Text.{head_line};
 
 use crate::fields::{field_of, index_of};
-use crate::limits::{HIGHEST_PRICE, MOST_COST, MOST_OBJECTS, MOST_PERSONS};
+use crate::limits::{HIGHEST_PRICE, MOST_COST, MOST_OBJECTS};
 use crate::lists::Pick;
 
 /// The pick on the line of a person at the front, and what stands behind the line.
@@ -34,29 +34,6 @@ pub(crate) fn price_of(bytes: &[u8], object: u32) -> Option<(i64, &[u8])>
     let place = object as i64 + 1;
     let (_, rest) = field_of(bytes, b"price ", place, place, b' ')?;
     field_of(rest, b"", 0, HIGHEST_PRICE, b'\n')
-}
-
-/// The persons and the cost on the line at the front, and what stands behind the line.
-#[tactic(auto, unfolding(crate::specs::Fields::optimal_at))]
-pub(crate) fn optimal_of(bytes: &[u8]) -> Option<((u32, i64), &[u8])>
-    ensures bounds { IfSome result (λ x. (1 ≤ x.0.0) × (x.0.0 ≤ 10000)) }
-    ensures exact { viewed (λ x. (x.0, x.1.now)) result ≡ optimal_at bytes.now }
-{
-    let (persons, rest) = field_of(bytes, b"optimal ", 1, MOST_PERSONS as i64, b' ')?;
-    let (cost, rest) = field_of(rest, b"", i64::MIN, i64::MAX, b'\n')?;
-    Some(((persons as u32, cost), rest))
-}
-
-/// How many persons and objects the line at the front announces, and what stands behind the line.
-#[tactic(auto, unfolding(crate::specs::Fields::infeasible_at))]
-pub(crate) fn infeasible_of(bytes: &[u8]) -> Option<((u32, u32), &[u8])>
-    ensures persons { IfSome result (λ x. (1 ≤ x.0.0) × (x.0.0 ≤ 10000)) }
-    ensures objects { IfSome result (λ x. x.0.1 ≤ 10000) }
-    ensures exact { viewed (λ x. (x.0, x.1.now)) result ≡ infeasible_at bytes.now }
-{
-    let (persons, rest) = field_of(bytes, b"infeasible ", 1, MOST_PERSONS as i64, b' ')?;
-    let (objects, rest) = field_of(rest, b"", 0, MOST_OBJECTS as i64, b'\n')?;
-    Some(((persons as u32, objects as u32), rest))
 }
 
 /// The number, from `least` to below `end`, on the line at the front, and what stands behind the line.

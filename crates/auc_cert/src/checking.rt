@@ -3,8 +3,11 @@
 ghost use Rattle.std.specs.Prelude.{◌≡◌, ◌≤◌, ◌<◌, ◌+◌, ◌∷◌, [], All, IsOk, length};
 ghost use Rattle.auc_graph.specs.Memory.{AnswersUnless};
 ghost use Rattle.auc_graph.specs.Problem.{IsProblem};
+ghost use Rattle.auc_graph.specs.Price.{IsPrice};
+ghost use Rattle.auc_graph.specs.Dual.{EachHasArc};
+ghost use Rattle.auc_cert.specs.declared.reason.Reason.{Reason};
 ghost use Rattle.auc_cert.specs.Spelled.{IsChoice, AreNamed};
-ghost use Rattle.auc_cert.specs.Claim.{choice_faults, slack_fault, fault_of, first_of, IsVerdict, IsAllowed};
+ghost use Rattle.auc_cert.specs.Claim.{choice_faults, slack_fault, bound_fault, fault_of, first_of, IsVerdict, IsAllowed};
 
 use crate::cert::{Cert, CertParts};
 use crate::flags::{missing_person, slack_person};
@@ -12,7 +15,7 @@ use crate::hall::is_hall;
 use crate::lists::Pick;
 use crate::picks::{cost_of, repeated_object};
 use crate::refused::CertRefused;
-use auc_graph::{ArcList, MOST_PERSONS};
+use auc_graph::{ArcList, MOST_PERSONS, dual_bound, is_lower};
 use std::alloc::Global;
 
 /// Whether the picks are an assignment of this cost, and there is a price for each object: as many picks as persons, each an
@@ -66,6 +69,27 @@ fn check_slack(
     }
 }
 
+/// Whether the lower bound is the least cost that the dual bound of the prices allows.
+fn check_bound(
+    alloc: Global,
+    problem: &ArcList,
+    lower: i64,
+    prices: &[i64],
+) -> Result<(), CertRefused>
+    requires arcs { EachHasArc problem.now }
+    requires len { length prices.now ≡ problem.now.objects }
+    requires prices { All IsPrice prices.now }
+    ensures exact { AnswersUnless CertRefused.NoMemory (λ x. x) result (IsVerdict (first_of (bound_fault problem.now lower prices.now ∷ []))) }
+    ensures problem { IsProblem problem.now }
+{
+    let scale = problem.persons() + 1;
+    let bound = dual_bound(alloc, problem, prices)?;
+    if !is_lower(scale, bound, lower) {
+        return Err(CertRefused::WrongBound);
+    }
+    Ok(())
+}
+
 fn check_optimal(
     alloc: Global,
     problem: &ArcList,
@@ -97,11 +121,32 @@ fn check_infeasible(
     Ok(())
 }
 
+/// Whether the claim of a bracket holds, whichever limit ended the run.
+fn check_bracket(
+    alloc: Global,
+    problem: &ArcList,
+    lower: i64,
+    cost: i64,
+    choice: &[Pick],
+    prices: &[i64],
+) -> Result<(), CertRefused>
+    requires { IsChoice choice.now prices.now }
+    ensures exact { (reason : Reason) → AnswersUnless CertRefused.NoMemory (λ x. x) result (IsVerdict (fault_of problem.now (CertParts.Bracket reason lower cost choice.now prices.now))) }
+    ensures allowed { (reason : Reason) → IsOk result → IsAllowed problem.now (CertParts.Bracket reason lower cost choice.now prices.now) }
+{
+    check_choice(alloc, problem, cost, choice, prices)?;
+    check_bound(alloc, problem, lower, prices)
+}
+
 /// Whether the claim of a certificate holds of a problem, or else its first fault.
 ///
 /// An optimal claim that is answered `Ok` is a least-cost assignment: no assignment of the problem costs less than
 /// `cost`. That is weak duality: prices by which no pick is worse than another arc of its person by more than 1, where
 /// costs are multiplied by persons + 1, bound the cost of every assignment from below.
+///
+/// A bracket that is answered `Ok` is an assignment of this cost, and no assignment of the problem costs less than `lower`:
+/// the least cost that, multiplied by persons + 1, is at least the dual bound of the prices. Which limit ended the run that
+/// made it is not looked at.
 ///
 /// An infeasible claim that is answered `Ok` names persons who together know fewer objects than they number, so that there
 /// is no assignment (Hall 1935).
@@ -109,9 +154,9 @@ fn check_infeasible(
 /// # Errors
 ///
 /// Of an optimal claim, in this order: [`CertRefused::WrongSize`], [`CertRefused::NoSuchArc`],
-/// [`CertRefused::ObjectTwice`], [`CertRefused::WrongCost`], [`CertRefused::Slack`]. Of an infeasible one only
-/// [`CertRefused::NotHall`]. [`CertRefused::NoMemory`] may stand in place of any other answer,
-/// where memory was refused.
+/// [`CertRefused::ObjectTwice`], [`CertRefused::WrongCost`], [`CertRefused::Slack`]. Of a bracket the same, with
+/// [`CertRefused::WrongBound`] in place of the last. Of an infeasible one only [`CertRefused::NotHall`].
+/// [`CertRefused::NoMemory`] may stand in place of any other answer, where memory was refused.
 ///
 /// Takes O(arcs + persons) time, two passes over the arcs, and O(persons) memory.
 pub fn check(alloc: Global, problem: &ArcList, cert: &Cert) -> Result<(), CertRefused>
@@ -127,5 +172,19 @@ pub fn check(alloc: Global, problem: &ArcList, cert: &Cert) -> Result<(), CertRe
         CertParts::Infeasible { persons, objects } => {
             check_infeasible(alloc, problem, persons.as_slice(), objects.as_slice())
         }
+        CertParts::Bracket {
+            reason: _,
+            lower,
+            cost,
+            choice,
+            prices,
+        } => check_bracket(
+            alloc,
+            problem,
+            *lower,
+            *cost,
+            choice.as_slice(),
+            prices.as_slice(),
+        ),
     }
 }

@@ -3,12 +3,13 @@
 ghost use Rattle.std.specs.Prelude.{◌≡◌, ◌≤◌, ◌+◌, length, IfOk, IfErr};
 ghost use Rattle.auc_graph.specs.Memory.{AnswersUnless};
 ghost use Rattle.auc_cert.specs.Runs.{IsRun, BreaksOff, NamesLine, From};
-ghost use Rattle.auc_cert.specs.Spelled.{IsPick, IsPrice, IsChoice};
+ghost use Rattle.auc_graph.specs.Price.{IsPrice};
+ghost use Rattle.auc_cert.specs.Spelled.{IsPick, IsChoice};
 ghost use Rattle.auc_cert.specs.Text.{assign_line, price_line, joined, choice_lines};
 ghost use Rattle.auc_cert.specs.CertReading.{IsFirstBadOf, ChoiceLines};
 
 use crate::cert_lines::{pick_of, price_of};
-use crate::lists::Pick;
+use crate::lists::{Pick, Picks, Prices};
 use crate::text_error::CertTextError;
 use std::alloc::Global;
 
@@ -63,10 +64,10 @@ pub(crate) fn choice_of(
     alloc: Global,
     persons: u32,
     bytes: &[u8],
-) -> Result<(Vec<Pick>, Vec<i64>), CertTextError>
+) -> Result<(Picks, Prices), CertTextError>
     requires some { 1 ≤ persons }
     requires most { persons ≤ 10000 }
-    ensures found { IfOk result (λ x. IsChoice x.0.items x.1.items × (length x.0.items ≡ persons) × (bytes.now ≡ joined (choice_lines x.0.items x.1.items))) }
+    ensures found { IfOk result (λ x. IsChoice x.0 x.1 × (length x.0 ≡ persons) × (bytes.now ≡ joined (choice_lines x.0 x.1))) }
     ensures line { AnswersUnless CertTextError.NoMemory (λ x. x) result (λ r. IfErr r (NamesLine (From 2 (IsFirstBadOf (ChoiceLines persons) bytes.now)))) }
 {
     let (choice, rest) = picks_of(alloc, persons, bytes)?;
@@ -76,5 +77,5 @@ pub(crate) fn choice_of(
             line: 2 + 2 * persons as u64,
         });
     }
-    Ok((choice, prices))
+    Ok((Picks::new(choice), Prices::new(prices)))
 }

@@ -43,7 +43,7 @@ fn spelled_in(word: &[u8], least: i64, most: i64) -> Option<i64>
 }
 
 /// What stands before the first such byte, and what stands behind it.
-fn word_before(bytes: &[u8], stop: u8) -> Option<(&[u8], &[u8])>
+pub(crate) fn word_before(bytes: &[u8], stop: u8) -> Option<(&[u8], &[u8])>
     ensures { viewed (λ x. (x.0.now, x.1.now)) result ≡ word_at stop bytes.now }
 {
     for (i, byte) in bytes.iter().enumerate() {

@@ -18,19 +18,23 @@ mod name_reading;
 mod output;
 mod picks;
 mod reading;
+mod reason;
 mod refused;
+mod second_line;
 mod text_error;
 mod writing;
 
 pub use cert::{Cert, CertParts};
 pub use checking::check;
 pub use laws::{
-    assignments_pass, faultless_claims_are_allowed, hall_sets_pass, no_spelling_begins_another,
+    assignments_pass, brackets_pass, faultless_claims_are_allowed, hall_sets_pass,
+    no_spelling_begins_another,
 };
 pub use lists::{Pick, Picks, Prices};
 pub use output::{WriteFault, write_count, write_number, write_whole};
 pub use picks::cost_of;
 pub use reading::read_cert;
+pub use reason::Reason;
 pub use refused::CertRefused;
 pub use text_error::CertTextError;
 pub use writing::{write_cert, write_picks};

@@ -10,6 +10,7 @@ ghost use Rattle.auc_cert.specs.CertReading.{IsFirstBadOf, NameLines};
 use crate::cert_lines::number_of;
 use crate::limits::{MOST_OBJECTS, MOST_PERSONS};
 use crate::text_error::CertTextError;
+use auc_graph::Indices;
 use std::alloc::Global;
 
 /// So many rising numbers below `most`, each on a line with this front, the first on line `first`, and what stands behind
@@ -54,11 +55,11 @@ pub(crate) fn names_of(
     persons: u32,
     objects: u32,
     bytes: &[u8],
-) -> Result<(Vec<u32>, Vec<u32>), CertTextError>
+) -> Result<(Indices, Indices), CertTextError>
     requires some { 1 ≤ persons }
     requires persons { persons ≤ 10000 }
     requires objects { objects ≤ 10000 }
-    ensures found { IfOk result (λ x. AreNamed x.0.items x.1.items × (length x.0.items ≡ persons) × (length x.1.items ≡ objects) × (bytes.now ≡ joined (name_lines x.0.items x.1.items))) }
+    ensures found { IfOk result (λ x. AreNamed x.0 x.1 × (length x.0 ≡ persons) × (length x.1 ≡ objects) × (bytes.now ≡ joined (name_lines x.0 x.1))) }
     ensures line { AnswersUnless CertTextError.NoMemory (λ x. x) result (λ r. IfErr r (NamesLine (From 2 (IsFirstBadOf (NameLines persons objects) bytes.now)))) }
 {
     let (named, rest) = rising_of(alloc, b"person ", MOST_PERSONS, persons, 2, bytes)?;
@@ -75,5 +76,5 @@ pub(crate) fn names_of(
             line: 2 + persons as u64 + objects as u64,
         });
     }
-    Ok((named, known))
+    Ok((Indices::new(named), Indices::new(known)))
 }

@@ -2,15 +2,16 @@
 
 ghost use Rattle.std.specs.Prelude.{◌++◌, ◌<◌, ◌^◌, length};
 ghost use Rattle.auc_cert.specs.Writing.{Writes};
-ghost use Rattle.auc_cert.specs.Text.{text, head_line, assign_line, price_line, optimal_line, infeasible_line, number_line, numbered, joined};
+ghost use Rattle.auc_cert.specs.Text.{text, head_line, assign_line, price_line, optimal_line, infeasible_line, bracket_line, number_line, numbered, joined, choice_lines};
 
 use crate::cert::{Cert, CertParts};
 use crate::lists::Pick;
 use crate::output::{WriteFault, write_count, write_number, write_whole};
+use crate::reason::Reason;
 use std::io::Write;
 
 /// Writes the first two lines of an optimal certificate.
-fn write_head<W: Write>(writer: &mut W, persons: u64, cost: i64) -> Result<(), WriteFault>
+fn write_optimal_head<W: Write>(writer: &mut W, persons: u64, cost: i64) -> Result<(), WriteFault>
     ensures { Writes result (W.contents writer.old) (W.contents writer.new) (head_line ++ optimal_line persons cost) }
 {
     write_whole(writer, b"auction 1\noptimal ")?;
@@ -33,6 +34,28 @@ fn write_infeasible_head<W: Write>(
     write_count(writer, persons)?;
     write_whole(writer, b" ")?;
     write_count(writer, objects)?;
+    write_whole(writer, b"\n")?;
+    Ok(())
+}
+
+/// Writes the first two lines of a bracket.
+fn write_bracket_head<W: Write>(
+    writer: &mut W,
+    reason: Reason,
+    persons: u64,
+    lower: i64,
+    cost: i64,
+) -> Result<(), WriteFault>
+    ensures { Writes result (W.contents writer.old) (W.contents writer.new) (head_line ++ bracket_line reason persons lower cost) }
+{
+    write_whole(writer, b"auction 1\nbracket ")?;
+    write_whole(writer, reason.word())?;
+    write_whole(writer, b" ")?;
+    write_count(writer, persons)?;
+    write_whole(writer, b" ")?;
+    write_number(writer, lower)?;
+    write_whole(writer, b" ")?;
+    write_number(writer, cost)?;
     write_whole(writer, b"\n")?;
     Ok(())
 }
@@ -92,6 +115,17 @@ fn write_prices<W: Write>(writer: &mut W, prices: &[i64]) -> Result<(), WriteFau
     Ok(())
 }
 
+/// Writes the lines of all persons, then those of all objects.
+fn write_choice<W: Write>(writer: &mut W, choice: &[Pick], prices: &[i64]) -> Result<(), WriteFault>
+    requires choice { length choice.now < 2 ^ 32 }
+    requires prices { length prices.now < 2 ^ 32 }
+    ensures { Writes result (W.contents writer.old) (W.contents writer.new) (joined (choice_lines choice.now prices.now)) }
+{
+    write_picks(writer, choice)?;
+    write_prices(writer, prices)?;
+    Ok(())
+}
+
 fn write_optimal<W: Write>(
     writer: &mut W,
     cost: i64,
@@ -102,9 +136,25 @@ fn write_optimal<W: Write>(
     requires prices { length prices.now < 2 ^ 32 }
     ensures { Writes result (W.contents writer.old) (W.contents writer.new) (text (CertParts.Optimal cost choice.now prices.now)) }
 {
-    write_head(writer, choice.len() as u64, cost)?;
-    write_picks(writer, choice)?;
-    write_prices(writer, prices)?;
+    write_optimal_head(writer, choice.len() as u64, cost)?;
+    write_choice(writer, choice, prices)?;
+    Ok(())
+}
+
+fn write_bracket<W: Write>(
+    writer: &mut W,
+    reason: Reason,
+    lower: i64,
+    cost: i64,
+    choice: &[Pick],
+    prices: &[i64],
+) -> Result<(), WriteFault>
+    requires choice { length choice.now < 2 ^ 32 }
+    requires prices { length prices.now < 2 ^ 32 }
+    ensures { Writes result (W.contents writer.old) (W.contents writer.new) (text (CertParts.Bracket reason lower cost choice.now prices.now)) }
+{
+    write_bracket_head(writer, reason, choice.len() as u64, lower, cost)?;
+    write_choice(writer, choice, prices)?;
     Ok(())
 }
 
@@ -147,5 +197,19 @@ pub fn write_cert<W: Write>(writer: &mut W, cert: &Cert) -> Result<(), WriteFaul
         CertParts::Infeasible { persons, objects } => {
             write_infeasible(writer, persons.as_slice(), objects.as_slice())
         }
+        CertParts::Bracket {
+            reason,
+            lower,
+            cost,
+            choice,
+            prices,
+        } => write_bracket(
+            writer,
+            *reason,
+            *lower,
+            *cost,
+            choice.as_slice(),
+            prices.as_slice(),
+        ),
     }
 }

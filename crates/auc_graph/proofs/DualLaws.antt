@@ -1,89 +1,22 @@
 -- Weak duality: no assignment costs less than prices say, and one that is slack-right at eps costs little more.
-use Rattle.std.proofs.Common.{◌≡◌, ℕ, zero, suc, ◌<◌, true, false, eq-eqb, List, [], ◌∷◌, length, map, get_or, refl, sym, ap, subst, ◌∙◌, arith, inl, inr}
-use Rattle.std.specs.Prelude.{ℤ, pos, ◌+ℤ◌, ◌-ℤ◌, ◌*ℤ◌, ◌≤ℤ◌, ◌==◌, All, Contains}
+use Rattle.std.proofs.Common.{◌≡◌, ℕ, ◌<◌, List, [], ◌∷◌, length, map, get_or, refl, sym, ap, subst, ◌∙◌, arith, inl, inr}
+use Rattle.std.specs.Prelude.{ℤ, pos, ◌+ℤ◌, ◌-ℤ◌, ◌*ℤ◌, ◌≤ℤ◌, All, Contains}
 use Rattle.std.specs.List.{AllByRecursion, range_with_len}
-use Rattle.std.specs.Int.{int_min}
-use Rattle.std.proofs.Math.IntN.{*ℤ-zero}
-use Rattle.std.proofs.lemmas.Bool.{cases_Bool, cases_lt, eqb-true}
-use Rattle.std.proofs.lemmas.Int.{ints, clamps}
+use Rattle.std.proofs.Math.IntN.{*ℤ-zero, zero-*ℤ}
+use Rattle.std.proofs.lemmas.Bool.{cases_lt, eqb-true}
+use Rattle.std.proofs.lemmas.Int.{ints}
 use Rattle.std.proofs.lemmas.List.Elements.{All-head, All-tail}
-use Rattle.std.proofs.lemmas.List.FromFn.{length-range_with_len}
-use Rattle.std.proofs.lemmas.List.{length-map, get_or_past}
+use Rattle.std.proofs.lemmas.List.FromFn.{length-range_with_len, get_or-range_with_len}
+use Rattle.std.proofs.lemmas.List.{length-map, get_or-map, get_or_past}
 use Rattle.std.proofs.lemmas.Cmp.{nat_eq_equiv}
 use Rattle.std.proofs.lemmas.Map.Views.{list_any-from_Contains, Contains-from_any}
 use Rattle.auc_graph.specs.declared.arc.Arc.{Arc}
 use Rattle.auc_graph.specs.Problem.{Problem, IsWithin}
 use Rattle.auc_graph.specs.Assignment.{total, person_of, object_of, total_cost, IsAssignment, IsLeast}
-use Rattle.auc_graph.specs.Dual.{scale_of, arc_value, IsSlackRight, lowest, worths, least_worth, dual, AreNotNegative, IsNoPriceLeft}
-use Rattle.auc_graph.proofs.Scale.{scale-add, scale-cancel}
+use Rattle.auc_graph.specs.Dual.{scale_of, arc_value, IsSlackRight, least_worth, dual, AreNotNegative, IsNoPriceLeft, EachHasArc}
+use Rattle.auc_graph.proofs.LeastLaws.{least_below, least_above}
+use Rattle.auc_graph.proofs.Scale.{once_more, scale-add, scale-cancel, scale-one}
 use Rattle.auc_graph.proofs.PriceSums.{prices_at, some_prices, left_without_price, covers}
-
--- ---- the least of some numbers
-
-min_left : (x y : ℤ) → int_min x y ≤ℤ x
-min_left x y = omega (arith, ints, clamps)
-
-min_right : (x y : ℤ) → int_min x y ≤ℤ y
-min_right x y = omega (arith, ints, clamps)
-
-min_above : (m x y : ℤ) → m ≤ℤ x → m ≤ℤ y → m ≤ℤ int_min x y
-min_above m x y h g = omega (arith, ints, clamps, h, g)
-
-under : (x y z : ℤ) → x ≤ℤ y → y ≤ℤ z → x ≤ℤ z
-under x y z h g = omega (arith, ints, h, g)
-
-pub lowest_first : (z : ℤ) (ys : List ℤ) → lowest z ys ≤ℤ z
-lowest_first z [] = omega (arith, ints)
-lowest_first z (y ∷ ys) = under _ _ _ (min_right y (lowest z ys)) (lowest_first z ys)
-
-module _ (worth : Arc → ℤ) (i : ℕ) where
-  lowest_below : (z : ℤ) (arcs : List Arc) (a : Arc) (k : ℕ) → k < length arcs → get_or arcs k a ≡ a → a.person ≡ i → lowest z (worths worth arcs i) ≤ℤ worth a
-  lowest_below z [] a k lt e his = absurd (omega arith)
-  lowest_below z (x ∷ xs) a zero lt e his =
-      let t : (x.person == i) ≡ true = eq-eqb x.person i (ap person_of e ∙ his) in
-      rw t (subst (λ (v : ℤ). int_min (worth x) (lowest z (worths worth xs i)) ≤ℤ v) (ap worth e) (min_left (worth x) (lowest z (worths worth xs i))))
-  lowest_below z (x ∷ xs) a (suc k) lt e his =
-      let rest = lowest_below z xs a k (omega (arith, lt)) e his in
-      elim (cases_Bool (x.person == i)) [
-        | inl t ↦ rw t (under _ _ _ (min_right (worth x) (lowest z (worths worth xs i))) rest)
-        | inr f ↦ rw f rest
-      ]
-
-  pub least_below : (arcs : List Arc) (a : Arc) (k : ℕ) → k < length arcs → get_or arcs k a ≡ a → a.person ≡ i → least_worth worth arcs i ≤ℤ worth a
-  least_below [] a k lt e his = absurd (omega arith)
-  least_below (x ∷ xs) a zero lt e his =
-      let t : (x.person == i) ≡ true = eq-eqb x.person i (ap person_of e ∙ his) in
-      rw t (subst (λ (v : ℤ). lowest (worth x) (worths worth xs i) ≤ℤ v) (ap worth e) (lowest_first (worth x) (worths worth xs i)))
-  least_below (x ∷ xs) a (suc k) lt e his =
-      elim (cases_Bool (x.person == i)) [
-        | inl t ↦ rw t (lowest_below (worth x) xs a k (omega (arith, lt)) e his)
-        | inr f ↦ rw f (least_below xs a k (omega (arith, lt)) e his)
-      ]
-
-  lowest_above : (m z : ℤ) (arcs : List Arc) → m ≤ℤ z → All (λ a. a.person ≡ i → m ≤ℤ worth a) arcs → m ≤ℤ lowest z (worths worth arcs i)
-  lowest_above m z [] h all = h
-  lowest_above m z (x ∷ xs) h all =
-      let rest = lowest_above m z xs h (All-tail (λ (a : Arc). a.person ≡ i → m ≤ℤ worth a) x xs all) in
-      elim (cases_Bool (x.person == i)) [
-        | inl t ↦ rw t (min_above m (worth x) (lowest z (worths worth xs i)) (All-head (λ (a : Arc). a.person ≡ i → m ≤ℤ worth a) x xs all (eqb-true x.person i t)) rest)
-        | inr f ↦ rw f rest
-      ]
-
-  -- of one who has an arc
-  pub least_above : (m : ℤ) (arcs : List Arc) (c : Arc) (k : ℕ) → k < length arcs → get_or arcs k c ≡ c → c.person ≡ i → All (λ a. a.person ≡ i → m ≤ℤ worth a) arcs → m ≤ℤ least_worth worth arcs i
-  least_above m [] c k lt e his all = absurd (omega arith)
-  least_above m (x ∷ xs) c k lt e his all =
-      let others = All-tail (λ (a : Arc). a.person ≡ i → m ≤ℤ worth a) x xs all in
-      elim (cases_Bool (x.person == i)) [
-        | inl t ↦ rw t (lowest_above m (worth x) xs (All-head (λ (a : Arc). a.person ≡ i → m ≤ℤ worth a) x xs all (eqb-true x.person i t)) others)
-        | inr f ↦ rw f (later k lt e f (λ n l h. least_above m xs c n l h his others))
-      ]
-    where
-      later : (k : ℕ) → k < length (x ∷ xs) → get_or (x ∷ xs) k c ≡ c → (x.person == i) ≡ false → ((n : ℕ) → n < length xs → get_or xs n c ≡ c → m ≤ℤ least_worth worth xs i) → m ≤ℤ least_worth worth xs i
-      later zero lt e f rest = let t : (x.person == i) ≡ true = eq-eqb x.person i (ap person_of e ∙ his) in absurd (let b = sym t ∙ f in cc)
-      later (suc k) lt e f rest = rest k (omega (arith, lt)) e
-
--- ---- sums, person by person
 
 pub sum_of_least : (worth : Arc → ℤ) (arcs ys : List Arc) → All (Contains arcs) ys → total (map (least_worth worth arcs) (map person_of ys)) ≤ℤ total (map worth ys)
 sum_of_least worth arcs [] known = omega (arith, ints)
@@ -92,24 +25,22 @@ sum_of_least worth arcs (y ∷ ys) known =
     let here = least_below worth y.person arcs y there.0 there.1 there.2 refl in
     omega (arith, ints, here, sum_of_least worth arcs ys (All-tail (Contains arcs) y ys known))
 
--- n times eps
-abbrev pub times : ℕ → ℤ → ℤ
-times zero eps = pos 0
-times (suc n) eps = times n eps +ℤ eps
-
 pub sum_near_least : (eps : ℤ) (s : ℕ) (prices : List ℤ) (arcs xs : List Arc) → All (Contains arcs) xs → All (IsSlackRight eps s prices arcs) xs
-    → total (map (arc_value s prices) xs) ≤ℤ (total (map (least_worth (arc_value s prices) arcs) (map person_of xs)) +ℤ times (length xs) eps)
-sum_near_least eps s prices arcs [] known slack = omega (arith, ints)
+    → total (map (arc_value s prices) xs) ≤ℤ (total (map (least_worth (arc_value s prices) arcs) (map person_of xs)) +ℤ (pos (length xs) *ℤ eps))
+sum_near_least eps s prices arcs [] known slack = omega (arith, ints, zero-*ℤ eps)
 sum_near_least eps s prices arcs (x ∷ xs) known slack =
     let there = All-head (Contains arcs) x xs known in
     let right = All-head (IsSlackRight eps s prices arcs) x xs slack in
     let above : (arc_value s prices x -ℤ eps) ≤ℤ least_worth (arc_value s prices) arcs x.person =
     least_above (arc_value s prices) x.person (arc_value s prices x -ℤ eps) arcs x there.0 there.1 there.2 refl (λ k d lt his. let le = right k d lt his in omega (arith, ints, le)) in
-    omega (arith, ints, above, sum_near_least eps s prices arcs xs (All-tail (Contains arcs) x xs known) (All-tail (IsSlackRight eps s prices arcs) x xs slack))
+    omega (arith, ints, above, once_more (length xs) eps, sum_near_least eps s prices arcs xs (All-tail (Contains arcs) x xs known) (All-tail (IsSlackRight eps s prices arcs) x xs slack))
 
 pub split_value : (s : ℕ) (prices : List ℤ) (xs : List Arc) → total (map (arc_value s prices) xs) ≡ pos s *ℤ total_cost xs +ℤ total (prices_at prices (map object_of xs))
 split_value s prices [] = omega (arith, ints, *ℤ-zero (pos s))
 split_value s prices (a ∷ xs) = omega (arith, ints, split_value s prices xs, scale-add s a.cost (total_cost xs))
+
+pub as_many : (p : Problem) (choice : List Arc) → IsAssignment p choice → length choice ≡ p.persons
+as_many p choice given = sym (length-map choice person_of) ∙ ap length given.persons ∙ length-range_with_len 0 p.persons
 
 objects_below : (m n : ℕ) (arcs xs : List Arc) → All (IsWithin m n) arcs → All (Contains arcs) xs → AllByRecursion (λ j. j < n) (map object_of xs)
 objects_below m n arcs [] within known = tt
@@ -137,16 +68,11 @@ module _ (p : Problem) (prices : List ℤ) (within : All (IsWithin p.persons p.o
 
   -- and a choice that is slack-right at eps and leaves no price is near
   pub slack_right_is_near : (eps : ℤ) (choice : List Arc) → IsAssignment p choice → All (IsSlackRight eps (scale_of p) prices p.arcs) choice → total (prices_at prices (map object_of choice)) ≡ total prices
-      → (pos (scale_of p) *ℤ total_cost choice) ≤ℤ (dual p prices +ℤ times p.persons eps)
+      → (pos (scale_of p) *ℤ total_cost choice) ≤ℤ (dual p prices +ℤ (pos p.persons *ℤ eps))
   slack_right_is_near eps choice given slack all =
       let sum = sum_near_least eps (scale_of p) prices p.arcs choice given.arcs slack in
-      let many : length choice ≡ p.persons = sym (length-map choice person_of) ∙ ap length given.persons ∙ length-range_with_len 0 p.persons in
-      let same : times (length choice) eps ≡ times p.persons eps = ap (λ (n : ℕ). times n eps) many in
+      let same = ap (λ (n : ℕ). pos n *ℤ eps) (as_many p choice given) in
       omega (arith, ints, sum, persons_in choice given, split_value (scale_of p) prices choice, all, same)
-
-times_one : (n : ℕ) → times n (pos 1) ≡ pos n
-times_one zero = refl
-times_one (suc n) = omega (arith, ints, times_one n)
 
 -- a choice that is slack-right at 1, outside of which no object has a price, costs least
 pub slack_right_is_least : (p : Problem) (prices : List ℤ) (choice : List Arc) → All (IsWithin p.persons p.objects) p.arcs → length prices ≡ p.objects → AreNotNegative prices → IsAssignment p choice → All (IsSlackRight (pos 1) (scale_of p) prices p.arcs) choice
@@ -159,7 +85,7 @@ slack_right_is_least p prices choice within len above given slack left =
           (λ j free. left j (λ there. absurd (let found = list_any-from_Contains nat_eq_equiv j (map object_of choice) there in let b = sym found ∙ free in cc))) in
           let near = slack_right_is_near p prices within len (pos 1) choice given slack all in
           let below = dual_is_below p prices within len other others above in
-          scale-cancel p.persons (total_cost choice) (total_cost other) (omega (arith, ints, near, below, times_one p.persons));
+          scale-cancel p.persons (total_cost choice) (total_cost other) (omega (arith, ints, near, below, scale-one p.persons));
     }
 
 -- where there are as many objects as persons, every object is taken
@@ -167,8 +93,19 @@ pub none_left_over : (p : Problem) (prices : List ℤ) (choice : List Arc) → A
 none_left_over p prices choice within square len given j free =
     elim (cases_lt j (length prices)) [
       | inl lt ↦
-          let many : length (map object_of choice) ≡ length prices = length-map choice object_of ∙ (sym (length-map choice person_of) ∙ ap length given.persons ∙ length-range_with_len 0 p.persons) ∙ sym square ∙ sym len in
+          let many : length (map object_of choice) ≡ length prices = length-map choice object_of ∙ as_many p choice given ∙ sym square ∙ sym len in
           let taken = covers (length prices) (map object_of choice) j given.objects (objects_in p prices within len choice given) many lt in
           absurd (free (Contains-from_any (λ x y t. eqb-true x y t) j (map object_of choice) taken))
       | inr past ↦ get_or_past prices j (pos 0) past
     ]
+
+no_arc : Arc
+no_arc = record { cost = pos 0; person = 0; object = 0 }
+
+pub each_has_arc : (p : Problem) (choice : List Arc) → IsAssignment p choice → EachHasArc p
+each_has_arc p choice given person lt =
+    let there : person < length choice = omega (arith, lt, as_many p choice given) in
+    let his = get_or-map person_of choice person no_arc 0 there in
+    let of = ap (λ (js : List ℕ). get_or js person 0) given.persons in
+    let is : (get_or choice person no_arc).person ≡ person = omega (arith, his, of, get_or-range_with_len 0 p.persons person 0 lt) in
+    (get_or choice person no_arc, given.arcs person no_arc there, is)

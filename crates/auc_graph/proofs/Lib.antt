@@ -1,6 +1,9 @@
 -- for use above
 pub mod RisingLaws
+pub mod PriceLaws
 pub mod DualLaws
+pub mod LowerLaws
+pub mod LowerRange
 -- for this crate
 mod TokenLaws
 mod MagnitudeLaws
@@ -11,6 +14,8 @@ mod CountLaws
 mod LayoutLaws
 mod SpreadLaws
 mod Scale
+mod LeastLaws
+mod BoundLaws
 mod PriceSums
 mod WorkedTexts
 mod WorkedRows

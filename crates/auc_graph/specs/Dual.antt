@@ -1,6 +1,6 @@
 -- Slackness of arcs at prices, and the bound that prices give on the cost of every assignment: the dual of the
 -- assignment problem.
-use Rattle.std.specs.Prelude.{◌≡◌, ℕ, ◌+◌, ◌==◌, Bool, List, [], ◌∷◌, map, filter, All, Contains, ℤ, pos, ◌+ℤ◌, ◌-ℤ◌, ◌*ℤ◌, ◌≤ℤ◌, slice_index_or}
+use Rattle.std.specs.Prelude.{◌≡◌, ℕ, ◌+◌, ◌<◌, ◌==◌, ◌&&◌, Bool, List, [], ◌∷◌, map, filter, All, Contains, ℤ, pos, ◌+ℤ◌, ◌-ℤ◌, ◌*ℤ◌, ◌≤ℤ◌, int_le, int_lt, slice_index_or}
 use Rattle.std.specs.List.{range_with_len}
 use Rattle.std.specs.Int.{int_min}
 use Rattle.auc_graph.specs.declared.arc.Arc.{Arc}
@@ -52,6 +52,14 @@ dual p prices = total (map (least_worth (arc_value (scale_of p) prices) p.arcs) 
 pub record IsLower (scale : ℕ) (d lower : ℤ) : Type 0 where
   pub reaches : d ≤ℤ (pos scale *ℤ lower)
   pub least : (k : ℤ) → d ≤ℤ (pos scale *ℤ k) → lower ≤ℤ k
+
+-- the same as a test without division: scaled, the number is at least d, and by less than the scale
+abbrev pub is_lower : ℕ → ℤ → ℤ → Bool
+is_lower scale d lower = int_le d (pos scale *ℤ lower) && int_lt (pos scale *ℤ lower) (d +ℤ pos scale)
+
+-- each person has an arc
+abbrev pub EachHasArc : Problem → Type 0
+EachHasArc p = (person : ℕ) → person < p.persons → (arc : Arc) × Contains p.arcs arc × (arc.person ≡ person)
 
 -- no price is negative
 abbrev pub AreNotNegative : List ℤ → Type 0

@@ -7,6 +7,7 @@ pub mod Reading
 pub mod Triple
 pub mod Assignment
 pub mod HallSet
+pub mod Price
 pub mod Value
 pub mod Dual
 pub mod Row

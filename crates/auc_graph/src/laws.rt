@@ -1,11 +1,13 @@
 //! Laws of the definitions, as contracts of functions without a body: what prices show of the cost of every assignment, and the numbers
 //! of the limits.
 
-ghost use Rattle.std.specs.Prelude.{◌≡◌, ◌*ℤ◌, ◌≤ℤ◌, List, ℤ, pos, length, All};
+ghost use Rattle.std.specs.Prelude.{◌≡◌, ◌+◌, ◌≤◌, ◌-ℤ◌, ◌*ℤ◌, ◌≤ℤ◌, ℕ, List, ℤ, pos, neg_ℤ, length, All, FitsSigned, true};
+ghost use Rattle.std.specs.Int.{w64};
 ghost use Rattle.auc_graph.specs.declared.arc.Arc.{Arc};
 ghost use Rattle.auc_graph.specs.Problem.{Problem, IsWithin};
-ghost use Rattle.auc_graph.specs.Assignment.{IsAssignment, IsLeast, total_cost};
-ghost use Rattle.auc_graph.specs.Dual.{scale_of, dual, IsLower, IsSlackRight, AreNotNegative, IsNoPriceLeft};
+ghost use Rattle.auc_graph.specs.Assignment.{IsAssignment, IsLeast, total, total_cost};
+ghost use Rattle.auc_graph.specs.Price.{IsPrice};
+ghost use Rattle.auc_graph.specs.Dual.{scale_of, dual, is_lower, IsLower, IsSlackRight, AreNotNegative, IsNoPriceLeft, EachHasArc};
 
 use crate::limits::{MOST_ARCS, MOST_COST, MOST_OBJECTS, MOST_PERSONS, MOST_READS};
 
@@ -14,6 +16,18 @@ use crate::limits::{MOST_ARCS, MOST_COST, MOST_OBJECTS, MOST_PERSONS, MOST_READS
 pub fn prices_bound_costs()
     ensures scaled { (p : Problem) (prices : List ℤ) (choice : List Arc) → All (IsWithin p.persons p.objects) p.arcs → length prices ≡ p.objects → AreNotNegative prices → IsAssignment p choice → dual p prices ≤ℤ (pos (scale_of p) *ℤ total_cost choice) }
     ensures lower { (p : Problem) (prices : List ℤ) (choice : List Arc) (lower : ℤ) → All (IsWithin p.persons p.objects) p.arcs → length prices ≡ p.objects → AreNotNegative prices → IsAssignment p choice → IsLower (scale_of p) (dual p prices) lower → lower ≤ℤ total_cost choice }
+{}
+
+/// The least cost that a dual bound allows: there is one at most, and a test without division finds it. Where there is an
+/// assignment, it is at most the greatest cost times the persons, and below the negative of that by no more than all prices
+/// together, scaled down (`top`). So with as many objects as persons, and prices from 0 to 2^61, it has 64 bits.
+pub fn bounds_fit()
+    ensures one { (scale : ℕ) (d lower other : ℤ) → IsLower scale d lower → IsLower scale d other → lower ≡ other }
+    ensures tested { (n : ℕ) (d lower : ℤ) → is_lower (n + 1) d lower ≡ true → IsLower (n + 1) d lower }
+    ensures passes { (n : ℕ) (d lower : ℤ) → IsLower (n + 1) d lower → is_lower (n + 1) d lower ≡ true }
+    ensures low { (p : Problem) (prices : List ℤ) (choice : List Arc) (top lower : ℤ) → All (IsWithin p.persons p.objects) p.arcs → length prices ≡ p.objects → AreNotNegative prices → total prices ≤ℤ (pos (scale_of p) *ℤ top) → IsAssignment p choice → IsLower (scale_of p) (dual p prices) lower → ((pos p.persons *ℤ neg_ℤ MOST_COST) -ℤ top) ≤ℤ lower }
+    ensures high { (p : Problem) (prices : List ℤ) (choice : List Arc) (lower : ℤ) → All (IsWithin p.persons p.objects) p.arcs → length prices ≡ p.objects → AreNotNegative prices → IsAssignment p choice → IsLower (scale_of p) (dual p prices) lower → lower ≤ℤ (pos p.persons *ℤ MOST_COST) }
+    ensures fits { (p : Problem) (prices : List ℤ) (choice : List Arc) (lower : ℤ) → p.persons ≤ MOST_PERSONS → All (IsWithin p.persons p.objects) p.arcs → p.objects ≡ p.persons → length prices ≡ p.objects → All IsPrice prices → IsAssignment p choice → IsLower (scale_of p) (dual p prices) lower → FitsSigned w64 lower }
 {}
 
 /// An assignment costs least where at prices that aren't negative no arc of a person is better than his chosen one by more
@@ -25,6 +39,11 @@ pub fn slack_right_costs_least()
 /// Where there are as many objects as persons, an assignment leaves none, and so no price.
 pub fn assignments_leave_no_price()
     ensures { (p : Problem) (prices : List ℤ) (choice : List Arc) → All (IsWithin p.persons p.objects) p.arcs → p.objects ≡ p.persons → length prices ≡ p.objects → IsAssignment p choice → IsNoPriceLeft prices choice }
+{}
+
+/// Where there is an assignment each person has an arc, as the dual bound wants it.
+pub fn assigned_persons_have_arcs()
+    ensures { (p : Problem) (choice : List Arc) → IsAssignment p choice → EachHasArc p }
 {}
 
 /// The numbers of the limits.

@@ -5,6 +5,7 @@
 #![tactic(auto)]
 
 mod arc;
+mod dual;
 mod indices;
 mod laws;
 mod layout;
@@ -17,9 +18,11 @@ mod spread;
 mod tokens;
 
 pub use arc::{Arc, ArcList};
+pub use dual::{dual_bound, is_lower, lower_of};
 pub use indices::Indices;
 pub use laws::{
-    assignments_leave_no_price, limits_are, prices_bound_costs, slack_right_costs_least,
+    assigned_persons_have_arcs, assignments_leave_no_price, bounds_fit, limits_are,
+    prices_bound_costs, slack_right_costs_least,
 };
 pub use limits::{MOST_ARCS, MOST_COST, MOST_OBJECTS, MOST_PERSONS, MOST_READS};
 pub use number::{Number, number_of};

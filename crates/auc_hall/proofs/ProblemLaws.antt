@@ -91,10 +91,10 @@ pub in_row : (person : ℕ) (arcs : List Arc) (n : ℕ) (b : Arc) → slice_get 
 unfolding row
 in_row person arcs n b h e = subst (λ (k : ℕ). Contains (map row_arc (filter (is_of person) (enumerate_from 0 arcs))) (row_arc (k, b))) (omega arith) (in_row_from person 0 arcs n b h e)
 
-length-rows : (p : Problem) (t : Table) → IsTableOf p t → length t.rows ≡ p.persons
+pub length-rows : (p : Problem) (t : Table) → IsTableOf p t → length t.rows ≡ p.persons
 length-rows p t h = ap length h.rows ∙ length-map-range_with_len (λ person. row person p.arcs) 0 p.persons
 
-row_is : (p : Problem) (t : Table) → IsTableOf p t → (i : ℕ) → i < p.persons → row_of t i ≡ row i p.arcs
+pub row_is : (p : Problem) (t : Table) → IsTableOf p t → (i : ℕ) → i < p.persons → row_of t i ≡ row i p.arcs
 row_is p t h i lt = ap (λ (rows : List (List RowArc)). get_or rows i []) h.rows ∙ get_or-map-range_with_len (λ person. row person p.arcs) 0 p.persons i i [] lt (omega arith)
 
 pub hall_set_of : (p : Problem) (t : Table) (persons objects : List ℕ) → IsTableOf p t → IsRowHallSet t persons objects → IsHallSetOf p persons objects

@@ -4,7 +4,7 @@ ghost use Rattle.std.specs.Prelude.{◌≡◌, ◌<◌, ◌≤◌, ◌^◌, ◌*
 ghost use Rattle.auc_letters.specs.Price.{IsPrice, IsEps};
 ghost use Rattle.auc_letters.specs.Routing.{to_person, to_hub, price_told};
 ghost use Rattle.auc_letters.specs.Award.{Sale, answers, offer_of};
-ghost use Rattle.auc_objects.specs.Objects.{Objects, IsOffer, Owns, SameShape, after_bid, holder_of, price_of, sale_of, with_sale};
+ghost use Rattle.auc_objects.specs.Objects.{AreObjects, Objects, IsOffer, Owns, SameShape, after_bid, holder_of, price_of, sale_of, with_sale};
 ghost use Rattle.auc_objects.specs.Answers.{letters_of};
 
 use crate::answers::Answers;
@@ -116,7 +116,10 @@ impl ObjectShard {
     pub fn offer_in(&self, letter: Letter) -> Option<Offer>
         ensures some { IfSome result (IsOffer self.now letter) }
         ensures none { IfNone result ((bid : Offer) → IsOffer self.now letter bid → ⊥) }
+        ensures sound { AreObjects self.now }
     {
+        // Read here, so that the proof knows what every shard keeps.
+        let _ = &self.prices;
         let Letter::Bid {
             person,
             arc,

@@ -3,7 +3,7 @@ use Rattle.std.proofs.Common.{◌≡◌, ◌≢◌, ℕ, List, Option, Result, O
 use Rattle.std.specs.Prelude.{IsErrAnd}
 use Rattle.auc_run.specs.declared.input.ReadFault.{ReadFault}
 use Rattle.auc_run.specs.declared.refusal.Refusal.{Refusal}
-use Rattle.auc_run.specs.declared.refusal.Refusal.TheVariants.{NotRead, NoProblem, NoCertificate, Invalid, NoScript, NoMemory as NoMemoryForJob}
+use Rattle.auc_run.specs.declared.refusal.Refusal.TheVariants.{NotRead, NoProblem, NoCertificate, Invalid, NoScript, NoMemory as NoMemoryForJob, NoThreads}
 use Rattle.auc_run.specs.declared.valid.Valid.{Valid}
 use Rattle.auc_run.specs.Verdicts.{IsVerdict}
 use Rattle.auc_run.specs.Problems.{IsProblemIn}
@@ -25,6 +25,7 @@ not_read a b (NoCertificate error) h other = absurd h.2
 not_read a b (Invalid error) h other = absurd h.2
 not_read a b (NoScript error) h other = absurd h.2
 not_read a b NoMemoryForJob h other = absurd (other refl)
+not_read a b NoThreads h other = absurd h.2
 
 pub not_judged : (a b : Option (List ℕ)) (r : Result Valid Refusal) (e : Refusal) → IsProblemIn a (Err e) → e ≢ NoMemoryForJob → IsErrAnd r (λ x. x ≡ e) → IsVerdict a b r
 not_judged a b r e h other p = turned a b r e p (not_read a b e h other)

@@ -1,8 +1,6 @@
 -- What a search for a full assignment may find in a problem, the text that tells it, and which findings are right for the bytes of a problem.
-use Rattle.std.specs.Prelude.{ℕ, List, ◌++◌, ◌≤◌, length, codes, slice_index_or, Option, Result, Ok, Err, ⊤, pos}
+use Rattle.std.specs.Prelude.{ℕ, List, ◌++◌, ◌≤◌, length, codes, Option, Result, Ok, Err, ⊤}
 use Rattle.auc_graph.specs.declared.limits.TheConstants.{MOST_PERSONS}
-use Rattle.auc_graph.specs.declared.arc.Arc.{Arc}
-use Rattle.auc_cert.specs.declared.lists.Pick.{Pick}
 use Rattle.auc_graph.specs.Problem.{Problem}
 use Rattle.auc_graph.specs.Assignment.{IsAssignment}
 use Rattle.auc_cert.specs.Text.{text, assign_line, numbered, joined}
@@ -13,14 +11,6 @@ use Rattle.auc_run.specs.declared.found.Found.TheVariants.{Full, Hall}
 use Rattle.auc_run.specs.declared.refusal.Refusal.{Refusal}
 use Rattle.auc_run.specs.Lines.{counted}
 use Rattle.auc_run.specs.Problems.{AreKnown, BearOutRefusal, IsProblemOf}
-
--- the pick by an arc
-abbrev pub pick_by : Arc → Pick
-pick_by a = record { object = a.object; cost = a.cost }
-
--- the pick by the arc of this number
-abbrev pub pick_at : List Arc → ℕ → Pick
-pick_at arcs n = pick_by (slice_index_or arcs n (record { person = 0; object = 0; cost = pos 0 }))
 
 abbrev pub IsFound : Problem → Found → Type 0
 IsFound p (Full choice) = IsAssignment p (chosen 0 choice)

@@ -2,6 +2,7 @@
 pub mod Lines
 pub mod Statuses
 pub mod Verdicts
+pub mod Refusals
 pub mod Problems
 pub mod Completions
 pub mod Solutions

@@ -4,15 +4,15 @@ use Rattle.std.specs.Fmt.{decimal, signed_decimal}
 use Rattle.auc_graph.specs.declared.read_error.ReadError.{ReadError}
 use Rattle.auc_graph.specs.declared.read_error.ReadError.TheVariants.{Empty, BadNumber, CountRange, TooManyArcs, PersonRange, ObjectRange, CostRange, Cut, NoMemory}
 use Rattle.auc_cert.specs.declared.refused.CertRefused.{CertRefused}
-use Rattle.auc_cert.specs.declared.refused.CertRefused.TheVariants.{WrongSize, NoSuchArc, ObjectTwice, WrongCost, Slack, NotHall, NoMemory as NoMemoryToCheck}
+use Rattle.auc_cert.specs.declared.refused.CertRefused.TheVariants.{WrongSize, NoSuchArc, ObjectTwice, WrongCost, Slack, NotHall, WrongBound, NoMemory as NoMemoryToCheck}
 use Rattle.auc_cert.specs.declared.text_error.CertTextError.{CertTextError}
 use Rattle.auc_cert.specs.declared.text_error.CertTextError.TheVariants.{Line, NoMemory as NoMemoryForText}
 use Rattle.auc_run.specs.declared.input.ReadFault.{ReadFault}
 use Rattle.auc_run.specs.declared.input.ReadFault.TheVariants.{Failed, TooManyReads, NoMemory as NoMemoryToRead}
 use Rattle.auc_run.specs.declared.refusal.Refusal.{Refusal}
-use Rattle.auc_run.specs.declared.refusal.Refusal.TheVariants.{NotRead, NoProblem, NoCertificate, Invalid, NoScript, NoMemory as NoMemoryForJob}
+use Rattle.auc_run.specs.declared.refusal.Refusal.TheVariants.{NotRead, NoProblem, NoCertificate, Invalid, NoScript, NoMemory as NoMemoryForJob, NoThreads}
 use Rattle.auc_run.specs.declared.valid.Valid.{Valid}
-use Rattle.auc_run.specs.declared.valid.Valid.TheVariants.{Optimal, Infeasible}
+use Rattle.auc_run.specs.declared.valid.Valid.TheVariants.{Optimal, Bracket, Infeasible}
 use Rattle.auc_run.specs.declared.script_error.ScriptError.{ScriptError}
 use Rattle.auc_run.specs.declared.script_error.ScriptError.TheVariants.{Word, Range, Cut as CutScript, TooManyCalls, NoMemory as NoMemoryForScript}
 
@@ -50,6 +50,7 @@ claim_line (ObjectTwice object) = counted (codes "invalid twice ") (object + 1)
 claim_line WrongCost = codes "invalid cost\n"
 claim_line (Slack person) = counted (codes "invalid slack ") (person + 1)
 claim_line NotHall = codes "invalid hall\n"
+claim_line WrongBound = codes "invalid bound\n"
 claim_line NoMemoryToCheck = codes "refused memory\n"
 
 -- tokens are written from 1 on
@@ -67,8 +68,10 @@ refusal_line (NoCertificate error) = certificate_line error
 refusal_line (Invalid error) = claim_line error
 refusal_line (NoScript error) = script_line error
 refusal_line NoMemoryForJob = codes "refused memory\n"
+refusal_line NoThreads = codes "refused threads\n"
 
--- a valid claim is told by its cost, or by how many persons and objects it names
+-- a valid claim is told by its cost, by a bound and a cost, or by how many persons and objects it names
 abbrev pub valid_line : Valid → List ℕ
 valid_line (Optimal cost) = codes "valid optimal " ++ signed_decimal cost ++ codes "\n"
+valid_line (Bracket lower cost) = codes "valid bracket " ++ signed_decimal lower ++ codes " " ++ signed_decimal cost ++ codes "\n"
 valid_line (Infeasible persons objects) = codes "valid infeasible " ++ decimal persons ++ codes " " ++ decimal objects ++ codes "\n"

@@ -7,7 +7,7 @@ use Rattle.auc_graph.specs.Memory.{AnswersUnless}
 use Rattle.auc_graph.specs.Problem.{Problem}
 use Rattle.auc_graph.specs.Reading.{reading}
 use Rattle.auc_run.specs.declared.refusal.Refusal.{Refusal}
-use Rattle.auc_run.specs.declared.refusal.Refusal.TheVariants.{NotRead, NoProblem, NoCertificate, Invalid, NoScript, NoMemory as NoMemoryForJob}
+use Rattle.auc_run.specs.declared.refusal.Refusal.TheVariants.{NotRead, NoProblem, NoCertificate, Invalid, NoScript, NoMemory as NoMemoryForJob, NoThreads}
 
 -- a file reads as this problem, or by this first fault as none, unless memory ran out
 abbrev pub ReadsAsProblem : List ℕ → Result Problem ReadError → Type 0
@@ -26,6 +26,7 @@ abbrev pub BearOutRefusal : List ℕ → Refusal → Type 0
 BearOutRefusal file (NoProblem error) = ReadsAsProblem file (Err error)
 BearOutRefusal file (NotRead fault) = ⊤
 BearOutRefusal file NoMemoryForJob = ⊤
+BearOutRefusal file NoThreads = ⊥
 BearOutRefusal file (NoCertificate error) = ⊥
 BearOutRefusal file (Invalid error) = ⊥
 BearOutRefusal file (NoScript error) = ⊥

@@ -1,24 +1,57 @@
 -- What a solve may answer about a problem, the text that tells it, and which answers are right for the bytes of a problem.
-use Rattle.std.specs.Prelude.{ℕ, List, codes, Option, Result, Ok, Err}
+use Rattle.std.specs.Prelude.{ℕ, zero, suc, List, codes, Option, Result, Ok, Err, ⊤}
 use Rattle.auc_graph.specs.Problem.{Problem}
 use Rattle.auc_cert.specs.Text.{text}
 use Rattle.auc_world.specs.declared.answer.Answer.{Answer}
-use Rattle.auc_world.specs.declared.answer.Answer.TheVariants.{Optimal, Infeasible, Broken}
+use Rattle.auc_world.specs.declared.answer.Answer.TheVariants.{Optimal, Infeasible, Bracket, Broken}
 use Rattle.auc_world.specs.declared.answer.Guard.{Guard}
 use Rattle.auc_world.specs.declared.answer.Guard.TheVariants.{Fell, Stray, Stuck, Stall, Check, Settle}
+use Rattle.auc_world.specs.declared.limits.Limits.{Limits}
 use Rattle.auc_world.specs.Answers.{IsAnswer}
+use Rattle.auc_world.specs.Chain.{IsOfRun}
+use Rattle.auc_threads.specs.declared.phase.PhaseEnd.{PhaseEnd}
+use Rattle.auc_threads.specs.Solved.{IsSolvedBy, IsThreadAnswer}
 use Rattle.auc_run.specs.declared.refusal.Refusal.{Refusal}
+use Rattle.auc_run.specs.declared.refusal.Refusal.TheVariants.{NotRead, NoProblem, NoCertificate, Invalid, NoScript, NoMemory, NoThreads}
 use Rattle.auc_run.specs.Problems.{AreKnown, BearOutRefusal, IsProblemOf}
 
--- The bytes of a problem bear an answer out, or the refusal: a certificate of a least assignment, one that there is none, or the guard of the checker,
--- which is hit only where there is an assignment.
-abbrev pub BearOutSolved : List ℕ → Result Answer Refusal → Type 0
-BearOutSolved file (Ok answer) = (p : Problem) × IsProblemOf file p × IsAnswer p answer
-BearOutSolved file (Err refusal) = BearOutRefusal file refusal
+-- the limits of a solve without threads: one shard of each kind, so many bids, and else the usual numbers
+abbrev pub limits_of : ℕ → Limits
+limits_of bids = record { shards = 1; bids = bids; posts = 1000000000000; audit = 0; nodes = 0 }
+
+-- The bytes of a problem bear an answer out, or the refusal. An answer is a certificate in which the checker finds no fault: of a least assignment, of an
+-- assignment and a bound, or that there is none; and it is that of a run by so many bids. No guard is hit.
+abbrev pub BearOutSolved : ℕ → List ℕ → Result Answer Refusal → Type 0
+BearOutSolved bids file (Ok answer) = (p : Problem) × IsProblemOf file p × IsAnswer p answer × IsOfRun p (limits_of bids) answer
+BearOutSolved bids file (Err refusal) = BearOutRefusal file refusal
+
+-- the limits of a solve with threads: so many shards of each kind, bids, and places in each trail, and else the usual numbers
+abbrev pub thread_limits_of : ℕ → ℕ → ℕ → Limits
+thread_limits_of workers bids audit = record { shards = workers; bids = bids; posts = 1000000000000; audit = audit; nodes = 0 }
+
+-- The same of a solve with threads. An answer is that of its phases, of which the last one decides; it may be a guard that was hit.
+abbrev pub BearOutThreads : ℕ → ℕ → ℕ → List ℕ → Result Answer Refusal → Type 0
+BearOutThreads workers bids audit file (Ok answer) = (p : Problem) × IsProblemOf file p × IsThreadAnswer p answer × ((phases : List PhaseEnd) × IsSolvedBy p (thread_limits_of workers bids audit) phases answer)
+BearOutThreads workers bids audit file (Err NoThreads) = ⊤
+BearOutThreads workers bids audit file (Err (NotRead fault)) = BearOutRefusal file (NotRead fault)
+BearOutThreads workers bids audit file (Err (NoProblem error)) = BearOutRefusal file (NoProblem error)
+BearOutThreads workers bids audit file (Err (NoCertificate error)) = ⊥
+BearOutThreads workers bids audit file (Err (Invalid error)) = ⊥
+BearOutThreads workers bids audit file (Err (NoScript error)) = ⊥
+BearOutThreads workers bids audit file (Err NoMemory) = BearOutRefusal file NoMemory
+
+-- a solve goes by threads where there are workers
+abbrev pub BearOutSolve : ℕ → ℕ → ℕ → List ℕ → Result Answer Refusal → Type 0
+BearOutSolve zero bids audit file answer = BearOutSolved bids file answer
+BearOutSolve (suc workers) bids audit file answer = BearOutThreads (suc workers) bids audit file answer
+
+-- what was answered in threads about the problem that a reader has
+abbrev pub IsSolvedByThreadsIn : ℕ → ℕ → ℕ → Option (List ℕ) → Result Answer Refusal → Type 0
+IsSolvedByThreadsIn workers bids audit reader answer = (file : List ℕ) × AreKnown reader file × BearOutThreads workers bids audit file answer
 
 -- what was answered about the problem that a reader has
-abbrev pub IsSolvedIn : Option (List ℕ) → Result Answer Refusal → Type 0
-IsSolvedIn reader answer = (file : List ℕ) × AreKnown reader file × BearOutSolved file answer
+abbrev pub IsSolvedIn : ℕ → Option (List ℕ) → Result Answer Refusal → Type 0
+IsSolvedIn bids reader answer = (file : List ℕ) × AreKnown reader file × BearOutSolved bids file answer
 
 abbrev pub guard_line : Guard → List ℕ
 guard_line Fell = codes "broken fell\n"
@@ -31,10 +64,12 @@ guard_line Settle = codes "broken settle\n"
 abbrev pub answer_text : Answer → List ℕ
 answer_text (Optimal cert) = text cert
 answer_text (Infeasible cert) = text cert
+answer_text (Bracket cert) = text cert
 answer_text (Broken guard) = guard_line guard
 
--- 0 for a least assignment, 3 where there is no assignment, 7 for a broken guard
+-- 0 for a least assignment, 3 where there is no assignment, 4 for an assignment and a bound, 7 for a broken guard
 abbrev pub answer_status : Answer → ℕ
 answer_status (Optimal cert) = 0
 answer_status (Infeasible cert) = 3
+answer_status (Bracket cert) = 4
 answer_status (Broken guard) = 7

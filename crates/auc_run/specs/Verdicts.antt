@@ -3,7 +3,7 @@ use Rattle.std.specs.Prelude.{◌≡◌, ℕ, List, length, Option, Result, Ok, 
 use Rattle.auc_graph.specs.Problem.{Problem}
 use Rattle.auc_graph.specs.Memory.{AnswersUnless}
 use Rattle.auc_cert.specs.declared.cert.CertParts.{CertParts}
-use Rattle.auc_cert.specs.declared.cert.CertParts.TheVariants.{Optimal, Infeasible}
+use Rattle.auc_cert.specs.declared.cert.CertParts.TheVariants.{Optimal, Bracket, Infeasible}
 use Rattle.auc_cert.specs.declared.refused.CertRefused.{CertRefused}
 use Rattle.auc_cert.specs.declared.refused.CertRefused.TheVariants.{NoMemory as NoMemoryToCheck}
 use Rattle.auc_cert.specs.declared.text_error.CertTextError.TheVariants.{Line, NoMemory as NoMemoryForText}
@@ -12,7 +12,7 @@ use Rattle.auc_cert.specs.Text.{text}
 use Rattle.auc_cert.specs.CertReading.{IsFirstBadLine}
 use Rattle.auc_cert.specs.Claim.{fault_of, IsAllowed, IsVerdict as IsVerdictOn}
 use Rattle.auc_run.specs.declared.refusal.Refusal.{Refusal}
-use Rattle.auc_run.specs.declared.refusal.Refusal.TheVariants.{NotRead, NoProblem, NoCertificate, Invalid, NoScript, NoMemory as NoMemoryForJob}
+use Rattle.auc_run.specs.declared.refusal.Refusal.TheVariants.{NotRead, NoProblem, NoCertificate, Invalid, NoScript, NoMemory as NoMemoryForJob, NoThreads}
 use Rattle.auc_run.specs.declared.valid.Valid.{Valid}
 use Rattle.auc_run.specs.Problems.{AreKnown, IsProblemOf, ReadsAsProblem}
 
@@ -24,13 +24,14 @@ pub record IsClaimOf (cert : List ℕ) (c : CertParts) : Type 0 where
 -- what a claim says, in short
 abbrev pub said_by : CertParts → Valid
 said_by (Optimal cost choice prices) = Valid.Optimal cost
+said_by (Bracket reason lower cost choice prices) = Valid.Bracket lower cost
 said_by (Infeasible persons objects) = Valid.Infeasible (length persons) (length objects)
 
 -- a check answers this, unless memory ran out
 abbrev pub IsCheckOf : Problem → CertParts → Result ⊤ CertRefused → Type 0
 IsCheckOf p c answer = AnswersUnless NoMemoryToCheck (λ x. x) answer (IsVerdictOn (fault_of p c))
 
--- A verdict on a problem and a claim. A valid claim is true: its picks are an assignment of this cost, and none costs less, whatever the prices; or its
+-- A verdict on a problem and a claim. A valid claim is true: its picks are an assignment of this cost, and none costs less, whatever the prices, or than its bound; or its
 -- persons together know fewer objects than they number. An invalid one has this first fault.
 abbrev pub Judges : Problem → CertParts → Result Valid Refusal → Type 0
 Judges p c (Ok valid) = IsCheckOf p c (Ok tt) × IsAllowed p c × (said_by c ≡ valid)
@@ -40,6 +41,7 @@ Judges p c (Err (NoProblem error)) = ⊥
 Judges p c (Err (NoCertificate error)) = ⊥
 Judges p c (Err (NoScript error)) = ⊥
 Judges p c (Err NoMemoryForJob) = ⊥
+Judges p c (Err NoThreads) = ⊥
 
 -- The bytes of a problem and of a certificate bear a verdict out. Of a read that failed, of too many reads and of want of memory in reading nothing is known.
 abbrev pub BearOut : List ℕ → List ℕ → Result Valid Refusal → Type 0
@@ -51,6 +53,7 @@ BearOut file cert (Err (NoProblem error)) = ReadsAsProblem file (Err error)
 BearOut file cert (Err (NotRead fault)) = ⊤
 BearOut file cert (Err (NoScript error)) = ⊥
 BearOut file cert (Err NoMemoryForJob) = ⊥
+BearOut file cert (Err NoThreads) = ⊥
 
 -- a verdict on what two readers have
 abbrev pub IsVerdict : Option (List ℕ) → Option (List ℕ) → Result Valid Refusal → Type 0

@@ -1,10 +1,10 @@
 //! The jobs.
 
-ghost use Rattle.std.specs.Prelude.{◌≡◌, ◌≢◌, IfOk, IfSome, IsErr};
+ghost use Rattle.std.specs.Prelude.{◌≡◌, ◌≢◌, ◌≤◌, ℕ, List, Option, IfOk, IfSome, IsErr};
 ghost use Rattle.auc_graph.specs.Reading.{reading};
 ghost use Rattle.auc_cert.specs.Spelled.{IsSpelled};
 ghost use Rattle.auc_run.specs.Verdicts.{Judges, IsVerdict, said_by};
-ghost use Rattle.auc_run.specs.Jobs.{IsInRange};
+ghost use Rattle.auc_run.specs.Jobs.{IsInRange, IsPlain};
 ghost use Rattle.auc_run.specs.Reports.{IsWritable};
 ghost use Rattle.auc_run.specs.Said.{IsOutcome, Said};
 
@@ -14,12 +14,15 @@ use crate::mail::replies_of;
 use crate::problem::problem_of;
 use crate::refusal::Refusal;
 use crate::report::{Report, tell};
-use crate::solve::answer_of;
+use crate::solve::{answer_by_threads, answer_of};
 use crate::valid::Valid;
 use auc_cert::{Cert, CertParts, check, read_cert};
 use auc_graph::{ArcList, MOST_ARCS, MOST_READS};
+use auc_threads::Gate;
 use std::alloc::Global;
 use std::io::{Read, Write};
+use std::sync::Wait;
+use std::thread::Threads;
 
 /// The most bids that a solve may allow for a phase.
 pub const MOST_BIDS: u64 = 1_000_000_000_000;
@@ -28,13 +31,14 @@ pub const MOST_BIDS: u64 = 1_000_000_000_000;
 #[derive(Clone, Copy, Debug, PartialEq, Eq)]
 pub enum Job {
     /// Reads a problem from the first reader, and finds an assignment of least cost with prices that show it, or persons who
-    /// together know too few objects.
+    /// together know too few objects; or, where the bids don't do, an assignment and a bound below which none costs.
     Solve {
-        /// How many threads do the work of each kind of shard; 0 for none, and so far always 0.
+        /// How many threads do the work of each kind of shard: 0 to 16, and 0 for none.
         workers: u32,
         /// How many bids each shard of the persons may make in a phase: 1 to [`MOST_BIDS`].
         bids: u64,
-        /// How many calls the trail of each mail may note; so far always 0, for no trail.
+        /// How many calls the trail of each mail may note, by which the phases are judged: 0 to 1,000,000, and 0 for no trail. Without
+        /// threads there is none.
         audit: u32,
     },
     /// Reads a problem from the first reader and a certificate from the second, and says whether what the certificate
@@ -54,6 +58,10 @@ fn said_by(cert: &Cert) -> Valid
 {
     match cert.parts() {
         CertParts::Optimal { cost, .. } => Valid::Optimal { cost: *cost },
+        CertParts::Bracket { lower, cost, .. } => Valid::Bracket {
+            lower: *lower,
+            cost: *cost,
+        },
         CertParts::Infeasible { persons, objects } => Valid::Infeasible {
             persons: persons.as_slice().len(),
             objects: objects.as_slice().len(),
@@ -94,7 +102,8 @@ fn outcome_of<R: Read, Q: Read>(
     reader: &mut R,
     second: &mut Q,
 ) -> Result<Report, Refusal>
-    requires { IsInRange job.now }
+    requires range { IsInRange job.now }
+    requires plain { IsPlain job.now }
     ensures outcome { IsOutcome job.now (R.remaining reader.old) (Q.remaining second.old) result }
     ensures writable { IfOk result IsWritable }
     ensures unread { IfSome (R.remaining reader.old) (λ file. IsErr (reading MOST_ARCS file) → second.new ≡ second.old) }
@@ -108,7 +117,26 @@ fn outcome_of<R: Read, Q: Read>(
     }
 }
 
-/// Does a job: reads `reader` and, where the job wants it, `second`, writes the answer to `writer`, and gives the
+/// What a solve with threads comes to on what the reader has.
+fn outcome_by_threads<H: Threads + Wait + Sync, R: Read, G: Gate + Sync>(
+    rt: &H,
+    alloc: Global,
+    reader: &mut R,
+    workers: u32,
+    bids: u64,
+    audit: u32,
+    gate: &G,
+) -> Result<Report, Refusal>
+    requires some { 1 ≤ workers }
+    requires range { IsInRange (Job.Solve workers bids audit) }
+    ensures outcome { (second : Option (List ℕ)) → IsOutcome (Job.Solve workers bids audit) (R.remaining reader.old) second result }
+    ensures writable { IfOk result IsWritable }
+{
+    let answer = answer_by_threads(rt, alloc, reader, workers, bids, audit, gate)?;
+    Ok(Report::Solved(answer))
+}
+
+/// Does a job that starts no thread: reads `reader` and, where the job wants it, `second`, writes the answer to `writer`, and gives the
 /// status, one of [`crate::status`]. Each reader is read to its end, by at most [`MOST_READS`] reads, and a failed read
 /// is never tried again. The writer is not flushed.
 ///
@@ -119,12 +147,40 @@ fn outcome_of<R: Read, Q: Read>(
 /// A check takes O(bytes) time; its memory is that of one input at a time, and 16 bytes an arc. A hall takes that and the
 /// time of its search, see [`auc_hall::complete`], and 28 bytes an arc. A mail takes the time of its
 /// calls, and memory for its lanes, its letters and a reply for each call.
-pub fn run_command<R: Read, Q: Read, W: Write>(
+pub fn run_plain<R: Read, Q: Read, W: Write>(
     alloc: Global,
     job: &Job,
     reader: &mut R,
     second: &mut Q,
     writer: &mut W,
+) -> u8
+    // The job's numbers are those that its fields allow.
+    requires range { IsInRange job.now }
+    // It has no workers.
+    requires plain { IsPlain job.now }
+    // What was written and the status are right for the bytes that were read.
+    ensures said { result ≢ 8 → Said job.now (R.remaining reader.old) (Q.remaining second.old) (W.contents writer.old) (W.contents writer.new) result }
+    // A certificate for what is no problem is left unread.
+    ensures unread { IfSome (R.remaining reader.old) (λ file. IsErr (reading MOST_ARCS file) → second.new ≡ second.old) }
+    // Only a check has a second input.
+    ensures alone { job.now ≢ Job.Check → second.new ≡ second.old }
+{
+    let outcome = outcome_of(alloc, job, reader, second);
+    tell(writer, outcome)
+}
+
+/// Does a job, as [`run_plain`] does; but a solve with workers by threads, see [`auc_threads::solve_threads`]: a thread for each worker in each phase,
+/// and the caller's for the hub. Each worker passes the gate before each of its calls of a mail.
+///
+/// Nothing is said of whether a solve with threads ends. Where a thread can't be started, those that run are ended, and the job is refused.
+pub fn run_command<H: Threads + Wait + Sync, R: Read, Q: Read, W: Write, G: Gate + Sync>(
+    rt: &H,
+    alloc: Global,
+    job: &Job,
+    reader: &mut R,
+    second: &mut Q,
+    writer: &mut W,
+    gate: &G,
 ) -> u8
     // The job's numbers are those that its fields allow.
     requires range { IsInRange job.now }
@@ -135,6 +191,16 @@ pub fn run_command<R: Read, Q: Read, W: Write>(
     // Only a check has a second input.
     ensures alone { job.now ≢ Job.Check → second.new ≡ second.old }
 {
-    let outcome = outcome_of(alloc, job, reader, second);
-    tell(writer, outcome)
+    if let Job::Solve {
+        workers,
+        bids,
+        audit,
+    } = *job
+    {
+        if workers > 0 {
+            let outcome = outcome_by_threads(rt, alloc, reader, workers, bids, audit, gate);
+            return tell(writer, outcome);
+        }
+    }
+    run_plain(alloc, job, reader, second, writer)
 }

@@ -1,35 +1,20 @@
 //! The job of a hall: a problem is read, and each person gets an arc, or persons are named who know too few objects.
 
-ghost use Rattle.std.specs.Prelude.{◌≡◌, ◌<◌, length, map, All, IfOk};
+ghost use Rattle.std.specs.Prelude.{◌≡◌, IfOk};
 ghost use Rattle.auc_cert.specs.Spelled.{AreNamed};
 ghost use Rattle.auc_cert.specs.Writing.{Writes};
-ghost use Rattle.auc_run.specs.Completions.{IsFound, IsFoundIn, IsSmall, found_text, pick_at};
+ghost use Rattle.auc_run.specs.Completions.{IsFound, IsFoundIn, IsSmall, found_text};
 
 use crate::found::Found;
 use crate::lines::write_counted;
 use crate::problem::problem_of;
 use crate::refusal::Refusal;
-use auc_cert::{Cert, CertParts, Pick, Picks, WriteFault, write_cert, write_picks};
-use auc_graph::{Arc, ArcList, Indices, Rows};
+use auc_cert::{Cert, CertParts, Picks, WriteFault, write_cert, write_picks};
+use auc_graph::{ArcList, Indices, Rows};
 use auc_hall::{Matching, Partial, complete};
+use auc_world::picks_of_matching;
 use std::alloc::{AllocError, Global};
 use std::io::{Read, Write};
-
-/// The picks by the arcs of these numbers.
-fn picks_of(alloc: Global, arcs: &[Arc], numbers: &[u32]) -> Result<Vec<Pick>, AllocError>
-    requires { All (λ n. n < length arcs.now) numbers.now }
-    ensures { IfOk result (λ v. v.items ≡ map (pick_at arcs.now) numbers.now) }
-{
-    let mut picks = Vec::with_capacity(alloc, numbers.len())?;
-    for number in numbers {
-        let arc = arcs[*number as usize];
-        picks.push(Pick {
-            object: arc.object,
-            cost: arc.cost,
-        })?;
-    }
-    Ok(picks)
-}
 
 /// The certificate that names these persons and objects.
 fn certificate_of(persons: Indices, objects: Indices) -> Cert
@@ -47,12 +32,13 @@ fn found_in(alloc: Global, problem: &ArcList) -> Result<Found, AllocError>
     ensures found { IfOk result (IsFound problem.now) }
     ensures small { IfOk result IsSmall }
 {
-    let arcs = problem.arcs();
+    // Read here, so that the proof knows what every problem keeps.
+    let _ = problem.arcs();
     let rows = Rows::build(alloc, problem)?;
     let partial = Partial::new(alloc, &rows)?;
     match complete(alloc, &rows, partial)? {
         Matching::Full(numbers) => {
-            let picks = picks_of(alloc, arcs, numbers.as_slice())?;
+            let picks = picks_of_matching(alloc, problem, numbers.as_slice())?;
             Ok(Found::Full(Picks::new(picks)))
         }
         Matching::Hall { persons, objects } => Ok(Found::Hall(certificate_of(persons, objects))),

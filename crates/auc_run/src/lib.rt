@@ -23,8 +23,12 @@ mod solve;
 pub mod status;
 mod valid;
 
+pub use auc_threads::{
+    FreeGate, Gate, Mails, PhaseEnd, RunError, Solved, Trails, WorkerSeats, phase_threads,
+    solve_threads,
+};
 pub use auc_world::USUAL_BIDS;
-pub use command::{Job, MOST_BIDS, run_command};
+pub use command::{Job, MOST_BIDS, run_command, run_plain};
 pub use found::Found;
 pub use input::{ReadFault, read_all};
 pub use laws::limits_are;

@@ -2,7 +2,7 @@
 
 ghost use Rattle.std.specs.Prelude.{◌+◌};
 ghost use Rattle.auc_cert.specs.Writing.{Writes};
-ghost use Rattle.auc_run.specs.declared.valid.Valid.TheVariants.{Optimal, Infeasible};
+ghost use Rattle.auc_run.specs.declared.valid.Valid.TheVariants.{Optimal, Bracket, Infeasible};
 ghost use Rattle.auc_run.specs.Lines.{counted, input_line, problem_line, certificate_line, claim_line, script_line, refusal_line, valid_line};
 
 use crate::input::ReadFault;
@@ -45,6 +45,17 @@ fn write_optimal<W: Write>(writer: &mut W, cost: i64) -> Result<(), WriteFault>
     Ok(())
 }
 
+fn write_bracket<W: Write>(writer: &mut W, lower: i64, cost: i64) -> Result<(), WriteFault>
+    ensures { Writes result (W.contents writer.old) (W.contents writer.new) (valid_line (Bracket lower cost)) }
+{
+    write_whole(writer, b"valid bracket ")?;
+    write_number(writer, lower)?;
+    write_whole(writer, b" ")?;
+    write_number(writer, cost)?;
+    write_whole(writer, b"\n")?;
+    Ok(())
+}
+
 fn write_infeasible<W: Write>(writer: &mut W, persons: u64, objects: u64) -> Result<(), WriteFault>
     ensures { Writes result (W.contents writer.old) (W.contents writer.new) (valid_line (Infeasible persons objects)) }
 {
@@ -62,6 +73,7 @@ pub(crate) fn write_valid<W: Write>(writer: &mut W, valid: Valid) -> Result<(), 
 {
     match valid {
         Valid::Optimal { cost } => write_optimal(writer, cost),
+        Valid::Bracket { lower, cost } => write_bracket(writer, lower, cost),
         Valid::Infeasible { persons, objects } => {
             write_infeasible(writer, persons as u64, objects as u64)
         }
@@ -115,6 +127,7 @@ fn write_claim<W: Write>(writer: &mut W, error: CertRefused) -> Result<(), Write
         CertRefused::WrongCost => write_whole(writer, b"invalid cost\n"),
         CertRefused::Slack { person } => { write_place(writer, b"invalid slack ", person as u64) }
         CertRefused::NotHall => write_whole(writer, b"invalid hall\n"),
+        CertRefused::WrongBound => write_whole(writer, b"invalid bound\n"),
         CertRefused::NoMemory => write_whole(writer, b"refused memory\n"),
     }
 }
@@ -142,5 +155,6 @@ pub(crate) fn write_refusal<W: Write>(writer: &mut W, refusal: Refusal) -> Resul
         Refusal::Invalid(error) => write_claim(writer, error),
         Refusal::NoScript(error) => write_script(writer, error),
         Refusal::NoMemory => write_whole(writer, b"refused memory\n"),
+        Refusal::NoThreads => write_whole(writer, b"refused threads\n"),
     }
 }

@@ -1,12 +1,14 @@
 //! Why a job was refused.
 
 ghost use Rattle.std.specs.Prelude.{◌≡◌};
-ghost use Rattle.auc_run.specs.declared.refusal.Refusal.TheVariants.{NotRead, NoProblem, NoCertificate, Invalid, NoScript, NoMemory};
+ghost use Rattle.auc_run.specs.declared.refusal.Refusal.TheVariants.{NotRead, NoProblem, NoCertificate, Invalid, NoScript, NoMemory, NoThreads};
+ghost use Rattle.auc_run.specs.Refusals.{refusal_of_run};
 
 use crate::input::ReadFault;
 use crate::script_error::ScriptError;
 use auc_cert::{CertRefused, CertTextError};
 use auc_graph::ReadError;
+use auc_threads::RunError;
 use std::alloc::AllocError;
 
 /// Why a job was refused. Of a check the problem is read and judged first, then the certificate, then the claim.
@@ -24,6 +26,8 @@ pub enum Refusal {
     NoScript(ScriptError),
     /// Memory ran out, when the inputs had been read.
     NoMemory,
+    /// A thread couldn't be started.
+    NoThreads,
 }
 
 impl From<ReadFault> for Refusal {
@@ -71,5 +75,16 @@ impl From<AllocError> for Refusal {
 
     fn from(_e: AllocError) -> Refusal {
         Refusal::NoMemory
+    }
+}
+
+impl From<RunError> for Refusal {
+    ghost from_gives = { λ error r. r ≡ refusal_of_run error };
+
+    fn from(error: RunError) -> Refusal {
+        match error {
+            RunError::NoMemory => Refusal::NoMemory,
+            RunError::Spawn => Refusal::NoThreads,
+        }
     }
 }

@@ -15,7 +15,8 @@ use crate::replies::{Replies, write_replies};
 use crate::script_error::ScriptError;
 use crate::solve::write_answer;
 use crate::status::{
-    BROKEN, FULL, INFEASIBLE, INVALID, NO_MEMORY, OPTIMAL, REFUSED, REPLIED, UNWRITTEN, VALID,
+    BRACKET, BROKEN, FULL, INFEASIBLE, INVALID, NO_MEMORY, OPTIMAL, REFUSED, REPLIED, UNWRITTEN,
+    VALID,
 };
 use crate::valid::Valid;
 use auc_cert::{CertRefused, CertTextError, WriteFault};
@@ -56,6 +57,7 @@ fn status_of_report(report: &Report) -> u8
     match report {
         Report::Solved(Answer::Optimal(_)) => OPTIMAL,
         Report::Solved(Answer::Infeasible(_)) => INFEASIBLE,
+        Report::Solved(Answer::Bracket(_)) => BRACKET,
         Report::Solved(Answer::Broken(_)) => BROKEN,
         Report::Judged(_) => VALID,
         Report::Completed(Found::Full(_)) => FULL,
@@ -74,7 +76,8 @@ fn status_of_refusal(refusal: Refusal) -> u8
         | Refusal::NoCertificate(CertTextError::NoMemory)
         | Refusal::Invalid(CertRefused::NoMemory)
         | Refusal::NoScript(ScriptError::NoMemory)
-        | Refusal::NoMemory => NO_MEMORY,
+        | Refusal::NoMemory
+        | Refusal::NoThreads => NO_MEMORY,
         Refusal::Invalid(_) => INVALID,
         Refusal::NotRead(_)
         | Refusal::NoProblem(_)

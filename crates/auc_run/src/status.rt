@@ -21,10 +21,13 @@ pub const INVALID: u8 = 3;
 /// There is no assignment.
 pub const INFEASIBLE: u8 = 3;
 
+/// An assignment was found, and a bound below which none costs: a limit was reached.
+pub const BRACKET: u8 = 4;
+
 /// An input can't be opened or read, or is no problem, no certificate or no script.
 pub const REFUSED: u8 = 5;
 
-/// Memory ran out.
+/// Memory ran out, or a thread couldn't be started.
 pub const NO_MEMORY: u8 = 6;
 
 /// A guard of the solver was hit: there is no answer.

@@ -5,6 +5,8 @@
 pub enum Valid {
     /// That this is the least cost of an assignment.
     Optimal { cost: i64 },
+    /// That there is an assignment of this cost, and that none costs less than `lower`.
+    Bracket { lower: i64, cost: i64 },
     /// That so many persons together know at most so many objects, fewer than they.
     Infeasible { persons: usize, objects: usize },
 }

@@ -4,7 +4,7 @@ use Rattle.std.specs.Prelude.{All, map}
 use Rattle.auc_cert.specs.declared.cert.CertParts.TheVariants.{Optimal}
 use Rattle.auc_cert.specs.Claim.{pick_of}
 use Rattle.std.proofs.lemmas.List.Elements.{All-weaker}
-use Rattle.auc_cert.specs.Spelled.{IsPrice as IsPriceText}
+use Rattle.auc_graph.specs.Price.{IsPrice as IsPriceText}
 use Rattle.auc_cert.proofs.ClaimLaws.{faultless_is_allowed}
 use Rattle.auc_cert.proofs.Converse.{assignment_spelled, slack_right_faultless}
 use Rattle.auc_graph.specs.declared.arc.Arc.{Arc}
@@ -20,6 +20,10 @@ use Rattle.auc_model.proofs.Chosen.{holders_are_assignment}
 use Rattle.auc_model.proofs.CountedSlack.{held_slack_right}
 use Rattle.auc_world.specs.Answers.{IsCertified}
 
+-- prices of letters are prices
+pub in_range : (prices : List ℤ) → All IsPrice prices → All IsPriceText prices
+in_range prices = All-weaker IsPrice IsPriceText (λ z h. record { low = h.low; high = h.high }) prices
+
 module _ (p : Problem) (t : Table) (shards : ℕ) (v : World) (prices : List ℤ) (is : IsProblem p) (table : IsTable t) (of : IsTableOf p t) (reached : Reached (phase_of t shards (pos 1)) v) (true_prices : ArePricesOf v prices) (many : length prices ≡ p.objects) (range : All IsPrice prices) where
   slack : (choice : List Arc) → IsAssignment p choice → All (IsHeldArc p v) choice → All (IsSlackRight (pos 1) (scale_of p) prices p.arcs) choice
   slack choice given held k d l =
@@ -30,8 +34,7 @@ module _ (p : Problem) (t : Table) (shards : ℕ) (v : World) (prices : List ℤ
 
   certified : (choice : List Arc) → IsAssignment p choice → All (IsHeldArc p v) choice → IsCertified p (Optimal (total_cost choice) (map pick_of choice) prices)
   certified choice given held =
-      let prices_spelled : All IsPriceText prices = All-weaker IsPrice IsPriceText (λ z h. record { low = h.low; high = h.high }) prices range in
-      let spelled = assignment_spelled p choice prices is given many prices_spelled in
+      let spelled = assignment_spelled p choice prices is given many (in_range prices range) in
       let faultless = slack_right_faultless p choice given prices many (total_cost choice) refl (slack choice given held) in
       record { spelled = spelled; faultless = faultless; allowed = faultless_is_allowed p (Optimal (total_cost choice) (map pick_of choice) prices) is spelled faultless }
 

@@ -104,7 +104,7 @@ awards_reach n (Some held) i j p some = two_reach n (to_person n held.person (Le
 refusal_reaches : (n i j : ℕ) (p : ℤ) → 0 < n → All (Reaches n) (refusal n i j p)
 refusal_reaches n i j p some = one_reach n (to_person n i (Letter.Refused i j p)) (omega arith)
 
-answers_reach : (n : ℕ) (eps : ℤ) (sale : Sale) (bid : Offer) → 0 < n → All (Reaches n) (answers n eps sale bid)
+pub answers_reach : (n : ℕ) (eps : ℤ) (sale : Sale) (bid : Offer) → 0 < n → All (Reaches n) (answers n eps sale bid)
 answers_reach n eps sale bid some = by (is_accepted eps sale bid)
   where
     by : (b : Bool) → All (Reaches n) (cond b (awards n sale.holder bid.person bid.object bid.amount) (refusal n bid.person bid.object sale.price))

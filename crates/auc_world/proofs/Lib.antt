@@ -1,17 +1,22 @@
--- That a Hall set has a certificate is for the crates above too; the rest is this crate's own.
+-- Hall sets' certificates, what steps keep of a shard, what a new shard is, and what a matching and new prices are to a phase are for the crates above too; the rest is this crate's own.
 mod WorkedEps
-mod Keeping
+pub mod Keeping
 mod Seen
 mod PostingLaws
 mod BiddingLaws
 mod HearingLaws
 mod SellingLaws
 mod HubLaws
-mod Made
+pub mod Made
 mod TurnByTurn
 mod RoundLaws
 mod PlayLaws
 pub mod HallCertificates
 mod GatherLaws
-mod PhaseLaws
+mod FoundLaws
+mod MatchingPicks
+mod PlacedLaws
+pub mod PhaseLaws
 mod Bridge
+mod BracketLaws
+mod ChainLaws

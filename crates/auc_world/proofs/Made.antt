@@ -50,7 +50,7 @@ empty_or false os e = refl
 reach_none : (n : ℕ) (xs : List Out) → xs ≡ [] → All (Reaches n) xs
 reach_none n xs e = rw e (λ k d l. absurd (omega arith))
 
-replicate_default : {X : Type 0} (n i : ℕ) (a : X) → get_or (replicate n a) i a ≡ a
+pub replicate_default : {X : Type 0} (n i : ℕ) (a : X) → get_or (replicate n a) i a ≡ a
 replicate_default n i a = elim (cases_lt i n) [ inl l ↦ get_or-replicate n i a a l | inr past ↦ get_or_past (replicate n a) i a (rw length-replicate past) ]
 
 price_at : (prices : List ℤ) → All IsPrice prices → (j : ℕ) → IsPrice (get_or prices j (pos 0))
@@ -69,7 +69,7 @@ new_mail_is n m boxes nodes most e = record {
 new_mail_new : (m : Mail Letter) (boxes count nodes most : ℕ) → m ≡ empty_mail boxes count nodes most → m ≡ empty_mail boxes count m.nodes m.most
 new_mail_new m boxes count nodes most e = subst (λ (x : Mail Letter). x ≡ empty_mail boxes count x.nodes x.most) (sym e) refl
 
-new_persons_are : (t : Table) (shards bids : ℕ) (prices : List ℤ) (s : ℕ) → length prices ≡ t.objects → IsPersonShard t shards s (new_persons shards (length t.rows) bids prices s)
+pub new_persons_are : (t : Table) (shards bids : ℕ) (prices : List ℤ) (s : ℕ) → length prices ≡ t.objects → IsPersonShard t shards s (new_persons shards (length t.rows) bids prices s)
 new_persons_are t shards bids prices s each = record {
   number = refl;
   of = refl;

@@ -1,6 +1,7 @@
 -- What a phase comes to: of all stops only those by a limit, and never a stall.
-use Rattle.std.proofs.Common.{ℕ, ℤ, pos, ◌<◌, ◌≡◌, ◌≢◌, List, Some, None, get_or, refl, subst, ap, ◌∙◌, arith, Contains}
-use Rattle.std.specs.Prelude.{All, ◌<ℤ◌, replicate, unsigned_abs}
+use Rattle.std.proofs.Common.{ℕ, ℤ, pos, ◌<◌, ◌≡◌, List, Option, Some, None, get_or, sym, subst, ap, ◌∙◌, arith, Contains}
+use Rattle.auc_cert.specs.declared.reason.Reason.{Reason}
+use Rattle.std.specs.Prelude.{Ok, Err, All, ◌<ℤ◌, replicate, unsigned_abs}
 use Rattle.std.proofs.lemmas.Int.{ints}
 use Rattle.std.proofs.lemmas.List.{get_or-replicate, length-replicate}
 use Rattle.std.specs.List.{slice_get}
@@ -31,46 +32,37 @@ use Rattle.auc_world.specs.declared.gathering.Gathered.{Gathered}
 use Rattle.auc_world.specs.declared.limits.Limits.{Limits}
 use Rattle.auc_world.specs.declared.solving.Outcome.{Outcome}
 use Rattle.auc_world.specs.Gathering.{AreSales, IsGathered}
-use Rattle.auc_world.specs.Answers.{HasAssignment, IsAnswer, IsInfeasibleAnswer, IsOptimalAnswer, guard_of}
-use Rattle.auc_world.specs.Making.{ArePrices}
+use Rattle.auc_world.specs.Answers.{HasAssignment, IsAnswer, IsInfeasibleAnswer, stop_of, why_of}
+use Rattle.auc_world.specs.Making.{ArePrices, IsMade}
 use Rattle.auc_world.specs.Parts.{Parts, phase, seen}
-use Rattle.auc_world.specs.Phases.{ComesOf, IsPlayed, NobodyStuck}
+use Rattle.auc_world.specs.Phases.{ComesOf, IsPlayed, Leaves, NobodyStuck, Stage}
 use Rattle.auc_world.specs.Rounds.{Rounds}
 use Rattle.auc_world.proofs.RoundLaws.{rounds_schedule}
-
--- the world that a phase begins with, and the one that whole rounds lead to
-pub is_played : (p v : Parts) (g : Phase) (prices : List ℤ) → phase p ≡ g → Starts (phase p) (seen p) → ((j : ℕ) → (seen p).price j ≡ get_or prices j (pos 0)) → ((n : ℕ) × Rounds (phase p) (seen p) n (seen v)) → IsPlayed g prices (seen v)
-is_played p v g prices same starts fair rounds = record {
-  start = seen p;
-  starts = subst (λ (h : Phase). Starts h (seen p)) same starts;
-  prices_are = fair;
-  rounds = rounds.0;
-  played = subst (λ (h : Phase). Rounds h (seen p) rounds.0 (seen v)) same rounds.1;
-}
-
--- the world that they lead to is reached
-pub played_reached : (g : Phase) (prices : List ℤ) (v : World) → Lawful g → IsPlayed g prices v → Reached g v
-played_reached g prices v law is =
-    let run = rounds_schedule g is.start is.rounds v is.played in
-    reached_on g is.start v run.0 (reached_start g is.start law is.starts) run.1
 
 pub nobody_stuck : (t : Table) (shards : ℕ) (eps : ℤ) → NobodyStuck t → SomeoneStuck (phase_of t shards eps) → ⊥
 nobody_stuck t shards eps all (i, l, none) = all i l none
 
--- the guard that a stop stands for is that of the checker
-pub stopped_by_limit : (g : Phase) (prices : List ℤ) (v : World) (why : Why) → Lawful g → IsPlayed g prices v → (SomeoneStuck g → ⊥) → v.end ≡ Some (End.Stopped why) → guard_of why ≡ Guard.Check
-stopped_by_limit g prices v Why.Bids law is arcs e = refl
-stopped_by_limit g prices v Why.Ceiling law is arcs e = refl
-stopped_by_limit g prices v Why.Posts law is arcs e = refl
-stopped_by_limit g prices v Why.Trail law is arcs e = refl
-stopped_by_limit g prices v Why.Mail law is arcs e = refl
-stopped_by_limit g prices v Why.Stuck law is arcs e = absurd (arcs (stuck_only g v (played_reached g prices v law is) e))
-stopped_by_limit g prices v Why.Fell law is arcs e = absurd ((of_every_schedule g v (played_reached g prices v law is)).0.0 e)
-stopped_by_limit g prices v Why.Stray law is arcs e = absurd ((of_every_schedule g v (played_reached g prices v law is)).0.1 e)
+-- a stop that stands for a limit is for its reason
+stop_is : (why : Why) (reason : Reason) → stop_of why ≡ Ok reason → why ≡ why_of reason
+stop_is Why.Bids reason e = let r : Reason.Bids ≡ reason = cc in ap why_of r
+stop_is Why.Ceiling reason e = let r : Reason.Ceiling ≡ reason = cc in ap why_of r
+stop_is Why.Posts reason e = let r : Reason.Posts ≡ reason = cc in ap why_of r
+stop_is Why.Trail reason e = let r : Reason.Trail ≡ reason = cc in ap why_of r
+stop_is Why.Mail reason e = let r : Reason.Mail ≡ reason = cc in ap why_of r
+stop_is Why.Fell reason e = absurd cc
+stop_is Why.Stray reason e = absurd cc
+stop_is Why.Stuck reason e = absurd cc
 
--- a round always moves something, until the end
-pub never_stalls : (g : Phase) (prices : List ℤ) (v : World) → Lawful g → 0 < g.persons → IsPlayed g prices v → Rests g v → v.end ≢ None
-never_stalls g prices v law some is rests = let r = played_reached g prices v law is in rests_ended g r.start v r.turns law some r.starts r.leads rests
+-- a stop of a reached world stands for no guard, where nobody is without an arc
+never_guarded : (g : Phase) (v : World) (why : Why) (guard : Guard) → Reached g v → (SomeoneStuck g → ⊥) → v.end ≡ Some (End.Stopped why) → stop_of why ≡ Err guard → ⊥
+never_guarded g v Why.Bids guard r arcs e s = cc
+never_guarded g v Why.Ceiling guard r arcs e s = cc
+never_guarded g v Why.Posts guard r arcs e s = cc
+never_guarded g v Why.Trail guard r arcs e s = cc
+never_guarded g v Why.Mail guard r arcs e s = cc
+never_guarded g v Why.Stuck guard r arcs e s = arcs (stuck_only g v r e)
+never_guarded g v Why.Fell guard r arcs e s = (of_every_schedule g v r).0.0 e
+never_guarded g v Why.Stray guard r arcs e s = (of_every_schedule g v r).0.1 e
 
 -- ---- a full assignment
 
@@ -93,29 +85,44 @@ all_have_arcs t m numbers h is = let full = subst (IsMatching t) is h in chosen_
 
 -- ---- what a played phase comes to, of the parts of its worlds
 
-module _ (t : Table) (limits : Limits) (prices : List ℤ) (eps : ℤ) (table : IsTable t) (arcs : NobodyStuck t) (p v : Parts) (same : phase p ≡ phase_of t limits.shards eps) (lawful : Lawful (phase p)) (starts : Starts (phase p) (seen p))
-    (fair : (j : ℕ) → (seen p).price j ≡ get_or prices j (pos 0)) (rounds : (n : ℕ) × Rounds (phase p) (seen p) n (seen v)) (kept : phase v ≡ phase p) where
-  law : Lawful (phase_of t limits.shards eps)
+module _ (t : Table) (limits : Limits) (prices : List ℤ) (eps : ℤ) (table : IsTable t) (arcs : NobodyStuck t) (p v : Parts) (made : IsMade t limits prices eps p) (same : phase p ≡ phase_of t limits.shards eps) (lawful : Lawful (phase p))
+    (starts : Starts (phase p) (seen p)) (rounds : (n : ℕ) × Rounds (phase p) (seen p) n (seen v)) (kept : phase v ≡ phase p) where
+  abbrev g : Phase
+  g = phase_of t limits.shards eps
+
+  law : Lawful g
   law = subst Lawful same lawful
 
-  played : IsPlayed (phase_of t limits.shards eps) prices (seen v)
-  played = is_played p v (phase_of t limits.shards eps) prices same starts fair rounds
+  begins : Starts g (seen p)
+  begins = subst (λ (h : Phase). Starts h (seen p)) same starts
 
-  pub comes_to_sale : (gathered : Gathered) → (seen v).end ≡ Some End.All → IsGathered v gathered.holders.items gathered.prices.items → All IsPrice gathered.prices.items → ComesOf t limits.shards prices eps (Outcome.Sold gathered)
-  comes_to_sale gathered end sales range =
-      let objects : v.table.objects ≡ t.objects = ap (λ (h : Phase). h.objects) (kept ∙ same) in
-      (seen v, played, end, subst (λ (n : ℕ). AreSales n (seen v) gathered.holders.items gathered.prices.items) objects sales, range)
+  led : Rounds g (seen p) rounds.0 (seen v)
+  led = subst (λ (h : Phase). Rounds h (seen p) rounds.0 (seen v)) same rounds.1
 
-  pub comes_to_stop : (why : Why) (gathered : Gathered) → (seen v).end ≡ Some (End.Stopped why) → IsGathered v gathered.holders.items gathered.prices.items → All IsPrice gathered.prices.items → ComesOf t limits.shards prices eps (Outcome.Stopped why gathered)
-  comes_to_stop why gathered end sales range =
+  reached : Reached g (seen v)
+  reached = let run = rounds_schedule g (seen p) rounds.0 (seen v) led in reached_on g (seen p) (seen v) run.0 (reached_start g (seen p) law begins) run.1
+
+  played : (e : End) → (seen v).end ≡ Some e → IsPlayed t limits (record { eps = eps; prices = prices; world = seen v })
+  played e end = record { parts = p; made = made; rounds = rounds.0; played = led; ended = λ none. (let b : ◌≡◌ {A = Option End} None (Some e) = sym none ∙ end in cc) }
+
+  left : (e : End) (gathered : Gathered) → (seen v).end ≡ Some e → IsGathered v gathered.holders.items gathered.prices.items → All IsPrice gathered.prices.items → Leaves t limits (record { eps = eps; prices = prices; world = seen v }) gathered
+  left e gathered end sales range =
       let objects : v.table.objects ≡ t.objects = ap (λ (h : Phase). h.objects) (kept ∙ same) in
-      let limit = stopped_by_limit (phase_of t limits.shards eps) prices (seen v) why law played (nobody_stuck t limits.shards eps arcs) end in
-      (seen v, played, end, limit, subst (λ (n : ℕ). AreSales n (seen v) gathered.holders.items gathered.prices.items) objects sales, range)
+      record { played = played e end; reached = reached; sales = subst (λ (n : ℕ). AreSales n (seen v) gathered.holders.items gathered.prices.items) objects sales; within = range }
+
+  pub comes_to_sale : (gathered : Gathered) → (seen v).end ≡ Some End.All → IsGathered v gathered.holders.items gathered.prices.items → All IsPrice gathered.prices.items → ComesOf t limits prices eps (Outcome.Sold gathered)
+  comes_to_sale gathered end sales range = (seen v, left End.All gathered end sales range, end)
+
+  pub comes_to_stop : (why : Why) (reason : Reason) (gathered : Gathered) → stop_of why ≡ Ok reason → (seen v).end ≡ Some (End.Stopped why) → IsGathered v gathered.holders.items gathered.prices.items → All IsPrice gathered.prices.items → ComesOf t limits prices eps (Outcome.Stopped reason gathered)
+  comes_to_stop why reason gathered stop end sales range = (seen v, left (End.Stopped why) gathered end sales range, end ∙ ap (λ (w : Why). Some (End.Stopped w)) (stop_is why reason stop))
+
+  pub comes_to_no_guard : (why : Why) (guard : Guard) → stop_of why ≡ Err guard → (seen v).end ≡ Some (End.Stopped why) → ⊥
+  comes_to_no_guard why guard stop end = never_guarded g (seen v) why guard reached (nobody_stuck t limits.shards eps arcs) end stop
 
   pub comes_to_no_stall : (seen v).end ≡ None → Rests (phase v) (seen v) → ⊥
   comes_to_no_stall end rests =
       let some = table.some in
-      never_stalls (phase_of t limits.shards eps) prices (seen v) law (omega (arith, some)) played (subst (λ (h : Phase). Rests h (seen v)) (kept ∙ same) rests) end
+      rests_ended g reached.start (seen v) reached.turns law (omega (arith, some)) reached.starts reached.leads (subst (λ (h : Phase). Rests h (seen v)) (kept ∙ same) rests) end
 
 -- ---- from phase to phase
 
@@ -128,20 +135,16 @@ first_prices t n prices all is = rw is (record { each = length-replicate n (pos 
     All-replicate : (n : ℕ) → All IsPrice (replicate n (pos 0))
     All-replicate n k d l = rw (get_or-replicate n k (pos 0) d (rw length-replicate at l)) zero_price
 
-pub later_prices : (t : Table) (shards : ℕ) (before : List ℤ) (eps : ℤ) (gathered : Gathered) → ComesOf t shards before eps (Outcome.Sold gathered) → ArePrices t gathered.prices.items
-later_prices t shards before eps gathered h = record { each = h.3.prices_are; within = h.4 }
+pub later_prices : (t : Table) (limits : Limits) (s : Stage) (gathered : Gathered) → Leaves t limits s gathered → ArePrices t gathered.prices.items
+later_prices t limits s gathered h = record { each = h.sales.prices_are; within = h.within }
 
 pub less_eps : (eps next : ℤ) → IsEps next → next <ℤ eps → unsigned_abs next < unsigned_abs eps
 less_eps eps next is l = let low = is.low in omega (arith, ints, low, l)
 
 -- ---- answers
 
-pub optimal_is : (p : Problem) (a : Answer) → HasAssignment p → IsOptimalAnswer p a → IsAnswer p a
-optimal_is p (Answer.Optimal cert) has h = h
-optimal_is p (Answer.Infeasible cert) has h = absurd h
-optimal_is p (Answer.Broken guard) has h = (h, has)
-
 pub infeasible_is : (p : Problem) (a : Answer) → IsInfeasibleAnswer p a → IsAnswer p a
 infeasible_is p (Answer.Optimal cert) h = absurd h
 infeasible_is p (Answer.Infeasible cert) h = h
+infeasible_is p (Answer.Bracket cert) h = absurd h
 infeasible_is p (Answer.Broken guard) h = absurd h

@@ -3,8 +3,10 @@ pub mod Parts
 pub mod Making
 pub mod Gathering
 pub mod Rounds
+pub mod Claims
 pub mod Answers
 pub mod Phases
+pub mod Chain
 pub mod Mails
 pub mod Hub
 pub mod Posting

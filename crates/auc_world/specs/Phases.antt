@@ -1,33 +1,47 @@
--- What a phase comes to, when it is played in whole rounds.
-use Rattle.std.specs.Prelude.{ℕ, ℤ, pos, ◌≡◌, ◌≢◌, ◌<◌, [], List, Some, length, slice_index_or, All}
+-- A phase of a run, and what it comes to.
+use Rattle.std.specs.Prelude.{ℕ, ℤ, ◌≡◌, ◌≢◌, ◌<◌, [], List, Some, None, length, All}
 use Rattle.auc_graph.specs.Table.{Table, row_of}
 use Rattle.auc_letters.specs.Price.{IsPrice}
 use Rattle.auc_model.specs.declared.turn.End.{End}
-use Rattle.auc_model.specs.Start.{Starts}
-use Rattle.auc_model.specs.World.{Phase, World, phase_of}
-use Rattle.auc_world.specs.declared.answer.Guard.{Guard}
+use Rattle.auc_model.specs.Schedule.{Reached}
+use Rattle.auc_model.specs.World.{World, phase_of}
+use Rattle.auc_world.specs.declared.gathering.Gathered.{Gathered}
+use Rattle.auc_world.specs.declared.limits.Limits.{Limits}
 use Rattle.auc_world.specs.declared.solving.Outcome.{Outcome}
-use Rattle.auc_world.specs.Answers.{guard_of}
+use Rattle.auc_world.specs.Answers.{why_of}
 use Rattle.auc_world.specs.Gathering.{AreSales}
+use Rattle.auc_world.specs.Making.{IsMade}
+use Rattle.auc_world.specs.Parts.{Parts, seen}
 use Rattle.auc_world.specs.Rounds.{Rounds}
 
 -- each person has an arc
 abbrev pub NobodyStuck : Table → Type 0
 NobodyStuck t = (i : ℕ) → i < length t.rows → row_of t i ≢ []
 
--- v is a world that whole rounds lead to, from one that the phase begins with at these prices
-pub record IsPlayed (g : Phase) (prices : List ℤ) (v : World) : Type 0 where
-  pub start : World
-  pub starts : Starts g start
-  pub prices_are : (j : ℕ) → start.price j ≡ slice_index_or prices j (pos 0)
-  pub rounds : ℕ
-  pub played : Rounds g start rounds v
+-- one phase: its eps, the prices that it begins with, and the world that its last round led to
+pub record Stage : Type 0 where
+  pub eps : ℤ
+  pub prices : List ℤ
+  pub world : World
 
--- What a phase comes to: each person has an object, or it was stopped by a limit, and these are the holders and the prices; it never
--- stalls.
-abbrev pub ComesOf : Table → ℕ → List ℤ → ℤ → Outcome → Type 0
-ComesOf t shards prices eps (Outcome.Sold gathered) =
-    (v : World) × IsPlayed (phase_of t shards eps) prices v × (v.end ≡ Some End.All) × AreSales t.objects v gathered.holders.items gathered.prices.items × All IsPrice gathered.prices.items
-ComesOf t shards prices eps (Outcome.Stopped why gathered) =
-    (v : World) × IsPlayed (phase_of t shards eps) prices v × (v.end ≡ Some (End.Stopped why)) × (guard_of why ≡ Guard.Check) × AreSales t.objects v gathered.holders.items gathered.prices.items × All IsPrice gathered.prices.items
-ComesOf t shards prices eps Outcome.Stalled = ⊥
+-- It is played from the new world that the limits and its prices make, in whole rounds, up to the first one after which the end is
+-- set.
+pub record IsPlayed (t : Table) (limits : Limits) (s : Stage) : Type 0 where
+  pub parts : Parts
+  pub made : IsMade t limits s.prices s.eps parts
+  pub rounds : ℕ
+  pub played : Rounds (phase_of t limits.shards s.eps) (seen parts) rounds s.world
+  pub ended : s.world.end ≢ None
+
+-- these are the holders and the prices that the phase left
+pub record Leaves (t : Table) (limits : Limits) (s : Stage) (gathered : Gathered) : Type 0 where
+  pub played : IsPlayed t limits s
+  pub reached : Reached (phase_of t limits.shards s.eps) s.world
+  pub sales : AreSales t.objects s.world gathered.holders.items gathered.prices.items
+  pub within : All IsPrice gathered.prices.items
+
+-- What a phase at these prices and this eps comes to: each person has an object, or it was stopped by a limit; no guard is hit, and it never stalls.
+abbrev pub ComesOf : Table → Limits → List ℤ → ℤ → Outcome → Type 0
+ComesOf t limits prices eps (Outcome.Sold gathered) = (v : World) × Leaves t limits (record { eps = eps; prices = prices; world = v }) gathered × (v.end ≡ Some End.All)
+ComesOf t limits prices eps (Outcome.Stopped reason gathered) = (v : World) × Leaves t limits (record { eps = eps; prices = prices; world = v }) gathered × (v.end ≡ Some (End.Stopped (why_of reason)))
+ComesOf t limits prices eps (Outcome.Broken guard) = ⊥

@@ -13,7 +13,7 @@ pub enum Guard {
     Stuck,
     /// A whole round moved nothing.
     Stall,
-    /// The claim didn't pass the checker, or there was none, since a phase had ended by a limit.
+    /// What was gathered makes no claim, or the checker refuses it.
     Check,
     /// The trail of a mail doesn't agree with what its workers noted.
     Settle,
@@ -26,6 +26,8 @@ pub enum Answer {
     Optimal(Cert),
     /// Persons who together know fewer objects than they number, so that there is no assignment.
     Infeasible(Cert),
+    /// An assignment, and a bound below which none costs: a limit has ended a phase.
+    Bracket(Cert),
     /// A guard was hit: there is no answer.
     Broken(Guard),
 }

@@ -1,26 +1,41 @@
-//! How a run ends: the claim of its last phase, or the guard that a stop stands for. Every claim passes the checker first.
+//! How a run ends: what its last phase claims, or the guard that a stop stands for. Every claim passes the checker first.
 
-ghost use Rattle.std.specs.Prelude.{◌≡◌, length, IfOk, IfSome, IfNone};
-ghost use Rattle.auc_graph.specs.Problem.{IsProblem};
+ghost use Rattle.std.specs.Prelude.{◌≡◌, length, All, IfOk, IfSome, IfNone};
+ghost use Rattle.auc_graph.specs.Assignment.{IsAssignment};
+ghost use Rattle.auc_graph.specs.Price.{IsPrice};
+ghost use Rattle.auc_graph.specs.Table.{IsTableOf};
+ghost use Rattle.auc_cert.specs.Claim.{chosen};
 ghost use Rattle.auc_hall.specs.OfProblem.{IsHallSetOf};
-ghost use Rattle.auc_world.specs.Answers.{IsCertified, IsOptimalAnswer, IsInfeasibleAnswer, guard_of};
+ghost use Rattle.auc_world.specs.Answers.{IsBracketAnswer, IsCertified, IsInfeasibleAnswer, IsOptimalAnswer, stop_of};
+ghost use Rattle.auc_world.specs.Claims.{IsBracketBy};
 
 use crate::answer::{Answer, Guard};
 use crate::gathering::Gathered;
-use auc_cert::{Cert, CertParts, CertRefused, Pick, Picks, Prices, check, cost_of};
-use auc_graph::{ArcList, Indices};
-use auc_letters::{Held, Why};
+use crate::picks::{picks_of_holders, picks_of_matching};
+use crate::placing::place_holders;
+use auc_cert::{Cert, CertParts, CertRefused, Pick, Picks, Prices, Reason, check, cost_of};
+use auc_graph::{ArcList, Indices, Rows, dual_bound, lower_of};
+use auc_hall::{Matching, complete};
+use auc_letters::Why;
 use std::alloc::{AllocError, Global};
 
-/// The guard that a stop stands for. A phase that ends by a limit leaves no claim that could be checked.
-pub fn guard_of(why: Why) -> Guard
-    ensures { result ≡ guard_of why }
+/// What a stop stands for: the limit that ended the phase, or a guard that was hit.
+///
+/// # Errors
+///
+/// The guard.
+pub fn stop_of(why: Why) -> Result<Reason, Guard>
+    ensures { result ≡ stop_of why }
 {
     match why {
-        Why::Fell => Guard::Fell,
-        Why::Stray => Guard::Stray,
-        Why::Stuck => Guard::Stuck,
-        Why::Bids | Why::Ceiling | Why::Posts | Why::Trail | Why::Mail => Guard::Check,
+        Why::Bids => Ok(Reason::Bids),
+        Why::Ceiling => Ok(Reason::Ceiling),
+        Why::Posts => Ok(Reason::Posts),
+        Why::Trail => Ok(Reason::Trail),
+        Why::Mail => Ok(Reason::Mail),
+        Why::Fell => Err(Guard::Fell),
+        Why::Stray => Err(Guard::Stray),
+        Why::Stuck => Err(Guard::Stuck),
     }
 }
 
@@ -39,37 +54,6 @@ fn certified(alloc: Global, problem: &ArcList, parts: CertParts) -> Result<Optio
     }
 }
 
-/// The pick of each person by the arc with which he holds an object; None where an arc or a person is none of the problem's.
-/// A person who holds nothing is given a pick that the checker refuses, unless it is right.
-fn picks_of_holders(
-    alloc: Global,
-    problem: &ArcList,
-    holders: &[Option<Held>],
-) -> Result<Option<Vec<Pick>>, AllocError>
-    ensures each { IfOk result (λ o. IfSome o (λ picks. length picks.items ≡ problem.now.persons)) }
-    ensures problem { IsProblem problem.now }
-{
-    let arcs = problem.arcs();
-    let blank = Pick { cost: 0, object: 0 };
-    let mut picks = vec![in alloc; blank; problem.persons() as usize]?;
-    for holder in holders {
-        let Some(held) = holder else {
-            continue;
-        };
-        let place = held.arc as usize;
-        let person = held.person as usize;
-        if place >= arcs.len() || person >= picks.len() {
-            return Ok(None);
-        }
-        let arc = arcs[place];
-        picks[person] = Pick {
-            cost: arc.cost,
-            object: arc.object,
-        };
-    }
-    Ok(Some(picks))
-}
-
 /// The answer of a last phase that has sold an object to each person: its holders' arcs, what they cost together, and its prices,
 /// where the checker lets them pass, or else the guard `Check`. Takes O(arcs + persons) time and O(persons) memory.
 ///
@@ -77,7 +61,7 @@ fn picks_of_holders(
 ///
 /// Only where memory was refused.
 pub fn optimal(alloc: Global, problem: &ArcList, gathered: Gathered) -> Result<Answer, AllocError>
-    ensures { IfOk result (IsOptimalAnswer problem.now) }
+    ensures { IfOk result (IsOptimalAnswer problem.now gathered.holders.items gathered.prices.items) }
 {
     let Gathered { holders, prices } = gathered;
     let Some(picks) = picks_of_holders(alloc, problem, holders.as_slice())? else {
@@ -93,6 +77,78 @@ pub fn optimal(alloc: Global, problem: &ArcList, gathered: Gathered) -> Result<A
     };
     match certified(alloc, problem, parts)? {
         Some(cert) => Ok(Answer::Optimal(cert)),
+        None => Ok(Answer::Broken(Guard::Check)),
+    }
+}
+
+/// What a bracket claims: these picks, what they cost together, and the bound that the prices give.
+fn bracket_parts(
+    alloc: Global,
+    problem: &ArcList,
+    reason: Reason,
+    picks: Vec<Pick>,
+    prices: Vec<i64>,
+) -> Result<CertParts, AllocError>
+    requires assignment { IsAssignment problem.now (chosen 0 picks.items) }
+    requires each { length prices.items ≡ problem.now.objects }
+    requires within { All IsPrice prices.items }
+    ensures { IfOk result (IsBracketBy problem.now reason prices.items) }
+{
+    let scale = problem.persons() + 1;
+    let bound = dual_bound(alloc, problem, prices.as_slice())?;
+    let Ok(lower) = i64::try_from(lower_of(scale, bound)) else {
+        unreachable!("the bound of lawful prices is a cost");
+    };
+    let Ok(cost) = i64::try_from(cost_of(picks.as_slice())) else {
+        unreachable!("the costs of so few picks are a cost together");
+    };
+    Ok(CertParts::Bracket {
+        reason,
+        lower,
+        cost,
+        choice: Picks::new(picks),
+        prices: Prices::new(prices),
+    })
+}
+
+/// The answer of a phase that a limit has stopped: an assignment that the search completes from the holders' arcs, and the bound on the
+/// cost of all that the prices give, where the checker lets it pass; or that there is no assignment. The guard `Check` where a
+/// holder's arc isn't one of his to his object, or somebody holds two.
+///
+/// `rows` are those of the problem; `gathered.prices` are in scaled costs, from 0 to 2^61, and both lists are indexed by object.
+///
+/// Takes the time of the search, see [`complete`], beside O(arcs + persons), and O(persons) memory.
+///
+/// # Errors
+///
+/// Only where memory was refused.
+pub fn bracket(
+    alloc: Global,
+    problem: &ArcList,
+    rows: &Rows,
+    reason: Reason,
+    gathered: Gathered,
+) -> Result<Answer, AllocError>
+    requires rows { IsTableOf problem.now rows.now }
+    requires holders { length gathered.holders.items ≡ problem.now.objects }
+    requires prices { length gathered.prices.items ≡ problem.now.objects }
+    requires within { All IsPrice gathered.prices.items }
+    ensures { IfOk result (IsBracketAnswer problem.now reason gathered.holders.items gathered.prices.items) }
+{
+    let Gathered { holders, prices } = gathered;
+    let Some(partial) = place_holders(alloc, problem, rows, holders.as_slice())? else {
+        return Ok(Answer::Broken(Guard::Check));
+    };
+    let numbers = match complete(alloc, rows, partial)? {
+        Matching::Full(numbers) => numbers,
+        Matching::Hall { persons, objects } => {
+            return infeasible(alloc, problem, persons, objects);
+        }
+    };
+    let picks = picks_of_matching(alloc, problem, numbers.as_slice())?;
+    let parts = bracket_parts(alloc, problem, reason, picks, prices)?;
+    match certified(alloc, problem, parts)? {
+        Some(cert) => Ok(Answer::Bracket(cert)),
         None => Ok(Answer::Broken(Guard::Check)),
     }
 }

@@ -68,7 +68,7 @@ pub(crate) fn new_outboxes(alloc: Global, count: u32) -> Result<Vec<Outbox>, All
 }
 
 /// How many letters may wait, where 0 stands for the usual number.
-pub(crate) fn nodes_or(nodes: u32, usual: u32) -> u32
+pub fn nodes_or(nodes: u32, usual: u32) -> u32
     ensures { result ≡ nodes_or nodes usual }
 {
     if nodes == 0 { usual } else { nodes }

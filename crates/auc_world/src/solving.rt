@@ -4,18 +4,19 @@ ghost use Rattle.std.specs.Prelude.{◌≡◌, IfOk};
 ghost use Rattle.auc_graph.specs.Table.{IsTableOf};
 ghost use Rattle.auc_letters.specs.Price.{IsEps};
 ghost use Rattle.auc_world.specs.Answers.{HasAssignment, IsAnswer};
+ghost use Rattle.auc_world.specs.Chain.{IsOfRun};
 ghost use Rattle.auc_world.specs.Making.{AreLimits, ArePrices};
 ghost use Rattle.auc_world.specs.Phases.{ComesOf, NobodyStuck};
 
 use crate::answer::{Answer, Guard};
 use crate::eps::{first_eps, next_eps};
-use crate::finish::{guard_of, infeasible, optimal};
+use crate::finish::{bracket, infeasible, optimal, stop_of};
 use crate::gathering::Gathered;
 use crate::limits::Limits;
 use crate::world::World;
+use auc_cert::Reason;
 use auc_graph::{ArcList, Rows};
 use auc_hall::{Matching, Partial, complete};
-use auc_letters::Why;
 use auc_model::End;
 use std::alloc::{AllocError, Global};
 
@@ -24,10 +25,10 @@ use std::alloc::{AllocError, Global};
 pub(crate) enum Outcome {
     /// Each person has an object: these are the holders and prices.
     Sold(Gathered),
-    /// It was stopped for this reason, with these holders and prices.
-    Stopped { why: Why, gathered: Gathered },
-    /// A whole round moved nothing.
-    Stalled,
+    /// A limit has stopped it, with these holders and prices.
+    Stopped { reason: Reason, gathered: Gathered },
+    /// A guard was hit, or a whole round moved nothing.
+    Broken(Guard),
 }
 
 /// Plays one phase in whole rounds.
@@ -42,7 +43,7 @@ fn play_phase(
     requires prices { ArePrices rows.now prices.now }
     requires eps { IsEps eps }
     requires arcs { NobodyStuck rows.now }
-    ensures { IfOk result (ComesOf rows.now limits.now.shards prices.now eps) }
+    ensures { IfOk result (ComesOf rows.now limits.now prices.now eps) }
 {
     let mut world = World::make(alloc, rows, limits, prices, eps)?;
     match world.run() {
@@ -50,11 +51,14 @@ fn play_phase(
             let gathered = world.gather(alloc)?;
             Ok(Outcome::Sold(gathered))
         }
-        Some(End::Stopped { why }) => {
-            let gathered = world.gather(alloc)?;
-            Ok(Outcome::Stopped { why, gathered })
-        }
-        None => Ok(Outcome::Stalled),
+        Some(End::Stopped { why }) => match stop_of(why) {
+            Ok(reason) => {
+                let gathered = world.gather(alloc)?;
+                Ok(Outcome::Stopped { reason, gathered })
+            }
+            Err(guard) => Ok(Outcome::Broken(guard)),
+        },
+        None => Ok(Outcome::Broken(Guard::Stall)),
     }
 }
 
@@ -69,15 +73,20 @@ fn solve_rows(
     requires limits { AreLimits limits.now }
     requires arcs { NobodyStuck rows.now }
     requires assignment { HasAssignment problem.now }
-    ensures { IfOk result (IsAnswer problem.now) }
+    ensures is { IfOk result (IsAnswer problem.now) }
+    ensures run { IfOk result (IsOfRun problem.now limits.now) }
 {
+    // Read here, so that the proof knows what every problem keeps.
+    let _ = problem.arcs();
     let mut prices = vec![in alloc; 0; rows.objects() as usize]?;
     let mut eps = first_eps(rows);
     loop {
         let gathered = match play_phase(alloc, rows, limits, prices.as_slice(), eps)? {
             Outcome::Sold(gathered) => gathered,
-            Outcome::Stopped { why, .. } => return Ok(Answer::Broken(guard_of(why))),
-            Outcome::Stalled => return Ok(Answer::Broken(Guard::Stall)),
+            Outcome::Stopped { reason, gathered } => {
+                return bracket(alloc, problem, rows, reason, gathered);
+            }
+            Outcome::Broken(guard) => return Ok(Answer::Broken(guard)),
         };
         let Some(next) = next_eps(eps) else {
             return optimal(alloc, problem, gathered);
@@ -89,15 +98,16 @@ fn solve_rows(
 }
 
 /// Solves a problem: an arc for each person, no object twice, of the least cost together; or persons who together know fewer
-/// objects than they number. Each claim has passed the checker.
+/// objects than they number; or, where the limits are too low, an assignment and a bound on what any costs. Each claim has passed the
+/// checker.
 ///
 /// First an assignment of any cost is searched ([`auc_hall::complete`]); where there is none, the answer is `Infeasible`.
 /// Else the auction algorithm with epsilon scaling (Bertsekas, 1979 and 1988) runs in phases, from prices of 0 at
 /// [`first_eps`] on, each next one at [`next_eps`] and the prices that the one before has left, all persons free. A phase is
 /// a new world that is played in whole rounds, in which every shard has its turns in order, until it ends.
 ///
-/// `Broken` is answered only with the guard `Check`, where there is an assignment: a limit ended a phase, or the checker
-/// refused what the last phase claims. `limits.audit` isn't looked at.
+/// Where a limit ends a phase, the answer is a `Bracket`: the holders' arcs are completed to an assignment of any cost, and the prices bound
+/// the cost of all from below. `Broken` is never answered. `limits.audit` isn't looked at.
 ///
 /// Takes the time of the search and of the bids, each O(arcs of the person), and 28 bytes of memory an arc, the problem's own
 /// among them.
@@ -107,7 +117,8 @@ fn solve_rows(
 /// Only where memory was refused.
 pub fn solve_serial(alloc: Global, problem: &ArcList, limits: &Limits) -> Result<Answer, AllocError>
     requires { AreLimits limits.now }
-    ensures { IfOk result (IsAnswer problem.now) }
+    ensures is { IfOk result (IsAnswer problem.now) }
+    ensures run { IfOk result (IsOfRun problem.now limits.now) }
 {
     let rows = Rows::build(alloc, problem)?;
     let partial = Partial::new(alloc, &rows)?;

@@ -1,2 +1,5 @@
--- All of this is the crate's own.
+mod AskLaws
+mod GrammarLaws
+mod SolveFits
+mod SolveLaws
 mod WordLaws

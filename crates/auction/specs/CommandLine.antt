@@ -1,12 +1,12 @@
 -- What the words of the command line ask for.
-use Rattle.std.specs.Prelude.{◌≡◌, ◌≢◌, ℕ, List, [], ◌∷◌, Option, Some, None, Result, Ok, Err, option_map, codes, ⊤}
+use Rattle.std.specs.Prelude.{◌≡◌, ◌≢◌, ◌⊎◌, ℕ, List, [], ◌∷◌, Option, Some, None, Result, Ok, Err, option_map, codes, ⊤}
 use Rattle.clap.specs.Words.{Row, first_of}
 use Rattle.std.specs.String.{string_bytes}
 use Rattle.auc_run.specs.declared.command.Job.{Job}
 use Rattle.auc_run.specs.declared.command.Job.TheVariants.{Check}
 use Rattle.auction.specs.declared.asked.Words.{Words}
 use Rattle.auction.specs.declared.words_error.WordsError.{WordsError}
-use Rattle.auction.specs.declared.words_error.WordsError.TheVariants.{Usage, NoMemory}
+use Rattle.auction.specs.declared.words_error.WordsError.TheVariants.{Usage, AuditAlone, NoMemory}
 
 -- the word is no option: it does not begin with a hyphen
 abbrev pub IsName : List ℕ → Type 0
@@ -43,7 +43,18 @@ abbrev pub AsksFor : Job → Result Words WordsError → Option (List ℕ) → T
 AsksFor job (Ok w) name = (w.job ≡ job) × (option_map string_bytes w.first ≡ name) × (w.second ≡ None)
 AsksFor job (Err e) name = e ≡ NoMemory
 
+-- the words are no job, unless memory ran out
+abbrev pub IsUsage : Result Words WordsError → Type 0
+IsUsage (Ok w) = ⊥
+IsUsage (Err e) = (e ≡ Usage) ⊎ (e ≡ NoMemory)
+
+-- the words ask for a trail without threads, unless memory ran out
+abbrev pub IsAuditAlone : Result Words WordsError → Type 0
+IsAuditAlone (Ok w) = ⊥
+IsAuditAlone (Err e) = (e ≡ AuditAlone) ⊎ (e ≡ NoMemory)
+
 -- the status where the words are no job: 2, or 6 where memory ran out
 abbrev pub words_status : WordsError → ℕ
 words_status Usage = 2
+words_status AuditAlone = 2
 words_status NoMemory = 6

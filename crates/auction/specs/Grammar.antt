@@ -1,5 +1,5 @@
 -- The grammar of the command line, as the parser of words sees it.
-use Rattle.std.specs.Prelude.{true, codes}
+use Rattle.std.specs.Prelude.{List, ℕ, Some, true, codes}
 use Rattle.clap.specs.Words.{App, Rule, new_app, new_rule, with_rule, with_subcommand}
 use Rattle.clap.specs.Simple.{on_top}
 
@@ -18,9 +18,14 @@ hall_grammar = with_rule (on_top (λ s. record s { disable_help_flag = true }) (
 abbrev pub mail_grammar : App
 mail_grammar = with_rule (on_top (λ s. record s { disable_help_flag = true }) (new_app (codes "mail"))) (new_rule (codes "script"))
 
--- `solve [FILE]`
+-- `--NAME VALUE` or `--NAME=VALUE`, at most once
+abbrev pub option_rule : List ℕ → Rule
+option_rule name = record (new_rule name) { long = Some name }
+
+-- `solve [FILE] [--workers K] [--bids N] [--audit ROOM]`
 abbrev pub solve_grammar : App
-solve_grammar = with_rule (on_top (λ s. record s { disable_help_flag = true }) (new_app (codes "solve"))) (new_rule (codes "file"))
+solve_grammar = with_rule (with_rule (with_rule (with_rule (on_top (λ s. record s { disable_help_flag = true }) (new_app (codes "solve"))) (new_rule (codes "file")))
+    (option_rule (codes "workers"))) (option_rule (codes "bids"))) (option_rule (codes "audit"))
 
 -- no help, no version, and a command has to be named
 abbrev pub bare_grammar : App

@@ -1,3 +1,4 @@
 -- The definitions that contracts of the command line cite.
 pub mod Grammar
 pub mod CommandLine
+pub mod Options

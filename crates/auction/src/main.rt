@@ -6,17 +6,21 @@ ghost use Rattle.auc_run.specs.Jobs.{IsInRange};
 ghost use Rattle.auction.specs.CommandLine.{words_status};
 
 mod asked;
+mod grammar;
+mod numbers;
 mod words;
 mod words_error;
 
 use asked::Words;
 use auc_run::status::{NO_MEMORY, REFUSED, UNWRITTEN, USAGE};
-use auc_run::{Job, run_command};
+use auc_run::{FreeGate, Job, run_command};
 use std::fs::File;
 use std::io;
 use std::io::{BufWriter, ErrorKind, Read, Write};
 use std::process::ExitCode;
 use std::rt::{Env, Files};
+use std::sync::Wait;
+use std::thread::Threads;
 use words::read_words;
 use words_error::WordsError;
 
@@ -37,7 +41,7 @@ fn given_words<R: Env + AllocGlobal>(rt: &R) -> Result<Words, WordsError>
 }
 
 /// Does the job with these readers, and writes to standard output.
-fn answer<R: Print + AllocGlobal, A: Read, B: Read>(
+fn answer<R: Print + AllocGlobal + Threads + Wait + Sync, A: Read, B: Read>(
     rt: &R,
     job: &Job,
     first: &mut A,
@@ -49,7 +53,7 @@ fn answer<R: Print + AllocGlobal, A: Read, B: Read>(
     let Ok(mut writer) = BufWriter::new(alloc, io::writer(rt)) else {
         return NO_MEMORY;
     };
-    let status = run_command(alloc, job, first, second, &mut writer);
+    let status = run_command(rt, alloc, job, first, second, &mut writer, &FreeGate);
     if writer.flush().is_err() {
         return UNWRITTEN;
     }
@@ -68,7 +72,7 @@ fn open<R: Files + Eprint>(rt: &R, name: &str) -> Option<R::File> {
 }
 
 /// Opens the second file, and does the job.
-fn with_second<R: Files + Input + Print + Eprint + AllocGlobal, A: Read>(
+fn with_second<R: Files + Input + Print + Eprint + AllocGlobal + Threads + Wait + Sync, A: Read>(
     rt: &R,
     words: &Words,
     first: &mut A,
@@ -85,7 +89,10 @@ fn with_second<R: Files + Input + Print + Eprint + AllocGlobal, A: Read>(
 }
 
 /// Opens the first file, then the second, before anything is read, and does the job.
-fn with_files<R: Files + Input + Print + Eprint + AllocGlobal>(rt: &R, words: &Words) -> u8
+fn with_files<R: Files + Input + Print + Eprint + AllocGlobal + Threads + Wait + Sync>(
+    rt: &R,
+    words: &Words,
+) -> u8
     requires { IsInRange words.now.job }
 {
     match &words.first {
@@ -102,13 +109,15 @@ fn status_of(error: WordsError) -> u8
     ensures { result ≡ words_status error }
 {
     match error {
-        WordsError::Usage => USAGE,
+        WordsError::Usage | WordsError::AuditAlone => USAGE,
         WordsError::NoMemory => NO_MEMORY,
     }
 }
 
 /// Reads the words, opens the files that they name, does the job, and gives the status.
-fn run<R: Env + Files + Input + Print + Eprint + AllocGlobal>(rt: &R) -> u8 {
+fn run<R: Env + Files + Input + Print + Eprint + AllocGlobal + Threads + Wait + Sync>(
+    rt: &R,
+) -> u8 {
     match given_words(rt) {
         Ok(words) => with_files(rt, &words),
         Err(error) => {

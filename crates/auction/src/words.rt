@@ -1,93 +1,34 @@
 //! The words of the command line.
 
-ghost use Rattle.std.specs.Prelude.{◌≡◌, ℕ, List, Option, IfOk, map, option_map, codes, false};
+ghost use Rattle.std.specs.Prelude.{◌≡◌, ◌≢◌, ◌<◌, ◌⊎◌, ℕ, List, [], Option, Some, IfOk, IfErr, map, option_map, codes, true};
 ghost use Rattle.std.specs.String.{string_bytes};
-ghost use Rattle.clap.specs.declared.builder.command.Command.TheViews.{out-Command as fields_of};
-ghost use Rattle.clap.specs.Words.{app_of, first_value, found_of, rows_of};
+ghost use Rattle.clap.specs.Words.{Row, fault_of, first_of, first_value, found_of, rows_of, subcommand_of, subcommand_rows_of, takes};
 ghost use Rattle.auc_run.specs.Jobs.{IsInRange};
-ghost use Rattle.auction.specs.CommandLine.{AreCheck, AreJob, HasFilesOf, HasNameOf, AsksToCheck, AsksFor};
-ghost use Rattle.auction.specs.Grammar.{check_grammar, hall_grammar, mail_grammar, solve_grammar, bare_grammar, grammar};
+ghost use Rattle.auction.specs.CommandLine.{AreCheck, AreJob, AsksFor, AsksToCheck, HasFilesOf, HasNameOf, IsAuditAlone, IsUsage};
+ghost use Rattle.auction.specs.Grammar.{grammar};
+ghost use Rattle.auction.specs.Options.{AreNumbers, AreSolve, HasSolveOf, value_in};
 
 use crate::asked::Words;
+use crate::grammar::all_commands;
+use crate::numbers::solve_of_options;
 use crate::words_error::WordsError;
-use auc_run::{Job, USUAL_BIDS};
+use auc_run::Job;
+use clap::ArgMatches;
 use clap::error::ErrorKind;
-use clap::{Arg, ArgMatches, Command};
 use std::alloc::{AllocError, Global};
 
-/// The solve that words without numbers ask for: no threads, the usual bids, no trail.
-const USUAL_SOLVE: Job = Job::Solve {
-    workers: 0,
-    bids: USUAL_BIDS,
-    audit: 0,
-};
-
-/// `check FILE [CERT]`.
-fn check_command<'a>(alloc: Global) -> Result<Command<'a>, AllocError>
-    ensures shape { IfOk result (λ c. app_of c ≡ check_grammar) }
-    ensures local { IfOk result (λ c. (fields_of c).has_globals ≡ false) }
+/// The matches of the words, where they fit the commands.
+fn matches_of<'a>(alloc: Global, words: &'a [String]) -> Result<ArgMatches<'a>, WordsError>
+    ensures found { IfOk result (λ m. subcommand_rows_of m ≡ subcommand_of grammar (map string_bytes words.entry.now)) }
+    ensures faultless { IfOk result (λ m. fault_of grammar (map string_bytes words.entry.now) ≡ []) }
+    ensures taken { takes grammar (map string_bytes words.entry.now) ≡ true → IfErr result (λ e. e ≡ WordsError.NoMemory) }
+    ensures refused { IfErr result (λ e. (e ≡ WordsError.Usage) ⊎ (e ≡ WordsError.NoMemory)) }
 {
-    Command::new(alloc, "check")
-        .disable_help_flag(true)
-        .arg(Arg::new(alloc, "file").required(true))?
-        .arg(Arg::new(alloc, "cert"))
-}
-
-/// `hall [FILE]`.
-fn hall_command<'a>(alloc: Global) -> Result<Command<'a>, AllocError>
-    ensures shape { IfOk result (λ c. app_of c ≡ hall_grammar) }
-    ensures local { IfOk result (λ c. (fields_of c).has_globals ≡ false) }
-{
-    Command::new(alloc, "hall")
-        .disable_help_flag(true)
-        .arg(Arg::new(alloc, "file"))
-}
-
-/// `mail [SCRIPT]`.
-fn mail_command<'a>(alloc: Global) -> Result<Command<'a>, AllocError>
-    ensures shape { IfOk result (λ c. app_of c ≡ mail_grammar) }
-    ensures local { IfOk result (λ c. (fields_of c).has_globals ≡ false) }
-{
-    Command::new(alloc, "mail")
-        .disable_help_flag(true)
-        .arg(Arg::new(alloc, "script"))
-}
-
-/// `solve [FILE]`.
-fn solve_command<'a>(alloc: Global) -> Result<Command<'a>, AllocError>
-    ensures shape { IfOk result (λ c. app_of c ≡ solve_grammar) }
-    ensures local { IfOk result (λ c. (fields_of c).has_globals ≡ false) }
-{
-    Command::new(alloc, "solve")
-        .disable_help_flag(true)
-        .arg(Arg::new(alloc, "file"))
-}
-
-/// No command yet. Words that ask for help or for the version are at fault like others.
-fn bare_command<'a>(alloc: Global) -> Command<'a>
-    ensures { app_of result ≡ bare_grammar }
-{
-    Command::new(alloc, "auction")
-        .no_binary_name(true)
-        .disable_help_flag(true)
-        .disable_version_flag(true)
-        .disable_help_subcommand(true)
-        .subcommand_required(true)
-}
-
-/// All commands.
-fn all_commands<'a>(alloc: Global) -> Result<Command<'a>, AllocError>
-    ensures { IfOk result (λ c. app_of c ≡ grammar) }
-{
-    let check = check_command(alloc)?;
-    let hall = hall_command(alloc)?;
-    let mail = mail_command(alloc)?;
-    let solve = solve_command(alloc)?;
-    bare_command(alloc)
-        .subcommand(check)?
-        .subcommand(hall)?
-        .subcommand(mail)?
-        .subcommand(solve)
+    match all_commands(alloc)?.try_get_matches_from(words) {
+        Ok(matches) => Ok(matches),
+        Err(error) if error.kind() == ErrorKind::OutOfMemory => Err(WordsError::NoMemory),
+        Err(_) => Err(WordsError::Usage),
+    }
 }
 
 /// The text of an argument, where it is given.
@@ -125,11 +66,38 @@ fn job_of(alloc: Global, matches: &ArgMatches<'_>, job: Job, id: &str) -> Result
     })
 }
 
+/// The solve that the options ask for, of the file that is named.
+fn solve_of(alloc: Global, matches: &ArgMatches<'_>) -> Result<Words, WordsError>
+    ensures solve { HasSolveOf result (rows_of (found_of matches.now)) }
+    ensures range { IfOk result (λ w. IsInRange w.job) }
+{
+    let solve = solve_of_options(matches)?;
+    job_of(alloc, matches, solve, "file")
+}
+
+/// What the command that was found asks for.
+fn words_of(alloc: Global, matches: &ArgMatches<'_>) -> Result<Words, WordsError>
+    ensures check { (rows : List Row) → subcommand_rows_of matches.now ≡ Some (codes "check", rows) → HasFilesOf result rows }
+    ensures hall { (rows : List Row) → subcommand_rows_of matches.now ≡ Some (codes "hall", rows) → HasNameOf Job.Hall (codes "file") result rows }
+    ensures mail { (rows : List Row) → subcommand_rows_of matches.now ≡ Some (codes "mail", rows) → HasNameOf Job.Mail (codes "script") result rows }
+    ensures solve { (rows : List Row) → subcommand_rows_of matches.now ≡ Some (codes "solve", rows) → HasSolveOf result rows }
+    ensures range { IfOk result (λ w. IsInRange w.job) }
+{
+    match matches.subcommand() {
+        Some(("check", matches)) => check_of(alloc, matches),
+        Some(("hall", matches)) => job_of(alloc, matches, Job::Hall, "file"),
+        Some(("mail", matches)) => job_of(alloc, matches, Job::Mail, "script"),
+        Some(("solve", matches)) => solve_of(alloc, matches),
+        _ => Err(WordsError::Usage),
+    }
+}
+
 /// The job that the words give, without the program's name.
 ///
 /// # Errors
 ///
-/// [`WordsError::Usage`] where the words are no job.
+/// [`WordsError::Usage`] where the words are no job, or a number is out of its range; then [`WordsError::AuditAlone`] where a
+/// solve without threads is to keep a trail.
 pub fn read_words(alloc: Global, words: &[String]) -> Result<Words, WordsError>
     // A check that is asked for is read as that check, unless memory runs out.
     ensures check { (file : List ℕ) (cert : Option (List ℕ)) → AreCheck (map string_bytes words.now) file cert → AsksToCheck result file cert }
@@ -139,21 +107,20 @@ pub fn read_words(alloc: Global, words: &[String]) -> Result<Words, WordsError>
     ensures mail { (script : Option (List ℕ)) → AreJob (codes "mail") (map string_bytes words.now) script → AsksFor Job.Mail result script }
     // A solve that is asked for is read as that solve, with no threads, the usual bids and no trail, unless memory runs out.
     ensures solve { (file : Option (List ℕ)) → AreJob (codes "solve") (map string_bytes words.now) file → AsksFor (Job.Solve 0 100000000 0) result file }
+    // A solve with options, in any order, is read as the solve with their numbers and the usual ones of the others, unless memory runs out.
+    ensures options { (given : List (List ℕ × List ℕ)) (workers bids audit : ℕ) → AreSolve (map string_bytes words.now) given → AreNumbers (value_in given) workers bids audit
+        → (workers ≡ 0 → audit ≡ 0) → AsksFor (Job.Solve workers bids audit) result (value_in given (codes "file")) }
+    // An option whose value is no number, or one out of range, is a fault of usage, unless memory runs out.
+    ensures wrong_number { (given : List (List ℕ × List ℕ)) → AreSolve (map string_bytes words.now) given
+        → ((workers bids audit : ℕ) → ¬ AreNumbers (value_in given) workers bids audit) → IsUsage result }
+    // A trail without threads is a fault of its own, unless memory runs out.
+    ensures audit_alone { (given : List (List ℕ × List ℕ)) (bids audit : ℕ) → AreSolve (map string_bytes words.now) given → AreNumbers (value_in given) 0 bids audit → 0 < audit
+        → IsAuditAlone result }
+    // Words that the grammar does not take are a fault of usage, unless memory runs out.
+    ensures unfit { fault_of grammar (map string_bytes words.now) ≢ [] → IsUsage result }
     // The numbers of the job are those that it may have.
     ensures range { IfOk result (λ w. IsInRange w.job) }
 {
-    let matches = match all_commands(alloc)?.try_get_matches_from(words) {
-        Ok(matches) => matches,
-        Err(error) if error.kind() == ErrorKind::OutOfMemory => {
-            return Err(WordsError::NoMemory);
-        }
-        Err(_) => return Err(WordsError::Usage),
-    };
-    match matches.subcommand() {
-        Some(("check", matches)) => check_of(alloc, matches),
-        Some(("hall", matches)) => job_of(alloc, matches, Job::Hall, "file"),
-        Some(("mail", matches)) => job_of(alloc, matches, Job::Mail, "script"),
-        Some(("solve", matches)) => job_of(alloc, matches, USUAL_SOLVE, "file"),
-        _ => Err(WordsError::Usage),
-    }
+    let matches = matches_of(alloc, words)?;
+    words_of(alloc, &matches)
 }

@@ -10,13 +10,17 @@ use thiserror::Error;
 #[derive(Clone, Copy, Debug, PartialEq, Eq, Error)]
 pub enum WordsError {
     /// They are none that the program knows.
-    #[error("usage: auction solve [FILE]
+    #[error("usage: auction solve [FILE] [--workers K] [--bids N] [--audit ROOM]
        auction check FILE [CERT]
        auction hall [FILE]
        auction mail [SCRIPT]
 
 solve finds a least-cost assignment of the problem FILE, with prices that show it, or persons who together know too few objects.
 Without FILE the problem is read from standard input.
+K threads do the work of each kind of shard: 0 to 16; 0, as without --workers, solves without threads.
+Each shard of the persons makes at most N bids in a phase: 1 to 1000000000000, without --bids 100000000.
+Where they don't do, solve gives an assignment and a bound below which none costs.
+Each mail keeps a trail of at most ROOM calls, by which the phases are judged: 0 to 1000000; 0, as without --audit, keeps none. Trails want threads.
 
 check says whether the claim of the certificate CERT holds of the problem FILE: a least-cost assignment, or that there is none.
 Without CERT the certificate is read from standard input.
@@ -27,6 +31,9 @@ Without FILE the problem is read from standard input.
 mail makes the calls of SCRIPT on a new mail, and tells the replies.
 Without SCRIPT the script is read from standard input.")]
     Usage,
+    /// They ask for a trail without threads.
+    #[error("auction: --audit ROOM wants --workers K above 0: a solve without threads keeps no trail")]
+    AuditAlone,
     /// Memory ran out.
     #[error("auction: out of memory")]
     NoMemory,

@@ -4,27 +4,17 @@ ghost use Rattle.std.specs.Prelude.{◌≡◌, ◌<◌};
 
 use auc_book::{MailBrand, Seat, SharedMail, TrailFull, TrailLine};
 use auc_mail::{Reply, Taken};
-use std::alloc::{AllocError, Global};
+use std::alloc::Global;
 use std::marker::Brand;
 use std::process::Abort;
 use std::sync::Wait;
 use std::sync::ledger::Blank;
 use std::test::*;
-use std::thread::{Threads, join, map_vec};
+use std::thread::{Threads, join};
 
 // The letter with this number that the worker posts in these examples.
 fn item_of(worker: u32, number: u64) -> u64 {
     u64::from(worker).wrapping_mul(10).wrapping_add(number)
-}
-
-// Posts three letters to the first box.
-fn posts<N: MailBrand, R: Wait>(rt: &R, mail: &SharedMail<u64, N>, seat: &mut Seat<u64, N>)
-    requires { 0 < N.boxes }
-{
-    for number in 1..4 {
-        let item = item_of(seat.worker(), number);
-        let _ = mail.post(rt, seat, 0, item, 0);
-    }
 }
 
 // How many letters the lines tell of, and whether each is the one of its sender with its number.
@@ -88,6 +78,7 @@ fn trade<N: MailBrand + Send + Sync, R: Wait + Threads + Abort + Sync>(
     Ok(())
 }
 
+// Posts three letters to the first box, and closes it.
 fn posts_and_closes<N: MailBrand, R: Wait>(
     rt: &R,
     mail: &SharedMail<u64, N>,
@@ -96,7 +87,10 @@ fn posts_and_closes<N: MailBrand, R: Wait>(
     requires { 0 < N.boxes }
 {
     let mut seat = seat;
-    posts(rt, mail, &mut seat);
+    for number in 1..4 {
+        let item = item_of(seat.worker(), number);
+        let _ = mail.post(rt, &mut seat, 0, item, 0);
+    }
     let _ = mail.close(rt, &mut seat, 0);
     seat
 }
@@ -115,59 +109,6 @@ fn takes_all<N: MailBrand, R: Wait>(
             Ok(Taken::Letter { .. }) => {}
             _ => break,
         }
-    }
-    seat
-}
-
-#[test]
-fn five_post_and_take(rt: HostRuntime) -> Result<(), Fail> {
-    crowd::<Brand, _>(&rt, rt.alloc(), Blank::new(5))
-}
-
-fn crowd<N: MailBrand + Send + Sync, R: Wait + Threads + Abort + Sync>(
-    rt: &R,
-    alloc: Global,
-    ledger: Blank,
-) -> Result<(), Fail>
-    requires name { ledger.name ≡ N.name }
-    requires parts { (ledger.parts ≡ N.parts) × (N.parts ≡ 5) }
-    requires numbers { (N.boxes ≡ 1) × (N.workers ≡ 5) × (N.nodes ≡ 40) × (N.most ≡ 9) × (N.room ≡ 100) }
-{
-    let (mail, seats) = SharedMail::<u64, N>::make(alloc, 1, 5, 40, 9, 0, 100, ledger)?;
-    let seats = all_trade(rt, &mail, seats)?;
-    assert!(rt; seats.iter().all(|seat| seat.count() == 6));
-    let trail = mail.settle(seats)?;
-    assert_eq!(rt; trail.lines().len(), 30);
-    assert_eq!(rt; letters(trail.lines()), (15, true));
-    Ok(())
-}
-
-// Each worker in a thread of its own.
-fn all_trade<N: MailBrand + Send + Sync, R: Wait + Threads + Sync>(
-    rt: &R,
-    mail: &SharedMail<u64, N>,
-    seats: Vec<Seat<u64, N>>,
-) -> Result<Vec<Seat<u64, N>>, AllocError>
-    requires { 0 < N.boxes }
-{
-    let work = |seat: Seat<u64, N>| -> Seat<u64, N>
-        requires { 0 < N.boxes }
-    { posts_and_takes(rt, mail, seat) };
-    map_vec(rt, seats, &work)
-}
-
-// Posts three letters, and then takes three. So there is a letter for each take, whoever comes first.
-fn posts_and_takes<N: MailBrand, R: Wait>(
-    rt: &R,
-    mail: &SharedMail<u64, N>,
-    seat: Seat<u64, N>,
-) -> Seat<u64, N>
-    requires { 0 < N.boxes }
-{
-    let mut seat = seat;
-    posts(rt, mail, &mut seat);
-    for _ in 0..3 {
-        let _ = mail.take(rt, &mut seat, 0);
     }
     seat
 }

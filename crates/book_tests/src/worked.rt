@@ -2,7 +2,7 @@
 
 ghost use Rattle.std.specs.Prelude.{◌≡◌};
 
-use auc_book::{MailBrand, MailState, Seat, SettleError, SharedMail, TrailFull, TrailLine};
+use auc_book::{MailBrand, MailState, Seat, SettleError, SharedMail, Trail, TrailFull, TrailLine};
 use auc_mail::{Call, Reply, Taken};
 use std::alloc::Global;
 use std::marker::Brand;
@@ -61,13 +61,13 @@ fn four_calls<N: MailBrand, R: Wait + Abort>(
     Ok(())
 }
 
-#[test]
-fn both_seats_settle(rt: HostRuntime) -> Result<(), Fail> {
-    settles::<Brand, _>(&rt, rt.alloc(), Blank::new(2))
-}
-
-// The seats come in another order than their workers'.
-fn settles<N: MailBrand, R: Wait + Abort>(rt: &R, alloc: Global, ledger: Blank) -> Result<(), Fail>
+// What the mail settles to behind these calls, with the seats of both workers, the second one's first, or with the first one's alone.
+fn settled<N: MailBrand, R: Wait + Abort>(
+    rt: &R,
+    alloc: Global,
+    ledger: Blank,
+    both: bool,
+) -> Result<Result<Trail<i64>, SettleError>, Fail>
     requires name { ledger.name ≡ N.name }
     requires parts { (ledger.parts ≡ N.parts) × (N.parts ≡ 2) }
     requires numbers { (N.boxes ≡ 1) × (N.workers ≡ 2) × (N.nodes ≡ 4) × (N.most ≡ 9) × (N.room ≡ 3) }
@@ -77,9 +77,16 @@ fn settles<N: MailBrand, R: Wait + Abort>(rt: &R, alloc: Global, ledger: Blank) 
     let mut first = seats.remove(0);
     let mut second = seats.remove(0);
     four_calls(rt, &mail, &mut first, &mut second)?;
-    seats.push(second)?;
+    if both {
+        seats.push(second)?;
+    }
     seats.push(first)?;
-    let trail = mail.settle(seats)?;
+    Ok(mail.settle(seats))
+}
+
+#[test]
+fn both_seats_settle(rt: HostRuntime) -> Result<(), Fail> {
+    let trail = settled::<Brand, _>(&rt, rt.alloc(), Blank::new(2), true)??;
     let expected = [post(0, 5), post(1, 6), FIRST_TAKE];
     assert_eq!(rt; trail.lines(), expected.as_slice());
     Ok(())
@@ -87,21 +94,8 @@ fn settles<N: MailBrand, R: Wait + Abort>(rt: &R, alloc: Global, ledger: Blank) 
 
 #[test]
 fn one_seat_is_missing(rt: HostRuntime) -> Result<(), Fail> {
-    misses::<Brand, _>(&rt, rt.alloc(), Blank::new(2))
-}
-
-fn misses<N: MailBrand, R: Wait + Abort>(rt: &R, alloc: Global, ledger: Blank) -> Result<(), Fail>
-    requires name { ledger.name ≡ N.name }
-    requires parts { (ledger.parts ≡ N.parts) × (N.parts ≡ 2) }
-    requires numbers { (N.boxes ≡ 1) × (N.workers ≡ 2) × (N.nodes ≡ 4) × (N.most ≡ 9) × (N.room ≡ 3) }
-{
-    let (mail, mut seats) = SharedMail::<i64, N>::make(alloc, 1, 2, 4, 9, 0, 3, ledger)?;
-    assert_eq!(rt; seats.len(), 2);
-    let mut first = seats.remove(0);
-    let mut second = seats.remove(0);
-    four_calls(rt, &mail, &mut first, &mut second)?;
-    seats.push(first)?;
-    assert_eq!(rt; mail.settle(seats).err(), Some(SettleError::Missing));
+    let settled = settled::<Brand, _>(&rt, rt.alloc(), Blank::new(2), false)?;
+    assert_eq!(rt; settled.err(), Some(SettleError::Missing));
     Ok(())
 }
 

@@ -1,17 +1,20 @@
-//! Worked examples of jobs: tests of `auc_run` and the crates below by their public calls alone.
+//! What no case of the built program can tell of jobs and of the crates below: readers and writers that fail, jobs that no words spell, parts
+//! that no text spells, and each public call once with ample memory. Rows that the program can show are cases (`cases/`).
 #![tactic(auto)]
 
 #[cfg(test)]
 mod calls;
 #[cfg(test)]
-mod checks;
+mod certificates;
 #[cfg(test)]
-mod failures;
+mod checks;
 #[cfg(test)]
 mod fakes;
 #[cfg(test)]
 mod halls;
 #[cfg(test)]
 mod mails;
+#[cfg(test)]
+mod said;
 #[cfg(test)]
 mod solves;

@@ -1,4 +1,4 @@
-//! Worked examples of rows, letters and shards: tests of the crates below by their public calls alone.
+//! Worked examples of rows, letters, shards and the Hall search: tests of the crates below by their public calls alone.
 #![tactic(auto)]
 
 #[cfg(test)]
@@ -7,6 +7,8 @@ mod desk;
 mod objects;
 #[cfg(test)]
 mod persons;
+#[cfg(test)]
+mod placing;
 #[cfg(test)]
 mod rows;
 #[cfg(test)]

@@ -19,11 +19,3 @@ fn rows_in_file_order(rt: HostRuntime) {
     assert_eq!(rt; rows.row(1), [arc(-5, 0, 0), arc(9, 0, 2)].as_slice());
     assert!(rt; rows.row(2).is_empty());
 }
-
-#[test]
-fn no_arcs(rt: HostRuntime) {
-    let rows = rows_of(&rt, "2").expect(&rt, "rows");
-    assert_eq!(rt; rows.persons(), 2);
-    assert_eq!(rt; rows.cost_spread(), 0);
-    assert!(rt; rows.row(1).is_empty());
-}

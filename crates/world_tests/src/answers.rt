@@ -60,11 +60,12 @@ const PRICED: [Example; 2] = [
 ];
 
 /// The text of the answer, in which the checker has found no fault.
-fn answered(rt: &HostRuntime, text: &str, limits: Limits) -> Result<Vec<u8>, Fail> {
+pub fn answered(rt: &HostRuntime, text: &str, limits: Limits) -> Result<Vec<u8>, Fail> {
     let problem = problem_of(rt, text)?;
     let cert = match solve_serial(rt.alloc(), &problem, &in_range(limits)?)? {
         Answer::Optimal(cert) => cert,
         Answer::Infeasible(cert) => cert,
+        Answer::Bracket(cert) => cert,
         Answer::Broken(guard) => return Err(Fail::new(format_args!("{guard:?}"))),
     };
     check(rt.alloc(), &problem, &cert)?;

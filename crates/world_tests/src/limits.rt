@@ -1,11 +1,12 @@
 //! Limits, and how they end a phase.
 
+use crate::answers::answered;
 use crate::moves::HUB_TAKE;
 use crate::problems::{NO_OBJECT, ONE, ONE_OBJECT, TWO, in_range, problem_of};
 use crate::telling::Step::{Look, Round, Rounds};
 use crate::telling::{told, told_at};
 use auc_letters::MOST_PRICE;
-use auc_world::{Answer, Guard, Limits, solve_serial};
+use auc_world::{Answer, Limits, solve_serial};
 use std::test::*;
 
 /// The usual limits of one shard of each kind, but so many bids.
@@ -37,16 +38,23 @@ fn too_low() -> [Limits; 5] {
     [bids(0), bids(1), posts(0), posts(1), nodes(1)]
 }
 
-/// A limit that ends a phase leaves no answer, as long as there is none that tells a bound.
+/// What no limit leaves sold is completed, and the prices bound the cost of all assignments.
 #[test]
-fn low_limits_leave_no_answer(rt: HostRuntime) -> Result<(), Fail> {
-    let problem = problem_of(&rt, TWO)?;
-    for limits in too_low() {
-        let answer = solve_serial(rt.alloc(), &problem, &in_range(limits)?)?;
-        assert!(rt;
-            matches!(answer, Answer::Broken(Guard::Check)),
-            "{limits:?}"
-        );
+fn low_limits_leave_brackets(rt: HostRuntime) -> Result<(), Fail> {
+    let first = "assign 1 1 1\nassign 2 2 3\n";
+    let second = "assign 1 2 2\nassign 2 1 1\n";
+    for (limits, head, picks, price) in [
+        (bids(0), "bids 2 2 4", first, 0),
+        (bids(1), "bids 2 3 4", first, 4),
+        (posts(0), "posts 2 2 4", first, 0),
+        (posts(1), "posts 2 3 4", first, 4),
+        (nodes(1), "mail 2 3 3", second, 7),
+    ] {
+        let out = answered(&rt, TWO, limits)?;
+        let expected = format!(in rt.alloc();
+            "auction 1\nbracket {head}\n{picks}price 1 {price}\nprice 2 0\n"
+        )?;
+        assert_eq!(rt; out.as_slice(), expected.as_bytes(), "{limits:?}");
     }
     Ok(())
 }

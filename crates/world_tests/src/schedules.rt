@@ -122,7 +122,7 @@ fn least_cost(answer: &Answer) -> Option<i64> {
     };
     match cert.parts() {
         CertParts::Optimal { cost, .. } => Some(*cost),
-        CertParts::Infeasible { .. } => None,
+        CertParts::Infeasible { .. } | CertParts::Bracket { .. } => None,
     }
 }
 

@@ -1,7 +1,8 @@
 use Rattle.std.proofs.Common.{◌+◌}
 use Rattle.std.proofs.lemmas.Result.{err_from_is_err_and}
 use Rattle.auc_cert.specs.Text.{assign_line, price_line}
-use Rattle.auc_cert.specs.Spelled.{IsPick, IsPrice}
+use Rattle.auc_graph.specs.Price.{IsPrice}
+use Rattle.auc_cert.specs.Spelled.{IsPick}
 use Rattle.auc_cert.specs.Runs.{From, BreaksOff}
 use Rattle.auc_cert.specs.CertReading.{IsFirstBadOf, ChoiceLines}
 use Rattle.auc_cert.proofs.CertLaws.{at_line, some_left, none_left}
@@ -27,5 +28,6 @@ returns-then-not-is_empty-clause-line c = λ _.
 
 pub returns-clause-found : goal.returns-clause-found
 returns-clause-found c =
-    is_choice c.args.persons c.args.bytes.now c.in_ok-choice.choice.items c.in_ok-choice.rest.now c.in_ok-prices.prices.items c.in_ok-prices.rest.now (record { some = c.requires.some; most = c.requires.most })
-    c.in_ok-choice.ensures.found c.in_ok-prices.ensures.found (none_left c.in_ok-prices.rest.now c.if-not-is_empty.ensures)
+    rw (c.new.ensures, c.new-2.ensures)
+    (is_choice c.args.persons c.args.bytes.now c.in_ok-choice.choice.items c.in_ok-choice.rest.now c.in_ok-prices.prices.items c.in_ok-prices.rest.now (record { some = c.requires.some; most = c.requires.most })
+    c.in_ok-choice.ensures.found c.in_ok-prices.ensures.found (none_left c.in_ok-prices.rest.now c.if-not-is_empty.ensures))

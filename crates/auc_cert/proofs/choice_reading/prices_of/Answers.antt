@@ -1,7 +1,7 @@
 use Rattle.std.proofs.Common.{refl, sym, arith, rules, w64}
 use Rattle.std.specs.Prelude.{FitsSigned}
 use Rattle.std.proofs.lemmas.Int.{to_z-of_z}
-use Rattle.auc_cert.specs.Spelled.{IsPrice}
+use Rattle.auc_graph.specs.Price.{IsPrice}
 use Rattle.auc_cert.specs.Text.{price_line}
 use Rattle.auc_cert.proofs.RunLaws.{breaks_off, no_price, price_more}
 use Rattle.auc_cert.proofs.choice_reading.prices_of.Goals as goal

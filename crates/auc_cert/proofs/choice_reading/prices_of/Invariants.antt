@@ -1,5 +1,5 @@
 use Rattle.auc_cert.specs.Runs.{IsRun}
-use Rattle.auc_cert.specs.Spelled.{IsPrice}
+use Rattle.auc_graph.specs.Price.{IsPrice}
 use Rattle.auc_cert.specs.Text.{price_line}
 use Rattle.auc_cert.proofs.choice_reading.prices_of.Given as goal
 

@@ -1,10 +1,11 @@
 use Rattle.std.proofs.Common.{◌+◌}
 use Rattle.std.specs.Prelude.{codes}
 use Rattle.std.proofs.lemmas.Result.{err_from_is_err_and}
+use Rattle.auc_cert.specs.SecondLine.{AreCounts}
 use Rattle.auc_cert.specs.Runs.{From, BreaksRising}
 use Rattle.auc_cert.specs.CertReading.{IsFirstBadOf, NameLines}
 use Rattle.auc_cert.proofs.CertLaws.{at_line, some_left, none_left}
-use Rattle.auc_cert.proofs.NameLaws.{AreCounts, bad_person, bad_object, bad_name_end, are_names}
+use Rattle.auc_cert.proofs.NameLaws.{bad_person, bad_object, bad_name_end, are_names}
 use Rattle.auc_cert.proofs.name_reading.names_of.Goals as goal
 
 pub returns-in_err-named-clause-line : goal.returns-in_err-named-clause-line
@@ -28,5 +29,6 @@ returns-then-not-is_empty-clause-line c = λ _.
 
 pub returns-clause-found : goal.returns-clause-found
 returns-clause-found c =
-    are_names c.args.persons c.args.objects c.args.bytes.now c.in_ok-named.named.items c.in_ok-named.rest.now c.in_ok-known.known.items c.in_ok-known.rest.now (record { some = c.requires.some; most = c.requires.persons; few = c.requires.objects })
-    c.in_ok-named.ensures.found c.in_ok-known.ensures.found (none_left c.in_ok-known.rest.now c.if-not-is_empty.ensures)
+    rw (c.new.ensures, c.new-2.ensures)
+    (are_names c.args.persons c.args.objects c.args.bytes.now c.in_ok-named.named.items c.in_ok-named.rest.now c.in_ok-known.known.items c.in_ok-known.rest.now (record { some = c.requires.some; most = c.requires.persons; few = c.requires.objects })
+    c.in_ok-named.ensures.found c.in_ok-known.ensures.found (none_left c.in_ok-known.rest.now c.if-not-is_empty.ensures))

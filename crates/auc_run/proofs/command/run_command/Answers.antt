@@ -1,0 +1,6 @@
+use Rattle.auc_run.proofs.command.run_command.Goals as goal
+
+pub returns-then-workers-gt0-clause-said : goal.returns-then-workers-gt0-clause-said
+returns-then-workers-gt0-clause-said g c = λ told.
+    let said = c.tell.ensures told in
+    (c.outcome_by_threads-outcome.result, rw c.in-Solve.is (c.outcome_by_threads-outcome.ensures.outcome (g.Q.Read.remaining c.args.second.now)), said.0, said.1)

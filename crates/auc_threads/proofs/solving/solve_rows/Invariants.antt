@@ -1,0 +1,15 @@
+use Rattle.std.specs.Prelude.{unsigned_abs}
+use Rattle.auc_letters.specs.Price.{IsEps}
+use Rattle.auc_world.specs.Making.{ArePrices}
+use Rattle.auc_threads.proofs.SolvedLaws.{IsReady}
+use Rattle.auc_threads.proofs.solving.solve_rows.Given as goal
+
+abbrev pub invariant-loop-prices : goal.invariant-loop-prices
+invariant-loop-prices g l = record {
+  prices : ArePrices l.rows l.prices.items;
+  eps : IsEps l.eps;
+  ready : IsReady l.problem l.rows l.limits l.phases.items l.eps l.prices.items;
+}
+
+abbrev pub decreases-loop-prices : goal.decreases-loop-prices
+decreases-loop-prices g l = unsigned_abs l.eps

@@ -1,0 +1,47 @@
+-- What a shard of the persons hears of prices.
+use Rattle.std.specs.Prelude.{◌≡◌, ◌⊎◌, ℕ, ◌<◌, ℤ, ◌<ℤ◌, List, [], ◌∷◌, ◌++◌, length, Contains}
+use Rattle.auc_letters.specs.declared.letter.Letter.{Letter}
+use Rattle.auc_graph.specs.Table.{Table, row_of}
+use Rattle.auc_persons.specs.Persons.{Persons, copy_of}
+use Rattle.auc_book.specs.Seat.{Account}
+use Rattle.auc_threads.specs.Taking.{TookMore}
+
+-- the letter tells this price of the object
+abbrev pub Tells : ℕ → ℤ → Letter → Type 0
+Tells j p (Letter.Award i k q) = (k ≡ j) × (q ≡ p)
+Tells j p (Letter.Refused i k q) = (k ≡ j) × (q ≡ p)
+Tells j p (Letter.Outbid i k q) = (k ≡ j) × (q ≡ p)
+Tells j p (Letter.Price k q) = (k ≡ j) × (q ≡ p)
+Tells j p (Letter.Bid i a k q) = ⊥
+Tells j p (Letter.First k) = ⊥
+Tells j p (Letter.Stop y) = ⊥
+
+-- some letter tells it
+abbrev pub IsTold : List Letter → ℕ → ℤ → Type 0
+IsTold letters j p = (x : Letter) × Contains letters x × Tells j p x
+
+-- one of the letters tells a price of an object below the one at the start, or below one that an earlier letter tells
+pub record Falls (start : ℕ → ℤ) (letters : List Letter) : Type 0 where
+  pub front : List Letter
+  pub letter : Letter
+  pub back : List Letter
+  pub are : letters ≡ front ++ letter ∷ back
+  pub object : ℕ
+  pub price : ℤ
+  pub tells : Tells object price letter
+  pub below : (price <ℤ start object) ⊎ ((earlier : ℤ) × IsTold front object earlier × (price <ℤ earlier))
+
+-- A shard of the persons heard letters: each of its copies is as before or told by one of them. Where it fell, one of them tells a lower price.
+pub record HearsOf (s : Persons) (letters : List Letter) (t : Persons) (fell : Type 0) : Type 0 where
+  pub heard : (j : ℕ) → (copy_of t j ≡ copy_of s j) ⊎ IsTold letters j (copy_of t j)
+  pub falls : fell → Falls (copy_of s) letters
+
+-- and took them by its seat
+pub record Hears (room : ℕ) (s : Persons) (a : Account Letter) (t : Persons) (b : Account Letter) (fell : Type 0) : Type 0 where
+  pub letters : List Letter
+  pub took : TookMore room a letters b
+  pub hears : HearsOf s letters t fell
+
+-- some person has no arc
+abbrev pub SomebodyStuck : Table → Type 0
+SomebodyStuck t = (i : ℕ) × (i < length t.rows) × (row_of t i ≡ [])

@@ -1,0 +1,11 @@
+pub mod Taking
+pub mod Sales
+pub mod Hearing
+pub mod Counting
+pub mod Naming
+pub mod Placed
+pub mod Starts
+pub mod Gathering
+pub mod Phase
+pub mod Verdict
+pub mod Solved

@@ -1,0 +1,46 @@
+-- The numbers of the three mails of a phase, and the limits that they come from.
+use Rattle.std.specs.Prelude.{◌≡◌, ◌≤◌, ◌+◌, ◌*◌, ℕ}
+use Rattle.auc_world.specs.Making.{AreLimits, nodes_or}
+use Rattle.auc_world.specs.declared.limits.Limits.{Limits}
+use Rattle.auc_book.specs.declared.limits.TheConstants.{MOST_ROOM}
+
+-- how many boxes each mail has, where there are so many shards of each kind
+pub record AreBoxes (objects persons hub shards : ℕ) : Type 0 where
+  pub few : shards ≤ 16
+  pub some : 1 ≤ shards
+  pub objects_boxes : objects ≡ shards
+  pub persons_boxes : persons ≡ shards
+  pub hub_boxes : hub ≡ 1
+
+-- how many workers there are: the shards of the persons, those of the objects, and the hub
+abbrev pub workers_of : ℕ → ℕ
+workers_of shards = 2 * shards + 1
+
+-- how many letters may wait in each mail, by the limits and the number of persons
+abbrev pub objects_nodes : Limits → ℕ → ℕ
+objects_nodes limits persons = nodes_or limits.nodes persons
+
+abbrev pub persons_nodes : Limits → ℕ → ℕ
+persons_nodes limits persons = nodes_or limits.nodes (4 * persons)
+
+abbrev pub hub_nodes : Limits → ℕ → ℕ
+hub_nodes limits persons = nodes_or limits.nodes (persons + 2 * limits.shards)
+
+-- the numbers of one mail are these: its boxes and nodes, and by the limits its workers, posts and room
+pub record IsNamed (boxes workers nodes most room : ℕ) (boxes' nodes' : ℕ) (limits : Limits) : Type 0 where
+  pub boxes_are : boxes ≡ boxes'
+  pub workers_are : workers ≡ workers_of limits.shards
+  pub nodes_are : nodes ≡ nodes'
+  pub most_is : most ≡ limits.posts
+  pub room_is : room ≡ limits.audit
+
+-- limits in range, that of the trails too
+pub record AreThreadLimits (limits : Limits) : Type 0 where
+  pub world : AreLimits limits
+  pub audit : limits.audit ≤ MOST_ROOM
+
+-- the ledger is one that the name opens, with a part for each worker
+pub record IsUnopened {T : Type 0} (name name' : T) (parts parts' workers : ℕ) : Type 0 where
+  pub name_is : name ≡ name'
+  pub parts_are : parts ≡ parts'
+  pub one_each : parts' ≡ workers

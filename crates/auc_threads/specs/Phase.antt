@@ -1,0 +1,63 @@
+-- What a phase in threads comes to, and what its trails tell of it.
+use Rattle.std.specs.Prelude.{◌≡◌, ◌<◌, ◌+◌, ◌*◌, ◌%◌, ◌↔◌, ℕ, ℤ, pos, List, Some, None, length, IfSome, slice_index_or}
+use Rattle.auc_graph.specs.Table.{Table}
+use Rattle.auc_letters.specs.declared.letter.Letter.{Letter}
+use Rattle.auc_letters.specs.declared.letter.Why.{Why}
+use Rattle.auc_letters.specs.Award.{Sale, award_all, bids_on}
+use Rattle.auc_mail.specs.Mail.{Mail, empty_mail}
+use Rattle.auc_mail.specs.Run.{Run}
+use Rattle.auc_book.specs.declared.line.TrailLine.{TrailLine}
+use Rattle.auc_book.specs.Trail.{events_of, lines_of}
+use Rattle.auc_model.specs.declared.turn.End.{End}
+use Rattle.auc_world.specs.declared.gathering.Gathered.{Gathered}
+use Rattle.auc_world.specs.declared.limits.Limits.{Limits}
+use Rattle.auc_world.specs.Making.{ArePrices}
+use Rattle.auc_threads.specs.declared.phase.PhaseEnd.{PhaseEnd}
+use Rattle.auc_threads.specs.declared.settling.Trails.{Trails}
+use Rattle.auc_threads.specs.Taking.{letters_in}
+use Rattle.auc_threads.specs.Hearing.{Falls, SomebodyStuck}
+use Rattle.auc_threads.specs.Counting.{firsts_in}
+use Rattle.auc_threads.specs.Naming.{hub_nodes, objects_nodes, persons_nodes, workers_of}
+
+-- the lines are a run of a mail of these numbers, from the empty one
+abbrev pub IsRun : ℕ → ℕ → ℕ → ℕ → List (TrailLine Letter) → Type 0
+IsRun boxes workers nodes most lines = (last : Mail Letter) × Run (empty_mail boxes workers nodes most) (events_of lines) last
+
+-- the letters that a worker took, in order
+abbrev pub taken_by : ℕ → List (TrailLine Letter) → List Letter
+taken_by worker trail = letters_in (lines_of worker trail)
+
+-- the price of an object in a list
+abbrev pub price_in : List ℤ → ℕ → ℤ
+price_in prices j = slice_index_or prices j (pos 0)
+
+-- an object at the start of a phase: it has its price, and nobody holds it
+abbrev pub unsold : List ℤ → ℕ → Sale
+unsold prices j = record { price = price_in prices j; holder = None }
+
+-- an object as the phase has left it
+abbrev pub left_in : Gathered → ℕ → Sale
+left_in gathered j = record { price = price_in gathered.prices.items j; holder = slice_index_or gathered.holders.items j None }
+
+-- What the trails tell of a phase.
+pub record IsToldBy (t : Table) (limits : Limits) (eps : ℤ) (start : List ℤ) (p : PhaseEnd) (trails : Trails) : Type 0 where
+  -- they are kept only where they have room
+  pub kept : 0 < limits.audit
+  -- each is a run from the empty mail
+  pub objects_run : IsRun limits.shards (workers_of limits.shards) (objects_nodes limits (length t.rows)) limits.posts trails.objects
+  pub persons_run : IsRun limits.shards (workers_of limits.shards) (persons_nodes limits (length t.rows)) limits.posts trails.persons
+  pub hub_run : IsRun 1 (workers_of limits.shards) (hub_nodes limits (length t.rows)) limits.posts trails.hub
+  -- each object's price and holder are what the award rule makes of it by the bids on it that its shard's worker took, in order
+  pub sold : (j : ℕ) → j < t.objects → left_in p.gathered j ≡ award_all eps (unsold start j) (bids_on j (taken_by (limits.shards + j % limits.shards) trails.objects))
+  -- everyone has an object exactly where the hub took a First for each person
+  pub all : (p.end ≡ Some End.All) ↔ (firsts_in (taken_by (2 * limits.shards) trails.hub) ≡ length t.rows)
+  -- a price fell only where a worker of the persons took one below the start price, or below an earlier one that he took
+  pub fell : p.end ≡ Some (End.Stopped Why.Fell) → (k : ℕ) × (k < limits.shards) × Falls (price_in start) (taken_by k trails.persons)
+
+-- A phase at this eps, from these prices.
+pub record IsPhase (t : Table) (limits : Limits) (eps : ℤ) (start : List ℤ) (p : PhaseEnd) : Type 0 where
+  pub holders : length p.gathered.holders.items ≡ t.objects
+  pub prices : ArePrices t p.gathered.prices.items
+  -- a person has no arc, where it was stopped for that
+  pub stuck : p.end ≡ Some (End.Stopped Why.Stuck) → SomebodyStuck t
+  pub told : IfSome p.trails (IsToldBy t limits eps start p)

@@ -1,0 +1,39 @@
+-- The phases of a run in threads, each from what the one before has left, and its answer.
+use Rattle.std.specs.Prelude.{ℤ, pos, ◌≡◌, ◌≢◌, List, [], ◌∷◌, Some, None, replicate}
+use Rattle.auc_graph.specs.Problem.{Problem}
+use Rattle.auc_graph.specs.Table.{IsTableOf, Table}
+use Rattle.auc_world.specs.declared.answer.Answer.{Answer}
+use Rattle.auc_world.specs.declared.answer.Guard.{Guard}
+use Rattle.auc_world.specs.declared.limits.Limits.{Limits}
+use Rattle.auc_world.specs.Answers.{HasAssignment, IsBracketCertificate, IsHallCertificate, IsInfeasibleAnswer, IsLeastCertificate}
+use Rattle.auc_world.specs.Eps.{first_eps, next_eps}
+use Rattle.auc_threads.specs.declared.phase.PhaseEnd.{PhaseEnd}
+use Rattle.auc_threads.specs.declared.verdict.Verdict.{Verdict}
+use Rattle.auc_threads.specs.Phase.{IsPhase}
+use Rattle.auc_threads.specs.Verdict.{Decides, verdict_of}
+
+-- What the solver in threads may answer: a certificate in which the checker finds no fault, or a guard. No person is ever stuck.
+abbrev pub IsThreadAnswer : Problem → Answer → Type 0
+IsThreadAnswer p (Answer.Optimal cert) = IsLeastCertificate p cert
+IsThreadAnswer p (Answer.Infeasible cert) = IsHallCertificate p cert
+IsThreadAnswer p (Answer.Bracket cert) = IsBracketCertificate p cert
+IsThreadAnswer p (Answer.Broken guard) = guard ≢ Guard.Stuck
+
+abbrev pub IsInfeasible : Answer → Type 0
+IsInfeasible (Answer.Optimal cert) = ⊥
+IsInfeasible (Answer.Infeasible cert) = Unit {0}
+IsInfeasible (Answer.Bracket cert) = ⊥
+IsInfeasible (Answer.Broken guard) = ⊥
+
+-- The phases from the one at this eps and these prices on, and the answer. There is a phase behind another exactly where that has sold an object to each
+-- person, and is not at the last eps: it begins with the prices that were left, at the next eps. The last one decides.
+abbrev pub Runs : Problem → Table → Limits → ℤ → List ℤ → List PhaseEnd → Answer → Type 0
+Runs p t limits eps prices [] answer = ⊥
+Runs p t limits eps prices (e ∷ []) answer = IsPhase t limits eps prices e × (verdict_of limits e ≡ Verdict.Sold → next_eps eps ≡ None) × Decides p e.gathered (verdict_of limits e) answer
+Runs p t limits eps prices (e ∷ f ∷ rest) answer =
+    IsPhase t limits eps prices e × (verdict_of limits e ≡ Verdict.Sold) × ((next : ℤ) × (next_eps eps ≡ Some next) × Runs p t limits next e.gathered.prices.items (f ∷ rest) answer)
+
+-- There is no phase where some persons know too few objects. Else there is an assignment, and the first phase is at the first eps and prices of 0.
+abbrev pub IsSolvedBy : Problem → Limits → List PhaseEnd → Answer → Type 0
+IsSolvedBy p limits [] answer = IsInfeasibleAnswer p answer
+IsSolvedBy p limits (e ∷ rest) answer = HasAssignment p × ((t : Table) × IsTableOf p t × Runs p t limits (first_eps t) (replicate t.objects (pos 0)) (e ∷ rest) answer)

@@ -1,0 +1,65 @@
+-- What the threads begin with, and what they give back.
+use Rattle.std.specs.Prelude.{◌≡◌, ◌≢◌, ◌+◌, ℕ, ℤ, List, length, [], Option, Some}
+use Rattle.auc_letters.specs.declared.letter.Letter.{Letter}
+use Rattle.auc_letters.specs.declared.letter.Why.{Why}
+use Rattle.auc_objects.specs.Objects.{Objects}
+use Rattle.auc_book.specs.Seat.{Account, new_account}
+use Rattle.auc_graph.specs.Table.{Table}
+use Rattle.auc_persons.specs.Persons.{Persons}
+use Rattle.auc_world.specs.Making.{new_objects, new_persons}
+use Rattle.auc_threads.specs.Hearing.{Hears, SomebodyStuck}
+use Rattle.auc_threads.specs.Taking.{TookMore}
+use Rattle.auc_threads.specs.Sales.{Sells}
+
+-- the new seats of a worker
+pub record AreNewSeats (k : ℕ) (objects persons hub : Account Letter) : Type 0 where
+  pub objects_seat : objects ≡ new_account k
+  pub persons_seat : persons ≡ new_account k
+  pub hub_seat : hub ≡ new_account k
+
+-- what the shard number k of the objects begins with
+pub record IsObjectStart (shards persons : ℕ) (prices : List ℤ) (k : ℕ) (s : Objects) (a p h : Account Letter) : Type 0 where
+  pub shard : s ≡ new_objects shards persons prices k
+  pub seats : AreNewSeats (shards + k) a p h
+
+-- what comes of a worker of the objects
+pub record IsObjectWork (eps : ℤ) (objects_room persons_room hub_room : ℕ) (s : Objects) (a p h : Account Letter) (t : Objects) (a' p' h' : Account Letter) (why : Option Why) : Type 0 where
+  pub sells : Sells eps objects_room s a t a'
+  pub persons_seat : TookMore persons_room p [] p'
+  pub hub_seat : TookMore hub_room h [] h'
+  pub no_guard : (why ≢ Some Why.Stuck) × (why ≢ Some Why.Fell)
+
+-- what the thread number k of the objects promises: it works at eps, from such a beginning
+pub record IsObjectPromise (eps : ℤ) (shards persons : ℕ) (prices : List ℤ) (k : ℕ) (eps' : ℤ) (s : Objects) (a p h : Account Letter) : Type 0 where
+  pub at_eps : eps' ≡ eps
+  pub begins : IsObjectStart shards persons prices k s a p h
+
+-- what the thread number k of the objects gives back
+pub record IsObjectResult (eps : ℤ) (objects_room persons_room hub_room shards persons : ℕ) (prices : List ℤ) (k : ℕ) (t : Objects) (a p h : Account Letter) (why : Option Why) : Type 0 where
+  pub seat : a.worker ≡ shards + k
+  pub persons_seat : p.worker ≡ shards + k
+  pub hub_seat : h.worker ≡ shards + k
+  pub sells : Sells eps objects_room (new_objects shards persons prices k) (new_account (shards + k)) t a
+  pub no_guard : (why ≢ Some Why.Stuck) × (why ≢ Some Why.Fell)
+
+-- the same of the persons
+pub record IsPersonStart (t : Table) (shards bids : ℕ) (prices : List ℤ) (k : ℕ) (s : Persons) (a p h : Account Letter) : Type 0 where
+  pub shard : s ≡ new_persons shards (length t.rows) bids prices k
+  pub seats : AreNewSeats k a p h
+
+pub record IsPersonWork (t : Table) (objects_room persons_room hub_room : ℕ) (s : Persons) (a p h : Account Letter) (n : Persons) (a' p' h' : Account Letter) (why : Option Why) : Type 0 where
+  pub hears : Hears persons_room s p n p' (why ≡ Some Why.Fell)
+  pub objects_seat : TookMore objects_room a [] a'
+  pub hub_seat : TookMore hub_room h [] h'
+  pub stuck : why ≡ Some Why.Stuck → SomebodyStuck t
+
+pub record IsPersonPromise (t : Table) (shards bids : ℕ) (prices : List ℤ) (k : ℕ) (t' : Table) (s : Persons) (a p h : Account Letter) : Type 0 where
+  pub same_table : t' ≡ t
+  pub begins : IsPersonStart t shards bids prices k s a p h
+
+pub record IsPersonResult (t : Table) (objects_room persons_room hub_room shards bids : ℕ) (prices : List ℤ) (k : ℕ) (n : Persons) (a p h : Account Letter) (why : Option Why) : Type 0 where
+  pub seat : p.worker ≡ k
+  pub objects_seat : a.worker ≡ k
+  pub hub_seat : h.worker ≡ k
+  pub hears : Hears persons_room (new_persons shards (length t.rows) bids prices k) (new_account k) n p (why ≡ Some Why.Fell)
+  pub stuck : why ≡ Some Why.Stuck → SomebodyStuck t

@@ -1,0 +1,42 @@
+-- What a phase comes to for the run, and the answer that the last phase decides.
+use Rattle.std.specs.Prelude.{◌==◌, ◌||◌, ◌≡◌, Bool, true, false, Option, None, Some, Result, Ok, Err}
+use Rattle.auc_cert.specs.declared.reason.Reason.{Reason}
+use Rattle.auc_graph.specs.Problem.{Problem}
+use Rattle.auc_model.specs.declared.turn.End.{End}
+use Rattle.auc_world.specs.declared.answer.Answer.{Answer}
+use Rattle.auc_world.specs.declared.answer.Guard.{Guard}
+use Rattle.auc_world.specs.declared.gathering.Gathered.{Gathered}
+use Rattle.auc_world.specs.declared.limits.Limits.{Limits}
+use Rattle.auc_world.specs.Answers.{IsBracketAnswer, IsOptimalAnswer, stop_of}
+use Rattle.auc_threads.specs.declared.phase.PhaseEnd.{PhaseEnd}
+use Rattle.auc_threads.specs.declared.settling.Trails.{Trails}
+use Rattle.auc_threads.specs.declared.verdict.Verdict.{Verdict}
+
+abbrev pub has_trails : Option Trails → Bool
+has_trails (Some trails) = true
+has_trails None = false
+
+-- the phase has its trails, where they are to be kept
+abbrev pub is_settled : Limits → PhaseEnd → Bool
+is_settled limits p = (limits.audit == 0) || has_trails p.trails
+
+abbrev pub stopped_by : Result Reason Guard → Verdict
+stopped_by (Ok reason) = Verdict.Stopped reason
+stopped_by (Err guard) = Verdict.Broken guard
+
+-- by whether it is settled, and how it ended
+abbrev pub verdict : Bool → Option End → Verdict
+verdict false end = Verdict.Broken Guard.Settle
+verdict true None = Verdict.Broken Guard.Stall
+verdict true (Some End.All) = Verdict.Sold
+verdict true (Some (End.Stopped why)) = stopped_by (stop_of why)
+
+abbrev pub verdict_of : Limits → PhaseEnd → Verdict
+verdict_of limits p = verdict (is_settled limits p) p.end
+
+-- The answer that a last phase with these holders and prices decides: that the holders' arcs cost least, by the prices; or an assignment and the
+-- bound that the prices give; or the guard.
+abbrev pub Decides : Problem → Gathered → Verdict → Answer → Type 0
+Decides p g Verdict.Sold answer = IsOptimalAnswer p g.holders.items g.prices.items answer
+Decides p g (Verdict.Stopped reason) answer = IsBracketAnswer p reason g.holders.items g.prices.items answer
+Decides p g (Verdict.Broken guard) answer = answer ≡ Answer.Broken guard

@@ -1,0 +1,105 @@
+//! What the workers of a phase gave back: holders and prices from the shards of the objects, and the reason for which it ended.
+
+ghost use Rattle.std.specs.Prelude.{ℕ, ◌≡◌, ◌≢◌, ◌<◌, ◌%◌, ◌↔◌, length, pos, Some, None, IsTrue, IfOk, IfSome, All, slice_index_or};
+ghost use Rattle.auc_letters.specs.declared.letter.Why.{Why};
+ghost use Rattle.auc_letters.specs.Price.{IsPrice};
+ghost use Rattle.auc_model.specs.declared.turn.End.{End};
+ghost use Rattle.auc_threads.specs.Gathering.{Gathers, IsOwnShard};
+ghost use Rattle.auc_threads.specs.Placed.{Placed};
+
+use crate::object_worker::ObjectWork;
+use crate::person_worker::PersonWork;
+use crate::running::Works;
+use auc_book::MailBrand;
+use auc_letters::{Why, shard_of};
+use auc_world::{End, Gathered};
+use std::alloc::{AllocError, Global};
+
+/// The holders and prices of all objects, each from its own shard.
+pub(crate) fn gather<O: MailBrand, P: MailBrand, H: MailBrand>(
+    alloc: Global,
+    objects: u32,
+    shards: u32,
+    works: &[ObjectWork<O, P, H>],
+) -> Result<Gathered, AllocError>
+    requires some { 0 < shards }
+    requires many { length works.now ≡ shards }
+    requires works { Placed (λ k w. IsOwnShard shards objects k w.shard) 0 works.now }
+    ensures holders { IfOk result (λ g. length g.holders.items ≡ objects) }
+    ensures prices { IfOk result (λ g. length g.prices.items ≡ objects) }
+    ensures range { IfOk result (λ g. All IsPrice g.prices.items) }
+    ensures each { IfOk result (λ g. (j : ℕ) (d : _) → j < objects → Gathers (slice_index_or works.now (j % shards) d).shard j (slice_index_or g.prices.items j (pos 0)) (slice_index_or g.holders.items j None)) }
+{
+    let mut holders = Vec::with_capacity(alloc, objects as usize)?;
+    let mut prices = Vec::with_capacity(alloc, objects as usize)?;
+    for object in 0..objects {
+        let work = &works[shard_of(object, shards) as usize];
+        holders.push_reserved(work.shard.holder(object));
+        prices.push_reserved(work.shard.price(object));
+    }
+    Ok(Gathered { holders, prices })
+}
+
+/// The reason of the first worker of the persons who stopped.
+fn persons_reason<O: MailBrand, P: MailBrand, H: MailBrand>(
+    works: &[PersonWork<O, P, H>],
+) -> Option<Why>
+    ensures { IfSome result (λ y. (k : ℕ) × (k < length works.now) × ((d : _) → (slice_index_or works.now k d).why ≡ Some y)) }
+{
+    for work in works {
+        if let Some(why) = work.why {
+            return Some(why);
+        }
+    }
+    None
+}
+
+/// The reason of the first worker of the objects who stopped.
+fn objects_reason<O: MailBrand, P: MailBrand, H: MailBrand>(
+    works: &[ObjectWork<O, P, H>],
+) -> Option<Why>
+    requires { All (λ w. (w.why ≢ Some Why.Stuck) × (w.why ≢ Some Why.Fell)) works.now }
+    ensures { (result ≢ Some Why.Stuck) × (result ≢ Some Why.Fell) }
+{
+    for work in works {
+        if let Some(why) = work.why {
+            return Some(why);
+        }
+    }
+    None
+}
+
+/// The reason that counts: the first one, of the persons, the objects and the hub.
+fn reason<O: MailBrand, P: MailBrand, H: MailBrand>(works: &Works<O, P, H>) -> Option<Why>
+    requires objects { All (λ w. (w.why ≢ Some Why.Stuck) × (w.why ≢ Some Why.Fell)) works.now.objects.items }
+    requires hub { (works.now.hub.why ≢ Some Why.Stuck) × (works.now.hub.why ≢ Some Why.Fell) }
+    ensures stuck { result ≡ Some Why.Stuck → (k : ℕ) × (k < length works.now.persons.items) × ((d : _) → (slice_index_or works.now.persons.items k d).why ≡ Some Why.Stuck) }
+    ensures fell { result ≡ Some Why.Fell → (k : ℕ) × (k < length works.now.persons.items) × ((d : _) → (slice_index_or works.now.persons.items k d).why ≡ Some Why.Fell) }
+{
+    if let Some(why) = persons_reason(works.persons.as_slice()) {
+        return Some(why);
+    }
+    if let Some(why) = objects_reason(works.objects.as_slice()) {
+        return Some(why);
+    }
+    works.hub.why
+}
+
+/// How a phase ended, by what its workers gave back.
+pub(crate) fn end_of<O: MailBrand, P: MailBrand, H: MailBrand>(
+    works: &Works<O, P, H>,
+) -> Option<End>
+    requires objects { All (λ w. (w.why ≢ Some Why.Stuck) × (w.why ≢ Some Why.Fell)) works.now.objects.items }
+    requires hub { (works.now.hub.why ≢ Some Why.Stuck) × (works.now.hub.why ≢ Some Why.Fell) }
+    ensures all { result ≡ Some End.All ↔ IsTrue works.now.hub.is_all }
+    ensures stuck { result ≡ Some (End.Stopped Why.Stuck) → (k : ℕ) × (k < length works.now.persons.items) × ((d : _) → (slice_index_or works.now.persons.items k d).why ≡ Some Why.Stuck) }
+    ensures fell { result ≡ Some (End.Stopped Why.Fell) → (k : ℕ) × (k < length works.now.persons.items) × ((d : _) → (slice_index_or works.now.persons.items k d).why ≡ Some Why.Fell) }
+{
+    if works.hub.is_all {
+        return Some(End::All);
+    }
+    match reason(works) {
+        Some(why) => Some(End::Stopped { why }),
+        None => None,
+    }
+}

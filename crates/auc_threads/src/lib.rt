@@ -1,0 +1,26 @@
+//! Shard workers in threads of their own, over three mails that they share.
+#![tactic(auto)]
+
+mod error;
+mod gate;
+mod gathering;
+mod hub;
+mod mails;
+mod object_threads;
+mod object_worker;
+mod person_threads;
+mod person_worker;
+mod phase;
+mod running;
+mod settling;
+mod solving;
+mod taking;
+mod verdict;
+
+pub use error::RunError;
+pub use gate::{FreeGate, Gate};
+pub use mails::{Ledgers, Mails, WorkerSeats};
+pub use phase::{PhaseEnd, phase_threads};
+pub use settling::Trails;
+pub use solving::{Solved, solve_threads};
+pub use verdict::{Verdict, verdict_of};

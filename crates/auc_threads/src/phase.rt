@@ -1,0 +1,149 @@
+//! One phase in threads, on new mails.
+
+ghost use Rattle.std.specs.Prelude.{ℕ, ◌≡◌, ◌≢◌, ◌*◌, length, Some, IfOk, vec_len};
+ghost use Rattle.auc_letters.specs.declared.letter.Why.{Why};
+ghost use Rattle.auc_letters.specs.Price.{IsEps};
+ghost use Rattle.auc_book.specs.Seat.{new_account};
+ghost use Rattle.auc_world.specs.Making.{ArePrices};
+ghost use Rattle.auc_threads.specs.Counting.{Counts};
+ghost use Rattle.auc_threads.specs.Naming.{AreThreadLimits, IsNamed, IsUnopened, hub_nodes, objects_nodes, persons_nodes, workers_of};
+ghost use Rattle.auc_threads.specs.Phase.{IsPhase};
+ghost use Rattle.auc_threads.specs.Placed.{Placed};
+ghost use Rattle.auc_threads.specs.Starts.{IsObjectResult, IsPersonResult};
+
+use crate::error::RunError;
+use crate::gate::Gate;
+use crate::gathering::{end_of, gather};
+use crate::mails::{Ledgers, Mails};
+use crate::running::{Pace, Works, run_in_scope, starts_of};
+use crate::settling::{Trails, seats_of, settle_all};
+use auc_book::MailBrand;
+use auc_graph::Rows;
+use auc_world::{End, Gathered, Limits};
+use std::alloc::Global;
+use std::marker::Brand;
+use std::sync::Wait;
+use std::sync::ledger::Blank;
+use std::thread::Threads;
+
+/// What a phase comes to.
+#[derive(Drop)]
+pub struct PhaseEnd {
+    /// Who holds each object, and its price.
+    pub gathered: Gathered,
+    /// How it ended; None where nothing was said.
+    pub end: Option<End>,
+    /// The trails, where all three mails settled.
+    pub trails: Option<Trails>,
+}
+
+/// What the phase comes to, of what its workers gave back.
+fn finish<O: MailBrand, P: MailBrand, H: MailBrand>(
+    alloc: Global,
+    rows: &Rows,
+    limits: &Limits,
+    prices: &[i64],
+    pace: &Pace,
+    mails: Mails<O, P, H>,
+    works: Works<O, P, H>,
+) -> Result<PhaseEnd, RunError>
+    requires prices { ArePrices rows.now prices.now }
+    requires limits { AreThreadLimits limits.now }
+    requires persons { Placed (λ k w. IsPersonResult rows.now O.room P.room H.room limits.now.shards limits.now.bids prices.now k w.shard w.seats.objects w.seats.persons w.seats.hub w.why) 0 works.persons.items }
+    requires persons_many { vec_len works.persons ≡ limits.now.shards }
+    requires objects { Placed (λ k w. IsObjectResult pace.now.eps O.room P.room H.room limits.now.shards (length rows.now.rows) prices.now k w.shard w.seats.objects w.seats.persons w.seats.hub w.why) 0 works.objects.items }
+    requires objects_many { vec_len works.objects ≡ limits.now.shards }
+    requires counts { Counts H.room (length rows.now.rows) (new_account (2 * limits.now.shards)) works.hub.is_all works.hub.seats.hub }
+    requires hub_why { (works.hub.why ≢ Some Why.Stuck) × (works.hub.why ≢ Some Why.Fell) }
+    requires objects_name { IsNamed O.boxes O.workers O.nodes O.most O.room limits.now.shards (objects_nodes limits.now (length rows.now.rows)) limits.now }
+    requires persons_name { IsNamed P.boxes P.workers P.nodes P.most P.room limits.now.shards (persons_nodes limits.now (length rows.now.rows)) limits.now }
+    requires hub_name { IsNamed H.boxes H.workers H.nodes H.most H.room 1 (hub_nodes limits.now (length rows.now.rows)) limits.now }
+    ensures { IfOk result (IsPhase rows.now limits.now pace.now.eps prices.now) }
+{
+    // Read here, so that the contract can name them.
+    let _ = prices.len();
+    let _ = pace.eps;
+    let shards = limits.shards;
+    let gathered = gather(alloc, rows.objects(), shards, works.objects.as_slice())?;
+    let end = end_of(&works);
+    let all = seats_of(alloc, works)?;
+    let trails = settle_all(mails, all);
+    Ok(PhaseEnd {
+        gathered,
+        end,
+        trails,
+    })
+}
+
+/// One phase, with names for its three mails.
+fn named_phase<
+    O: MailBrand + Send + Sync,
+    P: MailBrand + Send + Sync,
+    H: MailBrand + Send + Sync,
+    R: Threads + Wait + Sync,
+    G: Gate + Sync,
+>(
+    rt: &R,
+    alloc: Global,
+    rows: &Rows,
+    limits: &Limits,
+    prices: &[i64],
+    pace: &Pace,
+    gate: &G,
+    ledgers: Ledgers,
+) -> Result<PhaseEnd, RunError>
+    requires prices { ArePrices rows.now prices.now }
+    requires eps { IsEps pace.now.eps }
+    requires limits { AreThreadLimits limits.now }
+    requires objects_ledger { IsUnopened ledgers.objects.name O.name ledgers.objects.parts O.parts (workers_of limits.now.shards) }
+    requires persons_ledger { IsUnopened ledgers.persons.name P.name ledgers.persons.parts P.parts (workers_of limits.now.shards) }
+    requires hub_ledger { IsUnopened ledgers.hub.name H.name ledgers.hub.parts H.parts (workers_of limits.now.shards) }
+    requires objects_name { IsNamed O.boxes O.workers O.nodes O.most O.room limits.now.shards (objects_nodes limits.now (length rows.now.rows)) limits.now }
+    requires persons_name { IsNamed P.boxes P.workers P.nodes P.most P.room limits.now.shards (persons_nodes limits.now (length rows.now.rows)) limits.now }
+    requires hub_name { IsNamed H.boxes H.workers H.nodes H.most H.room 1 (hub_nodes limits.now (length rows.now.rows)) limits.now }
+    ensures { IfOk result (IsPhase rows.now limits.now pace.now.eps prices.now) }
+{
+    let (mails, seats) = Mails::<O, P, H>::make(alloc, rows.persons(), limits, ledgers)?;
+    let starts = starts_of(alloc, rows, limits, prices, seats)?;
+    let bids = limits.bids;
+    let works = run_in_scope(rt, alloc, gate, &mails, rows, bids, prices, pace, starts)?;
+    finish(alloc, rows, limits, prices, pace, mails, works)
+}
+
+/// One phase in threads, on new mails: a thread for each shard, and the hub on the caller's.
+///
+/// `prices` are in scaled costs, from 0 to 2^61, indexed by object; `eps` is in scaled costs, from 1 to 2^60. Every worker of a shard passes the gate
+/// before each of its calls of a mail. `limits.audit` is the number of calls that each mail, and each seat at it, has places for; the trails are
+/// given where it is above 0 and all three mails settled with their seats.
+///
+/// Nothing is said of whether it ends.
+///
+/// Takes the time of the bids, each O(arcs of the person); O(shards * (persons + objects)) memory, and that for
+/// 3 * (2 * shards + 2) * audit lines.
+///
+/// # Errors
+///
+/// `NoMemory`, and `Spawn` where a thread couldn't be started: then those that run are ended and waited for.
+pub fn phase_threads<R: Threads + Wait + Sync, G: Gate + Sync>(
+    rt: &R,
+    alloc: Global,
+    rows: &Rows,
+    limits: &Limits,
+    prices: &[i64],
+    eps: i64,
+    gate: &G,
+) -> Result<PhaseEnd, RunError>
+    requires prices { ArePrices rows.now prices.now }
+    requires eps { IsEps eps }
+    requires limits { AreThreadLimits limits.now }
+    ensures { IfOk result (IsPhase rows.now limits.now eps prices.now) }
+{
+    let workers = u64::from(2 * limits.shards + 1);
+    let ledgers = Ledgers {
+        objects: Blank::new(workers),
+        persons: Blank::new(workers),
+        hub: Blank::new(workers),
+    };
+    let pace = Pace { eps };
+    named_phase::<Brand, Brand, Brand, R, G>(rt, alloc, rows, limits, prices, &pace, gate, ledgers)
+}

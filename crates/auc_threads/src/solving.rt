@@ -1,0 +1,129 @@
+//! The solver in threads: epsilon scaling over phases, each in threads of its own.
+
+ghost use Rattle.std.specs.Prelude.{◌≡◌, ◌<ℤ◌, ◌↔◌, [], ◌∷◌, ◌++◌, IfOk, OnOk, IfSome, IfNone, Some, None};
+ghost use Rattle.auc_graph.specs.Table.{IsTableOf};
+ghost use Rattle.auc_letters.specs.Price.{IsEps};
+ghost use Rattle.auc_world.specs.Answers.{HasAssignment};
+ghost use Rattle.auc_world.specs.Eps.{next_eps};
+ghost use Rattle.auc_world.specs.Phases.{NobodyStuck};
+ghost use Rattle.auc_threads.specs.Naming.{AreThreadLimits};
+ghost use Rattle.auc_threads.specs.Solved.{IsInfeasible, IsSolvedBy, IsThreadAnswer};
+
+use crate::error::RunError;
+use crate::gate::Gate;
+use crate::phase::{PhaseEnd, phase_threads};
+use crate::verdict::{Verdict, decide, verdict_of};
+use auc_graph::{ArcList, Rows};
+use auc_hall::{Matching, Partial, complete, hall_sets_leave_no_assignment};
+use auc_world::finish::infeasible;
+use auc_world::{Answer, Limits, first_eps, next_eps};
+use std::alloc::{AllocError, Global};
+use std::sync::Wait;
+use std::thread::Threads;
+
+/// What a run comes to.
+#[derive(Drop)]
+pub struct Solved {
+    /// The answer.
+    pub answer: Answer,
+    /// Its phases, in order; none where there is no assignment.
+    pub phases: Vec<PhaseEnd>,
+}
+
+/// The eps of the phase behind one that came to this. None where that is the last one.
+fn eps_behind(verdict: Verdict, eps: i64) -> Option<i64>
+    ensures some { IfSome result (λ next. (verdict ≡ Verdict.Sold) × (next_eps eps ≡ Some next)) }
+    ensures none { IfNone result (verdict ≡ Verdict.Sold → next_eps eps ≡ None) }
+    ensures range { IsEps eps → IfSome result IsEps }
+    ensures falls { IfSome result (λ next. next <ℤ eps) }
+{
+    match verdict {
+        Verdict::Sold => next_eps(eps),
+        Verdict::Stopped { .. } | Verdict::Broken { .. } => None,
+    }
+}
+
+/// Puts a phase behind the others.
+fn note(phases: &mut Vec<PhaseEnd>, ended: PhaseEnd) -> Result<(), AllocError>
+    ensures { OnOk result (phases.new.items ≡ phases.old.items ++ ended ∷ []) }
+{
+    phases.push(ended)?;
+    Ok(())
+}
+
+/// Solves a problem that has an assignment: a phase at each eps, and each begins with the prices of the one before.
+fn solve_rows<R: Threads + Wait + Sync, G: Gate + Sync>(
+    rt: &R,
+    alloc: Global,
+    problem: &ArcList,
+    rows: &Rows,
+    limits: &Limits,
+    gate: &G,
+) -> Result<Solved, RunError>
+    requires rows { IsTableOf problem.now rows.now }
+    requires limits { AreThreadLimits limits.now }
+    requires arcs { NobodyStuck rows.now }
+    requires assignment { HasAssignment problem.now }
+    ensures run { IfOk result (λ s. IsSolvedBy problem.now limits.now s.phases.items s.answer) }
+    ensures answer { IfOk result (λ s. IsThreadAnswer problem.now s.answer) }
+    ensures infeasible { IfOk result (λ s. (s.phases.items ≡ []) ↔ IsInfeasible s.answer) }
+{
+    hall_sets_leave_no_assignment();
+    let mut phases = Vec::new(alloc);
+    let mut prices = vec![in alloc; 0; rows.objects() as usize]?;
+    let mut eps = first_eps(rows);
+    loop {
+        let ended = phase_threads(rt, alloc, rows, limits, prices.as_slice(), eps, gate)?;
+        let verdict = verdict_of(limits, &ended);
+        let Some(next) = eps_behind(verdict, eps) else {
+            let answer = decide(alloc, problem, rows, verdict, &ended.gathered)?;
+            note(&mut phases, ended)?;
+            return Ok(Solved { answer, phases });
+        };
+        prices = ended.gathered.prices.as_slice().to_vec(alloc)?;
+        note(&mut phases, ended)?;
+        eps = next;
+    }
+}
+
+/// Solves a problem by shards in threads: a thread for each shard of the persons and of the objects in each phase, and the hub on the caller's.
+///
+/// First an assignment of any cost is searched ([`auc_hall::complete`]); where there is none, the answer is `Infeasible`, and there is no phase.
+/// Else phases run as those of [`auc_world::solve_serial`], from prices of 0 at [`first_eps`] on, each by [`phase_threads`]: the next one at
+/// [`next_eps`] and the prices that were left, where each person got an object and the mails settled, if trails are kept. The last phase decides:
+/// `Optimal` and `Bracket` are claims of its holders and prices that have passed the checker. `Broken` is answered where its mails didn't settle, nothing was
+/// said of its end, a price fell, a letter was stray, or its holders make no claim; never for a person with no arc.
+///
+/// Every worker of a shard passes the gate before each of its calls of a mail. Where `limits.audit` is above 0, each mail and each seat at it have places for
+/// as many calls, and the phases have trails. Nothing is said of whether a phase ends.
+///
+/// Takes the time of the search and of the bids, each O(arcs of the person); beside the memory of the problem and its rows, that of one phase and of the trails of all.
+///
+/// # Errors
+///
+/// `NoMemory`, and `Spawn` where a thread couldn't be started: then those that run are ended and waited for.
+pub fn solve_threads<R: Threads + Wait + Sync, G: Gate + Sync>(
+    rt: &R,
+    alloc: Global,
+    problem: &ArcList,
+    limits: &Limits,
+    gate: &G,
+) -> Result<Solved, RunError>
+    requires { AreThreadLimits limits.now }
+    ensures run { IfOk result (λ s. IsSolvedBy problem.now limits.now s.phases.items s.answer) }
+    ensures answer { IfOk result (λ s. IsThreadAnswer problem.now s.answer) }
+    ensures infeasible { IfOk result (λ s. (s.phases.items ≡ []) ↔ IsInfeasible s.answer) }
+{
+    let rows = Rows::build(alloc, problem)?;
+    let partial = Partial::new(alloc, &rows)?;
+    match complete(alloc, &rows, partial)? {
+        Matching::Hall { persons, objects } => {
+            let answer = infeasible(alloc, problem, persons, objects)?;
+            Ok(Solved {
+                answer,
+                phases: Vec::new(alloc),
+            })
+        }
+        Matching::Full(_) => solve_rows(rt, alloc, problem, &rows, limits, gate),
+    }
+}

@@ -1,0 +1,65 @@
+-- The phases of a run, each from what the one before has left, and what an answer says of the last one.
+use Rattle.std.specs.Prelude.{ℤ, pos, ◌≡◌, List, [], ◌∷◌, Some, All, length, replicate}
+use Rattle.auc_graph.specs.declared.arc.Arc.{Arc}
+use Rattle.auc_graph.specs.Assignment.{IsAssignment}
+use Rattle.auc_graph.specs.Problem.{Problem}
+use Rattle.auc_graph.specs.Table.{IsTableOf, Table}
+use Rattle.auc_cert.specs.declared.reason.Reason.{Reason}
+use Rattle.auc_cert.specs.declared.cert.CertParts.{CertParts}
+use Rattle.auc_model.specs.Chosen.{ArePricesOf, IsHeldArc}
+use Rattle.auc_model.specs.World.{World}
+use Rattle.auc_model.specs.declared.turn.End.{End}
+use Rattle.auc_world.specs.declared.answer.Answer.{Answer}
+use Rattle.auc_world.specs.declared.limits.Limits.{Limits}
+use Rattle.auc_world.specs.Answers.{why_of}
+use Rattle.auc_world.specs.Claims.{IsBracketBy, claim_of}
+use Rattle.auc_world.specs.Eps.{first_eps, next_eps}
+use Rattle.auc_world.specs.Phases.{IsPlayed, Stage}
+
+-- a phase at this eps and these prices comes behind r: every person had an object there, the eps is the next one, and the prices are those
+-- that r has left
+pub record Follows (t : Table) (r : Stage) (eps : ℤ) (prices : List ℤ) : Type 0 where
+  pub sold : r.world.end ≡ Some End.All
+  pub next : next_eps r.eps ≡ Some eps
+  pub each : length prices ≡ t.objects
+  pub kept : ArePricesOf r.world prices
+
+-- The phases of a run, the last one first: the first at prices of 0 and the first eps, each next one behind the one before.
+abbrev pub Chain : Table → Limits → List Stage → Type 0
+Chain t limits [] = ⊥
+Chain t limits (s ∷ []) = IsPlayed t limits s × (s.eps ≡ first_eps t) × (s.prices ≡ replicate t.objects (pos 0))
+Chain t limits (s ∷ r ∷ rest) = IsPlayed t limits s × Follows t r s.eps s.prices × Chain t limits (r ∷ rest)
+
+-- a run of the problem by these limits whose last phase is this one
+pub record EndsIn (p : Problem) (limits : Limits) (last : Stage) : Type 0 where
+  pub table : Table
+  pub of : IsTableOf p table
+  pub before : List Stage
+  pub chain : Chain table limits (last ∷ before)
+
+-- the claim that the arcs of the world's holders cost least, by its true prices
+pub record IsClaimOf (p : Problem) (w : World) (cert : CertParts) : Type 0 where
+  pub choice : List Arc
+  pub assigned : IsAssignment p choice
+  pub held : All (IsHeldArc p w) choice
+  pub prices : List ℤ
+  pub each : length prices ≡ p.objects
+  pub true_prices : ArePricesOf w prices
+  pub is : cert ≡ claim_of choice prices
+
+-- an assignment and the bound that the world's true prices give, for the reason for which it was stopped
+pub record IsBracketOf (p : Problem) (w : World) (cert : CertParts) : Type 0 where
+  pub reason : Reason
+  pub stopped : w.end ≡ Some (End.Stopped (why_of reason))
+  pub prices : List ℤ
+  pub each : length prices ≡ p.objects
+  pub true_prices : ArePricesOf w prices
+  pub by : IsBracketBy p reason prices cert
+
+-- What an answer says of its run: a least cost is claimed of the last world, at eps 1, in which every person has an object; and a bracket stands
+-- only where a limit has stopped the last world, by whose prices it is.
+abbrev pub IsOfRun : Problem → Limits → Answer → Type 0
+IsOfRun p limits (Answer.Optimal cert) = (last : Stage) × EndsIn p limits last × (last.eps ≡ pos 1) × (last.world.end ≡ Some End.All) × IsClaimOf p last.world cert
+IsOfRun p limits (Answer.Infeasible cert) = Unit {0}
+IsOfRun p limits (Answer.Bracket cert) = (last : Stage) × EndsIn p limits last × IsBracketOf p last.world cert
+IsOfRun p limits (Answer.Broken guard) = ⊥

@@ -1,0 +1,65 @@
+-- The claim that holders and prices make.
+use Rattle.std.specs.Prelude.{ℕ, ℤ, pos, ◌≡◌, List, map, Option, Some, None, All, Contains, slice_get, slice_index_or}
+use Rattle.std.specs.List.{range_with_len}
+use Rattle.auc_graph.specs.declared.arc.Arc.{Arc}
+use Rattle.auc_graph.specs.Assignment.{IsAssignment, person_of, total_cost}
+use Rattle.auc_graph.specs.Dual.{IsLower, dual, scale_of}
+use Rattle.auc_graph.specs.Problem.{Problem}
+use Rattle.auc_letters.specs.declared.state.Held.{Held}
+use Rattle.auc_cert.specs.declared.reason.Reason.{Reason}
+use Rattle.auc_cert.specs.declared.cert.CertParts.{CertParts}
+use Rattle.auc_cert.specs.declared.lists.Pick.{Pick}
+use Rattle.auc_cert.specs.Claim.{pick_of}
+
+-- who holds an object, if anybody does
+abbrev pub holder_at : List (Option Held) → ℕ → Option Held
+holder_at holders j = slice_index_or holders j None
+
+-- he holds it by this arc: it stands in the problem at the place that is named, and is his
+pub record HoldsBy (p : Problem) (held : Held) (arc : Arc) : Type 0 where
+  pub place : slice_get p.arcs held.arc ≡ Some arc
+  pub his : arc.person ≡ held.person
+
+-- an object is held by this arc
+pub record IsHoldersArc (p : Problem) (holders : List (Option Held)) (arc : Arc) : Type 0 where
+  pub object : ℕ
+  pub held : Held
+  pub holds : holder_at holders object ≡ Some held
+  pub by : HoldsBy p held arc
+
+-- nobody holds two objects
+abbrev pub NobodyHoldsTwo : List (Option Held) → Type 0
+NobodyHoldsTwo holders = (j k : ℕ) (a b : Held) → holder_at holders j ≡ Some a → holder_at holders k ≡ Some b → a.person ≡ b.person → j ≡ k
+
+-- the choice is the holders' arcs: one for each person, in order, none left out, and nobody holds two objects
+pub record IsChoiceOf (p : Problem) (holders : List (Option Held)) (choice : List Arc) : Type 0 where
+  pub persons : map person_of choice ≡ range_with_len 0 p.persons
+  pub held : All (IsHoldersArc p holders) choice
+  pub each : (j : ℕ) (h : Held) → holder_at holders j ≡ Some h → (a : Arc) × Contains choice a × HoldsBy p h a
+  pub once : NobodyHoldsTwo holders
+
+-- the pick by the arc at this place
+abbrev pub pick_at : List Arc → ℕ → Pick
+pick_at arcs n = pick_of (slice_index_or arcs n (record { person = 0; object = 0; cost = pos 0 }))
+
+-- the claim that a choice costs least, by these prices
+abbrev pub claim_of : List Arc → List ℤ → CertParts
+claim_of choice prices = CertParts.Optimal (total_cost choice) (map pick_of choice) prices
+
+-- he holds this object, by an arc of his to it
+pub record HoldsAt (p : Problem) (object : ℕ) (held : Held) (arc : Arc) : Type 0 where
+  pub by : HoldsBy p held arc
+  pub leads : arc.object ≡ object
+
+-- each holder has his object by an arc of his to it, and nobody holds two
+pub record ArePlaceable (p : Problem) (holders : List (Option Held)) : Type 0 where
+  pub each : (j : ℕ) (h : Held) → holder_at holders j ≡ Some h → (a : Arc) × HoldsAt p j h a
+  pub once : NobodyHoldsTwo holders
+
+-- an assignment, with the bound that the prices give on what any costs
+pub record IsBracketBy (p : Problem) (reason : Reason) (prices : List ℤ) (cert : CertParts) : Type 0 where
+  pub choice : List Arc
+  pub assigned : IsAssignment p choice
+  pub lower : ℤ
+  pub bound : IsLower (scale_of p) (dual p prices) lower
+  pub is : cert ≡ CertParts.Bracket reason lower (total_cost choice) (map pick_of choice) prices

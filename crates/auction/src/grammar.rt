@@ -1,0 +1,92 @@
+//! The commands and their arguments, as the parser of words has them.
+
+ghost use Rattle.std.specs.Prelude.{◌≡◌, IfOk, false};
+ghost use Rattle.clap.specs.declared.builder.command.Command.TheViews.{out-Command as fields_of};
+ghost use Rattle.clap.specs.Words.{app_of, with_rule};
+ghost use Rattle.auction.specs.Grammar.{check_grammar, hall_grammar, mail_grammar, solve_grammar, bare_grammar, grammar, option_rule};
+
+use clap::{Arg, Command};
+use std::alloc::{AllocError, Global};
+
+/// `check FILE [CERT]`.
+fn check_command<'a>(alloc: Global) -> Result<Command<'a>, AllocError>
+    ensures shape { IfOk result (λ c. app_of c ≡ check_grammar) }
+    ensures local { IfOk result (λ c. (fields_of c).has_globals ≡ false) }
+{
+    Command::new(alloc, "check")
+        .disable_help_flag(true)
+        .arg(Arg::new(alloc, "file").required(true))?
+        .arg(Arg::new(alloc, "cert"))
+}
+
+/// `hall [FILE]`.
+fn hall_command<'a>(alloc: Global) -> Result<Command<'a>, AllocError>
+    ensures shape { IfOk result (λ c. app_of c ≡ hall_grammar) }
+    ensures local { IfOk result (λ c. (fields_of c).has_globals ≡ false) }
+{
+    Command::new(alloc, "hall")
+        .disable_help_flag(true)
+        .arg(Arg::new(alloc, "file"))
+}
+
+/// `mail [SCRIPT]`.
+fn mail_command<'a>(alloc: Global) -> Result<Command<'a>, AllocError>
+    ensures shape { IfOk result (λ c. app_of c ≡ mail_grammar) }
+    ensures local { IfOk result (λ c. (fields_of c).has_globals ≡ false) }
+{
+    Command::new(alloc, "mail")
+        .disable_help_flag(true)
+        .arg(Arg::new(alloc, "script"))
+}
+
+/// One more option, `--NAME VALUE` or `--NAME=VALUE`.
+fn with_option<'a>(
+    alloc: Global,
+    command: Command<'a>,
+    name: &'a str,
+) -> Result<Command<'a>, AllocError>
+    ensures shape { IfOk result (λ c. app_of c ≡ with_rule (app_of command.entry) (option_rule name.entry.now)) }
+    ensures local { (fields_of command.entry).has_globals ≡ false → IfOk result (λ c. (fields_of c).has_globals ≡ false) }
+{
+    command.arg(Arg::new(alloc, name).long(name))
+}
+
+/// `solve [FILE] [--workers K] [--bids N] [--audit ROOM]`. The numbers are read behind the parser, by [`crate::numbers`].
+fn solve_command<'a>(alloc: Global) -> Result<Command<'a>, AllocError>
+    ensures shape { IfOk result (λ c. app_of c ≡ solve_grammar) }
+    ensures local { IfOk result (λ c. (fields_of c).has_globals ≡ false) }
+{
+    let of_file = Command::new(alloc, "solve")
+        .disable_help_flag(true)
+        .arg(Arg::new(alloc, "file"))?;
+    let with_workers = with_option(alloc, of_file, "workers")?;
+    let with_bids = with_option(alloc, with_workers, "bids")?;
+    with_option(alloc, with_bids, "audit")
+}
+
+/// No command yet. Words that ask for help or for the version are at fault like others.
+fn bare_command<'a>(alloc: Global) -> Command<'a>
+    ensures { app_of result ≡ bare_grammar }
+{
+    Command::new(alloc, "auction")
+        .no_binary_name(true)
+        .disable_help_flag(true)
+        .disable_version_flag(true)
+        .disable_help_subcommand(true)
+        .subcommand_required(true)
+}
+
+/// All commands.
+pub(crate) fn all_commands<'a>(alloc: Global) -> Result<Command<'a>, AllocError>
+    ensures { IfOk result (λ c. app_of c ≡ grammar) }
+{
+    let check = check_command(alloc)?;
+    let hall = hall_command(alloc)?;
+    let mail = mail_command(alloc)?;
+    let solve = solve_command(alloc)?;
+    bare_command(alloc)
+        .subcommand(check)?
+        .subcommand(hall)?
+        .subcommand(mail)?
+        .subcommand(solve)
+}

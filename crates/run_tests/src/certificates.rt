@@ -1,0 +1,171 @@
+//! Certificates by the calls of their crate: made, written, read and checked.
+
+use crate::fakes::Full;
+use crate::said::{ONE_OBJECT, ONE_OBJECT_CERT, TWO, TWO_BEST, TWO_BRACKET};
+use auc_cert::{
+    Cert, CertParts, CertRefused, CertTextError, Pick, Picks, Prices, Reason, WriteFault,
+    assignments_pass, brackets_pass, check, hall_sets_pass, read_cert, write_cert,
+};
+use auc_graph::{Indices, ReadLimits, read_arcs};
+use std::test::*;
+
+/// Whether the certificate of these parts has this text.
+fn is_text_of(rt: &HostRuntime, parts: CertParts, text: &str) -> bool {
+    let mut out = Vec::new(rt.alloc());
+    match Cert::make(parts) {
+        Ok(cert) => write_cert(&mut out, &cert).is_ok() && out.as_slice() == text.as_bytes(),
+        Err(_) => false,
+    }
+}
+
+#[test]
+fn texts(rt: HostRuntime) -> Result<(), Fail> {
+    let alloc = rt.alloc();
+    let choice = vec![in alloc; Pick { object: 1, cost: 2 }, Pick { object: 0, cost: 1 }]?;
+    let optimal = CertParts::Optimal {
+        cost: 3,
+        choice: Picks::new(choice),
+        prices: Prices::new(vec![in alloc; 7, 5]?),
+    };
+    assert!(rt; is_text_of(&rt, optimal, TWO_BEST));
+    Ok(())
+}
+
+#[test]
+fn texts_of_hall_sets(rt: HostRuntime) -> Result<(), Fail> {
+    let alloc = rt.alloc();
+    let infeasible = CertParts::Infeasible {
+        persons: Indices::new(vec![in alloc; 0, 1]?),
+        objects: Indices::new(vec![in alloc; 0]?),
+    };
+    assert!(rt; is_text_of(&rt, infeasible, ONE_OBJECT_CERT));
+    Ok(())
+}
+
+#[test]
+fn texts_of_brackets(rt: HostRuntime) -> Result<(), Fail> {
+    let alloc = rt.alloc();
+    let choice = vec![in alloc; Pick { object: 0, cost: 1 }, Pick { object: 1, cost: 3 }]?;
+    let bracket = CertParts::Bracket {
+        reason: Reason::Bids,
+        lower: 3,
+        cost: 4,
+        choice: Picks::new(choice),
+        prices: Prices::new(vec![in alloc; 4, 0]?),
+    };
+    assert!(rt; is_text_of(&rt, bracket, TWO_BRACKET));
+    Ok(())
+}
+
+#[test]
+fn parts_of_a_text(rt: HostRuntime) -> Result<(), Fail> {
+    let read = read_cert(rt.alloc(), TWO_BEST.as_bytes())?;
+    if let CertParts::Optimal {
+        cost,
+        choice,
+        prices,
+    } = read.parts()
+    {
+        assert_eq!(rt; (*cost, choice.as_slice().len()), (3, 2));
+        assert_eq!(rt; prices.as_slice(), [7, 5].as_slice());
+        return Ok(());
+    }
+    Err(Fail::new("it is an optimal one"))
+}
+
+#[test]
+fn parts_of_a_hall_set(rt: HostRuntime) -> Result<(), Fail> {
+    let read = read_cert(rt.alloc(), ONE_OBJECT_CERT.as_bytes())?;
+    if let CertParts::Infeasible { persons, objects } = read.parts() {
+        assert_eq!(rt; persons.as_slice(), [0, 1].as_slice());
+        assert_eq!(rt; objects.as_slice(), [0].as_slice());
+        return Ok(());
+    }
+    Err(Fail::new("it is an infeasible one"))
+}
+
+#[test]
+fn no_certificate(rt: HostRuntime) {
+    assert_eq!(rt;
+        read_cert(rt.alloc(), b"auction 1\ninfeasible 0 0\n").err(),
+        Some(CertTextError::Line { line: 1 })
+    );
+}
+
+/// What the check says of the claim.
+fn checked(rt: &HostRuntime, file: &str, cert: &str) -> Result<Option<CertRefused>, Fail> {
+    let problem = read_arcs(rt.alloc(), file.as_bytes(), ReadLimits::usual())?;
+    let cert = read_cert(rt.alloc(), cert.as_bytes())?;
+    Ok(check(rt.alloc(), &problem, &cert).err())
+}
+
+#[test]
+fn claims(rt: HostRuntime) -> Result<(), Fail> {
+    assignments_pass();
+    brackets_pass();
+    hall_sets_pass();
+    assert_eq!(rt; checked(&rt, TWO, TWO_BEST)?, None);
+    assert_eq!(rt; checked(&rt, ONE_OBJECT, ONE_OBJECT_CERT)?, None);
+    assert_eq!(rt;
+        checked(&rt, TWO, ONE_OBJECT_CERT)?,
+        Some(CertRefused::NotHall)
+    );
+    Ok(())
+}
+
+/// Parts that no text spells come back.
+#[test]
+fn parts_without_a_text(rt: HostRuntime) -> Result<(), Fail> {
+    let alloc = rt.alloc();
+    let parts = CertParts::Optimal {
+        cost: 0,
+        choice: Picks::new(Vec::new(alloc)),
+        prices: Prices::new(vec![in alloc; 4]?),
+    };
+    if let Err(CertParts::Optimal { choice, prices, .. }) = Cert::make(parts) {
+        assert_eq!(rt; choice.into_vec().len(), 0);
+        assert_eq!(rt; prices.into_vec().as_slice(), [4].as_slice());
+        return Ok(());
+    }
+    Err(Fail::new("nobody is in it"))
+}
+
+/// Whether a certificate that names these two persons isn't made, and the names come back.
+fn come_back(rt: &HostRuntime, first: u32, second: u32) -> Result<bool, Fail> {
+    let parts = CertParts::Infeasible {
+        persons: Indices::new(vec![in rt.alloc(); first, second]?),
+        objects: Indices::new(Vec::new(rt.alloc())),
+    };
+    if let Err(CertParts::Infeasible { persons, objects }) = Cert::make(parts) {
+        return Ok(
+            persons.as_slice() == [first, second].as_slice() && objects.into_vec().is_empty(),
+        );
+    }
+    Ok(false)
+}
+
+/// Names that don't rise below 10,000 come back.
+#[test]
+fn names_without_a_text(rt: HostRuntime) -> Result<(), Fail> {
+    assert!(rt; come_back(&rt, 1, 1)?);
+    assert!(rt; come_back(&rt, 1, 0)?);
+    assert!(rt; come_back(&rt, 1, 10_000)?);
+    Ok(())
+}
+
+/// What keeps a certificate from being written, where the writer has so much room, and then takes nothing or fails.
+fn fault_of(rt: &HostRuntime, room: usize, fails: bool) -> Result<Option<WriteFault>, Fail> {
+    let cert = read_cert(rt.alloc(), TWO_BEST.as_bytes())?;
+    Ok(write_cert(&mut Full { room, fails }, &cert).err())
+}
+
+/// A writer that takes nothing stops a certificate, and one that fails makes the writing fail: before the text, between two
+/// lines and inside a line.
+#[test]
+fn unwritten_certificates(rt: HostRuntime) -> Result<(), Fail> {
+    for room in [0, 10, 14] {
+        assert_eq!(rt; fault_of(&rt, room, false)?, Some(WriteFault::Stopped));
+        assert_eq!(rt; fault_of(&rt, room, true)?, Some(WriteFault::Failed));
+    }
+    Ok(())
+}

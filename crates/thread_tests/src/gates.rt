@@ -8,10 +8,10 @@ use std::sync::Wait;
 use std::sync::atomic::AtomicU64;
 use std::sync::atomic::Ordering::SeqCst;
 use std::test::*;
-use std::thread::Threads;
+use std::thread::{Threads, yield_now};
 
-/// How often a worker looks whether it may pass, before it passes anyway.
-const TURNS: u32 = 100_000_000;
+/// How often a worker looks whether it may pass, and lets others run in between, before it passes anyway.
+const TURNS: u32 = 10_000_000;
 
 /// How often each of four workers has come to the gate.
 #[derive(Drop)]
@@ -78,6 +78,7 @@ impl HoldingGate {
             if self.is_open() {
                 return true;
             }
+            yield_now();
         }
         false
     }

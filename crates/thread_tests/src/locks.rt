@@ -17,10 +17,10 @@ use std::sync::atomic::AtomicU64;
 use std::sync::atomic::Ordering::SeqCst;
 use std::sync::ledger::Blank;
 use std::test::*;
-use std::thread::{Threads, join};
+use std::thread::{Threads, join, yield_now};
 
-/// How often a thread looks for the other.
-const TURNS: u32 = 100_000_000;
+/// How often a thread looks for the other, and lets it run in between.
+const TURNS: u32 = 10_000_000;
 
 /// Waits until the flag is set. False where the turns are used up first.
 fn is_set_in_time(flag: &AtomicU64) -> bool {
@@ -28,6 +28,7 @@ fn is_set_in_time(flag: &AtomicU64) -> bool {
         if flag.load(SeqCst) != 0 {
             return true;
         }
+        yield_now();
     }
     false
 }

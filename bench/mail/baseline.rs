@@ -1,9 +1,10 @@
 //! The yardstick of `auction mail [SCRIPT]`: the same job in plain Rust, with no contract and no proof.
 //!
-//! It reads the script whole, looks for the same faults in the same order, keeps the letters that wait in one vector, and
+//! It reads the script whole, looks for the same faults in the same order, keeps a queue for each lane, and
 //! gives the same texts and statuses, but for want of memory, which ends it, and too many reads, which it does not count.
 //! Built by `rustc --edition 2021 -O`.
 
+use std::collections::VecDeque;
 use std::fs::File;
 use std::io::{self, BufWriter, Read, Write};
 use std::process::ExitCode;
@@ -157,18 +158,20 @@ fn read_call(tokens: &mut Tokens, word: &[u8], boxes: usize, senders: usize) -> 
 
 // ---- the mail ----
 
-#[derive(Clone, Copy)]
-struct Letter {
-    item: i64,
-    to: u32,
-    sender: u32,
-}
-
-/// How many letters of a lane were posted and taken.
-#[derive(Clone, Copy, Default)]
+/// The letters of a lane that wait, the earliest first, and how many were posted and taken.
+#[derive(Default)]
 struct Lane {
+    letters: VecDeque<i64>,
     posted: u64,
     taken: u64,
+}
+
+/// How many letters wait in a box, and the sender who is looked at first.
+#[derive(Clone, Copy)]
+struct MailBox {
+    waiting: usize,
+    turn: usize,
+    accepting: bool,
 }
 
 #[derive(Clone, Copy)]
@@ -183,59 +186,70 @@ enum Reply {
     WasOpen(bool),
 }
 
-/// The letters that wait stand in the order in which they were posted.
 struct Mail {
-    letters: Vec<Letter>,
     lanes: Vec<Lane>,
-    accepting: Vec<bool>,
+    boxes: Vec<MailBox>,
     senders: usize,
-    nodes: usize,
+    free: usize,
     most: u64,
 }
 
 impl Mail {
     fn new(script: &Script) -> Mail {
+        let empty = MailBox { waiting: 0, turn: 0, accepting: true };
         Mail {
-            letters: Vec::with_capacity(script.nodes),
-            lanes: vec![Lane::default(); script.boxes * script.senders],
-            accepting: vec![true; script.boxes],
+            lanes: (0..script.boxes * script.senders).map(|_| Lane::default()).collect(),
+            boxes: vec![empty; script.boxes],
             senders: script.senders,
-            nodes: script.nodes,
+            free: script.nodes,
             most: script.most,
         }
     }
 
-    fn post(&mut self, letter: Letter, reserve: u32) -> Reply {
-        if !self.accepting[letter.to as usize] {
+    fn post(&mut self, sender: u32, to: u32, item: i64, reserve: u32) -> Reply {
+        let state = &mut self.boxes[to as usize];
+        if !state.accepting {
             return Reply::Closed;
         }
-        let lane = &mut self.lanes[letter.to as usize * self.senders + letter.sender as usize];
+        let lane = &mut self.lanes[to as usize * self.senders + sender as usize];
         if lane.posted == self.most {
             return Reply::Spent;
         }
-        if self.nodes - self.letters.len() <= reserve as usize {
+        if self.free <= reserve as usize {
             return Reply::Full;
         }
+        self.free -= 1;
+        state.waiting += 1;
         lane.posted += 1;
-        self.letters.push(letter);
+        lane.letters.push_back(item);
         Reply::Posted(lane.posted)
     }
 
+    /// The box looks at its senders in rotating order, from the one behind the last giver.
     fn take(&mut self, at: u32) -> Reply {
-        let Some(place) = self.letters.iter().position(|letter| letter.to == at) else {
-            return if self.accepting[at as usize] { Reply::Empty } else { Reply::Over };
-        };
-        let letter = self.letters.remove(place);
-        let lane = &mut self.lanes[at as usize * self.senders + letter.sender as usize];
-        lane.taken += 1;
-        Reply::Letter { sender: letter.sender, number: lane.taken, item: letter.item }
+        let state = &mut self.boxes[at as usize];
+        if state.waiting == 0 {
+            return if state.accepting { Reply::Empty } else { Reply::Over };
+        }
+        let lanes = &mut self.lanes[at as usize * self.senders..][..self.senders];
+        for sender in (state.turn..self.senders).chain(0..state.turn) {
+            let lane = &mut lanes[sender];
+            if let Some(item) = lane.letters.pop_front() {
+                self.free += 1;
+                state.waiting -= 1;
+                state.turn = sender + 1;
+                lane.taken += 1;
+                return Reply::Letter { sender: sender as u32, number: lane.taken, item };
+            }
+        }
+        unreachable!("a letter waits")
     }
 
     fn answer(&mut self, call: Call) -> Reply {
         match call {
-            Call::Post { sender, to, item, reserve } => self.post(Letter { item, to, sender }, reserve),
+            Call::Post { sender, to, item, reserve } => self.post(sender, to, item, reserve),
             Call::Take { at } => self.take(at),
-            Call::Close { at } => Reply::WasOpen(std::mem::replace(&mut self.accepting[at as usize], false)),
+            Call::Close { at } => Reply::WasOpen(std::mem::replace(&mut self.boxes[at as usize].accepting, false)),
         }
     }
 }

@@ -1,82 +1,142 @@
 -- What a pool's parts say of its mail.
-use Rattle.std.proofs.Common.{◌≡◌, ℕ, ◌+◌, ◌-◌, ◌*◌, ◌<◌, ◌≤◌, Bool, true, List, [], length, get_or, ap, sym, ◌∙◌, arith, All, replicate}
-use Rattle.std.proofs.lemmas.List.{same_lists, length-replicate, get_or-replicate, get_or_read}
-use Rattle.std.proofs.lemmas.List.Elements.{All-weaker}
-use Rattle.std.proofs.lemmas.Nat.{mul-add-lt}
-use Rattle.auc_mail.specs.Mail.{Lane, Mail, IsWhole, IsSound, blank_lane, lane_of, posted_of, waiting_of, free_of, empty_mail}
-use Rattle.auc_mail.specs.Pool.{no_counts, lane_at, lanes_of, mail_of, IsKept}
-use Rattle.auc_mail.specs.declared.pool.Counts.{Counts}
-use Rattle.auc_mail.specs.declared.backlog.Waiting.{Waiting}
-use Rattle.auc_mail.proofs.Tables.{table, length-table, get_or-table}
-use Rattle.auc_mail.proofs.Lanes.{lane_number, at_lanes, sum_lanes}
+use Rattle.std.proofs.Common.{◌≡◌, ◌≢◌, ℕ, ◌+◌, ◌-◌, ◌*◌, ◌^◌, ◌<◌, ◌≤◌, false, List, [], length, get_or, ap, sym, ◌∙◌, arith, replicate}
+use Rattle.std.specs.List.{range_with_len, sum_by}
+use Rattle.std.proofs.lemmas.List.{same_lists, length-map, length-replicate, get_or-map, get_or-replicate, get_or_read, nil_from_length}
+use Rattle.std.proofs.lemmas.List.Sums.{sum-map, get_or-le-sum_by}
+use Rattle.std.proofs.lemmas.Nat.{mul-add-lt, row_fits_turned}
+use Rattle.auc_nodes.specs.Lists.{Lists, empty_lists, used_of}
+use Rattle.auc_nodes.specs.Lists as nodes
+use Rattle.auc_mail.specs.Mail.{Lane, Mail, HasBox, NothingWaits, IsWhole, IsSound, blank_lane, is_open, lane_of, posted_of, waiting_at, waiting_of, free_of}
+use Rattle.auc_mail.specs.Pool.{no_box, box_of, box_waiting, lane_at, lanes_of, mail_of, IsKept, IsLaneOf}
+use Rattle.auc_mail.specs.declared.boxes.MailBox.{MailBox}
+use Rattle.auc_mail.proofs.Tables.{table, length-table, get_or-table, table_same, slice_le_sum}
+use Rattle.auc_mail.proofs.Lanes.{same_counts, at_lanes, sum_lanes}
 
-module _ {T : Type 0} {senders nodes most : ℕ} {accepting : List Bool} {counts : List Counts} {letters : List (Waiting T)} {capacity : ℕ}
-    (kept : IsKept senders nodes most accepting counts letters capacity) where
+mul_le : (b n w : ℕ) → b < n → b * w + w ≤ n * w
+mul_le b n w lt = omega (arith, row_fits_turned b w w n lt (omega arith))
+
+module _ {T : Type 0} {senders most : ℕ} {boxes : List MailBox} {posted : List ℕ} {pool : Lists T} (kept : IsKept senders most boxes posted pool) where
   -- a lane in range is one of the lanes
-  pub lane_within : (b s : ℕ) → s < senders → b < length accepting → b * senders + s < length counts
-  lane_within b s hs hb = omega (arith, kept.lanes, mul-add-lt b senders s (length accepting) hb hs)
+  pub lane_within : (b s : ℕ) → s < senders → b < length boxes → b * senders + s < length posted
+  lane_within b s hs hb = omega (arith, kept.lanes, mul-add-lt b senders s (length boxes) hb hs)
 
-  pub lane_is : (b s : ℕ) → s < senders → b < length accepting
-      → lane_of (mail_of senders nodes most accepting counts letters) b s ≡ lane_at senders counts letters (b * senders + s)
-  lane_is b s hs hb = at_lanes senders counts letters (b * senders + s) (lane_within b s hs hb)
+  pub list_within : (b s : ℕ) → s < senders → b < length boxes → b * senders + s < length pool.lists
+  list_within b s hs hb = omega (arith, lane_within b s hs hb, kept.lists)
 
-  pub posted_is : (b s : ℕ) → s < senders → b < length accepting
-      → posted_of (mail_of senders nodes most accepting counts letters) b s ≡ (get_or counts (b * senders + s) no_counts).posted
+  pub lanes_within : (b : ℕ) → b < length boxes → b * senders + senders ≤ length pool.lists
+  lanes_within b hb = omega (arith, kept.lists, kept.lanes, mul_le b (length boxes) senders hb)
+
+  pub lanes_small : (b : ℕ) → b < length boxes → b * senders + senders < 2 ^ 32
+  lanes_small b hb = omega (arith, lanes_within b hb, kept.lists, kept.lanes, kept.lanes_fit.2)
+
+  pub lane_small : (b s : ℕ) → s < senders → b < length boxes → b * senders + s < 2 ^ 32
+  lane_small b s hs hb = omega (arith, lane_within b s hs hb, kept.lanes, kept.lanes_fit.2)
+
+  pub box_within : (b : ℕ) → HasBox (mail_of senders most boxes posted pool) b → b < length boxes
+  box_within b hb = omega (arith, hb, length-map boxes (λ (x : MailBox). x.accepting))
+
+  pub has_box : (b : ℕ) → b < length boxes → HasBox (mail_of senders most boxes posted pool) b
+  has_box b hb = omega (arith, hb, length-map boxes (λ (x : MailBox). x.accepting))
+
+  pub lane_is : (b s : ℕ) → s < senders → b < length boxes → lane_of (mail_of senders most boxes posted pool) b s ≡ lane_at posted pool.lists (b * senders + s)
+  lane_is b s hs hb = at_lanes posted pool.lists (b * senders + s) (lane_within b s hs hb)
+
+  pub posted_is : (b s : ℕ) → s < senders → b < length boxes
+      → posted_of (mail_of senders most boxes posted pool) b s ≡ get_or posted (b * senders + s) 0
   posted_is b s hs hb =
-      ap (λ (l : Lane T). l.taken + length l.waiting) (lane_is b s hs hb) ∙ sym (kept.posted (b * senders + s) (lane_within b s hs hb))
+      omega (arith, ap (λ (l : Lane T). l.taken + length l.waiting) (lane_is b s hs hb), kept.counted (b * senders + s) (lane_within b s hs hb))
 
-  numbers_in_range : All (λ l. lane_number senders l < length counts) letters
-  numbers_in_range =
-      All-weaker (λ (l : Waiting T). (l.to < length accepting) × (l.sender < senders)) (λ l. lane_number senders l < length counts)
-      (λ l p. lane_within l.to l.sender p.1 p.0) letters kept.in_range
+  -- what was read of a lane's count
+  pub posted_read : (b s n : ℕ) → s < senders → b < length boxes → n ≡ get_or posted (b * senders + s) n → n ≡ get_or posted (b * senders + s) 0
+  posted_read b s n hs hb read = get_or_read posted (b * senders + s) n (lane_within b s hs hb) read 0
 
-  pub waiting_of_is : waiting_of (mail_of senders nodes most accepting counts letters) ≡ length letters
-  waiting_of_is = sum_lanes senders counts letters numbers_in_range
+  pub waiting_of_is : waiting_of (mail_of senders most boxes posted pool) ≡ used_of pool
+  waiting_of_is = sum_lanes posted pool.lists kept.lists
 
-  pub free_is : free_of (mail_of senders nodes most accepting counts letters) ≡ nodes - length letters
-  free_is = ap (λ n. nodes - n) waiting_of_is
+  pub free_is : free_of (mail_of senders most boxes posted pool) ≡ nodes.free_of pool
+  free_is = ap (λ n. pool.nodes - n) waiting_of_is
 
-  whole_is : IsWhole (mail_of senders nodes most accepting counts letters)
-  whole_is = length-table (lane_at senders counts letters) (length counts) ∙ kept.lanes
+  whole_is : IsWhole (mail_of senders most boxes posted pool)
+  whole_is = length-table (lane_at posted pool.lists) (length posted) ∙ (kept.lanes ∙ ap (λ (n : ℕ). n * senders) (sym (length-map boxes (λ (x : MailBox). x.accepting))))
 
-  pub sound_is : IsSound (mail_of senders nodes most accepting counts letters)
-  sound_is = record {
+  pub sound_is : nodes.IsSound pool → IsSound (mail_of senders most boxes posted pool)
+  sound_is sound = record {
     whole = whole_is;
-    within_nodes = omega (arith, waiting_of_is, kept.fits);
-    within_most = λ b s h. omega (arith, posted_is b s h.0 h.1, kept.spent (b * senders + s) (lane_within b s h.0 h.1));
+    within_nodes = omega (arith, waiting_of_is, sound.within_nodes);
+    within_most = λ b s h. omega (arith, posted_is b s h.0 (box_within b h.1), kept.spent (b * senders + s) (lane_within b s h.0 (box_within b h.1)));
   }
 
-  -- what was read of the counts, at the number k of the lane
-  module _ (b s k : ℕ) (x : Counts) (hs : s < senders) (hb : b < length accepting) (e : k ≡ b * senders + s) (read : x ≡ get_or counts k x) where
-    pub counts_read : get_or counts (b * senders + s) no_counts ≡ x
-    counts_read =
-        let lt : k < length counts = omega (arith, lane_within b s hs hb) in
-        ap (λ (j : ℕ). get_or counts j no_counts) (sym e) ∙ sym (get_or_read counts k x lt read no_counts)
+  -- how many letters wait in a box
+  pub waiting_at_is : (b : ℕ) → b < length boxes → waiting_at (mail_of senders most boxes posted pool) b ≡ (box_of boxes b).waiting
+  waiting_at_is b hb =
+      let m : Mail T = mail_of senders most boxes posted pool in
+      let f : ℕ → ℕ = λ s. length (lane_of m b s).waiting in
+      let g : ℕ → ℕ = λ s. length (get_or pool.lists (b * senders + s) []) in
+      let same = table_same g f senders (λ s hs. ap (λ (l : Lane T). length l.waiting) (lane_is b s hs hb)) in
+      sym (sum-map f (range_with_len 0 senders))
+      ∙ (ap (sum_by (λ (n : ℕ). n)) same ∙ (sum-map g (range_with_len 0 senders) ∙ sym (kept.waiting b hb)))
 
-    pub posted_read : posted_of (mail_of senders nodes most accepting counts letters) b s ≡ x.posted
-    posted_read = posted_is b s hs hb ∙ ap (λ (c : Counts). c.posted) counts_read
+  -- the letters of a box are no more than all
+  pub box_le_all : (b : ℕ) → b < length boxes → box_waiting senders pool.lists b ≤ used_of pool
+  box_le_all b hb = slice_le_sum (λ (xs : List T). length xs) pool.lists (b * senders) senders [] (lanes_within b hb)
 
-    pub taken_read : (lane_of (mail_of senders nodes most accepting counts letters) b s).taken ≡ x.taken
-    taken_read = ap (λ (n : Lane T). n.taken) (lane_is b s hs hb) ∙ ap (λ (c : Counts). c.taken) counts_read
+  -- where no list of a box has a letter, nothing waits
+  pub nothing_waits : (b : ℕ) → b < length boxes → ((k : ℕ) → IsLaneOf senders b k → get_or pool.lists k [] ≡ []) → NothingWaits (mail_of senders most boxes posted pool) b
+  nothing_waits b hb none s hs = ap (λ (l : Lane T). l.waiting) (lane_is b s hs hb) ∙ none (b * senders + s) (omega arith, omega (arith, hs))
 
-    pub posted_within : x.posted ≤ most
-    posted_within = omega (arith, kept.spent (b * senders + s) (lane_within b s hs hb), ap (λ (c : Counts). c.posted) counts_read)
+  -- a lane of a box is one of the lanes
+  pub lane_below : (b k : ℕ) → b < length boxes → IsLaneOf senders b k → k < length posted
+  lane_below b k hb of = omega (arith, of.1, lanes_within b hb, kept.lists)
+
+  -- where its list has a letter, it has one
+  pub lane_has : (k : ℕ) → k < length posted → get_or pool.lists k [] ≢ [] → (get_or (mail_of senders most boxes posted pool).lanes k blank_lane).waiting ≢ []
+  lane_has k lt some e = some (sym (ap (λ (l : Lane T). l.waiting) (at_lanes posted pool.lists k lt)) ∙ e)
+
+  pub list_has : (k : ℕ) → k < length posted → (get_or (mail_of senders most boxes posted pool).lanes k blank_lane).waiting ≢ [] → get_or pool.lists k [] ≢ []
+  list_has k lt some e = some (ap (λ (l : Lane T). l.waiting) (at_lanes posted pool.lists k lt) ∙ e)
+
+  -- what was read of a box
+  module _ (b : ℕ) (state : MailBox) (hb : b < length boxes) (read : state ≡ get_or boxes b state) where
+    pub box_read : state ≡ box_of boxes b
+    box_read = get_or_read boxes b state hb read no_box
+
+    pub open_read : is_open (mail_of senders most boxes posted pool) b ≡ state.accepting
+    open_read = get_or-map (λ (x : MailBox). x.accepting) boxes b no_box false hb ∙ ap (λ (x : MailBox). x.accepting) (sym box_read)
+
+    pub waiting_read : state.waiting ≡ box_waiting senders pool.lists b
+    waiting_read = ap (λ (x : MailBox). x.waiting) box_read ∙ kept.waiting b hb
+
+    pub waiting_at_read : state.waiting ≡ waiting_at (mail_of senders most boxes posted pool) b
+    waiting_at_read = ap (λ (x : MailBox). x.waiting) box_read ∙ sym (waiting_at_is b hb)
+
+    pub last_read : 0 < (box_of boxes b).waiting → IsLaneOf senders b state.last
+    last_read some = rw box_read (kept.last b hb some)
+
+-- a lane of a box has no more letters than the box
+pub lane_le_box : {T : Type 0} (senders : ℕ) (lists : List (List T)) (b s : ℕ) → s < senders → length (get_or lists (b * senders + s) []) ≤ box_waiting senders lists b
+lane_le_box {T} senders lists b s hs =
+    let g : ℕ → ℕ = λ s. length (get_or lists (b * senders + s) []) in
+    let lt : s < length (table g senders) = omega (arith, hs, length-table g senders) in
+    omega (arith, get_or-le-sum_by (λ (n : ℕ). n) (table g senders) s 0 lt, get_or-table g senders s 0 hs, sum-map g (range_with_len 0 senders))
+
+-- each lane of a box is that of one of the senders
+pub lane_split : (senders b k : ℕ) → IsLaneOf senders b k → (s : ℕ) × (s < senders) × (k ≡ b * senders + s)
+lane_split senders b k of = (k - b * senders, omega (arith, of.0, of.1), omega (arith, of.0))
+
+-- where no letter waits in a box, each of its lists is empty
+pub empty_box : {T : Type 0} (senders : ℕ) (lists : List (List T)) (b : ℕ) → box_waiting senders lists b ≡ 0 → (k : ℕ) → IsLaneOf senders b k → get_or lists k [] ≡ []
+empty_box {T} senders lists b none k of =
+    let split = lane_split senders b k of in
+    let s = split.0 in
+    ap (λ (i : ℕ). get_or {A = List T} lists i []) split.2 ∙ nil_from_length (get_or lists (b * senders + s) []) (omega (arith, lane_le_box senders lists b s split.1, none))
 
 -- the lanes of a new pool
-new_lanes : {T : Type 0} (senders n : ℕ) → lanes_of {T = T} senders (replicate n no_counts) [] ≡ replicate n blank_lane
-new_lanes {T} senders n =
-    let f : ℕ → Lane T = lane_at {T = T} senders (replicate n no_counts) [] in
-    ap (table f) (length-replicate n no_counts)
-    ∙ same_lists (table f n) (replicate n blank_lane) (length-table f n ∙ sym (length-replicate n blank_lane)) (λ k d lt.
-    let below : k < n = omega (arith, length-table f n) in
-    get_or-table f n k d below
-    ∙ (ap (λ (c : Counts). let l : Lane T = record { taken = c.taken; waiting = [] } in l) (get_or-replicate n k no_counts no_counts below)
-    ∙ sym (get_or-replicate n k blank_lane d below)))
-
-pub new_mail : {T : Type 0} (boxes senders nodes most : ℕ) (accepting : List Bool) (counts : List Counts) (letters : List (Waiting T))
-    → accepting ≡ replicate boxes true → counts ≡ replicate (boxes * senders) no_counts → letters ≡ []
-    → mail_of senders nodes most accepting counts letters ≡ empty_mail boxes senders nodes most
-new_mail {T} boxes senders nodes most accepting counts letters a c e =
-    rw (a, c, e) (ap
-    (λ (ls : List (Lane T)). let m : Mail T = record { senders = senders; nodes = nodes; most = most; accepting = replicate boxes true; lanes = ls } in m)
-    (new_lanes senders (boxes * senders)))
+pub new_lanes : {T : Type 0} (lanes : ℕ) → lanes_of {T = T} (replicate lanes 0) (replicate lanes []) ≡ replicate lanes blank_lane
+new_lanes {T} lanes =
+    let f : ℕ → Lane T = lane_at {T = T} (replicate lanes 0) (replicate lanes []) in
+    ap (table f) (length-replicate lanes 0)
+    ∙ same_lists (table f lanes) (replicate lanes blank_lane) (length-table f lanes ∙ sym (length-replicate lanes blank_lane)) (λ k d lt.
+    let below : k < lanes = omega (arith, length-table f lanes) in
+    get_or-table f lanes k d below
+    ∙ (same_counts (get_or-replicate {A = ℕ} lanes k 0 0 below) (get_or-replicate {A = List T} lanes k [] [] below)
+    ∙ sym (get_or-replicate lanes k blank_lane d below)))

@@ -3,9 +3,10 @@ mod Tables
 mod Lanes
 mod Keeping
 mod Changing
+mod Making
+mod Closing
 mod Posting
 mod Taking
-mod Counting
 pub mod StepLaws
 mod Outcomes
 pub mod RunLaws

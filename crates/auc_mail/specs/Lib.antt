@@ -5,5 +5,4 @@ pub mod Step
 pub mod Run
 pub mod Letters
 pub mod Equality
-pub mod Backlog
 pub mod Pool

@@ -1,34 +1,47 @@
--- How a pool keeps a mail: counts for each lane, and all letters that wait in one list.
-use Rattle.std.specs.Prelude.{◌≡◌, ℕ, ◌+◌, ◌*◌, ◌<◌, ◌≤◌, Bool, List, length, slice_index_or, All, ◌==◌, map, filter}
+-- How a pool keeps a mail: a list of letters and a count for each lane, and for each box what its lanes have together.
+use Rattle.std.specs.Prelude.{◌≡◌, ℕ, ◌+◌, ◌-◌, ◌*◌, ◌<◌, ◌≤◌, true, false, List, [], length, slice_index_or, map, sum_by}
 use Rattle.std.specs.List.{range_with_len}
+use Rattle.auc_nodes.specs.Lists.{Lists}
+use Rattle.auc_mail.specs.Limits.{LanesFit}
 use Rattle.auc_mail.specs.Mail.{Lane, Mail}
-use Rattle.auc_mail.specs.declared.pool.Counts.{Counts}
-use Rattle.auc_mail.specs.declared.backlog.Waiting.{Waiting}
+use Rattle.auc_mail.specs.declared.boxes.MailBox.{MailBox}
+use Rattle.auc_mail.specs.declared.boxes.TheConstants.{NO_LANE}
 
-abbrev pub no_counts : Counts
-no_counts = record { posted = 0; taken = 0 }
+abbrev pub no_box : MailBox
+no_box = record { waiting = 0; last = 0; giver = 0; accepting = false }
 
--- the letters that wait in the lane k, in order
-abbrev pub waiting_in : {T : Type 0} → ℕ → List (Waiting T) → ℕ → List T
-waiting_in senders letters k = map (λ l. l.item) (filter (λ l. l.to * senders + l.sender == k) letters)
+-- a box in which nothing was posted
+abbrev pub new_box : MailBox
+new_box = record { waiting = 0; last = 0; giver = NO_LANE; accepting = true }
 
-abbrev pub lane_at : {T : Type 0} → ℕ → List Counts → List (Waiting T) → ℕ → Lane T
-lane_at senders counts letters k = record { taken = (slice_index_or counts k no_counts).taken; waiting = waiting_in senders letters k }
+abbrev pub box_of : List MailBox → ℕ → MailBox
+box_of boxes b = slice_index_or boxes b no_box
 
-abbrev pub lanes_of : {T : Type 0} → ℕ → List Counts → List (Waiting T) → List (Lane T)
-lanes_of senders counts letters = map (lane_at senders counts letters) (range_with_len 0 (length counts))
+abbrev pub lane_at : {T : Type 0} → List ℕ → List (List T) → ℕ → Lane T
+lane_at posted lists k = record { taken = slice_index_or posted k 0 - length (slice_index_or lists k []); waiting = slice_index_or lists k [] }
+
+abbrev pub lanes_of : {T : Type 0} → List ℕ → List (List T) → List (Lane T)
+lanes_of posted lists = map (lane_at posted lists) (range_with_len 0 (length posted))
 
 -- the mail that the pool's parts make
-abbrev pub mail_of : {T : Type 0} → ℕ → ℕ → ℕ → List Bool → List Counts → List (Waiting T) → Mail T
-mail_of senders nodes most accepting counts letters =
-    record { senders = senders; nodes = nodes; most = most; accepting = accepting; lanes = lanes_of senders counts letters }
+abbrev pub mail_of : {T : Type 0} → ℕ → ℕ → List MailBox → List ℕ → Lists T → Mail T
+mail_of senders most boxes posted pool =
+    record { senders = senders; nodes = pool.nodes; most = most; accepting = map (λ b. b.accepting) boxes; lanes = lanes_of posted pool.lists }
 
--- what the parts keep; capacity is that of the list of letters, so that posting takes no memory
-pub record IsKept {T : Type 0} (senders nodes most : ℕ) (accepting : List Bool) (counts : List Counts) (letters : List (Waiting T)) (capacity : ℕ) : Type 0 where
-  pub room : nodes ≤ capacity
-  pub lanes : length counts ≡ length accepting * senders
-  pub fits : length letters ≤ nodes
-  pub in_range : All (λ l. (l.to < length accepting) × (l.sender < senders)) letters
-  pub posted : (k : ℕ) → k < length counts
-      → (slice_index_or counts k no_counts).posted ≡ (slice_index_or counts k no_counts).taken + length (waiting_in senders letters k)
-  pub spent : (k : ℕ) → k < length counts → (slice_index_or counts k no_counts).posted ≤ most
+-- the lane k is one of the box b
+abbrev pub IsLaneOf : ℕ → ℕ → ℕ → Type 0
+IsLaneOf senders b k = (b * senders ≤ k) × (k < b * senders + senders)
+
+-- how many letters wait in the lanes of a box
+abbrev pub box_waiting : {T : Type 0} → ℕ → List (List T) → ℕ → ℕ
+box_waiting senders lists b = sum_by (λ s. length (slice_index_or lists (b * senders + s) [])) (range_with_len 0 senders)
+
+-- what the parts keep
+pub record IsKept {T : Type 0} (senders most : ℕ) (boxes : List MailBox) (posted : List ℕ) (pool : Lists T) : Type 0 where
+  pub lanes : length posted ≡ length boxes * senders
+  pub lists : length pool.lists ≡ length posted
+  pub lanes_fit : LanesFit (length boxes) senders
+  pub spent : (k : ℕ) → k < length posted → slice_index_or posted k 0 ≤ most
+  pub counted : (k : ℕ) → k < length posted → length (slice_index_or pool.lists k []) ≤ slice_index_or posted k 0
+  pub waiting : (b : ℕ) → b < length boxes → (box_of boxes b).waiting ≡ box_waiting senders pool.lists b
+  pub last : (b : ℕ) → b < length boxes → 0 < (box_of boxes b).waiting → IsLaneOf senders b (box_of boxes b).last

@@ -4,7 +4,7 @@
 //! A call changes the mail by one step (`specs/Step.antt`); a script of calls is a run of such steps, and keeps both laws.
 #![tactic(auto)]
 
-mod backlog;
+mod boxes;
 mod call;
 mod equality;
 mod error;

@@ -1,26 +1,21 @@
 //! The mail itself: what each call makes of it.
 
-ghost use Rattle.std.specs.Prelude.{true, [], replicate, ◌≡◌, ◌+◌, ◌*◌, ◌<◌, ◌≤◌, ◌↔◌, IfOk, IfErr, OnOk, IsTrue};
-ghost use Rattle.std.specs.VecDeque.{deque_capacity};
+ghost use Rattle.std.specs.Prelude.{true, [], replicate, slice_index_or, ◌≡◌, ◌≢◌, ◌+◌, ◌*◌, ◌<◌, ◌≤◌, ◌↔◌, IfOk, IfErr, OnOk, IsTrue};
+ghost use Rattle.auc_nodes.specs.Lists.{empty_lists};
 ghost use Rattle.auc_mail.specs.Limits.{LanesFit, NodesFit, IsRefusedFor};
-ghost use Rattle.auc_mail.specs.Mail.{HasBox, HasLane, IsClosed, IsSound, empty_mail, free_of, lane_of, posted_of, waiting_at};
+ghost use Rattle.auc_mail.specs.Mail.{HasBox, HasLane, IsClosed, IsSound, NothingWaits, blank_lane, empty_mail, free_of, lane_of, posted_of, waiting_at};
 ghost use Rattle.auc_mail.specs.Step.{Fits, Step, reply_to_post};
-ghost use Rattle.auc_mail.specs.Pool.{no_counts};
+ghost use Rattle.auc_mail.specs.Pool.{IsLaneOf, new_box};
 
-use crate::backlog::{Waiting, count_of, has_letter, take_first};
+use crate::boxes::{
+    MailBox, NO_LANE, lane_in_turn, lane_number, note_close, note_post, note_take, sender_of,
+};
 use crate::call::{Call, PostRefused, Reply, Taken};
 use crate::error::MailError;
 use crate::limits::{MOST_BOXES, MOST_LANES, MOST_NODES, MOST_SENDERS};
+use auc_nodes::NodePool;
 use std::alloc::{AllocError, Global};
-use std::collections::VecDeque;
 use std::marker::Model;
-
-// How many letters of a lane were posted and taken.
-#[derive(Clone, Copy)]
-pub struct Counts {
-    pub posted: u64,
-    pub taken: u64,
-}
 
 /// A mail: boxes that accept letters until they are closed, and a lane for each box and sender.
 ///
@@ -30,53 +25,52 @@ pub struct Counts {
 /// Contracts see a mail as the `Mail` of `specs/Mail.antt`. They leave open which sender's letter a take gives.
 #[derive(Drop)]
 pub struct MailPool<T: Copy> {
-    letters: VecDeque<Waiting<T>>,
-    counts: Vec<Counts>,
-    accepting: Vec<bool>,
+    // The letters that wait, a list for each lane.
+    lists: NodePool<T>,
+
+    // How many letters of each lane were posted.
+    posted: Vec<u64>,
+    boxes: Vec<MailBox>,
     most: u64,
     senders: u32,
-    nodes: u32,
 }
 
 impl<T: Copy> Model for MailPool<T> {
-    ghost use Rattle.std.specs.VecDeque.{deque_capacity};
     ghost use Rattle.auc_mail.specs.Mail.{Mail};
 
     ghost Value = { Mail T };
 
     ghost use Rattle.auc_mail.specs.Pool.{mail_of, IsKept};
 
-    ghost view = { λ p. mail_of p.senders p.nodes p.most p.accepting.items p.counts.items p.letters.items };
+    ghost view = { λ p. mail_of p.senders p.most p.boxes.items p.posted.items p.lists };
 
-    ghost invariant = { λ p. IsKept p.senders p.nodes p.most p.accepting.items p.counts.items p.letters.items (deque_capacity p.letters) };
-}
-
-// The number of the lane of a box and a sender.
-#[inline]
-fn lane_number(senders: u32, to: u32, sender: u32) -> usize
-    ensures { result ≡ to * senders + sender }
-{
-    to as usize * senders as usize + sender as usize
+    ghost invariant = { λ p. IsKept p.senders p.most p.boxes.items p.posted.items p.lists };
 }
 
 // The lists of a new mail: its letters, its counts and its boxes.
 fn new_lists<T: Copy>(
     alloc: Global,
-    boxes: usize,
-    lanes: usize,
-    nodes: usize,
-) -> Result<(VecDeque<Waiting<T>>, Vec<Counts>, Vec<bool>), AllocError>
-    ensures letters { IfOk result (λ lists. (lists.0.items ≡ []) × (nodes ≤ deque_capacity lists.0)) }
-    ensures counts { IfOk result (λ lists. lists.1.items ≡ replicate lanes no_counts) }
-    ensures boxes { IfOk result (λ lists. lists.2.items ≡ replicate boxes true) }
+    boxes: u32,
+    lanes: u32,
+    nodes: u32,
+    blank: T,
+) -> Result<(NodePool<T>, Vec<u64>, Vec<MailBox>), AllocError>
+    requires { (lanes ≤ MOST_LANES) × (nodes ≤ MOST_NODES) }
+    ensures letters { IfOk result (λ lists. lists.0 ≡ empty_lists lanes nodes) }
+    ensures counts { IfOk result (λ lists. lists.1.items ≡ replicate lanes 0) }
+    ensures boxes { IfOk result (λ lists. lists.2.items ≡ replicate boxes new_box) }
 {
-    let letters = VecDeque::with_capacity(alloc, nodes)?;
-    let counts = vec![in alloc; Counts {
-        posted: 0,
-        taken: 0
-    }; lanes]?;
-    let accepting = vec![in alloc; true; boxes]?;
-    Ok((letters, counts, accepting))
+    let Ok(letters) = NodePool::make(alloc, lanes, nodes, blank) else {
+        return Err(AllocError);
+    };
+    let posted = vec![in alloc; 0; lanes as usize]?;
+    let boxes = vec![in alloc; MailBox {
+        waiting: 0,
+        last: 0,
+        giver: NO_LANE,
+        accepting: true,
+    }; boxes as usize]?;
+    Ok((letters, posted, boxes))
 }
 
 impl<T: Copy> MailPool<T> {
@@ -101,8 +95,6 @@ impl<T: Copy> MailPool<T> {
         ensures within { OnOk result (LanesFit boxes senders × NodesFit nodes) }
         ensures refused { IfErr result (IsRefusedFor boxes senders nodes) }
     {
-        // This body has no place without a letter.
-        let _ = blank;
         if boxes > MOST_BOXES || senders > MOST_SENDERS {
             return Err(MailError::TooManyLanes);
         }
@@ -113,14 +105,13 @@ impl<T: Copy> MailPool<T> {
         if nodes > MOST_NODES {
             return Err(MailError::TooManyNodes);
         }
-        match new_lists(alloc, boxes as usize, lanes as usize, nodes as usize) {
-            Ok((letters, counts, accepting)) => Ok(MailPool {
-                letters,
-                counts,
-                accepting,
+        match new_lists(alloc, boxes, lanes as u32, nodes, blank) {
+            Ok((lists, posted, boxes)) => Ok(MailPool {
+                lists,
+                posted,
+                boxes,
                 most,
                 senders,
-                nodes,
             }),
             Err(_) => Err(MailError::NoMemory),
         }
@@ -132,9 +123,9 @@ impl<T: Copy> MailPool<T> {
     {
         match *call {
             Call::Post { sender, to, .. } => {
-                sender < self.senders && (to as usize) < self.accepting.len()
+                sender < self.senders && (to as usize) < self.boxes.len()
             }
-            Call::Take { at } | Call::Close { at } => (at as usize) < self.accepting.len(),
+            Call::Take { at } | Call::Close { at } => (at as usize) < self.boxes.len(),
         }
     }
 
@@ -144,14 +135,14 @@ impl<T: Copy> MailPool<T> {
         requires { HasBox self.now at }
         ensures { IsTrue result ↔ IsClosed self.now at }
     {
-        !self.accepting[at as usize]
+        !self.boxes[at as usize].accepting
     }
 
     /// How many more letters may wait, in all boxes together. Takes O(1) time.
     pub fn free(&self) -> u32
         ensures { result ≡ free_of self.now }
     {
-        self.nodes - self.letters.len() as u32
+        self.lists.free()
     }
 
     /// How many letters of the sender were posted to the box, those taken since among them. Takes O(1) time.
@@ -159,7 +150,7 @@ impl<T: Copy> MailPool<T> {
         requires { HasLane self.now at sender }
         ensures { result ≡ posted_of self.now at sender }
     {
-        self.counts[lane_number(self.senders, at, sender)].posted
+        self.posted[lane_number(self.senders, at, sender) as usize]
     }
 
     /// How many letters of the sender were taken out of the box. Takes O(1) time.
@@ -167,25 +158,24 @@ impl<T: Copy> MailPool<T> {
         requires { HasLane self.now at sender }
         ensures { result ≡ (lane_of self.now at sender).taken }
     {
-        self.counts[lane_number(self.senders, at, sender)].taken
+        let lane = lane_number(self.senders, at, sender);
+        self.posted[lane as usize] - u64::from(self.lists.len(lane))
     }
 
-    /// How many letters wait in the box, of all senders. Takes O(n) time, where n letters wait in all boxes.
+    /// How many letters wait in the box, of all senders. Takes O(1) time.
     pub fn waiting(&self, at: u32) -> u32
         requires { HasBox self.now at }
         ensures { result ≡ waiting_at self.now at }
     {
-        // Read here, so that the proof knows its range, which bounds the count.
-        let _nodes = self.nodes;
-        count_of(&self.letters, at) as u32
+        self.boxes[at as usize].waiting
     }
 
-    /// Whether a letter waits in the box, of any sender. Takes the time of `take`.
+    /// Whether a letter waits in the box, of any sender. Takes O(1) time.
     pub fn has_letter(&self, at: u32) -> bool
         requires { HasBox self.now at }
         ensures { IsTrue result ↔ (0 < waiting_at self.now at) }
     {
-        has_letter(&self.letters, at)
+        self.boxes[at as usize].waiting > 0
     }
 
     /// Posts `item` from `sender` to the box `to`, and answers the letter's number in its lane, from 1.
@@ -197,58 +187,94 @@ impl<T: Copy> MailPool<T> {
         requires { Fits self.old (Call.Post sender to item reserve) }
         ensures { Step self.old (Call.Post sender to item reserve) (reply_to_post result) self.new }
     {
-        if !self.accepting[to as usize] {
+        if !self.boxes[to as usize].accepting {
             return Err(PostRefused::Closed);
         }
         let lane = lane_number(self.senders, to, sender);
-        let count = self.counts[lane];
-        if count.posted == self.most {
+        let posted = self.posted[lane as usize];
+        if posted == self.most {
             return Err(PostRefused::Spent);
         }
-        if self.nodes as usize - self.letters.len() <= reserve as usize {
+        if self.lists.free() <= reserve {
             return Err(PostRefused::Full);
         }
-        let number = count.posted + 1;
-        self.counts[lane] = Counts {
-            posted: number,
-            taken: count.taken,
-        };
-        self.letters
-            .push_back_reserved(Waiting { item, to, sender });
-        Ok(number)
+        // The law that bounds how many letters wait.
+        self.lists.every_pool_is_sound();
+        match self.lists.push_back(lane, item) {
+            Ok(()) => {
+                self.posted[lane as usize] += 1;
+                note_post(&mut self.boxes, to, lane);
+                Ok(posted + 1)
+            }
+            Err(_) => Err(PostRefused::Full),
+        }
     }
 
     /// Takes the first waiting letter of one of the box's lanes; where none has one, says whether one may still come.
     ///
-    /// Which lane is left open. Takes O(1) time where the first letter of all waits for this box, as always with one box, and else
-    /// O(n), where n letters wait in all boxes. Takes no memory.
+    /// Which lane is left open: it is the first with a letter, in rotating order from the one behind the last giver. Takes O(1)
+    /// time where all letters of the box wait in one lane, or none waits, and else O(senders).
     #[inline]
     pub fn take(&mut self, at: u32) -> Taken<T>
         requires { Fits self.old (Call.Take at) }
         ensures { Step self.old (Call.Take at) (Reply.Took result) self.new }
     {
-        match take_first(&mut self.letters, at) {
-            None => {
-                if self.accepting[at as usize] {
-                    Taken::Empty
-                } else {
-                    Taken::Over
-                }
-            }
-            Some(letter) => {
-                let lane = lane_number(self.senders, letter.to, letter.sender);
-                let count = self.counts[lane];
-                let number = count.taken + 1;
-                self.counts[lane] = Counts {
-                    posted: count.posted,
-                    taken: number,
-                };
-                Taken::Letter {
-                    sender: letter.sender,
-                    number,
-                    item: letter.item,
-                }
-            }
+        if self.boxes[at as usize].waiting == 0 {
+            return self.none_waits(at);
+        }
+        // Where the newest letter's lane has all that wait, no other is looked at.
+        let lane = self.boxes[at as usize].last;
+        if self.lists.len(lane) == self.boxes[at as usize].waiting {
+            return self.take_from(at, lane);
+        }
+        self.take_in_turn(at)
+    }
+
+    // What a take answers where no letter waits in the box.
+    #[inline]
+    fn none_waits(&self, at: u32) -> Taken<T>
+        requires at { HasBox self.now at }
+        requires none { NothingWaits self.now at }
+        ensures { Step self.now (Call.Take at) (Reply.Took result) self.now }
+    {
+        if self.boxes[at as usize].accepting {
+            Taken::Empty
+        } else {
+            Taken::Over
+        }
+    }
+
+    // Takes the first letter of a lane of the box.
+    #[inline]
+    fn take_from(&mut self, at: u32, lane: u32) -> Taken<T>
+        requires at { HasBox self.old at }
+        requires lane { IsLaneOf self.old.senders at lane }
+        requires some { (slice_index_or self.old.lanes lane blank_lane).waiting ≢ [] }
+        ensures { Step self.old (Call.Take at) (Reply.Took result) self.new }
+    {
+        let sender = sender_of(self.senders, at, lane);
+        let before = self.posted[lane as usize] - u64::from(self.lists.len(lane));
+        let Some(item) = self.lists.pop_front(lane) else {
+            unreachable!();
+        };
+        note_take(&mut self.boxes, at, lane);
+        Taken::Letter {
+            sender,
+            number: before + 1,
+            item,
+        }
+    }
+
+    // Takes the first letter of the lane whose turn it is. Seldom needed, so it stays out of the callers.
+    #[inline(never)]
+    fn take_in_turn(&mut self, at: u32) -> Taken<T>
+        requires { HasBox self.old at }
+        ensures { Step self.old (Call.Take at) (Reply.Took result) self.new }
+    {
+        let giver = self.boxes[at as usize].giver;
+        match lane_in_turn(&self.lists, self.senders, at, giver) {
+            Some(lane) => self.take_from(at, lane),
+            None => self.none_waits(at),
         }
     }
 
@@ -257,8 +283,8 @@ impl<T: Copy> MailPool<T> {
         requires { Fits self.old (Call.Close at) }
         ensures { Step self.old (Call.Close at) (Reply.WasOpen result) self.new }
     {
-        let was_open = self.accepting[at as usize];
-        self.accepting[at as usize] = false;
+        let was_open = self.boxes[at as usize].accepting;
+        note_close(&mut self.boxes, at);
         was_open
     }
 
@@ -286,6 +312,6 @@ impl<T: Copy> MailPool<T> {
     pub fn every_mail_is_sound(&self)
         ensures { IsSound self.now }
     {
-        let _ = &self.counts;
+        self.lists.every_pool_is_sound();
     }
 }

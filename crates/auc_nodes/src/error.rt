@@ -1,0 +1,19 @@
+//! Why a pool is not made.
+
+use thiserror::Error;
+
+/// Why a pool was not made. Where several causes hold, the first of them in this order is answered.
+#[derive(Clone, Copy, Debug, PartialEq, Eq, Error)]
+pub enum PoolError {
+    /// More lists than `MOST_LISTS`.
+    #[error("too many lists")]
+    TooManyLists,
+
+    /// More nodes than `MOST_NODES`.
+    #[error("too many nodes")]
+    TooManyNodes,
+
+    /// Memory was refused.
+    #[error("out of memory")]
+    NoMemory,
+}

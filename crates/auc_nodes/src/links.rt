@@ -1,0 +1,77 @@
+//! Lists of nodes: where a list begins and ends, and how two are joined.
+
+ghost use Rattle.std.specs.Prelude.{◌≡◌, ◌+◌, ◌<◌, ◌++◌, length, slice_set};
+ghost use Rattle.auc_nodes.specs.Links.{CanJoin, EndsWith, IsJoined, behind, end_of, links_of, items_of, nodes_from, single};
+
+// A place for an item, and the number of the node behind it in its list.
+#[derive(Clone, Copy)]
+pub struct Node<T> {
+    pub item: T,
+    pub next: u32,
+}
+
+// Where a list of nodes begins and ends, and how many it has. With none the first two mean nothing.
+#[derive(Clone, Copy)]
+pub struct Ends {
+    pub first: u32,
+    pub last: u32,
+    pub len: u32,
+}
+
+// Joins the second list of nodes behind the first, and answers the ends of both together. Writes one link at most.
+#[inline]
+pub(crate) fn join<T: Copy>(nodes: &mut Vec<Node<T>>, front: Ends, back: Ends) -> Ends
+    requires { CanJoin (links_of nodes.old.items) front back }
+    ensures last { EndsWith (nodes_from (links_of nodes.old.items) back) back.last → EndsWith (nodes_from (links_of nodes.old.items) front ++ nodes_from (links_of nodes.old.items) back) result.last }
+    ensures joined { IsJoined (links_of nodes.old.items) (links_of nodes.new.items) front back result }
+    ensures items { items_of nodes.new.items ≡ items_of nodes.old.items }
+{
+    if front.len == 0 {
+        return back;
+    }
+    if back.len == 0 {
+        return front;
+    }
+    nodes[front.last as usize].next = back.first;
+    Ends {
+        first: front.first,
+        last: back.last,
+        len: front.len + back.len,
+    }
+}
+
+// Links a node behind a list. Writes one link at most, and the fields that change alone: this is what most calls come to.
+#[inline]
+pub(crate) fn link_behind<T: Copy>(
+    nodes: &mut Vec<Node<T>>,
+    ends: &mut Vec<Ends>,
+    list: usize,
+    node: u32,
+)
+    requires list { list < length ends.old.items }
+    requires can { CanJoin (links_of nodes.old.items) (end_of ends.old.items list) (single node) }
+    ensures joined { IsJoined (links_of nodes.old.items) (links_of nodes.new.items) (end_of ends.old.items list) (single node) (behind (end_of ends.old.items list) node) }
+    ensures last { EndsWith (nodes_from (links_of nodes.old.items) (single node)) node → EndsWith (nodes_from (links_of nodes.old.items) (end_of ends.old.items list) ++ nodes_from (links_of nodes.old.items) (single node)) node }
+    ensures items { items_of nodes.new.items ≡ items_of nodes.old.items }
+    ensures ends { ends.new.items ≡ slice_set ends.old.items list (behind (end_of ends.old.items list) node) }
+{
+    let list = &mut ends[list];
+    if list.len == 0 {
+        list.first = node;
+    } else {
+        nodes[list.last as usize].next = node;
+    }
+    list.last = node;
+    list.len += 1;
+}
+
+// Lets a list begin with another node, and have so many. Its last one stays.
+#[inline]
+pub(crate) fn set_front(ends: &mut Vec<Ends>, list: usize, first: u32, len: u32)
+    requires { list < length ends.old.items }
+    ensures { ends.new.items ≡ slice_set ends.old.items list (record { first = first; last = (end_of ends.old.items list).last; len = len }) }
+{
+    let list = &mut ends[list];
+    list.first = first;
+    list.len = len;
+}

@@ -41,7 +41,7 @@ fn given_words<R: Env + AllocGlobal>(rt: &R) -> Result<Words, WordsError>
 }
 
 /// Does the job with these readers, and writes to standard output.
-fn answer<R: Print + AllocGlobal + Threads + Wait + Sync, A: Read, B: Read>(
+fn answer<R: Print + Eprint + AllocGlobal + Threads + Wait + Sync, A: Read, B: Read>(
     rt: &R,
     job: &Job,
     first: &mut A,
@@ -51,6 +51,7 @@ fn answer<R: Print + AllocGlobal + Threads + Wait + Sync, A: Read, B: Read>(
 {
     let alloc = rt.alloc();
     let Ok(mut writer) = BufWriter::new(alloc, io::writer(rt)) else {
+        let _ = eprintln!(rt; "{}", WordsError::NoMemory);
         return NO_MEMORY;
     };
     let status = run_command(rt, alloc, job, first, second, &mut writer, &FreeGate);

@@ -1,0 +1,121 @@
+//! Pools, mails, scripts, and mails that threads share.
+
+ghost use Rattle.std.specs.Prelude.{◌≡◌, ◌<◌};
+
+use crate::marks::refuse_one;
+use auc_book::{MailBrand, MailState, SharedMail};
+use auc_mail::{Call, MailError, MailPool, PostRefused, Reply, Taken, run_script};
+use auc_nodes::{NodePool, PoolError};
+use auc_run::{ScriptError, read_script};
+use std::alloc::Global;
+use std::marker::Brand;
+use std::sync::ledger::Blank;
+use std::test::*;
+
+#[test]
+fn pools(rt: HostRuntime) -> Result<(), Fail> {
+    let mark = refuse_one(rt.alloc())?;
+    let pool = NodePool::make(rt.alloc(), 3, 5, 0i64);
+    drop(mark);
+    match pool {
+        Ok(pool) => assert_eq!(rt; pool.free(), 5),
+        Err(error) => assert_eq!(rt; error, PoolError::NoMemory),
+    }
+    Ok(())
+}
+
+#[test]
+fn mails(rt: HostRuntime) -> Result<(), Fail> {
+    let mark = refuse_one(rt.alloc())?;
+    let pool = MailPool::make(rt.alloc(), 2, 3, 5, 9, 0i64);
+    drop(mark);
+    match pool {
+        Ok(pool) => assert_eq!(rt; pool.free(), 5),
+        Err(error) => assert_eq!(rt; error, MailError::NoMemory),
+    }
+    Ok(())
+}
+
+#[test]
+fn noted_mails(rt: HostRuntime) -> Result<(), Fail> {
+    let mark = refuse_one(rt.alloc())?;
+    let state = MailState::make(rt.alloc(), 2, 3, 5, 9, 0i64, 7);
+    drop(mark);
+    match state {
+        Ok(state) => assert_eq!(rt; state.count(), 0),
+        Err(error) => assert_eq!(rt; error, MailError::NoMemory),
+    }
+    Ok(())
+}
+
+#[test]
+fn shared_mails(rt: HostRuntime) -> Result<(), Fail> {
+    let mark = refuse_one(rt.alloc())?;
+    let refused = refusal::<Brand>(rt.alloc(), Blank::new(3));
+    drop(mark);
+    assert!(rt; refused.is_none() || refused == Some(MailError::NoMemory));
+    Ok(())
+}
+
+/// Why a mail that three workers share isn't made.
+fn refusal<N: MailBrand>(alloc: Global, ledger: Blank) -> Option<MailError>
+    requires name { ledger.name ≡ N.name }
+    requires parts { (ledger.parts ≡ N.parts) × (N.parts ≡ 3) }
+    requires numbers { (N.boxes ≡ 2) × (N.workers ≡ 3) × (N.nodes ≡ 5) × (N.most ≡ 9) × (N.room ≡ 7) }
+{
+    SharedMail::<i64, N>::make(alloc, 2, 3, 5, 9, 0, 7, ledger).err()
+}
+
+/// Where memory is refused the mail stays as it was, and the same calls have their replies with memory.
+#[test]
+fn runs_of_calls(rt: HostRuntime) -> Result<(), Fail> {
+    let mut pool = MailPool::make(rt.alloc(), 1, 1, 2, 9, 0i64)?;
+    let post = Call::Post {
+        sender: 0,
+        to: 0,
+        item: 5,
+        reserve: 0,
+    };
+    let take = Call::Take { at: 0 };
+    let calls = vec![in rt.alloc(); post, post, post, take]?;
+    let letter = Taken::Letter {
+        sender: 0,
+        number: 1,
+        item: 5,
+    };
+    let expected = [
+        Reply::Posted(1),
+        Reply::Posted(2),
+        Reply::Refused(PostRefused::Full),
+        Reply::Took(letter),
+    ];
+    if !calls.iter().all(|call| pool.fits(call)) {
+        return Err(Fail::new("the calls fit"));
+    }
+    let mark = refuse_one(rt.alloc())?;
+    let replies = run_script(rt.alloc(), &mut pool, calls.as_slice());
+    drop(mark);
+    match replies {
+        Ok(replies) => assert_eq!(rt; replies.as_slice(), expected.as_slice()),
+        Err(_) => {
+            assert_eq!(rt; pool.free(), 2);
+            let replies = run_script(rt.alloc(), &mut pool, calls.as_slice())?;
+            assert_eq!(rt; replies.as_slice(), expected.as_slice());
+        }
+    }
+    Ok(())
+}
+
+#[test]
+fn scripts(rt: HostRuntime) -> Result<(), Fail> {
+    let text = b"mail 3 2 5 7 post 2 3 -9. 4 take 1 close 3";
+    let ample = read_script(rt.alloc(), text)?;
+    let mark = refuse_one(rt.alloc())?;
+    let read = read_script(rt.alloc(), text);
+    drop(mark);
+    match read {
+        Ok(script) => assert_eq!(rt; script.calls.as_slice(), ample.calls.as_slice()),
+        Err(error) => assert_eq!(rt; error, ScriptError::NoMemory),
+    }
+    Ok(())
+}

@@ -1,0 +1,145 @@
+//! Calls that take no memory, with every growth refused.
+
+ghost use Rattle.auc_mail.specs.Mail.{HasLane};
+
+use crate::marks::refuse_all;
+use crate::problems::{THREE, problem_of};
+use crate::solvers::limits_of;
+use auc_book::{MailState, TrailFull};
+use auc_cert::{Cert, CertParts, read_cert};
+use auc_graph::{Number, Rows, Token, number_of, token_at};
+use auc_hall::Partial;
+use auc_letters::Letter;
+use auc_mail::{MailPool, Taken};
+use auc_nodes::NodePool;
+use auc_objects::ObjectShard;
+use auc_persons::PersonShard;
+use auc_world::{Turn, World, first_eps, next_eps};
+use std::alloc::Global;
+use std::test::*;
+
+#[test]
+fn tokens_and_rows(rt: HostRuntime) -> Result<(), Fail> {
+    let problem = problem_of(rt.alloc(), THREE)?;
+    let rows = Rows::build(rt.alloc(), &problem)?;
+    let mut partial = Partial::new(rt.alloc(), &rows)?;
+    let mark = refuse_all(rt.alloc())?;
+    let token = token_at(b" 2 1", 0);
+    let number = number_of(b"-7.");
+    let spread = rows.cost_spread();
+    let eps = first_eps(&rows);
+    let placed = rows.persons() == 3 && partial.place(&rows, 0, 1);
+    drop(mark);
+    assert_eq!(rt; token, Some(Token { start: 1, end: 2 }));
+    assert_eq!(rt; number, Number::Value(-7));
+    assert_eq!(rt; spread, 5);
+    assert_eq!(rt; (eps, next_eps(1)), (2, None));
+    assert!(rt; placed);
+    Ok(())
+}
+
+#[test]
+fn pools_and_mails(rt: HostRuntime) -> Result<(), Fail> {
+    let mut pool = NodePool::make(rt.alloc(), 2, 2, 0i64)?;
+    let mut mail = MailPool::make(rt.alloc(), 1, 2, 2, 9, 0i64)?;
+    let mark = refuse_all(rt.alloc())?;
+    let pushed = (
+        pool.push_back(0, 5),
+        pool.push_back(1, 6),
+        pool.push_back(1, 7),
+    );
+    pool.append(1, 0);
+    let popped = pool.pop_front(0);
+    pool.clear(0);
+    let posted = mail.post(1, 0, 5, 0);
+    let closed = mail.close(0);
+    let taken = (mail.take(0), mail.take(0));
+    drop(mark);
+    assert_eq!(rt; pushed, (Ok(()), Ok(()), Err(7)));
+    assert_eq!(rt; (popped, pool.free()), (Some(5), 2));
+    assert_eq!(rt; (posted, closed), (Ok(1), true));
+    let letter = Taken::Letter {
+        sender: 1,
+        number: 1,
+        item: 5,
+    };
+    assert_eq!(rt; taken, (letter, Taken::Over));
+    Ok(())
+}
+
+/// What calls are answered: a post and a take, which fill the trail, and then two takes and a close.
+fn full_answers(alloc: Global, state: &mut MailState<i64>) -> Result<[bool; 5], Fail>
+    requires { HasLane state.old.mail 0 0 }
+{
+    let mark = refuse_all(alloc)?;
+    let posted = state.post(0, 0, 5, 0).is_ok();
+    let taken = state.take(0, 0).is_ok();
+    let first = state.take(0, 0) == Err(TrailFull);
+    let second = state.take(0, 0) == Err(TrailFull);
+    let closed = state.close(0, 0) == Err(TrailFull);
+    drop(mark);
+    Ok([posted, taken, first, second, closed])
+}
+
+/// A mail whose trail is full answers so again and again.
+#[test]
+fn noted_calls(rt: HostRuntime) -> Result<(), Fail> {
+    let mut state = MailState::make(rt.alloc(), 1, 1, 2, 9, 0i64, 2)?;
+    assert_eq!(rt; full_answers(rt.alloc(), &mut state)?, [true; 5]);
+    assert_eq!(rt; state.count(), 2);
+    Ok(())
+}
+
+#[test]
+fn shards(rt: HostRuntime) -> Result<(), Fail> {
+    let mut objects = ObjectShard::make(rt.alloc(), 0, 1, 1, 3, [0i64, 0, 0].as_slice())?;
+    let mut persons = PersonShard::make(rt.alloc(), 0, 1, 1, 3, [0i64, 0, 0].as_slice(), 9)?;
+    let mark = refuse_all(rt.alloc())?;
+    let answers = objects.on_bid(0, 0, 1, 4, 1);
+    let heard = persons.on_letter(Letter::Price {
+        object: 1,
+        price: 4,
+    });
+    drop(mark);
+    assert_eq!(rt; answers.len(), 2);
+    assert!(rt; heard.is_ok());
+    assert_eq!(rt; persons.copy(1), 4);
+    Ok(())
+}
+
+/// Turns of a world.
+#[test]
+fn turns(rt: HostRuntime) -> Result<(), Fail> {
+    let rows = Rows::build(rt.alloc(), &problem_of(rt.alloc(), THREE)?)?;
+    let limits = limits_of(1, 0)?;
+    let prices = vec![in rt.alloc(); 0; rows.objects() as usize]?;
+    let mut world = World::make(rt.alloc(), &rows, &limits, prices.as_slice(), 1)?;
+    let mark = refuse_all(rt.alloc())?;
+    for _round in 0..100 {
+        for turn in [
+            Turn::PersonTake { shard: 0 },
+            Turn::Bid { shard: 0 },
+            Turn::PersonPost { shard: 0 },
+            Turn::ObjectTake { shard: 0 },
+            Turn::ObjectPost { shard: 0 },
+            Turn::HubTake,
+        ] {
+            world.turn(turn);
+        }
+    }
+    let end = world.end();
+    drop(mark);
+    assert!(rt; end.is_some());
+    Ok(())
+}
+
+/// Parts that no text spells come back as they were.
+#[test]
+fn certificates(rt: HostRuntime) -> Result<(), Fail> {
+    let cert = read_cert(rt.alloc(), b"auction 1\ninfeasible 1 0\nperson 1\n")?;
+    let mark = refuse_all(rt.alloc())?;
+    let is_infeasible = matches!(cert.parts(), CertParts::Infeasible { .. });
+    drop(mark);
+    assert!(rt; is_infeasible);
+    Ok(())
+}

@@ -1,0 +1,115 @@
+//! Problems, their rows and matchings.
+
+use crate::marks::refuse_one;
+use auc_graph::{ArcList, ReadError, ReadLimits, Rows, read_arcs};
+use auc_hall::{Matching, Partial, complete};
+use auc_run::{ReadFault, read_all};
+use std::alloc::Global;
+use std::test::*;
+
+/// Three persons, three objects.
+pub const THREE: &str = "3\n1 1 4 1 2 1 1 3 3\n2 1 2 2 2 0 2 3 5\n3 1 3 3 2 2 3 3 2\n";
+
+/// Two persons who both know the first object alone.
+pub const ONE_OBJECT: &str = "2\n1 1 5\n2 1 7\n";
+
+/// The problem that a text reads as.
+pub fn problem_of(alloc: Global, text: &str) -> Result<ArcList, Fail> {
+    Ok(read_arcs(alloc, text.as_bytes(), ReadLimits::usual())?)
+}
+
+#[test]
+fn reading(rt: HostRuntime) -> Result<(), Fail> {
+    let ample = problem_of(rt.alloc(), THREE)?;
+    let mark = refuse_one(rt.alloc())?;
+    let read = read_arcs(rt.alloc(), THREE.as_bytes(), ReadLimits::usual());
+    drop(mark);
+    match read {
+        Ok(problem) => assert_eq!(rt; problem.arcs(), ample.arcs()),
+        Err(error) => assert_eq!(rt; error, ReadError::NoMemory),
+    }
+    Ok(())
+}
+
+/// A fault of the text is told, or want of memory before it.
+#[test]
+fn reading_what_is_no_problem(rt: HostRuntime) -> Result<(), Fail> {
+    let mark = refuse_one(rt.alloc())?;
+    let read = read_arcs(rt.alloc(), b"3 1 1 4 1 2 x", ReadLimits::usual());
+    drop(mark);
+    let error = read.err();
+    assert!(rt;
+        error == Some(ReadError::BadNumber { token: 6 }) || error == Some(ReadError::NoMemory)
+    );
+    Ok(())
+}
+
+#[test]
+fn reading_a_whole_input(rt: HostRuntime) -> Result<(), Fail> {
+    let mark = refuse_one(rt.alloc())?;
+    let read = read_all(rt.alloc(), &mut THREE.as_bytes(), 9);
+    drop(mark);
+    match read {
+        Ok(all) => assert_eq!(rt; all.as_slice(), THREE.as_bytes()),
+        Err(error) => assert_eq!(rt; error, ReadFault::NoMemory),
+    }
+    Ok(())
+}
+
+#[test]
+fn rows(rt: HostRuntime) -> Result<(), Fail> {
+    let problem = problem_of(rt.alloc(), THREE)?;
+    let ample = Rows::build(rt.alloc(), &problem)?;
+    let mark = refuse_one(rt.alloc())?;
+    let built = Rows::build(rt.alloc(), &problem);
+    drop(mark);
+    if let Ok(rows) = built {
+        assert_eq!(rt; rows.persons(), ample.persons());
+        assert_eq!(rt; rows.cost_spread(), ample.cost_spread());
+        for person in 0..rows.persons().min(ample.persons()) {
+            assert!(rt; rows.row(person).len() == ample.row(person).len());
+        }
+    }
+    Ok(())
+}
+
+/// What a search finds; none where memory was refused.
+fn found_in(alloc: Global, text: &str) -> Result<Option<Matching>, Fail> {
+    let rows = Rows::build(alloc, &problem_of(alloc, text)?)?;
+    let mark = refuse_one(alloc)?;
+    let found = match Partial::new(alloc, &rows) {
+        Ok(partial) => complete(alloc, &rows, partial).ok(),
+        Err(_) => None,
+    };
+    drop(mark);
+    Ok(found)
+}
+
+/// Whether these arcs were found, or nothing for want of memory.
+fn is_full(found: &Option<Matching>, expected: &[u32]) -> bool {
+    match found {
+        Some(Matching::Full(arcs)) => arcs.as_slice() == expected,
+        Some(Matching::Hall { .. }) => false,
+        None => true,
+    }
+}
+
+/// Whether these persons were found, who know these objects alone, or nothing for want of memory.
+fn is_hall(found: &Option<Matching>, expected: &[u32], known: &[u32]) -> bool {
+    match found {
+        Some(Matching::Hall { persons, objects }) => {
+            persons.as_slice() == expected && objects.as_slice() == known
+        }
+        Some(Matching::Full(_)) => false,
+        None => true,
+    }
+}
+
+#[test]
+fn matchings(rt: HostRuntime) -> Result<(), Fail> {
+    let full = found_in(rt.alloc(), THREE)?;
+    assert!(rt; is_full(&full, [0u32, 4, 8].as_slice()));
+    let stuck = found_in(rt.alloc(), ONE_OBJECT)?;
+    assert!(rt; is_hall(&stuck, [0u32, 1].as_slice(), [0u32].as_slice()));
+    Ok(())
+}

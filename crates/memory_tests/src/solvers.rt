@@ -1,0 +1,89 @@
+//! Worlds, and the solver without threads.
+
+ghost use Rattle.std.specs.Prelude.{◌≡◌, IfOk};
+ghost use Rattle.auc_threads.specs.Naming.{AreThreadLimits};
+
+use crate::marks::refuse_one;
+use crate::problems::{ONE_OBJECT, THREE, problem_of};
+use auc_book::MOST_ROOM;
+use auc_cert::write_cert;
+use auc_graph::Rows;
+use auc_letters::MOST_SHARDS;
+use auc_mail::MOST_NODES;
+use auc_world::{Answer, Limits, World, solve_serial};
+use std::alloc::Global;
+use std::test::*;
+
+/// The usual limits, with so many shards of each kind and places in each trail.
+pub fn limits_of(shards: u32, audit: u32) -> Result<Limits, Fail>
+    ensures range { IfOk result AreThreadLimits }
+    ensures shards { IfOk result (λ l. l.shards ≡ shards) }
+{
+    let limits = Limits {
+        audit,
+        ..Limits::usual(shards)
+    };
+    if shards == 0 || shards > MOST_SHARDS || audit > MOST_ROOM || limits.nodes > MOST_NODES {
+        return Err(Fail::new("limits out of range"));
+    }
+    Ok(limits)
+}
+
+/// The text of an answer that has one.
+pub fn text_of(alloc: Global, answer: &Answer) -> Result<Vec<u8>, Fail> {
+    let cert = match answer {
+        Answer::Optimal(cert) => cert,
+        Answer::Infeasible(cert) => cert,
+        Answer::Bracket(cert) => cert,
+        Answer::Broken(_) => return Err(Fail::new("broken")),
+    };
+    let mut text = Vec::new(alloc);
+    write_cert(&mut text, cert)?;
+    Ok(text)
+}
+
+/// Whether a solve gives the answer that it gives with ample memory, or none.
+fn solves(alloc: Global, text: &str, limits: &Limits) -> Result<bool, Fail>
+    requires { AreThreadLimits limits.now }
+{
+    let problem = problem_of(alloc, text)?;
+    let ample = text_of(alloc, &solve_serial(alloc, &problem, limits)?)?;
+    let mark = refuse_one(alloc)?;
+    let solved = solve_serial(alloc, &problem, limits);
+    drop(mark);
+    match solved {
+        Ok(answer) => Ok(text_of(alloc, &answer)?.as_slice() == ample.as_slice()),
+        Err(_) => Ok(true),
+    }
+}
+
+#[test]
+fn without_threads(rt: HostRuntime) -> Result<(), Fail> {
+    let limits = limits_of(1, 0)?;
+    assert!(rt; solves(rt.alloc(), THREE, &limits)?);
+    assert!(rt; solves(rt.alloc(), ONE_OBJECT, &limits)?);
+    let few = Limits { bids: 1, ..limits };
+    assert!(rt; solves(rt.alloc(), THREE, &few)?);
+    Ok(())
+}
+
+#[test]
+fn worlds(rt: HostRuntime) -> Result<(), Fail> {
+    let rows = Rows::build(rt.alloc(), &problem_of(rt.alloc(), THREE)?)?;
+    let limits = limits_of(2, 0)?;
+    let prices = vec![in rt.alloc(); 0; rows.objects() as usize]?;
+    let mark = refuse_one(rt.alloc())?;
+    let world = World::make(rt.alloc(), &rows, &limits, prices.as_slice(), 1);
+    let gathered = match &world {
+        Ok(world) => world.gather(rt.alloc()).ok(),
+        Err(_) => None,
+    };
+    drop(mark);
+    if let Ok(world) = &world {
+        assert_eq!(rt; world.end(), None);
+    }
+    if let Some(gathered) = gathered {
+        assert_eq!(rt; gathered.prices.as_slice(), [0i64, 0, 0].as_slice());
+    }
+    Ok(())
+}

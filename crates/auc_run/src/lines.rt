@@ -103,6 +103,8 @@ fn write_problem<W: Write>(writer: &mut W, error: ReadError) -> Result<(), Write
         ReadError::CostRange { arc } => write_place(writer, b"refused cost ", arc),
         ReadError::Cut { tokens } => { write_counted(writer, b"refused cut ", tokens as u128) }
         ReadError::NoMemory => write_whole(writer, b"refused memory\n"),
+        ReadError::ReadFault => write_whole(writer, b"refused read\n"),
+        ReadError::TooManyReads => write_whole(writer, b"refused reads\n"),
     }
 }
 

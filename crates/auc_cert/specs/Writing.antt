@@ -1,7 +1,28 @@
 -- What a call that writes has done.
-use Rattle.std.specs.Prelude.{ℕ, List, Option, Result, OnOk}
+use Rattle.std.specs.Prelude.{◌≡◌, ℕ, ◌<◌, ◌+◌, List, [], ◌++◌, fold, length, codes, Option, Result, Ok, Err}
+use Rattle.std.specs.Fmt.{decimal, signed_decimal}
 use Rattle.std.specs.Io.KnownBytes.{Appends}
+use Rattle.auc_cert.specs.declared.output.Part.{Part}
+use Rattle.auc_cert.specs.declared.output.Part.TheVariants.{Words, Space, LineEnd, Count, Place, Number}
 
--- At Ok just this text stands behind what the writer had; of a write that failed nothing is said.
+-- behind what the writer had stands a beginning of this text, and not all of it
+abbrev pub Begins : Option (List ℕ) → Option (List ℕ) → List ℕ → Type 0
+Begins old new text = (done : List ℕ) × (rest : List ℕ) × (0 < length rest) × (done ++ rest ≡ text) × Appends old new done
+
+-- At Ok just this text stands behind what the writer had, and at Err a beginning of it.
 abbrev pub Writes : {X E : Type 0} → Result X E → Option (List ℕ) → Option (List ℕ) → List ℕ → Type 0
-Writes result old new text = OnOk result (Appends old new text)
+Writes (Ok x) old new text = Appends old new text
+Writes (Err e) old new text = Begins old new text
+
+-- a part of a line
+abbrev pub spelled : Part → List ℕ
+spelled (Words bytes) = bytes.now
+spelled Space = codes " "
+spelled LineEnd = codes "\n"
+spelled (Count n) = decimal n
+spelled (Place n) = decimal (n + 1)
+spelled (Number z) = signed_decimal z
+
+-- the parts, one behind another
+abbrev pub line_of : List Part → List ℕ
+line_of parts = fold (λ t part. t ++ spelled part) [] parts

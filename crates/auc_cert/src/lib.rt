@@ -31,7 +31,7 @@ pub use laws::{
     no_spelling_begins_another,
 };
 pub use lists::{Pick, Picks, Prices};
-pub use output::{WriteFault, write_count, write_number, write_whole};
+pub use output::{Part, WriteFault, write_parts, write_whole};
 pub use picks::cost_of;
 pub use reading::read_cert;
 pub use reason::Reason;

@@ -1,15 +1,14 @@
 //! Bytes and numbers, written: what every text is written by.
 
 ghost use Rattle.std.specs.Prelude.{◌≡◌, ◌<◌, Ok, Err, IfOk, IsErr};
-ghost use Rattle.std.specs.Fmt.{decimal, signed_decimal};
-ghost use Rattle.auc_cert.specs.Writing.{Writes};
+ghost use Rattle.auc_cert.specs.Writing.{Writes, line_of, spelled};
 
 use itoa::Buffer;
 use std::io;
 use std::io::Write;
 use thiserror::Error;
 
-/// Why a text was not written. What went out before is not told.
+/// Why a text was not written, or not all of it.
 #[derive(Clone, Copy, Debug, PartialEq, Eq, Error)]
 pub enum WriteFault {
     /// A write failed; an interrupted one too.
@@ -18,6 +17,21 @@ pub enum WriteFault {
     /// A write took no bytes.
     #[error("a write took no bytes")]
     Stopped,
+}
+
+/// A part of a line: bytes, or a number in decimal.
+#[derive(Clone, Copy, Debug)]
+pub enum Part<'a> {
+    /// These bytes.
+    Words(&'a [u8]),
+    Space,
+    LineEnd,
+    /// This number.
+    Count(u64),
+    /// The number from 1 on of what is numbered from 0.
+    Place(u64),
+    /// This number, with a minus where it is negative.
+    Number(i64),
 }
 
 /// How many bytes a write took, or why nothing more is written.
@@ -35,6 +49,11 @@ fn taken_of(written: io::Result<usize>) -> Result<usize, WriteFault>
 }
 
 /// Writes these bytes, all of them, by as many calls of `write` as that takes. Takes no memory.
+///
+/// # Errors
+///
+/// [`WriteFault::Failed`] at the first write that fails, also by an interrupt: no write is tried again. [`WriteFault::Stopped`] at the
+/// first one that takes nothing. A beginning of the bytes was written, and not all of them.
 pub fn write_whole<W: Write>(writer: &mut W, bytes: &[u8]) -> Result<(), WriteFault>
     ensures { Writes result (W.contents writer.old) (W.contents writer.new) bytes.now }
 {
@@ -46,18 +65,31 @@ pub fn write_whole<W: Write>(writer: &mut W, bytes: &[u8]) -> Result<(), WriteFa
     Ok(())
 }
 
-/// Writes a number in decimal. Takes no memory.
-pub fn write_count<W: Write>(writer: &mut W, count: u64) -> Result<(), WriteFault>
-    ensures { Writes result (W.contents writer.old) (W.contents writer.new) (decimal count) }
+/// Writes a part of a line.
+fn write_part<W: Write>(writer: &mut W, part: Part) -> Result<(), WriteFault>
+    ensures { Writes result (W.contents writer.old) (W.contents writer.new) (spelled part.entry) }
 {
     let mut buffer = Buffer::new();
-    write_whole(writer, buffer.format(count).as_bytes())
+    match part {
+        Part::Words(bytes) => write_whole(writer, bytes),
+        Part::Space => write_whole(writer, b" "),
+        Part::LineEnd => write_whole(writer, b"\n"),
+        Part::Count(number) => write_whole(writer, buffer.format(number).as_bytes()),
+        Part::Place(place) => write_whole(writer, buffer.format(place as u128 + 1).as_bytes()),
+        Part::Number(number) => write_whole(writer, buffer.format(number).as_bytes()),
+    }
 }
 
-/// Writes a number in decimal, with a minus where it is negative. Takes no memory.
-pub fn write_number<W: Write>(writer: &mut W, number: i64) -> Result<(), WriteFault>
-    ensures { Writes result (W.contents writer.old) (W.contents writer.new) (signed_decimal number) }
+/// Writes a line by its parts, one behind another. Takes no memory.
+///
+/// # Errors
+///
+/// As [`write_whole`], of the whole line.
+pub fn write_parts<W: Write>(writer: &mut W, parts: &[Part]) -> Result<(), WriteFault>
+    ensures { Writes result (W.contents writer.old) (W.contents writer.new) (line_of parts.now) }
 {
-    let mut buffer = Buffer::new();
-    write_whole(writer, buffer.format(number).as_bytes())
+    for part in parts {
+        write_part(writer, *part)?;
+    }
+    Ok(())
 }

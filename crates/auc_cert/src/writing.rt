@@ -6,7 +6,7 @@ ghost use Rattle.auc_cert.specs.Text.{text, head_line, assign_line, price_line, 
 
 use crate::cert::{Cert, CertParts};
 use crate::lists::Pick;
-use crate::output::{WriteFault, write_count, write_number, write_whole};
+use crate::output::{Part, WriteFault, write_parts};
 use crate::reason::Reason;
 use std::io::Write;
 
@@ -14,12 +14,15 @@ use std::io::Write;
 fn write_optimal_head<W: Write>(writer: &mut W, persons: u64, cost: i64) -> Result<(), WriteFault>
     ensures { Writes result (W.contents writer.old) (W.contents writer.new) (head_line ++ optimal_line persons cost) }
 {
-    write_whole(writer, b"auction 1\noptimal ")?;
-    write_count(writer, persons)?;
-    write_whole(writer, b" ")?;
-    write_number(writer, cost)?;
-    write_whole(writer, b"\n")?;
-    Ok(())
+    let words = Part::Words(b"auction 1\noptimal ");
+    let parts = [
+        words,
+        Part::Count(persons),
+        Part::Space,
+        Part::Number(cost),
+        Part::LineEnd,
+    ];
+    write_parts(writer, &parts)
 }
 
 /// Writes the first two lines of an infeasible certificate.
@@ -30,12 +33,15 @@ fn write_infeasible_head<W: Write>(
 ) -> Result<(), WriteFault>
     ensures { Writes result (W.contents writer.old) (W.contents writer.new) (head_line ++ infeasible_line persons objects) }
 {
-    write_whole(writer, b"auction 1\ninfeasible ")?;
-    write_count(writer, persons)?;
-    write_whole(writer, b" ")?;
-    write_count(writer, objects)?;
-    write_whole(writer, b"\n")?;
-    Ok(())
+    let words = Part::Words(b"auction 1\ninfeasible ");
+    let parts = [
+        words,
+        Part::Count(persons),
+        Part::Space,
+        Part::Count(objects),
+        Part::LineEnd,
+    ];
+    write_parts(writer, &parts)
 }
 
 /// Writes the first two lines of a bracket.
@@ -48,44 +54,49 @@ fn write_bracket_head<W: Write>(
 ) -> Result<(), WriteFault>
     ensures { Writes result (W.contents writer.old) (W.contents writer.new) (head_line ++ bracket_line reason persons lower cost) }
 {
-    write_whole(writer, b"auction 1\nbracket ")?;
-    write_whole(writer, reason.word())?;
-    write_whole(writer, b" ")?;
-    write_count(writer, persons)?;
-    write_whole(writer, b" ")?;
-    write_number(writer, lower)?;
-    write_whole(writer, b" ")?;
-    write_number(writer, cost)?;
-    write_whole(writer, b"\n")?;
-    Ok(())
+    let parts = [
+        Part::Words(b"auction 1\nbracket "),
+        Part::Words(reason.word()),
+        Part::Space,
+        Part::Count(persons),
+        Part::Space,
+        Part::Number(lower),
+        Part::Space,
+        Part::Number(cost),
+        Part::LineEnd,
+    ];
+    write_parts(writer, &parts)
 }
 
 /// Writes the line of a person, who is numbered from 0.
 fn write_pick<W: Write>(writer: &mut W, person: u64, pick: Pick) -> Result<(), WriteFault>
-    requires { person < 2 ^ 32 }
     ensures { Writes result (W.contents writer.old) (W.contents writer.new) (assign_line person pick) }
 {
-    write_whole(writer, b"assign ")?;
-    write_count(writer, person + 1)?;
-    write_whole(writer, b" ")?;
-    write_count(writer, pick.object as u64 + 1)?;
-    write_whole(writer, b" ")?;
-    write_number(writer, pick.cost)?;
-    write_whole(writer, b"\n")?;
-    Ok(())
+    let object = Part::Place(pick.object as u64);
+    let parts = [
+        Part::Words(b"assign "),
+        Part::Place(person),
+        Part::Space,
+        object,
+        Part::Space,
+        Part::Number(pick.cost),
+        Part::LineEnd,
+    ];
+    write_parts(writer, &parts)
 }
 
 /// Writes the line of an object, which is numbered from 0.
 fn write_price<W: Write>(writer: &mut W, object: u64, price: i64) -> Result<(), WriteFault>
-    requires { object < 2 ^ 32 }
     ensures { Writes result (W.contents writer.old) (W.contents writer.new) (price_line object price) }
 {
-    write_whole(writer, b"price ")?;
-    write_count(writer, object + 1)?;
-    write_whole(writer, b" ")?;
-    write_number(writer, price)?;
-    write_whole(writer, b"\n")?;
-    Ok(())
+    let parts = [
+        Part::Words(b"price "),
+        Part::Place(object),
+        Part::Space,
+        Part::Number(price),
+        Part::LineEnd,
+    ];
+    write_parts(writer, &parts)
 }
 
 /// Writes the lines of all persons: `assign I J C` for the pick of person I, who takes object J at cost C, both numbered
@@ -122,8 +133,7 @@ fn write_choice<W: Write>(writer: &mut W, choice: &[Pick], prices: &[i64]) -> Re
     ensures { Writes result (W.contents writer.old) (W.contents writer.new) (joined (choice_lines choice.now prices.now)) }
 {
     write_picks(writer, choice)?;
-    write_prices(writer, prices)?;
-    Ok(())
+    write_prices(writer, prices)
 }
 
 fn write_optimal<W: Write>(
@@ -137,8 +147,7 @@ fn write_optimal<W: Write>(
     ensures { Writes result (W.contents writer.old) (W.contents writer.new) (text (CertParts.Optimal cost choice.now prices.now)) }
 {
     write_optimal_head(writer, choice.len() as u64, cost)?;
-    write_choice(writer, choice, prices)?;
-    Ok(())
+    write_choice(writer, choice, prices)
 }
 
 fn write_bracket<W: Write>(
@@ -154,8 +163,7 @@ fn write_bracket<W: Write>(
     ensures { Writes result (W.contents writer.old) (W.contents writer.new) (text (CertParts.Bracket reason lower cost choice.now prices.now)) }
 {
     write_bracket_head(writer, reason, choice.len() as u64, lower, cost)?;
-    write_choice(writer, choice, prices)?;
-    Ok(())
+    write_choice(writer, choice, prices)
 }
 
 /// Writes the lines of numbers, each behind this front.
@@ -163,9 +171,14 @@ fn write_numbers<W: Write>(writer: &mut W, front: &[u8], numbers: &[u32]) -> Res
     ensures { Writes result (W.contents writer.old) (W.contents writer.new) (joined (numbered (number_line front.now) 0 numbers.now)) }
 {
     for number in numbers {
-        write_whole(writer, front)?;
-        write_count(writer, *number as u64 + 1)?;
-        write_whole(writer, b"\n")?;
+        write_parts(
+            writer,
+            &[
+                Part::Words(front),
+                Part::Place(*number as u64),
+                Part::LineEnd,
+            ],
+        )?;
     }
     Ok(())
 }
@@ -179,12 +192,14 @@ fn write_infeasible<W: Write>(
 {
     write_infeasible_head(writer, persons.len() as u64, objects.len() as u64)?;
     write_numbers(writer, b"person ", persons)?;
-    write_numbers(writer, b"object ", objects)?;
-    Ok(())
+    write_numbers(writer, b"object ", objects)
 }
 
-/// Writes the text of a certificate, the one that [`read_cert`](crate::read_cert) reads. On an error some of it may have
-/// gone out. Takes O(persons) writes and no memory.
+/// Writes the text of a certificate, the one that [`read_cert`](crate::read_cert) reads. Takes O(persons) writes and no memory.
+///
+/// # Errors
+///
+/// As [`write_whole`](crate::write_whole), of the whole text: a beginning of it was written.
 pub fn write_cert<W: Write>(writer: &mut W, cert: &Cert) -> Result<(), WriteFault>
     ensures { Writes result (W.contents writer.old) (W.contents writer.new) (text cert.now) }
 {

@@ -8,7 +8,11 @@ pub mod LowerRange
 mod TokenLaws
 mod MagnitudeLaws
 mod NumberLaws
-mod ArcLaws
+mod StepLaws
+mod ShortLaws
+mod AlikeLaws
+mod PieceLaws
+mod EndLaws
 mod RowLaws
 mod CountLaws
 mod LayoutLaws

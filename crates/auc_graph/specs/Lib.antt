@@ -4,7 +4,7 @@ pub mod Tokens
 pub mod Numbers
 pub mod Problem
 pub mod Reading
-pub mod Triple
+pub mod Pieces
 pub mod Assignment
 pub mod HallSet
 pub mod Price

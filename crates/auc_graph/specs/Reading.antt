@@ -5,6 +5,8 @@ use Rattle.auc_graph.specs.declared.number.Number.TheVariants.{Bad, Value, Huge}
 use Rattle.auc_graph.specs.declared.arc.Arc.{Arc}
 use Rattle.auc_graph.specs.declared.read_error.ReadError.{ReadError}
 use Rattle.auc_graph.specs.declared.read_error.ReadError.TheVariants.{Empty, BadNumber, CountRange, TooManyArcs, PersonRange, ObjectRange, CostRange, Cut}
+use Rattle.auc_graph.specs.declared.stage.Stage.{Stage}
+use Rattle.auc_graph.specs.declared.stage.Stage.TheVariants.{AtCount, AtPerson, AtObject, AtCost}
 use Rattle.auc_graph.specs.declared.limits.TheConstants.{MOST_PERSONS, MOST_COST}
 use Rattle.auc_graph.specs.Numbers.{numbers}
 use Rattle.auc_graph.specs.Problem.{Problem}
@@ -42,15 +44,8 @@ problem persons objects arcs = record { persons = persons; objects = objects; ar
 abbrev pub room : ℕ → ℕ → Result ℕ ReadError
 room limit before = if nat_le limit before then Err TooManyArcs else Ok before
 
--- what the next number of a text is, and what is known by then: the numbers of persons and objects, and of the next arc
--- the person and the object
-pub data Stage : Type 0 where
-  AtCount : Stage
-  AtPerson : ℕ → ℕ → Stage
-  AtObject : ℕ → ℕ → ℕ → Stage
-  AtCost : ℕ → ℕ → ℕ → ℕ → Stage
-
--- the stage and the arcs behind some numbers of a text, or the first fault in them
+-- the stage and the arcs behind some numbers of a text, or the first fault in them; a stage knows the numbers of persons and objects,
+-- and of the next arc the person and the object, as far as they have been read
 abbrev pub State : Type 0
 State = Result (Stage × List Arc) ReadError
 

@@ -1,21 +1,25 @@
 //! Sparse assignment problems and their reader: a list of arcs is just what the text reads as.
 //!
-//! Reading takes one pass over the bytes of the text, with no copy of it, and 16 bytes of memory an arc. Persons,
-//! objects, tokens and arcs are numbered from 0.
+//! Reading takes one pass over the bytes of the text, whole or piece by piece, with no copy of it, and 16 bytes of memory an arc.
+//! Persons, objects, tokens and arcs are numbered from 0.
 #![tactic(auto)]
 
 mod arc;
 mod dual;
+mod front;
 mod indices;
 mod laws;
 mod layout;
 mod limits;
 mod number;
+mod pieces;
 mod read_error;
 mod reading;
 mod rows;
 mod spread;
+mod stage;
 mod tokens;
+mod unfinished;
 
 pub use arc::{Arc, ArcList};
 pub use dual::{dual_bound, is_lower, lower_of};
@@ -27,6 +31,6 @@ pub use laws::{
 pub use limits::{MOST_ARCS, MOST_COST, MOST_OBJECTS, MOST_PERSONS, MOST_READS};
 pub use number::{Number, number_of};
 pub use read_error::ReadError;
-pub use reading::{ReadLimits, read_arcs};
+pub use reading::{ReadLimits, read_arcs, read_arcs_from};
 pub use rows::{RowArc, Rows};
 pub use tokens::{Token, token_at};

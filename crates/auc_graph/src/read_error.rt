@@ -6,7 +6,7 @@ ghost use Rattle.auc_graph.specs.declared.read_error.ReadError.TheVariants.{NoMe
 use std::alloc::{AllocError, AllocFailed};
 use thiserror::Error;
 
-/// Why a text is no problem: its first fault. Tokens and arcs are numbered from 0.
+/// Why a text is no problem: its first fault; or why it was not read. Tokens and arcs are numbered from 0.
 #[derive(Clone, Copy, Debug, PartialEq, Eq, Error)]
 pub enum ReadError {
     /// There is no token.
@@ -36,6 +36,12 @@ pub enum ReadError {
     /// Memory ran out.
     #[error("out of memory")]
     NoMemory,
+    /// A read failed, or was interrupted.
+    #[error("a read failed")]
+    ReadFault,
+    /// As many reads as are allowed did not reach the end.
+    #[error("too many reads")]
+    TooManyReads,
 }
 
 impl From<AllocError> for ReadError {

@@ -1,18 +1,22 @@
-//! Reading of the problem from a text.
+//! Reading of the problem: from a text, or from a reader.
 
-ghost use Rattle.std.specs.Prelude.{◌≡◌, ◌≤◌, ◌<◌, ◌*◌, ◌^◌, ◌∷◌, [], neg_ℤ, ◌≤ℤ◌, Ok, IfSome, IfNone, IfOk, length, All};
+ghost use Rattle.std.specs.Prelude.{◌≡◌, ◌≤◌, List, ℕ};
+ghost use Rattle.std.specs.Io.KnownBytes.{Consumes};
 ghost use Rattle.auc_graph.specs.Memory.{AnswersUnless};
-ghost use Rattle.auc_graph.specs.Numbers.{numbers};
-ghost use Rattle.auc_graph.specs.Problem.{IsWithin};
-ghost use Rattle.auc_graph.specs.Reading.{within, index, cost, problem, AtPerson, reading_on, reading};
-ghost use Rattle.auc_graph.specs.Triple.{viewed, next, arc_at};
+ghost use Rattle.auc_graph.specs.Reading.{reading};
+ghost use Rattle.auc_graph.specs.Pieces.{IsRead};
 
-use crate::arc::{Arc, ArcList};
-use crate::limits::{MOST_ARCS, MOST_COST, MOST_PERSONS, MOST_READS};
-use crate::number::{Number, number_at};
+use crate::arc::ArcList;
+use crate::limits::{MOST_ARCS, MOST_READS};
+use crate::pieces::{is_want_of_memory, known_behind, problem_behind, stage_behind};
 use crate::read_error::ReadError;
-use crate::tokens::{from_place, separators_len};
+use crate::stage::Stage;
+use crate::tokens::from_place;
 use std::alloc::Global;
+use std::io::Read;
+
+/// The most bytes that are taken of a reader at a time.
+const PIECE: usize = 65_536;
 
 /// How much is read at most: so many arcs, and from a reader by so many calls of `read`.
 #[derive(Clone, Copy, Debug, PartialEq, Eq)]
@@ -34,143 +38,6 @@ impl ReadLimits {
     }
 }
 
-/// The number at the front, and the text behind it.
-#[inline(always)]
-fn next_number(bytes: &[u8]) -> Option<(Number, &[u8])>
-    ensures found { IfSome result (λ x. numbers bytes.now ≡ x.0 ∷ numbers x.1.now) }
-    ensures shorter { IfSome result (λ x. length x.1.now < length bytes.now) }
-    ensures none { IfNone result (numbers bytes.now ≡ []) }
-{
-    let start = separators_len(bytes);
-    if start >= bytes.len() {
-        return None;
-    }
-    let token = from_place(bytes, start);
-    let (number, len) = number_at(token);
-    Some((number, from_place(token, len)))
-}
-
-/// The number at the front, and the text behind it, or the error for a text that ends here.
-#[inline(always)]
-fn next_or(bytes: &[u8], cut: ReadError) -> Result<(Number, &[u8]), ReadError>
-    ensures exact { viewed (λ x. (x.0, numbers x.1.now)) result ≡ next cut (numbers bytes.now) }
-    ensures shorter { IfOk result (λ x. length x.1.now ≤ length bytes.now) }
-{
-    match next_number(bytes) {
-        Some(found) => Ok(found),
-        None => Err(cut),
-    }
-}
-
-/// The number at a token, where it is one and from least to most.
-fn within_of(
-    number: Number,
-    least: i64,
-    most: i64,
-    token: u64,
-    range: ReadError,
-) -> Result<i64, ReadError>
-    ensures exact { result ≡ within least most token range number }
-    ensures bounds { IfOk result (λ z. (least ≤ℤ z) × (z ≤ℤ most)) }
-{
-    match number {
-        Number::Bad => Err(ReadError::BadNumber { token }),
-        Number::Value(value) if least <= value && value <= most => Ok(value),
-        Number::Value(_) | Number::Huge => Err(range),
-    }
-}
-
-/// A number from 1 to most, as a number from 0.
-fn index_of(number: Number, most: u32, token: u64, range: ReadError) -> Result<u32, ReadError>
-    ensures exact { result ≡ index most token range number }
-    ensures below { IfOk result (λ i. i < most) }
-{
-    let value = within_of(number, 1, most as i64, token, range)?;
-    Ok((value - 1) as u32)
-}
-
-/// A cost within the limits.
-fn cost_of(number: Number, token: u64, range: ReadError) -> Result<i64, ReadError>
-    ensures exact { result ≡ cost token range number }
-    ensures bounds { IfOk result (λ z. (neg_ℤ MOST_COST ≤ℤ z) × (z ≤ℤ MOST_COST)) }
-{
-    within_of(number, -MOST_COST, MOST_COST, token, range)
-}
-
-/// The arc whose first number was read, and the text behind it.
-#[tactic(auto, unfolding(crate::specs::Triple::arc_at))]
-fn arc_after(
-    persons: u32,
-    objects: u32,
-    before: u64,
-    first: Number,
-    text: &[u8],
-) -> Result<(Arc, &[u8]), ReadError>
-    requires { before < 2 ^ 40 }
-    ensures exact { viewed (λ x. (x.0, numbers x.1.now)) result ≡ arc_at persons objects before first (numbers text.now) }
-    ensures within { IfOk result (λ x. IsWithin persons objects x.0) }
-    ensures shorter { IfOk result (λ x. length x.1.now ≤ length text.now) }
-{
-    let person = index_of(
-        first,
-        persons,
-        3 * before + 1,
-        ReadError::PersonRange { arc: before },
-    )?;
-    let (second, rest) = next_or(
-        text,
-        ReadError::Cut {
-            tokens: 3 * before + 2,
-        },
-    )?;
-    let object = index_of(
-        second,
-        objects,
-        3 * before + 2,
-        ReadError::ObjectRange { arc: before },
-    )?;
-    let (third, rest) = next_or(
-        rest,
-        ReadError::Cut {
-            tokens: 3 * before + 3,
-        },
-    )?;
-    let cost = cost_of(third, 3 * before + 3, ReadError::CostRange { arc: before })?;
-    Ok((
-        Arc {
-            person,
-            object,
-            cost,
-        },
-        rest,
-    ))
-}
-
-/// The arcs of a text behind its first number.
-fn arcs_of(
-    alloc: Global,
-    limit: u32,
-    persons: u32,
-    objects: u32,
-    text: &[u8],
-) -> Result<Vec<Arc>, ReadError>
-    ensures exact { AnswersUnless ReadError.NoMemory (λ v. problem persons objects v.items) result (λ r. reading_on limit (Ok (AtPerson persons objects, [])) (numbers text.now) ≡ r) }
-    ensures within { IfOk result (λ v. All (IsWithin persons objects) v.items) }
-    ensures few { IfOk result (λ v. length v.items ≤ limit) }
-{
-    let mut arcs = Vec::new(alloc);
-    let mut rest = text;
-    while let Some((first, after)) = next_number(rest) {
-        if arcs.len() >= limit as usize {
-            return Err(ReadError::TooManyArcs);
-        }
-        let (arc, after) = arc_after(persons, objects, arcs.len() as u64, first, after)?;
-        arcs.push(arc)?;
-        rest = after;
-    }
-    Ok(arcs)
-}
-
 /// The problem that a text reads as, or the first fault in the order of the text.
 ///
 /// Bytes 9 to 13, 26 and 32 part the text into tokens. The first token is the number of persons, who are as many as the
@@ -183,17 +50,58 @@ fn arcs_of(
 ///
 /// At a token [`ReadError::TooManyArcs`] comes first, then [`ReadError::BadNumber`], then the range of the number;
 /// [`ReadError::Cut`] and [`ReadError::Empty`] stand at the end of the text. [`ReadError::NoMemory`] may stand in place
-/// of any other answer, where memory was refused.
+/// of any other answer, where memory was refused. No text is a [`ReadError::ReadFault`] or has too many reads.
 ///
 /// Takes O(length) time and 16 bytes of memory an arc.
 pub fn read_arcs(alloc: Global, bytes: &[u8], limits: ReadLimits) -> Result<ArcList, ReadError>
     requires { limits.arcs ≤ MOST_ARCS }
     ensures { AnswersUnless ReadError.NoMemory (λ p. p) result (λ r. reading limits.arcs bytes.now ≡ r) }
 {
-    let (first, rest) = next_or(bytes, ReadError::Empty)?;
-    let before = index_of(first, MOST_PERSONS, 0, ReadError::CountRange)?;
-    let persons = before + 1;
-    let objects = persons;
-    let arcs = arcs_of(alloc, limits.arcs, persons, objects, rest)?;
-    Ok(ArcList::make(persons, objects, arcs))
+    let mut arcs = Vec::new(alloc);
+    let (stage, left) = stage_behind(limits.arcs, Stage::AtCount, &mut arcs, bytes)?;
+    let token = from_place(bytes, bytes.len() - left);
+    problem_behind(limits.arcs, stage, arcs, token)
+}
+
+/// The problem that the text of a reader reads as, as [`read_arcs`] says, or the first fault; no more of the text is kept than 32
+/// bytes of a token that isn't finished.
+///
+/// `limits.arcs` is the most arcs that are read, and `limits.reads` the most calls of `read`, the one that finds the end among
+/// them. A read that gives no bytes is the end; the reader is read up to there, also where a fault of the text was seen before.
+///
+/// # Errors
+///
+/// [`ReadError::ReadFault`] at the first read that fails, also by an interrupt: no read is tried again.
+/// [`ReadError::TooManyReads`] where so many reads gave bytes each. [`ReadError::NoMemory`] at once, where memory was refused. Each
+/// of these stands whatever fault of the text was seen before. Else the answer is that of [`read_arcs`] on the whole text.
+///
+/// Takes O(length) time, 16 bytes of memory an arc and 64 kB on the stack.
+pub fn read_arcs_from<R: Read>(
+    alloc: Global,
+    reader: &mut R,
+    limits: ReadLimits,
+) -> Result<ArcList, ReadError>
+    requires arcs { limits.arcs ≤ MOST_ARCS }
+    requires reads { limits.reads ≤ MOST_READS }
+    // A text was taken, all that the reader had unless it says otherwise; the answer is that of the whole text.
+    ensures { (text : List ℕ) × Consumes (R.remaining reader.old) (R.remaining reader.new) text × IsRead limits (R.remaining reader.new) text result }
+{
+    let mut arcs = Vec::new(alloc);
+    let mut known = Ok(Stage::AtCount);
+    let mut piece = [0u8; PIECE];
+    let mut kept = 0;
+    for _done in 0..limits.reads {
+        let Ok(count) = reader.read(&mut piece[kept..]) else {
+            return Err(ReadError::ReadFault);
+        };
+        if count == 0 {
+            let stage = known?;
+            return problem_behind(limits.arcs, stage, arcs, &piece[..kept]);
+        }
+        (known, kept) = known_behind(limits.arcs, known, &mut arcs, &mut piece, kept + count);
+        if is_want_of_memory(&known) {
+            return Err(ReadError::NoMemory);
+        }
+    }
+    Err(ReadError::TooManyReads)
 }

@@ -1,11 +1,19 @@
--- A problem at the exits of its reading.
-use Rattle.std.proofs.Common.{◌≡◌, ℕ, List, [], Option, Some, None, Result, Ok, Err, refl, sym, subst}
+-- A problem that a reader's text reads as.
+use Rattle.std.proofs.Common.{◌≡◌, ◌≤◌, ℕ, List, [], ◌++◌, length, Option, Some, None, Result, Ok, Err, refl, sym, subst, ap, ◌∙◌, arith}
 use Rattle.std.specs.Prelude.{IsErrAnd}
+use Rattle.std.specs.Io.KnownBytes.{Consumes, IsAtEnd}
+use Rattle.std.proofs.KnownBytes.{Consumes-whole}
+use Rattle.std.proofs.lemmas.List.{length-append}
+use Rattle.auc_graph.specs.declared.limits.TheConstants.{MOST_ARCS, MOST_READS}
+use Rattle.auc_graph.specs.declared.read_error.ReadError.{ReadError}
+use Rattle.auc_graph.specs.declared.read_error.ReadError.TheVariants.{Empty, BadNumber, CountRange, TooManyArcs, PersonRange, ObjectRange, CostRange, Cut, NoMemory, ReadFault, TooManyReads}
+use Rattle.auc_graph.specs.declared.reading.ReadLimits.{ReadLimits}
 use Rattle.auc_graph.specs.Problem.{Problem}
-use Rattle.auc_run.specs.declared.input.ReadFault.{ReadFault}
+use Rattle.auc_graph.specs.Reading.{reading}
+use Rattle.auc_graph.specs.Pieces.{IsRead}
 use Rattle.auc_run.specs.declared.refusal.Refusal.{Refusal}
-use Rattle.auc_run.specs.declared.refusal.Refusal.TheVariants.{NotRead}
-use Rattle.auc_run.specs.Problems.{AreKnown, IsProblemIn}
+use Rattle.auc_run.specs.declared.refusal.Refusal.TheVariants.{NoProblem}
+use Rattle.auc_run.specs.Problems.{AreKnown, IsProblemIn, ReadsAsProblem}
 
 -- the known bytes, or none
 abbrev pub known : Option (List ℕ) → List ℕ
@@ -16,6 +24,32 @@ pub are_known : (a : Option (List ℕ)) → AreKnown a (known a)
 are_known None = tt
 are_known (Some xs) = refl
 
-pub input_fails : (reader : Option (List ℕ)) (r : Result Problem Refusal) (e : ReadFault) → IsErrAnd r (λ x. x ≡ NotRead e) → IsProblemIn reader r
-input_fails reader (Ok x) e p = absurd p
-input_fails reader (Err x) e p = subst (λ (y : Refusal). IsProblemIn reader (Err y)) (sym p) (known reader, are_known reader, tt)
+-- more was known than was taken
+many : (old new : Option (List ℕ)) (text : List ℕ) (n : ℕ) → Consumes old new text → n ≤ length text → (file : List ℕ) × AreKnown old file × (n ≤ length file)
+many None new text n c le = (text, tt, le)
+many (Some xs) None text n c le = absurd c
+many (Some xs) (Some ys) text n c le = (xs, refl, omega (arith, ap length c, length-append text ys, le))
+
+module _ (limits : ReadLimits) (old new : Option (List ℕ)) (text : List ℕ) (arcs_is : limits.arcs ≡ MOST_ARCS) (reads_is : limits.reads ≡ MOST_READS) (taken : Consumes old new text) where
+  -- at the end the whole file was taken
+  whole : (answer : Result Problem ReadError) → IsAtEnd new × (reading limits.arcs text ≡ answer) → (file : List ℕ) × AreKnown old file × (reading MOST_ARCS file ≡ answer)
+  whole answer h = (text, Consumes-whole old new text (λ xs. text ≡ xs) taken h.0 refl, ap (λ (n : ℕ). reading n text) (sym arcs_is) ∙ h.1)
+
+  pub read_in : (answer : Result Problem ReadError) → IsRead limits new text answer → (file : List ℕ) × AreKnown old file × ReadsAsProblem file answer
+  read_in (Ok p) h = whole (Ok p) h
+  read_in (Err Empty) h = whole (Err Empty) h
+  read_in (Err (BadNumber token)) h = whole (Err (BadNumber token)) h
+  read_in (Err CountRange) h = whole (Err CountRange) h
+  read_in (Err TooManyArcs) h = whole (Err TooManyArcs) h
+  read_in (Err (PersonRange arc)) h = whole (Err (PersonRange arc)) h
+  read_in (Err (ObjectRange arc)) h = whole (Err (ObjectRange arc)) h
+  read_in (Err (CostRange arc)) h = whole (Err (CostRange arc)) h
+  read_in (Err (Cut tokens)) h = whole (Err (Cut tokens)) h
+  read_in (Err NoMemory) h = (known old, are_known old, tt)
+  read_in (Err ReadFault) h = (known old, are_known old, tt)
+  read_in (Err TooManyReads) h = many old new text MOST_READS taken (omega (arith, h, reads_is))
+
+-- a refusal that is this fault
+pub refused_in : (reader : Option (List ℕ)) (r : Result Problem Refusal) (e : ReadError) → IsErrAnd r (λ x. x ≡ NoProblem e) → (file : List ℕ) × AreKnown reader file × ReadsAsProblem file (Err e) → IsProblemIn reader r
+refused_in reader (Ok x) e p h = absurd p
+refused_in reader (Err x) e p h = subst (λ (y : Refusal). IsProblemIn reader (Err y)) (sym p) h

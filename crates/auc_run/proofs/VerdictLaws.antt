@@ -1,6 +1,7 @@
 -- Verdicts at the exits of a check.
 use Rattle.std.proofs.Common.{◌≡◌, ◌≢◌, ℕ, List, Option, Result, Ok, Err, refl, sym, subst}
 use Rattle.std.specs.Prelude.{IsErrAnd}
+use Rattle.auc_graph.specs.Problem.{Problem}
 use Rattle.auc_run.specs.declared.input.ReadFault.{ReadFault}
 use Rattle.auc_run.specs.declared.refusal.Refusal.{Refusal}
 use Rattle.auc_run.specs.declared.refusal.Refusal.TheVariants.{NotRead, NoProblem, NoCertificate, Invalid, NoScript, NoMemory as NoMemoryForJob, NoThreads}
@@ -14,12 +15,13 @@ turned : (a b : Option (List ℕ)) (r : Result Valid Refusal) (e : Refusal) → 
 turned a b (Ok z) e p v = absurd p
 turned a b (Err x) e p v = subst (λ (y : Refusal). IsVerdict a b (Err y)) (sym p) v
 
-pub input_fails : (a b : Option (List ℕ)) (r : Result Valid Refusal) (e : ReadFault) → IsErrAnd r (λ x. x ≡ NotRead e) → IsVerdict a b r
-input_fails a b r e p = turned a b r (NotRead e) p (known a, known b, are_known a, are_known b, tt)
+-- the problem was read, and the certificate was not
+pub input_fails : (a b : Option (List ℕ)) (r : Result Valid Refusal) (problem : Problem) (e : ReadFault) → IsProblemIn a (Ok problem) → IsErrAnd r (λ x. x ≡ NotRead e) → IsVerdict a b r
+input_fails a b r problem e h p = turned a b r (NotRead e) p (h.0, known b, h.1, are_known b, (problem, h.2))
 
 -- no problem was read, and the certificate was left unread
 not_read : (a b : Option (List ℕ)) (e : Refusal) → IsProblemIn a (Err e) → e ≢ NoMemoryForJob → IsVerdict a b (Err e)
-not_read a b (NotRead fault) h other = (h.0, known b, h.1, are_known b, tt)
+not_read a b (NotRead fault) h other = absurd h.2
 not_read a b (NoProblem error) h other = (h.0, known b, h.1, are_known b, h.2)
 not_read a b (NoCertificate error) h other = absurd h.2
 not_read a b (Invalid error) h other = absurd h.2

@@ -2,13 +2,13 @@
 use Rattle.std.specs.Prelude.{ℕ, ◌+◌, List, ◌++◌, codes}
 use Rattle.std.specs.Fmt.{decimal, signed_decimal}
 use Rattle.auc_graph.specs.declared.read_error.ReadError.{ReadError}
-use Rattle.auc_graph.specs.declared.read_error.ReadError.TheVariants.{Empty, BadNumber, CountRange, TooManyArcs, PersonRange, ObjectRange, CostRange, Cut, NoMemory}
+use Rattle.auc_graph.specs.declared.read_error.ReadError.TheVariants.{Empty, BadNumber, CountRange, TooManyArcs, PersonRange, ObjectRange, CostRange, Cut, NoMemory, ReadFault, TooManyReads}
 use Rattle.auc_cert.specs.declared.refused.CertRefused.{CertRefused}
 use Rattle.auc_cert.specs.declared.refused.CertRefused.TheVariants.{WrongSize, NoSuchArc, ObjectTwice, WrongCost, Slack, NotHall, WrongBound, NoMemory as NoMemoryToCheck}
 use Rattle.auc_cert.specs.declared.text_error.CertTextError.{CertTextError}
 use Rattle.auc_cert.specs.declared.text_error.CertTextError.TheVariants.{Line, NoMemory as NoMemoryForText}
-use Rattle.auc_run.specs.declared.input.ReadFault.{ReadFault}
-use Rattle.auc_run.specs.declared.input.ReadFault.TheVariants.{Failed, TooManyReads, NoMemory as NoMemoryToRead}
+use Rattle.auc_run.specs.declared.input.ReadFault.{ReadFault as InputFault}
+use Rattle.auc_run.specs.declared.input.ReadFault.TheVariants.{Failed, TooManyReads as TooManyInputReads, NoMemory as NoMemoryToRead}
 use Rattle.auc_run.specs.declared.refusal.Refusal.{Refusal}
 use Rattle.auc_run.specs.declared.refusal.Refusal.TheVariants.{NotRead, NoProblem, NoCertificate, Invalid, NoScript, NoMemory as NoMemoryForJob, NoThreads}
 use Rattle.auc_run.specs.declared.valid.Valid.{Valid}
@@ -20,9 +20,9 @@ use Rattle.auc_run.specs.declared.script_error.ScriptError.TheVariants.{Word, Ra
 abbrev pub counted : List ℕ → ℕ → List ℕ
 counted words n = words ++ decimal n ++ codes "\n"
 
-abbrev pub input_line : ReadFault → List ℕ
+abbrev pub input_line : InputFault → List ℕ
 input_line Failed = codes "refused read\n"
-input_line TooManyReads = codes "refused reads\n"
+input_line TooManyInputReads = codes "refused reads\n"
 input_line NoMemoryToRead = codes "refused memory\n"
 
 -- tokens and arcs are written from 1 on
@@ -36,6 +36,8 @@ problem_line (ObjectRange arc) = counted (codes "refused object ") (arc + 1)
 problem_line (CostRange arc) = counted (codes "refused cost ") (arc + 1)
 problem_line (Cut tokens) = counted (codes "refused cut ") tokens
 problem_line NoMemory = codes "refused memory\n"
+problem_line ReadFault = codes "refused read\n"
+problem_line TooManyReads = codes "refused reads\n"
 
 -- lines are written from 1 on
 abbrev pub certificate_line : CertTextError → List ℕ

@@ -1,17 +1,20 @@
 -- The problem that a reader has, or why a job on it is refused.
-use Rattle.std.specs.Prelude.{◌≡◌, ℕ, List, Option, IfSome, Result, Ok, Err, ⊤}
-use Rattle.auc_graph.specs.declared.limits.TheConstants.{MOST_ARCS}
+use Rattle.std.specs.Prelude.{◌≡◌, ◌≤◌, ℕ, List, length, Option, IfSome, Result, Ok, Err, ⊤}
+use Rattle.auc_graph.specs.declared.limits.TheConstants.{MOST_ARCS, MOST_READS}
 use Rattle.auc_graph.specs.declared.read_error.ReadError.{ReadError}
-use Rattle.auc_graph.specs.declared.read_error.ReadError.TheVariants.{NoMemory}
-use Rattle.auc_graph.specs.Memory.{AnswersUnless}
+use Rattle.auc_graph.specs.declared.read_error.ReadError.TheVariants.{NoMemory, ReadFault, TooManyReads}
 use Rattle.auc_graph.specs.Problem.{Problem}
 use Rattle.auc_graph.specs.Reading.{reading}
 use Rattle.auc_run.specs.declared.refusal.Refusal.{Refusal}
 use Rattle.auc_run.specs.declared.refusal.Refusal.TheVariants.{NotRead, NoProblem, NoCertificate, Invalid, NoScript, NoMemory as NoMemoryForJob, NoThreads}
 
--- a file reads as this problem, or by this first fault as none, unless memory ran out
+-- A file reads as this problem, or by this first fault as none. Of a read that failed, and of want of memory, nothing is known; too many reads
+-- have each taken a byte.
 abbrev pub ReadsAsProblem : List ℕ → Result Problem ReadError → Type 0
-ReadsAsProblem file problem = AnswersUnless NoMemory (λ p. p) problem (λ r. reading MOST_ARCS file ≡ r)
+ReadsAsProblem file (Err NoMemory) = ⊤
+ReadsAsProblem file (Err ReadFault) = ⊤
+ReadsAsProblem file (Err TooManyReads) = MOST_READS ≤ length file
+ReadsAsProblem file answer = reading MOST_ARCS file ≡ answer
 
 -- the problem that a file reads as
 abbrev pub IsProblemOf : List ℕ → Problem → Type 0
@@ -21,10 +24,10 @@ IsProblemOf file p = ReadsAsProblem file (Ok p)
 abbrev pub AreKnown : Option (List ℕ) → List ℕ → Type 0
 AreKnown known bytes = IfSome known (λ xs. bytes ≡ xs)
 
--- The bytes of a problem bear out the refusal of a job that has no other input. Of a read that failed, of too many reads and of want of memory nothing is known.
+-- The bytes of a problem bear out the refusal of a job that has no other input. Of want of memory behind the reading nothing is known.
 abbrev pub BearOutRefusal : List ℕ → Refusal → Type 0
 BearOutRefusal file (NoProblem error) = ReadsAsProblem file (Err error)
-BearOutRefusal file (NotRead fault) = ⊤
+BearOutRefusal file (NotRead fault) = ⊥
 BearOutRefusal file NoMemoryForJob = ⊤
 BearOutRefusal file NoThreads = ⊥
 BearOutRefusal file (NoCertificate error) = ⊥

@@ -1,6 +1,7 @@
 -- What a job may write, and its status, by what it was given to read.
 use Rattle.std.specs.Prelude.{◌≡◌, ℕ, List, Option, Result, Ok, Err, ℤ}
 use Rattle.std.specs.Io.KnownBytes.{Appends}
+use Rattle.auc_cert.specs.Writing.{Begins}
 use Rattle.auc_mail.specs.declared.call.Reply.{Reply}
 use Rattle.auc_world.specs.declared.answer.Answer.{Answer}
 use Rattle.auc_run.specs.declared.command.Job.{Job}
@@ -38,3 +39,7 @@ IsOutcome job first second outcome = (file : List ℕ) × (cert : List ℕ) × A
 abbrev pub Said : Job → Option (List ℕ) → Option (List ℕ) → Option (List ℕ) → Option (List ℕ) → ℕ → Type 0
 Said job first second before after status =
     (outcome : Result Report Refusal) × IsOutcome job first second outcome × Appends before after (outcome_text outcome) × (status ≡ outcome_status outcome)
+
+-- a job wrote a beginning of the text of an outcome on what the two readers had, and not all of it
+abbrev pub SaidInPart : Job → Option (List ℕ) → Option (List ℕ) → Option (List ℕ) → Option (List ℕ) → Type 0
+SaidInPart job first second before after = (outcome : Result Report Refusal) × IsOutcome job first second outcome × Begins before after (outcome_text outcome)

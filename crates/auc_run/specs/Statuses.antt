@@ -2,21 +2,21 @@
 -- and 6 where memory ran out.
 use Rattle.std.specs.Prelude.{ℕ}
 use Rattle.auc_graph.specs.declared.read_error.ReadError.{ReadError}
-use Rattle.auc_graph.specs.declared.read_error.ReadError.TheVariants.{Empty, BadNumber, CountRange, TooManyArcs, PersonRange, ObjectRange, CostRange, Cut, NoMemory}
+use Rattle.auc_graph.specs.declared.read_error.ReadError.TheVariants.{Empty, BadNumber, CountRange, TooManyArcs, PersonRange, ObjectRange, CostRange, Cut, NoMemory, ReadFault, TooManyReads}
 use Rattle.auc_cert.specs.declared.refused.CertRefused.{CertRefused}
 use Rattle.auc_cert.specs.declared.refused.CertRefused.TheVariants.{WrongSize, NoSuchArc, ObjectTwice, WrongCost, Slack, NotHall, WrongBound, NoMemory as NoMemoryToCheck}
 use Rattle.auc_cert.specs.declared.text_error.CertTextError.{CertTextError}
 use Rattle.auc_cert.specs.declared.text_error.CertTextError.TheVariants.{Line, NoMemory as NoMemoryForText}
-use Rattle.auc_run.specs.declared.input.ReadFault.{ReadFault}
-use Rattle.auc_run.specs.declared.input.ReadFault.TheVariants.{Failed, TooManyReads, NoMemory as NoMemoryToRead}
+use Rattle.auc_run.specs.declared.input.ReadFault.{ReadFault as InputFault}
+use Rattle.auc_run.specs.declared.input.ReadFault.TheVariants.{Failed, TooManyReads as TooManyInputReads, NoMemory as NoMemoryToRead}
 use Rattle.auc_run.specs.declared.refusal.Refusal.{Refusal}
 use Rattle.auc_run.specs.declared.refusal.Refusal.TheVariants.{NotRead, NoProblem, NoCertificate, Invalid, NoScript, NoMemory as NoMemoryForJob, NoThreads}
 use Rattle.auc_run.specs.declared.script_error.ScriptError.{ScriptError}
 use Rattle.auc_run.specs.declared.script_error.ScriptError.TheVariants.{Word, Range, Cut as CutScript, TooManyCalls, NoMemory as NoMemoryForScript}
 
-abbrev pub input_status : ReadFault → ℕ
+abbrev pub input_status : InputFault → ℕ
 input_status Failed = 5
-input_status TooManyReads = 5
+input_status TooManyInputReads = 5
 input_status NoMemoryToRead = 6
 
 abbrev pub problem_status : ReadError → ℕ
@@ -29,6 +29,8 @@ problem_status (ObjectRange arc) = 5
 problem_status (CostRange arc) = 5
 problem_status (Cut tokens) = 5
 problem_status NoMemory = 6
+problem_status ReadFault = 5
+problem_status TooManyReads = 5
 
 abbrev pub certificate_status : CertTextError → ℕ
 certificate_status (Line k) = 5

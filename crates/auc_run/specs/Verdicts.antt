@@ -43,14 +43,14 @@ Judges p c (Err (NoScript error)) = ⊥
 Judges p c (Err NoMemoryForJob) = ⊥
 Judges p c (Err NoThreads) = ⊥
 
--- The bytes of a problem and of a certificate bear a verdict out. Of a read that failed, of too many reads and of want of memory in reading nothing is known.
+-- The bytes of a problem and of a certificate bear a verdict out. Where the certificate could not be read, or memory ran out, nothing is known of it.
 abbrev pub BearOut : List ℕ → List ℕ → Result Valid Refusal → Type 0
 BearOut file cert (Ok valid) = (p : Problem) × (c : CertParts) × IsProblemOf file p × IsClaimOf cert c × Judges p c (Ok valid)
 BearOut file cert (Err (Invalid error)) = (p : Problem) × (c : CertParts) × IsProblemOf file p × IsClaimOf cert c × Judges p c (Err (Invalid error))
 BearOut file cert (Err (NoCertificate (Line k))) = (p : Problem) × IsProblemOf file p × IsFirstBadLine cert k
 BearOut file cert (Err (NoCertificate NoMemoryForText)) = ⊤
 BearOut file cert (Err (NoProblem error)) = ReadsAsProblem file (Err error)
-BearOut file cert (Err (NotRead fault)) = ⊤
+BearOut file cert (Err (NotRead fault)) = (p : Problem) × IsProblemOf file p
 BearOut file cert (Err (NoScript error)) = ⊥
 BearOut file cert (Err NoMemoryForJob) = ⊥
 BearOut file cert (Err NoThreads) = ⊥

@@ -6,7 +6,7 @@ ghost use Rattle.auc_cert.specs.Spelled.{IsSpelled};
 ghost use Rattle.auc_run.specs.Verdicts.{Judges, IsVerdict, said_by};
 ghost use Rattle.auc_run.specs.Jobs.{IsInRange, IsPlain};
 ghost use Rattle.auc_run.specs.Reports.{IsWritable};
-ghost use Rattle.auc_run.specs.Said.{IsOutcome, Said};
+ghost use Rattle.auc_run.specs.Said.{IsOutcome, Said, SaidInPart};
 
 use crate::hall::found_of;
 use crate::input::read_all;
@@ -140,13 +140,13 @@ fn outcome_by_threads<H: Threads + Wait + Sync, R: Read, G: Gate + Sync>(
 /// status, one of [`crate::status`]. Each reader is read to its end, by at most [`MOST_READS`] reads, and a failed read
 /// is never tried again. The writer is not flushed.
 ///
-/// Nothing is promised of what was written where the status is [`crate::status::UNWRITTEN`]: a write failed, or took no bytes.
+/// Where the status is [`crate::status::UNWRITTEN`] a write failed, or took no bytes: a beginning of the answer was written, and not all of it.
 ///
-/// A solve takes the time of the auction, by [`auc_world::solve_serial`], and of one check; its memory is that of the input
-/// while it is read, and then 28 bytes an arc and what its shards and mails take, which is linear in the persons.
-/// A check takes O(bytes) time; its memory is that of one input at a time, and 16 bytes an arc. A hall takes that and the
-/// time of its search, see [`auc_hall::complete`], and 28 bytes an arc. A mail takes the time of its
-/// calls, and memory for its lanes, its letters and a reply for each call.
+/// A problem is read piece by piece; a certificate and a script are read whole. A solve takes the time of the auction, by
+/// [`auc_world::solve_serial`], and of one check, and 28 bytes of memory an arc and what its shards and mails take, which is linear in the
+/// persons. A check takes O(bytes) time, and 16 bytes of memory an arc and that of the certificate's text. A hall takes the time
+/// of its search, see [`auc_hall::complete`], and 28 bytes of memory an arc. A mail takes the time of its calls, and memory for its script, its
+/// lanes, its letters and a reply for each call.
 pub fn run_plain<R: Read, Q: Read, W: Write>(
     alloc: Global,
     job: &Job,
@@ -160,6 +160,8 @@ pub fn run_plain<R: Read, Q: Read, W: Write>(
     requires plain { IsPlain job.now }
     // What was written and the status are right for the bytes that were read.
     ensures said { result ≢ 8 → Said job.now (R.remaining reader.old) (Q.remaining second.old) (W.contents writer.old) (W.contents writer.new) result }
+    // Where not all of it could be written, a beginning of such a text was.
+    ensures unwritten { result ≡ 8 → SaidInPart job.now (R.remaining reader.old) (Q.remaining second.old) (W.contents writer.old) (W.contents writer.new) }
     // A certificate for what is no problem is left unread.
     ensures unread { IfSome (R.remaining reader.old) (λ file. IsErr (reading MOST_ARCS file) → second.new ≡ second.old) }
     // Only a check has a second input.
@@ -186,6 +188,8 @@ pub fn run_command<H: Threads + Wait + Sync, R: Read, Q: Read, W: Write, G: Gate
     requires range { IsInRange job.now }
     // What was written and the status are right for the bytes that were read.
     ensures said { result ≢ 8 → Said job.now (R.remaining reader.old) (Q.remaining second.old) (W.contents writer.old) (W.contents writer.new) result }
+    // Where not all of it could be written, a beginning of such a text was.
+    ensures unwritten { result ≡ 8 → SaidInPart job.now (R.remaining reader.old) (Q.remaining second.old) (W.contents writer.old) (W.contents writer.new) }
     // A certificate for what is no problem is left unread.
     ensures unread { IfSome (R.remaining reader.old) (λ file. IsErr (reading MOST_ARCS file) → second.new ≡ second.old) }
     // Only a check has a second input.

@@ -63,7 +63,7 @@ pub(crate) fn write_found<W: Write>(writer: &mut W, found: &Found) -> Result<(),
     match found {
         Found::Full(choice) => {
             let choice = choice.as_slice();
-            write_counted(writer, b"full ", choice.len() as u128)?;
+            write_counted(writer, b"full ", choice.len() as u64)?;
             write_picks(writer, choice)
         }
         Found::Hall(cert) => write_cert(writer, cert),

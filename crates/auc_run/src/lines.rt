@@ -9,62 +9,63 @@ use crate::input::ReadFault;
 use crate::refusal::Refusal;
 use crate::script_error::ScriptError;
 use crate::valid::Valid;
-use auc_cert::{CertRefused, CertTextError, WriteFault, write_count, write_number, write_whole};
+use auc_cert::{CertRefused, CertTextError, Part, WriteFault, write_parts, write_whole};
 use auc_graph::ReadError;
-use itoa::Buffer;
 use std::io::Write;
 
 /// Writes words, a number and the line end.
 pub(crate) fn write_counted<W: Write>(
     writer: &mut W,
     words: &[u8],
-    number: u128,
+    number: u64,
 ) -> Result<(), WriteFault>
     ensures { Writes result (W.contents writer.old) (W.contents writer.new) (counted words.now number) }
 {
-    let mut buffer = Buffer::new();
-    write_whole(writer, words)?;
-    write_whole(writer, buffer.format(number).as_bytes())?;
-    write_whole(writer, b"\n")?;
-    Ok(())
+    let parts = [Part::Words(words), Part::Count(number), Part::LineEnd];
+    write_parts(writer, &parts)
 }
 
 /// Writes the number from 1 on of what is numbered from 0.
 fn write_place<W: Write>(writer: &mut W, words: &[u8], place: u64) -> Result<(), WriteFault>
     ensures { Writes result (W.contents writer.old) (W.contents writer.new) (counted words.now (place + 1)) }
 {
-    write_counted(writer, words, place as u128 + 1)
+    let parts = [Part::Words(words), Part::Place(place), Part::LineEnd];
+    write_parts(writer, &parts)
 }
 
 fn write_optimal<W: Write>(writer: &mut W, cost: i64) -> Result<(), WriteFault>
     ensures { Writes result (W.contents writer.old) (W.contents writer.new) (valid_line (Optimal cost)) }
 {
-    write_whole(writer, b"valid optimal ")?;
-    write_number(writer, cost)?;
-    write_whole(writer, b"\n")?;
-    Ok(())
+    let words = Part::Words(b"valid optimal ");
+    write_parts(writer, &[words, Part::Number(cost), Part::LineEnd])
 }
 
 fn write_bracket<W: Write>(writer: &mut W, lower: i64, cost: i64) -> Result<(), WriteFault>
     ensures { Writes result (W.contents writer.old) (W.contents writer.new) (valid_line (Bracket lower cost)) }
 {
-    write_whole(writer, b"valid bracket ")?;
-    write_number(writer, lower)?;
-    write_whole(writer, b" ")?;
-    write_number(writer, cost)?;
-    write_whole(writer, b"\n")?;
-    Ok(())
+    let words = Part::Words(b"valid bracket ");
+    let parts = [
+        words,
+        Part::Number(lower),
+        Part::Space,
+        Part::Number(cost),
+        Part::LineEnd,
+    ];
+    write_parts(writer, &parts)
 }
 
 fn write_infeasible<W: Write>(writer: &mut W, persons: u64, objects: u64) -> Result<(), WriteFault>
     ensures { Writes result (W.contents writer.old) (W.contents writer.new) (valid_line (Infeasible persons objects)) }
 {
-    write_whole(writer, b"valid infeasible ")?;
-    write_count(writer, persons)?;
-    write_whole(writer, b" ")?;
-    write_count(writer, objects)?;
-    write_whole(writer, b"\n")?;
-    Ok(())
+    let words = Part::Words(b"valid infeasible ");
+    let parts = [
+        words,
+        Part::Count(persons),
+        Part::Space,
+        Part::Count(objects),
+        Part::LineEnd,
+    ];
+    write_parts(writer, &parts)
 }
 
 /// Writes the one line of a claim that holds.
@@ -101,8 +102,10 @@ fn write_problem<W: Write>(writer: &mut W, error: ReadError) -> Result<(), Write
         ReadError::PersonRange { arc } => write_place(writer, b"refused person ", arc),
         ReadError::ObjectRange { arc } => write_place(writer, b"refused object ", arc),
         ReadError::CostRange { arc } => write_place(writer, b"refused cost ", arc),
-        ReadError::Cut { tokens } => { write_counted(writer, b"refused cut ", tokens as u128) }
+        ReadError::Cut { tokens } => { write_counted(writer, b"refused cut ", tokens) }
         ReadError::NoMemory => write_whole(writer, b"refused memory\n"),
+        ReadError::ReadFault => write_whole(writer, b"refused read\n"),
+        ReadError::TooManyReads => write_whole(writer, b"refused reads\n"),
     }
 }
 
@@ -138,7 +141,7 @@ fn write_script<W: Write>(writer: &mut W, error: ScriptError) -> Result<(), Writ
     match error {
         ScriptError::Word { token } => write_place(writer, b"refused word ", token),
         ScriptError::Range { token } => write_place(writer, b"refused range ", token),
-        ScriptError::Cut { tokens } => write_counted(writer, b"refused cut ", tokens as u128),
+        ScriptError::Cut { tokens } => write_counted(writer, b"refused cut ", tokens),
         ScriptError::TooManyCalls => write_whole(writer, b"refused calls\n"),
         ScriptError::NoMemory => write_whole(writer, b"refused memory\n"),
     }

@@ -14,9 +14,9 @@ use std::alloc::AllocError;
 /// Why a job was refused. Of a check the problem is read and judged first, then the certificate, then the claim.
 #[derive(Clone, Copy, Debug, PartialEq, Eq)]
 pub enum Refusal {
-    /// An input was not read to its end.
+    /// The certificate or the script was not read to its end.
     NotRead(ReadFault),
-    /// The first input is no problem.
+    /// The first input is no problem, or was not read to its end.
     NoProblem(ReadError),
     /// The second input is no certificate.
     NoCertificate(CertTextError),

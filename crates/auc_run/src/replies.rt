@@ -7,7 +7,7 @@ ghost use Rattle.auc_mail.specs.declared.call.Taken.TheVariants.{Letter};
 ghost use Rattle.auc_run.specs.Replies.{reply_line, reply_lines};
 
 use crate::lines::write_counted;
-use auc_cert::{WriteFault, write_count, write_number, write_whole};
+use auc_cert::{Part, WriteFault, write_parts, write_whole};
 use auc_mail::{PostRefused, Reply, Taken};
 use std::io::Write;
 use std::marker::Model;
@@ -52,14 +52,17 @@ fn write_letter<W: Write>(
 ) -> Result<(), WriteFault>
     ensures { Writes result (W.contents writer.old) (W.contents writer.new) (reply_line (Took (Letter sender number item))) }
 {
-    write_whole(writer, b"letter ")?;
-    write_count(writer, sender as u64 + 1)?;
-    write_whole(writer, b" ")?;
-    write_count(writer, number)?;
-    write_whole(writer, b" ")?;
-    write_number(writer, item)?;
-    write_whole(writer, b"\n")?;
-    Ok(())
+    let sender = Part::Place(sender as u64);
+    let parts = [
+        Part::Words(b"letter "),
+        sender,
+        Part::Space,
+        Part::Count(number),
+        Part::Space,
+        Part::Number(item),
+        Part::LineEnd,
+    ];
+    write_parts(writer, &parts)
 }
 
 fn write_refused<W: Write>(writer: &mut W, refused: PostRefused) -> Result<(), WriteFault>
@@ -101,7 +104,7 @@ fn write_reply<W: Write>(writer: &mut W, reply: Reply<i64>) -> Result<(), WriteF
     ensures { Writes result (W.contents writer.old) (W.contents writer.new) (reply_line reply) }
 {
     match reply {
-        Reply::Posted(number) => write_counted(writer, b"ok ", number as u128),
+        Reply::Posted(number) => write_counted(writer, b"ok ", number),
         Reply::Refused(refused) => write_refused(writer, refused),
         Reply::Took(taken) => write_taken(writer, taken),
         Reply::WasOpen(was_open) => write_closed(writer, was_open),

@@ -1,8 +1,8 @@
 //! What a job has to tell: how it is written, and its status.
 
-ghost use Rattle.std.specs.Prelude.{◌≡◌, ◌≢◌, IfOk};
+ghost use Rattle.std.specs.Prelude.{◌≡◌, ◌≢◌, ◌<◌, IfOk};
 ghost use Rattle.std.specs.Io.KnownBytes.{Appends};
-ghost use Rattle.auc_cert.specs.Writing.{Writes};
+ghost use Rattle.auc_cert.specs.Writing.{Begins, Writes};
 ghost use Rattle.auc_run.specs.Statuses.{refusal_status};
 ghost use Rattle.auc_run.specs.Reports.{IsWritable, outcome_status, outcome_text, report_status, report_text};
 
@@ -52,7 +52,8 @@ fn write_report<W: Write>(writer: &mut W, report: &Report) -> Result<(), WriteFa
 
 /// The status of a report.
 fn status_of_report(report: &Report) -> u8
-    ensures { result ≡ report_status report.now }
+    ensures status { result ≡ report_status report.now }
+    ensures written { result < 8 }
 {
     match report {
         Report::Solved(Answer::Optimal(_)) => OPTIMAL,
@@ -68,7 +69,8 @@ fn status_of_report(report: &Report) -> u8
 
 /// The status of a refusal.
 fn status_of_refusal(refusal: Refusal) -> u8
-    ensures { result ≡ refusal_status refusal }
+    ensures status { result ≡ refusal_status refusal }
+    ensures written { result < 8 }
 {
     match refusal {
         Refusal::NotRead(ReadFault::NoMemory)
@@ -86,16 +88,39 @@ fn status_of_refusal(refusal: Refusal) -> u8
     }
 }
 
+/// Writes the outcome of a job.
+fn write_outcome<W: Write>(
+    writer: &mut W,
+    outcome: &Result<Report, Refusal>,
+) -> Result<(), WriteFault>
+    requires { IfOk outcome.now IsWritable }
+    ensures { Writes result (W.contents writer.old) (W.contents writer.new) (outcome_text outcome.now) }
+{
+    match outcome {
+        Ok(report) => write_report(writer, report),
+        Err(refusal) => write_refusal(writer, *refusal),
+    }
+}
+
+/// The status of an outcome that was written.
+fn status_of(outcome: &Result<Report, Refusal>) -> u8
+    ensures status { result ≡ outcome_status outcome.now }
+    ensures written { result < 8 }
+{
+    match outcome {
+        Ok(report) => status_of_report(report),
+        Err(refusal) => status_of_refusal(*refusal),
+    }
+}
+
 /// Writes the outcome of a job, and gives its status, or 8 where it was not written, or not all of it.
 pub(crate) fn tell<W: Write>(writer: &mut W, outcome: Result<Report, Refusal>) -> u8
     requires { IfOk outcome IsWritable }
-    ensures { result ≢ 8 → Appends (W.contents writer.old) (W.contents writer.new) (outcome_text outcome) × (result ≡ outcome_status outcome) }
+    ensures told { result ≢ 8 → Appends (W.contents writer.old) (W.contents writer.new) (outcome_text outcome) × (result ≡ outcome_status outcome) }
+    ensures cut { result ≡ 8 → Begins (W.contents writer.old) (W.contents writer.new) (outcome_text outcome) }
 {
-    let (written, status) = match outcome {
-        Ok(report) => (write_report(writer, &report), status_of_report(&report)),
-        Err(refusal) => (write_refusal(writer, refusal), status_of_refusal(refusal)),
-    };
-    match written {
+    let status = status_of(&outcome);
+    match write_outcome(writer, &outcome) {
         Ok(()) => status,
         Err(_) => UNWRITTEN,
     }

@@ -1,6 +1,6 @@
 //! Certificates by the calls of their crate: made, written, read and checked.
 
-use crate::fakes::Full;
+use crate::fakes::{Full, Picky};
 use crate::said::{ONE_OBJECT, ONE_OBJECT_CERT, TWO, TWO_BEST, TWO_BRACKET};
 use auc_cert::{
     Cert, CertParts, CertRefused, CertTextError, Pick, Picks, Prices, Reason, WriteFault,
@@ -167,5 +167,27 @@ fn unwritten_certificates(rt: HostRuntime) -> Result<(), Fail> {
         assert_eq!(rt; fault_of(&rt, room, false)?, Some(WriteFault::Stopped));
         assert_eq!(rt; fault_of(&rt, room, true)?, Some(WriteFault::Failed));
     }
+    Ok(())
+}
+
+/// What keeps the certificate of one person, 47 bytes, from being written byte by byte, where a write fails or takes nothing behind
+/// so many; and how many bytes were written.
+fn cut_at(rt: &HostRuntime, good: usize, fails: bool) -> Result<(Option<WriteFault>, usize), Fail> {
+    let text = b"auction 1\noptimal 1 -7\nassign 1 1 -7\nprice 1 1\n";
+    let cert = read_cert(rt.alloc(), text.as_slice())?;
+    let mut writer = Picky {
+        rest: text.as_slice(),
+        good,
+        fails,
+    };
+    let fault = write_cert(&mut writer, &cert).err();
+    Ok((fault, text.len().saturating_sub(writer.rest.len())))
+}
+
+#[test]
+fn certificates_byte_by_byte(rt: HostRuntime) -> Result<(), Fail> {
+    assert_eq!(rt; cut_at(&rt, 10, true)?, (Some(WriteFault::Failed), 10));
+    assert_eq!(rt; cut_at(&rt, 0, false)?, (Some(WriteFault::Stopped), 0));
+    assert_eq!(rt; cut_at(&rt, 47, true)?, (None, 47));
     Ok(())
 }

@@ -1,6 +1,6 @@
 //! Readers and writers of a check.
 
-use crate::fakes::{Broken, Slow};
+use crate::fakes::{Broken, Flaky, Slow};
 use crate::said::{TWO, TWO_BEST, is_unwritten, says};
 use auc_run::Job;
 use std::io::ErrorKind;
@@ -65,6 +65,29 @@ fn broken_second_reader(rt: HostRuntime) {
             5
         )
     );
+}
+
+/// Each read of the second reader fails in turn, that for the end too.
+#[test]
+fn failed_second_reads(rt: HostRuntime) {
+    for good in 0..=TWO_BEST.len() as u32 {
+        let mut first = TWO.as_bytes();
+        let mut second = Flaky {
+            rest: TWO_BEST.as_bytes(),
+            most: 1,
+            good,
+        };
+        assert!(rt;
+            says(
+                &rt,
+                &Job::Check,
+                &mut first,
+                &mut second,
+                "refused read\n",
+                5
+            )
+        );
+    }
 }
 
 /// Where the problem is refused, the second reader is left alone, also one that would fail.

@@ -36,6 +36,59 @@ impl<'a> Read for Broken<'a> {
     }
 }
 
+/// A reader that gives at most so many bytes at each read, and fails once, behind so many reads.
+#[derive(Drop)]
+pub struct Flaky<'a> {
+    pub rest: &'a [u8],
+    pub most: usize,
+    pub good: u32,
+}
+
+impl<'a> Read for Flaky<'a> {
+    fn read(&mut self, buf: &mut [u8]) -> io::Result<usize> {
+        if self.good == 0 {
+            self.good = u32::MAX;
+            return Err(io::Error::from(ErrorKind::Interrupted));
+        }
+        self.good = self.good.saturating_sub(1);
+        let room = buf.len().min(self.most);
+        self.rest.read(&mut buf[..room])
+    }
+}
+
+/// A writer that waits for a text, takes one byte of it at each write, and once, behind so many writes, fails or takes nothing. It
+/// takes nothing else than the text.
+#[derive(Drop)]
+pub struct Picky<'a> {
+    pub rest: &'a [u8],
+    pub good: usize,
+    pub fails: bool,
+}
+
+impl<'a> Write for Picky<'a> {
+    fn write(&mut self, buf: &[u8]) -> io::Result<usize> {
+        if self.good == 0 {
+            self.good = usize::MAX;
+            if self.fails {
+                return Err(io::Error::from(ErrorKind::Interrupted));
+            }
+            return Ok(0);
+        }
+        self.good = self.good.saturating_sub(1);
+        match (buf, self.rest) {
+            ([byte, ..], [wanted, rest @ ..]) if byte == wanted => {
+                self.rest = rest;
+                Ok(1)
+            }
+            _ => Ok(0),
+        }
+    }
+
+    fn flush(&mut self) -> io::Result<()> {
+        Ok(())
+    }
+}
+
 /// A writer that has room for so many bytes, and then takes nothing or fails.
 #[derive(Drop)]
 pub struct Full {

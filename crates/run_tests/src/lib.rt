@@ -15,6 +15,8 @@ mod halls;
 #[cfg(test)]
 mod mails;
 #[cfg(test)]
+mod pieces;
+#[cfg(test)]
 mod said;
 #[cfg(test)]
 mod solves;

@@ -2,9 +2,9 @@
 
 ghost use Rattle.std.specs.Prelude.{◌≤◌};
 
-use crate::fakes::{Broken, Slow};
+use crate::fakes::{Broken, Flaky, Picky, Slow};
 use crate::said::{ONE_OBJECT, TWO, TWO_BEST, TWO_BRACKET, is_unwritten, says};
-use auc_run::{Job, MOST_BIDS};
+use auc_run::{Job, MOST_BIDS, run_plain};
 use std::io::ErrorKind;
 use std::test::*;
 
@@ -57,6 +57,66 @@ fn broken_reader(rt: HostRuntime) {
     };
     let mut second = b"".as_slice();
     assert!(rt; says(&rt, &USUAL, &mut first, &mut second, "refused read\n", 5));
+}
+
+/// Whether a solve that gets its problem byte by byte writes this text, and answers this status.
+fn slowly_says(rt: &HostRuntime, file: &[u8], text: &str, status: u8) -> bool {
+    let mut first = Slow { rest: file };
+    let mut second = b"".as_slice();
+    says(rt, &USUAL, &mut first, &mut second, text, status)
+}
+
+/// What a piece may end in: separators, signs, points, and the end inside an arc.
+#[test]
+fn byte_by_byte(rt: HostRuntime) {
+    let one = "auction 1\noptimal 1 -7\nassign 1 1 -7\nprice 1 1\n";
+    assert!(rt; slowly_says(&rt, b"1\n1 1 -7", one, 0));
+    let lenient = b"+2\t1 1 003.0\r\n1 2 4 2\t1 4.\n2 2 -0\x1a";
+    let two = "auction 1\noptimal 2 3\nassign 1 1 3\nassign 2 2 0\nprice 1 4\nprice 2 17\n";
+    assert!(rt; slowly_says(&rt, lenient, two, 0));
+}
+
+#[test]
+fn refused_byte_by_byte(rt: HostRuntime) {
+    assert!(rt; slowly_says(&rt, b"", "refused empty\n", 5));
+    assert!(rt; slowly_says(&rt, b"0", "refused count\n", 5));
+    assert!(rt; slowly_says(&rt, b"3 1 1", "refused cut 3\n", 5));
+    assert!(rt; slowly_says(&rt, b"2 1 3 4", "refused object 1\n", 5));
+    assert!(rt; slowly_says(&rt, b"2 1 3", "refused object 1\n", 5));
+    assert!(rt; slowly_says(&rt, b"3.5", "refused number 1\n", 5));
+}
+
+/// Each read fails in turn, that for the end too.
+#[test]
+fn failed_reads(rt: HostRuntime) {
+    for good in 0..=TWO.len() as u32 {
+        let mut first = Flaky {
+            rest: TWO.as_bytes(),
+            most: 1,
+            good,
+        };
+        let mut second = b"".as_slice();
+        assert!(rt; says(&rt, &USUAL, &mut first, &mut second, "refused read\n", 5));
+    }
+}
+
+/// Each write fails or takes nothing in turn: just what was taken before stands there, and no write is tried again.
+#[test]
+fn failed_writes(rt: HostRuntime) {
+    for good in 0..TWO_BEST.len() {
+        for fails in [false, true] {
+            let mut writer = Picky {
+                rest: TWO_BEST.as_bytes(),
+                good,
+                fails,
+            };
+            let mut first = TWO.as_bytes();
+            let mut second = b"".as_slice();
+            let status = run_plain(rt.alloc(), &USUAL, &mut first, &mut second, &mut writer);
+            assert_eq!(rt; status, 8);
+            assert_eq!(rt; writer.rest.len(), TWO_BEST.len() - good);
+        }
+    }
 }
 
 #[test]

@@ -1,13 +1,14 @@
-use Rattle.std.proofs.Common.{◌+◌, get_or, refl}
-use Rattle.std.specs.Prelude.{codes}
-use Rattle.std.specs.Fmt.{decimal}
-use Rattle.auc_cert.specs.Text.{number_line}
-use Rattle.auc_cert.proofs.WriteLaws.{three, one_more}
+use Rattle.std.proofs.Common.{refl}
+use Rattle.auc_cert.specs.Text.{joined, numbered, number_line}
+use Rattle.auc_cert.proofs.WriteLaws.{one_more, cut_in_line, cut}
 use Rattle.auc_cert.proofs.writing.write_numbers.Goals as goal
 
 pub loop-number-preserved : goal.loop-number-preserved
 loop-number-preserved g c =
-    one_more (number_line c.args.front.now) c.args.numbers.now c.loop-number.number-index c.loop-number.number-index 0 (g.W.Write.contents c.args.writer.now) (g.W.Write.contents c.loop-number.writer) (g.W.Write.contents c.write_whole-in-loop-number.new.writer)
-    c.loop-number-test.true refl c.loop-number.invariant
-    (three (g.W.Write.contents c.loop-number.writer) (g.W.Write.contents c.write_whole.new.writer) (g.W.Write.contents c.write_count.new.writer) (g.W.Write.contents c.write_whole-in-loop-number.new.writer)
-    c.args.front.now (decimal (get_or c.args.numbers.now c.loop-number.number-index 0 + 1)) (codes "\n") c.in_ok-write_whole.ensures c.in_ok-write_count.ensures c.in_ok-write_whole-2.ensures)
+    one_more (number_line c.args.front.now) c.args.numbers.now c.loop-number.number-index c.loop-number.number-index 0 (g.W.Write.contents c.args.writer.now) (g.W.Write.contents c.loop-number.writer) (g.W.Write.contents c.write_parts.new.writer)
+    c.loop-number-test.true refl c.loop-number.invariant c.in_ok-write_parts.ensures
+
+pub returns-in_err-write_parts : goal.returns-in_err-write_parts
+returns-in_err-write_parts g c =
+    cut c.from_residual.result (g.W.Write.contents c.args.writer.now) (g.W.Write.contents c.write_parts.new.writer) (joined (numbered (number_line c.args.front.now) 0 c.args.numbers.now)) c.from_residual.ensures.0
+    (cut_in_line (number_line c.args.front.now) c.args.numbers.now c.loop-number.number-index c.loop-number.number-index 0 (g.W.Write.contents c.args.writer.now) (g.W.Write.contents c.loop-number.writer) (g.W.Write.contents c.write_parts.new.writer) c.loop-number-test.true refl c.loop-number.invariant c.in_err-write_parts.ensures)

@@ -1,24 +1,27 @@
-use Rattle.std.proofs.Common.{sym, ap, ◌∙◌}
+use Rattle.std.proofs.Common.{◌≡◌, ◌-◌, ◌++◌, [], length, drop, sym, ap, ◌∙◌}
+use Rattle.std.proofs.lemmas.List.{append-nil}
 use Rattle.std.proofs.lemmas.Result.{err_from_is_err_and}
-use Rattle.auc_graph.specs.Numbers.{numbers}
-use Rattle.auc_graph.proofs.ArcLaws.{no_numbers, bad_count, counted, ok_problem}
+use Rattle.auc_graph.specs.declared.read_error.ReadError.TheVariants.{NoMemory}
+use Rattle.auc_graph.specs.declared.stage.Stage.TheVariants.{AtCount}
+use Rattle.auc_graph.specs.Reading.{reading}
+use Rattle.auc_graph.specs.Pieces.{reading_at}
+use Rattle.auc_graph.proofs.EndLaws.{answers_as}
 use Rattle.auc_graph.proofs.reading.read_arcs.Goals as goal
 
-pub returns-in_err-first : goal.returns-in_err-first
-returns-in_err-first c =
+pub returns-in_err-stage : goal.returns-in_err-stage
+returns-in_err-stage c =
     let p = err_from_is_err_and c.from_residual.result c.from_residual.ensures.1 in
-    rw (p.1, p.2) (λ _. no_numbers c.args.limits.arcs (numbers c.args.bytes.now) c.in_err-first.field-0.0 (sym c.in_err-first.ensures.exact))
-
-pub returns-in_err-before : goal.returns-in_err-before
-returns-in_err-before c =
-    let p = err_from_is_err_and c.from_residual-in_err-before.result c.from_residual-in_err-before.ensures.1 in
-    rw (p.1, p.2) (λ _. bad_count c.args.limits.arcs (numbers c.args.bytes.now) c.in_ok-first.first (numbers c.in_ok-first.rest.now) c.in_err-before.field-0.0 (sym c.in_ok-first.ensures.exact) (sym c.in_err-before.ensures.exact))
-
-pub returns-in_err-arcs : goal.returns-in_err-arcs
-returns-in_err-arcs c =
-    let p = err_from_is_err_and c.from_residual-in_err-arcs.result c.from_residual-in_err-arcs.ensures.1 in
-    rw (p.1, p.2) (λ other. counted c.args.limits.arcs (numbers c.args.bytes.now) c.in_ok-first.first (numbers c.in_ok-first.rest.now) c.in_ok-before.before (sym c.in_ok-first.ensures.exact) (sym c.in_ok-before.ensures.exact) ∙ c.in_err-arcs.ensures.exact other)
+    let all : reading c.args.limits.arcs c.args.bytes.now ≡ reading_at c.args.limits.arcs AtCount c.new-arcs.result.items (c.args.bytes.now ++ []) =
+    ap (reading c.args.limits.arcs) (sym (append-nil c.args.bytes.now)) ∙ ap (λ arcs. reading_at c.args.limits.arcs AtCount arcs (c.args.bytes.now ++ [])) (sym c.new-arcs.ensures.items) in
+    rw (p.1, p.2) (λ other. all ∙ c.in_err-stage.ensures.fault other [])
 
 pub returns : goal.returns
-returns c = counted c.args.limits.arcs (numbers c.args.bytes.now) c.in_ok-first.first (numbers c.in_ok-first.rest.now) c.in_ok-before.before (sym c.in_ok-first.ensures.exact) (sym c.in_ok-before.ensures.exact)
-    ∙ c.in_ok-arcs.ensures.exact ∙ ap ok_problem (sym c.make.ensures)
+returns c =
+    let stage = c.in_ok-stage.stage in
+    let arcs = c.stage_behind.new.arcs.items in
+    let all : reading c.args.limits.arcs c.args.bytes.now ≡ reading_at c.args.limits.arcs AtCount c.new-arcs.result.items (c.args.bytes.now ++ []) =
+    ap (reading c.args.limits.arcs) (sym (append-nil c.args.bytes.now)) ∙ ap (λ arcs. reading_at c.args.limits.arcs AtCount arcs (c.args.bytes.now ++ [])) (sym c.new-arcs.ensures.items) in
+    let left : drop (length c.args.bytes.now - c.in_ok-stage.left) c.args.bytes.now ++ [] ≡ c.from_place-token.result.now =
+    append-nil (drop (length c.args.bytes.now - c.in_ok-stage.left) c.args.bytes.now) ∙ sym c.from_place-token.ensures in
+    answers_as NoMemory c.problem_behind.result (reading c.args.limits.arcs c.args.bytes.now) (reading_at c.args.limits.arcs stage arcs c.from_place-token.result.now)
+    (all ∙ c.in_ok-stage.ensures.exact [] ∙ ap (reading_at c.args.limits.arcs stage arcs) left) c.problem_behind.ensures

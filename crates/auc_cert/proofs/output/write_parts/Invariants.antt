@@ -1,0 +1,8 @@
+use Rattle.std.proofs.Common.{take}
+use Rattle.std.specs.List.{flat_map}
+use Rattle.std.specs.Io.KnownBytes.{Appends}
+use Rattle.auc_cert.specs.Writing.{spelled}
+use Rattle.auc_cert.proofs.output.write_parts.Given as goal
+
+abbrev pub invariant-loop-part : goal.invariant-loop-part
+invariant-loop-part g l = Appends (g.W.Write.contents l.fn.writer) (g.W.Write.contents l.writer) (flat_map spelled (take l.part-index l.parts))

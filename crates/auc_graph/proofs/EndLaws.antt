@@ -1,0 +1,108 @@
+-- What is answered at the end of a text; no text reads as too many reads.
+use Rattle.std.proofs.Common.{◌≡◌, ℕ, ◌+◌, ◌*◌, ◌-◌, ◌++◌, inl, inr, List, [], ◌∷◌, length, Result, Ok, Err, ap, ◌∙◌, Option}
+use Rattle.std.specs.Prelude.{◌≢◌, ℤ, pos, neg_ℤ, unsigned_abs, nat_le}
+use Rattle.std.specs.Io.KnownBytes.{IsAtEnd}
+use Rattle.std.proofs.lemmas.Bool.{cases_Bool}
+use Rattle.auc_graph.specs.declared.number.Number.{Number}
+use Rattle.auc_graph.specs.declared.number.Number.TheVariants.{Bad, Value, Huge}
+use Rattle.auc_graph.specs.declared.arc.Arc.{Arc}
+use Rattle.auc_graph.specs.declared.read_error.ReadError.{ReadError}
+use Rattle.auc_graph.specs.declared.read_error.ReadError.TheVariants.{Empty, BadNumber, CountRange, TooManyArcs, PersonRange, ObjectRange, CostRange, Cut, NoMemory, ReadFault, TooManyReads}
+use Rattle.auc_graph.specs.declared.reading.ReadLimits.{ReadLimits}
+use Rattle.auc_graph.specs.declared.stage.Stage.{Stage}
+use Rattle.auc_graph.specs.declared.stage.Stage.TheVariants.{AtCount, AtPerson, AtObject, AtCost}
+use Rattle.auc_graph.specs.declared.limits.TheConstants.{MOST_PERSONS, MOST_COST}
+use Rattle.auc_graph.specs.Memory.{AnswersUnless}
+use Rattle.auc_graph.specs.Problem.{Problem}
+use Rattle.auc_graph.specs.Numbers.{numbers}
+use Rattle.auc_graph.specs.Reading.{◌>>=◌, is_between, within, index, cost, room, arc_of, State, start, step_at, step, finish_at, finish, reading_on, reading}
+use Rattle.auc_graph.specs.Pieces.{IsRead}
+
+abbrev Never : {A : Type 0} → Result A ReadError → Type 0
+Never r = r ≢ Err TooManyReads
+
+binds : {A B : Type 0} (p : Result A ReadError) (f : A → Result B ReadError) → Never p → ((x : A) → Never (f x)) → Never (p >>= f)
+binds (Ok x) f h k = k x
+binds (Err e) f h k = λ is. h (same e is)
+  where
+    same : {A B : Type 0} (e : ReadError) → ◌≡◌ {A = Result B ReadError} (Err e) (Err TooManyReads) → ◌≡◌ {A = Result A ReadError} (Err e) (Err TooManyReads)
+    same e is = let own : e ≡ TooManyReads = cc in ap (λ (x : ReadError). Err x) own
+
+within_never : (least most : ℤ) (token : ℕ) (range : ReadError) (x : Number) → range ≢ TooManyReads → Never (within least most token range x)
+within_never least most token range Bad ne = λ is. absurd cc
+within_never least most token range Huge ne = λ is. ne cc
+within_never least most token range (Value z) ne =
+    elim (cases_Bool (is_between least most z)) [
+      | inl t ↦ rw t (λ is. absurd cc)
+      | inr f ↦ rw f (λ is. ne cc)
+    ]
+
+index_never : (most token : ℕ) (range : ReadError) (x : Number) → range ≢ TooManyReads → Never (index most token range x)
+index_never most token range x ne = binds (within (pos 1) (pos most) token range x) (λ z. Ok (unsigned_abs z - 1)) (within_never (pos 1) (pos most) token range x ne) (λ z is. absurd cc)
+
+room_never : (limit before : ℕ) → Never (room limit before)
+room_never limit before =
+    elim (cases_Bool (nat_le limit before)) [
+      | inl t ↦ rw t (λ is. absurd cc)
+      | inr f ↦ rw f (λ is. absurd cc)
+    ]
+
+step_at_never : (limit : ℕ) (stage : Stage) (arcs : List Arc) (x : Number) → Never (step_at limit stage arcs x)
+unfolding step_at
+step_at_never limit AtCount arcs x = binds (index MOST_PERSONS 0 CountRange x) (λ before. Ok (AtPerson (before + 1) (before + 1), arcs)) (index_never MOST_PERSONS 0 CountRange x (λ e. absurd cc)) (λ y is. absurd cc)
+step_at_never limit (AtPerson persons objects) arcs x =
+    binds (room limit (length arcs)) (λ _. index persons (3 * length arcs + 1) (PersonRange (length arcs)) x >>= λ person. Ok (AtObject persons objects person, arcs)) (room_never limit (length arcs)) (λ _.
+    binds (index persons (3 * length arcs + 1) (PersonRange (length arcs)) x) (λ person. Ok (AtObject persons objects person, arcs)) (index_never persons (3 * length arcs + 1) (PersonRange (length arcs)) x (λ e. absurd cc)) (λ y is. absurd cc))
+step_at_never limit (AtObject persons objects person) arcs x =
+    binds (index objects (3 * length arcs + 2) (ObjectRange (length arcs)) x) (λ object. Ok (AtCost persons objects person object, arcs)) (index_never objects (3 * length arcs + 2) (ObjectRange (length arcs)) x (λ e. absurd cc)) (λ y is. absurd cc)
+step_at_never limit (AtCost persons objects person object) arcs x =
+    binds (cost (3 * length arcs + 3) (CostRange (length arcs)) x) (λ c. Ok (AtPerson persons objects, arcs ++ arc_of person object c ∷ [])) (within_never (neg_ℤ MOST_COST) MOST_COST (3 * length arcs + 3) (CostRange (length arcs)) x (λ e. absurd cc)) (λ y is. absurd cc)
+
+step_never : (limit : ℕ) (state : State) (x : Number) → Never state → Never (step limit state x)
+unfolding step
+step_never limit (Ok (stage, arcs)) x h = step_at_never limit stage arcs x
+step_never limit (Err e) x h = h
+
+finish_at_never : (stage : Stage) (arcs : List Arc) → Never (finish_at stage arcs)
+unfolding finish_at
+finish_at_never AtCount arcs = λ is. absurd cc
+finish_at_never (AtPerson persons objects) arcs = λ is. absurd cc
+finish_at_never (AtObject persons objects person) arcs = λ is. absurd cc
+finish_at_never (AtCost persons objects person object) arcs = λ is. absurd cc
+
+finish_never : (state : State) → Never state → Never (finish state)
+unfolding finish
+finish_never (Ok (stage, arcs)) h = finish_at_never stage arcs
+finish_never (Err e) h = λ is. h (let own : e ≡ TooManyReads = cc in ap (λ (x : ReadError). Err x) own)
+
+never_on : (limit : ℕ) (state : State) (xs : List Number) → Never state → Never (reading_on limit state xs)
+unfolding reading_on
+never_on limit state [] h = finish_never state h
+never_on limit state (x ∷ xs) h = never_on limit (step limit state x) xs (step_never limit state x h)
+
+reading_never : (limit : ℕ) (text : List ℕ) → Never (reading limit text)
+reading_never limit text = never_on limit start (numbers text) (λ is. absurd cc)
+
+-- ---- what is answered
+
+pub answers : (e : ReadError) (answer read : Result Problem ReadError) → read ≡ answer → AnswersUnless e (λ p. p) answer (λ r. read ≡ r)
+answers e (Ok p) read is = is
+answers e (Err d) read is = λ _. is
+
+pub answers_as : (e : ReadError) (answer read other : Result Problem ReadError) → read ≡ other → AnswersUnless e (λ p. p) answer (λ r. other ≡ r) → AnswersUnless e (λ p. p) answer (λ r. read ≡ r)
+answers_as e (Ok p) read other is h = is ∙ h
+answers_as e (Err d) read other is h = λ k. is ∙ h k
+
+pub is_read : (limits : ReadLimits) (left : Option (List ℕ)) (text : List ℕ) (answer : Result Problem ReadError) → IsAtEnd left → AnswersUnless NoMemory (λ p. p) answer (λ r. reading limits.arcs text ≡ r) → IsRead limits left text answer
+is_read limits left text (Ok p) end h = (end, h)
+is_read limits left text (Err Empty) end h = (end, h (λ e. absurd cc))
+is_read limits left text (Err (BadNumber token)) end h = (end, h (λ e. absurd cc))
+is_read limits left text (Err CountRange) end h = (end, h (λ e. absurd cc))
+is_read limits left text (Err TooManyArcs) end h = (end, h (λ e. absurd cc))
+is_read limits left text (Err (PersonRange arc)) end h = (end, h (λ e. absurd cc))
+is_read limits left text (Err (ObjectRange arc)) end h = (end, h (λ e. absurd cc))
+is_read limits left text (Err (CostRange arc)) end h = (end, h (λ e. absurd cc))
+is_read limits left text (Err (Cut tokens)) end h = (end, h (λ e. absurd cc))
+is_read limits left text (Err NoMemory) end h = tt
+is_read limits left text (Err ReadFault) end h = tt
+is_read limits left text (Err TooManyReads) end h = absurd (reading_never limits.arcs text (h (λ e. absurd cc)))

@@ -1,0 +1,70 @@
+-- Reading a text that comes in pieces: what is known behind a piece, and what is kept of it.
+use Rattle.std.specs.Prelude.{◌≡◌, ℕ, ◌≤◌, ◌<◌, ◌+◌, ◌^◌, List, [], ◌∷◌, ◌++◌, length, Result, Ok, Err, ⊤, if◌then◌else◌, Option}
+use Rattle.std.specs.Fmt.{decimal}
+use Rattle.std.specs.List.{position_or_len}
+use Rattle.std.specs.Io.KnownBytes.{IsAtEnd}
+use Rattle.auc_graph.specs.declared.arc.Arc.{Arc}
+use Rattle.auc_graph.specs.declared.read_error.ReadError.{ReadError}
+use Rattle.auc_graph.specs.declared.read_error.ReadError.TheVariants.{NoMemory, ReadFault, TooManyReads}
+use Rattle.auc_graph.specs.declared.reading.ReadLimits.{ReadLimits}
+use Rattle.auc_graph.specs.declared.stage.Stage.{Stage}
+use Rattle.auc_graph.specs.declared.stage.Stage.TheVariants.{AtCount, AtPerson, AtObject, AtCost}
+use Rattle.auc_graph.specs.declared.unfinished.Unfinished.{Unfinished}
+use Rattle.auc_graph.specs.declared.unfinished.Unfinished.TheVariants.{NoNumber, Digits}
+use Rattle.auc_graph.specs.Tokens.{is_separator}
+use Rattle.auc_graph.specs.Numbers.{number, numbers}
+use Rattle.auc_graph.specs.Problem.{Problem, IsProblem}
+use Rattle.auc_graph.specs.Reading.{problem, State, reading_on, reading}
+
+-- what a text reads as that goes on here, behind a stage and so many arcs
+abbrev pub reading_at : ℕ → Stage → List Arc → List ℕ → Result Problem ReadError
+reading_at limit stage arcs text = reading_on limit (Ok (stage, arcs)) (numbers text)
+
+-- a stage beside its arcs, or the first fault
+abbrev pub state_of : Result Stage ReadError → List Arc → State
+state_of (Ok stage) arcs = Ok (stage, arcs)
+state_of (Err e) arcs = Err e
+
+abbrev pub reading_from : ℕ → Result Stage ReadError → List Arc → List ℕ → Result Problem ReadError
+reading_from limit known arcs text = reading_on limit (state_of known arcs) (numbers text)
+
+-- the arcs so far are those of a problem, not more than are allowed
+abbrev pub AreArcs : ℕ → ℕ → ℕ → List Arc → Type 0
+AreArcs limit persons objects arcs = IsProblem (problem persons objects arcs) × (length arcs ≤ limit)
+
+-- what a stage keeps: while an arc is read, there is room for it
+abbrev pub IsStage : ℕ → Stage → List Arc → Type 0
+IsStage limit AtCount arcs = arcs ≡ []
+IsStage limit (AtPerson persons objects) arcs = AreArcs limit persons objects arcs
+IsStage limit (AtObject persons objects person) arcs = AreArcs limit persons objects arcs × (length arcs < limit) × (person < persons)
+IsStage limit (AtCost persons objects person object) arcs = AreArcs limit persons objects arcs × (length arcs < limit) × (person < persons) × (object < objects)
+
+-- a stage, or a fault
+abbrev pub IsKnown : ℕ → Result Stage ReadError → List Arc → Type 0
+IsKnown limit (Ok stage) arcs = IsStage limit stage arcs
+IsKnown limit (Err e) arcs = ⊤
+
+-- there is no separator in it
+abbrev pub IsPlain : List ℕ → Type 0
+IsPlain token = position_or_len is_separator token ≡ length token
+
+-- whatever stands behind them, two texts are one number
+abbrev pub AreAlike : List ℕ → List ℕ → Type 0
+AreAlike a b = (more : List ℕ) → number (a ++ more) ≡ number (b ++ more)
+
+-- a short text in place of an unfinished token that is too long to be kept
+abbrev pub spelled : Unfinished → List ℕ
+spelled NoNumber = 120 ∷ []
+spelled (Digits negative value point) = (if negative then 45 else 43) ∷ (decimal value ++ (if point then 46 ∷ [] else []))
+
+abbrev pub IsCapped : Unfinished → Type 0
+IsCapped NoNumber = ⊤
+IsCapped (Digits negative value point) = value ≤ 10 ^ 18 + 1
+
+-- What a reader answers that has taken this text and has so much left: at the end, what the whole text reads as; of too many reads,
+-- that each has taken a byte. Of a read that failed, and of want of memory, nothing is said.
+abbrev pub IsRead : ReadLimits → Option (List ℕ) → List ℕ → Result Problem ReadError → Type 0
+IsRead limits left text (Err NoMemory) = ⊤
+IsRead limits left text (Err ReadFault) = ⊤
+IsRead limits left text (Err TooManyReads) = limits.reads ≤ length text
+IsRead limits left text answer = IsAtEnd left × (reading limits.arcs text ≡ answer)

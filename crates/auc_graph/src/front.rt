@@ -1,0 +1,104 @@
+//! Numbers and arcs at the front of a text that goes on.
+
+ghost use Rattle.std.specs.Prelude.{◌≡◌, ◌+◌, ◌-◌, ◌≤◌, ◌<◌, ◌∷◌, ◌++◌, List, ℕ, length, drop, pos, IfSome, IfNone};
+ghost use Rattle.std.specs.List.{prefix_len};
+ghost use Rattle.auc_graph.specs.declared.number.Number.TheVariants.{Value};
+ghost use Rattle.auc_graph.specs.Tokens.{is_separator};
+ghost use Rattle.auc_graph.specs.Numbers.{numbers, IsPlainToken};
+ghost use Rattle.auc_graph.specs.Problem.{IsWithin};
+ghost use Rattle.auc_graph.specs.Pieces.{IsPlain};
+
+use crate::arc::Arc;
+use crate::number::{Number, number_at};
+use crate::tokens::{from_place, is_separator_byte, separators_len};
+
+/// One more than the digits of a short number.
+const SHORT: usize = 8;
+
+/// The value and the length of the token at the front, where it is one to seven digits and a separator follows. The
+/// compiler writes this loop out, so that each of its tests is guessed by its own history.
+#[inline(always)]
+fn short_number_at(bytes: &[u8; SHORT]) -> Option<(u32, usize)>
+    ensures { IfSome result (λ x. (x.1 < SHORT) × (x.0 < 10000000) × IsPlainToken bytes.now x.0 x.1) }
+{
+    let mut value: u32 = 0;
+    for (i, byte) in bytes.iter().enumerate() {
+        if !byte.is_ascii_digit() {
+            if i > 0 && is_separator_byte(*byte) {
+                return Some((value, i));
+            }
+            return None;
+        }
+        value = 10 * value + (*byte - b'0') as u32;
+    }
+    None
+}
+
+/// The short number at the front, and the text behind the separator that follows it.
+#[inline(always)]
+fn short_number(bytes: &[u8]) -> Option<(u32, &[u8])>
+    ensures found { IfSome result (λ x. (more : List ℕ) → numbers (bytes.now ++ more) ≡ Value (pos x.0) ∷ numbers (x.1.now ++ more)) }
+    ensures small { IfSome result (λ x. x.0 < 10000000) }
+    ensures shorter { IfSome result (λ x. length x.1.now < length bytes.now) }
+    ensures behind { IfSome result (λ x. x.1.now ≡ drop (length bytes.now - length x.1.now) bytes.now) }
+{
+    let front = bytes.first_chunk::<SHORT>()?;
+    let (value, len) = short_number_at(front)?;
+    Some((value, from_place(bytes, len + 1)))
+}
+
+/// The number at the front, where a separator stands behind it, and the text from there on.
+#[cold]
+#[inline(never)]
+fn any_whole(bytes: &[u8]) -> Option<(Number, &[u8])>
+    ensures found { IfSome result (λ x. (more : List ℕ) → numbers (bytes.now ++ more) ≡ x.0 ∷ numbers (x.1.now ++ more)) }
+    ensures shorter { IfSome result (λ x. length x.1.now < length bytes.now) }
+    ensures behind { IfSome result (λ x. x.1.now ≡ drop (length bytes.now - length x.1.now) bytes.now) }
+    ensures none { IfNone result (IsPlain (drop (prefix_len is_separator bytes.now) bytes.now)) }
+{
+    let start = separators_len(bytes);
+    let token = from_place(bytes, start);
+    let (number, len) = number_at(token);
+    if len < token.len() {
+        Some((number, from_place(token, len)))
+    } else {
+        None
+    }
+}
+
+/// The number at the front, where a separator stands behind it, and the text from there on. Nearly all numbers of a file
+/// are short, so these are read by a loop that knows where it ends.
+#[inline(always)]
+pub(crate) fn next_whole(bytes: &[u8]) -> Option<(Number, &[u8])>
+    ensures found { IfSome result (λ x. (more : List ℕ) → numbers (bytes.now ++ more) ≡ x.0 ∷ numbers (x.1.now ++ more)) }
+    ensures shorter { IfSome result (λ x. length x.1.now < length bytes.now) }
+    ensures behind { IfSome result (λ x. x.1.now ≡ drop (length bytes.now - length x.1.now) bytes.now) }
+    ensures none { IfNone result (IsPlain (drop (prefix_len is_separator bytes.now) bytes.now)) }
+{
+    match short_number(bytes) {
+        Some((value, rest)) => Some((Number::Value(value as i64), rest)),
+        None => any_whole(bytes),
+    }
+}
+
+/// The arc of three short numbers at the front, where all are in range, and the text behind it.
+#[inline(always)]
+pub(crate) fn short_arc(persons: u32, objects: u32, bytes: &[u8]) -> Option<(Arc, &[u8])>
+    ensures found { IfSome result (λ x. (more : List ℕ) → numbers (bytes.now ++ more) ≡ Value (pos (x.0.person + 1)) ∷ Value (pos (x.0.object + 1)) ∷ Value x.0.cost ∷ numbers (x.1.now ++ more)) }
+    ensures within { IfSome result (λ x. IsWithin persons objects x.0) }
+    ensures shorter { IfSome result (λ x. length x.1.now < length bytes.now) }
+    ensures behind { IfSome result (λ x. x.1.now ≡ drop (length bytes.now - length x.1.now) bytes.now) }
+{
+    let (person, rest) = short_number(bytes)?;
+    let (object, rest) = short_number(rest)?;
+    let (cost, rest) = short_number(rest)?;
+    if person < 1 || person > persons || object < 1 || object > objects {
+        return None;
+    }
+    let arc = Arc {
+        person: person - 1,
+        object: object - 1,
+        cost: cost as i64,
+    };
+    Some((arc, rest))
+}

@@ -1,0 +1,159 @@
+//! Reading one number after another: what the next one is.
+
+ghost use Rattle.std.specs.Prelude.{◌≡◌, ◌≤◌, ◌<◌, neg_ℤ, ◌≤ℤ◌, IfOk};
+ghost use Rattle.auc_graph.specs.Memory.{AnswersUnless};
+ghost use Rattle.auc_graph.specs.Reading.{within, index, cost, step_at, finish_at};
+ghost use Rattle.auc_graph.specs.Pieces.{IsStage};
+
+use crate::arc::{Arc, ArcList};
+use crate::limits::{MOST_ARCS, MOST_COST, MOST_PERSONS};
+use crate::number::Number;
+use crate::read_error::ReadError;
+
+/// What the next number of a text is, and what is known by then.
+#[derive(Clone, Copy, Debug, PartialEq, Eq)]
+pub enum Stage {
+    /// The number of persons.
+    AtCount,
+    /// The person of the next arc, if there is one.
+    AtPerson {
+        persons: u32,
+        objects: u32,
+    },
+    /// The object of this person's arc.
+    AtObject {
+        persons: u32,
+        objects: u32,
+        person: u32,
+    },
+    /// The cost of the arc of this person to this object.
+    AtCost {
+        persons: u32,
+        objects: u32,
+        person: u32,
+        object: u32,
+    },
+}
+
+/// The number at a token, where it is one and from least to most.
+fn within_of(
+    number: Number,
+    least: i64,
+    most: i64,
+    token: u64,
+    range: ReadError,
+) -> Result<i64, ReadError>
+    ensures exact { result ≡ within least most token range number }
+    ensures bounds { IfOk result (λ z. (least ≤ℤ z) × (z ≤ℤ most)) }
+{
+    match number {
+        Number::Bad => Err(ReadError::BadNumber { token }),
+        Number::Value(value) if least <= value && value <= most => Ok(value),
+        Number::Value(_) | Number::Huge => Err(range),
+    }
+}
+
+/// A number from 1 to most, as a number from 0.
+fn index_of(number: Number, most: u32, token: u64, range: ReadError) -> Result<u32, ReadError>
+    ensures exact { result ≡ index most token range number }
+    ensures below { IfOk result (λ i. i < most) }
+{
+    let value = within_of(number, 1, most as i64, token, range)?;
+    Ok((value - 1) as u32)
+}
+
+/// A cost within the limits.
+fn cost_of(number: Number, token: u64, range: ReadError) -> Result<i64, ReadError>
+    ensures exact { result ≡ cost token range number }
+    ensures bounds { IfOk result (λ z. (neg_ℤ MOST_COST ≤ℤ z) × (z ≤ℤ MOST_COST)) }
+{
+    within_of(number, -MOST_COST, MOST_COST, token, range)
+}
+
+impl Stage {
+    /// The stage behind the next number. Where this ends an arc, the arc is put behind the others.
+    #[inline(always)]
+    #[tactic(auto, unfolding(crate::specs::Reading::step_at))]
+    pub(crate) fn after(
+        self,
+        limit: u32,
+        arcs: &mut Vec<Arc>,
+        number: Number,
+    ) -> Result<Stage, ReadError>
+        requires few { limit ≤ MOST_ARCS }
+        requires sound { IsStage limit self arcs.old.items }
+        ensures exact { AnswersUnless ReadError.NoMemory (λ stage. (stage, arcs.new.items)) result (λ r. step_at limit self arcs.old.items number ≡ r) }
+        ensures sound { IfOk result (λ stage. IsStage limit stage arcs.new.items) }
+    {
+        let before = arcs.len() as u64;
+        match self {
+            Stage::AtCount => {
+                let before = index_of(number, MOST_PERSONS, 0, ReadError::CountRange)?;
+                let persons = before + 1;
+                let objects = persons;
+                Ok(Stage::AtPerson { persons, objects })
+            }
+            Stage::AtPerson { persons, objects } => {
+                if before >= limit as u64 {
+                    return Err(ReadError::TooManyArcs);
+                }
+                let fault = ReadError::PersonRange { arc: before };
+                let person = index_of(number, persons, 3 * before + 1, fault)?;
+                Ok(Stage::AtObject {
+                    persons,
+                    objects,
+                    person,
+                })
+            }
+            Stage::AtObject {
+                persons,
+                objects,
+                person,
+            } => {
+                let fault = ReadError::ObjectRange { arc: before };
+                let object = index_of(number, objects, 3 * before + 2, fault)?;
+                Ok(Stage::AtCost {
+                    persons,
+                    objects,
+                    person,
+                    object,
+                })
+            }
+            Stage::AtCost {
+                persons,
+                objects,
+                person,
+                object,
+            } => {
+                let fault = ReadError::CostRange { arc: before };
+                let cost = cost_of(number, 3 * before + 3, fault)?;
+                arcs.push(Arc {
+                    person,
+                    object,
+                    cost,
+                })?;
+                Ok(Stage::AtPerson { persons, objects })
+            }
+        }
+    }
+
+    /// What a text reads as that ends here.
+    #[tactic(auto, unfolding(crate::specs::Reading::finish_at))]
+    pub(crate) fn finished(self, limit: u32, arcs: Vec<Arc>) -> Result<ArcList, ReadError>
+        requires few { limit ≤ MOST_ARCS }
+        requires sound { IsStage limit self arcs.items }
+        ensures { finish_at self arcs.items ≡ result }
+    {
+        let before = arcs.len() as u64;
+        match self {
+            Stage::AtCount => Err(ReadError::Empty),
+            Stage::AtPerson { persons, objects } => Ok(ArcList::make(persons, objects, arcs)),
+            Stage::AtObject { .. } => Err(ReadError::Cut {
+                tokens: 3 * before + 2,
+            }),
+            Stage::AtCost { .. } => Err(ReadError::Cut {
+                tokens: 3 * before + 3,
+            }),
+        }
+    }
+}

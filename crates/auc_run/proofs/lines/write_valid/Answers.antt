@@ -1,0 +1,18 @@
+use Rattle.std.proofs.Common.{rules, w64}
+use Rattle.std.specs.Prelude.{FitsSigned as SFits}
+use Rattle.std.proofs.lemmas.Int.{to_z-of_z}
+use Rattle.auc_run.proofs.lines.write_valid.Goals as goal
+
+pub returns-in-Optimal : goal.returns-in-Optimal
+returns-in-Optimal g c =
+    let fits : SFits w64 c.in-Optimal.cost = search rules in
+    rw c.in-Optimal.is (simp to_z-of_z at c.write_optimal.ensures)
+
+pub returns-in-Bracket : goal.returns-in-Bracket
+returns-in-Bracket g c =
+    let low : SFits w64 c.in-Bracket.lower = search rules in
+    let fits : SFits w64 c.in-Bracket.cost = search rules in
+    rw c.in-Bracket.is (simp to_z-of_z at c.write_bracket.ensures)
+
+pub returns-in-Infeasible : goal.returns-in-Infeasible
+returns-in-Infeasible g c = rw c.in-Infeasible.is c.write_infeasible.ensures

@@ -1,0 +1,164 @@
+//! A text in pieces reads as the whole text.
+
+use crate::fakes::Flaky;
+use auc_graph::{ArcList, ReadError, ReadLimits, read_arcs, read_arcs_from};
+use std::alloc::Global;
+use std::test::*;
+
+/// A number that is too long to be kept where a piece cuts it.
+const ZEROS: &str = "00000000000000000000000000000000000000000000000000000000000000000";
+
+/// What is read of a text that comes in pieces of so many bytes, by so many reads, of which one fails behind so many.
+fn read(
+    alloc: Global,
+    text: &[u8],
+    most: usize,
+    good: u32,
+    reads: u16,
+) -> Result<ArcList, ReadError> {
+    let mut reader = Flaky {
+        rest: text,
+        most,
+        good,
+    };
+    let limits = ReadLimits {
+        arcs: 100,
+        reads: reads as u32,
+    };
+    read_arcs_from(alloc, &mut reader, limits)
+}
+
+/// The fault of what is read byte by byte.
+fn fault_of(rt: &HostRuntime, text: &str, good: u32, reads: u16) -> Option<ReadError> {
+    read(rt.alloc(), text.as_bytes(), 1, good, reads).err()
+}
+
+/// The read that finds the end is one of those that are allowed.
+#[test]
+fn counted_reads(rt: HostRuntime) {
+    assert_eq!(rt; fault_of(&rt, "1 1 1 5", 100, 8), None);
+    assert_eq!(rt;
+        fault_of(&rt, "1 1 1 5", 100, 7),
+        Some(ReadError::TooManyReads)
+    );
+    assert_eq!(rt;
+        fault_of(&rt, "1 1 1 5", 100, 0),
+        Some(ReadError::TooManyReads)
+    );
+}
+
+/// A fault of the text waits for the end; a read that fails is not tried again, and wins over it.
+#[test]
+fn failed_reads(rt: HostRuntime) {
+    assert_eq!(rt; fault_of(&rt, "x 1", 2, 100), Some(ReadError::ReadFault));
+    assert_eq!(rt;
+        fault_of(&rt, "x 1 1", 100, 100),
+        Some(ReadError::BadNumber { token: 0 })
+    );
+    for good in 0..8u32 {
+        assert_eq!(rt;
+            fault_of(&rt, "1 1 1 5", good, 100),
+            Some(ReadError::ReadFault)
+        );
+    }
+}
+
+/// Whether both are the same problem, or the same fault.
+fn are_alike(whole: &Result<ArcList, ReadError>, pieces: &Result<ArcList, ReadError>) -> bool {
+    match (whole, pieces) {
+        (Ok(one), Ok(other)) => {
+            one.persons() == other.persons()
+                && one.objects() == other.objects()
+                && one.arcs() == other.arcs()
+        }
+        (Err(one), Err(other)) => one == other,
+        (Ok(_), Err(_)) | (Err(_), Ok(_)) => false,
+    }
+}
+
+/// Whether a text reads in pieces of many lengths as it does whole.
+fn reads_alike(rt: &HostRuntime, text: &str) -> bool {
+    let alloc = rt.alloc();
+    let limits = ReadLimits {
+        arcs: 100,
+        reads: 0,
+    };
+    let whole = read_arcs(alloc, text.as_bytes(), limits);
+    for most in [1usize, 2, 3, 7, 31, 32, 33, 64, 65, 1000] {
+        let pieces = read(alloc, text.as_bytes(), most, u32::MAX, 10_000);
+        if !are_alike(&whole, &pieces) {
+            return false;
+        }
+    }
+    true
+}
+
+#[test]
+fn tokens_in_pieces(rt: HostRuntime) {
+    assert!(rt; reads_alike(&rt, "2 1 1 4 1 2 -7 2 2 +0.00\n"));
+    assert!(rt; reads_alike(&rt, ""));
+    assert!(rt; reads_alike(&rt, " \n "));
+    assert!(rt; reads_alike(&rt, "3 1 1"));
+    assert!(rt; reads_alike(&rt, "2 1 1 4 1 3 7 x"));
+}
+
+/// Of tokens that are too long to be kept the sign, the value and the point count, and whether they are numbers.
+#[test]
+fn long_tokens(rt: HostRuntime) -> Result<(), Fail> {
+    let alloc = rt.alloc();
+    assert!(rt;
+        reads_alike(
+            &rt,
+            format!(in alloc; "{ZEROS}2 {ZEROS}1 {ZEROS}2. -{ZEROS}7.{ZEROS}")?.as_str()
+        )
+    );
+    assert!(rt;
+        reads_alike(
+            &rt,
+            format!(in alloc; "{ZEROS}2 {ZEROS}1 {ZEROS}3")?.as_str()
+        )
+    );
+    assert!(rt;
+        reads_alike(
+            &rt,
+            format!(in alloc; "2 1 1 1{ZEROS} 1 1 1{ZEROS}")?.as_str()
+        )
+    );
+    assert!(rt;
+        reads_alike(
+            &rt,
+            format!(in alloc; "2 1 1 {ZEROS}1000000000.{ZEROS} 1 1 {ZEROS}1000000001")?.as_str()
+        )
+    );
+    Ok(())
+}
+
+#[test]
+fn long_tokens_that_are_no_numbers(rt: HostRuntime) -> Result<(), Fail> {
+    let alloc = rt.alloc();
+    assert!(rt; reads_alike(&rt, format!(in alloc; "2 1 1 {ZEROS}x")?.as_str()));
+    assert!(rt; reads_alike(&rt, format!(in alloc; "2 1 1 -+{ZEROS}")?.as_str()));
+    assert!(rt; reads_alike(&rt, format!(in alloc; "2 1 1 1.{ZEROS}1")?.as_str()));
+    assert!(rt; reads_alike(&rt, format!(in alloc; "2 1 1 1.{ZEROS}.{ZEROS}")?.as_str()));
+    assert!(rt; reads_alike(&rt, format!(in alloc; "2 1 1 .{ZEROS}")?.as_str()));
+    Ok(())
+}
+
+/// The reader takes 65,536 bytes at a time: a problem stands at each place round the end of the first piece.
+#[test]
+fn round_the_end_of_a_piece(rt: HostRuntime) -> Result<(), Fail> {
+    let alloc = rt.alloc();
+    let mut text = vec![in alloc; b' '; 65_500]?;
+    let limits = ReadLimits { arcs: 9, reads: 4 };
+    for _shift in 0..40u32 {
+        let front = text.len();
+        text.extend_from_slice(b"2 1 1 12345678.0 2 2 -7 1 2 9")?;
+        let whole = read_arcs(alloc, text.as_slice(), limits);
+        let mut reader = text.as_slice();
+        let pieces = read_arcs_from(alloc, &mut reader, limits);
+        assert!(rt; whole.is_ok() && are_alike(&whole, &pieces));
+        text.truncate(front);
+        text.push(b' ')?;
+    }
+    Ok(())
+}

@@ -70,7 +70,7 @@ impl<T: Copy, N: MailBrand> SharedMail<T, N> {
     ///
     /// Errors: those of `MailState::make`, in the same order.
     ///
-    /// Takes the time of `MailState::make` and O(workers), and its memory and that for `workers * room` lines.
+    /// Takes the time of `MailState::make` and O(boxes + workers), and its memory, that for `workers * room` lines, and 128 bytes a box.
     pub fn make(
         alloc: Global,
         boxes: u32,

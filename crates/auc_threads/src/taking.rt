@@ -1,4 +1,4 @@
-//! The calls of a worker, each behind the gate.
+//! The calls of a worker.
 
 ghost use Rattle.std.specs.Prelude.{◌≡◌, ◌≢◌, ◌<◌, [], IfSome};
 ghost use Rattle.auc_letters.specs.declared.letter.Why.{Why};

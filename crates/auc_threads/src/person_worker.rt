@@ -263,6 +263,8 @@ fn serve<O: MailBrand, P: MailBrand, H: MailBrand, R: Wait, G: Gate>(
     bids.clear();
     let asked = ask_all(rows, mails.shards, number, eps, shard, bids);
     if asked != Step::On {
+        // The bids made before are posted all the same, so that a stop at the limit of bids has what they bought.
+        let _ = send_bids(rt, gate, mails, seats, bids.as_slice());
         return asked;
     }
     exchange(rt, gate, mails, rows, number, shard, seats, bids.as_slice())

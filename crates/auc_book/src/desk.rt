@@ -19,13 +19,11 @@ use auc_mail::{Call, PostRefused, Reply, Taken};
 use std::marker::Model;
 use std::sync::ledger::Book;
 
-// What lies under the lock of a shared mail: the state, the total of the seats' shares, and how many threads wait for a letter, which only
-// spares calls that would wake nobody, and so no contract speaks of it.
+// What lies under the lock of a shared mail: the state, and the total of the seats' shares.
 #[derive(Drop)]
 pub struct Desk<T: Copy, N: MailBrand> {
     state: MailState<T>,
     total: Book<N>,
-    waiting: u32,
 }
 
 impl<T: Copy, N: MailBrand> Model for Desk<T, N> {
@@ -46,11 +44,7 @@ impl<T: Copy, N: MailBrand> Desk<T, N> {
         requires counted { total.total ≡ state.count }
         ensures { result ≡ state }
     {
-        Desk {
-            state,
-            total,
-            waiting: 0,
-        }
+        Desk { state, total }
     }
 
     // The state.
@@ -153,25 +147,6 @@ impl<T: Copy, N: MailBrand> Desk<T, N> {
         !pool.has_letter(at)
     }
 
-    // A thread begins to wait.
-    pub(crate) fn begin_wait(&mut self)
-        ensures { self.new ≡ self.old }
-    {
-        self.waiting = self.waiting.wrapping_add(1);
-    }
-
-    // It has waited.
-    pub(crate) fn end_wait(&mut self)
-        ensures { self.new ≡ self.old }
-    {
-        self.waiting = self.waiting.wrapping_sub(1);
-    }
-
-    // Whether some thread waits.
-    pub(crate) fn is_awaited(&self) -> bool {
-        self.waiting != 0
-    }
-
     // How many lines the trail has room for.
     pub(crate) fn room(&self) -> u32
         ensures { result ≡ N.room }
@@ -186,11 +161,7 @@ impl<T: Copy, N: MailBrand> Desk<T, N> {
         ensures own { All (λ l. (l.worker < N.workers) × IsOwn l.worker l.call) result.items }
     {
         self.state.every_state_is_noted();
-        let Desk {
-            state,
-            total: _,
-            waiting: _,
-        } = self;
+        let Desk { state, total: _ } = self;
         state.into_lines()
     }
 }

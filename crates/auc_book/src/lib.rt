@@ -6,9 +6,11 @@
 //! nothing is said of whether it ever gets it.
 #![tactic(auto)]
 
+mod bell;
 mod brand;
 mod desk;
 mod error;
+mod held_mail;
 mod limits;
 mod line;
 mod seat;
@@ -19,6 +21,7 @@ mod trail;
 
 pub use brand::MailBrand;
 pub use error::{CallRefused, SettleError, TrailFull};
+pub use held_mail::HeldMail;
 pub use limits::{MOST_CALLS, MOST_ROOM};
 pub use line::TrailLine;
 pub use seat::Seat;

@@ -1,6 +1,6 @@
 //! A mail that threads share.
 
-ghost use Rattle.std.specs.Prelude.{◌≡◌, ◌≢◌, ◌<◌, IfOk, OnOk, IfErr, map, Ok};
+ghost use Rattle.std.specs.Prelude.{◌≡◌, ◌≢◌, ◌<◌, IfOk, OnOk, IfErr, map, vec_len, Ok};
 ghost use Rattle.std.specs.List.{range_with_len};
 ghost use Rattle.auc_mail.specs.declared.call.Call.TheVariants as Call;
 ghost use Rattle.auc_mail.specs.Equality.{EqualIsSame};
@@ -11,9 +11,11 @@ ghost use Rattle.auc_book.specs.Seat.{new_account, SeatCalls};
 ghost use Rattle.auc_book.specs.Desk.{IsNumbered};
 ghost use Rattle.auc_book.specs.Settling.{IsSettled, IsUnsettled};
 
+use crate::bell::{Bell, new_bells};
 use crate::brand::MailBrand;
 use crate::desk::Desk;
 use crate::error::{CallRefused, SettleError, TrailFull};
+use crate::held_mail::HeldMail;
 use crate::seat::Seat;
 use crate::settling;
 use crate::state::MailState;
@@ -21,7 +23,7 @@ use crate::trail::Trail;
 use auc_mail::{MailError, Taken};
 use std::alloc::{AllocError, Global};
 use std::sync::ledger::{Blank, Share};
-use std::sync::{Condvar, Mutex, Wait};
+use std::sync::{Mutex, MutexGuard, Wait};
 
 /// A mail that threads share: a `MailState` under a lock.
 ///
@@ -32,9 +34,11 @@ use std::sync::{Condvar, Mutex, Wait};
 #[derive(Drop)]
 pub struct SharedMail<T: Copy, N: MailBrand> {
     desk: Mutex<Desk<T, N>>,
-    changed: Condvar,
+    // A bell for each box.
+    bells: Vec<Bell>,
     workers: u32,
     ghost workers_are: { workers ≡ N.workers },
+    ghost bells_are: { vec_len bells ≡ N.boxes },
 }
 
 // A seat for each worker, in order.
@@ -66,7 +70,7 @@ impl<T: Copy, N: MailBrand> SharedMail<T, N> {
     ///
     /// Errors: those of `MailState::make`, in the same order.
     ///
-    /// Takes the time of `MailState::make` and O(workers), and its memory and that for `workers * room` lines.
+    /// Takes the time of `MailState::make` and O(boxes + workers), and its memory, that for `workers * room` lines, and 128 bytes a box.
     pub fn make(
         alloc: Global,
         boxes: u32,
@@ -90,18 +94,41 @@ impl<T: Copy, N: MailBrand> SharedMail<T, N> {
         let Ok(seats) = new_seats(alloc, workers, room, shares) else {
             return Err(MailError::NoMemory);
         };
+        let Ok(bells) = new_bells(alloc, boxes) else {
+            return Err(MailError::NoMemory);
+        };
         let mail = SharedMail {
             desk: Mutex::new(Desk::new(state, total)),
-            changed: Condvar::new(),
+            bells,
             workers,
         };
         Ok((mail, seats))
     }
 
-    /// Posts `item` to the box `to` in the name of the seat's worker, and answers the letter's number in its lane, from 1. Wakes all who
-    /// wait at this mail.
+    /// Takes the lock, for any number of calls. They are made when [`HeldMail::release`] is called, which gives the lock up; till then all others wait.
+    /// This is no call.
+    pub fn hold<'b, R: Wait>(&'b self, rt: &R) -> HeldMail<'b, T, N> {
+        HeldMail::new(self.desk.lock(rt), self.bells.as_slice())
+    }
+
+    /// Takes the lock once a take from the box would give a letter, or say that none will come, or be refused. To wait is no call.
     ///
-    /// Refused as by `MailState::post`; after `TrailFull` the seat is unchanged. Takes O(1) time under the lock, and no memory.
+    /// It looks for a while before it sleeps.
+    pub fn hold_for<'b, R: Wait>(&'b self, rt: &R, at: u32) -> HeldMail<'b, T, N>
+        requires { at < N.boxes }
+    {
+        let desk = self.lock_for(rt, at);
+        let desk = self.bells[at as usize]
+            .changed
+            .wait_while(rt, desk, |state| state.is_waiting(at));
+        HeldMail::new(desk, self.bells.as_slice())
+    }
+
+    /// Posts `item` to the box `to` in the name of the seat's worker, and answers the letter's number in its lane, from 1. Wakes who waits at this
+    /// box.
+    ///
+    /// Refused as by `MailState::post`; after `TrailFull` the seat is unchanged, and all who wait at this mail are woken. Takes O(1) time under the lock, and
+    /// no memory.
     pub fn post<R: Wait>(
         &self,
         rt: &R,
@@ -113,14 +140,9 @@ impl<T: Copy, N: MailBrand> SharedMail<T, N> {
         requires { to < N.boxes }
         ensures { SeatCalls N.room seat.old (Call.Post seat.old.worker to item reserve) (post_reply result) seat.new }
     {
-        let mut desk = self.desk.lock(rt);
-        let answer = desk.post(seat, to, item, reserve);
-        // Who begins to wait later sees the letter, since it looks under the lock first.
-        let is_awaited = desk.is_awaited();
-        drop(desk);
-        if is_awaited {
-            self.changed.notify_all();
-        }
+        let mut held = self.hold(rt);
+        let answer = held.post(seat, to, item, reserve);
+        held.release();
         answer
     }
 
@@ -137,15 +159,16 @@ impl<T: Copy, N: MailBrand> SharedMail<T, N> {
         requires { at < N.boxes }
         ensures { SeatCalls N.room seat.old (Call.Take at) (take_reply result) seat.new }
     {
-        let answer = self.desk.lock(rt).take(seat, at);
-        self.wake_if_refused(answer);
+        let mut held = self.hold(rt);
+        let answer = held.take(seat, at);
+        held.release();
         answer
     }
 
     /// Takes the first waiting letter of one of the box's lanes, and waits until there is one or the box is closed. To wait is no call.
     ///
     /// Refused where no more calls can be noted, which it looks for each time it has the lock: the seat is unchanged, and all who wait at this
-    /// mail are woken. Takes the time of `MailPool::take` each time it has the
+    /// mail are woken. It looks for a while before it sleeps. Takes the time of `MailPool::take` each time it has the
     /// lock, and no memory.
     pub fn take<R: Wait>(
         &self,
@@ -157,27 +180,29 @@ impl<T: Copy, N: MailBrand> SharedMail<T, N> {
         ensures seat { SeatCalls N.room seat.old (Call.Take at) (take_reply result) seat.new }
         ensures waited { result ≢ Ok Taken.Empty }
     {
-        let mut desk = self.desk.lock(rt);
-        desk.begin_wait();
-        let mut desk = self
+        let desk = self.lock_for(rt, at);
+        let mut desk = self.bells[at as usize]
             .changed
             .wait_while(rt, desk, |desk| desk.is_waiting(at));
-        desk.end_wait();
         let answer = desk.take(seat, at);
-        drop(desk);
-        self.wake_if_refused(answer);
+        let mut held = HeldMail::new(desk, self.bells.as_slice());
+        if answer.is_err() {
+            held.ring_all();
+        }
+        held.release();
         answer
     }
 
-    /// Closes the box, and answers whether it was still open. Its waiting letters stay. Wakes all who wait at this mail.
+    /// Closes the box, and answers whether it was still open. Its waiting letters stay. Wakes who waits at it.
     ///
-    /// Refused where no more calls can be noted: the seat is unchanged. Takes O(1) time under the lock, and no memory.
+    /// Refused where no more calls can be noted: the seat is unchanged, and all who wait at this mail are woken. Takes O(1) time under the lock, and no memory.
     pub fn close<R: Wait>(&self, rt: &R, seat: &mut Seat<T, N>, at: u32) -> Result<bool, TrailFull>
         requires { at < N.boxes }
         ensures { SeatCalls N.room seat.old (Call.Close at) (close_reply result) seat.new }
     {
-        let answer = self.desk.lock(rt).close(seat, at);
-        self.changed.notify_all();
+        let mut held = self.hold(rt);
+        let answer = held.close(seat, at);
+        held.release();
         answer
     }
 
@@ -206,16 +231,23 @@ impl<T: Copy, N: MailBrand> SharedMail<T, N> {
     {
         let SharedMail {
             desk,
-            changed: _,
+            bells: _,
             workers,
         } = self;
         settling::settle(desk.into_inner(), workers, seats)
     }
-
-    // A refused take wakes all who wait at this mail, since they would be refused too.
-    fn wake_if_refused(&self, answer: Result<Taken<T>, TrailFull>) {
-        if answer.is_err() {
-            self.changed.notify_all();
+    // Takes the lock. Where a take from the box would find nothing yet, looks for a while first, without the lock.
+    fn lock_for<R: Wait>(&self, rt: &R, at: u32) -> MutexGuard<'_, Desk<T, N>>
+        requires { at < N.boxes }
+    {
+        let desk = self.desk.lock(rt);
+        if !desk.is_waiting(at) {
+            return desk;
         }
+        let bell = &self.bells[at as usize];
+        let heard = bell.rung();
+        drop(desk);
+        bell.look(heard);
+        self.desk.lock(rt)
     }
 }

@@ -1,19 +1,21 @@
 //! A worker of the objects: it deals with bids until the phase is over.
 
-ghost use Rattle.std.specs.Prelude.{ℕ, ◌≡◌, ◌≢◌, [], ◌∷◌, All, Some, IfSome};
+ghost use Rattle.std.specs.Prelude.{ℕ, ◌≡◌, ◌≢◌, ◌<◌, [], ◌∷◌, All, Some, IfSome};
+ghost use Rattle.arrayvec.specs.ArrayVec.{array_vec_len};
 ghost use Rattle.auc_letters.specs.declared.letter.Why.{Why};
 ghost use Rattle.auc_letters.specs.Award.{award_all, bids_on};
 ghost use Rattle.auc_objects.specs.Objects.{Owns, SameShape, sale_of};
 ghost use Rattle.auc_objects.specs.Answers.{letters_of};
 ghost use Rattle.auc_world.specs.Parts.{Reaches};
-ghost use Rattle.auc_threads.specs.Taking.{TookMore};
+ghost use Rattle.auc_threads.specs.Taking.{TookMore, letter_of};
 ghost use Rattle.auc_threads.specs.Sales.{IsDuty, Sells};
 
 use crate::gate::Gate;
 use crate::mails::{Mails, WorkerSeats};
-use crate::taking::{Step, end, send, take};
-use auc_book::{MailBrand, TrailFull};
-use auc_letters::{Letter, Offer, Why, shard_of};
+use crate::taking::{Step, end, post_held, take_held};
+use arrayvec::ArrayVec;
+use auc_book::{HeldMail, MailBrand, TrailFull};
+use auc_letters::{Letter, Offer, Out, To, Why, shard_of};
 use auc_mail::Taken;
 use auc_objects::{Answers, ObjectShard, letters_sell_by_their_bids};
 use std::sync::Wait;
@@ -33,11 +35,35 @@ pub(crate) struct ObjectWork<O: MailBrand, P: MailBrand, H: MailBrand> {
     pub(crate) why: Option<Why>,
 }
 
+/// How many bids are taken under one lock, at most.
+const BATCH: usize = 16;
+
 /// A bid that was dealt with, and its answers.
 #[derive(Clone, Copy)]
 struct Dealt {
     offer: Offer,
     answers: Answers,
+}
+
+/// What is to be said of a bid that was dealt with: its answers, and, where it was accepted, the price to each shard of the persons but the bidder's.
+#[derive(Clone, Copy)]
+struct Said {
+    answers: Answers,
+    price: Out,
+    knowing: u32,
+}
+
+/// The blank of a list of them.
+impl Default for Said {
+    fn default() -> Said {
+        Said {
+            answers: Answers::Refused {
+                refused: Out::default(),
+            },
+            price: Out::default(),
+            knowing: 0,
+        }
+    }
 }
 
 /// Deals with a letter. None where it is no bid that fits the shard; then nothing is changed.
@@ -55,10 +81,119 @@ fn answer(duty: Duty, shards: u32, shard: &mut ObjectShard, letter: Letter) -> O
     Some(Dealt { offer, answers })
 }
 
-/// Sends the answers in order.
-fn send_answers<O: MailBrand, P: MailBrand, H: MailBrand, R: Wait, G: Gate>(
-    rt: &R,
-    gate: &G,
+/// Deals with a letter, and notes what is to be said of it.
+fn deal_letter(
+    duty: Duty,
+    shards: u32,
+    shard: &mut ObjectShard,
+    said: &mut ArrayVec<Said, BATCH>,
+    letter: Letter,
+) -> Step
+    requires duty { IsDuty duty.number duty.eps shards shard.old }
+    requires place { array_vec_len said.old < BATCH }
+    requires reach { All (λ a. All (Reaches shards) (letters_of a.answers)) said.old.items }
+    ensures shape { SameShape shard.old shard.new }
+    ensures sold { (j : ℕ) → Owns shard.old j → sale_of shard.new j ≡ award_all duty.eps (sale_of shard.old j) (bids_on j (letter ∷ [])) }
+    ensures reach { All (λ a. All (Reaches shards) (letters_of a.answers)) said.new.items }
+    ensures why { (result ≢ Step.Stop Why.Stuck) × (result ≢ Step.Stop Why.Fell) }
+{
+    let Some(dealt) = answer(duty, shards, shard, letter) else {
+        return Step::Stop { why: Why::Stray };
+    };
+    let knowing = shard_of(dealt.offer.person, shards);
+    let price = shard.tell(dealt.offer.object, knowing);
+    said.push(Said {
+        answers: dealt.answers,
+        price,
+        knowing,
+    });
+    Step::On
+}
+
+/// Deals with what was taken.
+fn deal(
+    duty: Duty,
+    shards: u32,
+    shard: &mut ObjectShard,
+    said: &mut ArrayVec<Said, BATCH>,
+    taken: Result<Taken<Letter>, TrailFull>,
+) -> Step
+    requires duty { IsDuty duty.number duty.eps shards shard.old }
+    requires place { array_vec_len said.old < BATCH }
+    requires reach { All (λ a. All (Reaches shards) (letters_of a.answers)) said.old.items }
+    ensures shape { SameShape shard.old shard.new }
+    ensures sold { (j : ℕ) → Owns shard.old j → sale_of shard.new j ≡ award_all duty.eps (sale_of shard.old j) (bids_on j (letter_of taken)) }
+    ensures reach { All (λ a. All (Reaches shards) (letters_of a.answers)) said.new.items }
+    ensures why { (result ≢ Step.Stop Why.Stuck) × (result ≢ Step.Stop Why.Fell) }
+{
+    match taken {
+        Ok(Taken::Letter { item, .. }) => deal_letter(duty, shards, shard, said, item),
+        Ok(_) => Step::Over,
+        Err(TrailFull) => Step::Stop { why: Why::Trail },
+    }
+}
+
+/// Takes the bids that wait, as many as find a place, all under one lock, and deals with them.
+fn deal_waiting<O: MailBrand, P: MailBrand, H: MailBrand>(
+    held: HeldMail<'_, Letter, O>,
+    mails: &Mails<O, P, H>,
+    duty: Duty,
+    shard: &mut ObjectShard,
+    seats: &mut WorkerSeats<O, P, H>,
+    said: &mut ArrayVec<Said, BATCH>,
+) -> Step
+    requires duty { IsDuty duty.number duty.eps mails.now.shards shard.old }
+    requires reach { All (λ a. All (Reaches mails.now.shards) (letters_of a.answers)) said.old.items }
+    ensures sells { Sells duty.eps O.room shard.old seats.old.objects shard.new seats.new.objects }
+    ensures persons { TookMore P.room seats.old.persons [] seats.new.persons }
+    ensures hub { TookMore H.room seats.old.hub [] seats.new.hub }
+    ensures reach { All (λ a. All (Reaches mails.now.shards) (letters_of a.answers)) said.new.items }
+    ensures why { (result ≢ Step.Stop Why.Stuck) × (result ≢ Step.Stop Why.Fell) }
+{
+    let mut held = held;
+    for _ in 0..BATCH {
+        if said.is_full() {
+            held.release();
+            return Step::On;
+        }
+        let taken = take_held(&mut held, &mut seats.objects, duty.number);
+        if matches!(&taken, Ok(Taken::Empty)) {
+            held.release();
+            return Step::On;
+        }
+        let step = deal(duty, mails.shards, shard, said, taken);
+        if step != Step::On {
+            held.release();
+            return step;
+        }
+    }
+    held.release();
+    Step::On
+}
+
+/// Posts a letter to a shard of the persons; one to the hub is left.
+fn post_to_person<O: MailBrand, P: MailBrand, H: MailBrand>(
+    held: &mut HeldMail<'_, Letter, P>,
+    mails: &Mails<O, P, H>,
+    seats: &mut WorkerSeats<O, P, H>,
+    out: Out,
+) -> Step
+    requires { Reaches mails.now.shards out }
+    ensures objects { TookMore O.room seats.old.objects [] seats.new.objects }
+    ensures persons { TookMore P.room seats.old.persons [] seats.new.persons }
+    ensures hub { TookMore H.room seats.old.hub [] seats.new.hub }
+    ensures why { (result ≢ Step.Stop Why.Stuck) × (result ≢ Step.Stop Why.Fell) }
+{
+    let _ = mails.shards;
+    match out.to {
+        To::Person { shard } => post_held(held, &mut seats.persons, shard, out),
+        _ => Step::On,
+    }
+}
+
+/// Posts the answers in order, but for the letter to the hub.
+fn post_answers<O: MailBrand, P: MailBrand, H: MailBrand>(
+    held: &mut HeldMail<'_, Letter, P>,
     mails: &Mails<O, P, H>,
     seats: &mut WorkerSeats<O, P, H>,
     answers: Answers,
@@ -71,7 +206,7 @@ fn send_answers<O: MailBrand, P: MailBrand, H: MailBrand, R: Wait, G: Gate>(
 {
     let letters = answers.into_list();
     for out in letters.as_slice() {
-        let step = send(rt, gate, mails, seats, *out);
+        let step = post_to_person(held, mails, seats, *out);
         if step != Step::On {
             return step;
         }
@@ -79,18 +214,14 @@ fn send_answers<O: MailBrand, P: MailBrand, H: MailBrand, R: Wait, G: Gate>(
     Step::On
 }
 
-/// Tells the price of an object to each shard of the persons but one.
-fn tell_price<O: MailBrand, P: MailBrand, H: MailBrand, R: Wait, G: Gate>(
-    rt: &R,
-    gate: &G,
+/// Posts the price of an object to each shard of the persons but one.
+fn post_price<O: MailBrand, P: MailBrand, H: MailBrand>(
+    held: &mut HeldMail<'_, Letter, P>,
     mails: &Mails<O, P, H>,
     seats: &mut WorkerSeats<O, P, H>,
-    shard: &ObjectShard,
-    object: u32,
+    price: Out,
     knowing: u32,
 ) -> Step
-    requires object { Owns shard.now object }
-    requires shards { shard.now.person_shards ≡ mails.now.shards }
     ensures objects { TookMore O.room seats.old.objects [] seats.new.objects }
     ensures persons { TookMore P.room seats.old.persons [] seats.new.persons }
     ensures hub { TookMore H.room seats.old.hub [] seats.new.hub }
@@ -98,7 +229,7 @@ fn tell_price<O: MailBrand, P: MailBrand, H: MailBrand, R: Wait, G: Gate>(
 {
     for other in 0..mails.shards {
         if other != knowing {
-            let step = send(rt, gate, mails, seats, shard.tell(object, other));
+            let step = post_held(held, &mut seats.persons, other, price);
             if step != Step::On {
                 return step;
             }
@@ -107,37 +238,137 @@ fn tell_price<O: MailBrand, P: MailBrand, H: MailBrand, R: Wait, G: Gate>(
     Step::On
 }
 
-/// Deals with a letter, and sends what comes of it.
-fn deal<O: MailBrand, P: MailBrand, H: MailBrand, R: Wait, G: Gate>(
-    rt: &R,
-    gate: &G,
+/// Posts what is to be said to the persons of one bid.
+fn post_said<O: MailBrand, P: MailBrand, H: MailBrand>(
+    held: &mut HeldMail<'_, Letter, P>,
     mails: &Mails<O, P, H>,
-    duty: Duty,
-    shard: &mut ObjectShard,
     seats: &mut WorkerSeats<O, P, H>,
-    letter: Letter,
+    said: Said,
 ) -> Step
-    requires { IsDuty duty.number duty.eps mails.now.shards shard.old }
-    ensures shape { SameShape shard.old shard.new }
-    ensures sold { (j : ℕ) → Owns shard.old j → sale_of shard.new j ≡ award_all duty.eps (sale_of shard.old j) (bids_on j (letter ∷ [])) }
+    requires { All (Reaches mails.now.shards) (letters_of said.answers) }
     ensures objects { TookMore O.room seats.old.objects [] seats.new.objects }
     ensures persons { TookMore P.room seats.old.persons [] seats.new.persons }
     ensures hub { TookMore H.room seats.old.hub [] seats.new.hub }
     ensures why { (result ≢ Step.Stop Why.Stuck) × (result ≢ Step.Stop Why.Fell) }
 {
-    let Some(dealt) = answer(duty, mails.shards, shard, letter) else {
-        return Step::Stop { why: Why::Stray };
-    };
-    let is_refused = matches!(&dealt.answers, Answers::Refused { .. });
-    let step = send_answers(rt, gate, mails, seats, dealt.answers);
+    let is_refused = matches!(&said.answers, Answers::Refused { .. });
+    let step = post_answers(held, mails, seats, said.answers);
     if is_refused || step != Step::On {
         return step;
     }
-    let knowing = shard_of(dealt.offer.person, mails.shards);
-    tell_price(rt, gate, mails, seats, shard, dealt.offer.object, knowing)
+    post_price(held, mails, seats, said.price, said.knowing)
 }
 
-/// Takes a letter, and deals with it.
+/// Tells the persons, all under one lock.
+fn tell_persons<O: MailBrand, P: MailBrand, H: MailBrand, R: Wait, G: Gate>(
+    rt: &R,
+    gate: &G,
+    mails: &Mails<O, P, H>,
+    seats: &mut WorkerSeats<O, P, H>,
+    said: &[Said],
+) -> Step
+    requires { All (λ a. All (Reaches mails.now.shards) (letters_of a.answers)) said.now }
+    ensures objects { TookMore O.room seats.old.objects [] seats.new.objects }
+    ensures persons { TookMore P.room seats.old.persons [] seats.new.persons }
+    ensures hub { TookMore H.room seats.old.hub [] seats.new.hub }
+    ensures why { (result ≢ Step.Stop Why.Stuck) × (result ≢ Step.Stop Why.Fell) }
+{
+    gate.pass(seats.objects.worker());
+    let mut held = mails.persons.hold(rt);
+    for one in said {
+        let step = post_said(&mut held, mails, seats, *one);
+        if step != Step::On {
+            held.release();
+            return step;
+        }
+    }
+    held.release();
+    Step::On
+}
+
+/// Posts the letter to the hub, if there is one.
+fn post_first<O: MailBrand, P: MailBrand, H: MailBrand>(
+    held: &mut HeldMail<'_, Letter, H>,
+    mails: &Mails<O, P, H>,
+    seats: &mut WorkerSeats<O, P, H>,
+    answers: Answers,
+) -> Step
+    ensures objects { TookMore O.room seats.old.objects [] seats.new.objects }
+    ensures persons { TookMore P.room seats.old.persons [] seats.new.persons }
+    ensures hub { TookMore H.room seats.old.hub [] seats.new.hub }
+    ensures why { (result ≢ Step.Stop Why.Stuck) × (result ≢ Step.Stop Why.Fell) }
+{
+    let _ = mails.shards;
+    match answers {
+        Answers::First { first, .. } => post_held(held, &mut seats.hub, 0, first),
+        _ => Step::On,
+    }
+}
+
+/// Whether there is a letter to the hub.
+fn has_first(said: &[Said]) -> bool {
+    for one in said {
+        if matches!(&one.answers, Answers::First { .. }) {
+            return true;
+        }
+    }
+    false
+}
+
+/// Tells the hub of objects that were sold for the first time, all under one lock.
+fn tell_hub<O: MailBrand, P: MailBrand, H: MailBrand, R: Wait, G: Gate>(
+    rt: &R,
+    gate: &G,
+    mails: &Mails<O, P, H>,
+    seats: &mut WorkerSeats<O, P, H>,
+    said: &[Said],
+) -> Step
+    ensures objects { TookMore O.room seats.old.objects [] seats.new.objects }
+    ensures persons { TookMore P.room seats.old.persons [] seats.new.persons }
+    ensures hub { TookMore H.room seats.old.hub [] seats.new.hub }
+    ensures why { (result ≢ Step.Stop Why.Stuck) × (result ≢ Step.Stop Why.Fell) }
+{
+    if !has_first(said) {
+        return Step::On;
+    }
+    gate.pass(seats.objects.worker());
+    let mut held = mails.hub.hold(rt);
+    for one in said {
+        let step = post_first(&mut held, mails, seats, one.answers);
+        if step != Step::On {
+            held.release();
+            return step;
+        }
+    }
+    held.release();
+    Step::On
+}
+
+/// Says what is to be said of the bids that were dealt with.
+fn tell<O: MailBrand, P: MailBrand, H: MailBrand, R: Wait, G: Gate>(
+    rt: &R,
+    gate: &G,
+    mails: &Mails<O, P, H>,
+    seats: &mut WorkerSeats<O, P, H>,
+    said: &[Said],
+) -> Step
+    requires { All (λ a. All (Reaches mails.now.shards) (letters_of a.answers)) said.now }
+    ensures objects { TookMore O.room seats.old.objects [] seats.new.objects }
+    ensures persons { TookMore P.room seats.old.persons [] seats.new.persons }
+    ensures hub { TookMore H.room seats.old.hub [] seats.new.hub }
+    ensures why { (result ≢ Step.Stop Why.Stuck) × (result ≢ Step.Stop Why.Fell) }
+{
+    if said.is_empty() {
+        return Step::On;
+    }
+    let step = tell_persons(rt, gate, mails, seats, said);
+    if step != Step::On {
+        return step;
+    }
+    tell_hub(rt, gate, mails, seats, said)
+}
+
+/// Waits for bids, deals with those that wait, and says what is to be said of them, also where it then ends.
 fn serve<O: MailBrand, P: MailBrand, H: MailBrand, R: Wait, G: Gate>(
     rt: &R,
     gate: &G,
@@ -145,6 +376,7 @@ fn serve<O: MailBrand, P: MailBrand, H: MailBrand, R: Wait, G: Gate>(
     duty: Duty,
     shard: &mut ObjectShard,
     seats: &mut WorkerSeats<O, P, H>,
+    said: &mut ArrayVec<Said, BATCH>,
 ) -> Step
     requires { IsDuty duty.number duty.eps mails.now.shards shard.old }
     ensures sells { Sells duty.eps O.room shard.old seats.old.objects shard.new seats.new.objects }
@@ -152,11 +384,15 @@ fn serve<O: MailBrand, P: MailBrand, H: MailBrand, R: Wait, G: Gate>(
     ensures hub { TookMore H.room seats.old.hub [] seats.new.hub }
     ensures why { (result ≢ Step.Stop Why.Stuck) × (result ≢ Step.Stop Why.Fell) }
 {
-    match take(rt, gate, &mails.objects, &mut seats.objects, duty.number) {
-        Ok(Taken::Letter { item, .. }) => deal(rt, gate, mails, duty, shard, seats, item),
-        Ok(_) => Step::Over,
-        Err(TrailFull) => Step::Stop { why: Why::Trail },
+    said.clear();
+    gate.pass(seats.objects.worker());
+    let held = mails.objects.hold_for(rt, duty.number);
+    let step = deal_waiting(held, mails, duty, shard, seats, said);
+    let told = tell(rt, gate, mails, seats, said.as_slice());
+    if step != Step::On {
+        return step;
     }
+    told
 }
 
 /// Deals with bids until the phase is over, or it must stop.
@@ -176,8 +412,9 @@ pub(crate) fn sell<O: MailBrand, P: MailBrand, H: MailBrand, R: Wait, G: Gate>(
 {
     let mut shard = shard;
     let mut seats = seats;
+    let mut said = ArrayVec::new();
     for _ in rt.forever() {
-        let step = serve(rt, gate, mails, duty, &mut shard, &mut seats);
+        let step = serve(rt, gate, mails, duty, &mut shard, &mut seats, &mut said);
         if step != Step::On {
             let why = end(rt, gate, mails, &mut seats, step);
             return ObjectWork { shard, seats, why };

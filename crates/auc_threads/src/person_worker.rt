@@ -1,6 +1,6 @@
 //! A worker of the persons: it hears letters and bids until the phase is over.
 
-ghost use Rattle.std.specs.Prelude.{ℕ, ◌≡◌, ◌≢◌, ◌<◌, [], ◌∷◌, Some};
+ghost use Rattle.std.specs.Prelude.{ℕ, ◌≡◌, ◌≢◌, ◌<◌, [], ◌∷◌, All, Some};
 ghost use Rattle.auc_letters.specs.declared.letter.Why.{Why};
 ghost use Rattle.auc_letters.specs.Price.{IsEps};
 ghost use Rattle.auc_world.specs.Parts.{IsPersonShard, Reaches};
@@ -10,14 +10,18 @@ ghost use Rattle.auc_threads.specs.Hearing.{Hears, HearsOf, SomebodyStuck};
 
 use crate::gate::Gate;
 use crate::mails::{Mails, WorkerSeats};
-use crate::taking::{Step, end, send, take, try_take};
-use auc_book::{MailBrand, TrailFull};
+use crate::taking::{Step, end, post_held, take_held};
+use arrayvec::ArrayVec;
+use auc_book::{HeldMail, MailBrand, TrailFull};
 use auc_graph::Rows;
-use auc_letters::{Letter, Why};
+use auc_letters::{Letter, Out, To, Why};
 use auc_mail::Taken;
 use auc_persons::{Bidding, PersonShard};
 use auc_world::hearing::reason_for;
 use std::sync::Wait;
+
+/// How many bids are posted under one lock, at most. With more of them the bids would be made at older prices.
+const BATCH: usize = 16;
 
 /// What a worker of the persons gives back: its shard and its seats, and why it stopped, if it did.
 #[derive(Drop)]
@@ -71,10 +75,9 @@ fn hear(
     }
 }
 
-/// Hears what waits, but no more than two letters for each person.
-fn hear_waiting<O: MailBrand, P: MailBrand, H: MailBrand, R: Wait, G: Gate>(
-    rt: &R,
-    gate: &G,
+/// Hears what waits, but no more than two letters for each person, all under one lock.
+fn hear_waiting<O: MailBrand, P: MailBrand, H: MailBrand>(
+    held: HeldMail<'_, Letter, P>,
     mails: &Mails<O, P, H>,
     rows: &Rows,
     number: u32,
@@ -89,39 +92,21 @@ fn hear_waiting<O: MailBrand, P: MailBrand, H: MailBrand, R: Wait, G: Gate>(
     ensures hub { TookMore H.room seats.old.hub [] seats.new.hub }
     ensures why { result ≢ Step.Stop Why.Stuck }
 {
+    let mut held = held;
     for _ in 0..2 * rows.persons() {
-        let taken = try_take(rt, gate, &mails.persons, &mut seats.persons, number);
+        let taken = take_held(&mut held, &mut seats.persons, number);
         if matches!(&taken, Ok(Taken::Empty)) {
+            held.release();
             return Step::On;
         }
         let step = hear(rows, mails.shards, number, shard, taken);
         if step != Step::On {
+            held.release();
             return step;
         }
     }
+    held.release();
     Step::On
-}
-
-/// Hears a letter, and waits for it.
-fn hear_next<O: MailBrand, P: MailBrand, H: MailBrand, R: Wait, G: Gate>(
-    rt: &R,
-    gate: &G,
-    mails: &Mails<O, P, H>,
-    rows: &Rows,
-    number: u32,
-    shard: &mut PersonShard,
-    seats: &mut WorkerSeats<O, P, H>,
-) -> Step
-    requires shard { IsPersonShard rows.now mails.now.shards number shard.old }
-    requires known { number < mails.now.shards }
-    ensures is { IsPersonShard rows.now mails.now.shards number shard.new }
-    ensures hears { Hears P.room shard.old seats.old.persons shard.new seats.new.persons (result ≡ Step.Stop Why.Fell) }
-    ensures objects { TookMore O.room seats.old.objects [] seats.new.objects }
-    ensures hub { TookMore H.room seats.old.hub [] seats.new.hub }
-    ensures why { result ≢ Step.Stop Why.Stuck }
-{
-    let taken = take(rt, gate, &mails.persons, &mut seats.persons, number);
-    hear(rows, mails.shards, number, shard, taken)
 }
 
 /// Asks for the next bid.
@@ -141,34 +126,120 @@ fn ask(rows: &Rows, shards: u32, number: u32, eps: i64, shard: &mut PersonShard)
     shard.next_bid(rows, eps)
 }
 
-/// Bids, or waits for a letter where nobody is free.
-fn bid<O: MailBrand, P: MailBrand, H: MailBrand, R: Wait, G: Gate>(
+/// Asks for bids, as many as find a place, until nobody is free.
+fn ask_all(
+    rows: &Rows,
+    shards: u32,
+    number: u32,
+    eps: i64,
+    shard: &mut PersonShard,
+    bids: &mut ArrayVec<Out, BATCH>,
+) -> Step
+    requires shard { IsPersonShard rows.now shards number shard.old }
+    requires known { number < shards }
+    requires eps { IsEps eps }
+    requires reach { All (Reaches shards) bids.old.items }
+    ensures is { IsPersonShard rows.now shards number shard.new }
+    ensures copies { shard.new.copies ≡ shard.old.copies }
+    ensures stuck { result ≡ Step.Stop Why.Stuck → SomebodyStuck rows.now }
+    ensures why { result ≢ Step.Stop Why.Fell }
+    ensures reach { All (Reaches shards) bids.new.items }
+{
+    for _ in 0..BATCH {
+        if bids.is_full() {
+            return Step::On;
+        }
+        match ask(rows, shards, number, eps, shard) {
+            Bidding::Idle => return Step::On,
+            Bidding::Stop { why } => return Step::Stop { why },
+            Bidding::Out { out } => bids.push(out),
+        }
+    }
+    Step::On
+}
+
+/// Posts a letter to a shard of the objects.
+fn post_bid<O: MailBrand, P: MailBrand, H: MailBrand>(
+    held: &mut HeldMail<'_, Letter, O>,
+    mails: &Mails<O, P, H>,
+    seats: &mut WorkerSeats<O, P, H>,
+    out: Out,
+) -> Step
+    requires { Reaches mails.now.shards out }
+    ensures objects { TookMore O.room seats.old.objects [] seats.new.objects }
+    ensures persons { TookMore P.room seats.old.persons [] seats.new.persons }
+    ensures hub { TookMore H.room seats.old.hub [] seats.new.hub }
+    ensures why { (result ≢ Step.Stop Why.Stuck) × (result ≢ Step.Stop Why.Fell) }
+{
+    let _ = mails.shards;
+    match out.to {
+        To::Object { shard } => post_held(held, &mut seats.objects, shard, out),
+        _ => Step::Stop { why: Why::Stray },
+    }
+}
+
+/// Posts the bids in order, all under one lock.
+fn send_bids<O: MailBrand, P: MailBrand, H: MailBrand, R: Wait, G: Gate>(
+    rt: &R,
+    gate: &G,
+    mails: &Mails<O, P, H>,
+    seats: &mut WorkerSeats<O, P, H>,
+    bids: &[Out],
+) -> Step
+    requires { All (Reaches mails.now.shards) bids.now }
+    ensures objects { TookMore O.room seats.old.objects [] seats.new.objects }
+    ensures persons { TookMore P.room seats.old.persons [] seats.new.persons }
+    ensures hub { TookMore H.room seats.old.hub [] seats.new.hub }
+    ensures why { (result ≢ Step.Stop Why.Stuck) × (result ≢ Step.Stop Why.Fell) }
+{
+    gate.pass(seats.objects.worker());
+    let mut held = mails.objects.hold(rt);
+    for out in bids {
+        let step = post_bid(&mut held, mails, seats, *out);
+        if step != Step::On {
+            held.release();
+            return step;
+        }
+    }
+    held.release();
+    Step::On
+}
+
+/// Posts the bids and hears what waits; where there are none, waits for a letter.
+fn exchange<O: MailBrand, P: MailBrand, H: MailBrand, R: Wait, G: Gate>(
     rt: &R,
     gate: &G,
     mails: &Mails<O, P, H>,
     rows: &Rows,
     number: u32,
-    eps: i64,
     shard: &mut PersonShard,
     seats: &mut WorkerSeats<O, P, H>,
+    bids: &[Out],
 ) -> Step
     requires shard { IsPersonShard rows.now mails.now.shards number shard.old }
-    requires eps { IsEps eps }
     requires known { number < mails.now.shards }
+    requires reach { All (Reaches mails.now.shards) bids.now }
     ensures is { IsPersonShard rows.now mails.now.shards number shard.new }
     ensures hears { Hears P.room shard.old seats.old.persons shard.new seats.new.persons (result ≡ Step.Stop Why.Fell) }
     ensures objects { TookMore O.room seats.old.objects [] seats.new.objects }
     ensures hub { TookMore H.room seats.old.hub [] seats.new.hub }
-    ensures stuck { result ≡ Step.Stop Why.Stuck → SomebodyStuck rows.now }
+    ensures why { result ≢ Step.Stop Why.Stuck }
 {
-    match ask(rows, mails.shards, number, eps, shard) {
-        Bidding::Idle => hear_next(rt, gate, mails, rows, number, shard, seats),
-        Bidding::Stop { why } => Step::Stop { why },
-        Bidding::Out { out } => send(rt, gate, mails, seats, out),
+    if bids.is_empty() {
+        gate.pass(seats.persons.worker());
+        let held = mails.persons.hold_for(rt, number);
+        return hear_waiting(held, mails, rows, number, shard, seats);
     }
+    let step = send_bids(rt, gate, mails, seats, bids);
+    if step != Step::On {
+        return step;
+    }
+    gate.pass(seats.persons.worker());
+    let held = mails.persons.hold(rt);
+    hear_waiting(held, mails, rows, number, shard, seats)
 }
 
-/// Hears what waits, and bids.
+/// Asks for bids, posts them, and hears what waits.
 fn serve<O: MailBrand, P: MailBrand, H: MailBrand, R: Wait, G: Gate>(
     rt: &R,
     gate: &G,
@@ -178,6 +249,7 @@ fn serve<O: MailBrand, P: MailBrand, H: MailBrand, R: Wait, G: Gate>(
     eps: i64,
     shard: &mut PersonShard,
     seats: &mut WorkerSeats<O, P, H>,
+    bids: &mut ArrayVec<Out, BATCH>,
 ) -> Step
     requires shard { IsPersonShard rows.now mails.now.shards number shard.old }
     requires eps { IsEps eps }
@@ -188,11 +260,14 @@ fn serve<O: MailBrand, P: MailBrand, H: MailBrand, R: Wait, G: Gate>(
     ensures hub { TookMore H.room seats.old.hub [] seats.new.hub }
     ensures stuck { result ≡ Step.Stop Why.Stuck → SomebodyStuck rows.now }
 {
-    let step = hear_waiting(rt, gate, mails, rows, number, shard, seats);
-    if step != Step::On {
-        return step;
+    bids.clear();
+    let asked = ask_all(rows, mails.shards, number, eps, shard, bids);
+    if asked != Step::On {
+        // The bids made before are posted all the same, so that a stop at the limit of bids has what they bought.
+        let _ = send_bids(rt, gate, mails, seats, bids.as_slice());
+        return asked;
     }
-    bid(rt, gate, mails, rows, number, eps, shard, seats)
+    exchange(rt, gate, mails, rows, number, shard, seats, bids.as_slice())
 }
 
 /// Hears and bids until the phase is over, or it must stop.
@@ -216,8 +291,11 @@ pub(crate) fn buy<O: MailBrand, P: MailBrand, H: MailBrand, R: Wait, G: Gate>(
 {
     let mut shard = shard;
     let mut seats = seats;
+    let mut bids = ArrayVec::new();
     for _ in rt.forever() {
-        let step = serve(rt, gate, mails, rows, number, eps, &mut shard, &mut seats);
+        let step = serve(
+            rt, gate, mails, rows, number, eps, &mut shard, &mut seats, &mut bids,
+        );
         if step != Step::On {
             let why = end(rt, gate, mails, &mut seats, step);
             return PersonWork { shard, seats, why };

@@ -113,7 +113,7 @@ fn named_phase<
 /// One phase in threads, on new mails: a thread for each shard, and the hub on the caller's.
 ///
 /// `prices` are in scaled costs, from 0 to 2^61, indexed by object; `eps` is in scaled costs, from 1 to 2^60. Every worker of a shard passes the gate
-/// before each of its calls of a mail. `limits.audit` is the number of calls that each mail, and each seat at it, has places for; the trails are
+/// before each time it takes the lock of a mail. `limits.audit` is the number of calls that each mail, and each seat at it, has places for; the trails are
 /// given where it is above 0 and all three mails settled with their seats.
 ///
 /// Nothing is said of whether it ends.

@@ -94,7 +94,7 @@ fn solve_rows<R: Threads + Wait + Sync, G: Gate + Sync>(
 /// `Optimal` and `Bracket` are claims of its holders and prices that have passed the checker. `Broken` is answered where its mails didn't settle, nothing was
 /// said of its end, a price fell, a letter was stray, or its holders make no claim; never for a person with no arc.
 ///
-/// Every worker of a shard passes the gate before each of its calls of a mail. Where `limits.audit` is above 0, each mail and each seat at it have places for
+/// Every worker of a shard passes the gate before each time it takes the lock of a mail. Where `limits.audit` is above 0, each mail and each seat at it have places for
 /// as many calls, and the phases have trails. Nothing is said of whether a phase ends.
 ///
 /// Takes the time of the search and of the bids, each O(arcs of the person); beside the memory of the problem and its rows, that of one phase and of the trails of all.

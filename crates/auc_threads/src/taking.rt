@@ -1,4 +1,4 @@
-//! The calls of a worker, each behind the gate.
+//! The calls of a worker.
 
 ghost use Rattle.std.specs.Prelude.{◌≡◌, ◌≢◌, ◌<◌, [], IfSome};
 ghost use Rattle.auc_letters.specs.declared.letter.Why.{Why};
@@ -7,7 +7,7 @@ ghost use Rattle.auc_threads.specs.Taking.{TookMore, letter_of};
 
 use crate::gate::Gate;
 use crate::mails::{Mails, WorkerSeats};
-use auc_book::{CallRefused, MailBrand, Seat, SharedMail, TrailFull};
+use auc_book::{CallRefused, HeldMail, MailBrand, Seat, SharedMail, TrailFull};
 use auc_letters::{Letter, Out, To, Why};
 use auc_mail::{PostRefused, Taken};
 use auc_world::posting::reason_to_stop;
@@ -39,19 +39,31 @@ pub(crate) fn take<N: MailBrand, R: Wait, G: Gate>(
     mail.take(rt, seat, at)
 }
 
-/// Takes a letter, if one waits.
-pub(crate) fn try_take<N: MailBrand, R: Wait, G: Gate>(
-    rt: &R,
-    gate: &G,
-    mail: &SharedMail<Letter, N>,
+/// Takes a letter while the lock is held, if one waits.
+pub(crate) fn take_held<N: MailBrand>(
+    held: &mut HeldMail<'_, Letter, N>,
     seat: &mut Seat<Letter, N>,
     at: u32,
 ) -> Result<Taken<Letter>, TrailFull>
     requires { at < N.boxes }
     ensures { TookMore N.room seat.old (letter_of result) seat.new }
 {
-    gate.pass(seat.worker());
-    mail.try_take(rt, seat, at)
+    held.take(seat, at)
+}
+
+/// Posts a letter while the lock is held.
+pub(crate) fn post_held<N: MailBrand>(
+    held: &mut HeldMail<'_, Letter, N>,
+    seat: &mut Seat<Letter, N>,
+    to: u32,
+    out: Out,
+) -> Step
+    requires { to < N.boxes }
+    ensures took { TookMore N.room seat.old [] seat.new }
+    ensures why { (result ≢ Step.Stop Why.Stuck) × (result ≢ Step.Stop Why.Fell) }
+{
+    let posted = held.post(seat, to, out.letter, out.reserve);
+    step_after(posted, out.letter)
 }
 
 /// Posts a letter.
@@ -121,25 +133,6 @@ fn step_after(posted: Result<u64, CallRefused>, letter: Letter) -> Step
         Err(CallRefused::Spent) => step_refused(PostRefused::Spent, letter),
         Err(CallRefused::Full) => step_refused(PostRefused::Full, letter),
     }
-}
-
-/// Sends a letter to where it goes.
-pub(crate) fn send<O: MailBrand, P: MailBrand, H: MailBrand, R: Wait, G: Gate>(
-    rt: &R,
-    gate: &G,
-    mails: &Mails<O, P, H>,
-    seats: &mut WorkerSeats<O, P, H>,
-    out: Out,
-) -> Step
-    requires { Reaches mails.now.shards out }
-    ensures objects { TookMore O.room seats.old.objects [] seats.new.objects }
-    ensures persons { TookMore P.room seats.old.persons [] seats.new.persons }
-    ensures hub { TookMore H.room seats.old.hub [] seats.new.hub }
-    ensures why { (result ≢ Step.Stop Why.Stuck) × (result ≢ Step.Stop Why.Fell) }
-{
-    gate.pass(seats.objects.worker());
-    let posted = post_out(rt, mails, seats, out);
-    step_after(posted, out.letter)
 }
 
 /// Tells the hub why a worker stops; where that can't be posted, closes the hub's box.

@@ -1,0 +1,117 @@
+//! A shared mail while a worker has its lock.
+
+ghost use Rattle.std.specs.Prelude.{◌≡◌, ◌<◌};
+ghost use Rattle.auc_mail.specs.declared.call.Call.TheVariants as Call;
+ghost use Rattle.auc_book.specs.Replies.{close_reply, post_reply, take_reply};
+ghost use Rattle.auc_book.specs.Seat.{SeatCalls};
+
+use crate::bell::Bell;
+use crate::brand::MailBrand;
+use crate::desk::Desk;
+use crate::error::{CallRefused, TrailFull};
+use crate::seat::Seat;
+use auc_mail::Taken;
+use std::sync::MutexGuard;
+
+/// A shared mail while a worker has its lock: he makes calls one after another, each a step with a line of its own, and nobody else calls in between.
+///
+/// It can't be dropped: [`HeldMail::release`] gives the lock up.
+pub struct HeldMail<'b, T: Copy, N: MailBrand> {
+    desk: MutexGuard<'b, Desk<T, N>>,
+    bells: &'b [Bell],
+    // The boxes from `first` to before `end` are rung when the lock is given up: those that something was posted to, and what lies between.
+    first: usize,
+    end: usize,
+}
+
+impl<'b, T: Copy, N: MailBrand> HeldMail<'b, T, N> {
+    // The mail while its lock is held.
+    pub(crate) fn new(desk: MutexGuard<'b, Desk<T, N>>, bells: &'b [Bell]) -> HeldMail<'b, T, N> {
+        HeldMail {
+            desk,
+            bells,
+            first: bells.len(),
+            end: 0,
+        }
+    }
+
+    // This box is to be rung.
+    fn ring(&mut self, at: u32) {
+        let place = at as usize;
+        if place < self.first {
+            self.first = place;
+        }
+        if place >= self.end {
+            self.end = place + 1;
+        }
+    }
+
+    // All boxes are to be rung.
+    pub(crate) fn ring_all(&mut self) {
+        self.first = 0;
+        self.end = self.bells.len();
+    }
+
+    /// Posts as `SharedMail::post` does.
+    pub fn post(
+        &mut self,
+        seat: &mut Seat<T, N>,
+        to: u32,
+        item: T,
+        reserve: u32,
+    ) -> Result<u64, CallRefused>
+        requires { to < N.boxes }
+        ensures { SeatCalls N.room seat.old (Call.Post seat.old.worker to item reserve) (post_reply result) seat.new }
+    {
+        let answer = self.desk.post(seat, to, item, reserve);
+        match &answer {
+            Ok(_) => self.ring(to),
+            Err(CallRefused::TrailFull) => self.ring_all(),
+            Err(_) => {}
+        }
+        answer
+    }
+
+    /// Takes as `SharedMail::try_take` does.
+    pub fn take(&mut self, seat: &mut Seat<T, N>, at: u32) -> Result<Taken<T>, TrailFull>
+        requires { at < N.boxes }
+        ensures { SeatCalls N.room seat.old (Call.Take at) (take_reply result) seat.new }
+    {
+        let answer = self.desk.take(seat, at);
+        if answer.is_err() {
+            self.ring_all();
+        }
+        answer
+    }
+
+    /// Closes as `SharedMail::close` does.
+    pub fn close(&mut self, seat: &mut Seat<T, N>, at: u32) -> Result<bool, TrailFull>
+        requires { at < N.boxes }
+        ensures { SeatCalls N.room seat.old (Call.Close at) (close_reply result) seat.new }
+    {
+        let answer = self.desk.close(seat, at);
+        if answer.is_err() {
+            self.ring_all();
+        } else {
+            self.ring(at);
+        }
+        answer
+    }
+
+    /// Gives the lock up, and then wakes those for whom there is something: who waits at a box that was posted to or closed, and, after a refusal for want
+    /// of places in the trail, all.
+    pub fn release(self) {
+        let HeldMail {
+            desk,
+            bells,
+            first,
+            end,
+        } = self;
+        drop(desk);
+        for place in first..end {
+            if let Some(bell) = bells.get(place) {
+                bell.ring();
+            }
+        }
+    }
+}

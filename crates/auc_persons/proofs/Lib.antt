@@ -1,4 +1,5 @@
 pub mod Scans
+pub mod Found
 pub mod Amounts
 pub mod Bounds
 pub mod Counts

@@ -8,6 +8,7 @@
 mod amount;
 mod bidding;
 mod scan;
+mod search;
 mod shard;
 
 pub use auc_letters::PersonState;

@@ -69,7 +69,7 @@ impl Scan {
 
 /// The value of an arc at a price.
 #[inline]
-fn value_of(scale: i64, cost: i32, price: i64) -> i64
+pub(crate) fn value_of(scale: i64, cost: i32, price: i64) -> i64
     requires scale_low { pos 1 ≤ℤ scale }
     requires scale_high { scale ≤ℤ pos 10001 }
     requires cost_low { neg_ℤ (pos (10 ^ 9)) ≤ℤ cost }

@@ -35,7 +35,7 @@ fn only_amount(price: i64, scaled_spread: i64, eps: i64) -> i64
 
 /// The spread of the costs, scaled.
 #[inline]
-fn scaled(scale: i64, spread: i64) -> i64
+pub(crate) fn scaled(scale: i64, spread: i64) -> i64
     requires scale_low { pos 1 ≤ℤ scale }
     requires scale_high { scale ≤ℤ pos 10001 }
     requires spread_low { pos 0 ≤ℤ spread }

@@ -7,10 +7,13 @@
 
 mod amount;
 mod bidding;
+mod candidates;
 mod scan;
 mod search;
 mod shard;
+mod shortlist;
 
 pub use auc_letters::PersonState;
 pub use bidding::{Bidding, PersonFault};
+pub use candidates::Candidates;
 pub use shard::PersonShard;

@@ -63,7 +63,7 @@ pub(crate) fn bid_of(
     scale: i64,
     spread: i64,
     eps: i64,
-    row: &[RowArc],
+    _row: &[RowArc],
     copies: &[i64],
     found: Scan,
 ) -> Bid
@@ -72,10 +72,10 @@ pub(crate) fn bid_of(
     requires spread_low { pos 0 ≤ℤ spread }
     requires spread_high { spread ≤ℤ pos (2 * 10 ^ 9) }
     requires eps { IsEps eps }
-    requires row { IsRow (length copies.now) row.now }
+    requires row { IsRow (length copies.now) _row.now }
     requires copies { All IsPrice copies.now }
-    requires found { IsScan (value scale (copy_in copies.now)) row.now found }
-    ensures { IsBid scale spread eps (copy_in copies.now) row.now result.arc result.amount }
+    requires found { IsScan (value scale (copy_in copies.now)) _row.now found }
+    ensures { IsBid scale spread eps (copy_in copies.now) _row.now result.arc result.amount }
 {
     let arc = found.best;
     let price = copies[arc.object as usize];

@@ -228,25 +228,25 @@ impl Shortlist {
 
     /// What a pass over the list finds, where that is what one over the row would find.
     #[inline]
-    fn decided(&self, scale: i64, row: &[RowArc], copies: &[i64]) -> Option<Scan>
+    fn decided(&self, scale: i64, _row: &[RowArc], copies: &[i64]) -> Option<Scan>
         requires scale_low { pos 1 ≤ℤ scale }
         requires scale_high { scale ≤ℤ pos 10001 }
-        requires row { IsRow (length copies.now) row.now }
+        requires row { IsRow (length copies.now) _row.now }
         requires copies { All IsPrice copies.now }
-        requires keeps { Keeps (value scale (copy_in copies.now)) row.now self.now.arcs self.now.bound }
-        ensures { IfSome result (IsScan (value scale (copy_in copies.now)) row.now) }
+        requires keeps { Keeps (value scale (copy_in copies.now)) _row.now self.now.arcs self.now.bound }
+        ensures { IfSome result (IsScan (value scale (copy_in copies.now)) _row.now) }
     {
         let scan = scan_of(scale, self.arcs(), copies)?;
         if self.decides(scan) { Some(scan) } else { None }
     }
 
     /// A bound of the row's second: the second of the list's arcs, where they have one.
-    fn second(&self, scale: i64, row: &[RowArc], copies: &[i64]) -> Option<i64>
+    fn second(&self, scale: i64, _row: &[RowArc], copies: &[i64]) -> Option<i64>
         requires scale_low { pos 1 ≤ℤ scale }
         requires scale_high { scale ≤ℤ pos 10001 }
-        requires row { IsRow (length copies.now) row.now }
+        requires row { IsRow (length copies.now) _row.now }
         requires copies { All IsPrice copies.now }
-        requires keeps { Keeps (value scale (copy_in copies.now)) row.now self.now.arcs self.now.bound }
+        requires keeps { Keeps (value scale (copy_in copies.now)) _row.now self.now.arcs self.now.bound }
         ensures { IfSome result IsValue }
     {
         let scan = scan_of(scale, self.arcs(), copies)?;

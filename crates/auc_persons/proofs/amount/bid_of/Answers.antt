@@ -13,7 +13,7 @@ pub next_amount-amount-requires-clause-price : goal.next_amount-amount-requires-
 next_amount-amount-requires-clause-price c =
     let f1 : FitsSigned w64 c.args.scale = c.ranges.scale in
     let s = c.requires.found in
-    let lt : c.args.found.best.object < length c.args.copies.now = (All-contains (IsRowArc (length c.args.copies.now)) c.args.row.now c.args.found.best c.requires.row.within s.listed).object in
+    let lt : c.args.found.best.object < length c.args.copies.now = (All-contains (IsRowArc (length c.args.copies.now)) c.args._row.now c.args.found.best c.requires.row.within s.listed).object in
     let i = All-get_or IsPrice c.args.copies.now c.args.found.best.object (pos 0) lt c.requires.copies in
     let f : FitsSigned w64 (get_or c.args.copies.now c.args.found.best.object (pos 0)) = price_fits (get_or c.args.copies.now c.args.found.best.object (pos 0)) i in
     simp to_z-of_z i
@@ -22,7 +22,7 @@ pub only_amount-amount-requires-clause-price : goal.only_amount-amount-requires-
 only_amount-amount-requires-clause-price c =
     let f1 : FitsSigned w64 c.args.scale = c.ranges.scale in
     let s = c.requires.found in
-    let lt : c.args.found.best.object < length c.args.copies.now = (All-contains (IsRowArc (length c.args.copies.now)) c.args.row.now c.args.found.best c.requires.row.within s.listed).object in
+    let lt : c.args.found.best.object < length c.args.copies.now = (All-contains (IsRowArc (length c.args.copies.now)) c.args._row.now c.args.found.best c.requires.row.within s.listed).object in
     let i = All-get_or IsPrice c.args.copies.now c.args.found.best.object (pos 0) lt c.requires.copies in
     let f : FitsSigned w64 (get_or c.args.copies.now c.args.found.best.object (pos 0)) = price_fits (get_or c.args.copies.now c.args.found.best.object (pos 0)) i in
     simp to_z-of_z i
@@ -37,7 +37,7 @@ returns-then-found-lt9223372036854775807 c =
     let f6 : FitsSigned w64 (get_or c.args.copies.now c.args.found.best.object (pos 0)) = search rules in
     let s = c.requires.found in
     let e = simp to_z-of_z at c.next_amount-amount.ensures in
-    simp to_z-of_z (next_bid c.args.scale c.args.spread c.args.eps (copy_in c.args.copies.now) c.args.row.now c.args.found c.next_amount-amount.result s (omega (arith, ints)) e)
+    simp to_z-of_z (next_bid c.args.scale c.args.spread c.args.eps (copy_in c.args.copies.now) c.args._row.now c.args.found c.next_amount-amount.result s (omega (arith, ints)) e)
 
 pub returns : goal.returns
 returns c =
@@ -50,4 +50,4 @@ returns c =
     let s = c.requires.found in
     let g = simp to_z-of_z at c.scaled.ensures.is in
     let e = simp to_z-of_z at c.only_amount-amount.ensures in
-    simp to_z-of_z (only_bid c.args.scale c.args.spread c.args.eps (copy_in c.args.copies.now) c.args.row.now c.args.found c.only_amount-amount.result s (omega (arith, ints)) (rw g at e))
+    simp to_z-of_z (only_bid c.args.scale c.args.spread c.args.eps (copy_in c.args.copies.now) c.args._row.now c.args.found c.only_amount-amount.result s (omega (arith, ints)) (rw g at e))

@@ -6,4 +6,4 @@ use Rattle.auc_persons.proofs.shortlist.Shortlist.second.Goals as goal
 
 pub scan_of-requires-clause-row : goal.scan_of-requires-clause-row
 scan_of-requires-clause-row c =
-    rw c.arcs.ensures.value (list_is_row (value c.args.scale (copy_in c.args.copies.now)) (length c.args.copies.now) c.args.row.now c.args.self.now.arcs c.args.self.now.bound c.requires.row c.requires.keeps (rw c.arcs.ensures.value at c.arcs.ensures.few))
+    rw c.arcs.ensures.value (list_is_row (value c.args.scale (copy_in c.args.copies.now)) (length c.args.copies.now) c.args._row.now c.args.self.now.arcs c.args.self.now.bound c.requires.row c.requires.keeps (rw c.arcs.ensures.value at c.arcs.ensures.few))

@@ -1,8 +1,7 @@
 -- Lists of candidates stay right: in a turn, and from a phase to the next.
-use Rattle.std.proofs.Common.{ℕ, ℤ, ◌<◌, ◌≡◌, ◌⊎◌, inl, inr, List, [], length, get_or, set, pos, sym, subst, ap, ◌∙◌, arith, get_or-set_same, get_or-set_other}
-use Rattle.std.specs.Prelude.{◌≤ℤ◌, All, Option}
+use Rattle.std.proofs.Common.{ℕ, ℤ, ◌<◌, ◌≡◌, ◌⊎◌, inl, inr, List, [], length, get_or, set, subst, ap, ◌∙◌, arith, get_or-set_same, get_or-set_other}
+use Rattle.std.specs.Prelude.{Option}
 use Rattle.std.proofs.lemmas.Bool.{cases_eq}
-use Rattle.std.proofs.lemmas.Int.{ints}
 use Rattle.std.proofs.lemmas.List.{length-set}
 use Rattle.std.proofs.lemmas.List.Elements.{All-from_get_or, All-get_or, All-nil, All-weaker}
 use Rattle.auc_graph.specs.Table.{Table, row_of}

@@ -1,4 +1,4 @@
-use Rattle.std.proofs.Common.{length, arith, ◌+◌}
+use Rattle.std.proofs.Common.{arith}
 use Rattle.std.proofs.lemmas.List.Elements.{All-push}
 use Rattle.auc_persons.specs.Candidates.{Kept}
 use Rattle.auc_world.proofs.making.new_candidates.Goals as goal

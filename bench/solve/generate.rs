@@ -5,6 +5,7 @@
 //!     generate plane PERSONS NEAREST SEED FILE           the nearest of points in a square
 //!     generate few PERSONS CHEAP DEGREE SEED FILE        a price war: all persons want the same few cheap objects
 //!     generate levels PERSONS DEGREE MOST SEED FILE      a price war: each arc costs 1 or MOST
+//!     generate products PERSONS SEED FILE                each person knows all objects; an arc costs the product of the two numbers
 //!
 //! There are as many objects as persons. No person knows an object twice, and the planted arcs have costs like the others: they
 //! see to it that there is a full assignment, and say nothing of a least one. The arcs stand in the order of the persons, and
@@ -17,6 +18,8 @@
 //! distance, rounded. A person knows the NEAREST objects and the planted one. That one may be anywhere, so its arc is
 //! a long one, by which a person leaves a crowd.
 //!
+//! Of products, nothing is drawn: the arc of person i to object j costs i * j, so all persons want the same objects in the same order.
+//!
 //! Of few, each person knows DEGREE of the CHEAP first objects, at costs from 1 to `MOST_CHEAP`, and one dear object, at costs
 //! from `LEAST_DEAR` to `MOST_DEAR`. Those whose planted object is a cheap one have a dear one that is drawn. So the
 //! prices of the cheap objects rise until most persons prefer their dear one.
@@ -24,7 +27,7 @@
 use std::fs::File;
 use std::io::{BufWriter, Result, Write};
 
-const USAGE: &str = "usage: generate share|uniform|plane|few|levels PERSONS NUMBER [NUMBER] SEED FILE";
+const USAGE: &str = "usage: generate share|uniform|plane|few|levels|products PERSONS [NUMBER] [NUMBER] SEED FILE";
 const MOST_PERSONS: usize = 10_000;
 const MOST_COST: usize = 1_000_000_000;
 const MOST_ARCS: usize = 33_554_432;
@@ -171,6 +174,10 @@ fn few(persons: usize, cheap: usize, degree: usize, random: &mut Random) -> Rows
     planted.into_iter().map(|object| row_of(object)).collect()
 }
 
+fn products(persons: usize) -> Rows {
+    (1..=persons).map(|person| (0..persons).map(|object| Arc { object, cost: person * (object + 1) }).collect()).collect()
+}
+
 fn write_problem(rows: &Rows, out: &mut impl Write) -> Result<()> {
     writeln!(out, "{}", rows.len())?;
     for (person, row) in rows.iter().enumerate() {
@@ -195,6 +202,7 @@ fn main() -> Result<()> {
         ("plane", &[persons, nearest]) => plane(persons, nearest, &mut random),
         ("few", &[persons, cheap, degree]) => few(persons, cheap, degree, &mut random),
         ("levels", &[persons, degree, most]) => levels(persons, degree, most, &mut random),
+        ("products", &[persons]) => products(persons),
         _ => panic!("{USAGE}"),
     };
     let arcs: usize = rows.iter().map(Vec::len).sum();

@@ -1,4 +1,6 @@
 pub mod Scans
+pub mod Found
+pub mod Shortlists
 pub mod Amounts
 pub mod Bounds
 pub mod Counts

@@ -1,2 +1,4 @@
 pub mod Scan
+pub mod Search
+pub mod Candidates
 pub mod Persons

@@ -1,12 +1,12 @@
 //! The amount of a bid.
 
-ghost use Rattle.std.specs.Prelude.{◌≡◌, ◌*◌, ◌^◌, pos, ◌+ℤ◌, ◌-ℤ◌, ◌*ℤ◌, ◌≤ℤ◌, All, length, IfSome, IfNone, []};
-ghost use Rattle.auc_graph.specs.Bid.{IsBid};
+ghost use Rattle.std.specs.Prelude.{◌≡◌, ◌*◌, ◌^◌, pos, ◌+ℤ◌, ◌-ℤ◌, ◌*ℤ◌, ◌≤ℤ◌, All, length};
+ghost use Rattle.auc_graph.specs.Bid.{IsBid, value};
 ghost use Rattle.auc_graph.specs.Table.{IsRow};
 ghost use Rattle.auc_letters.specs.Price.{IsPrice, IsEps};
-ghost use Rattle.auc_persons.specs.Scan.{copy_in, IsValue};
+ghost use Rattle.auc_persons.specs.Scan.{copy_in, IsScan, IsValue};
 
-use crate::scan::scan_of;
+use crate::scan::Scan;
 use auc_graph::RowArc;
 
 /// The price, what the best other arc costs more, and eps.
@@ -35,7 +35,7 @@ fn only_amount(price: i64, scaled_spread: i64, eps: i64) -> i64
 
 /// The spread of the costs, scaled.
 #[inline]
-fn scaled(scale: i64, spread: i64) -> i64
+pub(crate) fn scaled(scale: i64, spread: i64) -> i64
     requires scale_low { pos 1 ≤ℤ scale }
     requires scale_high { scale ≤ℤ pos 10001 }
     requires spread_low { pos 0 ≤ℤ spread }
@@ -54,36 +54,35 @@ pub(crate) struct Bid {
     pub(crate) arc: RowArc,
 }
 
-/// What is bid on the best arc of a row, at these copies of the prices, indexed by object; nothing where the row has no arc.
+/// What is bid on the best arc of a row that a pass over it has found, at these copies of the prices, indexed by object.
 ///
 /// `scale` is one more than the persons, `spread` that of the costs of the file; `eps` and `copies` are in scaled costs.
 ///
-/// Takes one pass over the row, O(arcs of the row) time and no memory. The method is the bid of the auction algorithm
-/// (Bertsekas, 1979).
+/// Takes O(1) time and no memory. The method is the bid of the auction algorithm (Bertsekas, 1979).
 pub(crate) fn bid_of(
     scale: i64,
     spread: i64,
     eps: i64,
-    row: &[RowArc],
+    _row: &[RowArc],
     copies: &[i64],
-) -> Option<Bid>
+    found: Scan,
+) -> Bid
     requires scale_low { pos 1 ≤ℤ scale }
     requires scale_high { scale ≤ℤ pos 10001 }
     requires spread_low { pos 0 ≤ℤ spread }
     requires spread_high { spread ≤ℤ pos (2 * 10 ^ 9) }
     requires eps { IsEps eps }
-    requires row { IsRow (length copies.now) row.now }
+    requires row { IsRow (length copies.now) _row.now }
     requires copies { All IsPrice copies.now }
-    ensures bid { IfSome result (λ b. IsBid scale spread eps (copy_in copies.now) row.now b.arc b.amount) }
-    ensures none { IfNone result (row.now ≡ []) }
+    requires found { IsScan (value scale (copy_in copies.now)) _row.now found }
+    ensures { IsBid scale spread eps (copy_in copies.now) _row.now result.arc result.amount }
 {
-    let found = scan_of(scale, row, copies)?;
-    let price = copies[found.best.object as usize];
     let arc = found.best;
+    let price = copies[arc.object as usize];
     if found.second < i64::MAX {
         let amount = next_amount(price, found.second, found.value, eps);
-        return Some(Bid { amount, arc });
+        return Bid { amount, arc };
     }
     let amount = only_amount(price, scaled(scale, spread), eps);
-    Some(Bid { amount, arc })
+    Bid { amount, arc }
 }

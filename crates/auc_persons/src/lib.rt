@@ -3,13 +3,21 @@
 //! A shard bids for its persons one at a time, each on his best arc at the shard's copies of the prices, and takes the
 //! answers: pure code, with no mail, no lock and no thread. The bid is that of `auc_graph` (`specs/Bid.antt`); what each
 //! call leaves of the shard is defined in `specs/Persons.antt`.
+//!
+//! A long row is looked at from the two arcs on that decided the person's last bid. Beside a shard its caller may keep
+//! [`Candidates`], lists by which most bids look at a few arcs alone; the bids are the same
+//! ([`PersonShard::next_bid_by`]). What a list says of its row is defined in `specs/Candidates.antt`.
 #![tactic(auto)]
 
 mod amount;
 mod bidding;
+mod candidates;
 mod scan;
+mod search;
 mod shard;
+mod shortlist;
 
 pub use auc_letters::PersonState;
 pub use bidding::{Bidding, PersonFault};
+pub use candidates::{Candidates, lists_stay_right};
 pub use shard::PersonShard;

@@ -6,7 +6,7 @@ ghost use Rattle.auc_graph.specs.Table.{IsRow};
 ghost use Rattle.auc_letters.specs.Price.{IsPrice};
 ghost use Rattle.auc_persons.specs.Scan.{copy_in, Judged, Joined, IsScan};
 
-use auc_graph::RowArc;
+use auc_graph::{MOST_PERSONS, RowArc};
 
 /// The best arc so far, its value, and the least value of arcs to other objects (the greatest number where there is none).
 #[derive(Clone, Copy, Debug, PartialEq, Eq)]
@@ -67,9 +67,19 @@ impl Scan {
     }
 }
 
+/// One more than the persons, by which costs are scaled.
+pub(crate) fn scale_of(persons: u32) -> i64
+    requires { persons ≤ MOST_PERSONS }
+    ensures is { result ≡ pos (persons + 1) }
+    ensures low { pos 1 ≤ℤ result }
+    ensures high { result ≤ℤ pos 10001 }
+{
+    persons as i64 + 1
+}
+
 /// The value of an arc at a price.
 #[inline]
-fn value_of(scale: i64, cost: i32, price: i64) -> i64
+pub(crate) fn value_of(scale: i64, cost: i32, price: i64) -> i64
     requires scale_low { pos 1 ≤ℤ scale }
     requires scale_high { scale ≤ℤ pos 10001 }
     requires cost_low { neg_ℤ (pos (10 ^ 9)) ≤ℤ cost }

@@ -20,3 +20,4 @@ pub mod PhaseLaws
 mod Bridge
 mod BracketLaws
 mod ChainLaws
+pub mod ListLaws

@@ -102,6 +102,9 @@ module _ (t : Table) (limits : Limits) (prices : List ℤ) (eps : ℤ) (table : 
   reached : Reached g (seen v)
   reached = let run = rounds_schedule g (seen p) rounds.0 (seen v) led in reached_on g (seen p) (seen v) run.0 (reached_start g (seen p) law begins) run.1
 
+  pub is_reached : Reached g (seen v)
+  is_reached = reached
+
   played : (e : End) → (seen v).end ≡ Some e → IsPlayed t limits (record { eps = eps; prices = prices; world = seen v })
   played e end = record { parts = p; made = made; rounds = rounds.0; played = led; ended = λ none. (let b : ◌≡◌ {A = Option End} None (Some e) = sym none ∙ end in cc) }
 

@@ -13,3 +13,4 @@ pub mod Posting
 pub mod Bidding
 pub mod Hearing
 pub mod Selling
+pub mod Lists

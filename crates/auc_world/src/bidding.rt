@@ -46,7 +46,12 @@ impl<'a> World<'a> {
     {
         let rows = self.rows;
         let eps = self.eps;
-        let persons = &mut self.persons[shard as usize];
+        let place = shard as usize;
+        let persons = &mut self.persons[place];
+        if place < self.candidates.len() {
+            let candidates = &mut self.candidates[place];
+            return persons.next_bid_by(rows, eps, candidates);
+        }
         persons.next_bid(rows, eps)
     }
 

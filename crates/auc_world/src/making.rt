@@ -1,15 +1,16 @@
 //! The lists of a new world.
 
-ghost use Rattle.std.specs.Prelude.{ℕ, ◌≡◌, ◌<◌, ◌≤◌, ◌+◌, ◌*◌, [], length, All, slice_index_or, IfOk};
+ghost use Rattle.std.specs.Prelude.{ℕ, ℤ, List, ◌≡◌, ◌<◌, ◌≤◌, ◌+◌, ◌*◌, [], length, All, slice_index_or, IfOk};
 ghost use Rattle.auc_graph.specs.Table.{IsTable};
 ghost use Rattle.auc_letters.specs.Price.{IsPrice};
+ghost use Rattle.auc_world.specs.Lists.{MayKeep};
 ghost use Rattle.auc_world.specs.Making.{new_persons, new_objects, nodes_or};
 ghost use Rattle.auc_world.specs.Parts.{no_persons, no_objects};
 
 use crate::outbox::Outbox;
 use auc_graph::Rows;
 use auc_objects::ObjectShard;
-use auc_persons::PersonShard;
+use auc_persons::{Candidates, PersonShard};
 use std::alloc::{AllocError, Global};
 
 /// New shards of the persons.
@@ -29,6 +30,23 @@ pub(crate) fn new_person_shards(
     let mut made = Vec::with_capacity(alloc, shards as usize)?;
     for shard in 0..shards {
         let one = PersonShard::make(alloc, shard, shards, shards, persons, prices, bids)?;
+        made.push(one)?;
+    }
+    Ok(made)
+}
+
+/// Lists of candidates for the shards of the persons, by shard. Each is empty, and none has a list where no row is long.
+pub(crate) fn new_candidates(
+    alloc: Global,
+    shards: u32,
+    rows: &Rows,
+) -> Result<Vec<Candidates>, AllocError>
+    requires some { 0 < shards }
+    ensures { IfOk result (λ v. (prices : List ℤ) → MayKeep rows.now shards prices v.items) }
+{
+    let mut made = Vec::with_capacity(alloc, shards as usize)?;
+    for shard in 0..shards {
+        let one = Candidates::make(alloc, rows, shard, shards)?;
         made.push(one)?;
     }
     Ok(made)

@@ -5,6 +5,7 @@ ghost use Rattle.auc_graph.specs.Table.{IsTableOf};
 ghost use Rattle.auc_letters.specs.Price.{IsEps};
 ghost use Rattle.auc_world.specs.Answers.{HasAssignment, IsAnswer};
 ghost use Rattle.auc_world.specs.Chain.{IsOfRun};
+ghost use Rattle.auc_world.specs.Lists.{MayKeep, StayKept};
 ghost use Rattle.auc_world.specs.Making.{AreLimits, ArePrices};
 ghost use Rattle.auc_world.specs.Phases.{ComesOf, NobodyStuck};
 
@@ -13,12 +14,15 @@ use crate::eps::{first_eps, next_eps};
 use crate::finish::{bracket, infeasible, optimal, stop_of};
 use crate::gathering::Gathered;
 use crate::limits::Limits;
+use crate::making::new_candidates;
 use crate::world::World;
 use auc_cert::Reason;
 use auc_graph::{ArcList, Rows};
 use auc_hall::{Matching, Partial, complete};
 use auc_model::End;
+use auc_persons::Candidates;
 use std::alloc::{AllocError, Global};
+use std::mem;
 
 /// What a phase comes to.
 #[derive(Drop)]
@@ -31,24 +35,29 @@ pub(crate) enum Outcome {
     Broken(Guard),
 }
 
-/// Plays one phase in whole rounds.
+/// Plays one phase in whole rounds, by lists of candidates that outlast it where all is sold.
 fn play_phase(
     alloc: Global,
     rows: &Rows,
     limits: &Limits,
     prices: &[i64],
     eps: i64,
+    candidates: &mut Vec<Candidates>,
 ) -> Result<Outcome, AllocError>
     requires limits { AreLimits limits.now }
     requires prices { ArePrices rows.now prices.now }
     requires eps { IsEps eps }
     requires arcs { NobodyStuck rows.now }
-    ensures { IfOk result (ComesOf rows.now limits.now prices.now eps) }
+    requires kept { MayKeep rows.now limits.now.shards prices.now candidates.old.items }
+    ensures comes { IfOk result (ComesOf rows.now limits.now prices.now eps) }
+    ensures kept { IfOk result (StayKept rows.now limits.now.shards candidates.new.items) }
 {
-    let mut world = World::make(alloc, rows, limits, prices, eps)?;
+    let lists = mem::replace(candidates, Vec::new(alloc));
+    let mut world = World::make_with(alloc, rows, limits, prices, eps, lists)?;
     match world.run() {
         Some(End::All) => {
             let gathered = world.gather(alloc)?;
+            *candidates = world.into_candidates();
             Ok(Outcome::Sold(gathered))
         }
         Some(End::Stopped { why }) => match stop_of(why) {
@@ -80,8 +89,10 @@ fn solve_rows(
     let _ = problem.arcs();
     let mut prices = vec![in alloc; 0; rows.objects() as usize]?;
     let mut eps = first_eps(rows);
+    let mut candidates = new_candidates(alloc, limits.shards, rows)?;
     loop {
-        let gathered = match play_phase(alloc, rows, limits, prices.as_slice(), eps)? {
+        let played = play_phase(alloc, rows, limits, prices.as_slice(), eps, &mut candidates)?;
+        let gathered = match played {
             Outcome::Sold(gathered) => gathered,
             Outcome::Stopped { reason, gathered } => {
                 return bracket(alloc, problem, rows, reason, gathered);

@@ -9,6 +9,7 @@ ghost use Rattle.auc_model.specs.Start.{Lawful, Starts, UsualNodes};
 ghost use Rattle.auc_model.specs.World.{phase_of};
 ghost use Rattle.auc_world.specs.Hub.{ending};
 ghost use Rattle.auc_world.specs.Mails.{TakesOne, boxes_in, named, with_named};
+ghost use Rattle.auc_world.specs.Lists.{AreKept, MayKeep};
 ghost use Rattle.auc_world.specs.Making.{AreLimits, ArePrices, IsMade};
 ghost use Rattle.auc_world.specs.Parts.{AreParts, OwnsObject, phase, seen};
 
@@ -21,7 +22,7 @@ use auc_graph::Rows;
 use auc_letters::{Held, Letter, shard_of};
 use auc_model::{End, MailName};
 use auc_objects::ObjectShard;
-use auc_persons::PersonShard;
+use auc_persons::{Candidates, PersonShard};
 use std::alloc::{AllocError, Global};
 use std::marker::Model;
 
@@ -38,16 +39,20 @@ pub struct World<'a> {
     pub(crate) outboxes: Vec<Outbox>,
     pub(crate) stopped: Vec<bool>,
     pub(crate) mails: Mails,
+    // By shard of the persons, for the first of them or for none; of no importance to what any turn does, so no contract of a
+    // turn speaks of it.
+    pub(crate) candidates: Vec<Candidates>,
 }
 
 impl<'a> Model for World<'a> {
+    ghost use Rattle.auc_world.specs.Lists.{AreKept};
     ghost use Rattle.auc_world.specs.Parts.{Parts, AreParts};
 
     ghost Value = { Parts };
 
     ghost view = { λ w. record { table = w.rows.now; shards = w.shards; eps = w.eps; persons = w.persons.items; objects = w.objects.items; outboxes = w.outboxes.items; stopped = w.stopped.items; mails = w.mails; hub = w.hub } };
 
-    ghost invariant = { λ w. AreParts (record { table = w.rows.now; shards = w.shards; eps = w.eps; persons = w.persons.items; objects = w.objects.items; outboxes = w.outboxes.items; stopped = w.stopped.items; mails = w.mails; hub = w.hub }) };
+    ghost invariant = { λ w. AreParts (record { table = w.rows.now; shards = w.shards; eps = w.eps; persons = w.persons.items; objects = w.objects.items; outboxes = w.outboxes.items; stopped = w.stopped.items; mails = w.mails; hub = w.hub }) × AreKept w.rows.now w.persons.items w.candidates.items };
 }
 
 impl<'a> World<'a> {
@@ -81,8 +86,41 @@ impl<'a> World<'a> {
         ensures prices { IfOk result (λ w. (j : ℕ) → (seen w).price j ≡ slice_index_or prices.now j (pos 0)) }
         ensures copies { IfOk result (λ w. (s j : ℕ) → s < limits.now.shards → (seen w).copy s j ≡ slice_index_or prices.now j (pos 0)) }
     {
-        let world = World::assemble(alloc, rows, limits, prices, eps)?;
+        let world = World::assemble(alloc, rows, limits, prices, eps, Vec::new(alloc))?;
         Ok(world)
+    }
+
+    /// The same world, whose shards of the persons bid by these lists of candidates, by shard: those of the worlds before, of
+    /// lower prices, or new ones.
+    pub(crate) fn make_with(
+        alloc: Global,
+        rows: &'a Rows,
+        limits: &Limits,
+        prices: &[i64],
+        eps: i64,
+        candidates: Vec<Candidates>,
+    ) -> Result<World<'a>, AllocError>
+        requires limits { AreLimits limits.now }
+        requires prices { ArePrices rows.now prices.now }
+        requires eps { IsEps eps }
+        requires kept { MayKeep rows.now limits.now.shards prices.now candidates.items }
+        ensures made { IfOk result (IsMade rows.now limits.now prices.now eps) }
+        ensures phase { IfOk result (λ w. phase w ≡ phase_of rows.now limits.now.shards eps) }
+        ensures table { IsTable rows.now }
+        ensures lawful { IfOk result (λ w. Lawful (phase w)) }
+        ensures starts { IfOk result (λ w. Starts (phase w) (seen w)) }
+    {
+        let world = World::assemble(alloc, rows, limits, prices, eps, candidates)?;
+        Ok(world)
+    }
+
+    /// The lists of candidates, for the world of the next phase.
+    pub(crate) fn into_candidates(self) -> Vec<Candidates>
+        ensures kept { AreKept self.entry.table self.entry.persons result.items }
+        ensures sound { AreParts self.entry }
+    {
+        let World { candidates, .. } = self;
+        candidates
     }
 
     /// The parts of a new world.
@@ -92,10 +130,12 @@ impl<'a> World<'a> {
         limits: &Limits,
         prices: &[i64],
         eps: i64,
+        candidates: Vec<Candidates>,
     ) -> Result<World<'a>, AllocError>
         requires limits { AreLimits limits.now }
         requires prices { ArePrices rows.now prices.now }
         requires eps { IsEps eps }
+        requires kept { MayKeep rows.now limits.now.shards prices.now candidates.items }
         ensures made { IfOk result (IsMade rows.now limits.now prices.now eps) }
         ensures table { IsTable rows.now }
     {
@@ -125,6 +165,7 @@ impl<'a> World<'a> {
             outboxes: new_outboxes(alloc, 2 * shards)?,
             stopped: vec![in alloc; false; shards as usize]?,
             mails,
+            candidates,
         })
     }
 

@@ -1,39 +1,117 @@
 //! What a shard of the persons bids next.
 
 ghost use Rattle.std.specs.Prelude.{◌≡◌, ◌≢◌, ◌<◌, ◌≤◌, ◌+◌, [], pos, ◌≤ℤ◌, length, IfSome, IfNone};
+ghost use Rattle.auc_graph.specs.Bid.{value};
 ghost use Rattle.auc_graph.specs.Table.{row_of};
 ghost use Rattle.auc_letters.specs.Price.{IsEps};
+ghost use Rattle.auc_persons.specs.Candidates.{Kept};
+ghost use Rattle.auc_persons.specs.Scan.{copy_in, IsScan};
 ghost use Rattle.auc_persons.specs.Persons.{Bids, IsMadeFor, NextBid, Rising, SameShape, bid_letter, first_idle};
 
 use crate::amount::{Bid, bid_of};
 use crate::bidding::Bidding;
+use crate::candidates::Candidates;
+use crate::scan::{Scan, scale_of, scan_of};
+use crate::search::scan_from;
 use crate::shard::PersonShard;
-use auc_graph::{MOST_PERSONS, Rows};
+use auc_graph::Rows;
 use auc_letters::{Letter, MOST_PRICE, Out, To, Why, shard_of};
 
-/// One more than the persons, by which costs are scaled.
-fn scale_of(persons: u32) -> i64
-    requires { persons ≤ MOST_PERSONS }
-    ensures is { result ≡ pos (persons + 1) }
-    ensures low { pos 1 ≤ℤ result }
-    ensures high { result ≤ℤ pos 10001 }
-{
-    persons as i64 + 1
-}
+/// Rows up to so many arcs are looked at from nothing: two remembered arcs don't help there.
+const SHORT: usize = 20;
 
 impl PersonShard {
-    /// What the next person bids.
+    /// The best arc of a person, in one pass over his row; nothing where he has none.
     #[inline]
-    fn bid_for(&self, rows: &Rows, person: u32, eps: i64) -> Option<Bid>
+    fn best_for(&mut self, rows: &Rows, person: u32) -> Option<Scan>
+        requires rows { IsMadeFor rows.now self.old }
+        requires person { person < length self.old.states }
+        ensures some { IfSome result (λ f. IsScan (value (pos (length rows.now.rows + 1)) (copy_in self.old.copies)) (row_of rows.now person) f) }
+        ensures none { IfNone result (row_of rows.now person ≡ []) }
+        ensures same { self.new ≡ self.old }
+    {
+        let row = rows.row(person);
+        let scale = scale_of(rows.persons());
+        let copies = self.copies.as_slice();
+        if row.len() <= SHORT {
+            return scan_of(scale, row, copies);
+        }
+        let search = scan_from(scale, row, copies, self.hints[person as usize])?;
+        self.hints[person as usize] = search.hint;
+        Some(search.scan)
+    }
+
+    /// The same, by his list of candidates where that tells it.
+    #[inline]
+    fn best_by(&mut self, rows: &Rows, person: u32, candidates: &mut Candidates) -> Option<Scan>
+        requires rows { IsMadeFor rows.now self.old }
+        requires person { person < length self.old.states }
+        requires kept { Kept rows.now self.old.copies candidates.old }
+        ensures some { IfSome result (λ f. IsScan (value (pos (length rows.now.rows + 1)) (copy_in self.old.copies)) (row_of rows.now person) f) }
+        ensures none { IfNone result (row_of rows.now person ≡ []) }
+        ensures same { self.new ≡ self.old }
+        ensures kept { Kept rows.now self.old.copies candidates.new }
+    {
+        if let Some(scan) = self.listed_for(rows, person, candidates) {
+            return Some(scan);
+        }
+        self.best_for(rows, person)
+    }
+
+    /// The best arc of a person, where his list of candidates tells it.
+    #[inline]
+    fn listed_for(&self, rows: &Rows, person: u32, candidates: &mut Candidates) -> Option<Scan>
+        requires rows { IsMadeFor rows.now self.now }
+        requires person { person < length self.now.states }
+        requires kept { Kept rows.now self.now.copies candidates.old }
+        ensures some { IfSome result (λ f. IsScan (value (pos (length rows.now.rows + 1)) (copy_in self.now.copies)) (row_of rows.now person) f) }
+        ensures kept { Kept rows.now self.now.copies candidates.new }
+    {
+        let place = person / self.of;
+        candidates.scan(rows, person, place, self.copies.as_slice())
+    }
+
+    /// What a person bids, whose best arc is found.
+    #[inline]
+    fn bid_for(&self, rows: &Rows, person: u32, eps: i64, found: Scan) -> Bid
         requires rows { IsMadeFor rows.now self.now }
         requires person { person < length self.now.states }
         requires eps { IsEps eps }
-        ensures bid { IfSome result (λ b. Bids rows.now eps self.now person b.arc b.amount) }
-        ensures none { IfNone result (row_of rows.now person ≡ []) }
+        requires found { IsScan (value (pos (length rows.now.rows + 1)) (copy_in self.now.copies)) (row_of rows.now person) found }
+        ensures { Bids rows.now eps self.now person result.arc result.amount }
     {
         let copies = self.copies.as_slice();
         let scale = scale_of(rows.persons());
-        bid_of(scale, rows.cost_spread(), eps, rows.row(person), copies)
+        let spread = rows.cost_spread();
+        bid_of(scale, spread, eps, rows.row(person), copies, found)
+    }
+
+    /// The bid of the person who has been free longest, whose best arc is found, where he has one.
+    #[tactic(auto, using(crate::proofs::Rise::shape_bid, crate::proofs::Rise::shape_same))]
+    #[inline]
+    fn bid_with(&mut self, rows: &Rows, eps: i64, person: u32, found: Option<Scan>) -> Bidding
+        requires rows { IsMadeFor rows.now self.old }
+        requires eps { IsEps eps }
+        requires some { self.old.idle ≢ [] }
+        requires first { person ≡ first_idle self.old }
+        requires known { person < length self.old.states }
+        requires left { self.old.bids ≢ 0 }
+        requires found { IfSome found (λ f. IsScan (value (pos (length rows.now.rows + 1)) (copy_in self.old.copies)) (row_of rows.now person) f) }
+        requires stuck { IfNone found (row_of rows.now person ≡ []) }
+        ensures exact { NextBid rows.now eps self.old result self.new }
+        ensures rise { Rising self.old.copies self.new.copies }
+        ensures shape { SameShape self.old self.new }
+    {
+        let Some(scan) = found else {
+            return Bidding::Stop { why: Why::Stuck };
+        };
+        let bid = self.bid_for(rows, person, eps, scan);
+        if bid.amount > MOST_PRICE {
+            return Bidding::Stop { why: Why::Ceiling };
+        }
+        let out = self.bid_letter(person, bid);
+        self.wait_for(bid.arc.object);
+        Bidding::Out { out }
     }
 
     /// The bid of the person who has been free longest; he waits from now on. Idle where nobody is free.
@@ -58,15 +136,34 @@ impl PersonShard {
         if self.left() == 0 {
             return Bidding::Stop { why: Why::Bids };
         }
-        let Some(bid) = self.bid_for(rows, person, eps) else {
-            return Bidding::Stop { why: Why::Stuck };
+        let found = self.best_for(rows, person);
+        self.bid_with(rows, eps, person, found)
+    }
+
+    /// The same bid as [`Self::next_bid`] makes, by lists of candidates that are kept beside the shard.
+    ///
+    /// `candidates` are lists for these rows that no copy has fallen since: lists that were made for them stay such in each
+    /// call of the shard, since copies never fall, and where a world of later prices begins.
+    ///
+    /// Takes a pass over a short list for most bids, and else as long as [`Self::next_bid`]; no memory.
+    #[inline]
+    pub fn next_bid_by(&mut self, rows: &Rows, eps: i64, candidates: &mut Candidates) -> Bidding
+        requires rows { IsMadeFor rows.now self.old }
+        requires eps { IsEps eps }
+        requires kept { Kept rows.now self.old.copies candidates.old }
+        ensures exact { NextBid rows.now eps self.old result self.new }
+        ensures rise { Rising self.old.copies self.new.copies }
+        ensures shape { SameShape self.old self.new }
+        ensures kept { Kept rows.now self.new.copies candidates.new }
+    {
+        let Some(person) = self.first() else {
+            return Bidding::Idle;
         };
-        if bid.amount > MOST_PRICE {
-            return Bidding::Stop { why: Why::Ceiling };
+        if self.left() == 0 {
+            return Bidding::Stop { why: Why::Bids };
         }
-        let out = self.bid_letter(person, bid);
-        self.wait_for(bid.arc.object);
-        Bidding::Out { out }
+        let found = self.best_by(rows, person, candidates);
+        self.bid_with(rows, eps, person, found)
     }
 
     /// The person that has been free longest.

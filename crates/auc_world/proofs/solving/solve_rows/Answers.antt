@@ -9,72 +9,74 @@ use Rattle.auc_world.proofs.ChainLaws.{IsReady, last_eps, of_answers, ready_firs
 use Rattle.auc_world.proofs.PhaseLaws.{first_prices, later_prices}
 use Rattle.auc_world.proofs.solving.solve_rows.Goals as goal
 
-pub loop-prices-init : goal.loop-prices-init
-loop-prices-init c =
+pub loop-candidates-init : goal.loop-candidates-init
+loop-candidates-init c =
     let fits : FitsSigned w64 c.first_eps-eps.result = search rules in
     let zeros : c.in_ok-prices.prices.items ≡ replicate c.objects.result (pos 0) = search rules in
     record {
       prices = first_prices c.args.rows.now c.objects.result c.in_ok-prices.prices.items c.objects.ensures.objects zeros;
       eps = simp to_z-of_z c.first_eps-eps.ensures.range;
+      kept = c.in_ok-candidates.ensures c.in_ok-prices.prices.items;
       ready = ([], simp to_z-of_z (ready_first c.args.rows.now c.args.limits.now c.objects.result c.in_ok-prices.prices.items c.first_eps-eps.result c.objects.ensures.objects zeros c.first_eps-eps.ensures.is));
     }
 
-pub loop-prices-preserved : goal.loop-prices-preserved
-loop-prices-preserved c =
+pub loop-candidates-preserved : goal.loop-candidates-preserved
+loop-candidates-preserved c =
     let fits : FitsSigned w64 c.in-Some.next = search rules in
-    let sold = rw c.in-Sold.is at c.in_ok-gathered.ensures in
-    let inv = c.loop-prices.invariant in
-    let here : Stage = record { eps = to_z w64 c.loop-prices.eps-bits; prices = c.as_slice.result.now; world = sold.0 } in
-    let ready = subst (λ (ps : List ℤ). IsReady c.args.rows.now c.args.limits.now inv.ready.0 (to_z w64 c.loop-prices.eps-bits) ps) (sym c.as_slice.ensures.value) inv.ready.1 in
+    let sold = rw c.in-Sold.is at c.in_ok-played.ensures.comes in
+    let inv = c.loop-candidates.invariant in
+    let here : Stage = record { eps = to_z w64 c.loop-candidates.eps-bits; prices = c.as_slice.result.now; world = sold.0 } in
+    let ready = subst (λ (ps : List ℤ). IsReady c.args.rows.now c.args.limits.now inv.ready.0 (to_z w64 c.loop-candidates.eps-bits) ps) (sym c.as_slice.ensures.value) inv.ready.1 in
     record {
       prices = later_prices c.args.rows.now c.args.limits.now here c.in-Sold.gathered sold.1;
       eps = simp to_z-of_z (c.in-Some.ensures.range inv.eps);
+      kept = rw c.in-Sold.is at c.in_ok-played.ensures.kept;
       ready = (here ∷ inv.ready.0, simp to_z-of_z (ready_next c.args.rows.now c.args.limits.now inv.ready.0 here c.in-Some.next c.in-Sold.gathered ready sold.1 sold.2 (sym c.in-Some.ensures.is)));
     }
 
 pub returns-in_default-clause-is : goal.returns-in_default-clause-is
 returns-in_default-clause-is c =
-    let sold = rw c.in-Sold.is at c.in_ok-gathered.ensures in
-    let inv = c.loop-prices.invariant in
-    let here : Stage = record { eps = to_z w64 c.loop-prices.eps-bits; prices = c.as_slice.result.now; world = sold.0 } in
-    let ready = subst (λ (ps : List ℤ). IsReady c.args.rows.now c.args.limits.now inv.ready.0 (to_z w64 c.loop-prices.eps-bits) ps) (sym c.as_slice.ensures.value) inv.ready.1 in
-    let last = last_eps (to_z w64 c.loop-prices.eps-bits) inv.eps (sym c.in_default.ensures.is) in
+    let sold = rw c.in-Sold.is at c.in_ok-played.ensures.comes in
+    let inv = c.loop-candidates.invariant in
+    let here : Stage = record { eps = to_z w64 c.loop-candidates.eps-bits; prices = c.as_slice.result.now; world = sold.0 } in
+    let ready = subst (λ (ps : List ℤ). IsReady c.args.rows.now c.args.limits.now inv.ready.0 (to_z w64 c.loop-candidates.eps-bits) ps) (sym c.as_slice.ensures.value) inv.ready.1 in
+    let last = last_eps (to_z w64 c.loop-candidates.eps-bits) inv.eps (sym c.in_default.ensures.is) in
     of_answers (IsOptimalAnswer c.args.problem.now c.in-Sold.gathered.holders.items c.in-Sold.gathered.prices.items) (IsAnswer c.args.problem.now) c.optimal.result
     (sold_is_answer c.args.problem.now c.args.rows.now c.args.limits.now inv.ready.0 here c.in-Sold.gathered c.arcs.ensures.problem c.objects.ensures.table c.requires.rows ready sold.1 last sold.2) c.optimal.ensures
 
 pub returns-in_default-clause-run : goal.returns-in_default-clause-run
 returns-in_default-clause-run c =
-    let sold = rw c.in-Sold.is at c.in_ok-gathered.ensures in
-    let inv = c.loop-prices.invariant in
-    let here : Stage = record { eps = to_z w64 c.loop-prices.eps-bits; prices = c.as_slice.result.now; world = sold.0 } in
-    let ready = subst (λ (ps : List ℤ). IsReady c.args.rows.now c.args.limits.now inv.ready.0 (to_z w64 c.loop-prices.eps-bits) ps) (sym c.as_slice.ensures.value) inv.ready.1 in
-    let last = last_eps (to_z w64 c.loop-prices.eps-bits) inv.eps (sym c.in_default.ensures.is) in
+    let sold = rw c.in-Sold.is at c.in_ok-played.ensures.comes in
+    let inv = c.loop-candidates.invariant in
+    let here : Stage = record { eps = to_z w64 c.loop-candidates.eps-bits; prices = c.as_slice.result.now; world = sold.0 } in
+    let ready = subst (λ (ps : List ℤ). IsReady c.args.rows.now c.args.limits.now inv.ready.0 (to_z w64 c.loop-candidates.eps-bits) ps) (sym c.as_slice.ensures.value) inv.ready.1 in
+    let last = last_eps (to_z w64 c.loop-candidates.eps-bits) inv.eps (sym c.in_default.ensures.is) in
     of_answers (IsOptimalAnswer c.args.problem.now c.in-Sold.gathered.holders.items c.in-Sold.gathered.prices.items) (IsOfRun c.args.problem.now c.args.limits.now) c.optimal.result
     (sold_is_of_run c.args.problem.now c.args.rows.now c.args.limits.now inv.ready.0 here c.in-Sold.gathered c.arcs.ensures.problem c.objects.ensures.table c.requires.rows ready sold.1 last sold.2) c.optimal.ensures
 
 pub bracket-requires-clause-holders : goal.bracket-requires-clause-holders
-bracket-requires-clause-holders c = let stopped = rw c.in-Stopped.is at c.in_ok-gathered.ensures in stopped.1.sales.holders_are ∙ c.requires.rows.objects
+bracket-requires-clause-holders c = let stopped = rw c.in-Stopped.is at c.in_ok-played.ensures.comes in stopped.1.sales.holders_are ∙ c.requires.rows.objects
 
 pub bracket-requires-clause-prices : goal.bracket-requires-clause-prices
-bracket-requires-clause-prices c = let stopped = rw c.in-Stopped.is at c.in_ok-gathered.ensures in stopped.1.sales.prices_are ∙ c.requires.rows.objects
+bracket-requires-clause-prices c = let stopped = rw c.in-Stopped.is at c.in_ok-played.ensures.comes in stopped.1.sales.prices_are ∙ c.requires.rows.objects
 
 pub bracket-requires-clause-within : goal.bracket-requires-clause-within
-bracket-requires-clause-within c = let stopped = rw c.in-Stopped.is at c.in_ok-gathered.ensures in in_range c.in-Stopped.gathered.prices.items stopped.1.within
+bracket-requires-clause-within c = let stopped = rw c.in-Stopped.is at c.in_ok-played.ensures.comes in in_range c.in-Stopped.gathered.prices.items stopped.1.within
 
 pub returns-in-Stopped-clause-is : goal.returns-in-Stopped-clause-is
 returns-in-Stopped-clause-is c =
-    let stopped = rw c.in-Stopped.is at c.in_ok-gathered.ensures in
-    let inv = c.loop-prices.invariant in
-    let here : Stage = record { eps = to_z w64 c.loop-prices.eps-bits; prices = c.as_slice.result.now; world = stopped.0 } in
-    let ready = subst (λ (ps : List ℤ). IsReady c.args.rows.now c.args.limits.now inv.ready.0 (to_z w64 c.loop-prices.eps-bits) ps) (sym c.as_slice.ensures.value) inv.ready.1 in
+    let stopped = rw c.in-Stopped.is at c.in_ok-played.ensures.comes in
+    let inv = c.loop-candidates.invariant in
+    let here : Stage = record { eps = to_z w64 c.loop-candidates.eps-bits; prices = c.as_slice.result.now; world = stopped.0 } in
+    let ready = subst (λ (ps : List ℤ). IsReady c.args.rows.now c.args.limits.now inv.ready.0 (to_z w64 c.loop-candidates.eps-bits) ps) (sym c.as_slice.ensures.value) inv.ready.1 in
     of_answers (IsBracketAnswer c.args.problem.now c.in-Stopped.reason c.in-Stopped.gathered.holders.items c.in-Stopped.gathered.prices.items) (IsAnswer c.args.problem.now) c.bracket.result
     (stopped_is_answer c.args.problem.now c.args.rows.now c.args.limits.now inv.ready.0 here c.in-Stopped.gathered c.arcs.ensures.problem c.objects.ensures.table c.requires.rows ready stopped.1 c.in-Stopped.reason stopped.2) c.bracket.ensures
 
 pub returns-in-Stopped-clause-run : goal.returns-in-Stopped-clause-run
 returns-in-Stopped-clause-run c =
-    let stopped = rw c.in-Stopped.is at c.in_ok-gathered.ensures in
-    let inv = c.loop-prices.invariant in
-    let here : Stage = record { eps = to_z w64 c.loop-prices.eps-bits; prices = c.as_slice.result.now; world = stopped.0 } in
-    let ready = subst (λ (ps : List ℤ). IsReady c.args.rows.now c.args.limits.now inv.ready.0 (to_z w64 c.loop-prices.eps-bits) ps) (sym c.as_slice.ensures.value) inv.ready.1 in
+    let stopped = rw c.in-Stopped.is at c.in_ok-played.ensures.comes in
+    let inv = c.loop-candidates.invariant in
+    let here : Stage = record { eps = to_z w64 c.loop-candidates.eps-bits; prices = c.as_slice.result.now; world = stopped.0 } in
+    let ready = subst (λ (ps : List ℤ). IsReady c.args.rows.now c.args.limits.now inv.ready.0 (to_z w64 c.loop-candidates.eps-bits) ps) (sym c.as_slice.ensures.value) inv.ready.1 in
     of_answers (IsBracketAnswer c.args.problem.now c.in-Stopped.reason c.in-Stopped.gathered.holders.items c.in-Stopped.gathered.prices.items) (IsOfRun c.args.problem.now c.args.limits.now) c.bracket.result
     (stopped_is_of_run c.args.problem.now c.args.rows.now c.args.limits.now inv.ready.0 here c.in-Stopped.gathered c.arcs.ensures.problem c.objects.ensures.table c.requires.rows ready stopped.1 c.in-Stopped.reason stopped.2) c.bracket.ensures

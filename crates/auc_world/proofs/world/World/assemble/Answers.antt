@@ -4,6 +4,7 @@ use Rattle.std.proofs.lemmas.Int.{to_z-of_z}
 use Rattle.auc_mail.specs.Mail.{empty_mail}
 use Rattle.auc_world.specs.Hub.{Counting}
 use Rattle.auc_world.specs.Making.{nodes_or}
+use Rattle.auc_world.proofs.ListLaws.{kept_made}
 use Rattle.auc_world.proofs.Made.{made_are}
 use Rattle.auc_world.proofs.world.World.assemble.Goals as goal
 
@@ -35,4 +36,7 @@ returns-clause-made c =
     }
 
 pub invariant_of-result : goal.invariant_of-result
-invariant_of-result c = made_are c.args.rows.now c.args.limits.now c.args.prices.now c.args.eps _ (returns-clause-made c) c.persons-persons.ensures.table c.requires.limits c.requires.prices c.requires.eps
+invariant_of-result c = (
+  made_are c.args.rows.now c.args.limits.now c.args.prices.now c.args.eps _ (returns-clause-made c) c.persons-persons.ensures.table c.requires.limits c.requires.prices c.requires.eps,
+  kept_made c.args.rows.now c.args.limits.now c.args.prices.now c.args.eps _ c.args.candidates.items (returns-clause-made c) c.requires.kept,
+)

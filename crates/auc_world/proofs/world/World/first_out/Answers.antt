@@ -8,5 +8,5 @@ use Rattle.auc_world.proofs.world.World.first_out.Goals as goal
 pub returns-clause-reaches : goal.returns-clause-reaches
 returns-clause-reaches c =
     let same : outbox_at c.args.self.now c.args.sender ≡ c.index.result.now = grind (arith, common_steps) in
-    let each : All (Reaches c.args.self.now.shards) (outbox_at c.args.self.now c.args.sender) = rw (← c.self.view_is) (c.self.invariant.each_outbox c.args.sender (grind (arith, common_steps))) in
+    let each : All (Reaches c.args.self.now.shards) (outbox_at c.args.self.now c.args.sender) = rw (← c.self.view_is) (c.self.invariant.0.each_outbox c.args.sender (grind (arith, common_steps))) in
     first_reaches c.first.result c.index.result.now c.args.self.now.shards (rw same at each) c.first.ensures.some

@@ -9,5 +9,5 @@ use Rattle.auc_world.proofs.world.World.offer_in.Goals as goal
 pub returns-clause-none : goal.returns-clause-none
 returns-clause-none c =
     let here : c.index-objects.result.now ≡ objects_at c.args.self.now c.args.shard = grind (arith, common_steps) in
-    let are = rw c.self.view_is at c.self.invariant in
+    let are = rw c.self.view_is at c.self.invariant.0 in
     IfNone_then c.offer_in.result c.offer_in.ensures.none (λ none. unfit c.args.self.now c.args.shard are c.requires c.args.letter (λ bid fits. none bid (subst (λ (x : Objects). IsOffer x c.args.letter bid) (sym here) fits)))

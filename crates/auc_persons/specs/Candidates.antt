@@ -1,0 +1,37 @@
+-- Lists of candidates: what they say of a row, and that it stays true while copies rise.
+use Rattle.std.specs.Prelude.{◌≡◌, ◌<◌, ◌+◌, ◌⊎◌, ℕ, ℤ, pos, ◌≤ℤ◌, ◌<ℤ◌, List, [], length, All, AllPairs, Contains}
+use Rattle.auc_graph.specs.declared.rows.RowArc.{RowArc}
+use Rattle.auc_graph.specs.Bid.{value}
+use Rattle.auc_graph.specs.Table.{Table, row_of}
+use Rattle.auc_persons.specs.declared.scan.Scan.{Scan}
+use Rattle.auc_persons.specs.Scan.{copy_in, endless}
+
+-- the list of a person: some arcs of his row, and a bound
+pub record Listed : Type 0 where
+  pub person : ℕ
+  pub bound : ℤ
+  pub arcs : List RowArc
+
+abbrev pub no_list : ℕ → Listed
+no_list person = record { person = person; bound = pos 0; arcs = [] }
+
+-- The arcs of the list are arcs of the row, in the row's order; and where there are some, each other arc of the row has a
+-- value of at least the bound.
+pub record Keeps (val : RowArc → ℤ) (row arcs : List RowArc) (bound : ℤ) : Type 0 where
+  pub members : All (Contains row) arcs
+  pub rising : AllPairs (λ a b. a.arc < b.arc) arcs
+  pub rest : (arcs ≡ []) ⊎ All (λ b. Contains arcs b ⊎ (bound ≤ℤ val b)) row
+
+-- the list of a person is right at these copies
+abbrev pub KeepsListed : Table → List ℤ → Listed → Type 0
+KeepsListed t copies l = Keeps (value (pos (length t.rows + 1)) (copy_in copies)) (row_of t l.person) l.arcs l.bound
+
+-- all lists are right at these copies
+abbrev pub Kept : Table → List ℤ → List Listed → Type 0
+Kept t copies lists = All (KeepsListed t copies) lists
+
+-- what a pass over a list has found is below all that is left out
+pub record Decides (bound : ℤ) (f : Scan) : Type 0 where
+  pub best : f.value <ℤ bound
+  pub next : f.second ≤ℤ bound
+  pub some : f.second <ℤ endless

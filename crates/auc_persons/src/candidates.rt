@@ -1,0 +1,128 @@
+//! The candidates of the persons of a shard.
+
+ghost use Rattle.std.specs.Prelude.{◌≡◌, ◌<◌, ◌+◌, [], List, ℤ, pos, length, All, IfOk, IfSome};
+ghost use Rattle.auc_graph.specs.Bid.{value};
+ghost use Rattle.auc_graph.specs.Table.{Table, row_of};
+ghost use Rattle.auc_persons.specs.Candidates.{Kept, Listed};
+ghost use Rattle.auc_persons.specs.Persons.{Rising};
+ghost use Rattle.auc_persons.specs.Scan.{copy_in, IsScan};
+ghost use Rattle.auc_letters.specs.Price.{IsPrice};
+
+use crate::amount::scaled;
+use crate::scan::{Scan, scale_of};
+use crate::shortlist::Shortlist;
+use auc_graph::Rows;
+use std::alloc::{AllocError, Global};
+use std::marker::Model;
+
+/// Rows up to so many arcs have no list: two remembered arcs serve them.
+pub(crate) const MIDDLE: usize = 40;
+/// How many arcs a list is to hold.
+const WANTED: i64 = 7;
+
+/// Lists of candidates, one for each person of a shard, by which most bids look at a few arcs alone
+/// ([`crate::PersonShard::next_bid_by`]). They are of the rows that they were made for, and stay right as long as no copy falls.
+#[derive(Drop)]
+pub struct Candidates {
+    lists: Vec<Shortlist>,
+}
+
+impl Model for Candidates {
+    ghost use Rattle.std.specs.Prelude.{List};
+    ghost use Rattle.auc_persons.specs.Candidates.{Listed};
+
+    ghost Value = { List Listed };
+
+    ghost view = { λ c. c.lists.items };
+}
+
+/// Whether some row is so long that lists serve it. O(persons).
+fn has_long_row(rows: &Rows) -> bool {
+    for person in 0..rows.persons() {
+        if rows.row(person).len() > MIDDLE {
+            return true;
+        }
+    }
+    false
+}
+
+/// How far above the second the first bound of a person is to lie.
+fn first_delta(rows: &Rows, person: u32) -> i64
+    requires { person < length rows.now.rows }
+{
+    let arcs = rows.row(person).len() as i64;
+    scaled(scale_of(rows.persons()), rows.cost_spread()) / (arcs + 1) * WANTED
+}
+
+impl Candidates {
+    /// No lists. Takes no memory.
+    pub fn none(alloc: Global) -> Candidates
+        ensures { result ≡ [] }
+    {
+        Candidates {
+            lists: Vec::new(alloc),
+        }
+    }
+
+    /// Empty lists for the persons of shard number `shard` of `of`; none where no row is long.
+    ///
+    /// Takes O(persons) time and 168 bytes of memory for each person of the shard.
+    ///
+    /// # Errors
+    ///
+    /// Only where memory was refused.
+    pub fn make(alloc: Global, rows: &Rows, shard: u32, of: u32) -> Result<Candidates, AllocError>
+        requires { shard < of }
+        ensures kept { IfOk result (λ c. (copies : List ℤ) → Kept rows.now copies c) }
+    {
+        if !has_long_row(rows) {
+            return Ok(Candidates::none(alloc));
+        }
+        let persons = rows.persons();
+        let mut lists = Vec::with_capacity(alloc, (persons / of) as usize + 1)?;
+        for person in 0..persons {
+            if person % of == shard {
+                lists.push(Shortlist::new(person, first_delta(rows, person)))?;
+            }
+        }
+        Ok(Candidates { lists })
+    }
+
+    /// The best arc of a person, where his list tells it. `place` is where his list stands, if anywhere.
+    #[inline]
+    pub(crate) fn scan(
+        &mut self,
+        rows: &Rows,
+        person: u32,
+        place: u32,
+        copies: &[i64],
+    ) -> Option<Scan>
+        requires person { person < length rows.now.rows }
+        requires objects { rows.now.objects ≡ length copies.now }
+        requires copies { All IsPrice copies.now }
+        requires kept { Kept rows.now copies.now self.old }
+        ensures some { IfSome result (λ f. IsScan (value (pos (length rows.now.rows + 1)) (copy_in copies.now)) (row_of rows.now person) f) }
+        ensures kept { Kept rows.now copies.now self.new }
+    {
+        let place = place as usize;
+        if place >= self.lists.len() {
+            return None;
+        }
+        let row = rows.row(person);
+        if row.len() <= MIDDLE {
+            return None;
+        }
+        let scale = scale_of(rows.persons());
+        let list = &mut self.lists[place];
+        if list.person() != person {
+            return None;
+        }
+        list.scan(scale, row, copies)
+    }
+}
+
+/// Lists of candidates stay right while no copy falls: those of a shard through each of its calls, and from the copies of one
+/// phase to the prices that it leaves, with which the next one begins. Does nothing: its contract is the law.
+pub fn lists_stay_right()
+    ensures { (t : Table) (copies later : List ℤ) (lists : List Listed) → Rising copies later → Kept t copies lists → Kept t later lists }
+{}

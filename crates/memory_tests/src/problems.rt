@@ -1,7 +1,7 @@
 //! Problems, their rows and matchings.
 
 use crate::marks::refuse_one;
-use auc_graph::{ArcList, ReadError, ReadLimits, Rows, read_arcs};
+use auc_graph::{ArcList, ReadError, ReadLimits, Rows, read_arcs, read_arcs_from};
 use auc_hall::{Matching, Partial, complete};
 use auc_run::{ReadFault, read_all};
 use std::alloc::Global;
@@ -13,6 +13,10 @@ pub const THREE: &str = "3\n1 1 4 1 2 1 1 3 3\n2 1 2 2 2 0 2 3 5\n3 1 3 3 2 2 3 
 /// Two persons who both know the first object alone.
 pub const ONE_OBJECT: &str = "2\n1 1 5\n2 1 7\n";
 
+/// One person with so many arcs that candidates are kept of them.
+pub const LONG: &str =
+    "1 1 1 5 1 1 5 1 1 5 1 1 5 1 1 5 1 1 5 1 1 5 1 1 5 1 1 5 1 1 5 1 1 5 1 1 5 1 1 5 1 1 5 1 1 5 1 1 5 1 1 5 1 1 5 1 1 5 1 1 5 1 1 5 1 1 5 1 1 5 1 1 5 1 1 5 1 1 5 1 1 5 1 1 5 1 1 5 1 1 5 1 1 5 1 1 5 1 1 5 1 1 5 1 1 5 1 1 5 1 1 5 1 1 5 1 1 5 1 1 5 1 1 5";
+
 /// The problem that a text reads as.
 pub fn problem_of(alloc: Global, text: &str) -> Result<ArcList, Fail> {
     Ok(read_arcs(alloc, text.as_bytes(), ReadLimits::usual())?)
@@ -23,6 +27,19 @@ fn reading(rt: HostRuntime) -> Result<(), Fail> {
     let ample = problem_of(rt.alloc(), THREE)?;
     let mark = refuse_one(rt.alloc())?;
     let read = read_arcs(rt.alloc(), THREE.as_bytes(), ReadLimits::usual());
+    drop(mark);
+    match read {
+        Ok(problem) => assert_eq!(rt; problem.arcs(), ample.arcs()),
+        Err(error) => assert_eq!(rt; error, ReadError::NoMemory),
+    }
+    Ok(())
+}
+
+#[test]
+fn reading_in_pieces(rt: HostRuntime) -> Result<(), Fail> {
+    let ample = problem_of(rt.alloc(), THREE)?;
+    let mark = refuse_one(rt.alloc())?;
+    let read = read_arcs_from(rt.alloc(), &mut THREE.as_bytes(), ReadLimits::usual());
     drop(mark);
     match read {
         Ok(problem) => assert_eq!(rt; problem.arcs(), ample.arcs()),

@@ -4,7 +4,7 @@ ghost use Rattle.std.specs.Prelude.{◌≡◌, IfOk};
 ghost use Rattle.auc_threads.specs.Naming.{AreThreadLimits};
 
 use crate::marks::refuse_one;
-use crate::problems::{ONE_OBJECT, THREE, problem_of};
+use crate::problems::{LONG, ONE_OBJECT, THREE, problem_of};
 use auc_book::MOST_ROOM;
 use auc_cert::write_cert;
 use auc_graph::Rows;
@@ -62,6 +62,7 @@ fn without_threads(rt: HostRuntime) -> Result<(), Fail> {
     let limits = limits_of(1, 0)?;
     assert!(rt; solves(rt.alloc(), THREE, &limits)?);
     assert!(rt; solves(rt.alloc(), ONE_OBJECT, &limits)?);
+    assert!(rt; solves(rt.alloc(), LONG, &limits)?);
     let few = Limits { bids: 1, ..limits };
     assert!(rt; solves(rt.alloc(), THREE, &few)?);
     Ok(())

@@ -2,12 +2,11 @@
 
 ghost use Rattle.std.specs.Prelude.{◌≡◌, ◌<◌, All};
 ghost use Rattle.auc_letters.specs.Price.{IsPrice, IsEps};
-ghost use Rattle.auc_persons.specs.Candidates.{Kept};
 ghost use Rattle.auc_persons.specs.Persons.{IsMadeFor};
 
 use auc_graph::{ReadLimits, Rows, read_arcs};
 use auc_letters::{Letter, PersonState};
-use auc_persons::{Bidding, Candidates, PersonFault, PersonShard, lists_stay_right};
+use auc_persons::{Bidding, PersonFault, PersonShard};
 use std::test::*;
 
 /// The rows of the problem that a text reads as.
@@ -73,60 +72,5 @@ impl Desk {
         } else {
             None
         }
-    }
-}
-
-/// A person shard beside the rows that it was made for, and lists of candidates of these.
-#[derive(Drop)]
-pub struct ListedDesk {
-    rows: Rows,
-    shard: PersonShard,
-    candidates: Candidates,
-    ghost fits: { IsMadeFor rows shard },
-    ghost kept: { Kept rows shard.copies candidates },
-}
-
-impl ListedDesk {
-    /// The first shard of `of`, for the problem that the text reads as.
-    pub fn new(
-        rt: &HostRuntime,
-        text: &str,
-        of: u32,
-        prices: &[i64],
-        bids: u64,
-    ) -> Option<ListedDesk>
-        requires prices { All IsPrice prices.now }
-        requires of { 0 < of }
-    {
-        let rows = rows_of(rt, text)?;
-        if prices.len() != rows.objects() as usize {
-            return None;
-        }
-        let persons = rows.persons();
-        let Ok(shard) = PersonShard::make(rt.alloc(), 0, of, 1, persons, prices, bids) else {
-            return None;
-        };
-        let Ok(candidates) = Candidates::make(rt.alloc(), &rows, 0, of) else {
-            return None;
-        };
-        Some(ListedDesk {
-            rows,
-            shard,
-            candidates,
-        })
-    }
-
-    /// What is bid next.
-    pub fn asks(&mut self, eps: i64) -> Bidding
-        requires { IsEps eps }
-    {
-        self.shard
-            .next_bid_by(&self.rows, eps, &mut self.candidates)
-    }
-
-    /// What is answered to a letter.
-    pub fn hears(&mut self, letter: Letter) -> Result<(), PersonFault> {
-        lists_stay_right();
-        self.shard.on_letter(letter)
     }
 }

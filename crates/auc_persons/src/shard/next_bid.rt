@@ -17,8 +17,9 @@ use crate::shard::PersonShard;
 use auc_graph::Rows;
 use auc_letters::{Letter, MOST_PRICE, Out, To, Why, shard_of};
 
-/// Rows up to so many arcs are looked at from nothing: two remembered arcs don't help there.
-const SHORT: usize = 20;
+/// Rows up to so many arcs are looked at from nothing. With some 30 arcs two remembered arcs were of no use but cost a tenth
+/// more instructions, and in a price war they are old at each bid.
+const SHORT: usize = 40;
 
 impl PersonShard {
     /// The best arc of a person, in one pass over his row; nothing where he has none.

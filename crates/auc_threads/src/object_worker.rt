@@ -12,9 +12,9 @@ ghost use Rattle.auc_threads.specs.Sales.{IsDuty, Sells};
 
 use crate::gate::Gate;
 use crate::mails::{Mails, WorkerSeats};
-use crate::taking::{Step, end, post_held, take_held};
+use crate::taking::{Calls, Step, end, take};
 use arrayvec::ArrayVec;
-use auc_book::{HeldMail, MailBrand, TrailFull};
+use auc_book::{MailBrand, TrailFull};
 use auc_letters::{Letter, Offer, Out, To, Why, shard_of};
 use auc_mail::Taken;
 use auc_objects::{Answers, ObjectShard, letters_sell_by_their_bids};
@@ -133,9 +133,9 @@ fn deal(
     }
 }
 
-/// Takes the bids that wait, as many as find a place, all under one lock, and deals with them.
-fn deal_waiting<O: MailBrand, P: MailBrand, H: MailBrand>(
-    held: HeldMail<'_, Letter, O>,
+/// Takes the bids that wait, as many as find a place, and deals with them.
+fn deal_waiting<O: MailBrand, P: MailBrand, H: MailBrand, R: Wait, G: Gate>(
+    calls: Calls<'_, O, R, G>,
     mails: &Mails<O, P, H>,
     duty: Duty,
     shard: &mut ObjectShard,
@@ -150,30 +150,58 @@ fn deal_waiting<O: MailBrand, P: MailBrand, H: MailBrand>(
     ensures reach { All (λ a. All (Reaches mails.now.shards) (letters_of a.answers)) said.new.items }
     ensures why { (result ≢ Step.Stop Why.Stuck) × (result ≢ Step.Stop Why.Fell) }
 {
-    let mut held = held;
+    let mut calls = calls;
     for _ in 0..BATCH {
         if said.is_full() {
-            held.release();
+            calls.end();
             return Step::On;
         }
-        let taken = take_held(&mut held, &mut seats.objects, duty.number);
+        let taken = calls.take(&mut seats.objects, duty.number);
         if matches!(&taken, Ok(Taken::Empty)) {
-            held.release();
+            calls.end();
             return Step::On;
         }
         let step = deal(duty, mails.shards, shard, said, taken);
         if step != Step::On {
-            held.release();
+            calls.end();
             return step;
         }
     }
-    held.release();
+    calls.end();
     Step::On
 }
 
+/// Waits for a bid, and deals with it; where the gate is open, with all bids that wait.
+fn deal_next<O: MailBrand, P: MailBrand, H: MailBrand, R: Wait, G: Gate>(
+    rt: &R,
+    gate: &G,
+    mails: &Mails<O, P, H>,
+    duty: Duty,
+    shard: &mut ObjectShard,
+    seats: &mut WorkerSeats<O, P, H>,
+    said: &mut ArrayVec<Said, BATCH>,
+) -> Step
+    requires duty { IsDuty duty.number duty.eps mails.now.shards shard.old }
+    requires place { array_vec_len said.old < BATCH }
+    requires reach { All (λ a. All (Reaches mails.now.shards) (letters_of a.answers)) said.old.items }
+    ensures sells { Sells duty.eps O.room shard.old seats.old.objects shard.new seats.new.objects }
+    ensures persons { TookMore P.room seats.old.persons [] seats.new.persons }
+    ensures hub { TookMore H.room seats.old.hub [] seats.new.hub }
+    ensures reach { All (λ a. All (Reaches mails.now.shards) (letters_of a.answers)) said.new.items }
+    ensures why { (result ≢ Step.Stop Why.Stuck) × (result ≢ Step.Stop Why.Fell) }
+{
+    if gate.is_open() {
+        let held = mails.objects.hold_for(rt, duty.number);
+        let calls = Calls::with(rt, gate, &mails.objects, held);
+        return deal_waiting(calls, mails, duty, shard, seats, said);
+    }
+    let taken = take(rt, gate, &mails.objects, &mut seats.objects, duty.number);
+    deal(duty, mails.shards, shard, said, taken)
+}
+
 /// Posts a letter to a shard of the persons; one to the hub is left.
-fn post_to_person<O: MailBrand, P: MailBrand, H: MailBrand>(
-    held: &mut HeldMail<'_, Letter, P>,
+fn post_to_person<O: MailBrand, P: MailBrand, H: MailBrand, R: Wait, G: Gate>(
+    calls: &mut Calls<'_, P, R, G>,
     mails: &Mails<O, P, H>,
     seats: &mut WorkerSeats<O, P, H>,
     out: Out,
@@ -186,14 +214,14 @@ fn post_to_person<O: MailBrand, P: MailBrand, H: MailBrand>(
 {
     let _ = mails.shards;
     match out.to {
-        To::Person { shard } => post_held(held, &mut seats.persons, shard, out),
+        To::Person { shard } => calls.post(&mut seats.persons, shard, out),
         _ => Step::On,
     }
 }
 
 /// Posts the answers in order, but for the letter to the hub.
-fn post_answers<O: MailBrand, P: MailBrand, H: MailBrand>(
-    held: &mut HeldMail<'_, Letter, P>,
+fn post_answers<O: MailBrand, P: MailBrand, H: MailBrand, R: Wait, G: Gate>(
+    calls: &mut Calls<'_, P, R, G>,
     mails: &Mails<O, P, H>,
     seats: &mut WorkerSeats<O, P, H>,
     answers: Answers,
@@ -206,7 +234,7 @@ fn post_answers<O: MailBrand, P: MailBrand, H: MailBrand>(
 {
     let letters = answers.into_list();
     for out in letters.as_slice() {
-        let step = post_to_person(held, mails, seats, *out);
+        let step = post_to_person(calls, mails, seats, *out);
         if step != Step::On {
             return step;
         }
@@ -215,8 +243,8 @@ fn post_answers<O: MailBrand, P: MailBrand, H: MailBrand>(
 }
 
 /// Posts the price of an object to each shard of the persons but one.
-fn post_price<O: MailBrand, P: MailBrand, H: MailBrand>(
-    held: &mut HeldMail<'_, Letter, P>,
+fn post_price<O: MailBrand, P: MailBrand, H: MailBrand, R: Wait, G: Gate>(
+    calls: &mut Calls<'_, P, R, G>,
     mails: &Mails<O, P, H>,
     seats: &mut WorkerSeats<O, P, H>,
     price: Out,
@@ -229,7 +257,7 @@ fn post_price<O: MailBrand, P: MailBrand, H: MailBrand>(
 {
     for other in 0..mails.shards {
         if other != knowing {
-            let step = post_held(held, &mut seats.persons, other, price);
+            let step = calls.post(&mut seats.persons, other, price);
             if step != Step::On {
                 return step;
             }
@@ -239,8 +267,8 @@ fn post_price<O: MailBrand, P: MailBrand, H: MailBrand>(
 }
 
 /// Posts what is to be said to the persons of one bid.
-fn post_said<O: MailBrand, P: MailBrand, H: MailBrand>(
-    held: &mut HeldMail<'_, Letter, P>,
+fn post_said<O: MailBrand, P: MailBrand, H: MailBrand, R: Wait, G: Gate>(
+    calls: &mut Calls<'_, P, R, G>,
     mails: &Mails<O, P, H>,
     seats: &mut WorkerSeats<O, P, H>,
     said: Said,
@@ -252,14 +280,14 @@ fn post_said<O: MailBrand, P: MailBrand, H: MailBrand>(
     ensures why { (result ≢ Step.Stop Why.Stuck) × (result ≢ Step.Stop Why.Fell) }
 {
     let is_refused = matches!(&said.answers, Answers::Refused { .. });
-    let step = post_answers(held, mails, seats, said.answers);
+    let step = post_answers(calls, mails, seats, said.answers);
     if is_refused || step != Step::On {
         return step;
     }
-    post_price(held, mails, seats, said.price, said.knowing)
+    post_price(calls, mails, seats, said.price, said.knowing)
 }
 
-/// Tells the persons, all under one lock.
+/// Tells the persons.
 fn tell_persons<O: MailBrand, P: MailBrand, H: MailBrand, R: Wait, G: Gate>(
     rt: &R,
     gate: &G,
@@ -273,22 +301,21 @@ fn tell_persons<O: MailBrand, P: MailBrand, H: MailBrand, R: Wait, G: Gate>(
     ensures hub { TookMore H.room seats.old.hub [] seats.new.hub }
     ensures why { (result ≢ Step.Stop Why.Stuck) × (result ≢ Step.Stop Why.Fell) }
 {
-    gate.pass(seats.objects.worker());
-    let mut held = mails.persons.hold(rt);
+    let mut calls = Calls::begin(rt, gate, &mails.persons);
     for one in said {
-        let step = post_said(&mut held, mails, seats, *one);
+        let step = post_said(&mut calls, mails, seats, *one);
         if step != Step::On {
-            held.release();
+            calls.end();
             return step;
         }
     }
-    held.release();
+    calls.end();
     Step::On
 }
 
 /// Posts the letter to the hub, if there is one.
-fn post_first<O: MailBrand, P: MailBrand, H: MailBrand>(
-    held: &mut HeldMail<'_, Letter, H>,
+fn post_first<O: MailBrand, P: MailBrand, H: MailBrand, R: Wait, G: Gate>(
+    calls: &mut Calls<'_, H, R, G>,
     mails: &Mails<O, P, H>,
     seats: &mut WorkerSeats<O, P, H>,
     answers: Answers,
@@ -300,7 +327,7 @@ fn post_first<O: MailBrand, P: MailBrand, H: MailBrand>(
 {
     let _ = mails.shards;
     match answers {
-        Answers::First { first, .. } => post_held(held, &mut seats.hub, 0, first),
+        Answers::First { first, .. } => calls.post(&mut seats.hub, 0, first),
         _ => Step::On,
     }
 }
@@ -315,7 +342,7 @@ fn has_first(said: &[Said]) -> bool {
     false
 }
 
-/// Tells the hub of objects that were sold for the first time, all under one lock.
+/// Tells the hub of objects that were sold for the first time.
 fn tell_hub<O: MailBrand, P: MailBrand, H: MailBrand, R: Wait, G: Gate>(
     rt: &R,
     gate: &G,
@@ -331,16 +358,15 @@ fn tell_hub<O: MailBrand, P: MailBrand, H: MailBrand, R: Wait, G: Gate>(
     if !has_first(said) {
         return Step::On;
     }
-    gate.pass(seats.objects.worker());
-    let mut held = mails.hub.hold(rt);
+    let mut calls = Calls::begin(rt, gate, &mails.hub);
     for one in said {
-        let step = post_first(&mut held, mails, seats, one.answers);
+        let step = post_first(&mut calls, mails, seats, one.answers);
         if step != Step::On {
-            held.release();
+            calls.end();
             return step;
         }
     }
-    held.release();
+    calls.end();
     Step::On
 }
 
@@ -385,9 +411,7 @@ fn serve<O: MailBrand, P: MailBrand, H: MailBrand, R: Wait, G: Gate>(
     ensures why { (result ≢ Step.Stop Why.Stuck) × (result ≢ Step.Stop Why.Fell) }
 {
     said.clear();
-    gate.pass(seats.objects.worker());
-    let held = mails.objects.hold_for(rt, duty.number);
-    let step = deal_waiting(held, mails, duty, shard, seats, said);
+    let step = deal_next(rt, gate, mails, duty, shard, seats, said);
     let told = tell(rt, gate, mails, seats, said.as_slice());
     if step != Step::On {
         return step;

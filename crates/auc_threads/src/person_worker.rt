@@ -10,9 +10,9 @@ ghost use Rattle.auc_threads.specs.Hearing.{Hears, HearsOf, SomebodyStuck};
 
 use crate::gate::Gate;
 use crate::mails::{Mails, WorkerSeats};
-use crate::taking::{Step, end, post_held, take_held};
+use crate::taking::{Calls, Step, end, take};
 use arrayvec::ArrayVec;
-use auc_book::{HeldMail, MailBrand, TrailFull};
+use auc_book::{MailBrand, TrailFull};
 use auc_graph::Rows;
 use auc_letters::{Letter, Out, To, Why};
 use auc_mail::Taken;
@@ -75,9 +75,9 @@ fn hear(
     }
 }
 
-/// Hears what waits, but no more than two letters for each person, all under one lock.
-fn hear_waiting<O: MailBrand, P: MailBrand, H: MailBrand>(
-    held: HeldMail<'_, Letter, P>,
+/// Hears what waits, but no more than two letters for each person.
+fn hear_waiting<O: MailBrand, P: MailBrand, H: MailBrand, R: Wait, G: Gate>(
+    calls: Calls<'_, P, R, G>,
     mails: &Mails<O, P, H>,
     rows: &Rows,
     number: u32,
@@ -92,21 +92,48 @@ fn hear_waiting<O: MailBrand, P: MailBrand, H: MailBrand>(
     ensures hub { TookMore H.room seats.old.hub [] seats.new.hub }
     ensures why { result ≢ Step.Stop Why.Stuck }
 {
-    let mut held = held;
+    let mut calls = calls;
     for _ in 0..2 * rows.persons() {
-        let taken = take_held(&mut held, &mut seats.persons, number);
+        let taken = calls.take(&mut seats.persons, number);
         if matches!(&taken, Ok(Taken::Empty)) {
-            held.release();
+            calls.end();
             return Step::On;
         }
         let step = hear(rows, mails.shards, number, shard, taken);
         if step != Step::On {
-            held.release();
+            calls.end();
             return step;
         }
     }
-    held.release();
+    calls.end();
     Step::On
+}
+
+/// Waits for a letter, hears it, and then what else waits.
+fn hear_next<O: MailBrand, P: MailBrand, H: MailBrand, R: Wait, G: Gate>(
+    rt: &R,
+    gate: &G,
+    mails: &Mails<O, P, H>,
+    rows: &Rows,
+    number: u32,
+    shard: &mut PersonShard,
+    seats: &mut WorkerSeats<O, P, H>,
+) -> Step
+    requires shard { IsPersonShard rows.now mails.now.shards number shard.old }
+    requires known { number < mails.now.shards }
+    ensures is { IsPersonShard rows.now mails.now.shards number shard.new }
+    ensures hears { Hears P.room shard.old seats.old.persons shard.new seats.new.persons (result ≡ Step.Stop Why.Fell) }
+    ensures objects { TookMore O.room seats.old.objects [] seats.new.objects }
+    ensures hub { TookMore H.room seats.old.hub [] seats.new.hub }
+    ensures why { result ≢ Step.Stop Why.Stuck }
+{
+    if gate.is_open() {
+        let held = mails.persons.hold_for(rt, number);
+        let calls = Calls::with(rt, gate, &mails.persons, held);
+        return hear_waiting(calls, mails, rows, number, shard, seats);
+    }
+    let taken = take(rt, gate, &mails.persons, &mut seats.persons, number);
+    hear(rows, mails.shards, number, shard, taken)
 }
 
 /// Asks for the next bid.
@@ -126,7 +153,7 @@ fn ask(rows: &Rows, shards: u32, number: u32, eps: i64, shard: &mut PersonShard)
     shard.next_bid(rows, eps)
 }
 
-/// Asks for bids, as many as find a place, until nobody is free.
+/// Asks for bids until nobody is free, but no more than `most`, nor more than find a place.
 fn ask_all(
     rows: &Rows,
     shards: u32,
@@ -134,6 +161,7 @@ fn ask_all(
     eps: i64,
     shard: &mut PersonShard,
     bids: &mut ArrayVec<Out, BATCH>,
+    most: usize,
 ) -> Step
     requires shard { IsPersonShard rows.now shards number shard.old }
     requires known { number < shards }
@@ -145,7 +173,7 @@ fn ask_all(
     ensures why { result ≢ Step.Stop Why.Fell }
     ensures reach { All (Reaches shards) bids.new.items }
 {
-    for _ in 0..BATCH {
+    for _ in 0..most {
         if bids.is_full() {
             return Step::On;
         }
@@ -159,8 +187,8 @@ fn ask_all(
 }
 
 /// Posts a letter to a shard of the objects.
-fn post_bid<O: MailBrand, P: MailBrand, H: MailBrand>(
-    held: &mut HeldMail<'_, Letter, O>,
+fn post_bid<O: MailBrand, P: MailBrand, H: MailBrand, R: Wait, G: Gate>(
+    calls: &mut Calls<'_, O, R, G>,
     mails: &Mails<O, P, H>,
     seats: &mut WorkerSeats<O, P, H>,
     out: Out,
@@ -173,12 +201,12 @@ fn post_bid<O: MailBrand, P: MailBrand, H: MailBrand>(
 {
     let _ = mails.shards;
     match out.to {
-        To::Object { shard } => post_held(held, &mut seats.objects, shard, out),
+        To::Object { shard } => calls.post(&mut seats.objects, shard, out),
         _ => Step::Stop { why: Why::Stray },
     }
 }
 
-/// Posts the bids in order, all under one lock.
+/// Posts the bids in order.
 fn send_bids<O: MailBrand, P: MailBrand, H: MailBrand, R: Wait, G: Gate>(
     rt: &R,
     gate: &G,
@@ -192,16 +220,15 @@ fn send_bids<O: MailBrand, P: MailBrand, H: MailBrand, R: Wait, G: Gate>(
     ensures hub { TookMore H.room seats.old.hub [] seats.new.hub }
     ensures why { (result ≢ Step.Stop Why.Stuck) × (result ≢ Step.Stop Why.Fell) }
 {
-    gate.pass(seats.objects.worker());
-    let mut held = mails.objects.hold(rt);
+    let mut calls = Calls::begin(rt, gate, &mails.objects);
     for out in bids {
-        let step = post_bid(&mut held, mails, seats, *out);
+        let step = post_bid(&mut calls, mails, seats, *out);
         if step != Step::On {
-            held.release();
+            calls.end();
             return step;
         }
     }
-    held.release();
+    calls.end();
     Step::On
 }
 
@@ -226,17 +253,14 @@ fn exchange<O: MailBrand, P: MailBrand, H: MailBrand, R: Wait, G: Gate>(
     ensures why { result ≢ Step.Stop Why.Stuck }
 {
     if bids.is_empty() {
-        gate.pass(seats.persons.worker());
-        let held = mails.persons.hold_for(rt, number);
-        return hear_waiting(held, mails, rows, number, shard, seats);
+        return hear_next(rt, gate, mails, rows, number, shard, seats);
     }
     let step = send_bids(rt, gate, mails, seats, bids);
     if step != Step::On {
         return step;
     }
-    gate.pass(seats.persons.worker());
-    let held = mails.persons.hold(rt);
-    hear_waiting(held, mails, rows, number, shard, seats)
+    let calls = Calls::begin(rt, gate, &mails.persons);
+    hear_waiting(calls, mails, rows, number, shard, seats)
 }
 
 /// Asks for bids, posts them, and hears what waits.
@@ -261,7 +285,8 @@ fn serve<O: MailBrand, P: MailBrand, H: MailBrand, R: Wait, G: Gate>(
     ensures stuck { result ≡ Step.Stop Why.Stuck → SomebodyStuck rows.now }
 {
     bids.clear();
-    let asked = ask_all(rows, mails.shards, number, eps, shard, bids);
+    let most = if gate.is_open() { BATCH } else { 1 };
+    let asked = ask_all(rows, mails.shards, number, eps, shard, bids, most);
     if asked != Step::On {
         // The bids made before are posted all the same, so that a stop at the limit of bids has what they bought.
         let _ = send_bids(rt, gate, mails, seats, bids.as_slice());

@@ -39,8 +39,23 @@ pub(crate) fn take<N: MailBrand, R: Wait, G: Gate>(
     mail.take(rt, seat, at)
 }
 
+/// Takes a letter, if one waits.
+fn try_take<N: MailBrand, R: Wait, G: Gate>(
+    rt: &R,
+    gate: &G,
+    mail: &SharedMail<Letter, N>,
+    seat: &mut Seat<Letter, N>,
+    at: u32,
+) -> Result<Taken<Letter>, TrailFull>
+    requires { at < N.boxes }
+    ensures { TookMore N.room seat.old (letter_of result) seat.new }
+{
+    gate.pass(seat.worker());
+    mail.try_take(rt, seat, at)
+}
+
 /// Takes a letter while the lock is held, if one waits.
-pub(crate) fn take_held<N: MailBrand>(
+fn take_held<N: MailBrand>(
     held: &mut HeldMail<'_, Letter, N>,
     seat: &mut Seat<Letter, N>,
     at: u32,
@@ -52,18 +67,16 @@ pub(crate) fn take_held<N: MailBrand>(
 }
 
 /// Posts a letter while the lock is held.
-pub(crate) fn post_held<N: MailBrand>(
+fn post_held<N: MailBrand>(
     held: &mut HeldMail<'_, Letter, N>,
     seat: &mut Seat<Letter, N>,
     to: u32,
     out: Out,
-) -> Step
+) -> Result<u64, CallRefused>
     requires { to < N.boxes }
-    ensures took { TookMore N.room seat.old [] seat.new }
-    ensures why { (result ≢ Step.Stop Why.Stuck) × (result ≢ Step.Stop Why.Fell) }
+    ensures { TookMore N.room seat.old [] seat.new }
 {
-    let posted = held.post(seat, to, out.letter, out.reserve);
-    step_after(posted, out.letter)
+    held.post(seat, to, out.letter, out.reserve)
 }
 
 /// Posts a letter.
@@ -132,6 +145,91 @@ fn step_after(posted: Result<u64, CallRefused>, letter: Letter) -> Step
         Err(CallRefused::Closed) => Step::Over,
         Err(CallRefused::Spent) => step_refused(PostRefused::Spent, letter),
         Err(CallRefused::Full) => step_refused(PostRefused::Full, letter),
+    }
+}
+
+/// A worker's calls of one mail: where the gate is open, all under one lock, and else each under its own, behind the gate.
+pub(crate) struct Calls<'b, N: MailBrand, R: Wait, G: Gate> {
+    rt: &'b R,
+    gate: &'b G,
+    mail: &'b SharedMail<Letter, N>,
+    held: Option<HeldMail<'b, Letter, N>>,
+}
+
+impl<'b, N: MailBrand, R: Wait, G: Gate> Calls<'b, N, R, G> {
+    /// The calls of a mail begin. They are made when [`Calls::end`] is called.
+    pub(crate) fn begin(rt: &'b R, gate: &'b G, mail: &'b SharedMail<Letter, N>) -> Self {
+        let held = if gate.is_open() {
+            Some(mail.hold(rt))
+        } else {
+            None
+        };
+        Calls {
+            rt,
+            gate,
+            mail,
+            held,
+        }
+    }
+
+    /// The calls of a mail begin whose lock is held.
+    pub(crate) fn with(
+        rt: &'b R,
+        gate: &'b G,
+        mail: &'b SharedMail<Letter, N>,
+        held: HeldMail<'b, Letter, N>,
+    ) -> Self {
+        Calls {
+            rt,
+            gate,
+            mail,
+            held: Some(held),
+        }
+    }
+
+    /// Takes a letter, if one waits.
+    pub(crate) fn take(
+        &mut self,
+        seat: &mut Seat<Letter, N>,
+        at: u32,
+    ) -> Result<Taken<Letter>, TrailFull>
+        requires { at < N.boxes }
+        ensures { TookMore N.room seat.old (letter_of result) seat.new }
+    {
+        match &mut self.held {
+            Some(held) => take_held(held, seat, at),
+            None => try_take(self.rt, self.gate, self.mail, seat, at),
+        }
+    }
+
+    /// Posts a letter.
+    pub(crate) fn post(&mut self, seat: &mut Seat<Letter, N>, to: u32, out: Out) -> Step
+        requires { to < N.boxes }
+        ensures took { TookMore N.room seat.old [] seat.new }
+        ensures why { (result ≢ Step.Stop Why.Stuck) × (result ≢ Step.Stop Why.Fell) }
+    {
+        let posted = match &mut self.held {
+            Some(held) => post_held(held, seat, to, out),
+            None => {
+                self.gate.pass(seat.worker());
+                post(self.rt, self.mail, seat, to, out)
+            }
+        };
+        step_after(posted, out.letter)
+    }
+
+    /// The calls end: the lock is given up, and who has to be is woken.
+    pub(crate) fn end(self) {
+        let Calls {
+            rt: _,
+            gate: _,
+            mail: _,
+            held,
+        } = self;
+        match held {
+            Some(held) => held.release(),
+            None => {}
+        }
     }
 }
 

@@ -10,6 +10,8 @@ mod certificates;
 #[cfg(test)]
 mod jobs;
 #[cfg(test)]
+mod locked;
+#[cfg(test)]
 mod mails;
 #[cfg(test)]
 mod marks;

@@ -6,7 +6,7 @@ use crate::marks::refuse_all;
 use crate::problems::{THREE, problem_of};
 use crate::solvers::limits_of;
 use auc_book::{MailState, TrailFull};
-use auc_cert::{Cert, CertParts, read_cert};
+use auc_cert::{Cert, CertParts, Pick, Picks, Prices, write_cert};
 use auc_graph::{Number, Rows, Token, number_of, token_at};
 use auc_hall::Partial;
 use auc_letters::Letter;
@@ -14,7 +14,7 @@ use auc_mail::{MailPool, Taken};
 use auc_nodes::NodePool;
 use auc_objects::ObjectShard;
 use auc_persons::PersonShard;
-use auc_world::{Turn, World, first_eps, next_eps};
+use auc_world::{Limits, Turn, World, first_eps, next_eps, play};
 use std::alloc::Global;
 use std::test::*;
 
@@ -127,19 +127,39 @@ fn turns(rt: HostRuntime) -> Result<(), Fail> {
             world.turn(turn);
         }
     }
+    play(&mut world, [Turn::HubTake, Turn::HubTake].as_slice());
     let end = world.end();
+    let shards = Limits::usual(2).shards;
     drop(mark);
     assert!(rt; end.is_some());
+    assert_eq!(rt; shards, 2);
     Ok(())
 }
 
-/// Parts that no text spells come back as they were.
+/// A certificate is made, and its text goes to a writer that has its room before.
 #[test]
 fn certificates(rt: HostRuntime) -> Result<(), Fail> {
-    let cert = read_cert(rt.alloc(), b"auction 1\ninfeasible 1 0\nperson 1\n")?;
+    let pick = Pick {
+        object: 0,
+        cost: -7,
+    };
+    let parts = CertParts::Optimal {
+        cost: -7,
+        choice: Picks::new(vec![in rt.alloc(); pick]?),
+        prices: Prices::new(vec![in rt.alloc(); 1]?),
+    };
+    let mut text = Vec::with_capacity(rt.alloc(), 64)?;
     let mark = refuse_all(rt.alloc())?;
-    let is_infeasible = matches!(cert.parts(), CertParts::Infeasible { .. });
+    let cert = Cert::make(parts);
+    let written = match &cert {
+        Ok(cert) => write_cert(&mut text, cert).is_ok(),
+        Err(_parts) => false,
+    };
     drop(mark);
-    assert!(rt; is_infeasible);
+    assert!(rt; written);
+    assert_eq!(rt;
+        text.as_slice(),
+        b"auction 1\noptimal 1 -7\nassign 1 1 -7\nprice 1 1\n".as_slice()
+    );
     Ok(())
 }

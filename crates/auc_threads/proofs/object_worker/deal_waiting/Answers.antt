@@ -4,7 +4,7 @@ use Rattle.auc_threads.proofs.object_worker.deal_waiting.Goals as goal
 pub returns-then-ne-clause-sells : goal.returns-then-ne-clause-sells
 returns-then-ne-clause-sells g c =
     let step = c.deal-step.ensures in
-    sells_then _ _ _ _ _ _ _ _ c.loop.invariant.sells (sells_one _ _ _ _ _ _ _ step.shape c.take_held-taken.ensures step.sold)
+    sells_then _ _ _ _ _ _ _ _ c.loop.invariant.sells (sells_one _ _ _ _ _ _ _ step.shape c.take-taken.ensures step.sold)
 
 pub loop-preserved : goal.loop-preserved
 loop-preserved g c =
@@ -12,7 +12,7 @@ loop-preserved g c =
     let step = c.deal-step.ensures in
     record {
       duty = duty_then _ _ _ _ _ step.shape inv.duty;
-      sells = sells_then _ _ _ _ _ _ _ _ inv.sells (sells_one _ _ _ _ _ _ _ step.shape c.take_held-taken.ensures step.sold);
+      sells = sells_then _ _ _ _ _ _ _ _ inv.sells (sells_one _ _ _ _ _ _ _ step.shape c.take-taken.ensures step.sold);
       persons = inv.persons;
       hub = inv.hub;
       reach = step.reach;

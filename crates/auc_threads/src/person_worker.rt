@@ -109,7 +109,7 @@ fn hear_waiting<O: MailBrand, P: MailBrand, H: MailBrand, R: Wait, G: Gate>(
     Step::On
 }
 
-/// Waits for a letter, hears it, and then what else waits.
+/// Waits for a letter and hears it; where the gate is open, also what else waits.
 fn hear_next<O: MailBrand, P: MailBrand, H: MailBrand, R: Wait, G: Gate>(
     rt: &R,
     gate: &G,

@@ -13,6 +13,7 @@ mod NumberWords
 mod WordLaws
 mod LineLaws
 mod SecondLineLaws
+mod SlackLaws
 mod RunLaws
 mod RisingRuns
 mod TextLines

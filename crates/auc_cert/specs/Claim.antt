@@ -121,6 +121,10 @@ IsAllowed p (Bracket reason lower cost choice prices) = IsBracket p lower cost (
 abbrev pub AreFlags : (Arc → Bool) → List Pick → List Bool → Type 0
 AreFlags test choice flags = flags ≡ map test (chosen 0 choice)
 
+-- what a pick is worth at prices
+abbrev pub pick_value : ℕ → List ℤ → Pick → ℤ
+pick_value s prices p = arc_value s prices (arc_of 0 p)
+
 -- a flag for each number, whether it is listed
 abbrev pub AreListed : List ℕ → List Bool → Type 0
 AreListed numbers flags = (k : ℕ) → k < length flags → slice_index_or flags k false ≡ is_listed numbers k

@@ -1,16 +1,17 @@
 //! Whether a claim holds.
 
-ghost use Rattle.std.specs.Prelude.{◌≡◌, ◌≤◌, ◌<◌, ◌+◌, ◌∷◌, [], All, IsOk, length};
+ghost use Rattle.std.specs.Prelude.{◌≡◌, ◌≤◌, ◌<◌, ◌+◌, ◌∷◌, [], true, All, IsOk, length};
+ghost use Rattle.std.specs.List.{position};
 ghost use Rattle.auc_graph.specs.Memory.{AnswersUnless};
 ghost use Rattle.auc_graph.specs.Problem.{IsProblem};
 ghost use Rattle.auc_graph.specs.Price.{IsPrice};
 ghost use Rattle.auc_graph.specs.Dual.{EachHasArc};
 ghost use Rattle.auc_cert.specs.declared.reason.Reason.{Reason};
 ghost use Rattle.auc_cert.specs.Spelled.{IsChoice, AreNamed};
-ghost use Rattle.auc_cert.specs.Claim.{choice_faults, slack_fault, bound_fault, fault_of, first_of, IsVerdict, IsAllowed};
+ghost use Rattle.auc_cert.specs.Claim.{chosen, is_missing, is_sized, choice_faults, slack_fault, bound_fault, fault_of, first_of, IsVerdict, IsAllowed};
 
 use crate::cert::{Cert, CertParts};
-use crate::flags::{missing_person, slack_person};
+use crate::flags::{first_look, missing_person, slack_person};
 use crate::hall::is_hall;
 use crate::lists::Pick;
 use crate::picks::{cost_of, repeated_object};
@@ -18,25 +19,30 @@ use crate::refused::CertRefused;
 use auc_graph::{ArcList, MOST_PERSONS, dual_bound, is_lower};
 use std::alloc::Global;
 
-/// Whether the picks are an assignment of this cost, and there is a price for each object: as many picks as persons, each an
-/// arc of his person, no object twice.
-fn check_choice(
+/// Whether there is a pick for each person, and a price for each object.
+fn is_sized(problem: &ArcList, choice: &[Pick], prices: &[i64]) -> bool
+    ensures { result ≡ is_sized problem.now choice.now prices.now }
+{
+    choice.len() == problem.persons() as usize && prices.len() == problem.objects() as usize
+}
+
+/// Whether the picks are an assignment of this cost, where there are as many as persons and `missing` is the first person whose
+/// pick is no arc of his: each an arc of his person, no object twice.
+fn check_picks(
     alloc: Global,
     problem: &ArcList,
     cost: i64,
     choice: &[Pick],
-    prices: &[i64],
+    _prices: &[i64],
+    missing: Option<u32>,
 ) -> Result<(), CertRefused>
-    requires { length choice.now ≤ MOST_PERSONS }
-    ensures exact { AnswersUnless CertRefused.NoMemory (λ x. x) result (IsVerdict (first_of (choice_faults problem.now cost choice.now prices.now))) }
-    ensures size { IsOk result → length choice.now ≡ problem.now.persons }
-    ensures prices { IsOk result → length prices.now ≡ problem.now.objects }
+    requires few { length choice.now ≤ MOST_PERSONS }
+    requires sized { is_sized problem.now choice.now _prices.now ≡ true }
+    requires missing { missing ≡ position (is_missing problem.now.arcs) (chosen 0 choice.now) }
+    ensures exact { AnswersUnless CertRefused.NoMemory (λ x. x) result (IsVerdict (first_of (choice_faults problem.now cost choice.now _prices.now))) }
     ensures objects { IsOk result → All (λ p. p.object < problem.now.objects) choice.now }
 {
-    if choice.len() != problem.persons() as usize || prices.len() != problem.objects() as usize {
-        return Err(CertRefused::WrongSize);
-    }
-    if let Some(person) = missing_person(alloc, choice, problem.arcs())? {
+    if let Some(person) = missing {
         return Err(CertRefused::NoSuchArc { person });
     }
     if let Some(object) = repeated_object(alloc, problem.objects() as usize, choice)? {
@@ -90,6 +96,8 @@ fn check_bound(
     Ok(())
 }
 
+/// Whether the claim of an optimal assignment holds. Slack is seen in the pass that looks for the picks; who has a better arc is
+/// looked for only where somebody has.
 fn check_optimal(
     alloc: Global,
     problem: &ArcList,
@@ -101,7 +109,15 @@ fn check_optimal(
     ensures exact { AnswersUnless CertRefused.NoMemory (λ x. x) result (IsVerdict (fault_of problem.now (CertParts.Optimal cost choice.now prices.now))) }
     ensures allowed { IsOk result → IsAllowed problem.now (CertParts.Optimal cost choice.now prices.now) }
 {
-    check_choice(alloc, problem, cost, choice, prices)?;
+    if !is_sized(problem, choice, prices) {
+        return Err(CertRefused::WrongSize);
+    }
+    let scale = problem.persons() + 1;
+    let (missing, is_slack) = first_look(alloc, scale, choice, prices, problem.arcs())?;
+    check_picks(alloc, problem, cost, choice, prices, missing)?;
+    if is_slack {
+        return Ok(());
+    }
     check_slack(alloc, problem, choice, prices)
 }
 
@@ -134,7 +150,11 @@ fn check_bracket(
     ensures exact { (reason : Reason) → AnswersUnless CertRefused.NoMemory (λ x. x) result (IsVerdict (fault_of problem.now (CertParts.Bracket reason lower cost choice.now prices.now))) }
     ensures allowed { (reason : Reason) → IsOk result → IsAllowed problem.now (CertParts.Bracket reason lower cost choice.now prices.now) }
 {
-    check_choice(alloc, problem, cost, choice, prices)?;
+    if !is_sized(problem, choice, prices) {
+        return Err(CertRefused::WrongSize);
+    }
+    let missing = missing_person(alloc, choice, problem.arcs())?;
+    check_picks(alloc, problem, cost, choice, prices, missing)?;
     check_bound(alloc, problem, lower, prices)
 }
 
@@ -158,7 +178,7 @@ fn check_bracket(
 /// [`CertRefused::WrongBound`] in place of the last. Of an infeasible one only [`CertRefused::NotHall`].
 /// [`CertRefused::NoMemory`] may stand in place of any other answer, where memory was refused.
 ///
-/// Takes O(arcs + persons) time, two passes over the arcs, and O(persons) memory.
+/// Takes O(arcs + persons) time and O(persons) memory: one pass over the arcs for an optimal claim that holds, else two at most.
 pub fn check(alloc: Global, problem: &ArcList, cert: &Cert) -> Result<(), CertRefused>
     ensures exact { AnswersUnless CertRefused.NoMemory (λ x. x) result (IsVerdict (fault_of problem.now cert.now)) }
     ensures allowed { IsOk result → IsAllowed problem.now cert.now }

@@ -1,9 +1,10 @@
 //! What one pass over the arcs shows of each person's pick: a flag for each person.
 
-ghost use Rattle.std.specs.Prelude.{◌≡◌, ◌<◌, ◌+◌, ◌^◌, not, ◌&&◌, length, All, IfOk, pos, neg_ℤ, ◌+ℤ◌, ◌*ℤ◌, ◌≤ℤ◌};
+ghost use Rattle.std.specs.Prelude.{◌≡◌, ◌<◌, ◌+◌, ◌^◌, not, ◌&&◌, true, length, map, All, None, IfOk, pos, neg_ℤ, ◌+ℤ◌, ◌*ℤ◌, ◌≤ℤ◌, int_le};
 ghost use Rattle.std.specs.List.{position};
 ghost use Rattle.auc_graph.specs.Problem.{IsWithin};
-ghost use Rattle.auc_cert.specs.Claim.{arc_of, chosen, same_arc, is_missing, bears, is_slack_right, AreFlags, is_flag};
+ghost use Rattle.auc_graph.specs.Dual.{price_at, arc_value};
+ghost use Rattle.auc_cert.specs.Claim.{arc_of, pick_value, chosen, same_arc, is_missing, bears, is_slack_right, AreFlags, is_flag};
 
 use crate::lists::Pick;
 use auc_graph::Arc;
@@ -118,4 +119,63 @@ pub(crate) fn slack_person(
 {
     let fine = slack_flags(alloc, scale, choice, prices, arcs)?;
     Ok(first_person(fine.as_slice(), false))
+}
+
+/// The price of an object, and 0 where it has none.
+fn price_of(prices: &[i64], object: u32) -> i64
+    ensures { result ≡ price_at prices.now object }
+{
+    match prices.get(object as usize) {
+        Some(price) => *price,
+        None => 0,
+    }
+}
+
+/// The value of each pick.
+fn pick_values(
+    alloc: Global,
+    scale: u32,
+    choice: &[Pick],
+    prices: &[i64],
+) -> Result<Vec<i128>, AllocError>
+    ensures { IfOk result (λ v. v.items ≡ map (pick_value scale prices.now) choice.now) }
+{
+    let mut values = Vec::with_capacity(alloc, choice.len())?;
+    for pick in choice {
+        values.push(value_of(scale, pick.cost, price_of(prices, pick.object)))?;
+    }
+    Ok(values)
+}
+
+/// Whether an arc is not better than a pick of this value by more than 1.
+fn is_near(scale: u32, prices: &[i64], value: i128, arc: Arc) -> bool
+    requires { arc.object < length prices.now }
+    ensures { result ≡ int_le value (arc_value scale prices.now arc +ℤ pos 1) }
+{
+    value <= value_of(scale, arc.cost, prices[arc.object as usize]) + 1
+}
+
+/// The first person whose pick is no arc of his, and whether no person has an arc better than his pick by more than 1.
+pub(crate) fn first_look(
+    alloc: Global,
+    scale: u32,
+    choice: &[Pick],
+    prices: &[i64],
+    arcs: &[Arc],
+) -> Result<(Option<u32>, bool), AllocError>
+    requires few { length choice.now < 2 ^ 32 }
+    requires arcs { All (IsWithin (length choice.now) (length prices.now)) arcs.now }
+    ensures missing { IfOk result (λ x. x.0 ≡ position (is_missing arcs.now) (chosen 0 choice.now)) }
+    ensures slack { IfOk result (λ x. x.1 ≡ true → position (λ c. not (is_slack_right scale prices.now arcs.now c)) (chosen 0 choice.now) ≡ None) }
+{
+    let values = pick_values(alloc, scale, choice, prices)?;
+    let mut missing = vec![in alloc; true; choice.len()]?;
+    let mut is_slack = true;
+    for arc in arcs {
+        let person = arc.person as usize;
+        let is_other = !is_same(arc.person, choice[person], *arc);
+        missing[person] = both(missing[person], is_other);
+        is_slack = both(is_slack, is_near(scale, prices, values[person], *arc));
+    }
+    Ok((first_person(missing.as_slice(), true), is_slack))
 }

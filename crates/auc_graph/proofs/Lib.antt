@@ -16,6 +16,7 @@ mod EndLaws
 mod RowLaws
 mod CountLaws
 mod LayoutLaws
+mod LinedLaws
 mod SpreadLaws
 mod Scale
 mod LeastLaws

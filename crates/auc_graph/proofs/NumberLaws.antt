@@ -120,6 +120,28 @@ sign_text (b ∷ bytes) rest negative n is =
           ap (λ (m : ℕ). split_sign (take m (b ∷ bytes))) count ∙ unsigned_text b bytes n unsigned.1 ∙ sym (ap (λ x. (x.0, take n x.1)) (is ∙ unsigned.0))
     ]
 
+-- what stands behind the sign
+pub sign_drop : (bytes rest : List ℕ) (negative : Bool) → (negative, rest) ≡ split_sign bytes → rest ≡ drop (length bytes - length rest) bytes
+unfolding split_sign
+sign_drop [] rest negative is =
+    let none : rest ≡ [] = ap (λ x. x.1) is in
+    none ∙ sym (drop_nothing (length {A = ℕ} [] - length rest))
+  where
+    drop_nothing : (n : ℕ) → drop {A = ℕ} n [] ≡ []
+    drop_nothing zero = refl
+    drop_nothing (suc n) = refl
+sign_drop (b ∷ bytes) rest negative is =
+    elim (sign_is b bytes) [
+      | inl sign ↦
+          let rest_is : rest ≡ bytes = ap (λ x. x.1) is ∙ sign.0 in
+          let count : suc (length bytes) - length rest ≡ 1 = omega (arith, ap length rest_is) in
+          rest_is ∙ sym (ap (λ (m : ℕ). drop m (b ∷ bytes)) count)
+      | inr unsigned ↦
+          let rest_is : rest ≡ b ∷ bytes = ap (λ x. x.1) is ∙ ap (λ x. x.1) unsigned.0 in
+          let count : suc (length bytes) - length rest ≡ 0 = omega (arith, ap length rest_is) in
+          rest_is ∙ sym (ap (λ (m : ℕ). drop m (b ∷ bytes)) count)
+    ]
+
 -- ---- a token has no separator in it
 
 pub parted_is_bad : (token : List ℕ) → position_or_len is_separator token < length token → number token ≡ Bad
@@ -183,21 +205,23 @@ no_sign (b ∷ token) some h =
     let no_minus : (b == 45) ≡ false = grind (arith, nat_tests) in
     rw (no_plus, no_minus) refl
 
-told : (n : ℕ) → n ≤ 10 ^ 18 → sized (pos n) ≡ Value (pos n)
-told n le = let t : nat_le n (10 ^ 18) ≡ true = grind (arith, nat_tests) in rw t refl
+told : (negative : Bool) (n : ℕ) → n ≤ 10 ^ 18 → sized (signed negative n) ≡ Value (signed negative n)
+told negative n le = let t : nat_le n (10 ^ 18) ≡ true = grind (arith, nat_tests) in rw (abs_signed negative n, t) refl
 
 some_number : (n : ℕ) → Option ℕ
 some_number n = Some n
 
-pub number_of_plain : (bytes : List ℕ) (value len : ℕ) → IsPlainToken bytes value len → number (take len bytes) ≡ Value (pos value)
+-- behind a sign or none
+pub number_of_signed : (token bytes : List ℕ) (negative : Bool) (value len : ℕ) → IsPlainToken bytes value len → split_sign token ≡ (negative, take len bytes) → number token ≡ Value (signed negative value)
 unfolding some_number
-number_of_plain bytes value len is =
-    let token : List ℕ = take len bytes in
+number_of_signed token bytes negative value len is sign =
     let some : is_nonempty (take len bytes) ≡ true = some_digits bytes len is.some is.few in
-    let sign : split_sign (take len bytes) ≡ (false, take len bytes) = no_sign (take len bytes) some is.digits in
     let whole : magnitude (take len bytes) ≡ Some (digits_value 10 (take len bytes)) = ap magnitude (sym (append-nil (take len bytes))) ∙ some_parts (take len bytes) [] is.digits some in
     let capped : min value (10 ^ 18 + 1) ≡ value = omega (arith, is.small) in
-    let found : option_map (λ n. min n (10 ^ 18 + 1)) (magnitude (split_sign (take len bytes)).1) ≡ Some value =
+    let found : option_map (λ n. min n (10 ^ 18 + 1)) (magnitude (split_sign token).1) ≡ Some value =
     ap (λ (x : Bool × List ℕ). option_map (λ n. min n (10 ^ 18 + 1)) (magnitude x.1)) sign ∙ ap (option_map (λ n. min n (10 ^ 18 + 1))) whole
     ∙ ap (λ (n : ℕ). some_number (min n (10 ^ 18 + 1))) (sym is.value_is) ∙ ap some_number capped in
-    number_some (take len bytes) value found ∙ ap (λ (x : Bool × List ℕ). sized (signed x.0 value)) sign ∙ told value is.small
+    number_some token value found ∙ ap (λ (x : Bool × List ℕ). sized (signed x.0 value)) sign ∙ told negative value is.small
+
+pub number_of_plain : (bytes : List ℕ) (value len : ℕ) → IsPlainToken bytes value len → number (take len bytes) ≡ Value (pos value)
+number_of_plain bytes value len is = number_of_signed (take len bytes) bytes false value len is (no_sign (take len bytes) (some_digits bytes len is.some is.few) is.digits)

@@ -1,14 +1,14 @@
 -- The numbers of a text of which only the front is there.
-use Rattle.std.proofs.Common.{◌≡◌, ℕ, zero, suc, ◌+◌, ◌-◌, ◌<◌, ◌≤◌, Bool, true, not, length, take, drop, List, [], ◌∷◌, ◌++◌, refl, sym, ap, ◌∙◌, arith, inl, inr}
+use Rattle.std.proofs.Common.{◌≡◌, ℕ, zero, suc, ◌+◌, ◌-◌, ◌<◌, ◌≤◌, Bool, true, not, length, get_or, take, drop, List, [], ◌∷◌, ◌++◌, refl, sym, ap, ◌∙◌, arith, inl, inr}
 use Rattle.std.specs.Prelude.{map, slice_range}
 use Rattle.std.proofs.lemmas.Grind.{common_steps}
 use Rattle.std.specs.List.{prefix_len, position_or_len}
 use Rattle.std.proofs.lemmas.Bool.{cases_Bool}
-use Rattle.std.proofs.lemmas.List.{take-append-le, drop-append-le, length-append, length-drop, drop-drop, append-nil, take_all}
+use Rattle.std.proofs.lemmas.List.{drop_more, take-append-le, drop-append-le, length-append, length-drop, drop-drop, append-nil, take_all}
 use Rattle.std.proofs.Common.{set}
 use borrow.Rule.Slice.PartMut.{put_mid, post_of}
 use Rattle.std.proofs.lemmas.Grind.{take-set_at}
-use Rattle.std.proofs.lemmas.List.Sums.{prefix_len-le-length}
+use Rattle.std.proofs.lemmas.List.Sums.{prefix_len-le-length, passes_at_first}
 use Rattle.std.proofs.Math.Seq.{take-append-add, drop-append-add}
 use Rattle.auc_graph.specs.declared.number.Number.{Number}
 use Rattle.auc_graph.specs.Tokens.{is_separator, tokens}
@@ -52,6 +52,10 @@ prefix_all p (x ∷ xs) more all =
 
 -- ---- a token with a separator behind it
 
+pub skip_one : (b : ℕ) (text : List ℕ) → is_separator b ≡ true → numbers (b ∷ text) ≡ numbers text
+unfolding numbers tokens
+skip_one b text h = ap (map number) (parts_yes is_separator b text h)
+
 pub whole_token : (bytes rest token : List ℕ) (s n : ℕ) → s ≡ prefix_len is_separator bytes → token ≡ drop s bytes → n ≡ position_or_len is_separator token → n < length token → rest ≡ drop n token
     → (more : List ℕ) → numbers (bytes ++ more) ≡ number (take n token) ∷ numbers (rest ++ more)
 whole_token bytes rest token s n es is en lt behind more =
@@ -66,12 +70,19 @@ whole_token bytes rest token s n es is en lt behind more =
     let left : drop n (drop s (bytes ++ more)) ≡ rest ++ more = ap (drop n) there ∙ drop-append-le n token more (omega (arith, lt)) ∙ ap (λ (t : List ℕ). t ++ more) (sym behind) in
     next.1 ∙ ap (λ (t : List ℕ). number t ∷ numbers (drop n (drop s (bytes ++ more)))) word ∙ ap (λ (t : List ℕ). number (take n token) ∷ numbers t) left
 
--- the token is not empty, so the text gets shorter
-pub token_takes : (bytes rest token : List ℕ) (s n : ℕ) → s ≡ prefix_len is_separator bytes → token ≡ drop s bytes → n ≡ position_or_len is_separator token → n < length token → rest ≡ drop n token → length rest < length bytes
-token_takes bytes rest token s n es is en lt behind =
-    let len : length token ≡ length bytes - s = ap length is ∙ length-drop s bytes in
-    let next = numbers_next bytes s n es (omega (arith, len, lt)) (en ∙ ap (position_or_len is_separator) is) in
-    omega (arith, len, ap length behind, length-drop n token, next.0)
+-- the same, where the separator is left out
+pub whole_token_and : (bytes rest token : List ℕ) (s n : ℕ) → s ≡ prefix_len is_separator bytes → token ≡ drop s bytes → n ≡ position_or_len is_separator token → n < length token → rest ≡ drop (n + 1) token
+    → (more : List ℕ) → numbers (bytes ++ more) ≡ number (take n token) ∷ numbers (rest ++ more)
+whole_token_and bytes rest token s n es is en lt behind more =
+    let stop : is_separator (get_or token n 0) ≡ true = ap (λ (m : ℕ). is_separator (get_or token m 0)) en ∙ passes_at_first is_separator token 0 (omega (arith, lt, en)) in
+    let next : drop n token ≡ get_or token n 0 ∷ drop (n + 1) token = drop_more token n 0 lt in
+    whole_token bytes (drop n token) token s n es is en lt refl more
+    ∙ ap (λ (t : List ℕ). number (take n token) ∷ numbers (t ++ more)) next
+    ∙ ap (λ (xs : List Number). number (take n token) ∷ xs) (skip_one (get_or token n 0) (drop (n + 1) token ++ more) stop ∙ ap (λ (t : List ℕ). numbers (t ++ more)) (sym behind))
+
+-- the text gets shorter
+pub token_takes : (bytes rest token : List ℕ) (s n : ℕ) → token ≡ drop s bytes → n < length token → rest ≡ drop (n + 1) token → length rest < length bytes
+token_takes bytes rest token s n is lt behind = omega (arith, ap length is, length-drop s bytes, ap length behind, length-drop (n + 1) token, lt)
 
 -- ---- separators in front
 
@@ -193,7 +204,3 @@ pub front_and_more : (xs ys : List ℕ) (kept n k : ℕ) → kept ≤ length xs 
 front_and_more xs ys kept n k le few =
     let len : length (take kept xs) ≡ kept = grind (arith, common_steps) in
     ap (λ (m : ℕ). take (m + n) (put_mid kept k xs ys)) (sym len) ∙ take-append-add (take kept xs) (ys ++ post_of kept k xs) n ∙ ap (λ (t : List ℕ). take kept xs ++ t) (take-append-le n ys (post_of kept k xs) few)
-
-pub skip_one : (b : ℕ) (text : List ℕ) → is_separator b ≡ true → numbers (b ∷ text) ≡ numbers text
-unfolding numbers tokens
-skip_one b text h = ap (map number) (parts_yes is_separator b text h)

@@ -1,17 +1,15 @@
 -- Short numbers: one to seven digits and a separator.
-use Rattle.std.proofs.Common.{◌≡◌, ℕ, zero, suc, ◌+◌, ◌<◌, ◌≤◌, ◌^◌, true, not, length, get_or, take, drop, List, [], ◌∷◌, ◌++◌, refl, sym, ap, ◌∙◌, arith}
+use Rattle.std.proofs.Common.{◌≡◌, ℕ, zero, suc, ◌+◌, ◌-◌, Bool, ◌<◌, ◌≤◌, ◌^◌, not, length, take, drop, List, [], ◌∷◌, ◌++◌, refl, sym, ap, ◌∙◌, arith}
 use Rattle.std.specs.Prelude.{pos}
 use Rattle.std.specs.List.{prefix_len, position_or_len}
-use Rattle.std.proofs.lemmas.List.{drop_more, take-append-drop, take-append-le, length-append}
+use Rattle.std.proofs.lemmas.List.{drop-drop, take-append-drop, take-append-le, length-append, length-drop}
 use Rattle.std.proofs.lemmas.Bool.{cases_Bool}
 use Rattle.std.proofs.Common.{inl, inr}
-use Rattle.std.proofs.lemmas.List.Sums.{passes_at_first}
-use Rattle.auc_graph.specs.declared.number.Number.{Number}
 use Rattle.auc_graph.specs.declared.number.Number.TheVariants.{Value}
 use Rattle.auc_graph.specs.Tokens.{is_separator}
-use Rattle.auc_graph.specs.Numbers.{numbers, IsPlainToken}
-use Rattle.auc_graph.proofs.NumberLaws.{number_of_plain}
-use Rattle.auc_graph.proofs.PieceLaws.{whole_token, skip_one, prefix_front}
+use Rattle.auc_graph.specs.Numbers.{numbers, split_sign, signed, IsPlainToken}
+use Rattle.auc_graph.proofs.NumberLaws.{number_of_plain, number_of_signed, sign_len, sign_text, sign_drop}
+use Rattle.auc_graph.proofs.PieceLaws.{whole_token_and, prefix_front}
 
 pub tens : (i : ℕ) → i < 8 → 10 ^ i ≤ 10 ^ 7
 tens zero h = omega arith
@@ -46,14 +44,24 @@ whole_short bytes front value len is lt h =
       small = h.small;
     }
 
+-- a sign or none, digits, and a separator
+pub signed_found : (bytes unsigned rest : List ℕ) (negative : Bool) (value len : ℕ) → (negative, unsigned) ≡ split_sign bytes → length unsigned ≤ length bytes → IsPlainToken unsigned value len → len < length unsigned → rest ≡ drop (len + 1) unsigned
+    → (more : List ℕ) → numbers (bytes ++ more) ≡ Value (signed negative value) ∷ numbers (rest ++ more)
+signed_found bytes unsigned rest negative value len is few h lt behind more =
+    let n : ℕ = length bytes - length unsigned + len in
+    let token : n ≡ position_or_len is_separator bytes = omega (arith, sign_len bytes unsigned negative is, h.token) in
+    let count : length bytes - length unsigned + (len + 1) ≡ n + 1 = omega arith in
+    let left : rest ≡ drop (n + 1) bytes = behind ∙ ap (drop (len + 1)) (sign_drop bytes unsigned negative is) ∙ drop-drop (len + 1) (length bytes - length unsigned) bytes ∙ ap (λ (m : ℕ). drop m bytes) count in
+    whole_token_and bytes rest bytes 0 n (no_separators bytes (omega (arith, token, h.some))) refl token (omega (arith, few, lt)) left more
+    ∙ ap (λ x. x ∷ numbers (rest ++ more)) (number_of_signed (take n bytes) unsigned negative value len h (sign_text bytes unsigned negative len is))
+
+pub behind_sign : (bytes unsigned rest : List ℕ) (negative : Bool) (n : ℕ) → (negative, unsigned) ≡ split_sign bytes → length unsigned ≤ length bytes → n ≤ length unsigned → rest ≡ drop n unsigned → rest ≡ drop (length bytes - length rest) bytes
+behind_sign bytes unsigned rest negative n is few le behind =
+    let count : length bytes - length unsigned + n ≡ length bytes - length rest = omega (arith, ap length behind, length-drop n unsigned, few, le) in
+    behind ∙ ap (drop n) (sign_drop bytes unsigned negative is) ∙ drop-drop n (length bytes - length unsigned) bytes ∙ ap (λ (m : ℕ). drop m bytes) count
+
+-- the same without a sign
 pub short_found : (bytes rest : List ℕ) (value len : ℕ) → IsPlainToken bytes value len → len < length bytes → rest ≡ drop (len + 1) bytes → (more : List ℕ) → numbers (bytes ++ more) ≡ Value (pos value) ∷ numbers (rest ++ more)
 short_found bytes rest value len h lt behind more =
-    let stop : is_separator (get_or bytes len 0) ≡ true = ap (λ (n : ℕ). is_separator (get_or bytes n 0)) h.token ∙ passes_at_first is_separator bytes 0 (omega (arith, lt, h.token)) in
-    let next : drop len bytes ≡ get_or bytes len 0 ∷ drop (len + 1) bytes = split_at len bytes lt in
-    whole_token bytes (drop len bytes) bytes 0 len (no_separators bytes (omega (arith, h.token, h.some))) refl h.token lt refl more
-    ∙ ap (λ x. x ∷ numbers (drop len bytes ++ more)) (number_of_plain bytes value len h)
-    ∙ ap (λ (t : List ℕ). Value (pos value) ∷ numbers (t ++ more)) next
-    ∙ ap (λ (xs : List Number). Value (pos value) ∷ xs) (skip_one (get_or bytes len 0) (drop (len + 1) bytes ++ more) stop ∙ ap (λ (t : List ℕ). numbers (t ++ more)) (sym behind))
-  where
-    split_at : (n : ℕ) (xs : List ℕ) → n < length xs → drop n xs ≡ get_or xs n 0 ∷ drop (n + 1) xs
-    split_at n xs lt = drop_more xs n 0 lt
+    whole_token_and bytes rest bytes 0 len (no_separators bytes (omega (arith, h.token, h.some))) refl h.token lt behind more
+    ∙ ap (λ x. x ∷ numbers (rest ++ more)) (number_of_plain bytes value len h)

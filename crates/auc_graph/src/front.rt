@@ -1,15 +1,15 @@
 //! Numbers and arcs at the front of a text that goes on.
 
-ghost use Rattle.std.specs.Prelude.{◌≡◌, ◌+◌, ◌-◌, ◌≤◌, ◌<◌, ◌∷◌, ◌++◌, List, ℕ, length, drop, pos, IfSome, IfNone};
+ghost use Rattle.std.specs.Prelude.{◌≡◌, ◌+◌, ◌-◌, ◌≤◌, ◌<◌, ◌∷◌, ◌++◌, List, ℕ, length, drop, pos, neg_ℤ, ◌≤ℤ◌, IfSome, IfNone};
 ghost use Rattle.std.specs.List.{prefix_len};
 ghost use Rattle.auc_graph.specs.declared.number.Number.TheVariants.{Value};
 ghost use Rattle.auc_graph.specs.Tokens.{is_separator};
-ghost use Rattle.auc_graph.specs.Numbers.{numbers, IsPlainToken};
+ghost use Rattle.auc_graph.specs.Numbers.{numbers, signed, IsPlainToken};
 ghost use Rattle.auc_graph.specs.Problem.{IsWithin};
 ghost use Rattle.auc_graph.specs.Pieces.{IsPlain};
 
 use crate::arc::Arc;
-use crate::number::{Number, number_at};
+use crate::number::{Number, number_at, split_sign_of};
 use crate::tokens::{from_place, is_separator_byte, separators_len};
 
 /// One more than the digits of a short number.
@@ -47,7 +47,34 @@ fn short_number(bytes: &[u8]) -> Option<(u32, &[u8])>
     Some((value, from_place(bytes, len + 1)))
 }
 
-/// The number at the front, where a separator stands behind it, and the text from there on.
+/// A number by its sign and its size.
+#[inline(always)]
+fn signed_of(negative: bool, size: u32) -> i64
+    ensures { result ≡ signed negative size }
+{
+    if negative {
+        -(size as i64)
+    } else {
+        size as i64
+    }
+}
+
+/// The short number at the front, which may have a sign, and the text behind the separator that follows it.
+#[inline(always)]
+fn short_signed(bytes: &[u8]) -> Option<(i64, &[u8])>
+    ensures found { IfSome result (λ x. (more : List ℕ) → numbers (bytes.now ++ more) ≡ Value x.0 ∷ numbers (x.1.now ++ more)) }
+    ensures low { IfSome result (λ x. neg_ℤ (pos 10000000) ≤ℤ x.0) }
+    ensures high { IfSome result (λ x. x.0 ≤ℤ pos 10000000) }
+    ensures shorter { IfSome result (λ x. length x.1.now < length bytes.now) }
+    ensures behind { IfSome result (λ x. x.1.now ≡ drop (length bytes.now - length x.1.now) bytes.now) }
+{
+    let (negative, unsigned) = split_sign_of(bytes);
+    let front = unsigned.first_chunk::<SHORT>()?;
+    let (value, len) = short_number_at(front)?;
+    Some((signed_of(negative, value), from_place(unsigned, len + 1)))
+}
+
+/// The number at the front, where a separator stands behind it, and the text behind that.
 #[cold]
 #[inline(never)]
 fn any_whole(bytes: &[u8]) -> Option<(Number, &[u8])>
@@ -60,13 +87,14 @@ fn any_whole(bytes: &[u8]) -> Option<(Number, &[u8])>
     let token = from_place(bytes, start);
     let (number, len) = number_at(token);
     if len < token.len() {
-        Some((number, from_place(token, len)))
+        // Past the separator: a short number has none in front.
+        Some((number, from_place(token, len + 1)))
     } else {
         None
     }
 }
 
-/// The number at the front, where a separator stands behind it, and the text from there on. Nearly all numbers of a file
+/// The number at the front, where a separator stands behind it, and the text behind that. Nearly all numbers of a file
 /// are short, so these are read by a loop that knows where it ends.
 #[inline(always)]
 pub(crate) fn next_whole(bytes: &[u8]) -> Option<(Number, &[u8])>
@@ -81,7 +109,7 @@ pub(crate) fn next_whole(bytes: &[u8]) -> Option<(Number, &[u8])>
     }
 }
 
-/// The arc of three short numbers at the front, where all are in range, and the text behind it.
+/// The arc of three short numbers at the front, the cost with or without a sign, where all are in range, and the text behind it.
 #[inline(always)]
 pub(crate) fn short_arc(persons: u32, objects: u32, bytes: &[u8]) -> Option<(Arc, &[u8])>
     ensures found { IfSome result (λ x. (more : List ℕ) → numbers (bytes.now ++ more) ≡ Value (pos (x.0.person + 1)) ∷ Value (pos (x.0.object + 1)) ∷ Value x.0.cost ∷ numbers (x.1.now ++ more)) }
@@ -91,14 +119,14 @@ pub(crate) fn short_arc(persons: u32, objects: u32, bytes: &[u8]) -> Option<(Arc
 {
     let (person, rest) = short_number(bytes)?;
     let (object, rest) = short_number(rest)?;
-    let (cost, rest) = short_number(rest)?;
+    let (cost, rest) = short_signed(rest)?;
     if person < 1 || person > persons || object < 1 || object > objects {
         return None;
     }
     let arc = Arc {
         person: person - 1,
         object: object - 1,
-        cost: cost as i64,
+        cost,
     };
     Some((arc, rest))
 }

@@ -11,6 +11,7 @@ mod indices;
 mod laws;
 mod layout;
 mod limits;
+mod lined;
 mod number;
 mod pieces;
 mod read_error;

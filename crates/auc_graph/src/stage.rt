@@ -1,6 +1,7 @@
 //! Reading one number after another: what the next one is.
 
-ghost use Rattle.std.specs.Prelude.{◌≡◌, ◌≤◌, ◌<◌, neg_ℤ, ◌≤ℤ◌, IfOk};
+ghost use Rattle.std.specs.Prelude.{◌≡◌, ◌≤◌, ◌<◌, ℕ, List, [], neg_ℤ, ◌≤ℤ◌, IfOk};
+ghost use Rattle.auc_graph.specs.declared.stage.Stage.TheVariants.{AtCount, AtPerson, AtObject};
 ghost use Rattle.auc_graph.specs.Memory.{AnswersUnless};
 ghost use Rattle.auc_graph.specs.Reading.{within, index, cost, step_at, finish_at};
 ghost use Rattle.auc_graph.specs.Pieces.{IsStage};
@@ -70,6 +71,74 @@ fn cost_of(number: Number, token: u64, range: ReadError) -> Result<i64, ReadErro
     within_of(number, -MOST_COST, MOST_COST, token, range)
 }
 
+/// The stage behind the number of persons.
+#[inline(always)]
+#[tactic(auto, unfolding(crate::specs::Reading::step_at))]
+fn after_count(number: Number) -> Result<Stage, ReadError>
+    ensures exact { (limit : ℕ) (arcs : List Arc) → AnswersUnless ReadError.NoMemory (λ stage. (stage, arcs)) result (λ r. step_at limit AtCount arcs number ≡ r) }
+    ensures sound { (limit : ℕ) → IfOk result (λ stage. IsStage limit stage []) }
+{
+    let before = index_of(number, MOST_PERSONS, 0, ReadError::CountRange)?;
+    let persons = before + 1;
+    let objects = persons;
+    Ok(Stage::AtPerson { persons, objects })
+}
+
+/// The stage behind the person of an arc.
+#[inline(always)]
+#[tactic(auto, unfolding(crate::specs::Reading::step_at))]
+fn after_person(
+    limit: u32,
+    persons: u32,
+    objects: u32,
+    arcs: &[Arc],
+    number: Number,
+) -> Result<Stage, ReadError>
+    requires few { limit ≤ MOST_ARCS }
+    requires sound { IsStage limit (AtPerson persons objects) arcs.now }
+    ensures exact { AnswersUnless ReadError.NoMemory (λ stage. (stage, arcs.now)) result (λ r. step_at limit (AtPerson persons objects) arcs.now number ≡ r) }
+    ensures sound { IfOk result (λ stage. IsStage limit stage arcs.now) }
+{
+    let before = arcs.len() as u64;
+    if before >= limit as u64 {
+        return Err(ReadError::TooManyArcs);
+    }
+    let fault = ReadError::PersonRange { arc: before };
+    let person = index_of(number, persons, 3 * before + 1, fault)?;
+    Ok(Stage::AtObject {
+        persons,
+        objects,
+        person,
+    })
+}
+
+/// The stage behind the object of an arc.
+#[inline(always)]
+#[tactic(auto, unfolding(crate::specs::Reading::step_at))]
+fn after_object(
+    _limit: u32,
+    persons: u32,
+    objects: u32,
+    person: u32,
+    arcs: &[Arc],
+    number: Number,
+) -> Result<Stage, ReadError>
+    requires few { _limit ≤ MOST_ARCS }
+    requires sound { IsStage _limit (AtObject persons objects person) arcs.now }
+    ensures exact { AnswersUnless ReadError.NoMemory (λ stage. (stage, arcs.now)) result (λ r. step_at _limit (AtObject persons objects person) arcs.now number ≡ r) }
+    ensures sound { IfOk result (λ stage. IsStage _limit stage arcs.now) }
+{
+    let before = arcs.len() as u64;
+    let fault = ReadError::ObjectRange { arc: before };
+    let object = index_of(number, objects, 3 * before + 2, fault)?;
+    Ok(Stage::AtCost {
+        persons,
+        objects,
+        person,
+        object,
+    })
+}
+
 impl Stage {
     /// The stage behind the next number. Where this ends an arc, the arc is put behind the others.
     #[inline(always)]
@@ -85,46 +154,23 @@ impl Stage {
         ensures exact { AnswersUnless ReadError.NoMemory (λ stage. (stage, arcs.new.items)) result (λ r. step_at limit self arcs.old.items number ≡ r) }
         ensures sound { IfOk result (λ stage. IsStage limit stage arcs.new.items) }
     {
-        let before = arcs.len() as u64;
         match self {
-            Stage::AtCount => {
-                let before = index_of(number, MOST_PERSONS, 0, ReadError::CountRange)?;
-                let persons = before + 1;
-                let objects = persons;
-                Ok(Stage::AtPerson { persons, objects })
-            }
+            Stage::AtCount => after_count(number),
             Stage::AtPerson { persons, objects } => {
-                if before >= limit as u64 {
-                    return Err(ReadError::TooManyArcs);
-                }
-                let fault = ReadError::PersonRange { arc: before };
-                let person = index_of(number, persons, 3 * before + 1, fault)?;
-                Ok(Stage::AtObject {
-                    persons,
-                    objects,
-                    person,
-                })
+                after_person(limit, persons, objects, arcs.as_slice(), number)
             }
             Stage::AtObject {
                 persons,
                 objects,
                 person,
-            } => {
-                let fault = ReadError::ObjectRange { arc: before };
-                let object = index_of(number, objects, 3 * before + 2, fault)?;
-                Ok(Stage::AtCost {
-                    persons,
-                    objects,
-                    person,
-                    object,
-                })
-            }
+            } => after_object(limit, persons, objects, person, arcs.as_slice(), number),
             Stage::AtCost {
                 persons,
                 objects,
                 person,
                 object,
             } => {
+                let before = arcs.len() as u64;
                 let fault = ReadError::CostRange { arc: before };
                 let cost = cost_of(number, 3 * before + 3, fault)?;
                 arcs.push(Arc {

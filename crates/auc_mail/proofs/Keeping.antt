@@ -56,7 +56,7 @@ module _ {T : Type 0} {senders most : ℕ} {boxes : List MailBox} {posted : List
   pub free_is : free_of (mail_of senders most boxes posted pool) ≡ nodes.free_of pool
   free_is = ap (λ n. pool.nodes - n) waiting_of_is
 
-  whole_is : IsWhole (mail_of senders most boxes posted pool)
+  pub whole_is : IsWhole (mail_of senders most boxes posted pool)
   whole_is = length-table (lane_at posted pool.lists) (length posted) ∙ (kept.lanes ∙ ap (λ (n : ℕ). n * senders) (sym (length-map boxes (λ (x : MailBox). x.accepting))))
 
   pub sound_is : nodes.IsSound pool → IsSound (mail_of senders most boxes posted pool)

@@ -8,6 +8,7 @@ mod Closing
 mod Posting
 mod Taking
 pub mod StepLaws
+mod Passing
 mod Outcomes
 pub mod RunLaws
 mod WorkedRows

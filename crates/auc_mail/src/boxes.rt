@@ -47,6 +47,16 @@ pub(crate) fn note_take(boxes: &mut Vec<MailBox>, at: u32, lane: u32)
     state.giver = lane;
 }
 
+// A letter of this lane passes the box: it is posted and taken, and the lane has given it.
+#[inline]
+pub(crate) fn note_pass(boxes: &mut Vec<MailBox>, at: u32, lane: u32)
+    requires { at < length boxes.old.items }
+    ensures { boxes.new.items ≡ slice_set boxes.old.items at (record { waiting = (box_of boxes.old.items at).waiting; last = (box_of boxes.old.items at).last; giver = lane; accepting = (box_of boxes.old.items at).accepting }) }
+{
+    let state = &mut boxes[at as usize];
+    state.giver = lane;
+}
+
 // Tells a box that it is closed.
 #[inline]
 pub(crate) fn note_close(boxes: &mut Vec<MailBox>, at: u32)

@@ -1,14 +1,16 @@
 //! The mail itself: what each call makes of it.
 
-ghost use Rattle.std.specs.Prelude.{true, [], replicate, slice_index_or, ◌≡◌, ◌≢◌, ◌+◌, ◌*◌, ◌<◌, ◌≤◌, ◌↔◌, IfOk, IfErr, OnOk, IsTrue};
+ghost use Rattle.std.specs.Prelude.{true, false, [], replicate, slice_index_or, ◌≡◌, ◌≢◌, ◌+◌, ◌*◌, ◌<◌, ◌≤◌, ◌↔◌, IfOk, IfErr, OnOk, IsTrue};
 ghost use Rattle.auc_nodes.specs.Lists.{empty_lists};
 ghost use Rattle.auc_mail.specs.Limits.{LanesFit, NodesFit, IsRefusedFor};
 ghost use Rattle.auc_mail.specs.Mail.{HasBox, HasLane, IsClosed, IsSound, NothingWaits, blank_lane, empty_mail, free_of, lane_of, posted_of, waiting_at};
+ghost use Rattle.auc_mail.specs.Passing.{MayPass, Passes};
 ghost use Rattle.auc_mail.specs.Step.{Fits, Step, reply_to_post};
 ghost use Rattle.auc_mail.specs.Pool.{IsLaneOf, new_box};
 
 use crate::boxes::{
-    MailBox, NO_LANE, lane_in_turn, lane_number, note_close, note_post, note_take, sender_of,
+    MailBox, NO_LANE, lane_in_turn, lane_number, note_close, note_pass, note_post, note_take,
+    sender_of,
 };
 use crate::call::{Call, PostRefused, Reply, Taken};
 use crate::error::MailError;
@@ -139,6 +141,7 @@ impl<T: Copy> MailPool<T> {
     }
 
     /// How many more letters may wait, in all boxes together. Takes O(1) time.
+    #[inline]
     pub fn free(&self) -> u32
         ensures { result ≡ free_of self.now }
     {
@@ -146,6 +149,7 @@ impl<T: Copy> MailPool<T> {
     }
 
     /// How many letters of the sender were posted to the box, those taken since among them. Takes O(1) time.
+    #[inline]
     pub fn posted(&self, at: u32, sender: u32) -> u64
         requires { HasLane self.now at sender }
         ensures { result ≡ posted_of self.now at sender }
@@ -171,6 +175,7 @@ impl<T: Copy> MailPool<T> {
     }
 
     /// Whether a letter waits in the box, of any sender. Takes O(1) time.
+    #[inline]
     pub fn has_letter(&self, at: u32) -> bool
         requires { HasBox self.now at }
         ensures { IsTrue result ↔ (0 < waiting_at self.now at) }
@@ -182,7 +187,7 @@ impl<T: Copy> MailPool<T> {
     ///
     /// Refused, in this order: `Closed` where the box is closed; `Spent` where the lane had all its posts; `Full` where no
     /// more than `reserve` letters are free. A refused post changes nothing. Takes O(1) time.
-    #[inline]
+    #[inline(always)]
     pub fn post(&mut self, sender: u32, to: u32, item: T, reserve: u32) -> Result<u64, PostRefused>
         requires { Fits self.old (Call.Post sender to item reserve) }
         ensures { Step self.old (Call.Post sender to item reserve) (reply_to_post result) self.new }
@@ -210,11 +215,45 @@ impl<T: Copy> MailPool<T> {
         }
     }
 
+    /// Posts a letter from `sender` to the box `to` and takes it at once, so that whoever calls may hand it on by itself: the mail
+    /// comes to be what [`Self::post`] of any item and [`Self::take`] behind it would make of it.
+    ///
+    /// That needs a letter that would be accepted and would be the only one in its box: where the box is closed, the lane had all its
+    /// posts, no more than `reserve` letters are free, or a letter waits in the box, the answer is false and nothing is changed.
+    /// Takes O(1) time.
+    #[inline]
+    pub fn pass(&mut self, sender: u32, to: u32, reserve: u32) -> bool
+        requires { HasLane self.old to sender }
+        ensures may { IsTrue result ↔ MayPass self.old sender to reserve }
+        ensures passes { IsTrue result → Passes self.old sender to reserve self.new }
+        ensures stays { result ≡ false → self.new ≡ self.old }
+    {
+        if !self.may_pass(sender, to, reserve) {
+            return false;
+        }
+        let lane = lane_number(self.senders, to, sender);
+        self.posted[lane as usize] += 1;
+        note_pass(&mut self.boxes, to, lane);
+        true
+    }
+
+    // Whether a letter would be accepted, and would be the only one in its box.
+    #[inline]
+    fn may_pass(&self, sender: u32, to: u32, reserve: u32) -> bool
+        requires { HasLane self.now to sender }
+        ensures { IsTrue result ↔ MayPass self.now sender to reserve }
+    {
+        !self.is_closed(to)
+            && !self.has_letter(to)
+            && self.posted(to, sender) < self.most
+            && reserve < self.free()
+    }
+
     /// Takes the first waiting letter of one of the box's lanes; where none has one, says whether one may still come.
     ///
     /// Which lane is left open: it is the first with a letter, in rotating order from the one behind the last giver. Takes O(1)
     /// time where all letters of the box wait in one lane, or none waits, and else O(senders).
-    #[inline]
+    #[inline(always)]
     pub fn take(&mut self, at: u32) -> Taken<T>
         requires { Fits self.old (Call.Take at) }
         ensures { Step self.old (Call.Take at) (Reply.Took result) self.new }
@@ -245,7 +284,7 @@ impl<T: Copy> MailPool<T> {
     }
 
     // Takes the first letter of a lane of the box.
-    #[inline]
+    #[inline(always)]
     fn take_from(&mut self, at: u32, lane: u32) -> Taken<T>
         requires at { HasBox self.old at }
         requires lane { IsLaneOf self.old.senders at lane }

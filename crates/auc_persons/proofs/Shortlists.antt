@@ -1,6 +1,6 @@
 -- Lists of candidates.
-use Rattle.std.proofs.Common.{◌≡◌, ℕ, ◌+◌, ◌<◌, ◌≤◌, ◌⊎◌, inl, inr, List, [], ◌∷◌, ◌++◌, length, get_or, take, ap, refl, arith, pos}
-use Rattle.std.specs.Prelude.{ℤ, ◌≤ℤ◌, All, AllPairs, Contains}
+use Rattle.std.proofs.Common.{◌≡◌, ℕ, ◌+◌, ◌<◌, ◌≤◌, ◌⊎◌, inl, inr, List, [], ◌∷◌, ◌++◌, length, get_or, take, ap, refl, arith, pos, Option, Some, None}
+use Rattle.std.specs.Prelude.{ℤ, ◌≤ℤ◌, All, AllPairs, Contains, IfSome}
 use Rattle.std.proofs.lemmas.Int.{ints}
 use Rattle.std.proofs.lemmas.List.{get_or-take, take_more, take_all, length-take}
 use Rattle.std.proofs.lemmas.List.Elements.{All-contains, All-from_get_or, All-nil, All-push, All-weaker, Contains-append_left, Contains-push}
@@ -52,6 +52,10 @@ decided_by val row arcs bound f s d members (inr rest) = record {
 -- a pass over the list that decides is one over the row
 pub decided_is : (val : RowArc → ℤ) (row arcs : List RowArc) (bound : ℤ) (f : Scan) → Keeps val row arcs bound → IsScan val arcs f → Decides bound f → IsScan val row f
 decided_is val row arcs bound f keeps s d = decided_by val row arcs bound f s d keeps.members keeps.rest
+
+pub decided_if : (val : RowArc → ℤ) (row arcs : List RowArc) (bound : ℤ) (r : Option Scan) → Keeps val row arcs bound → IfSome r (IsScan val arcs) → IfSome r (λ f. Decides bound f → IsScan val row f)
+decided_if val row arcs bound None keeps s = tt
+decided_if val row arcs bound (Some f) keeps s = λ d. decided_is val row arcs bound f keeps s d
 
 -- a list is a row
 pub list_is_row : (val : RowArc → ℤ) (objects : ℕ) (row arcs : List RowArc) (bound : ℤ) → IsRow objects row → Keeps val row arcs bound → length arcs ≤ 12 → IsRow objects arcs

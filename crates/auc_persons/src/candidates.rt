@@ -1,6 +1,6 @@
 //! The candidates of the persons of a shard.
 
-ghost use Rattle.std.specs.Prelude.{◌≡◌, ◌<◌, ◌+◌, [], List, ℤ, pos, length, All, IfOk, IfSome};
+ghost use Rattle.std.specs.Prelude.{◌≡◌, ◌<◌, ◌+◌, ◌↔◌, [], List, ℤ, pos, length, All, IfOk, IfSome, IsTrue};
 ghost use Rattle.auc_graph.specs.Bid.{value};
 ghost use Rattle.auc_graph.specs.Table.{Table, row_of};
 ghost use Rattle.auc_persons.specs.Candidates.{Kept, Listed};
@@ -86,6 +86,13 @@ impl Candidates {
             }
         }
         Ok(Candidates { lists })
+    }
+
+    /// Whether there are no lists. O(1).
+    pub fn is_empty(&self) -> bool
+        ensures { IsTrue result ↔ (self.now ≡ []) }
+    {
+        self.lists.is_empty()
     }
 
     /// The best arc of a person, where his list tells it. `place` is where his list stands, if anywhere.

@@ -226,7 +226,22 @@ impl Shortlist {
         self.useless = 0;
     }
 
-    /// What a pass over the list finds, where that is what one over the row would find.
+    /// What a pass over the list finds, which is what one over the row would find where it decides; nothing where the list has no
+    /// arc.
+    #[inline]
+    fn listed(&self, scale: i64, _row: &[RowArc], copies: &[i64]) -> Option<Scan>
+        requires scale_low { pos 1 ≤ℤ scale }
+        requires scale_high { scale ≤ℤ pos 10001 }
+        requires row { IsRow (length copies.now) _row.now }
+        requires copies { All IsPrice copies.now }
+        requires keeps { Keeps (value scale (copy_in copies.now)) _row.now self.now.arcs self.now.bound }
+        ensures found { IfSome result (λ f. Decides self.now.bound f → IsScan (value scale (copy_in copies.now)) _row.now f) }
+        ensures second { IfSome result (λ f. f.second <ℤ endless → IsValue f.second) }
+    {
+        scan_of(scale, self.arcs(), copies)
+    }
+
+    /// What a pass over the list finds, where that decides.
     #[inline]
     fn decided(&self, scale: i64, _row: &[RowArc], copies: &[i64]) -> Option<Scan>
         requires scale_low { pos 1 ≤ℤ scale }
@@ -236,34 +251,25 @@ impl Shortlist {
         requires keeps { Keeps (value scale (copy_in copies.now)) _row.now self.now.arcs self.now.bound }
         ensures { IfSome result (IsScan (value scale (copy_in copies.now)) _row.now) }
     {
-        let scan = scan_of(scale, self.arcs(), copies)?;
+        let scan = self.listed(scale, _row, copies)?;
         if self.decides(scan) { Some(scan) } else { None }
     }
 
-    /// A bound of the row's second: the second of the list's arcs, where they have one.
-    fn second(&self, scale: i64, _row: &[RowArc], copies: &[i64]) -> Option<i64>
-        requires scale_low { pos 1 ≤ℤ scale }
-        requires scale_high { scale ≤ℤ pos 10001 }
-        requires row { IsRow (length copies.now) _row.now }
-        requires copies { All IsPrice copies.now }
-        requires keeps { Keeps (value scale (copy_in copies.now)) _row.now self.now.arcs self.now.bound }
-        ensures { IfSome result IsValue }
-    {
-        let scan = scan_of(scale, self.arcs(), copies)?;
-        if scan.second < i64::MAX {
-            Some(scan.second)
-        } else {
-            None
-        }
-    }
-
-    /// Makes a list anew, and finds the best arc by it; nothing where no list is made, or it doesn't decide.
-    fn scan_anew(&mut self, scale: i64, row: &[RowArc], copies: &[i64]) -> Option<Scan>
+    /// Makes a list anew, and finds the best arc by it; nothing where no list is made, or it doesn't decide. `second` bounds that of
+    /// the row: the second of the list's arcs, where they have one, and else the greatest number.
+    fn scan_anew(
+        &mut self,
+        scale: i64,
+        row: &[RowArc],
+        copies: &[i64],
+        second: i64,
+    ) -> Option<Scan>
         requires scale_low { pos 1 ≤ℤ scale }
         requires scale_high { scale ≤ℤ pos 10001 }
         requires row { IsRow (length copies.now) row.now }
         requires copies { All IsPrice copies.now }
         requires keeps { Keeps (value scale (copy_in copies.now)) row.now self.old.arcs self.old.bound }
+        requires second { second <ℤ endless → IsValue second }
         ensures found { IfSome result (IsScan (value scale (copy_in copies.now)) row.now) }
         ensures keeps { Keeps (value scale (copy_in copies.now)) row.now self.new.arcs self.new.bound }
         ensures person { self.new.person ≡ self.old.person }
@@ -271,7 +277,7 @@ impl Shortlist {
         if !self.is_wanted() {
             return None;
         }
-        if let Some(second) = self.second(scale, row, copies) {
+        if second < i64::MAX {
             self.remake(scale, row, copies, second);
             return self.decided(scale, row, copies);
         }
@@ -294,10 +300,13 @@ impl Shortlist {
         ensures keeps { Keeps (value scale (copy_in copies.now)) row.now self.new.arcs self.new.bound }
         ensures person { self.new.person ≡ self.old.person }
     {
-        let Some(scan) = self.decided(scale, row, copies) else {
-            return self.scan_anew(scale, row, copies);
+        let Some(scan) = self.listed(scale, row, copies) else {
+            return self.scan_anew(scale, row, copies, i64::MAX);
         };
-        self.praise();
-        Some(scan)
+        if self.decides(scan) {
+            self.praise();
+            return Some(scan);
+        }
+        self.scan_anew(scale, row, copies, scan.second)
     }
 }

@@ -11,6 +11,7 @@ pub mod Made
 mod TurnByTurn
 mod RoundLaws
 mod PlayLaws
+mod PassingLaws
 pub mod HallCertificates
 mod GatherLaws
 mod FoundLaws

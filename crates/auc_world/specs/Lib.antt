@@ -13,4 +13,5 @@ pub mod Posting
 pub mod Bidding
 pub mod Hearing
 pub mod Selling
+pub mod Passing
 pub mod Lists

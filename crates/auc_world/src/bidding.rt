@@ -38,7 +38,7 @@ impl<'a> World<'a> {
     }
 
     /// Asks a shard of the persons for its next bid.
-    #[inline]
+    #[inline(always)]
     fn next_bid(&mut self, shard: u32) -> Bidding
         requires { shard < self.old.shards }
         ensures bid { NextBid self.old.table self.old.eps (persons_at self.old shard) result (persons_at self.new shard) }
@@ -65,8 +65,8 @@ impl<'a> World<'a> {
     }
 
     /// Asks a shard of the persons for what it has to send: its next bid, or why there is none.
-    #[inline]
-    fn ask(&mut self, shard: u32) -> Asked
+    #[inline(always)]
+    pub(crate) fn ask(&mut self, shard: u32) -> Asked
         ensures asks { Asks self.old shard result self.new }
         ensures phase { SamePhase self.old self.new }
     {

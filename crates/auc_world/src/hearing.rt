@@ -24,7 +24,7 @@ pub fn reason_for(fault: PersonFault) -> Why
 
 impl<'a> World<'a> {
     /// A shard of the persons hears a letter.
-    #[inline]
+    #[inline(always)]
     fn hear(&mut self, shard: u32, letter: Letter) -> Result<(), PersonFault>
         requires { shard < self.old.shards }
         ensures heard { OnLetter (persons_at self.old shard) letter result (persons_at self.new shard) }
@@ -35,7 +35,7 @@ impl<'a> World<'a> {
     }
 
     /// A shard of the persons takes a letter and hears it.
-    #[inline]
+    #[inline(always)]
     pub(crate) fn person_take(&mut self, shard: u32) -> TurnReply
         ensures turn { PersonTakeTurn (phase self.old) (seen self.old) shard result (seen self.new) }
         ensures phase { SamePhase self.old self.new }

@@ -102,8 +102,8 @@ impl Hub {
 
 impl<'a> World<'a> {
     /// The hub hears a letter.
-    #[inline]
-    fn hub_hears(&mut self, letter: Letter)
+    #[inline(always)]
+    pub(crate) fn hub_hears(&mut self, letter: Letter)
         ensures { self.new ≡ record self.old { hub = hearing (length self.old.table.rows) letter self.old.hub } }
     {
         let persons = self.rows.persons();
@@ -134,7 +134,7 @@ impl<'a> World<'a> {
     }
 
     /// The hub takes a letter.
-    #[inline]
+    #[inline(always)]
     pub(crate) fn hub_take(&mut self) -> TurnReply
         ensures turn { HubTakeTurn (phase self.old) (seen self.old) result (seen self.new) }
         ensures phase { SamePhase self.old self.new }

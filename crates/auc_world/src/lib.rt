@@ -18,6 +18,7 @@ mod limits;
 mod mails;
 mod making;
 mod outbox;
+mod passing;
 mod picks;
 mod placing;
 mod playing;

@@ -35,7 +35,8 @@ pub(crate) fn new_person_shards(
     Ok(made)
 }
 
-/// Lists of candidates for the shards of the persons, by shard. Each is empty, and none has a list where no row is long.
+/// Lists of candidates for the shards of the persons, by shard: for those that have persons, which are the first ones, or for
+/// none where no row is long, so that bids then don't look for a list.
 pub(crate) fn new_candidates(
     alloc: Global,
     shards: u32,
@@ -47,7 +48,9 @@ pub(crate) fn new_candidates(
     let mut made = Vec::with_capacity(alloc, shards as usize)?;
     for shard in 0..shards {
         let one = Candidates::make(alloc, rows, shard, shards)?;
-        made.push(one)?;
+        if !one.is_empty() {
+            made.push(one)?;
+        }
     }
     Ok(made)
 }

@@ -3,9 +3,12 @@
 ghost use Rattle.std.specs.Prelude.{ℕ, ◌≡◌, ◌||◌, IfNone};
 ghost use Rattle.auc_model.specs.Still.{Rests};
 ghost use Rattle.auc_world.specs.Parts.{phase, seen};
+ghost use Rattle.auc_world.specs.Passing.{Counts};
 ghost use Rattle.auc_world.specs.Rounds.{Plays, Rounds, answers_of, bids_of, has_moved, hearings_of, round_of};
 
+use crate::passing::Sold;
 use crate::world::World;
+use auc_letters::Letter;
 use auc_model::{End, TurnReply};
 
 /// Whether a turn moved anything.
@@ -29,7 +32,7 @@ pub(crate) fn either(first: bool, second: bool) -> bool
 
 impl<'a> World<'a> {
     /// Each shard of the persons bids and posts. Whether anything moved.
-    #[inline]
+    #[inline(never)]
     fn bid_all(&mut self) -> bool
         ensures plays { Plays (phase self.old) (seen self.old) (bids_of self.old.shards) result (seen self.new) }
         ensures phase { phase self.new ≡ phase self.old }
@@ -43,7 +46,7 @@ impl<'a> World<'a> {
     }
 
     /// Each shard of the objects takes a bid and posts its answers. Whether anything moved.
-    #[inline]
+    #[inline(never)]
     fn answer_all(&mut self) -> bool
         ensures plays { Plays (phase self.old) (seen self.old) (answers_of self.old.shards) result (seen self.new) }
         ensures phase { phase self.new ≡ phase self.old }
@@ -57,7 +60,7 @@ impl<'a> World<'a> {
     }
 
     /// Each shard of the persons hears a letter. Whether anything moved.
-    #[inline]
+    #[inline(never)]
     fn hear_all(&mut self) -> bool
         ensures plays { Plays (phase self.old) (seen self.old) (hearings_of self.old.shards) result (seen self.new) }
         ensures phase { phase self.new ≡ phase self.old }
@@ -70,13 +73,42 @@ impl<'a> World<'a> {
         moved
     }
 
+    /// The hub counts a First letter that has passed its mail, or takes a letter. Whether anything moved.
+    #[inline(always)]
+    fn count(&mut self, sold: Sold) -> bool
+        ensures counts { Counts self.old sold result self.new }
+        ensures phase { phase self.new ≡ phase self.old }
+    {
+        if let Sold::First = sold {
+            self.hub_hears(Letter::First { object: 0 });
+            return true;
+        }
+        has_moved(self.hub_take())
+    }
+
+    /// One round of a world with one shard of each kind. Whether anything moved.
+    #[inline(always)]
+    fn round_of_one(&mut self) -> bool
+        requires { self.old.shards ≡ 1 }
+        ensures plays { Plays (phase self.old) (seen self.old) (round_of self.old.shards) result (seen self.new) }
+        ensures phase { phase self.new ≡ phase self.old }
+    {
+        let sold = self.sell();
+        let hears = has_moved(self.person_take(0));
+        let counts = self.count(sold);
+        either(either(sold.has_moved(), hears), counts)
+    }
+
     /// One round: each shard of the persons bids, each of the objects answers, each of the persons hears, and the hub counts.
     /// Whether anything moved.
-    #[inline]
+    #[inline(always)]
     fn round(&mut self) -> bool
         ensures plays { Plays (phase self.old) (seen self.old) (round_of self.old.shards) result (seen self.new) }
         ensures phase { phase self.new ≡ phase self.old }
     {
+        if self.shards() == 1 {
+            return self.round_of_one();
+        }
         let bids = self.bid_all();
         let answers = self.answer_all();
         let hearings = self.hear_all();

@@ -9,6 +9,7 @@ ghost use Rattle.auc_model.specs.Selling.{FitsBid, ObjectTakeTurn, TellTurn};
 ghost use Rattle.auc_model.specs.declared.turn.Turn.{Turn};
 ghost use Rattle.auc_objects.specs.Answers.{letters_of};
 ghost use Rattle.auc_objects.specs.Objects.{IsOffer, Owns, after_bid, price_of, sale_of};
+ghost use Rattle.auc_world.specs.Passing.{Judges};
 ghost use Rattle.auc_world.specs.Parts.{AreParts, MayAnswer, OwnsObject, Reaches, SamePhase, objects_at, outbox_at, phase, seen};
 ghost use Rattle.auc_world.specs.Rounds.{Plays};
 ghost use Rattle.auc_world.specs.Selling.{Deals};
@@ -47,7 +48,7 @@ fn two_letters(first: Out, second: Out) -> ArrayVec<Out, 4>
 impl<'a> World<'a> {
     /// Whether there is such a shard of the objects, and its outbox is empty.
     #[inline]
-    fn may_answer(&self, shard: u32) -> bool
+    pub(crate) fn may_answer(&self, shard: u32) -> bool
         ensures is { IsTrue result ↔ MayAnswer self.now shard }
         ensures sound { AreParts self.now }
     {
@@ -55,7 +56,7 @@ impl<'a> World<'a> {
     }
 
     /// The bid that a letter to a shard of the objects is, where it fits: the object is the shard's, and the amount is in range.
-    #[inline]
+    #[inline(always)]
     fn offer_in(&self, shard: u32, letter: Letter) -> Option<Offer>
         requires { shard < self.now.shards }
         ensures some { IfSome result (IsOffer (objects_at self.now shard) letter) }
@@ -66,7 +67,7 @@ impl<'a> World<'a> {
     }
 
     /// Deals with a bid on an object of a shard.
-    #[inline]
+    #[inline(always)]
     fn answer(&mut self, shard: u32, offer: Offer) -> Answers
         requires known { shard < self.old.shards }
         requires owns { Owns (objects_at self.old shard) offer.object }
@@ -105,12 +106,26 @@ impl<'a> World<'a> {
         let Some(letter) = self.take(MailName::Objects, shard) else {
             return Dealt::Nothing;
         };
+        match self.judge(shard, letter) {
+            Some(answers) => Dealt::Answered { answers },
+            None => Dealt::Strayed,
+        }
+    }
+
+    /// A shard of the objects deals with a letter that it has taken: the answers to a bid, or nothing where it fits no bid on an
+    /// object of the shard, and the phase has ended.
+    #[inline(always)]
+    pub(crate) fn judge(&mut self, shard: u32, letter: Letter) -> Option<Answers>
+        requires { shard < self.old.shards }
+        ensures judges { Judges self.old shard letter result self.new }
+        ensures phase { SamePhase self.old self.new }
+    {
         let Some(offer) = self.offer_in(shard, letter) else {
             self.end_with(End::Stopped { why: Why::Stray });
-            return Dealt::Strayed;
+            return None;
         };
         let answers = self.answer(shard, offer);
-        Dealt::Answered { answers }
+        Some(answers)
     }
 
     /// A shard of the objects takes a bid and answers it into its outbox.
@@ -144,7 +159,7 @@ impl<'a> World<'a> {
 
     /// Posts two letters of a shard of the objects, whose outbox is empty, by two turns.
     #[inline(always)]
-    fn send_both(&mut self, shard: u32, first: Out, second: Out)
+    pub(crate) fn send_both(&mut self, shard: u32, first: Out, second: Out)
         requires known { shard < self.old.shards }
         requires empty { outbox_at self.old (self.old.shards + shard) ≡ [] }
         requires reach { All (Reaches self.old.shards) (first ∷ second ∷ []) }
@@ -164,7 +179,7 @@ impl<'a> World<'a> {
 
     /// Posts the answers to a bid, by two turns.
     #[inline(always)]
-    fn send_answers(&mut self, shard: u32, answers: Answers)
+    pub(crate) fn send_answers(&mut self, shard: u32, answers: Answers)
         requires known { shard < self.old.shards }
         requires empty { outbox_at self.old (self.old.shards + shard) ≡ [] }
         requires reach { All (Reaches self.old.shards) (letters_of answers) }

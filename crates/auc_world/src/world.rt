@@ -226,7 +226,7 @@ impl<'a> World<'a> {
     }
 
     /// Takes a letter out of a box, if one waits there.
-    #[inline]
+    #[inline(always)]
     pub(crate) fn take(&mut self, mail: MailName, at: u32) -> Option<Letter>
         requires { at < boxes_in self.old.shards mail }
         ensures some { IfSome result (λ l. TakesOne (named self.old.mails mail) at l (named self.new.mails mail)) }

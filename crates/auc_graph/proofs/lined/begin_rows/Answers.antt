@@ -1,0 +1,10 @@
+use Rattle.std.proofs.Common.{◌∷◌, [], get_or, ap, ◌∙◌, arith, length}
+use Rattle.std.proofs.lemmas.List.{length-append}
+use Rattle.auc_graph.proofs.LinedLaws.{begun}
+use Rattle.auc_graph.proofs.lined.begin_rows.Goals as goal
+
+pub loop-offsets-preserved : goal.loop-offsets-preserved
+loop-offsets-preserved c = record {
+  few = omega (arith, ap length c.in_ok-push.ensures.items, length-append c.loop-offsets.offsets.items (c.args.at ∷ []));
+  same = λ j. ap (λ xs. get_or xs j c.args.at) c.in_ok-push.ensures.items ∙ begun c.loop-offsets.offsets.items c.args.at j ∙ c.loop-offsets.invariant.same j;
+}

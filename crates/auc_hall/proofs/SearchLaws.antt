@@ -10,7 +10,7 @@ use Rattle.auc_graph.specs.Table.{Table, row_of}
 use Rattle.auc_hall.specs.declared.search.Reached.{Reached}
 use Rattle.auc_hall.specs.Partial.{pick}
 use Rattle.auc_hall.specs.Matched.{holder_of, IsMatched}
-use Rattle.auc_hall.specs.Search.{WasSeen, Reaches, HasArc, AreSeen, AreWalked, IsSearch, LeadsOut, Grows}
+use Rattle.auc_hall.specs.Search.{WasSeen, Reaches, HasArc, AreSeen, AreWalked, IsSearch, IsFreeArc, LeadsOut, Grows}
 use Rattle.auc_hall.proofs.Options.{is_within, other_place, same_read}
 use Rattle.auc_hall.proofs.QueueLaws.{blank, entry, get_kept, get_pushed, get_cases, was_there, no_arc, first_only, still}
 use Rattle.auc_hall.proofs.FlagLaws.{count_set, count_none, count_most, seen_kept}
@@ -154,6 +154,22 @@ walk_on_row t choice holder old_queue queue old_seen seen row i at partner m at_
 pub way_out : (t : Table) (holder : List (Option ℕ)) (old_queue queue : List Reached) (at : ℕ) (row : List RowArc) (i : ℕ) → Grows old_queue queue → at < length old_queue → row ≡ row_of t (get_or old_queue at blank).person → i < length row
     → holder_of holder (get_or row i no_arc).object ≡ None → (get_or row i no_arc).object < length holder → LeadsOut t holder queue at (get_or row i no_arc)
 way_out t holder old_queue queue at row i g at_lt e lt free room = record { has = has_his_arc t old_queue queue at row i g at_lt e lt; free = free; room = room }
+
+-- who was just put into the queue has an arc to a free object
+pub last_way_out : (t : Table) (holder : List (Option ℕ)) (old_queue queue : List Reached) (y : Reached) (at : ℕ) (a : RowArc) → queue ≡ old_queue ++ y ∷ [] → at + 1 ≡ length queue → IsFreeArc t holder y.person a → LeadsOut t holder queue at a
+last_way_out t holder old_queue queue y at a is here f =
+    let place : at ≡ length old_queue = omega (arith, here, ap length is, length-append old_queue (y ∷ [])) in
+    record {
+      has = record { by = y; there = ap (λ (n : ℕ). slice_get queue n) place ∙ ap (λ (q : List Reached). slice_get q (length old_queue)) is ∙ get_pushed old_queue y; own = f.own };
+      free = f.free;
+      room = f.room;
+    }
+
+-- a holder is a person
+pub holder_within : (t : Table) (choice : List (Option RowArc)) (holder : List (Option ℕ)) (j i : ℕ) → IsMatched t choice holder → holder_of holder j ≡ Some i → i < length t.rows
+holder_within t choice holder j i matched holds =
+    let b = matched.tied.held j i holds in
+    omega (arith, is_within choice i b.0 b.1, matched.persons)
 
 -- a row that was walked to its end
 pub walked_all : (t : Table) (queue : List Reached) (seen : List Bool) (at : ℕ) (row : List RowArc) (i : ℕ) → at < length queue → row ≡ row_of t (get_or queue at blank).person → length row ≤ i

@@ -55,6 +55,12 @@ pub record IsSearch (t : Table) (choice : List (Option RowArc)) (holder : List (
   pub starts : Starts queue choice
   pub marks : AreSeen t queue seen
 
+-- the person has this arc, to a free object
+pub record IsFreeArc (t : Table) (holder : List (Option ℕ)) (person : ℕ) (a : RowArc) : Type 0 where
+  pub own : Contains (row_of t person) a
+  pub free : holder_of holder a.object ≡ None
+  pub room : a.object < length holder
+
 -- the person at this place of the queue has this arc, to a free object
 pub record LeadsOut (t : Table) (holder : List (Option ℕ)) (queue : List Reached) (at : ℕ) (a : RowArc) : Type 0 where
   pub has : HasArc t queue at a

@@ -31,18 +31,21 @@ fn numbers_of(alloc: Global, choice: &[Option<RowArc>]) -> Result<Vec<u32>, Allo
     Ok(out)
 }
 
-/// `complete`, over the arcs of the persons and the holders of the objects. No object is marked in `seen`.
+/// `complete`, over the arcs of the persons and the holders of the objects. No object is marked in `seen`, and no arc was looked
+/// at.
 fn complete_parts(
     alloc: Global,
     rows: &Rows,
     choice: &mut [Option<RowArc>],
     holder: &mut [Option<u32>],
     seen: &mut [bool],
+    looked: &mut [usize],
 ) -> Result<Matching, AllocError>
     requires matched { IsMatched rows.now choice.old holder.old }
     requires seen { length seen.old ≡ rows.now.objects }
     requires none { (j : ℕ) → slice_index_or seen.old j false ≡ false }
     requires few { length seen.old < 2 ^ 32 }
+    requires looked { length looked.old ≡ length rows.now.rows }
     ensures { IfOk result (IsMatching rows.now) }
 {
     let mut queue = Vec::with_capacity(alloc, rows.persons() as usize)?;
@@ -50,7 +53,7 @@ fn complete_parts(
         if choice[person as usize].is_some() {
             continue;
         }
-        match search(rows, choice, holder, seen, &mut queue, person)? {
+        match search(rows, choice, holder, seen, looked, &mut queue, person)? {
             None => {
                 return hall_set(alloc, rows, choice, holder, seen, queue.as_slice());
             }
@@ -83,11 +86,13 @@ pub fn complete(alloc: Global, rows: &Rows, partial: Partial) -> Result<Matching
 {
     let (mut choice, mut holder) = partial.into_parts();
     let mut seen = vec![in alloc; false; rows.objects() as usize]?;
+    let mut looked = vec![in alloc; 0; rows.persons() as usize]?;
     complete_parts(
         alloc,
         rows,
         choice.as_mut_slice(),
         holder.as_mut_slice(),
         seen.as_mut_slice(),
+        looked.as_mut_slice(),
     )
 }

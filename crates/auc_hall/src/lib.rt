@@ -8,6 +8,7 @@
 
 mod completion;
 mod exchange;
+mod free_arc;
 mod hall_set;
 mod laws;
 mod matching;

@@ -8,6 +8,7 @@ ghost use Rattle.auc_hall.specs.Partial.{pick};
 ghost use Rattle.auc_hall.specs.Matched.{IsMatched};
 ghost use Rattle.auc_hall.specs.Search.{Reaches, AreWalked, WasSeen, IsSearch, LeadsOut, Grows};
 
+use crate::free_arc::free_arc;
 use auc_graph::{RowArc, Rows};
 use std::alloc::AllocError;
 
@@ -27,23 +28,27 @@ pub(crate) struct PathEnd {
     pub(crate) at: usize,
 }
 
-/// Looks at the arcs of the person at this place of the queue, up to the first that leads to a free object. Each other
-/// object that was not seen yet is marked, and its holder put last into the queue.
+/// Looks at the arcs of the person at this place of the queue. Each object that was not seen yet is marked, and its holder
+/// put last into the queue; the first of these who has an arc to a free object ends the search. He is the first of the whole
+/// queue who has one, since each before him was asked when he was put there.
 fn walk(
     rows: &Rows,
     _choice: &[Option<RowArc>],
     holder: &[Option<u32>],
     seen: &mut [bool],
+    looked: &mut [usize],
     queue: &mut Vec<Reached>,
     at: usize,
-) -> Result<Option<RowArc>, AllocError>
+) -> Result<Option<PathEnd>, AllocError>
     requires matched { IsMatched rows.now _choice.now holder.now }
     requires search { IsSearch rows.now _choice.now holder.now queue.old.items seen.old }
     requires at { at < length queue.old.items }
+    requires looked { length looked.old ≡ length rows.now.rows }
+    ensures looked { length looked.new ≡ length looked.old }
     ensures search { OnOk result (IsSearch rows.now _choice.now holder.now queue.new.items seen.new) }
     ensures grows { OnOk result (Grows queue.old.items queue.new.items) }
     ensures kept { (j : ℕ) → WasSeen seen.old j → WasSeen seen.new j }
-    ensures found { IfOk result (λ r. IfSome r (λ a. LeadsOut rows.now holder.now queue.new.items at a)) }
+    ensures found { IfOk result (λ r. IfSome r (λ f. LeadsOut rows.now holder.now queue.new.items f.at f.arc)) }
     ensures walked { IfOk result (λ r. IfNone r ((e : Reached) → slice_get queue.old.items at ≡ Some e → All (λ a. WasSeen seen.new a.object) (row_of rows.now e.person))) }
 {
     let person = queue[at].person;
@@ -53,7 +58,7 @@ fn walk(
             continue;
         }
         match holder[object] {
-            None => return Ok(Some(*arc)),
+            None => return Ok(Some(PathEnd { arc: *arc, at })),
             Some(partner) => {
                 seen[object] = true;
                 queue.push(Reached {
@@ -61,6 +66,10 @@ fn walk(
                     parent: at,
                     person: partner,
                 })?;
+                if let Some(out) = free_arc(rows, holder, looked, partner) {
+                    let last = queue.len() - 1;
+                    return Ok(Some(PathEnd { arc: out, at: last }));
+                }
             }
         }
     }
@@ -81,12 +90,14 @@ fn forget(seen: &mut [bool], queue: &[Reached])
     }
 }
 
-/// Searches a free object from this person on, the nearest first. `seen` and `queue` are those of the search before.
+/// Searches a free object from this person on, the nearest first. `seen` and `queue` are those of the search before, and
+/// `looked` says how many arcs of each person were looked at for a free object.
 pub(crate) fn search(
     rows: &Rows,
     choice: &[Option<RowArc>],
     holder: &[Option<u32>],
     seen: &mut [bool],
+    looked: &mut [usize],
     queue: &mut Vec<Reached>,
     start: u32,
 ) -> Result<Option<PathEnd>, AllocError>
@@ -95,6 +106,8 @@ pub(crate) fn search(
     requires free { pick choice.now start ≡ None }
     requires seen { length seen.old ≡ rows.now.objects }
     requires marks { (j : ℕ) → WasSeen seen.old j → Reaches queue.old.items j }
+    requires looked { length looked.old ≡ length rows.now.rows }
+    ensures looked { length looked.new ≡ length looked.old }
     ensures search { OnOk result (IsSearch rows.now choice.now holder.now queue.new.items seen.new) }
     ensures first { OnOk result ((e : Reached) → slice_get queue.new.items 0 ≡ Some e → e.person ≡ start) }
     ensures found { IfOk result (λ r. IfSome r (λ f. LeadsOut rows.now holder.now queue.new.items f.at f.arc)) }
@@ -111,10 +124,13 @@ pub(crate) fn search(
         parent: 0,
         person: start,
     })?;
+    if let Some(arc) = free_arc(rows, holder, looked, start) {
+        return Ok(Some(PathEnd { arc, at: 0 }));
+    }
     let mut at = 0;
     while at < queue.len() {
-        if let Some(arc) = walk(rows, choice, holder, seen, queue, at)? {
-            return Ok(Some(PathEnd { arc, at }));
+        if let Some(found) = walk(rows, choice, holder, seen, looked, queue, at)? {
+            return Ok(Some(found));
         }
         at += 1;
     }

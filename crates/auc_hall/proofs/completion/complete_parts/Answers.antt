@@ -16,6 +16,7 @@ loop-person-preserved-then-is_some c =
       ];
       seen = c.loop-person.invariant.seen;
       marks = c.loop-person.invariant.marks;
+      looked = c.loop-person.invariant.looked;
     }
 
 pub hall_set-requires-clause-walked : goal.hall_set-requires-clause-walked
@@ -30,6 +31,7 @@ loop-person-preserved c =
       done = done_more c.loop-person.choice c.exchange.new.choice c.search.new.queue.items c.loop-person.person c.loop-person.invariant.done c.exchange.ensures.kept s.by s.there c.in_ok-search.ensures.first (λ e h. c.exchange.ensures.first e (rw c.as_slice-in-Some.ensures.value h));
       seen = c.in_ok-search.ensures.search.marks.size;
       marks = c.in_ok-search.ensures.search.marks.behind;
+      looked = c.search.ensures.looked ∙ c.loop-person.invariant.looked;
     }
 
 pub returns : goal.returns
@@ -44,4 +46,5 @@ loop-person-init c = record {
   done = λ i lt. absurd (omega arith);
   seen = c.requires.seen;
   marks = λ j h. absurd (both_ways (get_or c.args.seen.now j false) (c.requires.none j) h);
+  looked = c.requires.looked;
 }

@@ -9,4 +9,5 @@ invariant-loop-person l = record {
   done : (i : ℕ) → i < l.person → IsPlaced l.choice i;
   seen : length l.seen ≡ l.rows.objects;
   marks : (j : ℕ) → WasSeen l.seen j → Reaches l.queue.items j;
+  looked : length l.looked ≡ length l.rows.rows;
 }

@@ -1,0 +1,37 @@
+//! The look for a free object among the arcs of one person.
+
+ghost use Rattle.std.specs.Prelude.{◌≡◌, ◌<◌, length, IfSome};
+ghost use Rattle.auc_graph.specs.Table.{row_of};
+ghost use Rattle.auc_hall.specs.Search.{IsFreeArc};
+
+use auc_graph::{RowArc, Rows};
+
+/// The person's first arc to an object that nobody holds. `looked` says how many arcs of each person were looked at.
+///
+/// In a completion an object that is held stays held, so a look goes on where the last one ended. All of them together look at
+/// each arc once, O(arcs). Should one have been left out, the search would still meet it.
+pub(crate) fn free_arc(
+    rows: &Rows,
+    holder: &[Option<u32>],
+    looked: &mut [usize],
+    person: u32,
+) -> Option<RowArc>
+    requires person { person < length rows.now.rows }
+    requires looked { length looked.old ≡ length rows.now.rows }
+    requires objects { length holder.now ≡ rows.now.objects }
+    ensures looked { length looked.new ≡ length looked.old }
+    ensures free { IfSome result (λ a. IsFreeArc rows.now holder.now person a) }
+{
+    let row = rows.row(person);
+    let mut at = looked[person as usize];
+    while at < row.len() {
+        let arc = row[at];
+        if holder[arc.object as usize].is_none() {
+            looked[person as usize] = at;
+            return Some(arc);
+        }
+        at += 1;
+    }
+    looked[person as usize] = at;
+    None
+}

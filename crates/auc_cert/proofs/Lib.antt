@@ -21,3 +21,4 @@ mod ChoiceLaws
 mod NameLaws
 mod CertLaws
 mod WorkedClaims
+mod StartLaws

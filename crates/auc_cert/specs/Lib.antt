@@ -6,3 +6,4 @@ pub mod CertReading
 pub mod Fields
 pub mod SecondLine
 pub mod Runs
+pub mod Start

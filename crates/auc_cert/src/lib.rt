@@ -21,6 +21,8 @@ mod reading;
 mod reason;
 mod refused;
 mod second_line;
+mod start;
+mod start_error;
 mod text_error;
 mod writing;
 
@@ -36,5 +38,7 @@ pub use picks::cost_of;
 pub use reading::read_cert;
 pub use reason::Reason;
 pub use refused::CertRefused;
+pub use start::start_prices;
+pub use start_error::StartError;
 pub use text_error::CertTextError;
 pub use writing::{write_cert, write_picks};

@@ -24,7 +24,7 @@ use Rattle.auc_world.specs.declared.answer.Answer.{Answer}
 use Rattle.auc_world.specs.declared.gathering.Gathered.{Gathered}
 use Rattle.auc_world.specs.declared.limits.Limits.{Limits}
 use Rattle.auc_world.specs.Answers.{IsAnswer, IsBracketAnswer, IsCertified, IsOptimalAnswer, why_of}
-use Rattle.auc_world.specs.Chain.{Chain, EndsIn, Follows, IsClaimOf, IsOfRun}
+use Rattle.auc_world.specs.Chain.{Begins, Chain, EndsIn, Follows, IsClaimOf, IsOfRun}
 use Rattle.auc_world.specs.Claims.{ArePlaceable, HoldsAt, IsChoiceOf, NobodyHoldsTwo, claim_of, holder_at}
 use Rattle.auc_world.specs.Eps.{first_eps, next_eps}
 use Rattle.auc_world.specs.Phases.{IsPlayed, Leaves, Stage}
@@ -40,19 +40,19 @@ use Rattle.std.specs.List.{slice_get}
 -- ---- one phase more
 
 -- what a run has done before a phase at this eps and these prices
-abbrev pub IsReady : Table → Limits → List Stage → ℤ → List ℤ → Type 0
-IsReady t limits [] eps prices = (eps ≡ first_eps t) × (prices ≡ replicate t.objects (pos 0))
-IsReady t limits (r ∷ rest) eps prices = Follows t r eps prices × Chain t limits (r ∷ rest)
+abbrev pub IsReady : Table → Limits → Option (List ℤ) → List Stage → ℤ → List ℤ → Type 0
+IsReady t limits start [] eps prices = Begins t start eps prices
+IsReady t limits start (r ∷ rest) eps prices = Follows t r eps prices × Chain t limits start (r ∷ rest)
 
-pub chain_more : (t : Table) (limits : Limits) (done : List Stage) (s : Stage) → IsReady t limits done s.eps s.prices → IsPlayed t limits s → Chain t limits (s ∷ done)
-chain_more t limits [] s ready is = (is, ready.0, ready.1)
-chain_more t limits (r ∷ rest) s ready is = (is, ready.0, ready.1)
+pub chain_more : (t : Table) (limits : Limits) (start : Option (List ℤ)) (done : List Stage) (s : Stage) → IsReady t limits start done s.eps s.prices → IsPlayed t limits s → Chain t limits start (s ∷ done)
+chain_more t limits start [] s ready is = (is, ready)
+chain_more t limits start (r ∷ rest) s ready is = (is, ready.0, ready.1)
 
-pub ready_next : (t : Table) (limits : Limits) (done : List Stage) (s : Stage) (next : ℤ) (gathered : Gathered) → IsReady t limits done s.eps s.prices → Leaves t limits s gathered → s.world.end ≡ Some End.All → next_eps s.eps ≡ Some next → IsReady t limits (s ∷ done) next gathered.prices.items
-ready_next t limits done s next gathered ready left end more = (record { sold = end; next = more; each = left.sales.prices_are; kept = left.sales.price_is }, chain_more t limits done s ready left.played)
+pub ready_next : (t : Table) (limits : Limits) (start : Option (List ℤ)) (done : List Stage) (s : Stage) (next : ℤ) (gathered : Gathered) → IsReady t limits start done s.eps s.prices → Leaves t limits s gathered → s.world.end ≡ Some End.All → next_eps s.eps ≡ Some next → IsReady t limits start (s ∷ done) next gathered.prices.items
+ready_next t limits start done s next gathered ready left end more = (record { sold = end; next = more; each = left.sales.prices_are; kept = left.sales.price_is }, chain_more t limits start done s ready left.played)
 
-pub ready_first : (t : Table) (limits : Limits) (n : ℕ) (prices : List ℤ) (eps : ℤ) → n ≡ t.objects → prices ≡ replicate n (pos 0) → eps ≡ first_eps t → IsReady t limits [] eps prices
-ready_first t limits n prices eps all zeros first = (first, zeros ∙ ap (λ (m : ℕ). replicate m (pos 0)) all)
+pub begins_first : (t : Table) (n : ℕ) (prices : List ℤ) (eps : ℤ) → n ≡ t.objects → prices ≡ replicate n (pos 0) → eps ≡ first_eps t → Begins t None eps prices
+begins_first t n prices eps all zeros first = (first, zeros ∙ ap (λ (m : ℕ). replicate m (pos 0)) all)
 
 -- where no phase comes behind, eps is 1
 pub last_eps : (eps : ℤ) → IsEps eps → next_eps eps ≡ None → eps ≡ pos 1
@@ -97,9 +97,9 @@ module _ (p : Problem) (t : Table) (limits : Limits) (s : Stage) (gathered : Gat
 
 -- ---- the last phase has sold an object to each person
 
-module _ (p : Problem) (t : Table) (limits : Limits) (done : List Stage) (s : Stage) (gathered : Gathered) (is : IsProblem p) (table : IsTable t) (its : IsTableOf p t) (ready : IsReady t limits done s.eps s.prices) (left : Leaves t limits s gathered) where
-  pub ends_in : EndsIn p limits s
-  ends_in = record { table = t; of = its; before = done; chain = chain_more t limits done s ready left.played }
+module _ (p : Problem) (t : Table) (limits : Limits) (start : Option (List ℤ)) (done : List Stage) (s : Stage) (gathered : Gathered) (is : IsProblem p) (table : IsTable t) (its : IsTableOf p t) (ready : IsReady t limits start done s.eps s.prices) (left : Leaves t limits s gathered) where
+  pub ends_in : EndsIn p limits start s
+  ends_in = record { table = t; of = its; before = done; chain = chain_more t limits start done s ready left.played }
 
   module _ (last : s.eps ≡ pos 1) (end : s.world.end ≡ Some End.All) where
     at_one : Reached (phase_of t limits.shards (pos 1)) s.world
@@ -126,7 +126,7 @@ module _ (p : Problem) (t : Table) (limits : Limits) (done : List Stage) (s : St
     sold_is_answer (Answer.Bracket cert) h = absurd h
     sold_is_answer (Answer.Broken guard) h = absurd (h.1 chosen.0 choice_is chosen.3)
 
-    pub sold_is_of_run : (answer : Answer) → IsOptimalAnswer p gathered.holders.items gathered.prices.items answer → IsOfRun p limits answer
+    pub sold_is_of_run : (answer : Answer) → IsOptimalAnswer p gathered.holders.items gathered.prices.items answer → IsOfRun p limits start answer
     sold_is_of_run (Answer.Optimal cert) h =
         let one = one_choice p gathered.holders.items h.0 chosen.0 h.1 choice_is in
         (s, ends_in, last, end, subst (IsClaimOf p s.world) (sym (h.2 ∙ ap (λ (xs : List Arc). claim_of xs gathered.prices.items) one)) claim)
@@ -157,7 +157,7 @@ module _ (p : Problem) (t : Table) (limits : Limits) (done : List Stage) (s : St
     stopped_is_answer (Answer.Bracket cert) h = let by = h.1 in record { reason = reason; lower = by.lower; cost = total_cost by.choice; choice = map pick_of by.choice; prices = gathered.prices.items; is = by.is; certified = h.2 }
     stopped_is_answer (Answer.Broken guard) h = absurd (h.1 placeable)
 
-    pub stopped_is_of_run : (answer : Answer) → IsBracketAnswer p reason gathered.holders.items gathered.prices.items answer → IsOfRun p limits answer
+    pub stopped_is_of_run : (answer : Answer) → IsBracketAnswer p reason gathered.holders.items gathered.prices.items answer → IsOfRun p limits start answer
     stopped_is_of_run (Answer.Optimal cert) h = absurd h
     stopped_is_of_run (Answer.Infeasible cert) h = tt
     stopped_is_of_run (Answer.Bracket cert) h = (s, ends_in, record { reason = reason; stopped = stopped; prices = gathered.prices.items; each = left.sales.prices_are ∙ its.objects; true_prices = left.sales.price_is; by = h.1 })

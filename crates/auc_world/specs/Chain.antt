@@ -1,5 +1,5 @@
 -- The phases of a run, each from what the one before has left, and what an answer says of the last one.
-use Rattle.std.specs.Prelude.{ℤ, pos, ◌≡◌, List, [], ◌∷◌, Some, All, length, replicate}
+use Rattle.std.specs.Prelude.{ℤ, pos, ◌≡◌, List, [], ◌∷◌, Option, Some, None, All, length, replicate}
 use Rattle.auc_graph.specs.declared.arc.Arc.{Arc}
 use Rattle.auc_graph.specs.Assignment.{IsAssignment}
 use Rattle.auc_graph.specs.Problem.{Problem}
@@ -24,18 +24,28 @@ pub record Follows (t : Table) (r : Stage) (eps : ℤ) (prices : List ℤ) : Typ
   pub each : length prices ≡ t.objects
   pub kept : ArePricesOf r.world prices
 
--- The phases of a run, the last one first: the first at prices of 0 and the first eps, each next one behind the one before.
-abbrev pub Chain : Table → Limits → List Stage → Type 0
-Chain t limits [] = ⊥
-Chain t limits (s ∷ []) = IsPlayed t limits s × (s.eps ≡ first_eps t) × (s.prices ≡ replicate t.objects (pos 0))
-Chain t limits (s ∷ r ∷ rest) = IsPlayed t limits s × Follows t r s.eps s.prices × Chain t limits (r ∷ rest)
+-- The eps and the prices of the first phase of a run: the first eps and prices of 0, or from start prices these and eps 1, so that it is the
+-- only phase.
+abbrev pub Begins : Table → Option (List ℤ) → ℤ → List ℤ → Type 0
+Begins t None eps prices = (eps ≡ first_eps t) × (prices ≡ replicate t.objects (pos 0))
+Begins t (Some start) eps prices = (eps ≡ pos 1) × (prices ≡ start)
+
+-- a run may begin so
+abbrev pub MayBegin : Table → ℤ → List ℤ → Type 0
+MayBegin t eps prices = (start : Option (List ℤ)) × Begins t start eps prices
+
+-- The phases of a run, the last one first, each next one behind the one before. Where there is no start, it is from nothing.
+abbrev pub Chain : Table → Limits → Option (List ℤ) → List Stage → Type 0
+Chain t limits start [] = ⊥
+Chain t limits start (s ∷ []) = IsPlayed t limits s × Begins t start s.eps s.prices
+Chain t limits start (s ∷ r ∷ rest) = IsPlayed t limits s × Follows t r s.eps s.prices × Chain t limits start (r ∷ rest)
 
 -- a run of the problem by these limits whose last phase is this one
-pub record EndsIn (p : Problem) (limits : Limits) (last : Stage) : Type 0 where
+pub record EndsIn (p : Problem) (limits : Limits) (start : Option (List ℤ)) (last : Stage) : Type 0 where
   pub table : Table
   pub of : IsTableOf p table
   pub before : List Stage
-  pub chain : Chain table limits (last ∷ before)
+  pub chain : Chain table limits start (last ∷ before)
 
 -- the claim that the arcs of the world's holders cost least, by its true prices
 pub record IsClaimOf (p : Problem) (w : World) (cert : CertParts) : Type 0 where
@@ -58,8 +68,8 @@ pub record IsBracketOf (p : Problem) (w : World) (cert : CertParts) : Type 0 whe
 
 -- What an answer says of its run: a least cost is claimed of the last world, at eps 1, in which every person has an object; and a bracket stands
 -- only where a limit has stopped the last world, by whose prices it is.
-abbrev pub IsOfRun : Problem → Limits → Answer → Type 0
-IsOfRun p limits (Answer.Optimal cert) = (last : Stage) × EndsIn p limits last × (last.eps ≡ pos 1) × (last.world.end ≡ Some End.All) × IsClaimOf p last.world cert
-IsOfRun p limits (Answer.Infeasible cert) = Unit {0}
-IsOfRun p limits (Answer.Bracket cert) = (last : Stage) × EndsIn p limits last × IsBracketOf p last.world cert
-IsOfRun p limits (Answer.Broken guard) = ⊥
+abbrev pub IsOfRun : Problem → Limits → Option (List ℤ) → Answer → Type 0
+IsOfRun p limits start (Answer.Optimal cert) = (last : Stage) × EndsIn p limits start last × (last.eps ≡ pos 1) × (last.world.end ≡ Some End.All) × IsClaimOf p last.world cert
+IsOfRun p limits start (Answer.Infeasible cert) = Unit {0}
+IsOfRun p limits start (Answer.Bracket cert) = (last : Stage) × EndsIn p limits start last × IsBracketOf p last.world cert
+IsOfRun p limits start (Answer.Broken guard) = ⊥

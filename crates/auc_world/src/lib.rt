@@ -37,5 +37,5 @@ pub use limits::{Limits, USUAL_BIDS};
 pub use making::nodes_or;
 pub use picks::picks_of_matching;
 pub use playing::play;
-pub use solving::solve_serial;
+pub use solving::{solve_serial, solve_serial_from};
 pub use world::World;

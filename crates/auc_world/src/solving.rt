@@ -1,16 +1,17 @@
 //! The serial solver: epsilon scaling over phases, each a world of its own that is played in whole rounds.
 
-ghost use Rattle.std.specs.Prelude.{◌≡◌, IfOk};
+ghost use Rattle.std.specs.Prelude.{◌≡◌, IfOk, List, ℤ, Option, Some, None};
 ghost use Rattle.auc_graph.specs.Table.{IsTableOf};
+ghost use Rattle.auc_cert.specs.Start.{AreStart};
 ghost use Rattle.auc_letters.specs.Price.{IsEps};
 ghost use Rattle.auc_world.specs.Answers.{HasAssignment, IsAnswer};
-ghost use Rattle.auc_world.specs.Chain.{IsOfRun};
+ghost use Rattle.auc_world.specs.Chain.{Begins, IsOfRun, MayBegin};
 ghost use Rattle.auc_world.specs.Lists.{MayKeep, StayKept};
 ghost use Rattle.auc_world.specs.Making.{AreLimits, ArePrices};
-ghost use Rattle.auc_world.specs.Phases.{ComesOf, NobodyStuck};
+ghost use Rattle.auc_world.specs.Phases.{ComesOf, IsPrepared, NobodyStuck};
 
 use crate::answer::{Answer, Guard};
-use crate::eps::{first_eps, next_eps};
+use crate::eps::{LAST_EPS, first_eps, next_eps};
 use crate::finish::{bracket, infeasible, optimal, stop_of};
 use crate::gathering::Gathered;
 use crate::limits::Limits;
@@ -71,24 +72,31 @@ fn play_phase(
     }
 }
 
-/// Solves a problem in which each person has an arc: a phase at each eps, and each begins with the prices of the one before.
+/// Solves a problem in which each person has an arc: a phase at each eps, and each begins with the prices of the one before, the first
+/// with these.
 fn solve_rows(
     alloc: Global,
     problem: &ArcList,
     rows: &Rows,
     limits: &Limits,
+    eps: i64,
+    prices: Vec<i64>,
 ) -> Result<Answer, AllocError>
     requires rows { IsTableOf problem.now rows.now }
     requires limits { AreLimits limits.now }
     requires arcs { NobodyStuck rows.now }
     requires assignment { HasAssignment problem.now }
+    requires eps { IsEps eps }
+    requires prices { ArePrices rows.now prices.items }
+    requires begins { MayBegin rows.now eps prices.items }
     ensures is { IfOk result (IsAnswer problem.now) }
-    ensures run { IfOk result (IsOfRun problem.now limits.now) }
+    ensures run { (start : Option (List ℤ)) → Begins rows.now start eps prices.items → IfOk result (IsOfRun problem.now limits.now start) }
 {
-    // Read here, so that the proof knows what every problem keeps.
+    // Read here, so that the proof knows what every problem and its rows keep.
     let _ = problem.arcs();
-    let mut prices = vec![in alloc; 0; rows.objects() as usize]?;
-    let mut eps = first_eps(rows);
+    let _ = rows.objects();
+    let mut prices = prices;
+    let mut eps = eps;
     let mut candidates = new_candidates(alloc, limits.shards, rows)?;
     loop {
         let played = play_phase(alloc, rows, limits, prices.as_slice(), eps, &mut candidates)?;
@@ -105,6 +113,27 @@ fn solve_rows(
         let Gathered { prices: kept, .. } = gathered;
         prices = kept;
         eps = next;
+    }
+}
+
+/// The rows of a problem that has an assignment, or the answer where it has none.
+#[derive(Drop)]
+enum Prepared {
+    Rows(Rows),
+    Answered(Answer),
+}
+
+/// Lays out the rows and searches an assignment of any cost.
+fn prepare(alloc: Global, problem: &ArcList) -> Result<Prepared, AllocError>
+    ensures { IfOk result (IsPrepared problem.now) }
+{
+    let rows = Rows::build(alloc, problem)?;
+    let partial = Partial::new(alloc, &rows)?;
+    match complete(alloc, &rows, partial)? {
+        Matching::Hall { persons, objects } => {
+            Ok(Prepared::Answered(infeasible(alloc, problem, persons, objects)?))
+        }
+        Matching::Full(_) => Ok(Prepared::Rows(rows)),
     }
 }
 
@@ -129,12 +158,42 @@ fn solve_rows(
 pub fn solve_serial(alloc: Global, problem: &ArcList, limits: &Limits) -> Result<Answer, AllocError>
     requires { AreLimits limits.now }
     ensures is { IfOk result (IsAnswer problem.now) }
-    ensures run { IfOk result (IsOfRun problem.now limits.now) }
+    ensures run { IfOk result (IsOfRun problem.now limits.now None) }
 {
-    let rows = Rows::build(alloc, problem)?;
-    let partial = Partial::new(alloc, &rows)?;
-    match complete(alloc, &rows, partial)? {
-        Matching::Hall { persons, objects } => infeasible(alloc, problem, persons, objects),
-        Matching::Full(_) => solve_rows(alloc, problem, &rows, limits),
+    match prepare(alloc, problem)? {
+        Prepared::Answered(answer) => Ok(answer),
+        Prepared::Rows(rows) => {
+            let prices = vec![in alloc; 0; rows.objects() as usize]?;
+            solve_rows(alloc, problem, &rows, limits, first_eps(&rows), prices)
+        }
+    }
+}
+
+/// Solves a problem as [`solve_serial`] does, but from start prices, such as those of a certificate of the same problem with other costs
+/// ([`auc_cert::start_prices`]): in one phase, at the last eps.
+///
+/// The start prices are scaled costs, indexed by object, from 0 to 2^60, and as many as the persons. The answer is as good from any
+/// of them; good ones spare bids, and bad ones cost them.
+///
+/// # Errors
+///
+/// Only where memory was refused.
+pub fn solve_serial_from(
+    alloc: Global,
+    problem: &ArcList,
+    limits: &Limits,
+    start: &[i64],
+) -> Result<Answer, AllocError>
+    requires limits { AreLimits limits.now }
+    requires start { AreStart problem.now start.now }
+    ensures is { IfOk result (IsAnswer problem.now) }
+    ensures run { IfOk result (IsOfRun problem.now limits.now (Some start.now)) }
+{
+    match prepare(alloc, problem)? {
+        Prepared::Answered(answer) => Ok(answer),
+        Prepared::Rows(rows) => {
+            let prices = start.to_vec(alloc)?;
+            solve_rows(alloc, problem, &rows, limits, LAST_EPS, prices)
+        }
     }
 }

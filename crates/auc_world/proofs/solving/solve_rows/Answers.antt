@@ -1,23 +1,22 @@
 use Rattle.std.proofs.Common.{pos, ◌≡◌, ◌∙◌, ◌∷◌, [], List, ℤ, rules, subst, sym, to_z, w64}
-use Rattle.std.specs.Prelude.{FitsSigned, replicate}
+use Rattle.std.specs.Prelude.{FitsSigned, Option}
 use Rattle.std.proofs.lemmas.Int.{to_z-of_z}
 use Rattle.auc_world.specs.Answers.{IsAnswer, IsBracketAnswer, IsOptimalAnswer}
 use Rattle.auc_world.specs.Chain.{IsOfRun}
 use Rattle.auc_world.specs.Phases.{Stage}
 use Rattle.auc_world.proofs.Bridge.{in_range}
-use Rattle.auc_world.proofs.ChainLaws.{IsReady, last_eps, of_answers, ready_first, ready_next, sold_is_answer, sold_is_of_run, stopped_is_answer, stopped_is_of_run}
-use Rattle.auc_world.proofs.PhaseLaws.{first_prices, later_prices}
+use Rattle.auc_world.proofs.ChainLaws.{IsReady, last_eps, of_answers, ready_next, sold_is_answer, sold_is_of_run, stopped_is_answer, stopped_is_of_run}
+use Rattle.auc_world.proofs.PhaseLaws.{later_prices}
 use Rattle.auc_world.proofs.solving.solve_rows.Goals as goal
 
 pub loop-candidates-init : goal.loop-candidates-init
 loop-candidates-init c =
-    let fits : FitsSigned w64 c.first_eps-eps.result = search rules in
-    let zeros : c.in_ok-prices.prices.items ≡ replicate c.objects.result (pos 0) = search rules in
+    let fits : FitsSigned w64 c.args.eps = c.ranges.eps in
     record {
-      prices = first_prices c.args.rows.now c.objects.result c.in_ok-prices.prices.items c.objects.ensures.objects zeros;
-      eps = simp to_z-of_z c.first_eps-eps.ensures.range;
-      kept = c.in_ok-candidates.ensures c.in_ok-prices.prices.items;
-      ready = ([], simp to_z-of_z (ready_first c.args.rows.now c.args.limits.now c.objects.result c.in_ok-prices.prices.items c.first_eps-eps.result c.objects.ensures.objects zeros c.first_eps-eps.ensures.is));
+      prices = c.requires.prices;
+      eps = simp to_z-of_z c.requires.eps;
+      kept = c.in_ok-candidates.ensures c.args.prices.items;
+      ready = λ start begins. ([], begins);
     }
 
 pub loop-candidates-preserved : goal.loop-candidates-preserved
@@ -26,12 +25,15 @@ loop-candidates-preserved c =
     let sold = rw c.in-Sold.is at c.in_ok-played.ensures.comes in
     let inv = c.loop-candidates.invariant in
     let here : Stage = record { eps = to_z w64 c.loop-candidates.eps-bits; prices = c.as_slice.result.now; world = sold.0 } in
-    let ready = subst (λ (ps : List ℤ). IsReady c.args.rows.now c.args.limits.now inv.ready.0 (to_z w64 c.loop-candidates.eps-bits) ps) (sym c.as_slice.ensures.value) inv.ready.1 in
+    let to_here = λ (start : Option (List ℤ)) (done : List Stage) (r : IsReady c.args.rows.now c.args.limits.now start done (to_z w64 c.loop-candidates.eps-bits) c.loop-candidates.prices.items).
+    subst (λ (ps : List ℤ). IsReady c.args.rows.now c.args.limits.now start done (to_z w64 c.loop-candidates.eps-bits) ps) (sym c.as_slice.ensures.value) r in
     record {
       prices = later_prices c.args.rows.now c.args.limits.now here c.in-Sold.gathered sold.1;
       eps = simp to_z-of_z (c.in-Some.ensures.range inv.eps);
       kept = rw c.in-Sold.is at c.in_ok-played.ensures.kept;
-      ready = (here ∷ inv.ready.0, simp to_z-of_z (ready_next c.args.rows.now c.args.limits.now inv.ready.0 here c.in-Some.next c.in-Sold.gathered ready sold.1 sold.2 (sym c.in-Some.ensures.is)));
+      ready = λ start begins.
+      let before = inv.ready start begins in
+      (here ∷ before.0, simp to_z-of_z (ready_next c.args.rows.now c.args.limits.now start before.0 here c.in-Some.next c.in-Sold.gathered (to_here start before.0 before.1) sold.1 sold.2 (sym c.in-Some.ensures.is)));
     }
 
 pub returns-in_default-clause-is : goal.returns-in_default-clause-is
@@ -39,20 +41,25 @@ returns-in_default-clause-is c =
     let sold = rw c.in-Sold.is at c.in_ok-played.ensures.comes in
     let inv = c.loop-candidates.invariant in
     let here : Stage = record { eps = to_z w64 c.loop-candidates.eps-bits; prices = c.as_slice.result.now; world = sold.0 } in
-    let ready = subst (λ (ps : List ℤ). IsReady c.args.rows.now c.args.limits.now inv.ready.0 (to_z w64 c.loop-candidates.eps-bits) ps) (sym c.as_slice.ensures.value) inv.ready.1 in
+    let fits : FitsSigned w64 c.args.eps = c.ranges.eps in
+    let start = c.requires.begins.0 in
+    let before = inv.ready start (simp to_z-of_z c.requires.begins.1) in
+    let ready = subst (λ (ps : List ℤ). IsReady c.args.rows.now c.args.limits.now start before.0 (to_z w64 c.loop-candidates.eps-bits) ps) (sym c.as_slice.ensures.value) before.1 in
     let last = last_eps (to_z w64 c.loop-candidates.eps-bits) inv.eps (sym c.in_default.ensures.is) in
     of_answers (IsOptimalAnswer c.args.problem.now c.in-Sold.gathered.holders.items c.in-Sold.gathered.prices.items) (IsAnswer c.args.problem.now) c.optimal.result
-    (sold_is_answer c.args.problem.now c.args.rows.now c.args.limits.now inv.ready.0 here c.in-Sold.gathered c.arcs.ensures.problem c.objects.ensures.table c.requires.rows ready sold.1 last sold.2) c.optimal.ensures
+    (sold_is_answer c.args.problem.now c.args.rows.now c.args.limits.now start before.0 here c.in-Sold.gathered c.arcs.ensures.problem c.objects.ensures.table c.requires.rows ready sold.1 last sold.2) c.optimal.ensures
 
 pub returns-in_default-clause-run : goal.returns-in_default-clause-run
-returns-in_default-clause-run c =
+returns-in_default-clause-run c = λ start begins.
     let sold = rw c.in-Sold.is at c.in_ok-played.ensures.comes in
     let inv = c.loop-candidates.invariant in
     let here : Stage = record { eps = to_z w64 c.loop-candidates.eps-bits; prices = c.as_slice.result.now; world = sold.0 } in
-    let ready = subst (λ (ps : List ℤ). IsReady c.args.rows.now c.args.limits.now inv.ready.0 (to_z w64 c.loop-candidates.eps-bits) ps) (sym c.as_slice.ensures.value) inv.ready.1 in
+    let fits : FitsSigned w64 c.args.eps = c.ranges.eps in
+    let before = inv.ready start (simp to_z-of_z begins) in
+    let ready = subst (λ (ps : List ℤ). IsReady c.args.rows.now c.args.limits.now start before.0 (to_z w64 c.loop-candidates.eps-bits) ps) (sym c.as_slice.ensures.value) before.1 in
     let last = last_eps (to_z w64 c.loop-candidates.eps-bits) inv.eps (sym c.in_default.ensures.is) in
-    of_answers (IsOptimalAnswer c.args.problem.now c.in-Sold.gathered.holders.items c.in-Sold.gathered.prices.items) (IsOfRun c.args.problem.now c.args.limits.now) c.optimal.result
-    (sold_is_of_run c.args.problem.now c.args.rows.now c.args.limits.now inv.ready.0 here c.in-Sold.gathered c.arcs.ensures.problem c.objects.ensures.table c.requires.rows ready sold.1 last sold.2) c.optimal.ensures
+    of_answers (IsOptimalAnswer c.args.problem.now c.in-Sold.gathered.holders.items c.in-Sold.gathered.prices.items) (IsOfRun c.args.problem.now c.args.limits.now start) c.optimal.result
+    (sold_is_of_run c.args.problem.now c.args.rows.now c.args.limits.now start before.0 here c.in-Sold.gathered c.arcs.ensures.problem c.objects.ensures.table c.requires.rows ready sold.1 last sold.2) c.optimal.ensures
 
 pub bracket-requires-clause-holders : goal.bracket-requires-clause-holders
 bracket-requires-clause-holders c = let stopped = rw c.in-Stopped.is at c.in_ok-played.ensures.comes in stopped.1.sales.holders_are ∙ c.requires.rows.objects
@@ -68,15 +75,20 @@ returns-in-Stopped-clause-is c =
     let stopped = rw c.in-Stopped.is at c.in_ok-played.ensures.comes in
     let inv = c.loop-candidates.invariant in
     let here : Stage = record { eps = to_z w64 c.loop-candidates.eps-bits; prices = c.as_slice.result.now; world = stopped.0 } in
-    let ready = subst (λ (ps : List ℤ). IsReady c.args.rows.now c.args.limits.now inv.ready.0 (to_z w64 c.loop-candidates.eps-bits) ps) (sym c.as_slice.ensures.value) inv.ready.1 in
+    let fits : FitsSigned w64 c.args.eps = c.ranges.eps in
+    let start = c.requires.begins.0 in
+    let before = inv.ready start (simp to_z-of_z c.requires.begins.1) in
+    let ready = subst (λ (ps : List ℤ). IsReady c.args.rows.now c.args.limits.now start before.0 (to_z w64 c.loop-candidates.eps-bits) ps) (sym c.as_slice.ensures.value) before.1 in
     of_answers (IsBracketAnswer c.args.problem.now c.in-Stopped.reason c.in-Stopped.gathered.holders.items c.in-Stopped.gathered.prices.items) (IsAnswer c.args.problem.now) c.bracket.result
-    (stopped_is_answer c.args.problem.now c.args.rows.now c.args.limits.now inv.ready.0 here c.in-Stopped.gathered c.arcs.ensures.problem c.objects.ensures.table c.requires.rows ready stopped.1 c.in-Stopped.reason stopped.2) c.bracket.ensures
+    (stopped_is_answer c.args.problem.now c.args.rows.now c.args.limits.now start before.0 here c.in-Stopped.gathered c.arcs.ensures.problem c.objects.ensures.table c.requires.rows ready stopped.1 c.in-Stopped.reason stopped.2) c.bracket.ensures
 
 pub returns-in-Stopped-clause-run : goal.returns-in-Stopped-clause-run
-returns-in-Stopped-clause-run c =
+returns-in-Stopped-clause-run c = λ start begins.
     let stopped = rw c.in-Stopped.is at c.in_ok-played.ensures.comes in
     let inv = c.loop-candidates.invariant in
     let here : Stage = record { eps = to_z w64 c.loop-candidates.eps-bits; prices = c.as_slice.result.now; world = stopped.0 } in
-    let ready = subst (λ (ps : List ℤ). IsReady c.args.rows.now c.args.limits.now inv.ready.0 (to_z w64 c.loop-candidates.eps-bits) ps) (sym c.as_slice.ensures.value) inv.ready.1 in
-    of_answers (IsBracketAnswer c.args.problem.now c.in-Stopped.reason c.in-Stopped.gathered.holders.items c.in-Stopped.gathered.prices.items) (IsOfRun c.args.problem.now c.args.limits.now) c.bracket.result
-    (stopped_is_of_run c.args.problem.now c.args.rows.now c.args.limits.now inv.ready.0 here c.in-Stopped.gathered c.arcs.ensures.problem c.objects.ensures.table c.requires.rows ready stopped.1 c.in-Stopped.reason stopped.2) c.bracket.ensures
+    let fits : FitsSigned w64 c.args.eps = c.ranges.eps in
+    let before = inv.ready start (simp to_z-of_z begins) in
+    let ready = subst (λ (ps : List ℤ). IsReady c.args.rows.now c.args.limits.now start before.0 (to_z w64 c.loop-candidates.eps-bits) ps) (sym c.as_slice.ensures.value) before.1 in
+    of_answers (IsBracketAnswer c.args.problem.now c.in-Stopped.reason c.in-Stopped.gathered.holders.items c.in-Stopped.gathered.prices.items) (IsOfRun c.args.problem.now c.args.limits.now start) c.bracket.result
+    (stopped_is_of_run c.args.problem.now c.args.rows.now c.args.limits.now start before.0 here c.in-Stopped.gathered c.arcs.ensures.problem c.objects.ensures.table c.requires.rows ready stopped.1 c.in-Stopped.reason stopped.2) c.bracket.ensures

@@ -1,5 +1,6 @@
-use Rattle.std.specs.Prelude.{List, unsigned_abs}
+use Rattle.std.specs.Prelude.{List, ℤ, Option, unsigned_abs}
 use Rattle.auc_letters.specs.Price.{IsEps}
+use Rattle.auc_world.specs.Chain.{Begins}
 use Rattle.auc_world.specs.Lists.{MayKeep}
 use Rattle.auc_world.specs.Making.{ArePrices}
 use Rattle.auc_world.specs.Phases.{Stage}
@@ -11,7 +12,7 @@ invariant-loop-candidates l = record {
   prices : ArePrices l.rows l.prices.items;
   eps : IsEps l.eps;
   kept : MayKeep l.rows l.limits.shards l.prices.items l.candidates.items;
-  ready : (done : List Stage) × IsReady l.rows l.limits done l.eps l.prices.items;
+  ready : (start : Option (List ℤ)) → Begins l.rows start l.fn.eps l.fn.prices.items → (done : List Stage) × IsReady l.rows l.limits start done l.eps l.prices.items;
 }
 
 abbrev pub decreases-loop-candidates : goal.decreases-loop-candidates

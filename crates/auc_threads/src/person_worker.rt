@@ -109,7 +109,7 @@ fn hear_waiting<O: MailBrand, P: MailBrand, H: MailBrand, R: Wait, G: Gate>(
     Step::On
 }
 
-/// Waits for a letter and hears it; where the gate is open, also what else waits.
+/// Waits for a letter and hears it, and what else waits.
 fn hear_next<O: MailBrand, P: MailBrand, H: MailBrand, R: Wait, G: Gate>(
     rt: &R,
     gate: &G,
@@ -133,7 +133,12 @@ fn hear_next<O: MailBrand, P: MailBrand, H: MailBrand, R: Wait, G: Gate>(
         return hear_waiting(calls, mails, rows, number, shard, seats);
     }
     let taken = take(rt, gate, &mails.persons, &mut seats.persons, number);
-    hear(rows, mails.shards, number, shard, taken)
+    let step = hear(rows, mails.shards, number, shard, taken);
+    if step != Step::On {
+        return step;
+    }
+    let calls = Calls::begin(rt, gate, &mails.persons);
+    hear_waiting(calls, mails, rows, number, shard, seats)
 }
 
 /// Asks for the next bid.

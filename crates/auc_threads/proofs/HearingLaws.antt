@@ -1,22 +1,30 @@
 -- What a shard of the persons hears of prices, letter by letter.
-use Rattle.std.proofs.Common.{◌≡◌, ℕ, ◌<◌, List, [], ◌∷◌, ◌++◌, length, get_or, set, refl, ap, sym, ◌∙◌, subst, inl, inr, append_assoc}
+use Rattle.std.proofs.Common.{◌≡◌, ℕ, ◌<◌, List, [], ◌∷◌, ◌++◌, length, get_or, set, refl, ap, sym, ◌∙◌, subst, inl, inr, append_assoc, arith}
 use Rattle.std.specs.Prelude.{ℤ, pos, ◌<ℤ◌, ◌⊎◌, Ok, Err}
 use Rattle.std.proofs.lemmas.Bool.{cases_eq}
+use Rattle.std.proofs.lemmas.Int.{ints}
 use Rattle.std.proofs.lemmas.List.{get_or-set_same, get_or-set_other}
 use Rattle.std.proofs.lemmas.List.Elements.{Contains-append_left, Contains-append_right, Contains-push}
 use Rattle.auc_letters.specs.declared.letter.Letter.{Letter}
 use Rattle.auc_letters.specs.declared.letter.Why.{Why}
 use Rattle.auc_persons.specs.declared.bidding.PersonFault.{PersonFault}
-use Rattle.auc_persons.specs.Persons.{OnLetter, Persons, copy_of}
+use Rattle.auc_persons.specs.Persons.{OnLetter, Persons, Rising, copy_of}
+use Rattle.auc_persons.proofs.Rise.{rises_same}
 use Rattle.auc_book.specs.Seat.{Account}
 use Rattle.auc_world.specs.Hearing.{reason_for}
 use Rattle.auc_threads.specs.Taking.{TookMore}
 use Rattle.auc_threads.specs.Hearing.{Falls, Hears, HearsOf, IsTold, Tells}
 use Rattle.auc_threads.proofs.TakingLaws.{took_end, took_then}
 
+rises_equal : (q r : List ℤ) → r ≡ q → Rising q r
+rises_equal q r e = subst (λ xs. Rising q xs) (sym e) (rises_same q)
+
+rises_then : (q r u : List ℤ) → Rising q r → Rising r u → Rising q u
+rises_then q r u f g k = let x = f k in let y = g k in omega (arith, ints, x, y)
+
 -- nothing is heard, and nothing falls
 pub hears_none : (s t : Persons) (fell : Type 0) → t.copies ≡ s.copies → (fell → ⊥) → HearsOf s [] t fell
-hears_none s t fell e never = record { heard = λ j. inl (ap (λ xs. get_or xs j (pos 0)) e); falls = λ f. absurd (never f) }
+hears_none s t fell e never = record { heard = λ j. inl (ap (λ xs. get_or xs j (pos 0)) e); rise = rises_equal s.copies t.copies e; falls = λ f. absurd (never f) }
 
 told_left : (xs ys : List Letter) (j : ℕ) (p : ℤ) → IsTold xs j p → IsTold (xs ++ ys) j p
 told_left xs ys j p t = (t.0, Contains-append_left xs ys t.0 t.1, t.2)
@@ -56,6 +64,7 @@ hears_of_then s t u xs ys first fell f g = record {
               | inr told ↦ inr (told_left xs ys j (copy_of u j) (subst (λ (c : ℤ). IsTold xs j c) (sym same) told))
             ]
       ];
+  rise = rises_then s.copies t.copies u.copies f.rise g.rise;
   falls = λ x. falls_later s t xs ys f.heard (g.falls x);
 }
 
@@ -74,12 +83,13 @@ hears_taken room s t a b letters fell took heard = record { letters = letters; t
 
 -- where it went on, what comes of it is told by what follows
 pub hears_first : (room : ℕ) (s t : Persons) (a b : Account Letter) (first fell : Type 0) → (fell → first) → Hears room s a t b first → Hears room s a t b fell
-hears_first room s t a b first fell f h = record { letters = h.letters; took = h.took; hears = record { heard = h.hears.heard; falls = λ x. h.hears.falls (f x) } }
+hears_first room s t a b first fell f h = record { letters = h.letters; took = h.took; hears = record { heard = h.hears.heard; rise = h.hears.rise; falls = λ x. h.hears.falls (f x) } }
 
 -- the one letter that was taken tells a fall
 fell_of : (s t : Persons) (x : Letter) (j : ℕ) (p : ℤ) (fell : Type 0) → t ≡ s → Tells j p x → p <ℤ copy_of s j → HearsOf s (x ∷ []) t fell
 fell_of s t x j p fell e tells low = record {
   heard = λ k. inl (ap (λ (z : Persons). copy_of z k) e);
+  rise = rises_equal s.copies t.copies (ap (λ (z : Persons). z.copies) e);
   falls = λ f. record { front = []; letter = x; back = []; are = refl; object = j; price = p; tells = tells; below = inl low };
 }
 
@@ -94,7 +104,7 @@ hears_fell s t (Letter.Stop y) fell h = absurd (let e = h.0 in cc)
 
 -- a letter with a fault changes no copy
 hears_stray : (s t : Persons) (x : Letter) (fell : Type 0) → OnLetter s x (Err PersonFault.Stray) t → (fell → ⊥) → HearsOf s (x ∷ []) t fell
-hears_stray s t x fell h never = record { heard = λ j. inl (ap (λ (z : Persons). copy_of z j) (same x h)); falls = λ f. absurd (never f) }
+hears_stray s t x fell h never = record { heard = λ j. inl (ap (λ (z : Persons). copy_of z j) (same x h)); rise = rises_equal s.copies t.copies (ap (λ (z : Persons). z.copies) (same x h)); falls = λ f. absurd (never f) }
   where
     same : (x : Letter) → OnLetter s x (Err PersonFault.Stray) t → t ≡ s
     same (Letter.Award i j p) h = h.1
@@ -117,8 +127,8 @@ pub hears_end : (room : ℕ) (s t : Persons) (a b c : Account Letter) (fell : Ty
 hears_end room s t a b c fell h took = record { letters = h.letters; took = took_end room a b c h.letters h.took took; hears = h.hears }
 
 -- the one letter that was taken sets a copy
-set_of : (s t : Persons) (x : Letter) (j : ℕ) (p : ℤ) (fell : Type 0) → t.copies ≡ set s.copies j p → j < length s.copies → Tells j p x → (fell → ⊥) → HearsOf s (x ∷ []) t fell
-set_of s t x j p fell e known tells never = record {
+set_of : (s t : Persons) (x : Letter) (j : ℕ) (p : ℤ) (fell : Type 0) → t.copies ≡ set s.copies j p → j < length s.copies → Tells j p x → Rising s.copies t.copies → (fell → ⊥) → HearsOf s (x ∷ []) t fell
+set_of s t x j p fell e known tells rise never = record {
   heard = λ k.
       elim (cases_eq k j) [
         | inl here ↦ (
@@ -126,14 +136,15 @@ set_of s t x j p fell e known tells never = record {
             inr (subst (λ (m : ℕ). IsTold (x ∷ []) m (copy_of t m)) (sym here) (x, Contains-push [] x, subst (λ (c : ℤ). Tells j c x) (sym told) tells)))
         | inr ne ↦ inl (ap (λ xs. get_or xs k (pos 0)) e ∙ get_or-set_other s.copies j k p (pos 0) ne)
       ];
+  rise = rise;
   falls = λ f. absurd (never f);
 }
 
-pub hears_ok : (s t : Persons) (x : Letter) (u : Unit {0}) (fell : Type 0) → OnLetter s x (Ok u) t → (fell → ⊥) → HearsOf s (x ∷ []) t fell
-hears_ok s t (Letter.Award i j p) u fell h never = set_of s t (Letter.Award i j p) j p fell (ap (λ (z : Persons). z.copies) h.2) h.0.2 (refl, refl) never
-hears_ok s t (Letter.Refused i j p) u fell h never = set_of s t (Letter.Refused i j p) j p fell (ap (λ (z : Persons). z.copies) h.2) h.0.2 (refl, refl) never
-hears_ok s t (Letter.Outbid i j p) u fell h never = set_of s t (Letter.Outbid i j p) j p fell (ap (λ (z : Persons). z.copies) h.2) h.0.2 (refl, refl) never
-hears_ok s t (Letter.Price j p) u fell h never = set_of s t (Letter.Price j p) j p fell (ap (λ (z : Persons). z.copies) h.2) h.0.0 (refl, refl) never
-hears_ok s t (Letter.Bid i a j p) u fell h never = absurd (let e = h.0 in cc)
-hears_ok s t (Letter.First j) u fell h never = absurd (let e = h.0 in cc)
-hears_ok s t (Letter.Stop y) u fell h never = absurd (let e = h.0 in cc)
+pub hears_ok : (s t : Persons) (x : Letter) (u : Unit {0}) (fell : Type 0) → OnLetter s x (Ok u) t → Rising s.copies t.copies → (fell → ⊥) → HearsOf s (x ∷ []) t fell
+hears_ok s t (Letter.Award i j p) u fell h rise never = set_of s t (Letter.Award i j p) j p fell (ap (λ (z : Persons). z.copies) h.2) h.0.2 (refl, refl) rise never
+hears_ok s t (Letter.Refused i j p) u fell h rise never = set_of s t (Letter.Refused i j p) j p fell (ap (λ (z : Persons). z.copies) h.2) h.0.2 (refl, refl) rise never
+hears_ok s t (Letter.Outbid i j p) u fell h rise never = set_of s t (Letter.Outbid i j p) j p fell (ap (λ (z : Persons). z.copies) h.2) h.0.2 (refl, refl) rise never
+hears_ok s t (Letter.Price j p) u fell h rise never = set_of s t (Letter.Price j p) j p fell (ap (λ (z : Persons). z.copies) h.2) h.0.0 (refl, refl) rise never
+hears_ok s t (Letter.Bid i a j p) u fell h rise never = absurd (let e = h.0 in cc)
+hears_ok s t (Letter.First j) u fell h rise never = absurd (let e = h.0 in cc)
+hears_ok s t (Letter.Stop y) u fell h rise never = absurd (let e = h.0 in cc)

@@ -1,13 +1,20 @@
 -- What the award rule makes of an object, letter by letter.
-use Rattle.std.proofs.Common.{◌≡◌, ◌%◌, ◌<◌, ℕ, List, [], ◌++◌, refl, ap, sym, ◌∙◌, subst}
-use Rattle.std.specs.Prelude.{ℤ}
-use Rattle.std.proofs.lemmas.List.Elements.{filter_map-append}
+use Rattle.std.proofs.Common.{◌≡◌, ◌%◌, ◌<◌, ℕ, List, [], ◌++◌, refl, ap, sym, ◌∙◌, subst, arith}
+use Rattle.std.specs.Prelude.{ℤ, All}
+use Rattle.std.proofs.lemmas.List.Elements.{All-weaker, filter_map-append}
 use Rattle.std.proofs.lemmas.List.Sums.{fold-append}
 use Rattle.auc_letters.specs.declared.letter.Letter.{Letter}
-use Rattle.auc_letters.specs.Award.{Sale, award, award_all, bid_on, bids_on}
+use Rattle.auc_letters.specs.declared.letter.Offer.{Offer}
+use Rattle.auc_letters.specs.declared.out.Out.{Out}
+use Rattle.auc_letters.specs.declared.out.To.{To}
+use Rattle.auc_letters.specs.Award.{Sale, answers, award, award_all, bid_on, bids_on}
 use Rattle.auc_objects.specs.Objects.{Objects, Owns, SameShape, sale_of}
 use Rattle.auc_book.specs.Seat.{Account}
-use Rattle.auc_threads.specs.Taking.{TookMore}
+use Rattle.auc_model.specs.Mails.{box_of}
+use Rattle.auc_world.specs.Mails.{boxes_in, name_of}
+use Rattle.auc_world.specs.Parts.{Reaches}
+use Rattle.auc_world.proofs.Keeping.{answers_reach}
+use Rattle.auc_threads.specs.Taking.{GoesWithin, TookMore}
 use Rattle.auc_threads.specs.Sales.{IsDuty, Sells}
 use Rattle.auc_threads.proofs.TakingLaws.{took_then}
 
@@ -55,3 +62,15 @@ sells_then eps room s a t b u c f g = record {
       ∙ (ap (λ (x : Sale). award_all eps x (bids_on j g.letters)) (f.sold j o)
       ∙ (sym (fold-append (award eps) (sale_of s j) (bids_on j f.letters) (bids_on j g.letters)) ∙ ap (award_all eps (sale_of s j)) (sym (bids_append j f.letters g.letters))));
 }
+
+-- each letter of a shard that is there goes to a box that is there
+goes_within : (n : ℕ) (o : Out) → 0 < n → Reaches n o → GoesWithin n o
+goes_within n o some reach = by o.to reach
+  where
+    by : (to : To) → box_of to < boxes_in n (name_of to) → box_of to < n
+    by (To.Person s) lt = lt
+    by (To.Object q) lt = lt
+    by To.Hub lt = omega (arith, some)
+
+pub answers_go : (n : ℕ) (eps : ℤ) (sale : Sale) (bid : Offer) → 0 < n → All (GoesWithin n) (answers n eps sale bid)
+answers_go n eps sale bid some = All-weaker (Reaches n) (GoesWithin n) (λ o r. goes_within n o some r) (answers n eps sale bid) (answers_reach n eps sale bid some)

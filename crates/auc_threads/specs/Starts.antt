@@ -5,6 +5,7 @@ use Rattle.auc_letters.specs.declared.letter.Why.{Why}
 use Rattle.auc_objects.specs.Objects.{Objects}
 use Rattle.auc_book.specs.Seat.{Account, new_account}
 use Rattle.auc_graph.specs.Table.{Table}
+use Rattle.auc_persons.specs.Candidates.{Kept, Listed}
 use Rattle.auc_persons.specs.Persons.{Persons}
 use Rattle.auc_world.specs.Making.{new_objects, new_persons}
 use Rattle.auc_threads.specs.Hearing.{Hears, SomebodyStuck}
@@ -46,6 +47,11 @@ pub record IsObjectResult (eps : ℤ) (objects_room persons_room hub_room shards
 pub record IsPersonStart (t : Table) (shards bids : ℕ) (prices : List ℤ) (k : ℕ) (s : Persons) (a p h : Account Letter) : Type 0 where
   pub shard : s ≡ new_persons shards (length t.rows) bids prices k
   pub seats : AreNewSeats k a p h
+
+-- and with lists that are right whatever the copies are
+pub record IsBuyerStart (t : Table) (shards bids : ℕ) (prices : List ℤ) (k : ℕ) (s : Persons) (lists : List Listed) (a p h : Account Letter) : Type 0 where
+  pub begins : IsPersonStart t shards bids prices k s a p h
+  pub kept : (copies : List ℤ) → Kept t copies lists
 
 pub record IsPersonWork (t : Table) (objects_room persons_room hub_room : ℕ) (s : Persons) (a p h : Account Letter) (n : Persons) (a' p' h' : Account Letter) (why : Option Why) : Type 0 where
   pub hears : Hears persons_room s p n p' (why ≡ Some Why.Fell)

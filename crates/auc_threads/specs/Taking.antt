@@ -8,6 +8,8 @@ use Rattle.auc_mail.specs.declared.call.Reply.TheVariants.{Took}
 use Rattle.auc_book.specs.declared.error.TrailFull.{TrailFull}
 use Rattle.auc_book.specs.declared.line.TrailLine.{TrailLine}
 use Rattle.auc_book.specs.Seat.{Account}
+use Rattle.auc_letters.specs.declared.out.Out.{Out}
+use Rattle.auc_model.specs.Mails.{box_of}
 
 -- the letter of a call that took one
 abbrev pub letter_by : {T : Type 0} → Call T → Reply T → List T
@@ -30,3 +32,7 @@ letter_of (Err e) = []
 pub record TookMore {T : Type 0} (room : ℕ) (a : Account T) (letters : List T) (b : Account T) : Type 0 where
   pub worker : b.worker ≡ a.worker
   pub told : 0 < room → letters_in b.lines ≡ letters_in a.lines ++ letters
+
+-- the letter goes to one of the first so many boxes of its mail
+abbrev pub GoesWithin : ℕ → Out → Type 0
+GoesWithin boxes out = box_of out.to < boxes

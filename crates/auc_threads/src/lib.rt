@@ -1,9 +1,13 @@
 //! Shard workers in threads of their own, over three mails that they share.
 #![tactic(auto)]
 
+mod bidding;
+mod calls;
+mod dealing;
 mod error;
 mod gate;
 mod gathering;
+mod hearing;
 mod hub;
 mod mails;
 mod object_threads;
@@ -14,7 +18,9 @@ mod phase;
 mod running;
 mod settling;
 mod solving;
+mod stopping;
 mod taking;
+mod telling;
 mod verdict;
 
 pub use error::RunError;

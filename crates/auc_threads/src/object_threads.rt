@@ -8,9 +8,10 @@ ghost use Rattle.auc_threads.specs.Sales.{IsDuty, Sells};
 ghost use Rattle.auc_threads.specs.Placed.{Placed};
 ghost use Rattle.auc_threads.specs.Starts.{IsObjectPromise, IsObjectResult, IsObjectStart};
 
+use crate::dealing::Duty;
 use crate::gate::Gate;
 use crate::mails::{Mails, WorkerSeats};
-use crate::object_worker::{Duty, ObjectWork, sell};
+use crate::object_worker::{ObjectWork, sell};
 use auc_book::MailBrand;
 use auc_graph::Rows;
 use auc_objects::ObjectShard;

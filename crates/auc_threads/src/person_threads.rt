@@ -3,16 +3,17 @@
 ghost use Rattle.std.specs.Prelude.{ℕ, ◌≡◌, ◌<◌, ◌≤◌, [], Some, length, All, vec_len, vec_capacity, IfOk, IsTrue};
 ghost use Rattle.auc_letters.specs.declared.letter.Why.{Why};
 ghost use Rattle.auc_letters.specs.Price.{IsEps};
+ghost use Rattle.auc_persons.specs.Candidates.{Kept};
 ghost use Rattle.auc_world.specs.Parts.{IsPersonShard};
 ghost use Rattle.auc_threads.specs.Placed.{Placed};
-ghost use Rattle.auc_threads.specs.Starts.{IsPersonPromise, IsPersonResult, IsPersonStart};
+ghost use Rattle.auc_threads.specs.Starts.{IsBuyerStart, IsPersonPromise, IsPersonResult};
 
+use crate::bidding::Buyer;
 use crate::gate::Gate;
 use crate::mails::{Mails, WorkerSeats};
 use crate::person_worker::{PersonWork, buy};
 use auc_book::MailBrand;
 use auc_graph::Rows;
-use auc_persons::PersonShard;
 use std::alloc::{AllocError, Global};
 use std::snapshot::Snapshot;
 use std::sync::Wait;
@@ -21,7 +22,7 @@ use std::thread::{Promise, PromisedHandle, Scope, Threads};
 /// What a thread of the persons begins with.
 #[derive(Drop)]
 pub(crate) struct PersonStart<O: MailBrand, P: MailBrand, H: MailBrand> {
-    pub(crate) shard: PersonShard,
+    pub(crate) buyer: Buyer,
     pub(crate) seats: WorkerSeats<O, P, H>,
 }
 
@@ -35,7 +36,7 @@ pub(crate) struct Bought<O: MailBrand, P: MailBrand, H: MailBrand> {
 impl<O: MailBrand, P: MailBrand, H: MailBrand> Promise<PersonWork<O, P, H>> for Bought<O, P, H> {
     ghost use Rattle.auc_threads.specs.Starts.{IsPersonWork};
 
-    ghost kept_by = { λ p r. IsPersonWork p.rows.value O.room P.room H.room p.start.value.shard p.start.value.seats.objects p.start.value.seats.persons p.start.value.seats.hub r.shard r.seats.objects r.seats.persons r.seats.hub r.why };
+    ghost kept_by = { λ p r. IsPersonWork p.rows.value O.room P.room H.room p.start.value.buyer.shard p.start.value.seats.objects p.start.value.seats.persons p.start.value.seats.hub r.shard r.seats.objects r.seats.persons r.seats.hub r.why };
 }
 
 /// Starts a thread for each shard of the persons. False where one couldn't be started; then no more are.
@@ -62,10 +63,10 @@ pub(crate) fn start_persons<
     requires eps { IsEps eps }
     requires prices { length prices.now ≡ rows.now.objects }
     requires many { vec_len starts ≡ mails.now.shards }
-    requires starts { Placed (λ k x. IsPersonStart rows.now mails.now.shards bids prices.now k x.shard x.seats.objects x.seats.persons x.seats.hub) 0 starts.items }
+    requires starts { Placed (λ k x. IsBuyerStart rows.now mails.now.shards bids prices.now k x.buyer.shard x.buyer.lists x.seats.objects x.seats.persons x.seats.hub) 0 starts.items }
     requires none { handles.old.items ≡ [] }
     requires room { vec_len starts ≤ vec_capacity handles.old }
-    ensures promised { Placed (λ k h. IsPersonPromise rows.now mails.now.shards bids prices.now k h.promise.rows.value h.promise.start.value.shard h.promise.start.value.seats.objects h.promise.start.value.seats.persons h.promise.start.value.seats.hub) 0 handles.new.items }
+    ensures promised { Placed (λ k h. IsPersonPromise rows.now mails.now.shards bids prices.now k h.promise.rows.value h.promise.start.value.buyer.shard h.promise.start.value.seats.objects h.promise.start.value.seats.persons h.promise.start.value.seats.hub) 0 handles.new.items }
     ensures few { vec_len handles.new ≤ mails.now.shards }
     ensures all { IsTrue result → vec_len handles.new ≡ mails.now.shards }
 {
@@ -77,10 +78,10 @@ pub(crate) fn start_persons<
             rows: Snapshot::of(rows),
             start: Snapshot::of(&start),
         };
-        let PersonStart { shard, seats } = start;
+        let PersonStart { buyer, seats } = start;
         let work = move || -> PersonWork<O, P, H>
-            requires { IsPersonShard rows.now mails.now.shards number shard × IsEps eps × (number < mails.now.shards) }
-        { buy(rt, gate, mails, rows, number, eps, shard, seats) };
+            requires { IsPersonShard rows.now mails.now.shards number buyer.shard × Kept rows.now buyer.shard.copies buyer.lists × IsEps eps × (number < mails.now.shards) }
+        { buy(rt, gate, mails, rows, number, eps, buyer, seats) };
         let Ok(handle) = scope.spawn_with(promise, work) else {
             return false;
         };
@@ -105,7 +106,7 @@ pub(crate) fn join_persons<
     rows: &Rows,
     prices: &[i64],
 )
-    requires promised { Placed (λ k h. IsPersonPromise rows.now shards bids prices.now k h.promise.rows.value h.promise.start.value.shard h.promise.start.value.seats.objects h.promise.start.value.seats.persons h.promise.start.value.seats.hub) 0 handles.items }
+    requires promised { Placed (λ k h. IsPersonPromise rows.now shards bids prices.now k h.promise.rows.value h.promise.start.value.buyer.shard h.promise.start.value.seats.objects h.promise.start.value.seats.persons h.promise.start.value.seats.hub) 0 handles.items }
     requires none { works.old.items ≡ [] }
     requires room { vec_len handles ≤ vec_capacity works.old }
     ensures many { vec_len works.new ≡ vec_len handles }

@@ -8,9 +8,10 @@ ghost use Rattle.auc_world.specs.Making.{ArePrices};
 ghost use Rattle.auc_threads.specs.Naming.{AreThreadLimits, workers_of};
 ghost use Rattle.auc_threads.specs.Counting.{Counts};
 ghost use Rattle.auc_threads.specs.Placed.{Placed};
-ghost use Rattle.auc_threads.specs.Starts.{AreNewSeats, IsObjectResult, IsObjectStart, IsPersonResult, IsPersonStart};
+ghost use Rattle.auc_threads.specs.Starts.{AreNewSeats, IsBuyerStart, IsObjectResult, IsObjectStart, IsPersonResult};
 ghost use Rattle.auc_threads.specs.Taking.{TookMore};
 
+use crate::bidding::Buyer;
 use crate::error::RunError;
 use crate::gate::Gate;
 use crate::hub::{HubWork, close_all, count};
@@ -22,7 +23,7 @@ use crate::person_worker::PersonWork;
 use auc_book::MailBrand;
 use auc_graph::Rows;
 use auc_objects::ObjectShard;
-use auc_persons::PersonShard;
+use auc_persons::{Candidates, PersonShard};
 use auc_world::Limits;
 use std::alloc::{AllocError, Global};
 use std::sync::Wait;
@@ -45,7 +46,7 @@ pub(crate) struct Works<O: MailBrand, P: MailBrand, H: MailBrand> {
     pub(crate) hub: HubWork<O, P, H>,
 }
 
-/// The workers of the persons, by their seats.
+/// The workers of the persons, by their seats, each with empty lists of candidates. In a phase no copy of a price falls, so what is put into them stays right.
 fn person_starts<O: MailBrand, P: MailBrand, H: MailBrand>(
     alloc: Global,
     rows: &Rows,
@@ -56,7 +57,7 @@ fn person_starts<O: MailBrand, P: MailBrand, H: MailBrand>(
     requires prices { ArePrices rows.now prices.now }
     requires seats { Placed (λ k w. AreNewSeats k w.objects w.persons w.hub) 0 seats.items }
     requires many { vec_len seats ≡ limits.now.shards }
-    ensures starts { IfOk result (λ v. Placed (λ k x. IsPersonStart rows.now limits.now.shards limits.now.bids prices.now k x.shard x.seats.objects x.seats.persons x.seats.hub) 0 v.items) }
+    ensures starts { IfOk result (λ v. Placed (λ k x. IsBuyerStart rows.now limits.now.shards limits.now.bids prices.now k x.buyer.shard x.buyer.lists x.seats.objects x.seats.persons x.seats.hub) 0 v.items) }
     ensures many { IfOk result (λ v. vec_len v ≡ limits.now.shards) }
 {
     let shards = limits.shards;
@@ -66,7 +67,9 @@ fn person_starts<O: MailBrand, P: MailBrand, H: MailBrand>(
     let mut number: u32 = 0;
     for seats in seats {
         let shard = PersonShard::make(alloc, number, shards, shards, persons, prices, bids)?;
-        starts.push_reserved(PersonStart { shard, seats });
+        let lists = Candidates::make(alloc, rows, number, shards)?;
+        let buyer = Buyer { shard, lists };
+        starts.push_reserved(PersonStart { buyer, seats });
         number += 1;
     }
     Ok(starts)
@@ -109,7 +112,7 @@ pub(crate) fn starts_of<O: MailBrand, P: MailBrand, H: MailBrand>(
     requires limits { AreThreadLimits limits.now }
     requires seats { Placed (λ k w. AreNewSeats k w.objects w.persons w.hub) 0 seats.items }
     requires many { vec_len seats ≡ workers_of limits.now.shards }
-    ensures persons { IfOk result (λ r. Placed (λ k x. IsPersonStart rows.now limits.now.shards limits.now.bids prices.now k x.shard x.seats.objects x.seats.persons x.seats.hub) 0 r.persons.items) }
+    ensures persons { IfOk result (λ r. Placed (λ k x. IsBuyerStart rows.now limits.now.shards limits.now.bids prices.now k x.buyer.shard x.buyer.lists x.seats.objects x.seats.persons x.seats.hub) 0 r.persons.items) }
     ensures persons_many { IfOk result (λ r. vec_len r.persons ≡ limits.now.shards) }
     ensures objects { IfOk result (λ r. Placed (λ k x. IsObjectStart limits.now.shards (length rows.now.rows) prices.now k x.shard x.seats.objects x.seats.persons x.seats.hub) 0 r.objects.items) }
     ensures objects_many { IfOk result (λ r. vec_len r.objects ≡ limits.now.shards) }
@@ -185,7 +188,7 @@ fn run_all<
 ) -> Result<Works<O, P, H>, RunError>
     requires prices { ArePrices rows.now prices.now }
     requires eps { IsEps pace.now.eps }
-    requires persons { Placed (λ k x. IsPersonStart rows.now mails.now.shards bids prices.now k x.shard x.seats.objects x.seats.persons x.seats.hub) 0 starts.persons.items }
+    requires persons { Placed (λ k x. IsBuyerStart rows.now mails.now.shards bids prices.now k x.buyer.shard x.buyer.lists x.seats.objects x.seats.persons x.seats.hub) 0 starts.persons.items }
     requires persons_many { vec_len starts.persons ≡ mails.now.shards }
     requires objects { Placed (λ k x. IsObjectStart mails.now.shards (length rows.now.rows) prices.now k x.shard x.seats.objects x.seats.persons x.seats.hub) 0 starts.objects.items }
     requires objects_many { vec_len starts.objects ≡ mails.now.shards }
@@ -267,7 +270,7 @@ pub(crate) fn run_in_scope<
 ) -> Result<Works<O, P, H>, RunError>
     requires prices { ArePrices rows.now prices.now }
     requires eps { IsEps pace.now.eps }
-    requires persons { Placed (λ k x. IsPersonStart rows.now mails.now.shards bids prices.now k x.shard x.seats.objects x.seats.persons x.seats.hub) 0 starts.persons.items }
+    requires persons { Placed (λ k x. IsBuyerStart rows.now mails.now.shards bids prices.now k x.buyer.shard x.buyer.lists x.seats.objects x.seats.persons x.seats.hub) 0 starts.persons.items }
     requires persons_many { vec_len starts.persons ≡ mails.now.shards }
     requires objects { Placed (λ k x. IsObjectStart mails.now.shards (length rows.now.rows) prices.now k x.shard x.seats.objects x.seats.persons x.seats.hub) 0 starts.objects.items }
     requires objects_many { vec_len starts.objects ≡ mails.now.shards }
@@ -284,7 +287,7 @@ pub(crate) fn run_in_scope<
         |scope| -> Result<Works<O, P, H>, RunError>
             requires prices { ArePrices rows.now prices.now }
             requires eps { IsEps pace.now.eps }
-            requires persons { Placed (λ k x. IsPersonStart rows.now mails.now.shards bids prices.now k x.shard x.seats.objects x.seats.persons x.seats.hub) 0 starts.persons.items }
+            requires persons { Placed (λ k x. IsBuyerStart rows.now mails.now.shards bids prices.now k x.buyer.shard x.buyer.lists x.seats.objects x.seats.persons x.seats.hub) 0 starts.persons.items }
             requires persons_many { vec_len starts.persons ≡ mails.now.shards }
             requires objects { Placed (λ k x. IsObjectStart mails.now.shards (length rows.now.rows) prices.now k x.shard x.seats.objects x.seats.persons x.seats.hub) 0 starts.objects.items }
             requires objects_many { vec_len starts.objects ≡ mails.now.shards }

@@ -21,8 +21,4 @@ loop-preserved g c =
 
 pub returns-then-ne-clause-sells : goal.returns-then-ne-clause-sells
 returns-then-ne-clause-sells g c =
-    let inv = c.loop.invariant in
-    let step = c.serve-step.ensures in
-    let mid = sells_then c.args.duty.eps g.O.MailBrand.room c.args.shard c.args.seats.objects c.loop.shard c.loop.seats.objects c.serve-step.new.shard c.serve-step.new.seats.objects inv.sells step.sells in
-    sells_then c.args.duty.eps g.O.MailBrand.room c.args.shard c.args.seats.objects c.serve-step.new.shard c.serve-step.new.seats.objects c.serve-step.new.shard c.end-why.new.seats.objects mid
-    (sells_none c.args.duty.eps g.O.MailBrand.room c.serve-step.new.shard c.serve-step.new.seats.objects c.end-why.new.seats.objects c.end-why.ensures.objects)
+    sells_then c.args.duty.eps g.O.MailBrand.room c.args.shard c.args.seats.objects c.loop.shard c.loop.seats.objects c.serve-step.new.shard c.serve-step.new.seats.objects c.loop.invariant.sells c.serve-step.ensures.sells

@@ -1,4 +1,5 @@
-use Rattle.std.proofs.Common.{[]}
+use Rattle.std.proofs.Common.{◌≡◌, []}
+use Rattle.auc_persons.specs.Candidates.{Kept}
 use Rattle.auc_world.specs.Parts.{IsPersonShard}
 use Rattle.auc_threads.specs.Taking.{TookMore}
 use Rattle.auc_threads.specs.Hearing.{Hears}
@@ -6,8 +7,9 @@ use Rattle.auc_threads.proofs.person_worker.buy.Given as goal
 
 abbrev pub invariant-loop : goal.invariant-loop
 invariant-loop g l = record {
-  is : IsPersonShard l.rows l.mails.shards l.number l.shard;
-  hears : Hears g.P.MailBrand.room l.fn.shard l.fn.seats.persons l.shard l.seats.persons ⊥;
+  is : IsPersonShard l.rows l.mails.shards l.number l.buyer.shard;
+  kept : Kept l.rows l.buyer.shard.copies l.buyer.lists;
+  hears : Hears g.P.MailBrand.room l.fn.buyer.shard l.fn.seats.persons l.buyer.shard l.seats.persons ⊥;
   objects : TookMore g.O.MailBrand.room l.fn.seats.objects [] l.seats.objects;
-  hub : TookMore g.H.MailBrand.room l.fn.seats.hub [] l.seats.hub;
+  hub : l.seats.hub ≡ l.fn.seats.hub;
 }

@@ -14,5 +14,5 @@ loop-seats-preserved g c =
       many = omega (arith, inv.many, step.1);
       so_far = omega (arith, inv.so_far, pushed.len);
       room = omega (arith, inv.room, pushed.capacity);
-      starts = placed_more _ c.loop-seats.number c.loop-seats.starts.items c.push_reserved.new.self.items _ inv.starts (search rules) pushed.items (record { shard = search rules; seats = left.0 });
+      starts = placed_more _ c.loop-seats.number c.loop-seats.starts.items c.push_reserved.new.self.items _ inv.starts (search rules) pushed.items (record { begins = record { shard = search rules; seats = left.0 }; kept = search rules });
     }

@@ -1,8 +1,8 @@
 use Rattle.auc_threads.proofs.HearingLaws.{hears_fault, hears_ok}
-use Rattle.auc_threads.proofs.person_worker.hear_letter.Goals as goal
+use Rattle.auc_threads.proofs.hearing.hear_letter.Goals as goal
 
 pub returns-in-Err-clause-hears : goal.returns-in-Err-clause-hears
 returns-in-Err-clause-hears c = hears_fault c.args.shard.now c.on_letter.new.self c.args.letter c.in-Err.fault c.reason_for.result _ c.in-Err.ensures.exact c.reason_for.ensures (λ e. cc)
 
 pub returns-in-Ok-clause-hears : goal.returns-in-Ok-clause-hears
-returns-in-Ok-clause-hears c = hears_ok c.args.shard.now c.on_letter.new.self c.args.letter tt _ c.in-Ok.ensures.exact (λ e. cc)
+returns-in-Ok-clause-hears c = hears_ok c.args.shard.now c.on_letter.new.self c.args.letter tt _ c.in-Ok.ensures.exact c.in-Ok.ensures.rise (λ e. cc)

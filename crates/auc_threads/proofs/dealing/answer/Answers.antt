@@ -2,8 +2,8 @@ use Rattle.std.proofs.Common.{rules, arith, ap, ◌∙◌, ◌<◌, w64}
 use Rattle.std.specs.Prelude.{FitsSigned}
 use Rattle.std.proofs.lemmas.Int.{to_z-of_z}
 use Rattle.auc_objects.specs.Objects.{Objects, sale_of}
-use Rattle.auc_world.proofs.Keeping.{answers_reach}
-use Rattle.auc_threads.proofs.object_worker.answer.Goals as goal
+use Rattle.auc_threads.proofs.SalesLaws.{answers_go}
+use Rattle.auc_threads.proofs.dealing.answer.Goals as goal
 
 pub returns-clause-sold : goal.returns-clause-sold
 returns-clause-sold c j own =
@@ -17,4 +17,4 @@ returns-clause-reach c =
     let fits : FitsSigned w64 c.args.duty.eps = search rules in
     let letters = simp to_z-of_z at c.answer-answers.ensures.letters in
     let some : 0 < c.args.shards = omega (arith, c.requires.known) in
-    rw (letters, c.requires.tells) (answers_reach c.args.shards c.args.duty.eps (sale_of c.args.shard.now c.in_ok-offer.offer.object) c.in_ok-offer.offer some)
+    rw (letters, c.requires.tells) (answers_go c.args.shards c.args.duty.eps (sale_of c.args.shard.now c.in_ok-offer.offer.object) c.in_ok-offer.offer some)

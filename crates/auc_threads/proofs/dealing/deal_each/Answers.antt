@@ -1,5 +1,5 @@
 use Rattle.auc_threads.proofs.SalesLaws.{duty_then, sells_one, sells_then}
-use Rattle.auc_threads.proofs.object_worker.deal_waiting.Goals as goal
+use Rattle.auc_threads.proofs.dealing.deal_each.Goals as goal
 
 pub returns-then-ne-clause-sells : goal.returns-then-ne-clause-sells
 returns-then-ne-clause-sells g c =
@@ -13,7 +13,5 @@ loop-preserved g c =
     record {
       duty = duty_then _ _ _ _ _ step.shape inv.duty;
       sells = sells_then _ _ _ _ _ _ _ _ inv.sells (sells_one _ _ _ _ _ _ _ step.shape c.take-taken.ensures step.sold);
-      persons = inv.persons;
-      hub = inv.hub;
       reach = step.reach;
     }

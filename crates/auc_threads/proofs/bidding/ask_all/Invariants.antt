@@ -1,0 +1,13 @@
+use Rattle.std.proofs.Common.{◌≡◌, All}
+use Rattle.auc_persons.specs.Candidates.{Kept}
+use Rattle.auc_world.specs.Parts.{IsPersonShard}
+use Rattle.auc_threads.specs.Taking.{GoesWithin}
+use Rattle.auc_threads.proofs.bidding.ask_all.Given as goal
+
+abbrev pub invariant-loop : goal.invariant-loop
+invariant-loop l = record {
+  is : IsPersonShard l.rows l.shards l.number l.buyer.shard;
+  kept : Kept l.rows l.buyer.shard.copies l.buyer.lists;
+  copies : l.buyer.shard.copies ≡ l.fn.buyer.shard.copies;
+  reach : All (GoesWithin l.shards) l.bids.items;
+}

@@ -1,0 +1,9 @@
+use Rattle.auc_world.specs.Parts.{IsPersonShard}
+use Rattle.auc_threads.specs.Hearing.{Hears}
+use Rattle.auc_threads.proofs.hearing.hear_each.Given as goal
+
+abbrev pub invariant-loop : goal.invariant-loop
+invariant-loop g l = record {
+  is : IsPersonShard l.rows l.shards l.number l.shard;
+  hears : Hears g.N.MailBrand.room l.fn.shard l.fn.seat l.shard l.seat ⊥;
+}

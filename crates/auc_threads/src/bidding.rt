@@ -1,0 +1,97 @@
+//! What a worker of the persons bids.
+
+ghost use Rattle.std.specs.Prelude.{◌≡◌, ◌≢◌, ◌<◌, [], All};
+ghost use Rattle.auc_letters.specs.declared.letter.Why.{Why};
+ghost use Rattle.auc_letters.specs.Price.{IsEps};
+ghost use Rattle.auc_persons.specs.Candidates.{Kept};
+ghost use Rattle.auc_world.specs.Parts.{IsPersonShard};
+ghost use Rattle.auc_threads.specs.Taking.{GoesWithin, TookMore};
+ghost use Rattle.auc_threads.specs.Hearing.{SomebodyStuck};
+
+use crate::calls::{BATCH, Calls, Step};
+use crate::gate::Gate;
+use arrayvec::ArrayVec;
+use auc_book::{MailBrand, Seat, SharedMail};
+use auc_graph::Rows;
+use auc_letters::{Letter, Out, Why};
+use auc_persons::{Bidding, Candidates, PersonShard};
+use std::sync::Wait;
+
+/// A shard of the persons, and the lists by which it bids.
+#[derive(Drop)]
+pub(crate) struct Buyer {
+    pub(crate) shard: PersonShard,
+    pub(crate) lists: Candidates,
+}
+
+/// Asks for the next bid.
+fn ask(rows: &Rows, shards: u32, number: u32, eps: i64, buyer: &mut Buyer) -> Bidding
+    requires shard { IsPersonShard rows.now shards number buyer.old.shard }
+    requires kept { Kept rows.now buyer.old.shard.copies buyer.old.lists }
+    requires known { number < shards }
+    requires eps { IsEps eps }
+    ensures is { IsPersonShard rows.now shards number buyer.new.shard }
+    ensures kept { Kept rows.now buyer.new.shard.copies buyer.new.lists }
+    ensures copies { buyer.new.shard.copies ≡ buyer.old.shard.copies }
+    ensures stuck { result ≡ Bidding.Stop Why.Stuck → SomebodyStuck rows.now }
+    ensures why { result ≢ Bidding.Stop Why.Fell }
+    ensures reach { (o : _) → result ≡ Bidding.Out o → GoesWithin shards o }
+{
+    let _ = shards;
+    let _ = number;
+    let lists = &mut buyer.lists;
+    buyer.shard.next_bid_by(rows, eps, lists)
+}
+
+/// Asks for bids until nobody is free, but no more than `most`, nor more than find a place.
+pub(crate) fn ask_all(
+    rows: &Rows,
+    shards: u32,
+    number: u32,
+    eps: i64,
+    buyer: &mut Buyer,
+    bids: &mut ArrayVec<Out, BATCH>,
+    most: usize,
+) -> Step
+    requires shard { IsPersonShard rows.now shards number buyer.old.shard }
+    requires kept { Kept rows.now buyer.old.shard.copies buyer.old.lists }
+    requires known { number < shards }
+    requires eps { IsEps eps }
+    requires reach { All (GoesWithin shards) bids.old.items }
+    ensures is { IsPersonShard rows.now shards number buyer.new.shard }
+    ensures kept { Kept rows.now buyer.new.shard.copies buyer.new.lists }
+    ensures copies { buyer.new.shard.copies ≡ buyer.old.shard.copies }
+    ensures stuck { result ≡ Step.Stop Why.Stuck → SomebodyStuck rows.now }
+    ensures why { result ≢ Step.Stop Why.Fell }
+    ensures reach { All (GoesWithin shards) bids.new.items }
+{
+    for _ in 0..most {
+        if bids.is_full() {
+            return Step::On;
+        }
+        match ask(rows, shards, number, eps, buyer) {
+            Bidding::Idle => return Step::On,
+            Bidding::Stop { why } => return Step::Stop { why },
+            Bidding::Out { out } => bids.push(out),
+        }
+    }
+    Step::On
+}
+
+/// Posts the bids in order.
+pub(crate) fn send_bids<N: MailBrand, R: Wait, G: Gate>(
+    rt: &R,
+    gate: &G,
+    mail: &SharedMail<Letter, N>,
+    seat: &mut Seat<Letter, N>,
+    bids: &[Out],
+) -> Step
+    requires { All (GoesWithin N.boxes) bids.now }
+    ensures took { TookMore N.room seat.old [] seat.new }
+    ensures why { (result ≢ Step.Stop Why.Stuck) × (result ≢ Step.Stop Why.Fell) }
+{
+    let mut calls = Calls::begin(rt, gate, mail);
+    let step = calls.post_all(seat, bids);
+    calls.end();
+    step
+}

@@ -1,6 +1,6 @@
 -- The phases of a run, one more, and what the last one decides.
 use Rattle.std.proofs.Common.{◌≡◌, ◌≢◌, ℕ, ℤ, map, pos, true, false, Bool, List, [], ◌∷◌, ◌++◌, Some, None, refl, ap, sym, ◌∙◌, subst, append_assoc}
-use Rattle.std.specs.Prelude.{◌↔◌, Option, replicate}
+use Rattle.std.specs.Prelude.{◌↔◌, Option}
 use Rattle.auc_graph.specs.declared.arc.Arc.{Arc}
 use Rattle.auc_graph.specs.Assignment.{IsAssignment, total_cost}
 use Rattle.auc_graph.specs.HallSet.{IsHallSet}
@@ -15,7 +15,8 @@ use Rattle.auc_world.specs.declared.answer.Guard.{Guard}
 use Rattle.auc_world.specs.declared.gathering.Gathered.{Gathered}
 use Rattle.auc_world.specs.declared.limits.Limits.{Limits}
 use Rattle.auc_world.specs.Answers.{HasAssignment, IsHallCertificate, IsInfeasibleAnswer}
-use Rattle.auc_world.specs.Eps.{first_eps, next_eps}
+use Rattle.auc_world.specs.Chain.{Begins}
+use Rattle.auc_world.specs.Eps.{next_eps}
 use Rattle.auc_world.specs.Making.{ArePrices}
 use Rattle.auc_world.specs.Phases.{NobodyStuck}
 use Rattle.auc_threads.specs.declared.phase.PhaseEnd.{PhaseEnd}
@@ -73,37 +74,35 @@ module _ (p : Problem) (no_hall : (p : Problem) (persons objects : List ℕ) →
 
 -- ---- one phase more
 
--- What is known before a phase at this eps and these prices: behind the phases so far, those from it on are a run.
-abbrev pub IsReady : Problem → Table → Limits → List PhaseEnd → ℤ → List ℤ → Type 0
-IsReady p t limits done eps prices = (later : List PhaseEnd) (answer : Answer) → Runs p t limits eps prices later answer → Runs p t limits (first_eps t) (replicate t.objects (pos 0)) (done ++ later) answer
+-- What is known before a phase at this eps and these prices: behind the phases so far, those from it on are a run from the first ones.
+abbrev pub IsReady : Problem → Table → Limits → ℤ → List ℤ → List PhaseEnd → ℤ → List ℤ → Type 0
+IsReady p t limits first from done eps prices = (later : List PhaseEnd) (answer : Answer) → Runs p t limits eps prices later answer → Runs p t limits first from (done ++ later) answer
 
-pub ready_first : (p : Problem) (t : Table) (limits : Limits) (done : List PhaseEnd) (n : ℕ) (prices : List ℤ) (eps : ℤ) → done ≡ [] → n ≡ t.objects → prices ≡ replicate n (pos 0) → eps ≡ first_eps t → IsReady p t limits done eps prices
-ready_first p t limits done n prices eps none all zeros first later answer runs =
-    subst (λ (xs : List PhaseEnd). Runs p t limits (first_eps t) (replicate t.objects (pos 0)) (xs ++ later) answer) (sym none)
-    (subst (λ (ps : List ℤ). Runs p t limits (first_eps t) ps later answer) (zeros ∙ ap (λ (m : ℕ). replicate m (pos 0)) all) (subst (λ (z : ℤ). Runs p t limits z prices later answer) first runs))
+pub ready_first : (p : Problem) (t : Table) (limits : Limits) (done : List PhaseEnd) (eps : ℤ) (prices : List ℤ) → done ≡ [] → IsReady p t limits eps prices done eps prices
+ready_first p t limits done eps prices none later answer runs = subst (λ (xs : List PhaseEnd). Runs p t limits eps prices (xs ++ later) answer) (sym none) runs
 
-module _ (p : Problem) (t : Table) (limits : Limits) (done : List PhaseEnd) (eps : ℤ) (prices : List ℤ) (e : PhaseEnd) (is : IsPhase t limits eps prices e) (ready : IsReady p t limits done eps prices) where
-  put_behind : (later : List PhaseEnd) (answer : Answer) → Runs p t limits (first_eps t) (replicate t.objects (pos 0)) (done ++ e ∷ later) answer → Runs p t limits (first_eps t) (replicate t.objects (pos 0)) ((done ++ e ∷ []) ++ later) answer
-  put_behind later answer runs = subst (λ (xs : List PhaseEnd). Runs p t limits (first_eps t) (replicate t.objects (pos 0)) xs answer) (sym (append_assoc done (e ∷ []) later)) runs
+module _ (p : Problem) (t : Table) (limits : Limits) (first : ℤ) (from : List ℤ) (done : List PhaseEnd) (eps : ℤ) (prices : List ℤ) (e : PhaseEnd) (is : IsPhase t limits eps prices e) (ready : IsReady p t limits first from done eps prices) where
+  put_behind : (later : List PhaseEnd) (answer : Answer) → Runs p t limits first from (done ++ e ∷ later) answer → Runs p t limits first from ((done ++ e ∷ []) ++ later) answer
+  put_behind later answer runs = subst (λ (xs : List PhaseEnd). Runs p t limits first from xs answer) (sym (append_assoc done (e ∷ []) later)) runs
 
   with_next : (next : ℤ) → verdict_of limits e ≡ Verdict.Sold → next_eps eps ≡ Some next → (later : List PhaseEnd) (answer : Answer) → Runs p t limits next e.gathered.prices.items later answer → Runs p t limits eps prices (e ∷ later) answer
   with_next next sold more [] answer runs = absurd runs
   with_next next sold more (f ∷ rest) answer runs = (is, sold, (next, more, runs))
 
-  pub ready_next : (all : List PhaseEnd) (next : ℤ) (v : Verdict) (left : List ℤ) → all ≡ done ++ e ∷ [] → v ≡ verdict_of limits e → (v ≡ Verdict.Sold) × (next_eps eps ≡ Some next) → left ≡ e.gathered.prices.items → IsReady p t limits all next left
+  pub ready_next : (all : List PhaseEnd) (next : ℤ) (v : Verdict) (left : List ℤ) → all ≡ done ++ e ∷ [] → v ≡ verdict_of limits e → (v ≡ Verdict.Sold) × (next_eps eps ≡ Some next) → left ≡ e.gathered.prices.items → IsReady p t limits first from all next left
   ready_next all next v left pushed was more kept later answer runs =
-      subst (λ (xs : List PhaseEnd). Runs p t limits (first_eps t) (replicate t.objects (pos 0)) (xs ++ later) answer) (sym pushed)
+      subst (λ (xs : List PhaseEnd). Runs p t limits first from (xs ++ later) answer) (sym pushed)
       (put_behind later answer (ready (e ∷ later) answer (with_next next (sym was ∙ more.0) more.1 later answer (subst (λ (ps : List ℤ). Runs p t limits next ps later answer) kept runs))))
 
   -- or the last one
-  solved_by : (xs : List PhaseEnd) (answer : Answer) → IsTableOf p t → HasAssignment p → Runs p t limits (first_eps t) (replicate t.objects (pos 0)) xs answer → IsSolvedBy p limits xs answer
-  solved_by [] answer of has runs = absurd runs
-  solved_by (x ∷ xs) answer of has runs = (has, (t, of, runs))
+  solved_by : (start : Option (List ℤ)) (xs : List PhaseEnd) (answer : Answer) → IsTableOf p t → HasAssignment p → Begins t start first from → Runs p t limits first from xs answer → IsSolvedBy p limits start xs answer
+  solved_by start [] answer of has begins runs = absurd runs
+  solved_by start (x ∷ xs) answer of has begins runs = (has, (t, of, (first, from, begins, runs)))
 
-  pub ready_last : (all : List PhaseEnd) (v : Verdict) (answer : Answer) → IsTableOf p t → HasAssignment p → all ≡ done ++ e ∷ [] → v ≡ verdict_of limits e → (v ≡ Verdict.Sold → next_eps eps ≡ None) → Decides p e.gathered v answer → IsSolvedBy p limits all answer
-  ready_last all v answer of has pushed was last decided =
+  pub ready_last : (start : Option (List ℤ)) → Begins t start first from → (all : List PhaseEnd) (v : Verdict) (answer : Answer) → IsTableOf p t → HasAssignment p → all ≡ done ++ e ∷ [] → v ≡ verdict_of limits e → (v ≡ Verdict.Sold → next_eps eps ≡ None) → Decides p e.gathered v answer → IsSolvedBy p limits start all answer
+  ready_last start begins all v answer of has pushed was last decided =
       let here : Runs p t limits eps prices (e ∷ []) answer = (is, (λ sold. last (was ∙ sold)), subst (λ (w : Verdict). Decides p e.gathered w answer) was decided) in
-      solved_by all answer of has (subst (λ (xs : List PhaseEnd). Runs p t limits (first_eps t) (replicate t.objects (pos 0)) xs answer) (sym pushed) (ready (e ∷ []) answer here))
+      solved_by start all answer of has begins (subst (λ (xs : List PhaseEnd). Runs p t limits first from xs answer) (sym pushed) (ready (e ∷ []) answer here))
 
 pub prices_left : (t : Table) (prices left : List ℤ) → left ≡ prices → ArePrices t prices → ArePrices t left
 prices_left t prices left e are = subst (ArePrices t) (sym e) are

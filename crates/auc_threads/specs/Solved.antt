@@ -1,12 +1,13 @@
 -- The phases of a run in threads, each from what the one before has left, and its answer.
-use Rattle.std.specs.Prelude.{ℤ, pos, ◌≡◌, ◌≢◌, List, [], ◌∷◌, Some, None, replicate}
+use Rattle.std.specs.Prelude.{ℤ, ◌≡◌, ◌≢◌, List, [], ◌∷◌, Option, Some, None}
 use Rattle.auc_graph.specs.Problem.{Problem}
 use Rattle.auc_graph.specs.Table.{IsTableOf, Table}
 use Rattle.auc_world.specs.declared.answer.Answer.{Answer}
 use Rattle.auc_world.specs.declared.answer.Guard.{Guard}
 use Rattle.auc_world.specs.declared.limits.Limits.{Limits}
 use Rattle.auc_world.specs.Answers.{HasAssignment, IsBracketCertificate, IsHallCertificate, IsInfeasibleAnswer, IsLeastCertificate}
-use Rattle.auc_world.specs.Eps.{first_eps, next_eps}
+use Rattle.auc_world.specs.Chain.{Begins}
+use Rattle.auc_world.specs.Eps.{next_eps}
 use Rattle.auc_threads.specs.declared.phase.PhaseEnd.{PhaseEnd}
 use Rattle.auc_threads.specs.declared.verdict.Verdict.{Verdict}
 use Rattle.auc_threads.specs.Phase.{IsPhase}
@@ -33,7 +34,8 @@ Runs p t limits eps prices (e ∷ []) answer = IsPhase t limits eps prices e × 
 Runs p t limits eps prices (e ∷ f ∷ rest) answer =
     IsPhase t limits eps prices e × (verdict_of limits e ≡ Verdict.Sold) × ((next : ℤ) × (next_eps eps ≡ Some next) × Runs p t limits next e.gathered.prices.items (f ∷ rest) answer)
 
--- There is no phase where some persons know too few objects. Else there is an assignment, and the first phase is at the first eps and prices of 0.
-abbrev pub IsSolvedBy : Problem → Limits → List PhaseEnd → Answer → Type 0
-IsSolvedBy p limits [] answer = IsInfeasibleAnswer p answer
-IsSolvedBy p limits (e ∷ rest) answer = HasAssignment p × ((t : Table) × IsTableOf p t × Runs p t limits (first_eps t) (replicate t.objects (pos 0)) (e ∷ rest) answer)
+-- There is no phase where some persons know too few objects. Else there is an assignment, and the first phase begins as from nothing, at the first
+-- eps and prices of 0, or from start prices, at eps 1.
+abbrev pub IsSolvedBy : Problem → Limits → Option (List ℤ) → List PhaseEnd → Answer → Type 0
+IsSolvedBy p limits start [] answer = IsInfeasibleAnswer p answer
+IsSolvedBy p limits start (e ∷ rest) answer = HasAssignment p × ((t : Table) × IsTableOf p t × ((eps : ℤ) × (prices : List ℤ) × Begins t start eps prices × Runs p t limits eps prices (e ∷ rest) answer))

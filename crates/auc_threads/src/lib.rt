@@ -28,5 +28,5 @@ pub use gate::{FreeGate, Gate};
 pub use mails::{Ledgers, Mails, WorkerSeats};
 pub use phase::{PhaseEnd, phase_threads};
 pub use settling::Trails;
-pub use solving::{Solved, solve_threads};
+pub use solving::{Solved, solve_threads, solve_threads_from};
 pub use verdict::{Verdict, verdict_of};

@@ -1,10 +1,13 @@
 //! The solver in threads: epsilon scaling over phases, each in threads of its own.
 
-ghost use Rattle.std.specs.Prelude.{◌≡◌, ◌<ℤ◌, ◌↔◌, [], ◌∷◌, ◌++◌, IfOk, OnOk, IfSome, IfNone, Some, None};
+ghost use Rattle.std.specs.Prelude.{◌≡◌, ◌<ℤ◌, ◌↔◌, [], ◌∷◌, ◌++◌, IfOk, OnOk, IfSome, IfNone, Some, None, Option, List, ℤ};
 ghost use Rattle.auc_graph.specs.Table.{IsTableOf};
+ghost use Rattle.auc_cert.specs.Start.{AreStart};
 ghost use Rattle.auc_letters.specs.Price.{IsEps};
 ghost use Rattle.auc_world.specs.Answers.{HasAssignment};
+ghost use Rattle.auc_world.specs.Chain.{Begins};
 ghost use Rattle.auc_world.specs.Eps.{next_eps};
+ghost use Rattle.auc_world.specs.Making.{ArePrices};
 ghost use Rattle.auc_world.specs.Phases.{NobodyStuck};
 ghost use Rattle.auc_threads.specs.Naming.{AreThreadLimits};
 ghost use Rattle.auc_threads.specs.Solved.{IsInfeasible, IsSolvedBy, IsThreadAnswer};
@@ -14,9 +17,8 @@ use crate::gate::Gate;
 use crate::phase::{PhaseEnd, phase_threads};
 use crate::verdict::{Verdict, decide, verdict_of};
 use auc_graph::{ArcList, Rows};
-use auc_hall::{Matching, Partial, complete, hall_sets_leave_no_assignment};
-use auc_world::finish::infeasible;
-use auc_world::{Answer, Limits, first_eps, next_eps};
+use auc_hall::hall_sets_leave_no_assignment;
+use auc_world::{Answer, LAST_EPS, Limits, Prepared, first_eps, next_eps, prepare};
 use std::alloc::{AllocError, Global};
 use std::sync::Wait;
 use std::thread::Threads;
@@ -51,27 +53,31 @@ fn note(phases: &mut Vec<PhaseEnd>, ended: PhaseEnd) -> Result<(), AllocError>
     Ok(())
 }
 
-/// Solves a problem that has an assignment: a phase at each eps, and each begins with the prices of the one before.
+/// Solves a problem that has an assignment: a phase at each eps, and each begins with the prices of the one before, the first with these.
 fn solve_rows<R: Threads + Wait + Sync, G: Gate + Sync>(
     rt: &R,
     alloc: Global,
     problem: &ArcList,
     rows: &Rows,
     limits: &Limits,
+    eps: i64,
+    prices: Vec<i64>,
     gate: &G,
 ) -> Result<Solved, RunError>
     requires rows { IsTableOf problem.now rows.now }
     requires limits { AreThreadLimits limits.now }
     requires arcs { NobodyStuck rows.now }
     requires assignment { HasAssignment problem.now }
-    ensures run { IfOk result (λ s. IsSolvedBy problem.now limits.now s.phases.items s.answer) }
+    requires eps { IsEps eps }
+    requires prices { ArePrices rows.now prices.items }
+    ensures run { (start : Option (List ℤ)) → Begins rows.now start eps prices.items → IfOk result (λ s. IsSolvedBy problem.now limits.now start s.phases.items s.answer) }
     ensures answer { IfOk result (λ s. IsThreadAnswer problem.now s.answer) }
     ensures infeasible { IfOk result (λ s. (s.phases.items ≡ []) ↔ IsInfeasible s.answer) }
 {
     hall_sets_leave_no_assignment();
     let mut phases = Vec::new(alloc);
-    let mut prices = vec![in alloc; 0; rows.objects() as usize]?;
-    let mut eps = first_eps(rows);
+    let mut prices = prices;
+    let mut eps = eps;
     loop {
         let ended = phase_threads(rt, alloc, rows, limits, prices.as_slice(), eps, gate)?;
         let verdict = verdict_of(limits, &ended);
@@ -83,6 +89,17 @@ fn solve_rows<R: Threads + Wait + Sync, G: Gate + Sync>(
         prices = ended.gathered.prices.as_slice().to_vec(alloc)?;
         note(&mut phases, ended)?;
         eps = next;
+    }
+}
+
+/// The run where there is no assignment.
+fn unsolved(alloc: Global, answer: Answer) -> Solved
+    ensures answer { result.answer ≡ answer }
+    ensures phases { result.phases.items ≡ [] }
+{
+    Solved {
+        answer,
+        phases: Vec::new(alloc),
     }
 }
 
@@ -110,20 +127,46 @@ pub fn solve_threads<R: Threads + Wait + Sync, G: Gate + Sync>(
     gate: &G,
 ) -> Result<Solved, RunError>
     requires { AreThreadLimits limits.now }
-    ensures run { IfOk result (λ s. IsSolvedBy problem.now limits.now s.phases.items s.answer) }
+    ensures run { IfOk result (λ s. IsSolvedBy problem.now limits.now None s.phases.items s.answer) }
     ensures answer { IfOk result (λ s. IsThreadAnswer problem.now s.answer) }
     ensures infeasible { IfOk result (λ s. (s.phases.items ≡ []) ↔ IsInfeasible s.answer) }
 {
-    let rows = Rows::build(alloc, problem)?;
-    let partial = Partial::new(alloc, &rows)?;
-    match complete(alloc, &rows, partial)? {
-        Matching::Hall { persons, objects } => {
-            let answer = infeasible(alloc, problem, persons, objects)?;
-            Ok(Solved {
-                answer,
-                phases: Vec::new(alloc),
-            })
+    match prepare(alloc, problem)? {
+        Prepared::Answered(answer) => Ok(unsolved(alloc, answer)),
+        Prepared::Rows(rows) => {
+            let prices = vec![in alloc; 0; rows.objects() as usize]?;
+            let eps = first_eps(&rows);
+            solve_rows(rt, alloc, problem, &rows, limits, eps, prices, gate)
         }
-        Matching::Full(_) => solve_rows(rt, alloc, problem, &rows, limits, gate),
+    }
+}
+
+/// Solves a problem as [`solve_threads`] does, but from start prices, in one phase at the last eps: see [`auc_world::solve_serial_from`],
+/// and [`auc_cert::start_prices`] for those of an old certificate. They are scaled costs, indexed by object, from 0 to 2^60, and as many as the
+/// persons.
+///
+/// # Errors
+///
+/// Those of [`solve_threads`].
+pub fn solve_threads_from<R: Threads + Wait + Sync, G: Gate + Sync>(
+    rt: &R,
+    alloc: Global,
+    problem: &ArcList,
+    limits: &Limits,
+    start: &[i64],
+    gate: &G,
+) -> Result<Solved, RunError>
+    requires limits { AreThreadLimits limits.now }
+    requires start { AreStart problem.now start.now }
+    ensures run { IfOk result (λ s. IsSolvedBy problem.now limits.now (Some start.now) s.phases.items s.answer) }
+    ensures answer { IfOk result (λ s. IsThreadAnswer problem.now s.answer) }
+    ensures infeasible { IfOk result (λ s. (s.phases.items ≡ []) ↔ IsInfeasible s.answer) }
+{
+    match prepare(alloc, problem)? {
+        Prepared::Answered(answer) => Ok(unsolved(alloc, answer)),
+        Prepared::Rows(rows) => {
+            let prices = start.to_vec(alloc)?;
+            solve_rows(rt, alloc, problem, &rows, limits, LAST_EPS, prices, gate)
+        }
     }
 }

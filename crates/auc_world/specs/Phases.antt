@@ -9,7 +9,7 @@ use Rattle.auc_model.specs.World.{World, phase_of}
 use Rattle.auc_world.specs.declared.gathering.Gathered.{Gathered}
 use Rattle.auc_world.specs.declared.limits.Limits.{Limits}
 use Rattle.auc_world.specs.declared.solving.Outcome.{Outcome}
-use Rattle.auc_world.specs.declared.solving.Prepared.{Prepared}
+use Rattle.auc_world.specs.declared.preparing.Prepared.{Prepared}
 use Rattle.auc_world.specs.Answers.{HasAssignment, IsInfeasibleAnswer, why_of}
 use Rattle.auc_world.specs.Gathering.{AreSales}
 use Rattle.auc_world.specs.Making.{IsMade}

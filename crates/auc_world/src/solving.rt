@@ -8,18 +8,18 @@ ghost use Rattle.auc_world.specs.Answers.{HasAssignment, IsAnswer};
 ghost use Rattle.auc_world.specs.Chain.{Begins, IsOfRun, MayBegin};
 ghost use Rattle.auc_world.specs.Lists.{MayKeep, StayKept};
 ghost use Rattle.auc_world.specs.Making.{AreLimits, ArePrices};
-ghost use Rattle.auc_world.specs.Phases.{ComesOf, IsPrepared, NobodyStuck};
+ghost use Rattle.auc_world.specs.Phases.{ComesOf, NobodyStuck};
 
 use crate::answer::{Answer, Guard};
 use crate::eps::{LAST_EPS, first_eps, next_eps};
-use crate::finish::{bracket, infeasible, optimal, stop_of};
+use crate::finish::{bracket, optimal, stop_of};
 use crate::gathering::Gathered;
 use crate::limits::Limits;
 use crate::making::new_candidates;
+use crate::preparing::{Prepared, prepare};
 use crate::world::World;
 use auc_cert::Reason;
 use auc_graph::{ArcList, Rows};
-use auc_hall::{Matching, Partial, complete};
 use auc_model::End;
 use auc_persons::Candidates;
 use std::alloc::{AllocError, Global};
@@ -113,27 +113,6 @@ fn solve_rows(
         let Gathered { prices: kept, .. } = gathered;
         prices = kept;
         eps = next;
-    }
-}
-
-/// The rows of a problem that has an assignment, or the answer where it has none.
-#[derive(Drop)]
-enum Prepared {
-    Rows(Rows),
-    Answered(Answer),
-}
-
-/// Lays out the rows and searches an assignment of any cost.
-fn prepare(alloc: Global, problem: &ArcList) -> Result<Prepared, AllocError>
-    ensures { IfOk result (IsPrepared problem.now) }
-{
-    let rows = Rows::build(alloc, problem)?;
-    let partial = Partial::new(alloc, &rows)?;
-    match complete(alloc, &rows, partial)? {
-        Matching::Hall { persons, objects } => {
-            Ok(Prepared::Answered(infeasible(alloc, problem, persons, objects)?))
-        }
-        Matching::Full(_) => Ok(Prepared::Rows(rows)),
     }
 }
 

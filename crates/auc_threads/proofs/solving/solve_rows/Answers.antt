@@ -1,27 +1,26 @@
-use Rattle.std.proofs.Common.{rules, pos, ◌≡◌, ◌∙◌, List, ℤ, subst, sym, to_z, w64}
-use Rattle.std.specs.Prelude.{FitsSigned, replicate}
+use Rattle.std.proofs.Common.{rules, ◌≡◌, ◌∙◌, List, ℤ, subst, sym, of_z, to_z, w64}
+use Rattle.std.specs.Prelude.{FitsSigned}
 use Rattle.std.proofs.lemmas.Int.{to_z-of_z}
-use Rattle.auc_world.proofs.PhaseLaws.{first_prices}
 use Rattle.auc_threads.specs.Phase.{IsPhase}
 use Rattle.auc_threads.proofs.SolvedLaws.{decided_answer, decided_feasible, never_stuck, prices_left, ready_first, ready_last, ready_next, some_phases}
 use Rattle.auc_threads.proofs.solving.solve_rows.Goals as goal
 
 pub loop-prices-init : goal.loop-prices-init
 loop-prices-init g c =
-    let fits : FitsSigned w64 c.first_eps-eps.result = search rules in
-    let zeros : c.in_ok-prices.prices.items ≡ replicate c.objects.result (pos 0) = search rules in
+    let fits : FitsSigned w64 c.args.eps = c.ranges.eps in
     record {
-      prices = first_prices c.args.rows.now c.objects.result c.in_ok-prices.prices.items c.objects.ensures.objects zeros;
-      eps = simp to_z-of_z c.first_eps-eps.ensures.range;
-      ready = simp to_z-of_z (ready_first c.args.problem.now c.args.rows.now c.args.limits.now c.new-phases.result.items c.objects.result c.in_ok-prices.prices.items c.first_eps-eps.result c.new-phases.ensures.items c.objects.ensures.objects zeros c.first_eps-eps.ensures.is);
+      prices = c.requires.prices;
+      eps = simp to_z-of_z c.requires.eps;
+      ready = ready_first c.args.problem.now c.args.rows.now c.args.limits.now c.new-phases.result.items (to_z w64 (of_z w64 c.args.eps)) c.args.prices.items c.new-phases.ensures.items;
     }
 
 pub returns-in_default-clause-run : goal.returns-in_default-clause-run
-returns-in_default-clause-run g c =
+returns-in_default-clause-run g c = λ start begins.
+    let fits : FitsSigned w64 c.args.eps = c.ranges.eps in
     let inv = c.loop-prices.invariant in
     let e = c.in_ok-ended.ended in
     let is : IsPhase c.args.rows.now c.args.limits.now (to_z w64 c.loop-prices.eps-bits) c.loop-prices.prices.items e = subst (λ (ps : List ℤ). IsPhase c.args.rows.now c.args.limits.now (to_z w64 c.loop-prices.eps-bits) ps e) c.as_slice.ensures.value c.in_ok-ended.ensures in
-    ready_last c.args.problem.now c.args.rows.now c.args.limits.now c.loop-prices.phases.items (to_z w64 c.loop-prices.eps-bits) c.loop-prices.prices.items e is inv.ready c.note.new.phases.items c.verdict_of-verdict.result c.in_ok-answer.answer c.requires.rows c.requires.assignment c.in_ok-note.ensures
+    ready_last c.args.problem.now c.args.rows.now c.args.limits.now (to_z w64 (of_z w64 c.args.eps)) c.args.prices.items c.loop-prices.phases.items (to_z w64 c.loop-prices.eps-bits) c.loop-prices.prices.items e is inv.ready start (simp to_z-of_z begins) c.note.new.phases.items c.verdict_of-verdict.result c.in_ok-answer.answer c.requires.rows c.requires.assignment c.in_ok-note.ensures
     c.verdict_of-verdict.ensures c.in_default.ensures.none c.in_ok-answer.ensures
 
 pub returns-in_default-clause-answer : goal.returns-in_default-clause-answer
@@ -46,6 +45,6 @@ loop-prices-preserved g c =
       eps = simp to_z-of_z (c.in-Some.ensures.range inv.eps);
       ready =
           simp to_z-of_z
-          (ready_next c.args.problem.now c.args.rows.now c.args.limits.now c.loop-prices.phases.items (to_z w64 c.loop-prices.eps-bits) c.loop-prices.prices.items e is inv.ready c.note-in-loop-prices.new.phases.items c.in-Some.next c.verdict_of-verdict.result c.in_ok-prices-2.prices.items c.in_ok-note-2.ensures
+          (ready_next c.args.problem.now c.args.rows.now c.args.limits.now (to_z w64 (of_z w64 c.args.eps)) c.args.prices.items c.loop-prices.phases.items (to_z w64 c.loop-prices.eps-bits) c.loop-prices.prices.items e is inv.ready c.note-in-loop-prices.new.phases.items c.in-Some.next c.verdict_of-verdict.result c.in_ok-prices-2.prices.items c.in_ok-note-2.ensures
           c.verdict_of-verdict.ensures c.in-Some.ensures.some left);
     }

@@ -8,7 +8,7 @@ abbrev pub invariant-loop-prices : goal.invariant-loop-prices
 invariant-loop-prices g l = record {
   prices : ArePrices l.rows l.prices.items;
   eps : IsEps l.eps;
-  ready : IsReady l.problem l.rows l.limits l.phases.items l.eps l.prices.items;
+  ready : IsReady l.problem l.rows l.limits l.fn.eps l.fn.prices.items l.phases.items l.eps l.prices.items;
 }
 
 abbrev pub decreases-loop-prices : goal.decreases-loop-prices

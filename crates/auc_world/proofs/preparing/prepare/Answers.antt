@@ -1,6 +1,6 @@
 use Rattle.auc_world.proofs.HallCertificates.{hall_is}
 use Rattle.auc_world.proofs.PhaseLaws.{all_have_arcs, has_assignment}
-use Rattle.auc_world.proofs.solving.prepare.Goals as goal
+use Rattle.auc_world.proofs.preparing.prepare.Goals as goal
 
 pub infeasible-requires : goal.infeasible-requires
 infeasible-requires c = hall_is c.args.problem.now c.in_ok-rows.rows c.in_ok-persons.field-0 c.in-Hall.persons c.in-Hall.objects c.in_ok-rows.ensures c.in_ok-persons.ensures c.in-Hall.is

@@ -1,5 +1,5 @@
 -- What a solve may answer about a problem, the text that tells it, and which answers are right for the bytes of a problem.
-use Rattle.std.specs.Prelude.{ℕ, zero, suc, List, codes, Option, Result, Ok, Err, ⊤}
+use Rattle.std.specs.Prelude.{ℕ, zero, suc, List, codes, Option, None, Result, Ok, Err, ⊤}
 use Rattle.auc_graph.specs.Problem.{Problem}
 use Rattle.auc_cert.specs.Text.{text}
 use Rattle.auc_world.specs.declared.answer.Answer.{Answer}
@@ -12,7 +12,7 @@ use Rattle.auc_world.specs.Chain.{IsOfRun}
 use Rattle.auc_threads.specs.declared.phase.PhaseEnd.{PhaseEnd}
 use Rattle.auc_threads.specs.Solved.{IsSolvedBy, IsThreadAnswer}
 use Rattle.auc_run.specs.declared.refusal.Refusal.{Refusal}
-use Rattle.auc_run.specs.declared.refusal.Refusal.TheVariants.{NotRead, NoProblem, NoCertificate, Invalid, NoScript, NoMemory, NoThreads}
+use Rattle.auc_run.specs.declared.refusal.Refusal.TheVariants.{NotRead, NoProblem, NoCertificate, Invalid, NoStart, NoScript, NoMemory, NoThreads}
 use Rattle.auc_run.specs.Problems.{AreKnown, BearOutRefusal, IsProblemOf}
 
 -- the limits of a solve without threads: one shard of each kind, so many bids, and else the usual numbers
@@ -22,7 +22,7 @@ limits_of bids = record { shards = 1; bids = bids; posts = 1000000000000; audit 
 -- The bytes of a problem bear an answer out, or the refusal. An answer is a certificate in which the checker finds no fault: of a least assignment, of an
 -- assignment and a bound, or that there is none; and it is that of a run by so many bids. No guard is hit.
 abbrev pub BearOutSolved : ℕ → List ℕ → Result Answer Refusal → Type 0
-BearOutSolved bids file (Ok answer) = (p : Problem) × IsProblemOf file p × IsAnswer p answer × IsOfRun p (limits_of bids) answer
+BearOutSolved bids file (Ok answer) = (p : Problem) × IsProblemOf file p × IsAnswer p answer × IsOfRun p (limits_of bids) None answer
 BearOutSolved bids file (Err refusal) = BearOutRefusal file refusal
 
 -- the limits of a solve with threads: so many shards of each kind, bids, and places in each trail, and else the usual numbers
@@ -31,12 +31,13 @@ thread_limits_of workers bids audit = record { shards = workers; bids = bids; po
 
 -- The same of a solve with threads. An answer is that of its phases, of which the last one decides; it may be a guard that was hit.
 abbrev pub BearOutThreads : ℕ → ℕ → ℕ → List ℕ → Result Answer Refusal → Type 0
-BearOutThreads workers bids audit file (Ok answer) = (p : Problem) × IsProblemOf file p × IsThreadAnswer p answer × ((phases : List PhaseEnd) × IsSolvedBy p (thread_limits_of workers bids audit) phases answer)
+BearOutThreads workers bids audit file (Ok answer) = (p : Problem) × IsProblemOf file p × IsThreadAnswer p answer × ((phases : List PhaseEnd) × IsSolvedBy p (thread_limits_of workers bids audit) None phases answer)
 BearOutThreads workers bids audit file (Err NoThreads) = ⊤
 BearOutThreads workers bids audit file (Err (NotRead fault)) = BearOutRefusal file (NotRead fault)
 BearOutThreads workers bids audit file (Err (NoProblem error)) = BearOutRefusal file (NoProblem error)
 BearOutThreads workers bids audit file (Err (NoCertificate error)) = ⊥
 BearOutThreads workers bids audit file (Err (Invalid error)) = ⊥
+BearOutThreads workers bids audit file (Err (NoStart error)) = ⊥
 BearOutThreads workers bids audit file (Err (NoScript error)) = ⊥
 BearOutThreads workers bids audit file (Err NoMemory) = BearOutRefusal file NoMemory
 

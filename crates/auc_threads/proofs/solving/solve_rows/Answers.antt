@@ -39,12 +39,12 @@ loop-prices-preserved g c =
     let inv = c.loop-prices.invariant in
     let e = c.in_ok-ended.ended in
     let is : IsPhase c.args.rows.now c.args.limits.now (to_z w64 c.loop-prices.eps-bits) c.loop-prices.prices.items e = subst (λ (ps : List ℤ). IsPhase c.args.rows.now c.args.limits.now (to_z w64 c.loop-prices.eps-bits) ps e) c.as_slice.ensures.value c.in_ok-ended.ensures in
-    let left : c.in_ok-prices-2.prices.items ≡ e.gathered.prices.items = search rules in
+    let left : c.in_ok-prices.prices.items ≡ e.gathered.prices.items = search rules in
     record {
-      prices = prices_left c.args.rows.now e.gathered.prices.items c.in_ok-prices-2.prices.items left is.prices;
+      prices = prices_left c.args.rows.now e.gathered.prices.items c.in_ok-prices.prices.items left is.prices;
       eps = simp to_z-of_z (c.in-Some.ensures.range inv.eps);
       ready =
           simp to_z-of_z
-          (ready_next c.args.problem.now c.args.rows.now c.args.limits.now (to_z w64 (of_z w64 c.args.eps)) c.args.prices.items c.loop-prices.phases.items (to_z w64 c.loop-prices.eps-bits) c.loop-prices.prices.items e is inv.ready c.note-in-loop-prices.new.phases.items c.in-Some.next c.verdict_of-verdict.result c.in_ok-prices-2.prices.items c.in_ok-note-2.ensures
+          (ready_next c.args.problem.now c.args.rows.now c.args.limits.now (to_z w64 (of_z w64 c.args.eps)) c.args.prices.items c.loop-prices.phases.items (to_z w64 c.loop-prices.eps-bits) c.loop-prices.prices.items e is inv.ready c.note-in-loop-prices.new.phases.items c.in-Some.next c.verdict_of-verdict.result c.in_ok-prices.prices.items c.in_ok-note-2.ensures
           c.verdict_of-verdict.ensures c.in-Some.ensures.some left);
     }

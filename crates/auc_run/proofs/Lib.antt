@@ -4,5 +4,4 @@ mod VerdictLaws
 mod ScriptLaws
 mod ReplyLaws
 mod CompletionLaws
-mod StartLaws
 mod OutcomeLaws

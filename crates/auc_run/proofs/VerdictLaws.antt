@@ -4,7 +4,7 @@ use Rattle.std.specs.Prelude.{IsErrAnd}
 use Rattle.auc_graph.specs.Problem.{Problem}
 use Rattle.auc_run.specs.declared.input.ReadFault.{ReadFault}
 use Rattle.auc_run.specs.declared.refusal.Refusal.{Refusal}
-use Rattle.auc_run.specs.declared.refusal.Refusal.TheVariants.{NotRead, NoProblem, NoCertificate, Invalid, NoStart, NoScript, NoMemory as NoMemoryForJob, NoThreads}
+use Rattle.auc_run.specs.declared.refusal.Refusal.TheVariants.{NotRead, NoProblem, NoCertificate, Invalid, NoScript, NoMemory as NoMemoryForJob, NoThreads}
 use Rattle.auc_run.specs.declared.valid.Valid.{Valid}
 use Rattle.auc_run.specs.Verdicts.{IsVerdict}
 use Rattle.auc_run.specs.Problems.{IsProblemIn}
@@ -25,7 +25,6 @@ not_read a b (NotRead fault) h other = absurd h.2
 not_read a b (NoProblem error) h other = (h.0, known b, h.1, are_known b, h.2)
 not_read a b (NoCertificate error) h other = absurd h.2
 not_read a b (Invalid error) h other = absurd h.2
-not_read a b (NoStart error) h other = absurd h.2
 not_read a b (NoScript error) h other = absurd h.2
 not_read a b NoMemoryForJob h other = absurd (other refl)
 not_read a b NoThreads h other = absurd h.2

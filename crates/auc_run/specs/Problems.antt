@@ -6,7 +6,7 @@ use Rattle.auc_graph.specs.declared.read_error.ReadError.TheVariants.{NoMemory, 
 use Rattle.auc_graph.specs.Problem.{Problem}
 use Rattle.auc_graph.specs.Reading.{reading}
 use Rattle.auc_run.specs.declared.refusal.Refusal.{Refusal}
-use Rattle.auc_run.specs.declared.refusal.Refusal.TheVariants.{NotRead, NoProblem, NoCertificate, Invalid, NoStart, NoScript, NoMemory as NoMemoryForJob, NoThreads}
+use Rattle.auc_run.specs.declared.refusal.Refusal.TheVariants.{NotRead, NoProblem, NoCertificate, Invalid, NoScript, NoMemory as NoMemoryForJob, NoThreads}
 
 -- A file reads as this problem, or by this first fault as none. Of a read that failed, and of want of memory, nothing is known; too many reads
 -- have each taken a byte.
@@ -32,7 +32,6 @@ BearOutRefusal file NoMemoryForJob = ⊤
 BearOutRefusal file NoThreads = ⊥
 BearOutRefusal file (NoCertificate error) = ⊥
 BearOutRefusal file (Invalid error) = ⊥
-BearOutRefusal file (NoStart error) = ⊥
 BearOutRefusal file (NoScript error) = ⊥
 
 -- the bytes are those of this problem, or bear the refusal out

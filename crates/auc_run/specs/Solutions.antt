@@ -12,7 +12,7 @@ use Rattle.auc_world.specs.Chain.{IsOfRun}
 use Rattle.auc_threads.specs.declared.phase.PhaseEnd.{PhaseEnd}
 use Rattle.auc_threads.specs.Solved.{IsSolvedBy, IsThreadAnswer}
 use Rattle.auc_run.specs.declared.refusal.Refusal.{Refusal}
-use Rattle.auc_run.specs.declared.refusal.Refusal.TheVariants.{NotRead, NoProblem, NoCertificate, Invalid, NoStart, NoScript, NoMemory, NoThreads}
+use Rattle.auc_run.specs.declared.refusal.Refusal.TheVariants.{NotRead, NoProblem, NoCertificate, Invalid, NoScript, NoMemory, NoThreads}
 use Rattle.auc_run.specs.Problems.{AreKnown, BearOutRefusal, IsProblemOf}
 
 -- the limits of a solve without threads: one shard of each kind, so many bids, and else the usual numbers
@@ -37,7 +37,6 @@ BearOutThreads workers bids audit file (Err (NotRead fault)) = BearOutRefusal fi
 BearOutThreads workers bids audit file (Err (NoProblem error)) = BearOutRefusal file (NoProblem error)
 BearOutThreads workers bids audit file (Err (NoCertificate error)) = ⊥
 BearOutThreads workers bids audit file (Err (Invalid error)) = ⊥
-BearOutThreads workers bids audit file (Err (NoStart error)) = ⊥
 BearOutThreads workers bids audit file (Err (NoScript error)) = ⊥
 BearOutThreads workers bids audit file (Err NoMemory) = BearOutRefusal file NoMemory
 

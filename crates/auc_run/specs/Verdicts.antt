@@ -12,7 +12,7 @@ use Rattle.auc_cert.specs.Text.{text}
 use Rattle.auc_cert.specs.CertReading.{IsFirstBadLine}
 use Rattle.auc_cert.specs.Claim.{fault_of, IsAllowed, IsVerdict as IsVerdictOn}
 use Rattle.auc_run.specs.declared.refusal.Refusal.{Refusal}
-use Rattle.auc_run.specs.declared.refusal.Refusal.TheVariants.{NotRead, NoProblem, NoCertificate, Invalid, NoStart, NoScript, NoMemory as NoMemoryForJob, NoThreads}
+use Rattle.auc_run.specs.declared.refusal.Refusal.TheVariants.{NotRead, NoProblem, NoCertificate, Invalid, NoScript, NoMemory as NoMemoryForJob, NoThreads}
 use Rattle.auc_run.specs.declared.valid.Valid.{Valid}
 use Rattle.auc_run.specs.Problems.{AreKnown, IsProblemOf, ReadsAsProblem}
 
@@ -39,7 +39,6 @@ Judges p c (Err (Invalid error)) = IsCheckOf p c (Err error)
 Judges p c (Err (NotRead fault)) = ⊥
 Judges p c (Err (NoProblem error)) = ⊥
 Judges p c (Err (NoCertificate error)) = ⊥
-Judges p c (Err (NoStart error)) = ⊥
 Judges p c (Err (NoScript error)) = ⊥
 Judges p c (Err NoMemoryForJob) = ⊥
 Judges p c (Err NoThreads) = ⊥
@@ -52,7 +51,6 @@ BearOut file cert (Err (NoCertificate (Line k))) = (p : Problem) × IsProblemOf 
 BearOut file cert (Err (NoCertificate NoMemoryForText)) = ⊤
 BearOut file cert (Err (NoProblem error)) = ReadsAsProblem file (Err error)
 BearOut file cert (Err (NotRead fault)) = (p : Problem) × IsProblemOf file p
-BearOut file cert (Err (NoStart error)) = ⊥
 BearOut file cert (Err (NoScript error)) = ⊥
 BearOut file cert (Err NoMemoryForJob) = ⊥
 BearOut file cert (Err NoThreads) = ⊥

@@ -1,10 +1,10 @@
 //! The jobs.
 
-ghost use Rattle.std.specs.Prelude.{◌≡◌, ◌≢◌, ◌≤◌, false, IfOk, IfSome, IsErr};
+ghost use Rattle.std.specs.Prelude.{◌≡◌, ◌≢◌, ◌≤◌, ℕ, List, Option, IfOk, IfSome, IsErr};
 ghost use Rattle.auc_graph.specs.Reading.{reading};
 ghost use Rattle.auc_cert.specs.Spelled.{IsSpelled};
 ghost use Rattle.auc_run.specs.Verdicts.{Judges, IsVerdict, said_by};
-ghost use Rattle.auc_run.specs.Jobs.{IsInRange, IsPlain, has_second, solve_by};
+ghost use Rattle.auc_run.specs.Jobs.{IsInRange, IsPlain};
 ghost use Rattle.auc_run.specs.Reports.{IsWritable};
 ghost use Rattle.auc_run.specs.Said.{IsOutcome, Said, SaidInPart};
 
@@ -14,7 +14,7 @@ use crate::mail::replies_of;
 use crate::problem::problem_of;
 use crate::refusal::Refusal;
 use crate::report::{Report, tell};
-use crate::solve::{answer_by_threads, answer_by_threads_from, answer_plainly};
+use crate::solve::{answer_by_threads, answer_of};
 use crate::valid::Valid;
 use auc_cert::{Cert, CertParts, check, read_cert};
 use auc_graph::{ArcList, MOST_ARCS, MOST_READS};
@@ -40,8 +40,6 @@ pub enum Job {
         /// How many calls the trail of each mail may note, by which the phases are judged: 0 to 1,000,000, and 0 for no trail. Without
         /// threads there is none.
         audit: u32,
-        /// Whether it starts from the prices of an old certificate, which the second reader has, see [`auc_cert::start_prices`].
-        from: bool,
     },
     /// Reads a problem from the first reader and a certificate from the second, and says whether what the certificate
     /// claims of the problem holds.
@@ -51,15 +49,6 @@ pub enum Job {
     Hall,
     /// Reads a script from the first reader, makes its calls on a new mail, and tells the replies.
     Mail,
-}
-
-/// The numbers of a solve, as [`Job::Solve`] has them.
-#[derive(Clone, Copy)]
-struct SolveNumbers {
-    workers: u32,
-    bids: u64,
-    audit: u32,
-    from: bool,
 }
 
 /// What a certificate says, if its claim holds.
@@ -118,46 +107,31 @@ fn outcome_of<R: Read, Q: Read>(
     ensures outcome { IsOutcome job.now (R.remaining reader.old) (Q.remaining second.old) result }
     ensures writable { IfOk result IsWritable }
     ensures unread { IfSome (R.remaining reader.old) (λ file. IsErr (reading MOST_ARCS file) → second.new ≡ second.old) }
-    ensures alone { has_second job.now ≡ false → second.new ≡ second.old }
+    ensures alone { job.now ≢ Job.Check → second.new ≡ second.old }
 {
     match job {
-        Job::Solve { bids, from, .. } => {
-            let answer = answer_plainly(alloc, reader, second, *bids, *from)?;
-            Ok(Report::Solved(answer))
-        }
+        Job::Solve { bids, .. } => Ok(Report::Solved(answer_of(alloc, reader, *bids)?)),
         Job::Check => Ok(Report::Judged(verdict_of(alloc, reader, second)?)),
         Job::Hall => Ok(Report::Completed(found_of(alloc, reader)?)),
         Job::Mail => Ok(Report::Replied(replies_of(alloc, reader)?)),
     }
 }
 
-/// What a solve with threads comes to on what the readers have.
-fn outcome_by_threads<H: Threads + Wait + Sync, R: Read, Q: Read, G: Gate + Sync>(
+/// What a solve with threads comes to on what the reader has.
+fn outcome_by_threads<H: Threads + Wait + Sync, R: Read, G: Gate + Sync>(
     rt: &H,
     alloc: Global,
     reader: &mut R,
-    second: &mut Q,
-    numbers: SolveNumbers,
+    workers: u32,
+    bids: u64,
+    audit: u32,
     gate: &G,
 ) -> Result<Report, Refusal>
-    requires some { 1 ≤ numbers.workers }
-    requires range { IsInRange (solve_by numbers) }
-    ensures outcome { IsOutcome (solve_by numbers) (R.remaining reader.old) (Q.remaining second.old) result }
+    requires some { 1 ≤ workers }
+    requires range { IsInRange (Job.Solve workers bids audit) }
+    ensures outcome { (second : Option (List ℕ)) → IsOutcome (Job.Solve workers bids audit) (R.remaining reader.old) second result }
     ensures writable { IfOk result IsWritable }
-    ensures unread { IfSome (R.remaining reader.old) (λ file. IsErr (reading MOST_ARCS file) → second.new ≡ second.old) }
-    ensures alone { numbers.from ≡ false → second.new ≡ second.old }
 {
-    let SolveNumbers {
-        workers,
-        bids,
-        audit,
-        from,
-    } = numbers;
-    if from {
-        let answer =
-            answer_by_threads_from(rt, alloc, reader, second, workers, bids, audit, gate)?;
-        return Ok(Report::Solved(answer));
-    }
     let answer = answer_by_threads(rt, alloc, reader, workers, bids, audit, gate)?;
     Ok(Report::Solved(answer))
 }
@@ -190,8 +164,8 @@ pub fn run_plain<R: Read, Q: Read, W: Write>(
     ensures unwritten { result ≡ 8 → SaidInPart job.now (R.remaining reader.old) (Q.remaining second.old) (W.contents writer.old) (W.contents writer.new) }
     // A certificate for what is no problem is left unread.
     ensures unread { IfSome (R.remaining reader.old) (λ file. IsErr (reading MOST_ARCS file) → second.new ≡ second.old) }
-    // Only a check, and a solve that starts from a certificate, has a second input.
-    ensures alone { has_second job.now ≡ false → second.new ≡ second.old }
+    // Only a check has a second input.
+    ensures alone { job.now ≢ Job.Check → second.new ≡ second.old }
 {
     let outcome = outcome_of(alloc, job, reader, second);
     tell(writer, outcome)
@@ -218,24 +192,17 @@ pub fn run_command<H: Threads + Wait + Sync, R: Read, Q: Read, W: Write, G: Gate
     ensures unwritten { result ≡ 8 → SaidInPart job.now (R.remaining reader.old) (Q.remaining second.old) (W.contents writer.old) (W.contents writer.new) }
     // A certificate for what is no problem is left unread.
     ensures unread { IfSome (R.remaining reader.old) (λ file. IsErr (reading MOST_ARCS file) → second.new ≡ second.old) }
-    // Only a check, and a solve that starts from a certificate, has a second input.
-    ensures alone { has_second job.now ≡ false → second.new ≡ second.old }
+    // Only a check has a second input.
+    ensures alone { job.now ≢ Job.Check → second.new ≡ second.old }
 {
     if let Job::Solve {
         workers,
         bids,
         audit,
-        from,
     } = *job
     {
         if workers > 0 {
-            let numbers = SolveNumbers {
-                workers,
-                bids,
-                audit,
-                from,
-            };
-            let outcome = outcome_by_threads(rt, alloc, reader, second, numbers, gate);
+            let outcome = outcome_by_threads(rt, alloc, reader, workers, bids, audit, gate);
             return tell(writer, outcome);
         }
     }

@@ -1,26 +1,22 @@
 //! The job of a solve: a problem is read, and a least-cost assignment is found, persons who together know too few objects, or an
 //! assignment and a bound.
 
-ghost use Rattle.std.specs.Prelude.{◌≡◌, ◌≤◌, ℕ, false, IfSome, IsErr};
+ghost use Rattle.std.specs.Prelude.{◌≤◌};
 ghost use Rattle.auc_cert.specs.Writing.{Writes};
-ghost use Rattle.auc_graph.specs.Reading.{reading};
 ghost use Rattle.auc_run.specs.Solutions.{IsSolvedByThreadsIn, IsSolvedIn, answer_text, guard_line};
-ghost use Rattle.auc_run.specs.Starts.{IsSolvedFromIn, IsSolvingIn};
 
 use crate::problem::problem_of;
 use crate::refusal::Refusal;
-use crate::start::started_of;
 use auc_cert::{WriteFault, write_cert, write_whole};
-use auc_graph::MOST_ARCS;
-use auc_threads::{Gate, solve_threads, solve_threads_from};
-use auc_world::{Answer, Guard, Limits, solve_serial, solve_serial_from};
+use auc_threads::{Gate, solve_threads};
+use auc_world::{Answer, Guard, Limits, solve_serial};
 use std::alloc::Global;
 use std::io::{Read, Write};
 use std::sync::Wait;
 use std::thread::Threads;
 
 /// What the solver answers about the problem that the reader has, with so many bids for each shard of the persons in a phase.
-fn answer_of<R: Read>(
+pub(crate) fn answer_of<R: Read>(
     alloc: Global,
     reader: &mut R,
     bids: u64,
@@ -59,73 +55,6 @@ pub(crate) fn answer_by_threads<H: Threads + Wait + Sync, R: Read, G: Gate + Syn
         ..Limits::usual(workers)
     };
     let solved = solve_threads(rt, alloc, &problem, &limits, gate)?;
-    Ok(solved.answer)
-}
-
-/// What the solver answers about the first reader's problem from the prices of the second one's certificate, with so many bids.
-fn answer_from<R: Read, Q: Read>(
-    alloc: Global,
-    reader: &mut R,
-    second: &mut Q,
-    bids: u64,
-) -> Result<Answer, Refusal>
-    ensures from { (audit : ℕ) → IsSolvedFromIn 0 bids audit (R.remaining reader.old) (Q.remaining second.old) result }
-    ensures unread { IfSome (R.remaining reader.old) (λ file. IsErr (reading MOST_ARCS file) → second.new ≡ second.old) }
-{
-    let started = started_of(alloc, reader, second)?;
-    let limits = Limits {
-        bids,
-        ..Limits::usual(1)
-    };
-    let prices = started.prices.as_slice();
-    let answer = solve_serial_from(alloc, &started.problem, &limits, prices)?;
-    Ok(answer)
-}
-
-/// What the solver answers about the first reader's problem, with so many bids: from nothing, or from the prices of the second one's certificate.
-pub(crate) fn answer_plainly<R: Read, Q: Read>(
-    alloc: Global,
-    reader: &mut R,
-    second: &mut Q,
-    bids: u64,
-    from: bool,
-) -> Result<Answer, Refusal>
-    ensures solving { (audit : ℕ) → IsSolvingIn from 0 bids audit (R.remaining reader.old) (Q.remaining second.old) result }
-    ensures unread { IfSome (R.remaining reader.old) (λ file. IsErr (reading MOST_ARCS file) → second.new ≡ second.old) }
-    ensures alone { from ≡ false → second.new ≡ second.old }
-{
-    if from {
-        return answer_from(alloc, reader, second, bids);
-    }
-    answer_of(alloc, reader, bids)
-}
-
-/// What the solver in threads answers about the first reader's problem from the prices of the second one's certificate; the numbers are those of
-/// [`answer_by_threads`].
-pub(crate) fn answer_by_threads_from<H: Threads + Wait + Sync, R: Read, Q: Read, G: Gate + Sync>(
-    rt: &H,
-    alloc: Global,
-    reader: &mut R,
-    second: &mut Q,
-    workers: u32,
-    bids: u64,
-    audit: u32,
-    gate: &G,
-) -> Result<Answer, Refusal>
-    requires some { 1 ≤ workers }
-    requires few { workers ≤ 16 }
-    requires audit { audit ≤ 1000000 }
-    ensures from { IsSolvedFromIn workers bids audit (R.remaining reader.old) (Q.remaining second.old) result }
-    ensures unread { IfSome (R.remaining reader.old) (λ file. IsErr (reading MOST_ARCS file) → second.new ≡ second.old) }
-{
-    let started = started_of(alloc, reader, second)?;
-    let limits = Limits {
-        bids,
-        audit,
-        ..Limits::usual(workers)
-    };
-    let prices = started.prices.as_slice();
-    let solved = solve_threads_from(rt, alloc, &started.problem, &limits, prices, gate)?;
     Ok(solved.answer)
 }
 

@@ -1,13 +1,16 @@
 use Rattle.std.proofs.Common.{Ok, Err}
 use Rattle.auc_run.specs.declared.command.Job.TheVariants.{Solve, Hall, Mail}
-use Rattle.auc_run.proofs.OutcomeLaws.{solved_plainly, completed, replied, refused}
+use Rattle.auc_run.proofs.OutcomeLaws.{solved, completed, replied, refused}
 use Rattle.auc_run.proofs.command.outcome_of.Goals as goal
 
-pub returns-in-Solve-clause-outcome : goal.returns-in-Solve-clause-outcome
-returns-in-Solve-clause-outcome g c = ?
+pub returns-in_ok-answer_of-in-Solve-clause-outcome : goal.returns-in_ok-answer_of-in-Solve-clause-outcome
+returns-in_ok-answer_of-in-Solve-clause-outcome g c =
+    rw c.in-Solve.is (solved (g.R.Read.remaining c.args.reader.now) (g.Q.Read.remaining c.args.second.now) c.in-Solve.workers c.in-Solve.bids c.in-Solve.audit (Ok c.in_ok-answer_of-in-Solve.field-0) (rw c.in-Solve.is at c.requires.plain) c.in_ok-answer_of-in-Solve.ensures)
 
-pub returns-in_err-answer-clause-outcome : goal.returns-in_err-answer-clause-outcome
-returns-in_err-answer-clause-outcome g c = ?
+pub returns-in_err-answer_of-in-Solve-clause-outcome : goal.returns-in_err-answer_of-in-Solve-clause-outcome
+returns-in_err-answer_of-in-Solve-clause-outcome g c =
+    rw c.in-Solve.is (refused (g.R.Read.remaining c.args.reader.now) (g.Q.Read.remaining c.args.second.now) (Solve c.in-Solve.workers c.in-Solve.bids c.in-Solve.audit) c.from_residual.result c.in_err-answer_of-in-Solve.field-0.0 c.from_residual.ensures.1
+    (solved (g.R.Read.remaining c.args.reader.now) (g.Q.Read.remaining c.args.second.now) c.in-Solve.workers c.in-Solve.bids c.in-Solve.audit (Err c.in_err-answer_of-in-Solve.field-0.0) (rw c.in-Solve.is at c.requires.plain) c.in_err-answer_of-in-Solve.ensures))
 
 pub returns-in_ok-found_of-in-Hall-clause-outcome : goal.returns-in_ok-found_of-in-Hall-clause-outcome
 returns-in_ok-found_of-in-Hall-clause-outcome g c =

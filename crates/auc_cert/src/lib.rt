@@ -22,6 +22,7 @@ mod reason;
 mod refused;
 mod second_line;
 mod text_error;
+mod version;
 mod writing;
 
 pub use cert::{Cert, CertParts};

@@ -2,12 +2,13 @@
 
 ghost use Rattle.std.specs.Prelude.{◌≡◌, length, All, IfOk, IfSome, IfNone};
 ghost use Rattle.auc_graph.specs.Assignment.{IsAssignment};
+ghost use Rattle.auc_graph.specs.Dual.{AreFewPriced};
 ghost use Rattle.auc_graph.specs.Price.{IsPrice};
 ghost use Rattle.auc_graph.specs.Table.{IsTableOf};
 ghost use Rattle.auc_cert.specs.Claim.{chosen};
 ghost use Rattle.auc_hall.specs.OfProblem.{IsHallSetOf};
 ghost use Rattle.auc_world.specs.Answers.{IsBracketAnswer, IsCertified, IsInfeasibleAnswer, IsOptimalAnswer, stop_of};
-ghost use Rattle.auc_world.specs.Claims.{IsBracketBy};
+ghost use Rattle.auc_world.specs.Claims.{ArePricedByHolders, IsBracketBy};
 
 use crate::answer::{Answer, Guard};
 use crate::gathering::Gathered;
@@ -92,6 +93,7 @@ fn bracket_parts(
     requires assignment { IsAssignment problem.now (chosen 0 picks.items) }
     requires each { length prices.items ≡ problem.now.objects }
     requires within { All IsPrice prices.items }
+    requires few { AreFewPriced problem.now prices.items }
     ensures { IfOk result (IsBracketBy problem.now reason prices.items) }
 {
     let scale = problem.persons() + 1;
@@ -115,7 +117,8 @@ fn bracket_parts(
 /// cost of all that the prices give, where the checker lets it pass; or that there is no assignment. The guard `Check` where a
 /// holder's arc isn't one of his to his object, or somebody holds two.
 ///
-/// `rows` are those of the problem; `gathered.prices` are in scaled costs, from 0 to 2^61, and both lists are indexed by object.
+/// `rows` are those of the problem; `gathered.prices` are in scaled costs, from 0 to 2^61, and both lists are indexed by object. Where
+/// there are more objects than persons, an object that nobody holds has price 0: else the bound could be too low for 64 bits.
 ///
 /// Takes the time of the search, see [`complete`], beside O(arcs + persons), and O(persons) memory.
 ///
@@ -133,6 +136,7 @@ pub fn bracket(
     requires holders { length gathered.holders.items ≡ problem.now.objects }
     requires prices { length gathered.prices.items ≡ problem.now.objects }
     requires within { All IsPrice gathered.prices.items }
+    requires priced { ArePricedByHolders problem.now gathered.holders.items gathered.prices.items }
     ensures { IfOk result (IsBracketAnswer problem.now reason gathered.holders.items gathered.prices.items) }
 {
     let Gathered { holders, prices } = gathered;

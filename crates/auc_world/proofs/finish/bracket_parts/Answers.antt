@@ -18,7 +18,7 @@ unreachable-requires c =
     let lower_wide : FitsSigned w128 c.lower_of.result = search rules in
     let bound = bound_is c.args.problem.now c.persons-scale.result c.as_slice.result.now c.args.prices.items c.in_ok-bound.bound c.lower_of.result c.persons-scale.ensures.persons c.in_ok-bound.ensures.bound c.as_slice.ensures.value (simp to_z-of_z at c.lower_of.ensures) in
     let past = simp to_z-of_z at c.in_default.ensures in
-    past (lower_fits c.args.problem.now c.args.reason c.args.prices.items c.persons-scale.ensures.problem c.requires.each c.requires.within (chosen 0 c.args.picks.items) c.lower_of.result c.requires.assignment bound)
+    past (lower_fits c.args.problem.now c.args.reason c.args.prices.items c.persons-scale.ensures.problem c.requires.each c.requires.within c.requires.few (chosen 0 c.args.picks.items) c.lower_of.result c.requires.assignment bound)
 
 pub cost_of-requires : goal.cost_of-requires
 cost_of-requires c = few_picks c.args.problem.now c.args.picks.items c.as_slice-2.result.now c.persons-scale.ensures.problem c.requires.assignment c.as_slice-2.ensures.value
@@ -28,7 +28,7 @@ unreachable-requires-in_default-try_from c =
     let wide : FitsSigned w128 c.cost_of.result = search rules in
     let cost = c.cost_of.ensures ∙ ap (λ (picks : List Pick). total_cost (chosen 0 picks)) c.as_slice-2.ensures.value in
     let past = simp to_z-of_z at c.in_default-try_from.ensures in
-    past (subst (FitsSigned w64) (sym cost) (cost_fits c.args.problem.now c.args.reason c.args.prices.items c.persons-scale.ensures.problem c.requires.each c.requires.within (chosen 0 c.args.picks.items) c.requires.assignment))
+    past (subst (FitsSigned w64) (sym cost) (cost_fits c.args.problem.now c.args.reason c.args.prices.items c.persons-scale.ensures.problem c.requires.each c.requires.within c.requires.few (chosen 0 c.args.picks.items) c.requires.assignment))
 
 pub returns : goal.returns
 returns c =

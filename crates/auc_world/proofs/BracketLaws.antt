@@ -9,7 +9,7 @@ use Rattle.auc_letters.specs.declared.state.Held.{Held}
 use Rattle.std.specs.Int.{w64}
 use Rattle.auc_graph.specs.declared.arc.Arc.{Arc}
 use Rattle.auc_graph.specs.Assignment.{IsAssignment, total_cost}
-use Rattle.auc_graph.specs.Dual.{AreFewPriced, IsLower, dual, price_at, scale_of}
+use Rattle.auc_graph.specs.Dual.{AreFewPriced, IsLower, dual, scale_of}
 use Rattle.auc_graph.specs.Price.{IsPrice}
 use Rattle.auc_graph.specs.Problem.{IsProblem, IsWithin, Problem}
 use Rattle.auc_graph.proofs.DualLaws.{as_many, square_are_few}

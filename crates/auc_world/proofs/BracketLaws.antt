@@ -1,5 +1,5 @@
 -- What a bracket needs to pass: an assignment, and lawful prices, of which no more than persons are above 0.
-use Rattle.std.proofs.Common.{ℕ, ℤ, zero, suc, refl, ◌+◌, ◌<◌, ◌≡◌, arith, true, false, eq-eqb, inl, inr, List, [], ◌∷◌, length, get_or, Option, Some, None, Contains, sym, ap, subst, ◌∙◌}
+use Rattle.std.proofs.Common.{ℕ, ℤ, zero, suc, refl, ◌+◌, ◌<◌, ◌≡◌, ◌⊎◌, arith, true, false, eq-eqb, inl, inr, List, [], ◌∷◌, length, get_or, Option, Some, None, Contains, sym, ap, subst, ◌∙◌}
 use Rattle.std.specs.Prelude.{All, Bool, FitsSigned, map, ◌==◌, if◌then◌else◌}
 use Rattle.std.specs.List.{range_with_len}
 use Rattle.std.proofs.lemmas.Bool.{cases_eq, ne_eqb}
@@ -11,7 +11,7 @@ use Rattle.auc_graph.specs.declared.arc.Arc.{Arc}
 use Rattle.auc_graph.specs.Assignment.{IsAssignment, total_cost}
 use Rattle.auc_graph.specs.Dual.{AreFewPriced, IsLower, dual, scale_of}
 use Rattle.auc_graph.specs.Price.{IsPrice}
-use Rattle.auc_graph.specs.Problem.{IsProblem, IsWithin, Problem}
+use Rattle.auc_graph.specs.Problem.{IsProblem, IsSquare, IsWithin, Problem}
 use Rattle.auc_graph.proofs.DualLaws.{as_many, square_are_few}
 use Rattle.std.proofs.lemmas.Grind.{common_steps}
 use Rattle.auc_cert.specs.declared.cert.CertParts.{CertParts}
@@ -20,21 +20,24 @@ use Rattle.auc_cert.specs.declared.lists.Pick.{Pick}
 use Rattle.auc_cert.specs.Claim.{chosen, pick_of}
 use Rattle.auc_cert.proofs.Converse.{assignment_spelled, bracket_faultless, bracket_spelled}
 use Rattle.auc_cert.proofs.ClaimLaws.{faultless_is_allowed}
-use Rattle.auc_world.specs.Answers.{IsCertified}
-use Rattle.auc_world.specs.Claims.{ArePlaceable, ArePricedByHolders, IsBracketBy, holder_at}
+use Rattle.auc_cert.specs.Spelled.{IsSpelled}
+use Rattle.auc_world.specs.Answers.{HasAssignment, IsCertified}
+use Rattle.auc_world.specs.Claims.{ArePlaceable, BoundFits, HasNoPriceUnheld, IsBracketBy, holder_at}
 use Rattle.auc_world.proofs.FoundLaws.{length_chosen, pick_back}
 
 -- the picks of an assignment, their cost, and the bound of lawful prices
-module _ (p : Problem) (reason : Reason) (prices : List ℤ) (is : IsProblem p) (each : length prices ≡ p.objects) (within : All IsPrice prices) (few : AreFewPriced p prices) where
+module _ (p : Problem) (reason : Reason) (prices : List ℤ) (is : IsProblem p) (each : length prices ≡ p.objects) (within : All IsPrice prices) where
   pub cost_fits : (choice : List Arc) → IsAssignment p choice → FitsSigned w64 (total_cost choice)
   cost_fits choice given = (assignment_spelled p choice prices is given each within).0
 
-  pub lower_fits : (choice : List Arc) (lower : ℤ) → IsAssignment p choice → IsLower (scale_of p) (dual p prices) lower → FitsSigned w64 lower
-  lower_fits choice lower given bound = (bracket_spelled p choice prices lower reason is given each within few bound).0
+  -- where there is an assignment, and no more objects than persons have a price
+  pub bound_fits : AreFewPriced p prices → HasAssignment p → BoundFits p prices
+  bound_fits few has lower bound = (bracket_spelled p has.0 prices lower reason is has.1 each within few bound).0
 
-  pub certified_bracket : (cert : CertParts) → IsBracketBy p reason prices cert → IsCertified p cert
-  certified_bracket cert by =
-      let spelled = bracket_spelled p by.choice prices by.lower reason is by.assigned each within few by.bound in
+  pub certified_bracket : BoundFits p prices → (cert : CertParts) → IsBracketBy p reason prices cert → IsCertified p cert
+  certified_bracket fits cert by =
+      let other = assignment_spelled p by.choice prices is by.assigned each within in
+      let spelled : IsSpelled (CertParts.Bracket reason by.lower (total_cost by.choice) (map pick_of by.choice) prices) = (fits by.lower by.bound, other.0, other.1) in
       let faultless = bracket_faultless p by.choice by.assigned prices each (total_cost by.choice) refl reason by.lower by.bound in
       subst (IsCertified p) (sym by.is)
       (record { spelled = spelled; faultless = faultless; allowed = faultless_is_allowed p (CertParts.Bracket reason by.lower (total_cost by.choice) (map pick_of by.choice) prices) is spelled faultless })
@@ -126,6 +129,6 @@ module _ (p : Problem) (holders : List (Option Held)) (prices : List ℤ) (is : 
       by (Some h) e = absurd (free (held_is_among j h e))
 
   -- so no more objects than persons have a price
-  pub holders_price_few : length prices ≡ p.objects → ArePricedByHolders p holders prices → AreFewPriced p prices
+  pub holders_price_few : length prices ≡ p.objects → IsSquare p ⊎ HasNoPriceUnheld holders prices → AreFewPriced p prices
   holders_price_few len (inl square) = square_are_few p prices square len
   holders_price_few len (inr unheld) = (held_objects, omega (arith, length-map-range_with_len (λ i. found_by i 0 holders) 0 p.persons), λ j free. unheld j (nobody_holds j free))

@@ -32,16 +32,17 @@ use Rattle.auc_model.proofs.Theorems.{holders_slack, of_every_schedule}
 use Rattle.auc_world.specs.declared.answer.Answer.{Answer}
 use Rattle.auc_world.specs.declared.gathering.Gathered.{Gathered}
 use Rattle.auc_world.specs.declared.limits.Limits.{Limits}
-use Rattle.auc_world.specs.Answers.{IsAnswer, IsBracketAnswer, IsCertified, IsOptimalAnswer, why_of}
+use Rattle.auc_world.specs.Answers.{HasAssignment, IsAnswer, IsBracketAnswer, IsCertified, IsOptimalAnswer, why_of}
 use Rattle.auc_world.specs.Chain.{Chain, EndsIn, Follows, IsClaimOf, IsOfRun}
-use Rattle.auc_world.specs.Claims.{ArePlaceable, ArePricedByHolders, HoldsAt, IsChoiceOf, NobodyHoldsTwo, claim_of, holder_at}
+use Rattle.auc_world.specs.Claims.{ArePlaceable, BoundFits, HasNoPriceUnheld, HoldsAt, IsChoiceOf, NobodyHoldsTwo, claim_of, holder_at}
 use Rattle.auc_world.specs.Eps.{first_eps, next_eps}
 use Rattle.auc_world.specs.Phases.{IsPlayed, Leaves, Stage}
 use Rattle.auc_hall.proofs.ProblemLaws.{length-rows, row_is, stands_for}
 use Rattle.auc_graph.specs.Row.{row}
 use Rattle.auc_graph.specs.declared.rows.RowArc.{RowArc}
 use Rattle.auc_cert.specs.declared.reason.Reason.{Reason}
-use Rattle.auc_world.proofs.Bridge.{counted_are_certified}
+use Rattle.auc_world.proofs.BracketLaws.{bound_fits, holders_price_few}
+use Rattle.auc_world.proofs.Bridge.{counted_are_certified, in_range}
 use Rattle.auc_world.proofs.FoundLaws.{one_choice, person_at}
 use Rattle.auc_cert.specs.Claim.{pick_of}
 use Rattle.std.specs.List.{slice_get}
@@ -140,6 +141,14 @@ module _ (p : Problem) (t : Table) (limits : Limits) (s : Stage) (gathered : Gat
     once = holds_one;
   }
 
+-- the prices that a phase leaves, as the answer has them
+pub priced_gathered : (p : Problem) (t : Table) (limits : Limits) (done : List Stage) (s : Stage) (gathered : Gathered) → AreLimits limits → IsTable t → IsTableOf p t → IsReady t limits done s.eps s.prices → Leaves t limits s gathered → IsSquare p ⊎ HasNoPriceUnheld gathered.holders.items gathered.prices.items
+priced_gathered p t limits done s gathered ok table its ready left =
+    elim (priced_by_holders p t limits done s ok table its ready left.played) [
+      | inl square ↦ inl square
+      | inr free ↦ inr (λ j none. left.sales.price_is j ∙ free j (sym (left.sales.holder_is j) ∙ none))
+    ]
+
 -- ---- the last phase has sold an object to each person
 
 module _ (p : Problem) (t : Table) (limits : Limits) (done : List Stage) (s : Stage) (gathered : Gathered) (is : IsProblem p) (table : IsTable t) (its : IsTableOf p t) (ready : IsReady t limits done s.eps s.prices) (left : Leaves t limits s gathered) (ok : AreLimits limits) where
@@ -195,26 +204,25 @@ module _ (p : Problem) (t : Table) (limits : Limits) (done : List Stage) (s : St
   placeable : ArePlaceable p gathered.holders.items
   placeable = record { each = placed_rightly; once = holds_one p t limits s gathered its left }
 
-  module _ (reason : Reason) (stopped : s.world.end ≡ Some (End.Stopped (why_of reason))) where
+  -- and the bound has 64 bits
+  bound_is_cost : HasAssignment p → BoundFits p gathered.prices.items
+  bound_is_cost has =
+      let priced = left.sales.prices_are ∙ its.objects in
+      bound_fits p Reason.Bids gathered.prices.items is priced (in_range gathered.prices.items left.within)
+      (holders_price_few p gathered.holders.items gathered.prices.items is placeable priced (priced_gathered p t limits done s gathered ok table its ready left)) has
+
+  module _ (reason : Reason) (stopped : s.world.end ≡ Some (End.Stopped (why_of reason))) (has : HasAssignment p) where
     pub stopped_is_answer : (answer : Answer) → IsBracketAnswer p reason gathered.holders.items gathered.prices.items answer → IsAnswer p answer
     stopped_is_answer (Answer.Optimal cert) h = absurd h
     stopped_is_answer (Answer.Infeasible cert) h = h
     stopped_is_answer (Answer.Bracket cert) h = let by = h.1 in record { reason = reason; lower = by.lower; cost = total_cost by.choice; choice = map pick_of by.choice; prices = gathered.prices.items; is = by.is; certified = h.2 }
-    stopped_is_answer (Answer.Broken guard) h = absurd (h.1 placeable)
+    stopped_is_answer (Answer.Broken guard) h = absurd (h.1 placeable (bound_is_cost has))
 
     pub stopped_is_of_run : (answer : Answer) → IsBracketAnswer p reason gathered.holders.items gathered.prices.items answer → IsOfRun p limits answer
     stopped_is_of_run (Answer.Optimal cert) h = absurd h
     stopped_is_of_run (Answer.Infeasible cert) h = tt
     stopped_is_of_run (Answer.Bracket cert) h = (s, ends_in, record { reason = reason; stopped = stopped; prices = gathered.prices.items; each = left.sales.prices_are ∙ its.objects; true_prices = left.sales.price_is; by = h.1 })
-    stopped_is_of_run (Answer.Broken guard) h = absurd (h.1 placeable)
-
--- the prices that a phase leaves, as the answer has them
-pub priced_gathered : (p : Problem) (t : Table) (limits : Limits) (done : List Stage) (s : Stage) (gathered : Gathered) → AreLimits limits → IsTable t → IsTableOf p t → IsReady t limits done s.eps s.prices → Leaves t limits s gathered → ArePricedByHolders p gathered.holders.items gathered.prices.items
-priced_gathered p t limits done s gathered ok table its ready left =
-    elim (priced_by_holders p t limits done s ok table its ready left.played) [
-      | inl square ↦ inl square
-      | inr free ↦ inr (λ j none. left.sales.price_is j ∙ free j (sym (left.sales.holder_is j) ∙ none))
-    ]
+    stopped_is_of_run (Answer.Broken guard) h = absurd (h.1 placeable (bound_is_cost has))
 
 -- ---- the same of what the code answers
 

@@ -5,7 +5,7 @@ use Rattle.auc_world.specs.Answers.{IsAnswer, IsBracketAnswer, IsOptimalAnswer}
 use Rattle.auc_world.specs.Chain.{IsOfRun}
 use Rattle.auc_world.specs.Phases.{Stage}
 use Rattle.auc_world.proofs.Bridge.{in_range}
-use Rattle.auc_world.proofs.ChainLaws.{IsReady, last_eps, of_answers, priced_gathered, ready_first, ready_next, sold_is_answer, sold_is_of_run, stopped_is_answer, stopped_is_of_run}
+use Rattle.auc_world.proofs.ChainLaws.{IsReady, last_eps, of_answers, ready_first, ready_next, sold_is_answer, sold_is_of_run, stopped_is_answer, stopped_is_of_run}
 use Rattle.auc_world.proofs.PhaseLaws.{first_prices, later_prices}
 use Rattle.auc_world.proofs.solving.solve_rows.Goals as goal
 
@@ -63,14 +63,6 @@ bracket-requires-clause-prices c = let stopped = rw c.in-Stopped.is at c.in_ok-p
 pub bracket-requires-clause-within : goal.bracket-requires-clause-within
 bracket-requires-clause-within c = let stopped = rw c.in-Stopped.is at c.in_ok-played.ensures.comes in in_range c.in-Stopped.gathered.prices.items stopped.1.within
 
-pub bracket-requires-clause-priced : goal.bracket-requires-clause-priced
-bracket-requires-clause-priced c =
-    let stopped = rw c.in-Stopped.is at c.in_ok-played.ensures.comes in
-    let inv = c.loop-candidates.invariant in
-    let here : Stage = record { eps = to_z w64 c.loop-candidates.eps-bits; prices = c.as_slice.result.now; world = stopped.0 } in
-    let ready = subst (λ (ps : List ℤ). IsReady c.args.rows.now c.args.limits.now inv.ready.0 (to_z w64 c.loop-candidates.eps-bits) ps) (sym c.as_slice.ensures.value) inv.ready.1 in
-    priced_gathered c.args.problem.now c.args.rows.now c.args.limits.now inv.ready.0 here c.in-Stopped.gathered c.requires.limits c.objects.ensures.table c.requires.rows ready stopped.1
-
 pub returns-in-Stopped-clause-is : goal.returns-in-Stopped-clause-is
 returns-in-Stopped-clause-is c =
     let stopped = rw c.in-Stopped.is at c.in_ok-played.ensures.comes in
@@ -78,7 +70,7 @@ returns-in-Stopped-clause-is c =
     let here : Stage = record { eps = to_z w64 c.loop-candidates.eps-bits; prices = c.as_slice.result.now; world = stopped.0 } in
     let ready = subst (λ (ps : List ℤ). IsReady c.args.rows.now c.args.limits.now inv.ready.0 (to_z w64 c.loop-candidates.eps-bits) ps) (sym c.as_slice.ensures.value) inv.ready.1 in
     of_answers (IsBracketAnswer c.args.problem.now c.in-Stopped.reason c.in-Stopped.gathered.holders.items c.in-Stopped.gathered.prices.items) (IsAnswer c.args.problem.now) c.bracket.result
-    (stopped_is_answer c.args.problem.now c.args.rows.now c.args.limits.now inv.ready.0 here c.in-Stopped.gathered c.arcs.ensures.problem c.objects.ensures.table c.requires.rows ready stopped.1 c.requires.limits c.in-Stopped.reason stopped.2) c.bracket.ensures
+    (stopped_is_answer c.args.problem.now c.args.rows.now c.args.limits.now inv.ready.0 here c.in-Stopped.gathered c.arcs.ensures.problem c.objects.ensures.table c.requires.rows ready stopped.1 c.requires.limits c.in-Stopped.reason stopped.2 c.requires.assignment) c.bracket.ensures
 
 pub returns-in-Stopped-clause-run : goal.returns-in-Stopped-clause-run
 returns-in-Stopped-clause-run c =
@@ -87,4 +79,4 @@ returns-in-Stopped-clause-run c =
     let here : Stage = record { eps = to_z w64 c.loop-candidates.eps-bits; prices = c.as_slice.result.now; world = stopped.0 } in
     let ready = subst (λ (ps : List ℤ). IsReady c.args.rows.now c.args.limits.now inv.ready.0 (to_z w64 c.loop-candidates.eps-bits) ps) (sym c.as_slice.ensures.value) inv.ready.1 in
     of_answers (IsBracketAnswer c.args.problem.now c.in-Stopped.reason c.in-Stopped.gathered.holders.items c.in-Stopped.gathered.prices.items) (IsOfRun c.args.problem.now c.args.limits.now) c.bracket.result
-    (stopped_is_of_run c.args.problem.now c.args.rows.now c.args.limits.now inv.ready.0 here c.in-Stopped.gathered c.arcs.ensures.problem c.objects.ensures.table c.requires.rows ready stopped.1 c.requires.limits c.in-Stopped.reason stopped.2) c.bracket.ensures
+    (stopped_is_of_run c.args.problem.now c.args.rows.now c.args.limits.now inv.ready.0 here c.in-Stopped.gathered c.arcs.ensures.problem c.objects.ensures.table c.requires.rows ready stopped.1 c.requires.limits c.in-Stopped.reason stopped.2 c.requires.assignment) c.bracket.ensures

@@ -5,9 +5,11 @@ use Rattle.std.specs.List.{position, position_or_len, list_any, list_all, IsDist
 use Rattle.std.specs.Int.Signed.{le_z_yes}
 use Rattle.std.specs.Prelude.{T}
 use Rattle.std.specs.Ordering.{int_eq}
-use Rattle.std.proofs.lemmas.Bool.{cases_Bool, cases_lt}
+use Rattle.std.proofs.lemmas.Bool.{cases_Bool, cases_lt, eqb-true}
 use Rattle.std.proofs.lemmas.Bool.Decides.{nat_tests, Decides-and, Decides-eqb, Decides-int_eq}
-use Rattle.std.proofs.lemmas.List.{length-map}
+use Rattle.std.proofs.lemmas.List.{length-map, get_or_past}
+use Rattle.std.proofs.lemmas.List.FromFn.{length-range_with_len, get_or-range_with_len}
+use Rattle.std.proofs.lemmas.Map.Views.{Contains-from_any}
 use Rattle.std.proofs.lemmas.List.Sums.{position_or_len_is, fails_before_first}
 use Rattle.std.proofs.lemmas.List.Elements.{All-head, All-tail, All-nil, All-cons}
 use Rattle.auc_graph.specs.declared.arc.Arc.{Arc}
@@ -17,17 +19,17 @@ use Rattle.std.specs.Option.{option_map}
 use Rattle.auc_cert.specs.declared.cert.CertParts.{CertParts}
 use Rattle.auc_cert.specs.declared.cert.CertParts.TheVariants.{Optimal, Infeasible, Bracket}
 use Rattle.auc_cert.specs.declared.refused.CertRefused.{CertRefused}
-use Rattle.auc_cert.specs.declared.refused.CertRefused.TheVariants.{WrongSize, NoSuchArc, ObjectTwice, WrongCost, Slack, NotHall, WrongBound, NoMemory}
+use Rattle.auc_cert.specs.declared.refused.CertRefused.TheVariants.{WrongSize, NoSuchArc, ObjectTwice, WrongCost, Slack, LeftOver, NotHall, WrongBound, NoMemory}
 use Rattle.auc_graph.specs.HallSet.{IsHallSet}
 use Rattle.auc_graph.specs.Memory.{AnswersUnless}
 use Rattle.auc_cert.proofs.HallLaws.{hall_set_is, hall_set_passes}
 use Rattle.auc_graph.specs.Assignment.{person_of, object_of, total_cost, IsAssignment}
-use Rattle.auc_graph.specs.Dual.{arc_value, scale_of, dual, is_lower, IsSlackRight}
+use Rattle.auc_graph.specs.Dual.{price_at, arc_value, scale_of, dual, is_lower, IsSlackRight, IsNoPriceLeft}
 use mathlib.Core.Bool.{beq}
 use Rattle.auc_cert.specs.Spelled.{IsSpelled}
-use Rattle.auc_cert.specs.Claim.{is_flag, arc_of, chosen, same_arc, is_missing, bears, is_slack_right, repeated, fault_if, is_sized, choice_faults, slack_fault, bound_fault, first_of, fault_of, IsAllowed, IsVerdict, is_hall}
+use Rattle.auc_cert.specs.Claim.{is_flag, arc_of, chosen, same_arc, is_missing, bears, is_slack_right, repeated, fault_if, is_sized, choice_faults, slack_fault, picked, is_left_over, left_over_fault, bound_fault, first_of, fault_of, IsAllowed, IsVerdict, is_hall}
 use Rattle.auc_graph.proofs.PriceLaws.{not_negative}
-use Rattle.auc_graph.proofs.DualLaws.{dual_is_below, slack_right_is_least, none_left_over}
+use Rattle.auc_graph.proofs.DualLaws.{dual_is_below, slack_right_is_least}
 use Rattle.auc_graph.proofs.LowerLaws.{lower_passed}
 
 -- ---- the first place that passes
@@ -193,6 +195,43 @@ is_assigned p cost choice prices is =
       objects = rw (objects_are 0 choice) (never_seen [] (map (λ c. c.object) choice) is.twice).0;
     }
 
+-- ---- objects that are left over
+
+not_both : (b c : Bool) → (not b && not c) ≡ false → b ≡ false → c ≡ true
+not_both b true h e = refl
+not_both true false h e = absurd cc
+not_both false false h e = absurd cc
+
+price_of : (choice : List Pick) (prices : List ℤ) (j : ℕ) → is_left_over choice prices j ≡ false → list_any (nat_eq j) (picked choice) ≡ false → price_at prices j ≡ pos 0
+price_of choice prices j h free = (Decides-int_eq (price_at prices j) (pos 0)).0 (not_both (list_any (nat_eq j) (picked choice)) (int_eq (price_at prices j) (pos 0)) h free)
+
+none_priced : (choice : List Pick) (prices : List ℤ) → position (is_left_over choice prices) (range_with_len 0 (length prices)) ≡ None → IsNoPriceLeft prices (chosen 0 choice)
+none_priced choice prices none j free =
+    elim (cases_lt j (length prices)) [
+      | inl lt ↦
+          let at : get_or (range_with_len 0 (length prices)) j 0 ≡ j = omega (arith, get_or-range_with_len 0 (length prices) j 0 lt) in
+          let fails : is_left_over choice prices j ≡ false = ap (is_left_over choice prices) (sym at) ∙ all_fail (is_left_over choice prices) (range_with_len 0 (length prices)) none j 0 (omega (arith, lt, length-range_with_len 0 (length prices))) in
+          elim (cases_Bool (list_any (nat_eq j) (picked choice))) [
+            | inl taken ↦ absurd (free (subst (λ (js : List ℕ). Contains js j) (sym (objects_are 0 choice)) (Contains-from_any (λ x y t. eqb-true x y t) j (picked choice) taken)))
+            | inr left ↦ price_of choice prices j fails left
+          ]
+      | inr past ↦ get_or_past prices j (pos 0) past
+    ]
+
+at_itself : (n k : ℕ) → k < n → get_or (range_with_len 0 n) k 0 ≡ k
+at_itself n k lt = omega (arith, get_or-range_with_len 0 n k 0 lt)
+
+pub left_over_at : (choice : List Pick) (prices : List ℤ) (j : ℕ) → j < length prices → ((k : ℕ) → k < j → is_left_over choice prices k ≡ false) → is_left_over choice prices j ≡ true
+    → Some j ≡ position (is_left_over choice prices) (range_with_len 0 (length prices))
+left_over_at choice prices j lt before here =
+    place_is (is_left_over choice prices) (range_with_len 0 (length prices)) j 0 (omega (arith, lt, length-range_with_len 0 (length prices)))
+    (λ k below. ap (is_left_over choice prices) (at_itself (length prices) k (omega arith)) ∙ before k below) (ap (is_left_over choice prices) (at_itself (length prices) j lt) ∙ here)
+
+pub no_left_over : (choice : List Pick) (prices : List ℤ) → ((k : ℕ) → k < length prices → is_left_over choice prices k ≡ false) → None ≡ position (is_left_over choice prices) (range_with_len 0 (length prices))
+no_left_over choice prices none =
+    no_place (is_left_over choice prices) (range_with_len 0 (length prices)) 0
+    (λ k lt. let below : k < length prices = omega (arith, lt, length-range_with_len 0 (length prices)) in ap (is_left_over choice prices) (at_itself (length prices) k below) ∙ none k below)
+
 -- ---- a whole claim
 
 -- the faults of both parts, one behind the other
@@ -215,16 +254,21 @@ ok_is_none (Err e) fault ok h = absurd cc
 pub verdict_behind : {X : Type 0} (r : Result X CertRefused) (xs ys : List (Option CertRefused)) → first_of xs ≡ None → AnswersUnless NoMemory (λ x. x) r (IsVerdict (first_of ys)) → AnswersUnless NoMemory (λ x. x) r (IsVerdict (first_of (xs ++ ys)))
 verdict_behind r xs ys none h = rw (behind_none xs ys none) h
 
+-- the verdict on the second of two is that on both, where the first finds no fault
+pub verdict_second : {X : Type 0} (r : Result X CertRefused) (x y : Option CertRefused) → first_of (x ∷ []) ≡ None → AnswersUnless NoMemory (λ x. x) r (IsVerdict (first_of (y ∷ []))) → AnswersUnless NoMemory (λ x. x) r (IsVerdict (first_of (x ∷ y ∷ [])))
+verdict_second r x y none h = verdict_behind r (x ∷ []) (y ∷ []) none h
+
 -- a claim without a fault is allowed
 pub faultless_is_allowed : (p : Problem) (c : CertParts) → IsProblem p → IsSpelled c → fault_of p c ≡ None → IsAllowed p c
 faultless_is_allowed p (Optimal cost choice prices) is spelled none =
-    let parts = none_in_front (choice_faults p cost choice prices) (slack_fault p choice prices ∷ []) none in
+    let parts = none_in_front (choice_faults p cost choice prices) (slack_fault p choice prices ∷ left_over_fault choice prices ∷ []) none in
     let choice_is = is_faultless p cost choice prices parts.0 in
     let given = is_assigned p cost choice prices choice_is in
-    let slack = none_map (position (λ c. not (is_slack_right (scale_of p) prices p.arcs c)) (chosen 0 choice)) (λ i. Slack i) [] parts.1 in
+    let slack = none_map (position (λ c. not (is_slack_right (scale_of p) prices p.arcs c)) (chosen 0 choice)) (λ i. Slack i) (left_over_fault choice prices ∷ []) parts.1 in
+    let over = none_map (position (is_left_over choice prices) (range_with_len 0 (length prices))) (λ j. LeftOver j) [] slack.1 in
     let right : All (IsSlackRight (pos 1) (scale_of p) prices p.arcs) (chosen 0 choice) =
     λ k d lt. right_at (scale_of p) prices p.arcs (get_or (chosen 0 choice) k d) (not_false _ (all_fail (λ c. not (is_slack_right (scale_of p) prices p.arcs c)) (chosen 0 choice) slack.0 k d lt)) in
-    let left = none_left_over p prices (chosen 0 choice) is.within is.square choice_is.priced given in
+    let left = none_priced choice prices over.0 in
     (slack_right_is_least p prices (chosen 0 choice) is.within choice_is.priced (not_negative prices spelled.1.fair) given right left, sym choice_is.cost_is)
 faultless_is_allowed p (Infeasible persons objects) is spelled none =
     let passed = none_if (not (is_hall p persons objects)) NotHall [] none in

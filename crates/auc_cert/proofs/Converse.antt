@@ -15,12 +15,16 @@ use Rattle.auc_graph.specs.Assignment.{person_of, object_of, total_cost, IsAssig
 use Rattle.auc_cert.specs.declared.lists.Pick.{Pick}
 use Rattle.auc_cert.specs.declared.cert.CertParts.TheVariants.{Optimal, Bracket}
 use Rattle.auc_cert.specs.declared.reason.Reason.{Reason}
-use Rattle.auc_graph.specs.Dual.{arc_value, scale_of, dual, IsLower, IsSlackRight}
+use Rattle.auc_graph.specs.Dual.{price_at, arc_value, scale_of, dual, IsLower, IsSlackRight, IsNoPriceLeft, AreFewPriced}
+use Rattle.std.proofs.lemmas.Cmp.{nat_eq_equiv}
+use Rattle.std.proofs.lemmas.Map.Views.{list_any-from_Contains}
 use Rattle.auc_graph.proofs.LowerLaws.{lower_passes}
 use Rattle.auc_graph.proofs.LowerRange.{lower_fits}
 use Rattle.auc_graph.specs.Price.{IsPrice}
-use Rattle.auc_cert.specs.Spelled.{IsPick, IsSpelled}
-use Rattle.auc_cert.specs.Claim.{arc_of, pick_of, chosen, same_arc, is_missing, bears, is_slack_right, repeated, is_sized, choice_faults, slack_fault, bound_fault, first_of, fault_of}
+use Rattle.auc_cert.specs.declared.version.Version.{Version}
+use Rattle.auc_cert.specs.Spelled.{most_in, version_of_sizes, choice_version, IsPick, IsSpelled}
+use Rattle.auc_cert.proofs.VersionLaws.{sized_first}
+use Rattle.auc_cert.specs.Claim.{arc_of, pick_of, chosen, same_arc, is_missing, bears, is_slack_right, repeated, is_sized, choice_faults, slack_fault, picked, is_left_over, left_over_fault, bound_fault, first_of, fault_of}
 use Rattle.auc_cert.proofs.ClaimLaws.{no_place, objects_are, right_size, right_cost, behind_none}
 
 -- ---- the picks of arcs, and back
@@ -93,6 +97,17 @@ slack_passes s prices (a ∷ arcs) c h =
 none_worse : (s : ℕ) (prices : List ℤ) (arcs choice : List Arc) (d : Arc) → All (IsSlackRight (pos 1) s prices arcs) choice → position (λ c. not (is_slack_right s prices arcs c)) choice ≡ None
 none_worse s prices arcs choice d slack = sym (no_place (λ c. not (is_slack_right s prices arcs c)) choice d (λ k lt. let t = slack_passes s prices arcs (get_or choice k d) (slack k d lt) in rw t refl))
 
+not_left : (b c : Bool) → (b ≡ false → c ≡ true) → (not b && not c) ≡ false
+not_left true c h = refl
+not_left false c h = let t = h refl in rw t refl
+
+none_left_over : (choice : List Pick) (prices : List ℤ) → ((j : ℕ) → ¬ Contains (picked choice) j → price_at prices j ≡ pos 0) → position (is_left_over choice prices) (range_with_len 0 (length prices)) ≡ None
+none_left_over choice prices left =
+    sym (no_place (is_left_over choice prices) (range_with_len 0 (length prices)) 0 (λ k lt.
+    not_left (list_any (nat_eq (get_or (range_with_len 0 (length prices)) k 0)) (picked choice)) (int_eq (price_at prices (get_or (range_with_len 0 (length prices)) k 0)) (pos 0)) (λ free.
+    (Decides-int_eq (price_at prices (get_or (range_with_len 0 (length prices)) k 0)) (pos 0)).1 (left (get_or (range_with_len 0 (length prices)) k 0) (λ there.
+    absurd (let found = list_any-from_Contains nat_eq_equiv (get_or (range_with_len 0 (length prices)) k 0) (picked choice) there in let b = sym found ∙ free in cc))))))
+
 -- ---- the whole
 
 module _ (p : Problem) (choice : List Arc) (given : IsAssignment p choice) (prices : List ℤ) (priced : length prices ≡ p.objects) (cost : ℤ) (right : cost ≡ total_cost choice) where
@@ -119,11 +134,12 @@ module _ (p : Problem) (choice : List Arc) (given : IsAssignment p choice) (pric
       let sum : not (int_eq cost (total_cost (chosen 0 (map pick_of choice)))) ≡ false = right_cost cost (total_cost (chosen 0 (map pick_of choice))) (right ∙ ap total_cost (sym back)) in
       rw (size, there, once, sum) refl
 
-  -- an assignment that is slack-right at 1
-  pub slack_right_faultless : All (IsSlackRight (pos 1) (scale_of p) prices p.arcs) choice → fault_of p (Optimal cost (map pick_of choice) prices) ≡ None
-  slack_right_faultless slack =
+  -- an assignment that is slack-right at 1 and leaves no price
+  pub slack_right_faultless : All (IsSlackRight (pos 1) (scale_of p) prices p.arcs) choice → IsNoPriceLeft prices choice → fault_of p (Optimal cost (map pick_of choice) prices) ≡ None
+  slack_right_faultless slack left =
       let none : position (λ c. not (is_slack_right (scale_of p) prices p.arcs c)) (chosen 0 (map pick_of choice)) ≡ None = ap (position (λ c. not (is_slack_right (scale_of p) prices p.arcs c))) back ∙ none_worse (scale_of p) prices p.arcs choice a_zero slack in
-      behind_none (choice_faults p cost (map pick_of choice) prices) (slack_fault p (map pick_of choice) prices ∷ []) choice_faultless ∙ rw none refl
+      let over : position (is_left_over (map pick_of choice) prices) (range_with_len 0 (length prices)) ≡ None = none_left_over (map pick_of choice) prices (λ j free. left j (subst (λ (js : List ℕ). ¬ Contains js j) same_objects free)) in
+      behind_none (choice_faults p cost (map pick_of choice) prices) (slack_fault p (map pick_of choice) prices ∷ left_over_fault (map pick_of choice) prices ∷ []) choice_faultless ∙ rw (none, over) refl
 
   -- an assignment, and the bound of some prices
   pub bracket_faultless : (reason : Reason) (lower : ℤ) → IsLower (scale_of p) (dual p prices) lower → fault_of p (Bracket reason lower cost (map pick_of choice) prices) ≡ None
@@ -133,15 +149,15 @@ module _ (p : Problem) (choice : List Arc) (given : IsAssignment p choice) (pric
 
 -- ---- and has a text
 
-picks_are : (m n : ℕ) (arcs choice : List Arc) → n ≤ 10000 → All (IsWithin m n) arcs → All (Contains arcs) choice → All IsPick (map pick_of choice)
-picks_are m n arcs [] few within known = All-nil IsPick
-picks_are m n arcs (a ∷ choice) few within known =
+picks_are : (most m n : ℕ) (arcs choice : List Arc) → n ≤ most → All (IsWithin m n) arcs → All (Contains arcs) choice → All (IsPick most) (map pick_of choice)
+picks_are most m n arcs [] few within known = All-nil (IsPick most)
+picks_are most m n arcs (a ∷ choice) few within known =
     let there = All-head (Contains arcs) a choice known in
     let w : IsWithin m n a = subst (IsWithin m n) there.2 (within there.0 a there.1) in
     let object = w.object in
     let low = w.low in
     let high = w.high in
-    All-cons IsPick (pick_of a) (map pick_of choice) (record { object = omega (arith, object, few); low = omega (arith, ints, low); high = omega (arith, ints, high) }) (picks_are m n arcs choice few within (All-tail (Contains arcs) a choice known))
+    All-cons (IsPick most) (pick_of a) (map pick_of choice) (record { object = omega (arith, object, few); low = omega (arith, ints, low); high = omega (arith, ints, high) }) (picks_are most m n arcs choice few within (All-tail (Contains arcs) a choice known))
 
 costs_between : (m n : ℕ) (arcs choice : List Arc) → All (IsWithin m n) arcs → All (Contains arcs) choice → (neg_ℤ (pos (length choice * 10 ^ 9)) ≤ℤ total_cost choice) × (total_cost choice ≤ℤ pos (length choice * 10 ^ 9))
 costs_between m n arcs [] within known = (omega (arith, ints), omega (arith, ints))
@@ -153,6 +169,14 @@ costs_between m n arcs (a ∷ choice) within known =
     let high = w.high in
     (omega (arith, ints, rest.0, low), omega (arith, ints, rest.1, high))
 
+-- a problem's objects are numbered by the version of its claims
+within_version : (n m persons objects : ℕ) → n ≡ persons → m ≡ objects → persons ≤ 10000 → objects ≤ 20000 → objects ≤ most_in (version_of_sizes n m)
+within_version n m persons objects size len most few =
+    elim (cases_eq m n) [
+      | inl same ↦ subst (λ (v : Version). objects ≤ most_in v) (sym (sized_first n m same)) (omega arith)
+      | inr other ↦ (let t : eqb m n ≡ false = ne_eqb m n other in rw t few)
+    ]
+
 pub assignment_spelled : (p : Problem) (choice : List Arc) (prices : List ℤ) → IsProblem p → IsAssignment p choice → length prices ≡ p.objects → All IsPrice prices → IsSpelled (Optimal (total_cost choice) (map pick_of choice) prices)
 assignment_spelled p choice prices is given len fair =
     let size : length (map pick_of choice) ≡ p.persons = many p choice given prices len (total_cost choice) refl in
@@ -160,13 +184,22 @@ assignment_spelled p choice prices is given len fair =
     let both = costs_between p.persons p.objects p.arcs choice is.within given.arcs in
     let some = is.some in
     let most = is.most in
-    let square = is.square in (
+    let enough = is.enough in
+    let most_objects = is.most_objects in
+    let numbered : p.objects ≤ most_in (choice_version (map pick_of choice) prices) = within_version (length (map pick_of choice)) (length prices) p.persons p.objects size len most most_objects in (
       omega (arith, ints, both.0, both.1, arcs, most),
-      record { some = omega (arith, size, some); most = omega (arith, size, most); as_many = omega (arith, len, square, size); picks = picks_are p.persons p.objects p.arcs choice is.most_objects is.within given.arcs; fair = fair },
+      record {
+        some = omega (arith, size, some);
+        most = omega (arith, size, most);
+        enough = omega (arith, len, enough, size);
+        few = omega (arith, len, most_objects);
+        picks = picks_are (most_in (choice_version (map pick_of choice) prices)) p.persons p.objects p.arcs choice numbered is.within given.arcs;
+        fair = fair;
+      },
     )
 
-pub bracket_spelled : (p : Problem) (choice : List Arc) (prices : List ℤ) (lower : ℤ) (reason : Reason) → IsProblem p → IsAssignment p choice → length prices ≡ p.objects → All IsPrice prices → IsLower (scale_of p) (dual p prices) lower
+pub bracket_spelled : (p : Problem) (choice : List Arc) (prices : List ℤ) (lower : ℤ) (reason : Reason) → IsProblem p → IsAssignment p choice → length prices ≡ p.objects → All IsPrice prices → AreFewPriced p prices → IsLower (scale_of p) (dual p prices) lower
     → IsSpelled (Bracket reason lower (total_cost choice) (map pick_of choice) prices)
-bracket_spelled p choice prices lower reason is given len fair least =
+bracket_spelled p choice prices lower reason is given len fair priced least =
     let spelled = assignment_spelled p choice prices is given len fair in
-    (lower_fits p prices choice lower is.most is.within is.square len fair given least, spelled.0, spelled.1)
+    (lower_fits p prices choice lower is.most is.within len fair priced given least, spelled.0, spelled.1)

@@ -1,5 +1,5 @@
 -- What the test of persons who know too few objects finds, and of whom.
-use Rattle.std.proofs.Common.{◌≡◌, ℕ, zero, suc, ◌<◌, ◌≤◌, Bool, true, false, not, ◌||◌, List, [], ◌∷◌, length, get_or, refl, sym, ap, subst, ◌∙◌, arith, eqb, Contains, All}
+use Rattle.std.proofs.Common.{◌≡◌, ℕ, ◌+◌, zero, suc, ◌<◌, ◌≤◌, Bool, true, false, not, ◌||◌, List, [], ◌∷◌, length, get_or, refl, sym, ap, subst, ◌∙◌, arith, eqb, Contains, All}
 use Rattle.std.specs.Prelude.{◌&&◌, nat_lt}
 use Rattle.std.specs.List.{list_all}
 use Rattle.std.proofs.lemmas.Bool.{and_parts, and_from}
@@ -9,12 +9,12 @@ use Rattle.std.proofs.lemmas.Map.Views.{Contains-from_any}
 use Rattle.auc_graph.specs.declared.arc.Arc.{Arc}
 use Rattle.auc_graph.specs.Problem.{Problem, IsProblem, IsWithin}
 use Rattle.auc_graph.specs.HallSet.{IsHallSet}
-use Rattle.auc_graph.specs.Rising.{IsRising}
+use Rattle.auc_graph.specs.Rising.{IsRising, Rises}
 use Rattle.auc_graph.proofs.RisingLaws.{rising_differ}
 use Rattle.auc_cert.specs.Spelled.{AreNamed}
 use Rattle.auc_cert.specs.Claim.{are_below, is_listed, stays_within, is_hall, AreListed}
 use Rattle.auc_cert.specs.Runs.{IsBelow}
-use Rattle.auc_cert.proofs.RisingLaws.{is_rising, rises_from}
+use Rattle.auc_cert.proofs.RisingLaws.{is_rising, rises_from, rises_room}
 
 passes_at : {X : Type 0} (test : X → Bool) (xs : List X) (k : ℕ) (x : X) → list_all test xs ≡ true → k < length xs → get_or xs k x ≡ x → test x ≡ true
 passes_at test [] k x h lt e = absurd (omega arith)
@@ -86,11 +86,11 @@ hall_set_passes p persons objects s within =
     (and_from (nat_lt (length objects) (length persons)) (list_all (stays_within persons objects) p.arcs) (is_less (length objects) (length persons) s.fewer)
     (all_pass (stays_within persons objects) p.arcs (λ a c. known_from (is_listed persons a.person) (is_listed objects a.object) (λ his. is_in_list objects a.object (s.all a c (listed_is persons a.person his))))))
 
-all_contained : (n : ℕ) (numbers : List ℕ) → ((k : ℕ) → Contains numbers k → k < n) → n ≤ 10000 → All (IsBelow 10000) numbers
-all_contained n [] h le = All-nil (IsBelow 10000)
-all_contained n (k ∷ numbers) h le =
+all_contained : (most n : ℕ) (numbers : List ℕ) → ((k : ℕ) → Contains numbers k → k < n) → n ≤ most → All (IsBelow most) numbers
+all_contained most n [] h le = All-nil (IsBelow most)
+all_contained most n (k ∷ numbers) h le =
     let here : k < n = h k (0, omega arith, refl) in
-    All-cons (IsBelow 10000) k numbers (omega arith) (all_contained n numbers (λ j c. h j (suc c.0, omega (arith, c.1), c.2)) le)
+    All-cons (IsBelow most) k numbers (omega arith) (all_contained most n numbers (λ j c. h j (suc c.0, omega (arith, c.1), c.2)) le)
 
 none_below_0 : (numbers : List ℕ) → All (λ k. 0 ≤ k) numbers
 none_below_0 numbers i d lt = omega arith
@@ -99,12 +99,15 @@ none_below_0 numbers i d lt = omega arith
 pub hall_set_named : (p : Problem) (persons objects : List ℕ) → IsProblem p → IsHallSet p persons objects → IsRising persons → IsRising objects → ((j : ℕ) → Contains objects j → j < p.objects) → AreNamed persons objects
 hall_set_named p persons objects is s persons_rise objects_rise within =
     let most : p.persons ≤ 10000 = is.most in
-    let most_objects : p.objects ≤ 10000 = is.most_objects in
+    let most_objects : p.objects ≤ 20000 = is.most_objects in
     let fewer : length objects < length persons = s.fewer in
+    let rises : Rises 0 10000 persons = rises_from 0 10000 persons (none_below_0 persons) (all_contained 10000 p.persons persons s.within most) persons_rise in
+    let room : 0 + length persons ≤ 10000 = rises_room 0 10000 persons (omega arith) rises in
     record {
       some = omega arith;
-      persons_rise = rises_from 0 10000 persons (none_below_0 persons) (all_contained p.persons persons s.within most) persons_rise;
-      objects_rise = rises_from 0 10000 objects (none_below_0 objects) (all_contained p.objects objects within most_objects) objects_rise;
+      few = omega arith;
+      persons_rise = rises;
+      objects_rise = rises_from 0 20000 objects (none_below_0 objects) (all_contained 20000 p.objects objects within most_objects) objects_rise;
     }
 
 same_all : {X : Type 0} (f g : X → Bool) (xs : List X) → ((x : X) → Contains xs x → f x ≡ g x) → list_all f xs ≡ list_all g xs

@@ -16,6 +16,7 @@ mod SecondLineLaws
 mod SlackLaws
 mod RunLaws
 mod RisingRuns
+mod VersionLaws
 mod TextLines
 mod ChoiceLaws
 mod NameLaws

@@ -4,7 +4,7 @@ use Rattle.std.proofs.lemmas.List.{take-append-drop, drop_more}
 use Rattle.std.proofs.lemmas.List.Elements.{All-nil, All-cons, All-head, All-tail}
 use Rattle.std.proofs.lemmas.List.Kept.{AllPairs-cons}
 use Rattle.auc_graph.specs.Rising.{IsRising, Rises}
-use Rattle.auc_cert.specs.Runs.{least_behind}
+use Rattle.auc_cert.specs.Spelled.{least_behind}
 
 pub rises_append : (least end : ℕ) (xs ys : List ℕ) → Rises least end xs → Rises (least_behind least xs) end ys → Rises least end (xs ++ ys)
 rises_append least end [] ys p q = q
@@ -79,3 +79,50 @@ rises_at end xs i d lt p =
     let split : xs ≡ take i xs ++ (get_or xs i d ∷ drop (i + 1) xs) = sym (take-append-drop i xs) ∙ ap (λ (ys : List ℕ). take i xs ++ ys) (drop_more xs i d lt) in
     let q = rises_behind 0 end (take i xs) (get_or xs i d ∷ drop (i + 1) xs) (subst (Rises 0 end) split p) in
     (q.0, q.1)
+
+-- ---- how far a list goes
+
+pub rises_from_lower : (low least end : ℕ) (xs : List ℕ) → low ≤ least → Rises least end xs → Rises low end xs
+rises_from_lower low least end [] le p = tt
+rises_from_lower low least end (x ∷ xs) le p = let above : least ≤ x = p.0 in (omega arith, p.1, p.2)
+
+pub rises_below_higher : (least end high : ℕ) (xs : List ℕ) → end ≤ high → Rises least end xs → Rises least high xs
+rises_below_higher least end high [] le p = tt
+rises_below_higher least end high (x ∷ xs) le p = let below : x < end = p.1 in (p.0, omega arith, rises_below_higher (x + 1) end high xs le p.2)
+
+pub behind_above : (least end : ℕ) (xs : List ℕ) → Rises least end xs → least ≤ least_behind least xs
+behind_above least end [] p = omega arith
+behind_above least end (x ∷ xs) p = let above : least ≤ x = p.0 in let rest = behind_above (x + 1) end xs p.2 in omega (arith, above, rest)
+
+-- it is below all that its last one is below
+pub rises_below_last : (least end high : ℕ) (xs : List ℕ) → Rises least end xs → least_behind least xs ≤ high → Rises least high xs
+rises_below_last least end high [] p le = tt
+rises_below_last least end high (x ∷ xs) p le = let rest = behind_above (x + 1) end xs p.2 in (p.0, omega (arith, rest, le), rises_below_last (x + 1) end high xs p.2 le)
+
+pub behind_below : (least end : ℕ) (xs : List ℕ) → least ≤ end → Rises least end xs → least_behind least xs ≤ end
+behind_below least end [] le p = le
+behind_below least end (x ∷ xs) le p = let below : x < end = p.1 in behind_below (x + 1) end xs (omega arith) p.2
+
+behind_append : (least : ℕ) (xs ys : List ℕ) → least_behind least (xs ++ ys) ≡ least_behind (least_behind least xs) ys
+behind_append least [] ys = refl
+behind_append least (x ∷ xs) ys = behind_append (x + 1) xs ys
+
+behind_counted : (least a m : ℕ) → least_behind least (counted a (suc m)) ≡ a + suc m
+behind_counted least a zero = omega arith
+behind_counted least a (suc m) = omega (arith, behind_counted (a + 1) (a + 1) m)
+
+-- the last numbers below an end, of which there are m
+pub behind_top : (xs : List ℕ) (a m end : ℕ) → 0 < m → a + m ≡ end → least_behind 0 (xs ++ counted a m) ≡ end
+behind_top xs a zero end some is = absurd (omega arith)
+behind_top xs a (suc m) end some is = behind_append 0 xs (counted a (suc m)) ∙ behind_counted (least_behind 0 xs) a m ∙ is
+
+pub behind_some : (least end : ℕ) (xs : List ℕ) → 0 < length xs → Rises least end xs → least < least_behind least xs
+behind_some least end [] some p = absurd (omega arith)
+behind_some least end (x ∷ xs) some p = let above : least ≤ x = p.0 in let rest = behind_above (x + 1) end xs p.2 in omega (arith, above, rest)
+
+pub behind_last : (least : ℕ) (xs : List ℕ) (n d : ℕ) → length xs ≡ suc n → least_behind least xs ≡ get_or xs n d + 1
+behind_last least [] n d len = absurd (omega arith)
+behind_last least (x ∷ []) zero d len = refl
+behind_last least (x ∷ y ∷ xs) zero d len = absurd (omega arith)
+behind_last least (x ∷ []) (suc n) d len = absurd (omega arith)
+behind_last least (x ∷ y ∷ xs) (suc n) d len = behind_last (x + 1) (y ∷ xs) n d (omega arith)

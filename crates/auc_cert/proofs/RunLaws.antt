@@ -40,15 +40,15 @@ breaks_off line ok n bytes k xs rest run few none = record { front = xs; rest = 
 pub none_some : {A : Type 0} (x : A) → ◌≡◌ {A = Option A} None (Some x) → ⊥
 none_some x e = cc
 
-pub no_pick : (i : ℕ) (rest : List ℕ) → i < 10000 → None ≡ pick_line_at i rest → (x : Pick) (more : List ℕ) → IsPick x → rest ≡ assign_line i x ++ more → ⊥
-no_pick i rest lt e x more h is = none_some (x, more) (e ∙ ap (pick_line_at i) is ∙ pick_again i x more lt h)
+pub no_pick : (most i : ℕ) (rest : List ℕ) → most ≤ 20000 → i < 10000 → None ≡ pick_line_at most i rest → (x : Pick) (more : List ℕ) → IsPick most x → rest ≡ assign_line i x ++ more → ⊥
+no_pick most i rest few lt e x more h is = none_some (x, more) (e ∙ ap (pick_line_at most i) is ∙ pick_again most i x more few lt h)
 
-pub no_price : (j : ℕ) (rest : List ℕ) → j < 10000 → None ≡ price_line_at j rest → (z : ℤ) (more : List ℕ) → IsPrice z → rest ≡ price_line j z ++ more → ⊥
+pub no_price : (j : ℕ) (rest : List ℕ) → j < 20000 → None ≡ price_line_at j rest → (z : ℤ) (more : List ℕ) → IsPrice z → rest ≡ price_line j z ++ more → ⊥
 no_price j rest lt e z more h is = none_some (z, more) (e ∙ ap (price_line_at j) is ∙ price_again j z more lt h)
 
-pub pick_more : (i : ℕ) (bytes : List ℕ) (xs : List Pick) (rest : List ℕ) (x : Pick) (more : List ℕ)
-    → IsRun assign_line IsPick i bytes xs rest → pick_line_at i rest ≡ Some (x, more) → IsRun assign_line IsPick (i + 1) bytes (xs ++ x ∷ []) more
-pick_more i bytes xs rest x more run e = let t = pick_takes i rest x more e in run_more assign_line IsPick i bytes xs rest x more run t.0 t.1
+pub pick_more : (most i : ℕ) (bytes : List ℕ) (xs : List Pick) (rest : List ℕ) (x : Pick) (more : List ℕ)
+    → IsRun assign_line (IsPick most) i bytes xs rest → pick_line_at most i rest ≡ Some (x, more) → IsRun assign_line (IsPick most) (i + 1) bytes (xs ++ x ∷ []) more
+pick_more most i bytes xs rest x more run e = let t = pick_takes most i rest x more e in run_more assign_line (IsPick most) i bytes xs rest x more run t.0 t.1
 
 pub price_more : (j : ℕ) (bytes : List ℕ) (xs : List ℤ) (rest : List ℕ) (z : ℤ) (more : List ℕ)
     → IsRun price_line IsPrice j bytes xs rest → price_line_at j rest ≡ Some (z, more) → IsRun price_line IsPrice (j + 1) bytes (xs ++ z ∷ []) more
@@ -56,35 +56,35 @@ price_more j bytes xs rest z more run e = let t = price_takes j rest z more e in
 
 -- ---- two runs of one text
 
--- a line of one value is the line of no other
-abbrev pub TellsApart : (X : Type 0) → (ℕ → X → List ℕ) → (X → Type 0) → Type 0
-TellsApart X line ok = (k : ℕ) (x y : X) → k < 10000 → ok x → ok y → line k x ≡ line k y → x ≡ y
+-- a line of one value is the line of no other, on the first lines
+abbrev pub TellsApart : ℕ → (X : Type 0) → (ℕ → X → List ℕ) → (X → Type 0) → Type 0
+TellsApart lines X line ok = (k : ℕ) (x y : X) → k < lines → ok x → ok y → line k x ≡ line k y → x ≡ y
 
-pub picks_apart : TellsApart Pick assign_line IsPick
-picks_apart k x y lt p q e =
-    let pair = some_is (x, []) (y, []) (sym (pick_again k x [] lt p) ∙ ap (λ (l : List ℕ). pick_line_at k (l ++ [])) e ∙ pick_again k y [] lt q) in
+pub picks_apart : (most : ℕ) → most ≤ 20000 → TellsApart 10000 Pick assign_line (IsPick most)
+picks_apart most few k x y lt p q e =
+    let pair = some_is (x, []) (y, []) (sym (pick_again most k x [] few lt p) ∙ ap (λ (l : List ℕ). pick_line_at most k (l ++ [])) e ∙ pick_again most k y [] few lt q) in
     ap (λ (t : Pick × List ℕ). t.0) pair
 
-pub prices_apart : TellsApart ℤ price_line IsPrice
+pub prices_apart : TellsApart 20000 ℤ price_line IsPrice
 prices_apart k x y lt p q e =
     let pair = some_is (x, []) (y, []) (sym (price_again k x [] lt p) ∙ ap (λ (l : List ℕ). price_line_at k (l ++ [])) e ∙ price_again k y [] lt q) in
     ap (λ (t : ℤ × List ℕ). t.0) pair
 
-pub numbers_apart : (front : List ℕ) → TellsApart ℕ (number_line front) (IsBelow 10000)
+pub numbers_apart : (front : List ℕ) → TellsApart 20000 ℕ (number_line front) (IsBelow 20000)
 numbers_apart front k x y lt p q e =
-    let pair = some_is (x, []) (y, []) (sym (number_again front k 0 10000 x [] (omega arith) p (omega arith)) ∙ ap (λ (l : List ℕ). number_at front 0 10000 (l ++ [])) e ∙ number_again front k 0 10000 y [] (omega arith) q (omega arith)) in
+    let pair = some_is (x, []) (y, []) (sym (number_again front k 0 20000 x [] (omega arith) p (omega arith)) ∙ ap (λ (l : List ℕ). number_at front 0 20000 (l ++ [])) e ∙ number_again front k 0 20000 y [] (omega arith) q (omega arith)) in
     ap (λ (t : ℕ × List ℕ). t.0) pair
 
 -- runs of one length at the front of one list of lines are the same, and so is what follows
-pub same_run : (X : Type 0) (line : ℕ → X → List ℕ) (ok : X → Type 0) (k : ℕ) (xs ys : List X) (t u : List (List ℕ)) → TellsApart X line ok → All ok xs → All ok ys → k + length xs ≤ 10000 → length xs ≡ length ys
+pub same_run : (lines : ℕ) (X : Type 0) (line : ℕ → X → List ℕ) (ok : X → Type 0) (k : ℕ) (xs ys : List X) (t u : List (List ℕ)) → TellsApart lines X line ok → All ok xs → All ok ys → k + length xs ≤ lines → length xs ≡ length ys
     → numbered line k xs ++ t ≡ numbered line k ys ++ u → (xs ≡ ys) × (t ≡ u)
-same_run X line ok k [] [] t u apart p q le len e = (refl, e)
-same_run X line ok k [] (y ∷ ys) t u apart p q le len e = absurd (omega arith)
-same_run X line ok k (x ∷ xs) [] t u apart p q le len e = absurd (omega arith)
-same_run X line ok k (x ∷ xs) (y ∷ ys) t u apart p q le len e =
+same_run lines X line ok k [] [] t u apart p q le len e = (refl, e)
+same_run lines X line ok k [] (y ∷ ys) t u apart p q le len e = absurd (omega arith)
+same_run lines X line ok k (x ∷ xs) [] t u apart p q le len e = absurd (omega arith)
+same_run lines X line ok k (x ∷ xs) (y ∷ ys) t u apart p q le len e =
     let here : line k x ≡ line k y = cc in
     let more : numbered line (k + 1) xs ++ t ≡ numbered line (k + 1) ys ++ u = cc in
-    let r = same_run X line ok (k + 1) xs ys t u apart (All-tail ok x xs p) (All-tail ok y ys q) (omega arith) (omega arith) more in
+    let r = same_run lines X line ok (k + 1) xs ys t u apart (All-tail ok x xs p) (All-tail ok y ys q) (omega arith) (omega arith) more in
     let h : x ≡ y = apart k x y (omega arith) (All-head ok x xs p) (All-head ok y ys q) here in
     (ap (λ (l : List X). x ∷ l) r.0 ∙ ap (λ (a : X). a ∷ ys) h, r.1)
 
@@ -126,16 +126,16 @@ pub record GoesBeyond (X : Type 0) (line : ℕ → X → List ℕ) (xs ys : List
   pub others : List (List ℕ)
   pub is : more ≡ line k value ∷ others
 
-pub goes_beyond : (X : Type 0) (line : ℕ → X → List ℕ) (ok : X → Type 0) (k : ℕ) (xs ys : List X) (t more : List (List ℕ)) → TellsApart X line ok → All ok xs → All ok ys → k + length ys ≤ 10000 → length xs < length ys
+pub goes_beyond : (lines : ℕ) (X : Type 0) (line : ℕ → X → List ℕ) (ok : X → Type 0) (k : ℕ) (xs ys : List X) (t more : List (List ℕ)) → TellsApart lines X line ok → All ok xs → All ok ys → k + length ys ≤ lines → length xs < length ys
     → numbered line k ys ++ t ≡ numbered line k xs ++ more → GoesBeyond X line xs ys (k + length xs) more
-goes_beyond X line ok k xs [] t more apart p q le lt e = absurd (omega arith)
-goes_beyond X line ok k [] (y ∷ ys) t more apart p q le lt e =
+goes_beyond lines X line ok k xs [] t more apart p q le lt e = absurd (omega arith)
+goes_beyond lines X line ok k [] (y ∷ ys) t more apart p q le lt e =
     let at : k ≡ k + 0 = omega arith in
     record { value = y; behind = ys; split = refl; others = numbered line (k + 1) ys ++ t; is = sym e ∙ ap (λ (m : ℕ). line m y ∷ (numbered line (k + 1) ys ++ t)) at }
-goes_beyond X line ok k (x ∷ xs) (y ∷ ys) t more apart p q le lt e =
+goes_beyond lines X line ok k (x ∷ xs) (y ∷ ys) t more apart p q le lt e =
     let here : line k y ≡ line k x = cc in
     let rest : numbered line (k + 1) ys ++ t ≡ numbered line (k + 1) xs ++ more = cc in
-    let r = goes_beyond X line ok (k + 1) xs ys t more apart (All-tail ok x xs p) (All-tail ok y ys q) (omega arith) (omega arith) rest in
+    let r = goes_beyond lines X line ok (k + 1) xs ys t more apart (All-tail ok x xs p) (All-tail ok y ys q) (omega arith) (omega arith) rest in
     let same : y ≡ x = apart k y x (omega arith) (All-head ok y ys q) (All-head ok x xs p) here in
     let at : k + 1 + length xs ≡ k + suc (length xs) = omega arith in
     record {

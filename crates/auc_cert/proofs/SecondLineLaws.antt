@@ -1,5 +1,5 @@
 -- The second line of a certificate: what is read is spelled so, and what is spelled so is read.
-use Rattle.std.proofs.Common.{◌≡◌, ℕ, ◌-◌, ◌≤◌, ◌^◌, Bool, true, List, [], ◌∷◌, ◌++◌, Option, Some, None, refl, sym, ap, subst, ◌∙◌, arith, w64, append_assoc, inl, inr}
+use Rattle.std.proofs.Common.{◌≡◌, ◌≢◌, All, ℕ, ◌+◌, ◌-◌, ◌≤◌, ◌<◌, ◌^◌, Bool, true, List, [], ◌∷◌, ◌++◌, Option, Some, None, refl, sym, ap, subst, ◌∙◌, arith, w64, append_assoc, inl, inr}
 use Rattle.std.specs.Prelude.{ℤ, pos, neg_ℤ, FitsSigned, ◌≤ℤ◌, unsigned_abs, codes, nat_eq, ◌&&◌, ◌⊎◌}
 use Rattle.std.specs.Fmt.{decimal, signed_decimal}
 use Rattle.std.specs.Cmp.Lexicographic.{pointwise, same_text}
@@ -7,21 +7,23 @@ use Rattle.std.specs.List.{find}
 use Rattle.std.specs.Option.{option_or}
 use Rattle.std.proofs.lemmas.Bool.{cases_Bool, and_parts}
 use Rattle.std.proofs.lemmas.Int.{ints}
+use Rattle.auc_cert.specs.declared.version.Version.{Version}
+use Rattle.auc_cert.specs.declared.version.Version.TheVariants.{First, Second}
 use Rattle.auc_cert.specs.declared.reason.Reason.{Reason}
 use Rattle.auc_cert.specs.declared.reason.Reason.TheVariants.{Bids, Ceiling, Posts, Trail, Mail}
 use Rattle.auc_cert.specs.declared.second_line.SecondLine.{SecondLine}
 use Rattle.auc_cert.specs.declared.second_line.SecondLine.TheVariants.{Optimal, Infeasible, Bracket}
 use Rattle.auc_cert.specs.Text.{optimal_line, infeasible_line, reason_word, bracket_line}
 use Rattle.auc_cert.specs.CertReading.{IsMark}
-use Rattle.auc_cert.specs.SecondLine.{second_line, IsCount, AreCounts, IsSecondLine}
-use Rattle.auc_cert.specs.Fields.{after, word_at, field_at, long_at, optimal_at, infeasible_at, reason_of, bracket_at, second_line_at}
+use Rattle.auc_cert.specs.SecondLine.{second_line, IsCount, AreObjects, AreSizes, AreCounts, least_named, IsSecondLine}
+use Rattle.auc_cert.specs.Fields.{after, word_at, field_at, long_at, objects_at, optimal_at, infeasible_at, reason_of, bracket_at, second_line_at}
 use Rattle.auc_cert.proofs.WordLaws.{bind_some, some_is, after_takes, after_again, word_takes, word_again, field_takes, field_again}
 use Rattle.auc_cert.proofs.LineLaws.{two_fields, space, line_end, small_fits}
 use Rattle.auc_cert.proofs.TextLines.{IsLine, lacks, all_lack, and_then, and_number, digits}
 
 -- a second line that was read, and what stands behind it
-abbrev pub IsRead : List ℕ → SecondLine × List ℕ → Type 0
-IsRead bytes x = (bytes ≡ second_line x.0 ++ x.1) × IsSecondLine x.0
+abbrev pub IsRead : Version → List ℕ → SecondLine × List ℕ → Type 0
+IsRead v bytes x = (bytes ≡ second_line v x.0 ++ x.1) × IsSecondLine v x.0
 
 -- ---- its numbers
 
@@ -44,7 +46,7 @@ count_again : (front : List ℕ) (n : ℕ) (rest : List ℕ) → IsCount n → f
 count_again front n rest h =
     let some : 1 ≤ n = h.some in
     let most : n ≤ 10000 = h.most in
-    field_again front (pos 1) (pos 10000) 32 ((front ++ decimal n) ++ 32 ∷ rest) (pos n) rest space (small_fits n most) (record { text = refl; low = omega (arith, ints); high = omega (arith, ints) })
+    field_again front (pos 1) (pos 10000) 32 ((front ++ decimal n) ++ 32 ∷ rest) (pos n) rest space (small_fits n (omega arith)) (record { text = refl; low = omega (arith, ints); high = omega (arith, ints) })
 
 -- how many persons, behind a front
 pub record CountsAt (front bytes : List ℕ) (n : ℕ) (rest : List ℕ) : Type 0 where
@@ -58,69 +60,118 @@ count_takes front bytes z rest e =
     let high : z ≤ℤ pos 10000 = f.high in
     record { text = f.text ∙ ap (λ (y : ℤ). (front ++ signed_decimal y) ++ 32 ∷ rest) (is_abs z (omega (arith, ints))); is = record { some = omega (arith, ints); most = omega (arith, ints) } }
 
+-- ---- the objects
+
+-- what the second line has of them
+abbrev objects_word : Version → ℕ → List ℕ
+objects_word First m = []
+objects_word Second m = decimal m ++ 32 ∷ []
+
+abbrev number_and : ℕ → List ℕ → Option (ℕ × List ℕ)
+number_and k r = Some (k, r)
+
+objects_again : (v : Version) (n m : ℕ) (rest : List ℕ) → AreObjects v n m → objects_at v n (objects_word v m ++ rest) ≡ Some (m, rest)
+unfolding objects_at
+objects_again First n m rest h = ap (λ (k : ℕ). number_and k rest) (sym h)
+objects_again Second n m rest h =
+    let low : n < m = h.0 in
+    let high : m ≤ 20000 = h.1 in
+    let a = field_again [] (pos (n + 1)) (pos 20000) 32 ((decimal m ++ 32 ∷ []) ++ rest) (pos m) rest space (small_fits m high) (record { text = append_assoc (decimal m) (32 ∷ []) rest; low = omega (arith, ints); high = omega (arith, ints) }) in
+    rw a refl
+
+objects_taken : (n : ℕ) (bytes : List ℕ) (z : ℤ) (r : List ℕ) (m : ℕ) (rest : List ℕ) → field_at [] (pos (n + 1)) (pos 20000) 32 bytes ≡ Some (z, r) → ◌≡◌ {A = ℕ × List ℕ} (unsigned_abs z, r) (m, rest) → (bytes ≡ objects_word Second m ++ rest) × AreObjects Second n m
+objects_taken n bytes z r m rest a e =
+    let f = field_takes [] (pos (n + 1)) (pos 20000) 32 bytes z r a in
+    let low : pos (n + 1) ≤ℤ z = f.low in
+    let high : z ≤ℤ pos 20000 = f.high in
+    let text : bytes ≡ objects_word Second (unsigned_abs z) ++ r = f.text ∙ ap (λ (y : ℤ). signed_decimal y ++ 32 ∷ r) (is_abs z (omega (arith, ints))) ∙ sym (append_assoc (decimal (unsigned_abs z)) (32 ∷ []) r) in
+    let here : (bytes ≡ objects_word Second (unsigned_abs z) ++ r) × AreObjects Second n (unsigned_abs z) = (text, (omega (arith, ints), omega (arith, ints))) in
+    subst (λ (x : ℕ × List ℕ). (bytes ≡ objects_word Second x.0 ++ x.1) × AreObjects Second n x.0) e here
+
+objects_takes : (v : Version) (n : ℕ) (bytes : List ℕ) (m : ℕ) (rest : List ℕ) → objects_at v n bytes ≡ Some (m, rest) → (bytes ≡ objects_word v m ++ rest) × AreObjects v n m
+unfolding objects_at
+objects_takes First n bytes m rest e =
+    let pair = some_is (n, bytes) (m, rest) e in
+    (ap (λ (x : ℕ × List ℕ). x.1) pair, sym (ap (λ (x : ℕ × List ℕ). x.0) pair))
+objects_takes Second n bytes m rest e =
+    let a = bind_some (field_at [] (pos (n + 1)) (pos 20000) 32 bytes) (λ x. Some (unsigned_abs x.0, x.1)) (m, rest) e in
+    objects_taken n bytes a.0.0 a.0.1 m rest a.1 (some_is (unsigned_abs a.0.0, a.0.1) (m, rest) a.2)
+
 -- ---- optimal
 
-optimal_steps : (bytes : List ℕ) (z0 z1 : ℤ) (r0 r1 : List ℕ)
+three_sizes : (f a b c rest : List ℕ) → ((((((f ++ a) ++ (32 ∷ [])) ++ b) ++ (32 ∷ [])) ++ c) ++ (10 ∷ [])) ++ rest ≡ (f ++ a) ++ 32 ∷ ((b ++ 32 ∷ []) ++ (c ++ 10 ∷ rest))
+three_sizes f a b c rest = simp append_assoc
+
+optimal_text : (v : Version) (n m : ℕ) (cost : ℤ) (rest : List ℕ) → optimal_line v n m cost ++ rest ≡ (codes "optimal " ++ decimal n) ++ 32 ∷ (objects_word v m ++ (signed_decimal cost ++ 10 ∷ rest))
+optimal_text First n m cost rest = two_fields (codes "optimal ") (decimal n) (signed_decimal cost) rest
+optimal_text Second n m cost rest = three_sizes (codes "optimal ") (decimal n) (decimal m) (signed_decimal cost) rest
+
+optimal_steps : (v : Version) (bytes : List ℕ) (z0 z1 : ℤ) (m : ℕ) (r0 r1 r2 : List ℕ)
     → field_at (codes "optimal ") (pos 1) (pos 10000) 32 bytes ≡ Some (z0, r0)
-    → long_at 10 r0 ≡ Some (z1, r1)
-    → optimal_at bytes ≡ Some (Optimal (unsigned_abs z0) z1, r1)
+    → objects_at v (unsigned_abs z0) r0 ≡ Some (m, r1)
+    → long_at 10 r1 ≡ Some (z1, r2)
+    → optimal_at v bytes ≡ Some (Optimal (unsigned_abs z0) m z1, r2)
 unfolding optimal_at
-optimal_steps bytes z0 z1 r0 r1 a b = rw (a, b) refl
+optimal_steps v bytes z0 z1 m r0 r1 r2 a b c = rw (a, b, c) refl
 
-optimal_again : (n : ℕ) (cost : ℤ) (rest : List ℕ) → IsCount n → FitsSigned w64 cost → optimal_at (optimal_line n cost ++ rest) ≡ Some (Optimal n cost, rest)
-optimal_again n cost rest h fits =
-    let r : List ℕ = signed_decimal cost ++ 10 ∷ rest in
-    ap optimal_at (two_fields (codes "optimal ") (decimal n) (signed_decimal cost) rest)
-    ∙ optimal_steps ((codes "optimal " ++ decimal n) ++ 32 ∷ r) (pos n) cost r rest (count_again (codes "optimal ") n r h) (long_again 10 cost rest line_end fits)
+optimal_again : (v : Version) (n m : ℕ) (cost : ℤ) (rest : List ℕ) → AreSizes v n m → FitsSigned w64 cost → optimal_at v (optimal_line v n m cost ++ rest) ≡ Some (Optimal n m cost, rest)
+optimal_again v n m cost rest h fits =
+    let r1 : List ℕ = signed_decimal cost ++ 10 ∷ rest in
+    let r0 : List ℕ = objects_word v m ++ r1 in
+    ap (optimal_at v) (optimal_text v n m cost rest)
+    ∙ optimal_steps v ((codes "optimal " ++ decimal n) ++ 32 ∷ r0) (pos n) cost m r0 r1 rest (count_again (codes "optimal ") n r0 h.count) (objects_again v n m r1 h.beside) (long_again 10 cost rest line_end fits)
 
-optimal_takes : (bytes : List ℕ) (x : SecondLine × List ℕ) → optimal_at bytes ≡ Some x → IsRead bytes x
+optimal_takes : (v : Version) (bytes : List ℕ) (x : SecondLine × List ℕ) → optimal_at v bytes ≡ Some x → IsRead v bytes x
 unfolding optimal_at
-optimal_takes bytes x e =
+optimal_takes v bytes x e =
     let a = bind_some (field_at (codes "optimal ") (pos 1) (pos 10000) 32 bytes) _ x e in
-    let b = bind_some (long_at 10 a.0.1) _ x a.2 in
+    let o = bind_some (objects_at v (unsigned_abs a.0.0) a.0.1) _ x a.2 in
+    let b = bind_some (long_at 10 o.0.1) _ x o.2 in
     let f = count_takes (codes "optimal ") bytes a.0.0 a.0.1 a.1 in
-    let g = long_takes 10 a.0.1 b.0.0 b.0.1 b.1 in
+    let objects = objects_takes v (unsigned_abs a.0.0) a.0.1 o.0.0 o.0.1 o.1 in
+    let g = long_takes 10 o.0.1 b.0.0 b.0.1 b.1 in
     let n : ℕ = unsigned_abs a.0.0 in
-    let read : IsRead bytes (Optimal n b.0.0, b.0.1) = (
-      f.text ∙ ap (λ (r : List ℕ). (codes "optimal " ++ decimal n) ++ 32 ∷ r) g.0 ∙ sym (two_fields (codes "optimal ") (decimal n) (signed_decimal b.0.0) b.0.1),
-      (f.is, g.1),
+    let read : IsRead v bytes (Optimal n o.0.0 b.0.0, b.0.1) = (
+      f.text ∙ ap (λ (r : List ℕ). (codes "optimal " ++ decimal n) ++ 32 ∷ r) (objects.0 ∙ ap (λ (r : List ℕ). objects_word v o.0.0 ++ r) g.0) ∙ sym (optimal_text v n o.0.0 b.0.0 b.0.1),
+      (record { count = f.is; beside = objects.1 }, g.1),
     ) in
-    subst (IsRead bytes) (some_is (Optimal n b.0.0, b.0.1) x b.2) read
+    subst (IsRead v bytes) (some_is (Optimal n o.0.0 b.0.0, b.0.1) x b.2) read
 
 -- ---- infeasible
 
-infeasible_steps : (bytes : List ℕ) (z0 z1 : ℤ) (r0 r1 : List ℕ)
+infeasible_steps : (v : Version) (bytes : List ℕ) (z0 z1 : ℤ) (r0 r1 : List ℕ)
     → field_at (codes "infeasible ") (pos 1) (pos 10000) 32 bytes ≡ Some (z0, r0)
-    → field_at [] (pos 0) (pos 10000) 10 r0 ≡ Some (z1, r1)
-    → infeasible_at bytes ≡ Some (Infeasible (unsigned_abs z0) (unsigned_abs z1), r1)
+    → field_at [] (pos (least_named v)) (pos 10000) 10 r0 ≡ Some (z1, r1)
+    → infeasible_at v bytes ≡ Some (Infeasible (unsigned_abs z0) (unsigned_abs z1), r1)
 unfolding infeasible_at
-infeasible_steps bytes z0 z1 r0 r1 a b = rw (a, b) refl
+infeasible_steps v bytes z0 z1 r0 r1 a b = rw (a, b) refl
 
-infeasible_again : (persons objects : ℕ) (rest : List ℕ) → AreCounts persons objects → infeasible_at (infeasible_line persons objects ++ rest) ≡ Some (Infeasible persons objects, rest)
-infeasible_again persons objects rest h =
+infeasible_again : (v : Version) (persons objects : ℕ) (rest : List ℕ) → AreCounts v persons objects → infeasible_at v (infeasible_line persons objects ++ rest) ≡ Some (Infeasible persons objects, rest)
+infeasible_again v persons objects rest h =
     let r : List ℕ = decimal objects ++ 10 ∷ rest in
     let few : objects ≤ 10000 = h.few in
-    let b = field_again [] (pos 0) (pos 10000) 10 r (pos objects) rest line_end (small_fits objects few) (record { text = refl; low = omega (arith, ints); high = omega (arith, ints) }) in
-    ap infeasible_at (two_fields (codes "infeasible ") (decimal persons) (decimal objects) rest)
-    ∙ infeasible_steps ((codes "infeasible " ++ decimal persons) ++ 32 ∷ r) (pos persons) (pos objects) r rest (count_again (codes "infeasible ") persons r (record { some = h.some; most = h.most })) b
+    let some : least_named v ≤ objects = h.some_objects in
+    let b = field_again [] (pos (least_named v)) (pos 10000) 10 r (pos objects) rest line_end (small_fits objects (omega arith)) (record { text = refl; low = omega (arith, ints); high = omega (arith, ints) }) in
+    ap (infeasible_at v) (two_fields (codes "infeasible ") (decimal persons) (decimal objects) rest)
+    ∙ infeasible_steps v ((codes "infeasible " ++ decimal persons) ++ 32 ∷ r) (pos persons) (pos objects) r rest (count_again (codes "infeasible ") persons r (record { some = h.some; most = h.most })) b
 
-infeasible_takes : (bytes : List ℕ) (x : SecondLine × List ℕ) → infeasible_at bytes ≡ Some x → IsRead bytes x
+infeasible_takes : (v : Version) (bytes : List ℕ) (x : SecondLine × List ℕ) → infeasible_at v bytes ≡ Some x → IsRead v bytes x
 unfolding infeasible_at
-infeasible_takes bytes x e =
+infeasible_takes v bytes x e =
     let a = bind_some (field_at (codes "infeasible ") (pos 1) (pos 10000) 32 bytes) _ x e in
-    let b = bind_some (field_at [] (pos 0) (pos 10000) 10 a.0.1) _ x a.2 in
+    let b = bind_some (field_at [] (pos (least_named v)) (pos 10000) 10 a.0.1) _ x a.2 in
     let f = count_takes (codes "infeasible ") bytes a.0.0 a.0.1 a.1 in
-    let g = field_takes [] (pos 0) (pos 10000) 10 a.0.1 b.0.0 b.0.1 b.1 in
+    let g = field_takes [] (pos (least_named v)) (pos 10000) 10 a.0.1 b.0.0 b.0.1 b.1 in
     let m : ℕ = unsigned_abs a.0.0 in
     let l : ℕ = unsigned_abs b.0.0 in
-    let low : pos 0 ≤ℤ b.0.0 = g.low in
+    let low : pos (least_named v) ≤ℤ b.0.0 = g.low in
     let high : b.0.0 ≤ℤ pos 10000 = g.high in
-    let text : a.0.1 ≡ decimal l ++ 10 ∷ b.0.1 = g.text ∙ ap (λ (y : ℤ). signed_decimal y ++ 10 ∷ b.0.1) (is_abs b.0.0 low) in
-    let read : IsRead bytes (Infeasible m l, b.0.1) = (
+    let text : a.0.1 ≡ decimal l ++ 10 ∷ b.0.1 = g.text ∙ ap (λ (y : ℤ). signed_decimal y ++ 10 ∷ b.0.1) (is_abs b.0.0 (omega (arith, ints))) in
+    let read : IsRead v bytes (Infeasible m l, b.0.1) = (
       f.text ∙ ap (λ (r : List ℕ). (codes "infeasible " ++ decimal m) ++ 32 ∷ r) text ∙ sym (two_fields (codes "infeasible ") (decimal m) (decimal l) b.0.1),
-      record { some = f.is.some; most = f.is.most; few = omega (arith, ints) },
+      record { some = f.is.some; most = f.is.most; some_objects = omega (arith, ints); few = omega (arith, ints) },
     ) in
-    subst (IsRead bytes) (some_is (Infeasible m l, b.0.1) x b.2) read
+    subst (IsRead v bytes) (some_is (Infeasible m l, b.0.1) x b.2) read
 
 -- ---- brackets
 
@@ -155,114 +206,163 @@ reason_is_word Mail = refl
 five_fields : (f a b c d rest : List ℕ) → (((((((((f ++ a) ++ (32 ∷ [])) ++ b) ++ (32 ∷ [])) ++ c) ++ (32 ∷ [])) ++ d) ++ (10 ∷ [])) ++ rest) ≡ f ++ (a ++ 32 ∷ (b ++ 32 ∷ (c ++ 32 ∷ (d ++ 10 ∷ rest))))
 five_fields f a b c d rest = simp append_assoc
 
-bracket_steps : (bytes r0 w r1 : List ℕ) (reason : Reason) (z0 z1 z2 : ℤ) (r2 r3 r4 : List ℕ)
+six_fields : (f a b o c d rest : List ℕ) → (((((((((((f ++ a) ++ (32 ∷ [])) ++ b) ++ (32 ∷ [])) ++ o) ++ (32 ∷ [])) ++ c) ++ (32 ∷ [])) ++ d) ++ (10 ∷ [])) ++ rest) ≡ f ++ (a ++ 32 ∷ (b ++ 32 ∷ ((o ++ 32 ∷ []) ++ (c ++ 32 ∷ (d ++ 10 ∷ rest)))))
+six_fields f a b o c d rest = simp append_assoc
+
+bracket_text : (v : Version) (reason : Reason) (n m : ℕ) (lower cost : ℤ) (rest : List ℕ)
+    → bracket_line v reason n m lower cost ++ rest ≡ codes "bracket " ++ (reason_word reason ++ 32 ∷ (decimal n ++ 32 ∷ (objects_word v m ++ (signed_decimal lower ++ 32 ∷ (signed_decimal cost ++ 10 ∷ rest)))))
+bracket_text First reason n m lower cost rest = five_fields (codes "bracket ") (reason_word reason) (decimal n) (signed_decimal lower) (signed_decimal cost) rest
+bracket_text Second reason n m lower cost rest = six_fields (codes "bracket ") (reason_word reason) (decimal n) (decimal m) (signed_decimal lower) (signed_decimal cost) rest
+
+bracket_steps : (v : Version) (bytes r0 w r1 : List ℕ) (reason : Reason) (z0 z1 z2 : ℤ) (m : ℕ) (r2 r3 r4 r5 : List ℕ)
     → after (codes "bracket ") bytes ≡ Some r0
     → word_at 32 r0 ≡ Some (w, r1)
     → reason_of w ≡ Some reason
     → field_at [] (pos 1) (pos 10000) 32 r1 ≡ Some (z0, r2)
-    → long_at 32 r2 ≡ Some (z1, r3)
-    → long_at 10 r3 ≡ Some (z2, r4)
-    → bracket_at bytes ≡ Some (Bracket reason (unsigned_abs z0) z1 z2, r4)
+    → objects_at v (unsigned_abs z0) r2 ≡ Some (m, r3)
+    → long_at 32 r3 ≡ Some (z1, r4)
+    → long_at 10 r4 ≡ Some (z2, r5)
+    → bracket_at v bytes ≡ Some (Bracket reason (unsigned_abs z0) m z1 z2, r5)
 unfolding bracket_at
-bracket_steps bytes r0 w r1 reason z0 z1 z2 r2 r3 r4 a b c d e f = rw (a, b, c, d, e, f) refl
+bracket_steps v bytes r0 w r1 reason z0 z1 z2 m r2 r3 r4 r5 a b c d o e f = rw (a, b, c, d, o, e, f) refl
 
-bracket_again : (reason : Reason) (n : ℕ) (lower cost : ℤ) (rest : List ℕ) → IsCount n → FitsSigned w64 lower → FitsSigned w64 cost → bracket_at (bracket_line reason n lower cost ++ rest) ≡ Some (Bracket reason n lower cost, rest)
-bracket_again reason n lower cost rest h low fits =
-    let r3 : List ℕ = signed_decimal cost ++ 10 ∷ rest in
-    let r2 : List ℕ = signed_decimal lower ++ 32 ∷ r3 in
+bracket_again : (v : Version) (reason : Reason) (n m : ℕ) (lower cost : ℤ) (rest : List ℕ) → AreSizes v n m → FitsSigned w64 lower → FitsSigned w64 cost → bracket_at v (bracket_line v reason n m lower cost ++ rest) ≡ Some (Bracket reason n m lower cost, rest)
+bracket_again v reason n m lower cost rest h low fits =
+    let r4 : List ℕ = signed_decimal cost ++ 10 ∷ rest in
+    let r3 : List ℕ = signed_decimal lower ++ 32 ∷ r4 in
+    let r2 : List ℕ = objects_word v m ++ r3 in
     let r1 : List ℕ = decimal n ++ 32 ∷ r2 in
     let r0 : List ℕ = reason_word reason ++ 32 ∷ r1 in
     let whole = and_parts (lacks 32 (reason_word reason)) (lacks 10 (reason_word reason)) (reason_is_word reason) in
-    ap bracket_at (five_fields (codes "bracket ") (reason_word reason) (decimal n) (signed_decimal lower) (signed_decimal cost) rest)
-    ∙ bracket_steps (codes "bracket " ++ r0) r0 (reason_word reason) r1 reason (pos n) lower cost r2 r3 rest
-    (after_again (codes "bracket ") r0) (word_again 32 (reason_word reason) r1 (all_lack 32 (reason_word reason) whole.0)) (reason_again reason) (count_again [] n r2 h) (long_again 32 lower r3 space low) (long_again 10 cost rest line_end fits)
+    ap (bracket_at v) (bracket_text v reason n m lower cost rest)
+    ∙ bracket_steps v (codes "bracket " ++ r0) r0 (reason_word reason) r1 reason (pos n) lower cost m r2 r3 r4 rest
+    (after_again (codes "bracket ") r0) (word_again 32 (reason_word reason) r1 (all_lack 32 (reason_word reason) whole.0)) (reason_again reason) (count_again [] n r2 h.count) (objects_again v n m r3 h.beside)
+    (long_again 32 lower r4 space low) (long_again 10 cost rest line_end fits)
 
-bracket_takes : (bytes : List ℕ) (x : SecondLine × List ℕ) → bracket_at bytes ≡ Some x → IsRead bytes x
+bracket_takes : (v : Version) (bytes : List ℕ) (x : SecondLine × List ℕ) → bracket_at v bytes ≡ Some x → IsRead v bytes x
 unfolding bracket_at
-bracket_takes bytes x e =
+bracket_takes v bytes x e =
     let a = bind_some (after (codes "bracket ") bytes) _ x e in
     let b = bind_some (word_at 32 a.0) _ x a.2 in
     let c = bind_some (reason_of b.0.0) _ x b.2 in
     let d = bind_some (field_at [] (pos 1) (pos 10000) 32 b.0.1) _ x c.2 in
-    let f = bind_some (long_at 32 d.0.1) _ x d.2 in
+    let o = bind_some (objects_at v (unsigned_abs d.0.0) d.0.1) _ x d.2 in
+    let f = bind_some (long_at 32 o.0.1) _ x o.2 in
     let g = bind_some (long_at 10 f.0.1) _ x f.2 in
     let count = count_takes [] b.0.1 d.0.0 d.0.1 d.1 in
-    let low = long_takes 32 d.0.1 f.0.0 f.0.1 f.1 in
+    let objects = objects_takes v (unsigned_abs d.0.0) d.0.1 o.0.0 o.0.1 o.1 in
+    let low = long_takes 32 o.0.1 f.0.0 f.0.1 f.1 in
     let last = long_takes 10 f.0.1 g.0.0 g.0.1 g.1 in
     let n : ℕ = unsigned_abs d.0.0 in
-    let text : bytes ≡ codes "bracket " ++ (reason_word c.0 ++ 32 ∷ (decimal n ++ 32 ∷ (signed_decimal f.0.0 ++ 32 ∷ (signed_decimal g.0.0 ++ 10 ∷ g.0.1)))) =
+    let m : ℕ = o.0.0 in
+    let behind : d.0.1 ≡ objects_word v m ++ (signed_decimal f.0.0 ++ 32 ∷ (signed_decimal g.0.0 ++ 10 ∷ g.0.1)) = objects.0 ∙ ap (λ (r : List ℕ). objects_word v m ++ r) (low.0 ∙ ap (λ (r : List ℕ). signed_decimal f.0.0 ++ 32 ∷ r) last.0) in
+    let text : bytes ≡ codes "bracket " ++ (reason_word c.0 ++ 32 ∷ (decimal n ++ 32 ∷ (objects_word v m ++ (signed_decimal f.0.0 ++ 32 ∷ (signed_decimal g.0.0 ++ 10 ∷ g.0.1))))) =
     after_takes (codes "bracket ") bytes a.0 a.1
     ∙ ap (λ (r : List ℕ). codes "bracket " ++ r) (word_takes 32 a.0 b.0.0 b.0.1 b.1 ∙ ap (λ (w : List ℕ). w ++ 32 ∷ b.0.1) (reason_takes b.0.0 c.0 c.1)
-    ∙ ap (λ (r : List ℕ). reason_word c.0 ++ 32 ∷ r) (count.text ∙ ap (λ (r : List ℕ). decimal n ++ 32 ∷ r) (low.0 ∙ ap (λ (r : List ℕ). signed_decimal f.0.0 ++ 32 ∷ r) last.0))) in
-    let read : IsRead bytes (Bracket c.0 n f.0.0 g.0.0, g.0.1) = (
-      text ∙ sym (five_fields (codes "bracket ") (reason_word c.0) (decimal n) (signed_decimal f.0.0) (signed_decimal g.0.0) g.0.1),
-      (count.is, low.1, last.1),
+    ∙ ap (λ (r : List ℕ). reason_word c.0 ++ 32 ∷ r) (count.text ∙ ap (λ (r : List ℕ). decimal n ++ 32 ∷ r) behind)) in
+    let read : IsRead v bytes (Bracket c.0 n m f.0.0 g.0.0, g.0.1) = (
+      text ∙ sym (bracket_text v c.0 n m f.0.0 g.0.0 g.0.1),
+      (record { count = count.is; beside = objects.1 }, low.1, last.1),
     ) in
-    subst (IsRead bytes) (some_is (Bracket c.0 n f.0.0 g.0.0, g.0.1) x g.2) read
+    subst (IsRead v bytes) (some_is (Bracket c.0 n m f.0.0 g.0.0, g.0.1) x g.2) read
 
 -- ---- of whichever kind
 
-first_or : {A : Type 0} (o other : Option A) (x : A) → option_or o other ≡ Some x → (o ≡ Some x) ⊎ (other ≡ Some x)
+pub first_or : {A : Type 0} (o other : Option A) (x : A) → option_or o other ≡ Some x → (o ≡ Some x) ⊎ (other ≡ Some x)
 first_or (Some y) other x e = inl e
 first_or None other x e = inr e
 
-pub second_takes : (bytes : List ℕ) (second : SecondLine) (rest : List ℕ) → second_line_at bytes ≡ Some (second, rest) → (bytes ≡ second_line second ++ rest) × IsSecondLine second
+pub second_takes : (v : Version) (bytes : List ℕ) (second : SecondLine) (rest : List ℕ) → second_line_at v bytes ≡ Some (second, rest) → (bytes ≡ second_line v second ++ rest) × IsSecondLine v second
 unfolding second_line_at
-second_takes bytes second rest e =
-    elim (first_or (option_or (optimal_at bytes) (infeasible_at bytes)) (bracket_at bytes) (second, rest) e) [
+second_takes v bytes second rest e =
+    elim (first_or (option_or (optimal_at v bytes) (infeasible_at v bytes)) (bracket_at v bytes) (second, rest) e) [
       | inl front ↦
-          elim (first_or (optimal_at bytes) (infeasible_at bytes) (second, rest) front) [
-            | inl is ↦ optimal_takes bytes (second, rest) is
-            | inr is ↦ infeasible_takes bytes (second, rest) is
+          elim (first_or (optimal_at v bytes) (infeasible_at v bytes) (second, rest) front) [
+            | inl is ↦ optimal_takes v bytes (second, rest) is
+            | inr is ↦ infeasible_takes v bytes (second, rest) is
           ]
-      | inr is ↦ bracket_takes bytes (second, rest) is
+      | inr is ↦ bracket_takes v bytes (second, rest) is
     ]
 
-not_optimal : (persons objects : ℕ) (rest : List ℕ) → optimal_at (infeasible_line persons objects ++ rest) ≡ None
+not_optimal : (v : Version) (persons objects : ℕ) (rest : List ℕ) → optimal_at v (infeasible_line persons objects ++ rest) ≡ None
 unfolding optimal_at field_at after
-not_optimal persons objects rest = refl
+not_optimal v persons objects rest = refl
 
-nor_optimal : (reason : Reason) (n : ℕ) (lower cost : ℤ) (rest : List ℕ) → optimal_at (bracket_line reason n lower cost ++ rest) ≡ None
+nor_optimal : (v w : Version) (reason : Reason) (n m : ℕ) (lower cost : ℤ) (rest : List ℕ) → optimal_at w (bracket_line v reason n m lower cost ++ rest) ≡ None
 unfolding optimal_at field_at after
-nor_optimal reason n lower cost rest = refl
+nor_optimal First w reason n m lower cost rest = refl
+nor_optimal Second w reason n m lower cost rest = refl
 
-nor_infeasible : (reason : Reason) (n : ℕ) (lower cost : ℤ) (rest : List ℕ) → infeasible_at (bracket_line reason n lower cost ++ rest) ≡ None
+nor_infeasible : (v w : Version) (reason : Reason) (n m : ℕ) (lower cost : ℤ) (rest : List ℕ) → infeasible_at w (bracket_line v reason n m lower cost ++ rest) ≡ None
 unfolding infeasible_at field_at after
-nor_infeasible reason n lower cost rest = refl
+nor_infeasible First w reason n m lower cost rest = refl
+nor_infeasible Second w reason n m lower cost rest = refl
 
-pub second_again : (second : SecondLine) (rest : List ℕ) → IsSecondLine second → second_line_at (second_line second ++ rest) ≡ Some (second, rest)
+pub second_again : (v : Version) (second : SecondLine) (rest : List ℕ) → IsSecondLine v second → second_line_at v (second_line v second ++ rest) ≡ Some (second, rest)
 unfolding second_line_at
-second_again (Optimal n cost) rest h = rw (optimal_again n cost rest h.0 h.1) refl
-second_again (Infeasible persons objects) rest h = rw (not_optimal persons objects rest, infeasible_again persons objects rest h) refl
-second_again (Bracket reason n lower cost) rest h = rw (nor_optimal reason n lower cost rest, nor_infeasible reason n lower cost rest, bracket_again reason n lower cost rest h.0 h.1 h.2) refl
+second_again v (Optimal n m cost) rest h = rw (optimal_again v n m cost rest h.0 h.1) refl
+second_again v (Infeasible persons objects) rest h = rw (not_optimal v persons objects rest, infeasible_again v persons objects rest h) refl
+second_again v (Bracket reason n m lower cost) rest h = rw (nor_optimal v v reason n m lower cost rest, nor_infeasible v v reason n m lower cost rest, bracket_again v reason n m lower cost rest h.0 h.1 h.2) refl
 
--- no two second lines look the same
-pub second_once : (first second : SecondLine) → IsSecondLine first → IsSecondLine second → second_line first ≡ second_line second → first ≡ second
-second_once first second h k e =
-    let pair = some_is (first, []) (second, []) (sym (second_again first [] h) ∙ ap (λ (l : List ℕ). second_line_at (l ++ [])) e ∙ second_again second [] k) in
+-- no two second lines of a version look the same
+pub second_once : (v : Version) (first second : SecondLine) → IsSecondLine v first → IsSecondLine v second → second_line v first ≡ second_line v second → first ≡ second
+second_once v first second h k e =
+    let pair = some_is (first, []) (second, []) (sym (second_again v first [] h) ∙ ap (λ (l : List ℕ). second_line_at v (l ++ [])) e ∙ second_again v second [] k) in
     ap (λ (x : SecondLine × List ℕ). x.0) pair
 
 -- ---- each is a line
 
-pub second_is_line : (second : SecondLine) → IsSecondLine second → IsLine (second_line second)
-second_is_line (Optimal n cost) h =
+optimal_is_line : (v : Version) (n m : ℕ) (cost : ℤ) → AreSizes v n m → FitsSigned w64 cost → IsLine (optimal_line v n m cost)
+optimal_is_line First n m cost h fits =
+    let most : n ≤ 10000 = h.count.most in
     record {
       word = codes "optimal " ++ decimal n ++ codes " " ++ signed_decimal cost;
       text = refl;
-      whole = and_number (codes "optimal " ++ decimal n) cost (and_then (codes "optimal ") (decimal n) (all_lack 10 (codes "optimal ") refl) (digits (pos n) (small_fits n h.0.most))) h.1;
+      whole = and_number (codes "optimal " ++ decimal n) cost (and_then (codes "optimal ") (decimal n) (all_lack 10 (codes "optimal ") refl) (digits (pos n) (small_fits n (omega arith)))) fits;
     }
-second_is_line (Infeasible persons objects) h =
+optimal_is_line Second n m cost h fits =
+    let most : n ≤ 10000 = h.count.most in
+    let few : m ≤ 20000 = h.beside.1 in
+    let start = and_then (codes "optimal ") (decimal n) (all_lack 10 (codes "optimal ") refl) (digits (pos n) (small_fits n (omega arith))) in
     record {
-      word = codes "infeasible " ++ decimal persons ++ codes " " ++ decimal objects;
+      word = codes "optimal " ++ decimal n ++ codes " " ++ decimal m ++ codes " " ++ signed_decimal cost;
       text = refl;
-      whole = and_number (codes "infeasible " ++ decimal persons) (pos objects) (and_then (codes "infeasible ") (decimal persons) (all_lack 10 (codes "infeasible ") refl) (digits (pos persons) (small_fits persons h.most))) (small_fits objects h.few);
+      whole = and_number (codes "optimal " ++ decimal n ++ codes " " ++ decimal m) cost (and_number (codes "optimal " ++ decimal n) (pos m) start (small_fits m few)) fits;
     }
-second_is_line (Bracket reason n lower cost) h =
-    let front : List ℕ = codes "bracket " ++ reason_word reason in
+
+reason_front : (reason : Reason) → All (λ b. b ≢ 10) (codes "bracket " ++ reason_word reason)
+reason_front reason =
     let whole = and_parts (lacks 32 (reason_word reason)) (lacks 10 (reason_word reason)) (reason_is_word reason) in
-    let start = and_then (codes "bracket ") (reason_word reason) (all_lack 10 (codes "bracket ") refl) (all_lack 10 (reason_word reason) whole.1) in
+    and_then (codes "bracket ") (reason_word reason) (all_lack 10 (codes "bracket ") refl) (all_lack 10 (reason_word reason) whole.1)
+
+bracket_is_line : (v : Version) (reason : Reason) (n m : ℕ) (lower cost : ℤ) → AreSizes v n m → FitsSigned w64 lower → FitsSigned w64 cost → IsLine (bracket_line v reason n m lower cost)
+bracket_is_line First reason n m lower cost h low fits =
+    let front : List ℕ = codes "bracket " ++ reason_word reason in
+    let most : n ≤ 10000 = h.count.most in
     record {
       word = front ++ codes " " ++ decimal n ++ codes " " ++ signed_decimal lower ++ codes " " ++ signed_decimal cost;
       text = refl;
-      whole = and_number (front ++ codes " " ++ decimal n ++ codes " " ++ signed_decimal lower) cost (and_number (front ++ codes " " ++ decimal n) lower (and_number front (pos n) start (small_fits n h.0.most)) h.1) h.2;
+      whole = and_number (front ++ codes " " ++ decimal n ++ codes " " ++ signed_decimal lower) cost (and_number (front ++ codes " " ++ decimal n) lower (and_number front (pos n) (reason_front reason) (small_fits n (omega arith))) low) fits;
     }
+bracket_is_line Second reason n m lower cost h low fits =
+    let front : List ℕ = codes "bracket " ++ reason_word reason in
+    let most : n ≤ 10000 = h.count.most in
+    let few : m ≤ 20000 = h.beside.1 in
+    let counts = and_number (front ++ codes " " ++ decimal n) (pos m) (and_number front (pos n) (reason_front reason) (small_fits n (omega arith))) (small_fits m few) in
+    record {
+      word = front ++ codes " " ++ decimal n ++ codes " " ++ decimal m ++ codes " " ++ signed_decimal lower ++ codes " " ++ signed_decimal cost;
+      text = refl;
+      whole = and_number (front ++ codes " " ++ decimal n ++ codes " " ++ decimal m ++ codes " " ++ signed_decimal lower) cost (and_number (front ++ codes " " ++ decimal n ++ codes " " ++ decimal m) lower counts low) fits;
+    }
+
+pub second_is_line : (v : Version) (second : SecondLine) → IsSecondLine v second → IsLine (second_line v second)
+second_is_line v (Optimal n m cost) h = optimal_is_line v n m cost h.0 h.1
+second_is_line v (Infeasible persons objects) h =
+    let most : persons ≤ 10000 = h.most in
+    let few : objects ≤ 10000 = h.few in
+    record {
+      word = codes "infeasible " ++ decimal persons ++ codes " " ++ decimal objects;
+      text = refl;
+      whole = and_number (codes "infeasible " ++ decimal persons) (pos objects) (and_then (codes "infeasible ") (decimal persons) (all_lack 10 (codes "infeasible ") refl) (digits (pos persons) (small_fits persons (omega arith)))) (small_fits objects (omega arith));
+    }
+second_is_line v (Bracket reason n m lower cost) h = bracket_is_line v reason n m lower cost h.0 h.1 h.2

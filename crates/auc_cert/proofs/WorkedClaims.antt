@@ -8,7 +8,7 @@ use Rattle.auc_cert.specs.declared.lists.Pick.{Pick}
 use Rattle.auc_cert.specs.declared.cert.CertParts.{CertParts}
 use Rattle.auc_cert.specs.declared.cert.CertParts.TheVariants.{Optimal, Infeasible, Bracket}
 use Rattle.auc_cert.specs.declared.reason.Reason.TheVariants.{Bids, Mail}
-use Rattle.auc_cert.specs.declared.refused.CertRefused.TheVariants.{WrongSize, NoSuchArc, ObjectTwice, WrongCost, Slack, NotHall, WrongBound}
+use Rattle.auc_cert.specs.declared.refused.CertRefused.TheVariants.{WrongSize, NoSuchArc, ObjectTwice, WrongCost, Slack, LeftOver, NotHall, WrongBound}
 use Rattle.auc_cert.specs.Text.{text}
 use Rattle.auc_cert.specs.Claim.{fault_of}
 
@@ -126,3 +126,49 @@ bound_rounded_down = refl
 
 cost_before_bound : fault_of two_persons (Bracket Bids (pos 4) (pos 5) (pick 0 (pos 1) ∷ pick 1 (pos 3) ∷ []) (pos 4 ∷ pos 0 ∷ [])) ≡ Some WrongCost
 cost_before_bound = refl
+
+-- ---- more objects than persons
+
+-- one person, who knows two objects, and the certificate that he takes the second one at these prices
+abbrev one_person : Problem
+one_person = record { persons = 1; objects = 2; arcs = arc 0 0 (pos 5) ∷ arc 0 1 (pos 3) ∷ [] }
+
+abbrev second_at : ℤ → ℤ → CertParts
+second_at first second = Optimal (pos 3) (pick 1 (pos 3) ∷ []) (first ∷ second ∷ [])
+
+more_prices_spelled : text (second_at (pos 0) (pos 5)) ≡ codes "auction 2\noptimal 1 2 3\nassign 1 2 3\nprice 1 0\nprice 2 5\n"
+unfolding digits
+more_prices_spelled = refl
+
+second_valid : fault_of one_person (second_at (pos 0) (pos 5)) ≡ None
+second_valid = refl
+
+-- 11 is at most 13
+first_left_over : fault_of one_person (second_at (pos 2) (pos 5)) ≡ Some (LeftOver 0)
+first_left_over = refl
+
+-- 12 is above 11
+first_better : fault_of one_person (second_at (pos 0) (pos 6)) ≡ Some (Slack 0)
+first_better = refl
+
+too_few_prices : fault_of one_person (Optimal (pos 3) (pick 1 (pos 3) ∷ []) (pos 0 ∷ [])) ≡ Some WrongSize
+too_few_prices = refl
+
+-- the two persons with an object more: the least values are 6 and 7 again
+abbrev one_object_more : Problem
+one_object_more = record { persons = 2; objects = 3; arcs = two_persons.arcs }
+
+wide_bracket_spelled : text (Bracket Bids (pos 3) (pos 4) (pick 0 (pos 1) ∷ pick 1 (pos 3) ∷ []) (pos 4 ∷ pos 0 ∷ pos 0 ∷ [])) ≡ codes "auction 2\nbracket bids 2 3 3 4\nassign 1 1 1\nassign 2 2 3\nprice 1 4\nprice 2 0\nprice 3 0\n"
+unfolding digits
+wide_bracket_spelled = refl
+
+wide_bracket_valid : fault_of one_object_more (Bracket Bids (pos 3) (pos 4) (pick 0 (pos 1) ∷ pick 1 (pos 3) ∷ []) (pos 4 ∷ pos 0 ∷ pos 0 ∷ [])) ≡ None
+wide_bracket_valid = refl
+
+far_object_spelled : text (Infeasible (0 ∷ 1 ∷ []) (14999 ∷ [])) ≡ codes "auction 2\ninfeasible 2 1\nperson 1\nperson 2\nobject 15000\n"
+unfolding digits
+far_object_spelled = refl
+
+near_object_spelled : text (Infeasible (0 ∷ 1 ∷ []) (9999 ∷ [])) ≡ codes "auction 1\ninfeasible 2 1\nperson 1\nperson 2\nobject 10000\n"
+unfolding digits
+near_object_spelled = refl

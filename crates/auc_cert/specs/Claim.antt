@@ -1,7 +1,7 @@
 -- Which claims the checker lets pass, and which fault it names otherwise.
 use Rattle.std.specs.Prelude.{◌≡◌, ℕ, ◌+◌, ◌==◌, ◌<◌, Bool, true, false, not, ◌&&◌, ◌||◌, nat_lt, if◌then◌else◌, List, [], ◌∷◌, ◌++◌, length, map, Option, Some, None, Result, Ok, Err, ℤ, pos, ◌+ℤ◌, ◌≤ℤ◌, int_le, nat_eq, slice_index_or}
 use Rattle.std.specs.Option.{option_map}
-use Rattle.std.specs.List.{position, list_all, list_any}
+use Rattle.std.specs.List.{position, list_all, list_any, range_with_len}
 use Rattle.std.specs.Ordering.{int_eq}
 use Rattle.auc_graph.specs.declared.arc.Arc.{Arc}
 use Rattle.auc_graph.specs.Problem.{Problem}
@@ -9,10 +9,10 @@ use Rattle.auc_cert.specs.declared.lists.Pick.{Pick}
 use Rattle.auc_cert.specs.declared.cert.CertParts.{CertParts}
 use Rattle.auc_cert.specs.declared.cert.CertParts.TheVariants.{Optimal, Infeasible, Bracket}
 use Rattle.auc_cert.specs.declared.refused.CertRefused.{CertRefused}
-use Rattle.auc_cert.specs.declared.refused.CertRefused.TheVariants.{WrongSize, NoSuchArc, ObjectTwice, WrongCost, Slack, NotHall, WrongBound}
+use Rattle.auc_cert.specs.declared.refused.CertRefused.TheVariants.{WrongSize, NoSuchArc, ObjectTwice, WrongCost, Slack, LeftOver, NotHall, WrongBound}
 use Rattle.auc_graph.specs.Assignment.{total_cost, IsAssignment, IsLeast}
 use Rattle.auc_graph.specs.HallSet.{IsHallSet}
-use Rattle.auc_graph.specs.Dual.{arc_value, scale_of, dual, is_lower}
+use Rattle.auc_graph.specs.Dual.{price_at, arc_value, scale_of, dual, is_lower}
 
 -- the arc that a pick names
 abbrev pub arc_of : ℕ → Pick → Arc
@@ -66,6 +66,18 @@ choice_faults p cost choice prices =
 abbrev pub slack_fault : Problem → List Pick → List ℤ → Option CertRefused
 slack_fault p choice prices = option_map (λ i. Slack i) (position (λ c. not (is_slack_right (scale_of p) prices p.arcs c)) (chosen 0 choice))
 
+-- the objects that are picked
+abbrev pub picked : List Pick → List ℕ
+picked choice = map (λ c. c.object) choice
+
+-- nobody picks the object, and it has a price
+abbrev pub is_left_over : List Pick → List ℤ → ℕ → Bool
+is_left_over choice prices j = not (list_any (nat_eq j) (picked choice)) && not (int_eq (price_at prices j) (pos 0))
+
+-- what the test of the objects that are left over finds: the first one that has a price
+abbrev pub left_over_fault : List Pick → List ℤ → Option CertRefused
+left_over_fault choice prices = option_map (λ j. LeftOver j) (position (is_left_over choice prices) (range_with_len 0 (length prices)))
+
 -- what the test of the lower bound finds: it is the least cost that the dual bound of the prices allows, or it is wrong
 abbrev pub bound_fault : Problem → ℤ → List ℤ → Option CertRefused
 bound_fault p lower prices = fault_if (not (is_lower (scale_of p) (dual p prices) lower)) WrongBound
@@ -86,7 +98,7 @@ is_hall p persons objects = (are_below p.persons persons && are_below p.objects 
 
 -- what the tests of a claim find, in their order
 abbrev pub faults_of : Problem → CertParts → List (Option CertRefused)
-faults_of p (Optimal cost choice prices) = choice_faults p cost choice prices ++ slack_fault p choice prices ∷ []
+faults_of p (Optimal cost choice prices) = choice_faults p cost choice prices ++ slack_fault p choice prices ∷ left_over_fault choice prices ∷ []
 faults_of p (Infeasible persons objects) = fault_if (not (is_hall p persons objects)) NotHall ∷ []
 faults_of p (Bracket reason lower cost choice prices) = choice_faults p cost choice prices ++ bound_fault p lower prices ∷ []
 

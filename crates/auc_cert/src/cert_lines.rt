@@ -1,22 +1,23 @@
-//! The lines of a certificate, read one by one: the first one, and those of picks, prices and names.
+//! The lines of a certificate, read one by one: the first one, which tells the version, and those of picks, prices and names.
 
 ghost use Rattle.std.specs.Prelude.{◌≡◌, ◌<◌, ◌≤◌, IfSome};
-ghost use Rattle.auc_cert.specs.Fields.{viewed, after, pick_line_at, price_line_at, number_at};
-ghost use Rattle.auc_cert.specs.Text.{head_line};
+ghost use Rattle.auc_cert.specs.Fields.{viewed, after, head_at, pick_line_at, price_line_at, number_at};
 
 use crate::fields::{field_of, index_of};
-use crate::limits::{HIGHEST_PRICE, MOST_COST, MOST_OBJECTS};
+use crate::limits::{HIGHEST_PRICE, MOST_COST};
 use crate::lists::Pick;
+use crate::version::Version;
 
-/// The pick on the line of a person at the front, and what stands behind the line.
+/// The pick on the line of a person at the front, of one of `most` objects, and what stands behind the line.
 #[tactic(auto, unfolding(crate::specs::Fields::pick_line_at))]
-pub(crate) fn pick_of(bytes: &[u8], person: u32) -> Option<(Pick, &[u8])>
-    requires { person < 10000 }
-    ensures { viewed (λ x. (x.0, x.1.now)) result ≡ pick_line_at person bytes.now }
+pub(crate) fn pick_of(bytes: &[u8], most: u32, person: u32) -> Option<(Pick, &[u8])>
+    requires most { most ≤ 20000 }
+    requires person { person < 10000 }
+    ensures { viewed (λ x. (x.0, x.1.now)) result ≡ pick_line_at most person bytes.now }
 {
     let place = person as i64 + 1;
     let (_, rest) = field_of(bytes, b"assign ", place, place, b' ')?;
-    let (object, rest) = field_of(rest, b"", 1, MOST_OBJECTS as i64, b' ')?;
+    let (object, rest) = field_of(rest, b"", 1, most as i64, b' ')?;
     let (cost, rest) = field_of(rest, b"", -MOST_COST, MOST_COST, b'\n')?;
     let pick = Pick {
         object: index_of(object),
@@ -28,7 +29,7 @@ pub(crate) fn pick_of(bytes: &[u8], person: u32) -> Option<(Pick, &[u8])>
 /// The price on the line of an object at the front, and what stands behind the line.
 #[tactic(auto, unfolding(crate::specs::Fields::price_line_at))]
 pub(crate) fn price_of(bytes: &[u8], object: u32) -> Option<(i64, &[u8])>
-    requires { object < 10000 }
+    requires { object < 20000 }
     ensures { viewed (λ x. (x.0, x.1.now)) result ≡ price_line_at object bytes.now }
 {
     let place = object as i64 + 1;
@@ -44,7 +45,7 @@ pub(crate) fn number_of<'a>(
     least: u32,
     end: u32,
 ) -> Option<(u32, &'a [u8])>
-    requires { end ≤ 10000 }
+    requires { end ≤ 20000 }
     ensures bounds { IfSome result (λ x. (least ≤ x.0) × (x.0 < end)) }
     ensures exact { viewed (λ x. (x.0, x.1.now)) result ≡ number_at front.now least end bytes.now }
 {
@@ -52,10 +53,22 @@ pub(crate) fn number_of<'a>(
     Some((index_of(number), rest))
 }
 
-/// What stands behind the first line.
+/// What stands behind this first line.
 #[tactic(auto, unfolding(crate::specs::Fields::after))]
-pub(crate) fn after_head(bytes: &[u8]) -> Option<&[u8]>
-    ensures { viewed (λ x. x.now) result ≡ after head_line bytes.now }
+fn after_head<'a>(bytes: &'a [u8], head: &[u8]) -> Option<&'a [u8]>
+    ensures { viewed (λ x. x.now) result ≡ after head.now bytes.now }
 {
-    bytes.strip_prefix(b"auction 1\n")
+    bytes.strip_prefix(head)
+}
+
+/// The version that the first line tells, and what stands behind the line.
+#[tactic(auto, unfolding(crate::specs::Fields::head_at))]
+pub(crate) fn head_of(bytes: &[u8]) -> Option<(Version, &[u8])>
+    ensures { viewed (λ x. (x.0, x.1.now)) result ≡ head_at bytes.now }
+{
+    if let Some(rest) = after_head(bytes, b"auction 1\n") {
+        return Some((Version::First, rest));
+    }
+    let rest = after_head(bytes, b"auction 2\n")?;
+    Some((Version::Second, rest))
 }

@@ -1,6 +1,6 @@
 //! Whether a claim holds.
 
-ghost use Rattle.std.specs.Prelude.{◌≡◌, ◌≤◌, ◌<◌, ◌+◌, ◌∷◌, [], true, All, IsOk, length};
+ghost use Rattle.std.specs.Prelude.{◌≡◌, ◌≤◌, ◌<◌, ◌+◌, ◌∷◌, [], true, None, All, IsOk, length};
 ghost use Rattle.std.specs.List.{position};
 ghost use Rattle.auc_graph.specs.Memory.{AnswersUnless};
 ghost use Rattle.auc_graph.specs.Problem.{IsProblem};
@@ -8,15 +8,15 @@ ghost use Rattle.auc_graph.specs.Price.{IsPrice};
 ghost use Rattle.auc_graph.specs.Dual.{EachHasArc};
 ghost use Rattle.auc_cert.specs.declared.reason.Reason.{Reason};
 ghost use Rattle.auc_cert.specs.Spelled.{IsChoice, AreNamed};
-ghost use Rattle.auc_cert.specs.Claim.{chosen, is_missing, is_sized, choice_faults, slack_fault, bound_fault, fault_of, first_of, IsVerdict, IsAllowed};
+ghost use Rattle.auc_cert.specs.Claim.{chosen, is_missing, is_sized, choice_faults, slack_fault, left_over_fault, bound_fault, fault_of, first_of, IsVerdict, IsAllowed};
 
 use crate::cert::{Cert, CertParts};
 use crate::flags::{first_look, missing_person, slack_person};
 use crate::hall::is_hall;
 use crate::lists::Pick;
-use crate::picks::{cost_of, repeated_object};
+use crate::picks::{cost_of, left_over, repeated_object};
 use crate::refused::CertRefused;
-use auc_graph::{ArcList, MOST_PERSONS, dual_bound, is_lower};
+use auc_graph::{ArcList, MOST_OBJECTS, MOST_PERSONS, dual_bound, is_lower};
 use std::alloc::Global;
 
 /// Whether there is a pick for each person, and a price for each object.
@@ -54,23 +54,41 @@ fn check_picks(
     Ok(())
 }
 
-/// Whether no arc of a person is better than his pick by more than 1, on the scale of persons + 1.
+/// Whether no arc of a person is better than his pick by more than 1, on the scale of persons + 1; `is_slack` where this is known.
+/// Who has a better arc is looked for only where it isn't.
 fn check_slack(
     alloc: Global,
     problem: &ArcList,
     choice: &[Pick],
     prices: &[i64],
+    is_slack: bool,
 ) -> Result<(), CertRefused>
     requires size { length choice.now ≡ problem.now.persons }
     requires prices { length prices.now ≡ problem.now.objects }
     requires objects { All (λ p. p.object < problem.now.objects) choice.now }
+    requires told { is_slack ≡ true → slack_fault problem.now choice.now prices.now ≡ None }
     ensures exact { AnswersUnless CertRefused.NoMemory (λ x. x) result (IsVerdict (first_of (slack_fault problem.now choice.now prices.now ∷ []))) }
     ensures problem { IsProblem problem.now }
 {
     let arcs = problem.arcs();
+    if is_slack {
+        return Ok(());
+    }
     let scale = problem.persons() + 1;
     match slack_person(alloc, scale, choice, prices, arcs)? {
         Some(person) => Err(CertRefused::Slack { person }),
+        None => Ok(()),
+    }
+}
+
+/// Whether no object that nobody picks has a price.
+fn check_left_over(alloc: Global, choice: &[Pick], prices: &[i64]) -> Result<(), CertRefused>
+    requires few { length prices.now ≤ MOST_OBJECTS }
+    requires objects { All (λ p. p.object < length prices.now) choice.now }
+    ensures { AnswersUnless CertRefused.NoMemory (λ x. x) result (IsVerdict (first_of (left_over_fault choice.now prices.now ∷ []))) }
+{
+    match left_over(alloc, choice, prices)? {
+        Some(object) => Err(CertRefused::LeftOver { object }),
         None => Ok(()),
     }
 }
@@ -96,8 +114,7 @@ fn check_bound(
     Ok(())
 }
 
-/// Whether the claim of an optimal assignment holds. Slack is seen in the pass that looks for the picks; who has a better arc is
-/// looked for only where somebody has.
+/// Whether the claim of an optimal assignment holds. Slack is seen in the pass that looks for the picks.
 fn check_optimal(
     alloc: Global,
     problem: &ArcList,
@@ -115,10 +132,8 @@ fn check_optimal(
     let scale = problem.persons() + 1;
     let (missing, is_slack) = first_look(alloc, scale, choice, prices, problem.arcs())?;
     check_picks(alloc, problem, cost, choice, prices, missing)?;
-    if is_slack {
-        return Ok(());
-    }
-    check_slack(alloc, problem, choice, prices)
+    check_slack(alloc, problem, choice, prices, is_slack)?;
+    check_left_over(alloc, choice, prices)
 }
 
 fn check_infeasible(
@@ -162,7 +177,8 @@ fn check_bracket(
 ///
 /// An optimal claim that is answered `Ok` is a least-cost assignment: no assignment of the problem costs less than
 /// `cost`. That is weak duality: prices by which no pick is worse than another arc of its person by more than 1, where
-/// costs are multiplied by persons + 1, bound the cost of every assignment from below.
+/// costs are multiplied by persons + 1, and by which an object that nobody picks has none, bound the cost of every assignment
+/// from below.
 ///
 /// A bracket that is answered `Ok` is an assignment of this cost, and no assignment of the problem costs less than `lower`:
 /// the least cost that, multiplied by persons + 1, is at least the dual bound of the prices. Which limit ended the run that
@@ -174,11 +190,11 @@ fn check_bracket(
 /// # Errors
 ///
 /// Of an optimal claim, in this order: [`CertRefused::WrongSize`], [`CertRefused::NoSuchArc`],
-/// [`CertRefused::ObjectTwice`], [`CertRefused::WrongCost`], [`CertRefused::Slack`]. Of a bracket the same, with
-/// [`CertRefused::WrongBound`] in place of the last. Of an infeasible one only [`CertRefused::NotHall`].
+/// [`CertRefused::ObjectTwice`], [`CertRefused::WrongCost`], [`CertRefused::Slack`], [`CertRefused::LeftOver`]. Of a bracket the
+/// same, with [`CertRefused::WrongBound`] in place of the last two. Of an infeasible one only [`CertRefused::NotHall`].
 /// [`CertRefused::NoMemory`] may stand in place of any other answer, where memory was refused.
 ///
-/// Takes O(arcs + persons) time and O(persons) memory: one pass over the arcs for an optimal claim that holds, else two at most.
+/// Takes O(arcs + persons + objects) time and O(persons + objects) memory: one pass over the arcs for an optimal claim that holds, else two at most.
 pub fn check(alloc: Global, problem: &ArcList, cert: &Cert) -> Result<(), CertRefused>
     ensures exact { AnswersUnless CertRefused.NoMemory (λ x. x) result (IsVerdict (fault_of problem.now cert.now)) }
     ensures allowed { IsOk result → IsAllowed problem.now cert.now }

@@ -7,22 +7,30 @@ ghost use Rattle.auc_graph.specs.Price.{IsPrice};
 ghost use Rattle.auc_cert.specs.Spelled.{IsPick, IsChoice};
 ghost use Rattle.auc_cert.specs.Text.{assign_line, price_line, joined, choice_lines};
 ghost use Rattle.auc_cert.specs.CertReading.{IsFirstBadOf, ChoiceLines};
+ghost use Rattle.auc_cert.specs.SecondLine.{AreCounted};
 
 use crate::cert_lines::{pick_of, price_of};
 use crate::lists::{Pick, Picks, Prices};
 use crate::text_error::CertTextError;
+use crate::version::Version;
 use std::alloc::Global;
 
-/// The picks of so many persons, each on his line, and what stands behind them.
-fn picks_of(alloc: Global, persons: u32, bytes: &[u8]) -> Result<(Vec<Pick>, &[u8]), CertTextError>
-    requires { persons ≤ 10000 }
-    ensures found { IfOk result (λ x. IsRun assign_line IsPick persons bytes.now x.0.items x.1.now) }
-    ensures line { AnswersUnless CertTextError.NoMemory (λ x. x) result (λ r. IfErr r (NamesLine (From 2 (BreaksOff assign_line IsPick persons bytes.now)))) }
+/// The picks of so many persons, each on his line and of one of `most` objects, and what stands behind them.
+fn picks_of(
+    alloc: Global,
+    persons: u32,
+    most: u32,
+    bytes: &[u8],
+) -> Result<(Vec<Pick>, &[u8]), CertTextError>
+    requires persons { persons ≤ 10000 }
+    requires most { most ≤ 20000 }
+    ensures found { IfOk result (λ x. IsRun assign_line (IsPick most) persons bytes.now x.0.items x.1.now) }
+    ensures line { AnswersUnless CertTextError.NoMemory (λ x. x) result (λ r. IfErr r (NamesLine (From 2 (BreaksOff assign_line (IsPick most) persons bytes.now)))) }
 {
     let mut picks = Vec::new(alloc);
     let mut rest = bytes;
     for person in 0..persons {
-        let (pick, after) = match pick_of(rest, person) {
+        let (pick, after) = match pick_of(rest, most, person) {
             Some(found) => found,
             None => {
                 return Err(CertTextError::Line {
@@ -36,11 +44,17 @@ fn picks_of(alloc: Global, persons: u32, bytes: &[u8]) -> Result<(Vec<Pick>, &[u
     Ok((picks, rest))
 }
 
-/// The prices of so many objects, each on its line, and what stands behind them.
-fn prices_of(alloc: Global, objects: u32, bytes: &[u8]) -> Result<(Vec<i64>, &[u8]), CertTextError>
-    requires { objects ≤ 10000 }
+/// The prices of so many objects, each on its line, the first on line `first`, and what stands behind them.
+fn prices_of(
+    alloc: Global,
+    objects: u32,
+    first: u64,
+    bytes: &[u8],
+) -> Result<(Vec<i64>, &[u8]), CertTextError>
+    requires objects { objects ≤ 20000 }
+    requires first { first ≤ 20000 }
     ensures found { IfOk result (λ x. IsRun price_line IsPrice objects bytes.now x.0.items x.1.now) }
-    ensures line { AnswersUnless CertTextError.NoMemory (λ x. x) result (λ r. IfErr r (NamesLine (From (2 + objects) (BreaksOff price_line IsPrice objects bytes.now)))) }
+    ensures line { AnswersUnless CertTextError.NoMemory (λ x. x) result (λ r. IfErr r (NamesLine (From first (BreaksOff price_line IsPrice objects bytes.now)))) }
 {
     let mut prices = Vec::new(alloc);
     let mut rest = bytes;
@@ -49,7 +63,7 @@ fn prices_of(alloc: Global, objects: u32, bytes: &[u8]) -> Result<(Vec<i64>, &[u
             Some(found) => found,
             None => {
                 return Err(CertTextError::Line {
-                    line: 2 + objects as u64 + object as u64,
+                    line: first + object as u64,
                 });
             }
         };
@@ -59,22 +73,23 @@ fn prices_of(alloc: Global, objects: u32, bytes: &[u8]) -> Result<(Vec<i64>, &[u
     Ok((prices, rest))
 }
 
-/// The picks and the prices of so many persons, behind the first two lines of a certificate that ends with them.
+/// The picks of so many persons and the prices of so many objects, behind the first two lines of a certificate that ends with them.
 pub(crate) fn choice_of(
     alloc: Global,
     persons: u32,
+    objects: u32,
     bytes: &[u8],
 ) -> Result<(Picks, Prices), CertTextError>
-    requires some { 1 ≤ persons }
-    requires most { persons ≤ 10000 }
-    ensures found { IfOk result (λ x. IsChoice x.0 x.1 × (length x.0 ≡ persons) × (bytes.now ≡ joined (choice_lines x.0 x.1))) }
-    ensures line { AnswersUnless CertTextError.NoMemory (λ x. x) result (λ r. IfErr r (NamesLine (From 2 (IsFirstBadOf (ChoiceLines persons) bytes.now)))) }
+    requires { AreCounted persons objects }
+    ensures found { IfOk result (λ x. IsChoice x.0 x.1 × (length x.0 ≡ persons) × (length x.1 ≡ objects) × (bytes.now ≡ joined (choice_lines x.0 x.1))) }
+    ensures line { AnswersUnless CertTextError.NoMemory (λ x. x) result (λ r. IfErr r (NamesLine (From 2 (IsFirstBadOf (ChoiceLines persons objects) bytes.now)))) }
 {
-    let (choice, rest) = picks_of(alloc, persons, bytes)?;
-    let (prices, rest) = prices_of(alloc, persons, rest)?;
+    let most = Version::of_sizes(persons as usize, objects as usize).most_objects();
+    let (choice, rest) = picks_of(alloc, persons, most, bytes)?;
+    let (prices, rest) = prices_of(alloc, objects, 2 + persons as u64, rest)?;
     if !rest.is_empty() {
         return Err(CertTextError::Line {
-            line: 2 + 2 * persons as u64,
+            line: 2 + persons as u64 + objects as u64,
         });
     }
     Ok((Picks::new(choice), Prices::new(prices)))

@@ -75,7 +75,7 @@ pub(crate) fn field_of<'a>(
 /// A number from 1, as a number from 0.
 pub(crate) fn index_of(number: i64) -> u32
     requires low { pos 1 ≤ℤ number }
-    requires high { number ≤ℤ pos 10000 }
+    requires high { number ≤ℤ pos 20000 }
     ensures { result ≡ unsigned_abs number - 1 }
 {
     (number - 1) as u32

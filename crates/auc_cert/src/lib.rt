@@ -24,6 +24,7 @@ mod second_line;
 mod start;
 mod start_error;
 mod text_error;
+mod version;
 mod writing;
 
 pub use cert::{Cert, CertParts};

@@ -1,40 +1,64 @@
 //! Persons and objects that are named, read line by line.
 
-ghost use Rattle.std.specs.Prelude.{◌≡◌, ◌≤◌, ◌+◌, length, IfOk, IfErr};
+ghost use Rattle.std.specs.Prelude.{◌≡◌, ◌≤◌, ◌<◌, ◌+◌, ℕ, length, IfOk, IfErr};
 ghost use Rattle.auc_graph.specs.Memory.{AnswersUnless};
 ghost use Rattle.auc_cert.specs.Runs.{IsRisingRun, BreaksRising, NamesLine, From};
-ghost use Rattle.auc_cert.specs.Spelled.{AreNamed};
+ghost use Rattle.auc_cert.specs.Spelled.{least_behind, names_version, AreNamed};
+ghost use Rattle.auc_cert.specs.SecondLine.{AreCounts, least_last};
 ghost use Rattle.auc_cert.specs.Text.{joined, name_lines};
 ghost use Rattle.auc_cert.specs.CertReading.{IsFirstBadOf, NameLines};
 
 use crate::cert_lines::number_of;
-use crate::limits::{MOST_OBJECTS, MOST_PERSONS};
+use crate::limits::{MOST_OBJECTS_IN_FIRST, MOST_PERSONS};
 use crate::text_error::CertTextError;
+use crate::version::Version;
 use auc_graph::Indices;
 use std::alloc::Global;
 
-/// So many rising numbers below `most`, each on a line with this front, the first on line `first`, and what stands behind
-/// them. A number has to leave room for those behind it.
+/// The least number that may stand behind `done` of `count` numbers, where it is `least`, and of the last one `last` too.
+fn least_here(least: u32, last: u32, done: u32, count: u32) -> u32
+    requires { done < count }
+    ensures least { least ≤ result }
+    ensures last { done + 1 ≡ count → last ≤ result }
+    ensures no_more { (k : ℕ) → least ≤ k → (done + 1 ≡ count → last ≤ k) → result ≤ k }
+{
+    if done + 1 == count {
+        least.max(last)
+    } else {
+        least
+    }
+}
+
+/// So many rising numbers below `most`, the last one `last` or above, each on a line with this front, the first on line `first`,
+/// and what stands behind them. A number has to leave room for those behind it.
 fn rising_of<'a>(
     alloc: Global,
     front: &[u8],
     most: u32,
+    last: u32,
     count: u32,
     first: u64,
     bytes: &'a [u8],
 ) -> Result<(Vec<u32>, &'a [u8]), CertTextError>
-    requires most { most ≤ 10000 }
+    requires most { most ≤ 20000 }
+    requires last { last ≤ most }
     requires count { count ≤ most }
     requires first { first ≤ 20000 }
     ensures found { IfOk result (λ x. IsRisingRun front.now most count bytes.now x.0.items x.1.now) }
-    ensures line { AnswersUnless CertTextError.NoMemory (λ x. x) result (λ r. IfErr r (NamesLine (From first (BreaksRising front.now most count bytes.now)))) }
+    ensures last { IfOk result (λ x. 0 < count → last < least_behind 0 x.0.items) }
+    ensures line { AnswersUnless CertTextError.NoMemory (λ x. x) result (λ r. IfErr r (NamesLine (From first (BreaksRising front.now most last count bytes.now)))) }
 {
     let mut numbers = Vec::new(alloc);
     let mut least = 0;
     let mut rest = bytes;
     for done in 0..count {
         let end = most - (count - (done + 1));
-        let (number, after) = match number_of(rest, front, least, end) {
+        let (number, after) = match number_of(
+            rest,
+            front,
+            least_here(least, last, done, count),
+            end,
+        ) {
             Some(found) => found,
             None => {
                 return Err(CertTextError::Line {
@@ -49,24 +73,34 @@ fn rising_of<'a>(
     Ok((numbers, rest))
 }
 
-/// So many persons and so many objects, behind the first two lines of a certificate that ends with them.
+/// The least object, numbered from 0, that may be the last one that is named.
+fn least_last(version: Version) -> u32
+    ensures { result ≡ least_last version }
+{
+    match version {
+        Version::First => 0,
+        Version::Second => MOST_OBJECTS_IN_FIRST,
+    }
+}
+
+/// So many persons and so many objects, behind the first two lines of a certificate of this version that ends with them.
 pub(crate) fn names_of(
     alloc: Global,
+    version: Version,
     persons: u32,
     objects: u32,
     bytes: &[u8],
 ) -> Result<(Indices, Indices), CertTextError>
-    requires some { 1 ≤ persons }
-    requires persons { persons ≤ 10000 }
-    requires objects { objects ≤ 10000 }
-    ensures found { IfOk result (λ x. AreNamed x.0 x.1 × (length x.0 ≡ persons) × (length x.1 ≡ objects) × (bytes.now ≡ joined (name_lines x.0 x.1))) }
-    ensures line { AnswersUnless CertTextError.NoMemory (λ x. x) result (λ r. IfErr r (NamesLine (From 2 (IsFirstBadOf (NameLines persons objects) bytes.now)))) }
+    requires { AreCounts version persons objects }
+    ensures found { IfOk result (λ x. AreNamed x.0 x.1 × (names_version x.1 ≡ version) × (length x.0 ≡ persons) × (length x.1 ≡ objects) × (bytes.now ≡ joined (name_lines x.0 x.1))) }
+    ensures line { AnswersUnless CertTextError.NoMemory (λ x. x) result (λ r. IfErr r (NamesLine (From 2 (IsFirstBadOf (NameLines version persons objects) bytes.now)))) }
 {
-    let (named, rest) = rising_of(alloc, b"person ", MOST_PERSONS, persons, 2, bytes)?;
+    let (named, rest) = rising_of(alloc, b"person ", MOST_PERSONS, 0, persons, 2, bytes)?;
     let (known, rest) = rising_of(
         alloc,
         b"object ",
-        MOST_OBJECTS,
+        version.most_objects(),
+        least_last(version),
         objects,
         2 + persons as u64,
         rest,

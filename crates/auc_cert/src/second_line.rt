@@ -1,16 +1,19 @@
 //! The second line of a certificate, read: it tells the kind of the claim, and how many lines of which shape follow.
 
-ghost use Rattle.std.specs.Prelude.{◌≡◌};
-ghost use Rattle.auc_cert.specs.Fields.{viewed, after, optimal_at, infeasible_at, bracket_at, second_line_at};
+ghost use Rattle.std.specs.Prelude.{◌≡◌, pos};
+ghost use Rattle.auc_cert.specs.Fields.{viewed, after, objects_at, optimal_at, infeasible_at, bracket_at, second_line_at};
+ghost use Rattle.auc_cert.specs.SecondLine.{least_named};
 
 use crate::fields::{field_of, word_before};
-use crate::limits::{MOST_OBJECTS, MOST_PERSONS};
+use crate::limits::{MOST_NAMED, MOST_OBJECTS, MOST_PERSONS};
 use crate::reason::Reason;
+use crate::version::Version;
 
 /// What a second line says.
 pub(crate) enum SecondLine {
     Optimal {
         persons: u32,
+        objects: u32,
         cost: i64,
     },
     Infeasible {
@@ -20,32 +23,62 @@ pub(crate) enum SecondLine {
     Bracket {
         reason: Reason,
         persons: u32,
+        objects: u32,
         lower: i64,
         cost: i64,
     },
 }
 
+/// How many objects there are behind so many persons, and what stands behind that: version 1 has as many, and doesn't write it.
+#[tactic(auto, unfolding(crate::specs::Fields::objects_at))]
+fn objects_of(bytes: &[u8], version: Version, persons: u32) -> Option<(u32, &[u8])>
+    ensures { viewed (λ x. (x.0, x.1.now)) result ≡ objects_at version persons bytes.now }
+{
+    match version {
+        Version::First => Some((persons, bytes)),
+        Version::Second => {
+            let least = persons as i64 + 1;
+            let (objects, rest) = field_of(bytes, b"", least, MOST_OBJECTS as i64, b' ')?;
+            Some((objects as u32, rest))
+        }
+    }
+}
+
 /// The second line of an optimal certificate at the front, and what stands behind it.
 #[tactic(auto, unfolding(crate::specs::Fields::optimal_at))]
-fn optimal_of(bytes: &[u8]) -> Option<(SecondLine, &[u8])>
-    ensures { viewed (λ x. (x.0, x.1.now)) result ≡ optimal_at bytes.now }
+fn optimal_of(bytes: &[u8], version: Version) -> Option<(SecondLine, &[u8])>
+    ensures { viewed (λ x. (x.0, x.1.now)) result ≡ optimal_at version bytes.now }
 {
     let (persons, rest) = field_of(bytes, b"optimal ", 1, MOST_PERSONS as i64, b' ')?;
+    let persons = persons as u32;
+    let (objects, rest) = objects_of(rest, version, persons)?;
     let (cost, rest) = field_of(rest, b"", i64::MIN, i64::MAX, b'\n')?;
     let line = SecondLine::Optimal {
-        persons: persons as u32,
+        persons,
+        objects,
         cost,
     };
     Some((line, rest))
 }
 
+/// How many objects a claim names at least.
+fn least_named(version: Version) -> i64
+    ensures { result ≡ pos (least_named version) }
+{
+    match version {
+        Version::First => 0,
+        Version::Second => 1,
+    }
+}
+
 /// The second line of an infeasible certificate at the front, and what stands behind it.
 #[tactic(auto, unfolding(crate::specs::Fields::infeasible_at))]
-fn infeasible_of(bytes: &[u8]) -> Option<(SecondLine, &[u8])>
-    ensures { viewed (λ x. (x.0, x.1.now)) result ≡ infeasible_at bytes.now }
+fn infeasible_of(bytes: &[u8], version: Version) -> Option<(SecondLine, &[u8])>
+    ensures { viewed (λ x. (x.0, x.1.now)) result ≡ infeasible_at version bytes.now }
 {
     let (persons, rest) = field_of(bytes, b"infeasible ", 1, MOST_PERSONS as i64, b' ')?;
-    let (objects, rest) = field_of(rest, b"", 0, MOST_OBJECTS as i64, b'\n')?;
+    let least = least_named(version);
+    let (objects, rest) = field_of(rest, b"", least, MOST_NAMED as i64, b'\n')?;
     let line = SecondLine::Infeasible {
         persons: persons as u32,
         objects: objects as u32,
@@ -55,30 +88,33 @@ fn infeasible_of(bytes: &[u8]) -> Option<(SecondLine, &[u8])>
 
 /// The second line of a bracket at the front, and what stands behind it.
 #[tactic(auto, unfolding(crate::specs::Fields::bracket_at, crate::specs::Fields::after))]
-fn bracket_of(bytes: &[u8]) -> Option<(SecondLine, &[u8])>
-    ensures { viewed (λ x. (x.0, x.1.now)) result ≡ bracket_at bytes.now }
+fn bracket_of(bytes: &[u8], version: Version) -> Option<(SecondLine, &[u8])>
+    ensures { viewed (λ x. (x.0, x.1.now)) result ≡ bracket_at version bytes.now }
 {
     let rest = bytes.strip_prefix(b"bracket ")?;
     let (word, rest) = word_before(rest, b' ')?;
     let reason = Reason::of_word(word)?;
     let (persons, rest) = field_of(rest, b"", 1, MOST_PERSONS as i64, b' ')?;
+    let persons = persons as u32;
+    let (objects, rest) = objects_of(rest, version, persons)?;
     let (lower, rest) = field_of(rest, b"", i64::MIN, i64::MAX, b' ')?;
     let (cost, rest) = field_of(rest, b"", i64::MIN, i64::MAX, b'\n')?;
     let line = SecondLine::Bracket {
         reason,
-        persons: persons as u32,
+        persons,
+        objects,
         lower,
         cost,
     };
     Some((line, rest))
 }
 
-/// The second line at the front, of whichever kind, and what stands behind it.
+/// The second line of a text of this version at the front, of whichever kind, and what stands behind it.
 #[tactic(auto, unfolding(crate::specs::Fields::second_line_at))]
-pub(crate) fn second_line_of(bytes: &[u8]) -> Option<(SecondLine, &[u8])>
-    ensures { viewed (λ x. (x.0, x.1.now)) result ≡ second_line_at bytes.now }
+pub(crate) fn second_line_of(bytes: &[u8], version: Version) -> Option<(SecondLine, &[u8])>
+    ensures { viewed (λ x. (x.0, x.1.now)) result ≡ second_line_at version bytes.now }
 {
-    optimal_of(bytes)
-        .or_else(|| infeasible_of(bytes))
-        .or_else(|| bracket_of(bytes))
+    optimal_of(bytes, version)
+        .or_else(|| infeasible_of(bytes, version))
+        .or_else(|| bracket_of(bytes, version))
 }

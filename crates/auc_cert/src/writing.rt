@@ -8,34 +8,57 @@ use crate::cert::{Cert, CertParts};
 use crate::lists::Pick;
 use crate::output::{Part, WriteFault, write_parts};
 use crate::reason::Reason;
+use crate::version::{Version, names_version};
 use std::io::Write;
 
 /// Writes the first two lines of an optimal certificate.
-fn write_optimal_head<W: Write>(writer: &mut W, persons: u64, cost: i64) -> Result<(), WriteFault>
-    ensures { Writes result (W.contents writer.old) (W.contents writer.new) (head_line ++ optimal_line persons cost) }
+fn write_optimal_head<W: Write>(
+    writer: &mut W,
+    version: Version,
+    persons: u64,
+    objects: u64,
+    cost: i64,
+) -> Result<(), WriteFault>
+    ensures { Writes result (W.contents writer.old) (W.contents writer.new) (head_line version ++ optimal_line version persons objects cost) }
 {
-    let words = Part::Words(b"auction 1\noptimal ");
-    let parts = [
-        words,
-        Part::Count(persons),
-        Part::Space,
-        Part::Number(cost),
-        Part::LineEnd,
-    ];
-    write_parts(writer, &parts)
+    match version {
+        Version::First => {
+            let parts = [
+                Part::Words(b"auction 1\noptimal "),
+                Part::Count(persons),
+                Part::Space,
+                Part::Number(cost),
+                Part::LineEnd,
+            ];
+            write_parts(writer, &parts)
+        }
+        Version::Second => {
+            let parts = [
+                Part::Words(b"auction 2\noptimal "),
+                Part::Count(persons),
+                Part::Space,
+                Part::Count(objects),
+                Part::Space,
+                Part::Number(cost),
+                Part::LineEnd,
+            ];
+            write_parts(writer, &parts)
+        }
+    }
 }
 
 /// Writes the first two lines of an infeasible certificate.
 fn write_infeasible_head<W: Write>(
     writer: &mut W,
+    version: Version,
     persons: u64,
     objects: u64,
 ) -> Result<(), WriteFault>
-    ensures { Writes result (W.contents writer.old) (W.contents writer.new) (head_line ++ infeasible_line persons objects) }
+    ensures { Writes result (W.contents writer.old) (W.contents writer.new) (head_line version ++ infeasible_line persons objects) }
 {
-    let words = Part::Words(b"auction 1\ninfeasible ");
     let parts = [
-        words,
+        Part::Words(version.head()),
+        Part::Words(b"infeasible "),
         Part::Count(persons),
         Part::Space,
         Part::Count(objects),
@@ -47,25 +70,47 @@ fn write_infeasible_head<W: Write>(
 /// Writes the first two lines of a bracket.
 fn write_bracket_head<W: Write>(
     writer: &mut W,
+    version: Version,
     reason: Reason,
     persons: u64,
+    objects: u64,
     lower: i64,
     cost: i64,
 ) -> Result<(), WriteFault>
-    ensures { Writes result (W.contents writer.old) (W.contents writer.new) (head_line ++ bracket_line reason persons lower cost) }
+    ensures { Writes result (W.contents writer.old) (W.contents writer.new) (head_line version ++ bracket_line version reason persons objects lower cost) }
 {
-    let parts = [
-        Part::Words(b"auction 1\nbracket "),
-        Part::Words(reason.word()),
-        Part::Space,
-        Part::Count(persons),
-        Part::Space,
-        Part::Number(lower),
-        Part::Space,
-        Part::Number(cost),
-        Part::LineEnd,
-    ];
-    write_parts(writer, &parts)
+    match version {
+        Version::First => {
+            let parts = [
+                Part::Words(b"auction 1\nbracket "),
+                Part::Words(reason.word()),
+                Part::Space,
+                Part::Count(persons),
+                Part::Space,
+                Part::Number(lower),
+                Part::Space,
+                Part::Number(cost),
+                Part::LineEnd,
+            ];
+            write_parts(writer, &parts)
+        }
+        Version::Second => {
+            let parts = [
+                Part::Words(b"auction 2\nbracket "),
+                Part::Words(reason.word()),
+                Part::Space,
+                Part::Count(persons),
+                Part::Space,
+                Part::Count(objects),
+                Part::Space,
+                Part::Number(lower),
+                Part::Space,
+                Part::Number(cost),
+                Part::LineEnd,
+            ];
+            write_parts(writer, &parts)
+        }
+    }
 }
 
 /// Writes the line of a person, who is numbered from 0.
@@ -146,7 +191,14 @@ fn write_optimal<W: Write>(
     requires prices { length prices.now < 2 ^ 32 }
     ensures { Writes result (W.contents writer.old) (W.contents writer.new) (text (CertParts.Optimal cost choice.now prices.now)) }
 {
-    write_optimal_head(writer, choice.len() as u64, cost)?;
+    let version = Version::of_sizes(choice.len(), prices.len());
+    write_optimal_head(
+        writer,
+        version,
+        choice.len() as u64,
+        prices.len() as u64,
+        cost,
+    )?;
     write_choice(writer, choice, prices)
 }
 
@@ -162,7 +214,9 @@ fn write_bracket<W: Write>(
     requires prices { length prices.now < 2 ^ 32 }
     ensures { Writes result (W.contents writer.old) (W.contents writer.new) (text (CertParts.Bracket reason lower cost choice.now prices.now)) }
 {
-    write_bracket_head(writer, reason, choice.len() as u64, lower, cost)?;
+    let version = Version::of_sizes(choice.len(), prices.len());
+    let (persons, objects) = (choice.len() as u64, prices.len() as u64);
+    write_bracket_head(writer, version, reason, persons, objects, lower, cost)?;
     write_choice(writer, choice, prices)
 }
 
@@ -190,12 +244,13 @@ fn write_infeasible<W: Write>(
 ) -> Result<(), WriteFault>
     ensures { Writes result (W.contents writer.old) (W.contents writer.new) (text (CertParts.Infeasible persons.now objects.now)) }
 {
-    write_infeasible_head(writer, persons.len() as u64, objects.len() as u64)?;
+    let version = names_version(objects);
+    write_infeasible_head(writer, version, persons.len() as u64, objects.len() as u64)?;
     write_numbers(writer, b"person ", persons)?;
     write_numbers(writer, b"object ", objects)
 }
 
-/// Writes the text of a certificate, the one that [`read_cert`](crate::read_cert) reads. Takes O(persons) writes and no memory.
+/// Writes the text of a certificate, the one that [`read_cert`](crate::read_cert) reads. Takes O(persons + objects) writes and no memory.
 ///
 /// # Errors
 ///

@@ -13,7 +13,7 @@ use Rattle.std.proofs.lemmas.Map.Views.{list_any-from_Contains, Contains-from_an
 use Rattle.auc_graph.specs.declared.arc.Arc.{Arc}
 use Rattle.auc_graph.specs.Problem.{Problem, IsWithin}
 use Rattle.auc_graph.specs.Assignment.{total, person_of, object_of, total_cost, IsAssignment, IsLeast}
-use Rattle.auc_graph.specs.Dual.{scale_of, arc_value, IsSlackRight, least_worth, dual, AreNotNegative, IsNoPriceLeft, EachHasArc}
+use Rattle.auc_graph.specs.Dual.{scale_of, arc_value, IsSlackRight, least_worth, dual, AreNotNegative, AreFewPriced, IsNoPriceLeft, EachHasArc}
 use Rattle.auc_graph.proofs.LeastLaws.{least_below, least_above}
 use Rattle.auc_graph.proofs.Scale.{once_more, scale-add, scale-cancel, scale-one}
 use Rattle.auc_graph.proofs.PriceSums.{prices_at, some_prices, left_without_price, covers}
@@ -98,6 +98,24 @@ none_left_over p prices choice within square len given j free =
           absurd (free (Contains-from_any (λ x y t. eqb-true x y t) j (map object_of choice) taken))
       | inr past ↦ get_or_past prices j (pos 0) past
     ]
+
+-- ---- how many objects have a price
+
+pub square_are_few : (p : Problem) (prices : List ℤ) → p.objects ≡ p.persons → length prices ≡ p.objects → AreFewPriced p prices
+square_are_few p prices square len = (
+  range_with_len 0 p.persons,
+  omega (arith, length-range_with_len 0 p.persons),
+  λ j other.
+      elim (cases_lt j (length prices)) [
+        | inl lt ↦
+            let below : j < p.persons = omega (arith, lt, len, square) in
+            absurd (other (j, omega (arith, below, length-range_with_len 0 p.persons), omega (arith, get_or-range_with_len 0 p.persons j j below)))
+        | inr past ↦ get_or_past prices j (pos 0) past
+      ],
+)
+
+pub assigned_are_few : (p : Problem) (prices : List ℤ) (choice : List Arc) → IsAssignment p choice → IsNoPriceLeft prices choice → AreFewPriced p prices
+assigned_are_few p prices choice given left = (map object_of choice, omega (arith, length-map choice object_of, as_many p choice given), left)
 
 no_arc : Arc
 no_arc = record { cost = pos 0; person = 0; object = 0 }

@@ -1,13 +1,13 @@
--- What is answered at the end of a text; no text reads as too many reads.
-use Rattle.std.proofs.Common.{◌≡◌, ℕ, ◌+◌, ◌*◌, ◌-◌, ◌++◌, inl, inr, List, [], ◌∷◌, length, Result, Ok, Err, ap, ◌∙◌, Option}
-use Rattle.std.specs.Prelude.{◌≢◌, ℤ, pos, neg_ℤ, unsigned_abs, nat_le}
+-- What is answered at the end of a text; no text reads as too many reads, and what is read has as many objects as are wanted.
+use Rattle.std.proofs.Common.{◌≡◌, ℕ, ◌+◌, ◌*◌, ◌-◌, ◌++◌, inl, inr, List, [], ◌∷◌, length, Result, Ok, Err, refl, sym, ap, subst, ◌∙◌, Option}
+use Rattle.std.specs.Prelude.{◌≢◌, ℤ, pos, neg_ℤ, unsigned_abs, nat_le, nat_lt, ◌==◌, ⊤}
 use Rattle.std.specs.Io.KnownBytes.{IsAtEnd}
 use Rattle.std.proofs.lemmas.Bool.{cases_Bool}
 use Rattle.auc_graph.specs.declared.number.Number.{Number}
 use Rattle.auc_graph.specs.declared.number.Number.TheVariants.{Bad, Value, Huge}
 use Rattle.auc_graph.specs.declared.arc.Arc.{Arc}
 use Rattle.auc_graph.specs.declared.read_error.ReadError.{ReadError}
-use Rattle.auc_graph.specs.declared.read_error.ReadError.TheVariants.{Empty, BadNumber, CountRange, TooManyArcs, PersonRange, ObjectRange, CostRange, Cut, NoMemory, ReadFault, TooManyReads}
+use Rattle.auc_graph.specs.declared.read_error.ReadError.TheVariants.{Empty, BadNumber, CountRange, TooManyArcs, PersonRange, ObjectRange, CostRange, Cut, NoMemory, ReadFault, TooManyReads, TooFewObjects}
 use Rattle.auc_graph.specs.declared.reading.ReadLimits.{ReadLimits}
 use Rattle.auc_graph.specs.declared.stage.Stage.{Stage}
 use Rattle.auc_graph.specs.declared.stage.Stage.TheVariants.{AtCount, AtPerson, AtObject, AtCost}
@@ -15,7 +15,7 @@ use Rattle.auc_graph.specs.declared.limits.TheConstants.{MOST_PERSONS, MOST_COST
 use Rattle.auc_graph.specs.Memory.{AnswersUnless}
 use Rattle.auc_graph.specs.Problem.{Problem}
 use Rattle.auc_graph.specs.Numbers.{numbers}
-use Rattle.auc_graph.specs.Reading.{◌>>=◌, is_between, within, index, cost, room, arc_of, State, start, step_at, step, finish_at, finish, reading_on, reading}
+use Rattle.auc_graph.specs.Reading.{◌>>=◌, is_between, within, index, cost, room, objects_for, arc_of, State, start, step_at, step, finish_at, finish, reading_on, reading}
 use Rattle.auc_graph.specs.Pieces.{IsRead}
 
 abbrev Never : {A : Type 0} → Result A ReadError → Type 0
@@ -47,9 +47,23 @@ room_never limit before =
       | inr f ↦ rw f (λ is. absurd cc)
     ]
 
+objects_never : (wanted persons : ℕ) → Never (objects_for wanted persons)
+objects_never wanted persons =
+    elim (cases_Bool (wanted == 0)) [
+      | inl t ↦ rw t (λ is. absurd cc)
+      | inr f ↦
+          rw f
+          (elim (cases_Bool (nat_lt wanted persons)) [
+            | inl few ↦ rw few (λ is. absurd cc)
+            | inr enough ↦ rw enough (λ is. absurd cc)
+          ])
+    ]
+
 step_at_never : (limit : ℕ) (stage : Stage) (arcs : List Arc) (x : Number) → Never (step_at limit stage arcs x)
 unfolding step_at
-step_at_never limit AtCount arcs x = binds (index MOST_PERSONS 0 CountRange x) (λ before. Ok (AtPerson (before + 1) (before + 1), arcs)) (index_never MOST_PERSONS 0 CountRange x (λ e. absurd cc)) (λ y is. absurd cc)
+step_at_never limit (AtCount wanted) arcs x =
+    binds (index MOST_PERSONS 0 CountRange x) (λ before. objects_for wanted (before + 1) >>= λ objects. Ok (AtPerson (before + 1) objects, arcs)) (index_never MOST_PERSONS 0 CountRange x (λ e. absurd cc)) (λ before.
+    binds (objects_for wanted (before + 1)) (λ objects. Ok (AtPerson (before + 1) objects, arcs)) (objects_never wanted (before + 1)) (λ y is. absurd cc))
 step_at_never limit (AtPerson persons objects) arcs x =
     binds (room limit (length arcs)) (λ _. index persons (3 * length arcs + 1) (PersonRange (length arcs)) x >>= λ person. Ok (AtObject persons objects person, arcs)) (room_never limit (length arcs)) (λ _.
     binds (index persons (3 * length arcs + 1) (PersonRange (length arcs)) x) (λ person. Ok (AtObject persons objects person, arcs)) (index_never persons (3 * length arcs + 1) (PersonRange (length arcs)) x (λ e. absurd cc)) (λ y is. absurd cc))
@@ -65,7 +79,7 @@ step_never limit (Err e) x h = h
 
 finish_at_never : (stage : Stage) (arcs : List Arc) → Never (finish_at stage arcs)
 unfolding finish_at
-finish_at_never AtCount arcs = λ is. absurd cc
+finish_at_never (AtCount wanted) arcs = λ is. absurd cc
 finish_at_never (AtPerson persons objects) arcs = λ is. absurd cc
 finish_at_never (AtObject persons objects person) arcs = λ is. absurd cc
 finish_at_never (AtCost persons objects person object) arcs = λ is. absurd cc
@@ -80,8 +94,8 @@ unfolding reading_on
 never_on limit state [] h = finish_never state h
 never_on limit state (x ∷ xs) h = never_on limit (step limit state x) xs (step_never limit state x h)
 
-reading_never : (limit : ℕ) (text : List ℕ) → Never (reading limit text)
-reading_never limit text = never_on limit start (numbers text) (λ is. absurd cc)
+reading_never : (limit wanted : ℕ) (text : List ℕ) → Never (reading limit wanted text)
+reading_never limit wanted text = never_on limit (start wanted) (numbers text) (λ is. absurd cc)
 
 -- ---- what is answered
 
@@ -93,7 +107,7 @@ pub answers_as : (e : ReadError) (answer read other : Result Problem ReadError) 
 answers_as e (Ok p) read other is h = is ∙ h
 answers_as e (Err d) read other is h = λ k. is ∙ h k
 
-pub is_read : (limits : ReadLimits) (left : Option (List ℕ)) (text : List ℕ) (answer : Result Problem ReadError) → IsAtEnd left → AnswersUnless NoMemory (λ p. p) answer (λ r. reading limits.arcs text ≡ r) → IsRead limits left text answer
+pub is_read : (limits : ReadLimits) (left : Option (List ℕ)) (text : List ℕ) (answer : Result Problem ReadError) → IsAtEnd left → AnswersUnless NoMemory (λ p. p) answer (λ r. reading limits.arcs limits.objects text ≡ r) → IsRead limits left text answer
 is_read limits left text (Ok p) end h = (end, h)
 is_read limits left text (Err Empty) end h = (end, h (λ e. absurd cc))
 is_read limits left text (Err (BadNumber token)) end h = (end, h (λ e. absurd cc))
@@ -105,4 +119,68 @@ is_read limits left text (Err (CostRange arc)) end h = (end, h (λ e. absurd cc)
 is_read limits left text (Err (Cut tokens)) end h = (end, h (λ e. absurd cc))
 is_read limits left text (Err NoMemory) end h = tt
 is_read limits left text (Err ReadFault) end h = tt
-is_read limits left text (Err TooManyReads) end h = absurd (reading_never limits.arcs text (h (λ e. absurd cc)))
+is_read limits left text (Err TooManyReads) end h = absurd (reading_never limits.arcs limits.objects text (h (λ e. absurd cc)))
+is_read limits left text (Err TooFewObjects) end h = (end, h (λ e. absurd cc))
+
+-- ---- how many objects what is read has
+
+-- what a stage knows of the number of objects
+abbrev IsFor : ℕ → Stage → Type 0
+IsFor wanted (AtCount own) = own ≡ wanted
+IsFor wanted (AtPerson persons objects) = objects_for wanted persons ≡ Ok objects
+IsFor wanted (AtObject persons objects person) = objects_for wanted persons ≡ Ok objects
+IsFor wanted (AtCost persons objects person object) = objects_for wanted persons ≡ Ok objects
+
+abbrev AreFor : ℕ → State → Type 0
+AreFor wanted (Ok (stage, arcs)) = IsFor wanted stage
+AreFor wanted (Err e) = ⊤
+
+brings : {A : Type 0} (wanted : ℕ) (p : Result A ReadError) (f : A → State) → ((x : A) → p ≡ Ok x → AreFor wanted (f x)) → AreFor wanted (p >>= f)
+brings wanted (Ok x) f h = h x refl
+brings wanted (Err e) f h = tt
+
+step_at_for : (limit wanted : ℕ) (stage : Stage) (arcs : List Arc) (x : Number) → IsFor wanted stage → AreFor wanted (step_at limit stage arcs x)
+unfolding step_at
+step_at_for limit wanted (AtCount own) arcs x h =
+    brings wanted (index MOST_PERSONS 0 CountRange x) (λ before. objects_for own (before + 1) >>= λ objects. Ok (AtPerson (before + 1) objects, arcs)) (λ before _.
+    brings wanted (objects_for own (before + 1)) (λ objects. Ok (AtPerson (before + 1) objects, arcs)) (λ objects is. ap (λ (w : ℕ). objects_for w (before + 1)) (sym h) ∙ is))
+step_at_for limit wanted (AtPerson persons objects) arcs x h =
+    brings wanted (room limit (length arcs)) (λ _. index persons (3 * length arcs + 1) (PersonRange (length arcs)) x >>= λ person. Ok (AtObject persons objects person, arcs)) (λ _ _.
+    brings wanted (index persons (3 * length arcs + 1) (PersonRange (length arcs)) x) (λ person. Ok (AtObject persons objects person, arcs)) (λ person _. h))
+step_at_for limit wanted (AtObject persons objects person) arcs x h =
+    brings wanted (index objects (3 * length arcs + 2) (ObjectRange (length arcs)) x) (λ object. Ok (AtCost persons objects person object, arcs)) (λ object _. h)
+step_at_for limit wanted (AtCost persons objects person object) arcs x h =
+    brings wanted (cost (3 * length arcs + 3) (CostRange (length arcs)) x) (λ c. Ok (AtPerson persons objects, arcs ++ arc_of person object c ∷ [])) (λ c _. h)
+
+step_for : (limit wanted : ℕ) (state : State) (x : Number) → AreFor wanted state → AreFor wanted (step limit state x)
+unfolding step
+step_for limit wanted (Ok (stage, arcs)) x h = step_at_for limit wanted stage arcs x h
+step_for limit wanted (Err e) x h = tt
+
+-- what is read has the objects that are wanted
+abbrev HasObjects : ℕ → Result Problem ReadError → Type 0
+HasObjects wanted (Ok p) = objects_for wanted p.persons ≡ Ok p.objects
+HasObjects wanted (Err e) = ⊤
+
+finish_at_for : (wanted : ℕ) (stage : Stage) (arcs : List Arc) → IsFor wanted stage → HasObjects wanted (finish_at stage arcs)
+unfolding finish_at
+finish_at_for wanted (AtCount own) arcs h = tt
+finish_at_for wanted (AtPerson persons objects) arcs h = h
+finish_at_for wanted (AtObject persons objects person) arcs h = tt
+finish_at_for wanted (AtCost persons objects person object) arcs h = tt
+
+finish_for : (wanted : ℕ) (state : State) → AreFor wanted state → HasObjects wanted (finish state)
+unfolding finish
+finish_for wanted (Ok (stage, arcs)) h = finish_at_for wanted stage arcs h
+finish_for wanted (Err e) h = tt
+
+for_on : (limit wanted : ℕ) (state : State) (xs : List Number) → AreFor wanted state → HasObjects wanted (reading_on limit state xs)
+unfolding reading_on
+for_on limit wanted state [] h = finish_for wanted state h
+for_on limit wanted state (x ∷ xs) h = for_on limit wanted (step limit state x) xs (step_for limit wanted state x h)
+
+pub objects_read : (limit wanted : ℕ) (text : List ℕ) (p : Problem) → reading limit wanted text ≡ Ok p → objects_for wanted p.persons ≡ Ok p.objects
+objects_read limit wanted text p is = subst (HasObjects wanted) is (for_on limit wanted (start wanted) (numbers text) refl)
+
+pub same_objects : (persons objects : ℕ) → objects_for 0 persons ≡ Ok objects → persons ≡ objects
+same_objects persons objects is = cc

@@ -10,9 +10,9 @@ use Rattle.auc_graph.specs.declared.limits.TheConstants.{MOST_PERSONS, MOST_COST
 use Rattle.auc_graph.specs.Problem.{Problem, IsWithin}
 use Rattle.auc_graph.specs.Assignment.{total, person_of, total_cost, IsAssignment}
 use Rattle.auc_graph.specs.Price.{IsPrice}
-use Rattle.auc_graph.specs.Dual.{scale_of, arc_value, least_worth, dual, IsLower, AreNotNegative}
+use Rattle.auc_graph.specs.Dual.{scale_of, arc_value, least_worth, dual, IsLower, AreNotNegative, AreFewPriced}
 use Rattle.auc_graph.proofs.Scale.{once_more, scale-add, scale-cancel, scale-mono, scale-swap}
-use Rattle.auc_graph.proofs.PriceLaws.{not_negative, prices_below}
+use Rattle.auc_graph.proofs.PriceLaws.{not_negative, few_below}
 use Rattle.auc_graph.proofs.LeastLaws.{least_above}
 use Rattle.auc_graph.proofs.DualLaws.{as_many, dual_is_below}
 
@@ -59,12 +59,12 @@ module _ (p : Problem) (prices : List ℤ) (choice : List Arc) (lower : ℤ) (wi
       let same = many (pos (scale_of p) *ℤ neg_ℤ MOST_COST) in
       scale-cancel p.persons (least -ℤ top) lower (omega (arith, ints, sum, persons, same, turned, few, both, parts, is.reaches))
 
--- with as many objects as persons it has 64 bits
-pub lower_fits : (p : Problem) (prices : List ℤ) (choice : List Arc) (lower : ℤ) → p.persons ≤ MOST_PERSONS → All (IsWithin p.persons p.objects) p.arcs → p.objects ≡ p.persons → length prices ≡ p.objects → All IsPrice prices → IsAssignment p choice
+-- where no more objects than persons have a price it has 64 bits
+pub lower_fits : (p : Problem) (prices : List ℤ) (choice : List Arc) (lower : ℤ) → p.persons ≤ MOST_PERSONS → All (IsWithin p.persons p.objects) p.arcs → length prices ≡ p.objects → All IsPrice prices → AreFewPriced p prices → IsAssignment p choice
     → IsLower (scale_of p) (dual p prices) lower → FitsSigned w64 lower
-lower_fits p prices choice lower most within square len fair given is =
+lower_fits p prices choice lower most within len fair priced given is =
     let above = not_negative prices fair in
-    let few : total prices ≤ℤ (pos (scale_of p) *ℤ pos (2 ^ 61)) = omega (arith, ints, prices_below prices fair, len, square) in
+    let few : total prices ≤ℤ (pos (scale_of p) *ℤ pos (2 ^ 61)) = omega (arith, ints, few_below prices priced.0 fair priced.2, priced.1) in
     let low = lower_low p prices choice lower within len above given is (pos (2 ^ 61)) few in
     let high = lower_high p prices choice lower within len above given is in
     omega (arith, ints, low, high, most)

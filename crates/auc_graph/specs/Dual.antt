@@ -1,6 +1,6 @@
 -- Slackness of arcs at prices, and the bound that prices give on the cost of every assignment: the dual of the
 -- assignment problem.
-use Rattle.std.specs.Prelude.{◌≡◌, ℕ, ◌+◌, ◌<◌, ◌==◌, ◌&&◌, Bool, List, [], ◌∷◌, map, filter, All, Contains, ℤ, pos, ◌+ℤ◌, ◌-ℤ◌, ◌*ℤ◌, ◌≤ℤ◌, int_le, int_lt, slice_index_or}
+use Rattle.std.specs.Prelude.{◌≡◌, ℕ, ◌+◌, ◌<◌, ◌≤◌, ◌==◌, ◌&&◌, Bool, List, [], ◌∷◌, length, map, filter, All, Contains, ℤ, pos, ◌+ℤ◌, ◌-ℤ◌, ◌*ℤ◌, ◌≤ℤ◌, int_le, int_lt, slice_index_or}
 use Rattle.std.specs.List.{range_with_len}
 use Rattle.std.specs.Int.{int_min}
 use Rattle.auc_graph.specs.declared.arc.Arc.{Arc}
@@ -64,6 +64,10 @@ EachHasArc p = (person : ℕ) → person < p.persons → (arc : Arc) × Contains
 -- no price is negative
 abbrev pub AreNotNegative : List ℤ → Type 0
 AreNotNegative prices = (j : ℕ) → pos 0 ≤ℤ price_at prices j
+
+-- no more objects than persons have a price: outside of so many at most there is none
+abbrev pub AreFewPriced : Problem → List ℤ → Type 0
+AreFewPriced p prices = (priced : List ℕ) × (length priced ≤ p.persons) × ((j : ℕ) → ¬ Contains priced j → price_at prices j ≡ pos 0)
 
 -- an object to which no arc of the choice leads has no price
 abbrev pub IsNoPriceLeft : List ℤ → List Arc → Type 0

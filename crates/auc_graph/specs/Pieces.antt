@@ -9,6 +9,7 @@ use Rattle.auc_graph.specs.declared.read_error.ReadError.TheVariants.{NoMemory, 
 use Rattle.auc_graph.specs.declared.reading.ReadLimits.{ReadLimits}
 use Rattle.auc_graph.specs.declared.stage.Stage.{Stage}
 use Rattle.auc_graph.specs.declared.stage.Stage.TheVariants.{AtCount, AtPerson, AtObject, AtCost}
+use Rattle.auc_graph.specs.declared.limits.TheConstants.{MOST_OBJECTS}
 use Rattle.auc_graph.specs.declared.unfinished.Unfinished.{Unfinished}
 use Rattle.auc_graph.specs.declared.unfinished.Unfinished.TheVariants.{NoNumber, Digits}
 use Rattle.auc_graph.specs.Tokens.{is_separator}
@@ -34,7 +35,7 @@ AreArcs limit persons objects arcs = IsProblem (problem persons objects arcs) ×
 
 -- what a stage keeps: while an arc is read, there is room for it
 abbrev pub IsStage : ℕ → Stage → List Arc → Type 0
-IsStage limit AtCount arcs = arcs ≡ []
+IsStage limit (AtCount wanted) arcs = (arcs ≡ []) × (wanted ≤ MOST_OBJECTS)
 IsStage limit (AtPerson persons objects) arcs = AreArcs limit persons objects arcs
 IsStage limit (AtObject persons objects person) arcs = AreArcs limit persons objects arcs × (length arcs < limit) × (person < persons)
 IsStage limit (AtCost persons objects person object) arcs = AreArcs limit persons objects arcs × (length arcs < limit) × (person < persons) × (object < objects)
@@ -67,4 +68,4 @@ abbrev pub IsRead : ReadLimits → Option (List ℕ) → List ℕ → Result Pro
 IsRead limits left text (Err NoMemory) = ⊤
 IsRead limits left text (Err ReadFault) = ⊤
 IsRead limits left text (Err TooManyReads) = limits.reads ≤ length text
-IsRead limits left text answer = IsAtEnd left × (reading limits.arcs text ≡ answer)
+IsRead limits left text answer = IsAtEnd left × (reading limits.arcs limits.objects text ≡ answer)

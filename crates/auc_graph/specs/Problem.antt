@@ -15,11 +15,15 @@ pub record IsWithin (persons objects : ℕ) (arc : Arc) : Type 0 where
   pub low : neg_ℤ MOST_COST ≤ℤ arc.cost
   pub high : arc.cost ≤ℤ MOST_COST
 
--- What holds of each problem. That there are as many objects as persons is said here alone.
+-- What holds of each problem. There may be more objects than persons.
 pub record IsProblem (p : Problem) : Type 0 where
   pub some : 1 ≤ p.persons
   pub most : p.persons ≤ MOST_PERSONS
+  pub enough : p.persons ≤ p.objects
   pub most_objects : p.objects ≤ MOST_OBJECTS
-  pub square : p.objects ≡ p.persons
   pub few : length p.arcs ≤ MOST_ARCS
   pub within : All (IsWithin p.persons p.objects) p.arcs
+
+-- there are as many objects as persons
+abbrev pub IsSquare : Problem → Type 0
+IsSquare p = p.objects ≡ p.persons

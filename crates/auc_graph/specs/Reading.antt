@@ -1,10 +1,10 @@
 -- How the numbers of a text read, one after another: as a problem, or as the first fault.
-use Rattle.std.specs.Prelude.{ℕ, ◌+◌, ◌*◌, ◌-◌, Bool, ◌&&◌, nat_le, if◌then◌else◌, List, [], ◌∷◌, ◌++◌, length, Result, Ok, Err, ℤ, pos, neg_ℤ, unsigned_abs, int_le, fold}
+use Rattle.std.specs.Prelude.{ℕ, ◌+◌, ◌*◌, ◌-◌, ◌==◌, Bool, ◌&&◌, nat_le, nat_lt, if◌then◌else◌, List, [], ◌∷◌, ◌++◌, length, Result, Ok, Err, ℤ, pos, neg_ℤ, unsigned_abs, int_le, fold}
 use Rattle.auc_graph.specs.declared.number.Number.{Number}
 use Rattle.auc_graph.specs.declared.number.Number.TheVariants.{Bad, Value, Huge}
 use Rattle.auc_graph.specs.declared.arc.Arc.{Arc}
 use Rattle.auc_graph.specs.declared.read_error.ReadError.{ReadError}
-use Rattle.auc_graph.specs.declared.read_error.ReadError.TheVariants.{Empty, BadNumber, CountRange, TooManyArcs, PersonRange, ObjectRange, CostRange, Cut}
+use Rattle.auc_graph.specs.declared.read_error.ReadError.TheVariants.{Empty, BadNumber, CountRange, TooManyArcs, PersonRange, ObjectRange, CostRange, Cut, TooFewObjects}
 use Rattle.auc_graph.specs.declared.stage.Stage.{Stage}
 use Rattle.auc_graph.specs.declared.stage.Stage.TheVariants.{AtCount, AtPerson, AtObject, AtCost}
 use Rattle.auc_graph.specs.declared.limits.TheConstants.{MOST_PERSONS, MOST_COST}
@@ -44,20 +44,25 @@ problem persons objects arcs = record { persons = persons; objects = objects; ar
 abbrev pub room : ℕ → ℕ → Result ℕ ReadError
 room limit before = if nat_le limit before then Err TooManyArcs else Ok before
 
--- the stage and the arcs behind some numbers of a text, or the first fault in them; a stage knows the numbers of persons and objects,
--- and of the next arc the person and the object, as far as they have been read
+-- the number of objects beside so many persons, where so many are wanted: 0 means as many as persons, and fewer are too few
+abbrev pub objects_for : ℕ → ℕ → Result ℕ ReadError
+objects_for wanted persons = if wanted == 0 then Ok persons else (if nat_lt wanted persons then Err TooFewObjects else Ok wanted)
+
+-- the stage and the arcs behind some numbers of a text, or the first fault in them; the first stage knows how many objects are wanted,
+-- a later one the numbers of persons and objects, and of the next arc the person and the object, as far as they have been read
 abbrev pub State : Type 0
 State = Result (Stage × List Arc) ReadError
 
-abbrev pub start : State
-start = Ok (AtCount, [])
+abbrev pub start : ℕ → State
+start wanted = Ok (AtCount wanted, [])
 
 -- What the next number makes of a stage and of the arcs so far. The first number of arc k stands at token 1 + 3 * k, all
 -- counted from 0.
 unfoldable pub step_at : ℕ → Stage → List Arc → Number → State
-step_at limit AtCount arcs x = do
+step_at limit (AtCount wanted) arcs x = do
   before ← index MOST_PERSONS 0 CountRange x
-  Ok (AtPerson (before + 1) (before + 1), arcs)
+  objects ← objects_for wanted (before + 1)
+  Ok (AtPerson (before + 1) objects, arcs)
 step_at limit (AtPerson persons objects) arcs x = do
   _ ← room limit (length arcs)
   person ← index persons (3 * length arcs + 1) (PersonRange (length arcs)) x
@@ -76,7 +81,7 @@ step limit (Err e) x = Err e
 
 -- what the end of the text makes of a stage
 unfoldable pub finish_at : Stage → List Arc → Result Problem ReadError
-finish_at AtCount arcs = Err Empty
+finish_at (AtCount wanted) arcs = Err Empty
 finish_at (AtPerson persons objects) arcs = Ok (problem persons objects arcs)
 finish_at (AtObject persons objects person) arcs = Err (Cut (3 * length arcs + 2))
 finish_at (AtCost persons objects person object) arcs = Err (Cut (3 * length arcs + 3))
@@ -89,6 +94,6 @@ finish (Err e) = Err e
 unfoldable pub reading_on : ℕ → State → List Number → Result Problem ReadError
 reading_on limit state xs = finish (fold (step limit) state xs)
 
--- a text under a limit of arcs
-abbrev pub reading : ℕ → List ℕ → Result Problem ReadError
-reading limit text = reading_on limit start (numbers text)
+-- a text under a limit of arcs, where so many objects are wanted
+abbrev pub reading : ℕ → ℕ → List ℕ → Result Problem ReadError
+reading limit wanted text = reading_on limit (start wanted) (numbers text)

@@ -27,12 +27,12 @@ pub record IsRow (objects : ℕ) (arcs : List RowArc) : Type 0 where
   pub rising : AllPairs (λ a b. a.arc < b.arc) arcs
   pub few : length arcs ≤ MOST_ARCS
 
--- What holds of the rows of each problem. That there are as many objects as persons is said here alone.
+-- What holds of the rows of each problem. There may be more objects than persons.
 pub record IsTable (t : Table) : Type 0 where
   pub some : 1 ≤ length t.rows
   pub most : length t.rows ≤ MOST_PERSONS
+  pub enough : length t.rows ≤ t.objects
   pub most_objects : t.objects ≤ MOST_OBJECTS
-  pub square : t.objects ≡ length t.rows
   pub low : pos 0 ≤ℤ t.spread
   pub high : t.spread ≤ℤ pos (2 * 10 ^ 9)
   pub each : All (IsRow t.objects) t.rows

@@ -93,8 +93,8 @@ pub fn is_lower(scale: u32, bound: i128, lower: i64) -> bool
 }
 
 /// The least cost of the file that reaches this bound, a scaled cost: the bound divided by the scale, rounded up, so -7 thirds
-/// give -2. Of the dual bound of prices from 0 to 2^61, of as many objects as persons, it is an i64 wherever there is an
-/// assignment ([`bounds_fit`](crate::bounds_fit)). O(1).
+/// give -2. Of the dual bound of prices from 0 to 2^61, of which no more than persons are above 0, it is an i64 wherever there
+/// is an assignment ([`bounds_fit`](crate::bounds_fit)). O(1).
 pub fn lower_of(scale: u32, bound: i128) -> i128
     requires some { 0 < scale }
     requires low { neg_ℤ (pos (2 ^ 96)) ≤ℤ bound }

@@ -1,13 +1,14 @@
 //! Laws of the definitions, as contracts of functions without a body: what prices show of the cost of every assignment, and the numbers
 //! of the limits.
 
-ghost use Rattle.std.specs.Prelude.{◌≡◌, ◌+◌, ◌≤◌, ◌-ℤ◌, ◌*ℤ◌, ◌≤ℤ◌, ℕ, List, ℤ, pos, neg_ℤ, length, All, FitsSigned, true};
+ghost use Rattle.std.specs.Prelude.{◌≡◌, ◌+◌, ◌≤◌, ◌-ℤ◌, ◌*ℤ◌, ◌≤ℤ◌, ℕ, List, ℤ, pos, neg_ℤ, length, All, FitsSigned, Ok, true};
 ghost use Rattle.std.specs.Int.{w64};
 ghost use Rattle.auc_graph.specs.declared.arc.Arc.{Arc};
-ghost use Rattle.auc_graph.specs.Problem.{Problem, IsWithin};
+ghost use Rattle.auc_graph.specs.Problem.{Problem, IsSquare, IsWithin};
+ghost use Rattle.auc_graph.specs.Reading.{objects_for, reading};
 ghost use Rattle.auc_graph.specs.Assignment.{IsAssignment, IsLeast, total, total_cost};
 ghost use Rattle.auc_graph.specs.Price.{IsPrice};
-ghost use Rattle.auc_graph.specs.Dual.{scale_of, dual, is_lower, IsLower, IsSlackRight, AreNotNegative, IsNoPriceLeft, EachHasArc};
+ghost use Rattle.auc_graph.specs.Dual.{scale_of, dual, is_lower, IsLower, IsSlackRight, AreNotNegative, AreFewPriced, IsNoPriceLeft, EachHasArc};
 
 use crate::limits::{MOST_ARCS, MOST_COST, MOST_OBJECTS, MOST_PERSONS, MOST_READS};
 
@@ -20,14 +21,14 @@ pub fn prices_bound_costs()
 
 /// The least cost that a dual bound allows: there is one at most, and a test without division finds it. Where there is an
 /// assignment, it is at most the greatest cost times the persons, and below the negative of that by no more than all prices
-/// together, scaled down (`top`). So with as many objects as persons, and prices from 0 to 2^61, it has 64 bits.
+/// together, scaled down (`top`). So where no more objects than persons have a price, each from 0 to 2^61, it has 64 bits.
 pub fn bounds_fit()
     ensures one { (scale : ℕ) (d lower other : ℤ) → IsLower scale d lower → IsLower scale d other → lower ≡ other }
     ensures tested { (n : ℕ) (d lower : ℤ) → is_lower (n + 1) d lower ≡ true → IsLower (n + 1) d lower }
     ensures passes { (n : ℕ) (d lower : ℤ) → IsLower (n + 1) d lower → is_lower (n + 1) d lower ≡ true }
     ensures low { (p : Problem) (prices : List ℤ) (choice : List Arc) (top lower : ℤ) → All (IsWithin p.persons p.objects) p.arcs → length prices ≡ p.objects → AreNotNegative prices → total prices ≤ℤ (pos (scale_of p) *ℤ top) → IsAssignment p choice → IsLower (scale_of p) (dual p prices) lower → ((pos p.persons *ℤ neg_ℤ MOST_COST) -ℤ top) ≤ℤ lower }
     ensures high { (p : Problem) (prices : List ℤ) (choice : List Arc) (lower : ℤ) → All (IsWithin p.persons p.objects) p.arcs → length prices ≡ p.objects → AreNotNegative prices → IsAssignment p choice → IsLower (scale_of p) (dual p prices) lower → lower ≤ℤ (pos p.persons *ℤ MOST_COST) }
-    ensures fits { (p : Problem) (prices : List ℤ) (choice : List Arc) (lower : ℤ) → p.persons ≤ MOST_PERSONS → All (IsWithin p.persons p.objects) p.arcs → p.objects ≡ p.persons → length prices ≡ p.objects → All IsPrice prices → IsAssignment p choice → IsLower (scale_of p) (dual p prices) lower → FitsSigned w64 lower }
+    ensures fits { (p : Problem) (prices : List ℤ) (choice : List Arc) (lower : ℤ) → p.persons ≤ MOST_PERSONS → All (IsWithin p.persons p.objects) p.arcs → length prices ≡ p.objects → All IsPrice prices → AreFewPriced p prices → IsAssignment p choice → IsLower (scale_of p) (dual p prices) lower → FitsSigned w64 lower }
 {}
 
 /// An assignment costs least where at prices that aren't negative no arc of a person is better than his chosen one by more
@@ -38,7 +39,19 @@ pub fn slack_right_costs_least()
 
 /// Where there are as many objects as persons, an assignment leaves none, and so no price.
 pub fn assignments_leave_no_price()
-    ensures { (p : Problem) (prices : List ℤ) (choice : List Arc) → All (IsWithin p.persons p.objects) p.arcs → p.objects ≡ p.persons → length prices ≡ p.objects → IsAssignment p choice → IsNoPriceLeft prices choice }
+    ensures { (p : Problem) (prices : List ℤ) (choice : List Arc) → All (IsWithin p.persons p.objects) p.arcs → IsSquare p → length prices ≡ p.objects → IsAssignment p choice → IsNoPriceLeft prices choice }
+{}
+
+/// No more objects than persons have a price where there are no more objects, or where an assignment leaves no price.
+pub fn prices_are_few()
+    ensures square { (p : Problem) (prices : List ℤ) → IsSquare p → length prices ≡ p.objects → AreFewPriced p prices }
+    ensures assigned { (p : Problem) (prices : List ℤ) (choice : List Arc) → IsAssignment p choice → IsNoPriceLeft prices choice → AreFewPriced p prices }
+{}
+
+/// What a text reads as has the objects that are wanted: as many as persons where this is 0, else just so many, which are no fewer.
+pub fn wanted_objects_are_read()
+    ensures objects { (limit wanted : ℕ) (text : List ℕ) (p : Problem) → reading limit wanted text ≡ Ok p → objects_for wanted p.persons ≡ Ok p.objects }
+    ensures square { (limit : ℕ) (text : List ℕ) (p : Problem) → reading limit 0 text ≡ Ok p → IsSquare p }
 {}
 
 /// Where there is an assignment each person has an arc, as the dual bound wants it.
@@ -49,7 +62,7 @@ pub fn assigned_persons_have_arcs()
 /// The numbers of the limits.
 pub fn limits_are()
     ensures persons { MOST_PERSONS ≡ 10000 }
-    ensures objects { MOST_OBJECTS ≡ 10000 }
+    ensures objects { MOST_OBJECTS ≡ 20000 }
     ensures arcs { MOST_ARCS ≡ 33554432 }
     ensures reads { MOST_READS ≡ 1073741824 }
     ensures cost { MOST_COST ≡ pos 1000000000 }

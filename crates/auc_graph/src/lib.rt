@@ -26,8 +26,8 @@ pub use arc::{Arc, ArcList};
 pub use dual::{dual_bound, is_lower, lower_of};
 pub use indices::Indices;
 pub use laws::{
-    assigned_persons_have_arcs, assignments_leave_no_price, bounds_fit, limits_are,
-    prices_bound_costs, slack_right_costs_least,
+    assigned_persons_have_arcs, assignments_leave_no_price, bounds_fit, limits_are, prices_are_few,
+    prices_bound_costs, slack_right_costs_least, wanted_objects_are_read,
 };
 pub use limits::{MOST_ARCS, MOST_COST, MOST_OBJECTS, MOST_PERSONS, MOST_READS};
 pub use number::{Number, number_of};

@@ -3,8 +3,8 @@
 /// The most persons of a problem.
 pub const MOST_PERSONS: u32 = 10_000;
 
-/// The most objects of a problem.
-pub const MOST_OBJECTS: u32 = 10_000;
+/// The most objects of a problem, of which there are at least as many as persons.
+pub const MOST_OBJECTS: u32 = 20_000;
 
 /// The most arcs of a problem.
 pub const MOST_ARCS: u32 = 33_554_432;

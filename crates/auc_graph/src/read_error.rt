@@ -42,6 +42,9 @@ pub enum ReadError {
     /// As many reads as are allowed did not reach the end.
     #[error("too many reads")]
     TooManyReads,
+    /// The first token is a number of persons, and above the number of objects that is wanted.
+    #[error("there are fewer objects than persons")]
+    TooFewObjects,
 }
 
 impl From<AllocError> for ReadError {

@@ -7,7 +7,7 @@ ghost use Rattle.auc_graph.specs.Reading.{reading};
 ghost use Rattle.auc_graph.specs.Pieces.{IsRead};
 
 use crate::arc::ArcList;
-use crate::limits::{MOST_ARCS, MOST_READS};
+use crate::limits::{MOST_ARCS, MOST_OBJECTS, MOST_READS};
 use crate::pieces::{is_want_of_memory, known_behind, problem_behind, stage_behind};
 use crate::read_error::ReadError;
 use crate::stage::Stage;
@@ -18,47 +18,55 @@ use std::io::Read;
 /// The most bytes that are taken of a reader at a time.
 const PIECE: usize = 65_536;
 
-/// How much is read at most: so many arcs, and from a reader by so many calls of `read`.
+/// How much is read at most: so many arcs, and from a reader by so many calls of `read`; and how many objects the problem has.
 #[derive(Clone, Copy, Debug, PartialEq, Eq)]
 pub struct ReadLimits {
     pub arcs: u32,
     pub reads: u32,
+    /// The number of objects; 0 means as many as persons.
+    pub objects: u32,
 }
 
 impl ReadLimits {
-    /// The most that any caller may ask for.
+    /// The most that any caller may ask for, with as many objects as persons.
     pub fn usual() -> Self
         ensures arcs { result.arcs ≡ MOST_ARCS }
         ensures reads { result.reads ≡ MOST_READS }
+        ensures objects { result.objects ≡ 0 }
     {
         ReadLimits {
             arcs: MOST_ARCS,
             reads: MOST_READS,
+            objects: 0,
         }
     }
 }
 
 /// The problem that a text reads as, or the first fault in the order of the text.
 ///
-/// Bytes 9 to 13, 26 and 32 part the text into tokens. The first token is the number of persons, who are as many as the
-/// objects; each three tokens behind it are an arc: person, object, cost. In the text persons and objects are numbered
-/// from 1. The same pair listed twice is two arcs, and no arc at all is a lawful list.
+/// Bytes 9 to 13, 26 and 32 part the text into tokens. The first token is the number of persons; each three tokens behind it
+/// are an arc: person, object, cost. In the text persons and objects are numbered from 1. The same pair listed twice is two
+/// arcs, and no arc at all is a lawful list.
 ///
-/// `limits.arcs` is the most arcs that are read; `limits.reads` plays no part here.
+/// `limits.objects` is the number of objects, of which there are as many as persons where it is 0; `limits.arcs` is the most
+/// arcs that are read; `limits.reads` plays no part here.
 ///
 /// # Errors
 ///
-/// At a token [`ReadError::TooManyArcs`] comes first, then [`ReadError::BadNumber`], then the range of the number;
+/// At a token [`ReadError::TooManyArcs`] comes first, then [`ReadError::BadNumber`], then the range of the number, and at the
+/// first token then [`ReadError::TooFewObjects`], where more persons than objects are told;
 /// [`ReadError::Cut`] and [`ReadError::Empty`] stand at the end of the text. [`ReadError::NoMemory`] may stand in place
 /// of any other answer, where memory was refused. No text is a [`ReadError::ReadFault`] or has too many reads.
 ///
 /// Takes O(length) time and 16 bytes of memory an arc.
 pub fn read_arcs(alloc: Global, bytes: &[u8], limits: ReadLimits) -> Result<ArcList, ReadError>
-    requires { limits.arcs ≤ MOST_ARCS }
-    ensures { AnswersUnless ReadError.NoMemory (λ p. p) result (λ r. reading limits.arcs bytes.now ≡ r) }
+    requires arcs { limits.arcs ≤ MOST_ARCS }
+    requires objects { limits.objects ≤ MOST_OBJECTS }
+    ensures { AnswersUnless ReadError.NoMemory (λ p. p) result (λ r. reading limits.arcs limits.objects bytes.now ≡ r) }
 {
+    let wanted = limits.objects;
     let mut arcs = Vec::new(alloc);
-    let (stage, left) = stage_behind(limits.arcs, Stage::AtCount, &mut arcs, bytes)?;
+    let (stage, left) = stage_behind(limits.arcs, Stage::AtCount { wanted }, &mut arcs, bytes)?;
     let token = from_place(bytes, bytes.len() - left);
     problem_behind(limits.arcs, stage, arcs, token)
 }
@@ -66,7 +74,7 @@ pub fn read_arcs(alloc: Global, bytes: &[u8], limits: ReadLimits) -> Result<ArcL
 /// The problem that the text of a reader reads as, as [`read_arcs`] says, or the first fault; no more of the text is kept than 32
 /// bytes of a token that isn't finished.
 ///
-/// `limits.arcs` is the most arcs that are read, and `limits.reads` the most calls of `read`, the one that finds the end among
+/// `limits.objects` is the number of objects, `limits.arcs` the most arcs that are read, and `limits.reads` the most calls of `read`, the one that finds the end among
 /// them. A read that gives no bytes is the end; the reader is read up to there, also where a fault of the text was seen before.
 ///
 /// # Errors
@@ -83,11 +91,13 @@ pub fn read_arcs_from<R: Read>(
 ) -> Result<ArcList, ReadError>
     requires arcs { limits.arcs ≤ MOST_ARCS }
     requires reads { limits.reads ≤ MOST_READS }
+    requires objects { limits.objects ≤ MOST_OBJECTS }
     // A text was taken, all that the reader had unless it says otherwise; the answer is that of the whole text.
     ensures { (text : List ℕ) × Consumes (R.remaining reader.old) (R.remaining reader.new) text × IsRead limits (R.remaining reader.new) text result }
 {
     let mut arcs = Vec::new(alloc);
-    let mut known = Ok(Stage::AtCount);
+    let wanted = limits.objects;
+    let mut known = Ok(Stage::AtCount { wanted });
     let mut piece = [0u8; PIECE];
     let mut kept = 0;
     for _done in 0..limits.reads {

@@ -1,21 +1,23 @@
 //! Reading one number after another: what the next one is.
 
-ghost use Rattle.std.specs.Prelude.{◌≡◌, ◌≤◌, ◌<◌, ℕ, List, [], neg_ℤ, ◌≤ℤ◌, IfOk};
+ghost use Rattle.std.specs.Prelude.{◌≡◌, ◌≤◌, ◌<◌, ◌⊎◌, ℕ, List, [], neg_ℤ, ◌≤ℤ◌, IfOk};
 ghost use Rattle.auc_graph.specs.declared.stage.Stage.TheVariants.{AtCount, AtPerson, AtObject};
 ghost use Rattle.auc_graph.specs.Memory.{AnswersUnless};
-ghost use Rattle.auc_graph.specs.Reading.{within, index, cost, step_at, finish_at};
+ghost use Rattle.auc_graph.specs.Reading.{within, index, cost, objects_for, step_at, finish_at};
 ghost use Rattle.auc_graph.specs.Pieces.{IsStage};
 
 use crate::arc::{Arc, ArcList};
-use crate::limits::{MOST_ARCS, MOST_COST, MOST_PERSONS};
+use crate::limits::{MOST_ARCS, MOST_COST, MOST_OBJECTS, MOST_PERSONS};
 use crate::number::Number;
 use crate::read_error::ReadError;
 
 /// What the next number of a text is, and what is known by then.
 #[derive(Clone, Copy, Debug, PartialEq, Eq)]
 pub enum Stage {
-    /// The number of persons.
-    AtCount,
+    /// The number of persons; so many objects are wanted, or as many as persons where this is 0.
+    AtCount {
+        wanted: u32,
+    },
     /// The person of the next arc, if there is one.
     AtPerson {
         persons: u32,
@@ -71,16 +73,32 @@ fn cost_of(number: Number, token: u64, range: ReadError) -> Result<i64, ReadErro
     within_of(number, -MOST_COST, MOST_COST, token, range)
 }
 
+/// The number of objects beside so many persons.
+fn objects_of(wanted: u32, persons: u32) -> Result<u32, ReadError>
+    ensures exact { result ≡ objects_for wanted persons }
+    ensures enough { IfOk result (λ objects. persons ≤ objects) }
+    ensures few { IfOk result (λ objects. objects ≤ persons ⊎ objects ≤ wanted) }
+{
+    if wanted == 0 {
+        return Ok(persons);
+    }
+    if wanted < persons {
+        return Err(ReadError::TooFewObjects);
+    }
+    Ok(wanted)
+}
+
 /// The stage behind the number of persons.
 #[inline(always)]
 #[tactic(auto, unfolding(crate::specs::Reading::step_at))]
-fn after_count(number: Number) -> Result<Stage, ReadError>
-    ensures exact { (limit : ℕ) (arcs : List Arc) → AnswersUnless ReadError.NoMemory (λ stage. (stage, arcs)) result (λ r. step_at limit AtCount arcs number ≡ r) }
+fn after_count(wanted: u32, number: Number) -> Result<Stage, ReadError>
+    requires { wanted ≤ MOST_OBJECTS }
+    ensures exact { (limit : ℕ) (arcs : List Arc) → AnswersUnless ReadError.NoMemory (λ stage. (stage, arcs)) result (λ r. step_at limit (AtCount wanted) arcs number ≡ r) }
     ensures sound { (limit : ℕ) → IfOk result (λ stage. IsStage limit stage []) }
 {
     let before = index_of(number, MOST_PERSONS, 0, ReadError::CountRange)?;
     let persons = before + 1;
-    let objects = persons;
+    let objects = objects_of(wanted, persons)?;
     Ok(Stage::AtPerson { persons, objects })
 }
 
@@ -155,7 +173,7 @@ impl Stage {
         ensures sound { IfOk result (λ stage. IsStage limit stage arcs.new.items) }
     {
         match self {
-            Stage::AtCount => after_count(number),
+            Stage::AtCount { wanted } => after_count(wanted, number),
             Stage::AtPerson { persons, objects } => {
                 after_person(limit, persons, objects, arcs.as_slice(), number)
             }
@@ -192,7 +210,7 @@ impl Stage {
     {
         let before = arcs.len() as u64;
         match self {
-            Stage::AtCount => Err(ReadError::Empty),
+            Stage::AtCount { .. } => Err(ReadError::Empty),
             Stage::AtPerson { persons, objects } => Ok(ArcList::make(persons, objects, arcs)),
             Stage::AtObject { .. } => Err(ReadError::Cut {
                 tokens: 3 * before + 2,

@@ -6,7 +6,7 @@ use Rattle.std.proofs.KnownBytes.{Consumes-whole}
 use Rattle.std.proofs.lemmas.List.{length-append}
 use Rattle.auc_graph.specs.declared.limits.TheConstants.{MOST_ARCS, MOST_READS}
 use Rattle.auc_graph.specs.declared.read_error.ReadError.{ReadError}
-use Rattle.auc_graph.specs.declared.read_error.ReadError.TheVariants.{Empty, BadNumber, CountRange, TooManyArcs, PersonRange, ObjectRange, CostRange, Cut, NoMemory, ReadFault, TooManyReads}
+use Rattle.auc_graph.specs.declared.read_error.ReadError.TheVariants.{Empty, BadNumber, CountRange, TooManyArcs, PersonRange, ObjectRange, CostRange, Cut, NoMemory, ReadFault, TooManyReads, TooFewObjects}
 use Rattle.auc_graph.specs.declared.reading.ReadLimits.{ReadLimits}
 use Rattle.auc_graph.specs.Problem.{Problem}
 use Rattle.auc_graph.specs.Reading.{reading}
@@ -30,10 +30,10 @@ many None new text n c le = (text, tt, le)
 many (Some xs) None text n c le = absurd c
 many (Some xs) (Some ys) text n c le = (xs, refl, omega (arith, ap length c, length-append text ys, le))
 
-module _ (limits : ReadLimits) (old new : Option (List ℕ)) (text : List ℕ) (arcs_is : limits.arcs ≡ MOST_ARCS) (reads_is : limits.reads ≡ MOST_READS) (taken : Consumes old new text) where
+module _ (limits : ReadLimits) (old new : Option (List ℕ)) (text : List ℕ) (arcs_is : limits.arcs ≡ MOST_ARCS) (reads_is : limits.reads ≡ MOST_READS) (objects_is : limits.objects ≡ 0) (taken : Consumes old new text) where
   -- at the end the whole file was taken
-  whole : (answer : Result Problem ReadError) → IsAtEnd new × (reading limits.arcs text ≡ answer) → (file : List ℕ) × AreKnown old file × (reading MOST_ARCS file ≡ answer)
-  whole answer h = (text, Consumes-whole old new text (λ xs. text ≡ xs) taken h.0 refl, ap (λ (n : ℕ). reading n text) (sym arcs_is) ∙ h.1)
+  whole : (answer : Result Problem ReadError) → IsAtEnd new × (reading limits.arcs limits.objects text ≡ answer) → (file : List ℕ) × AreKnown old file × (reading MOST_ARCS 0 file ≡ answer)
+  whole answer h = (text, Consumes-whole old new text (λ xs. text ≡ xs) taken h.0 refl, ap (λ (n : ℕ). reading n 0 text) (sym arcs_is) ∙ ap (λ (m : ℕ). reading limits.arcs m text) (sym objects_is) ∙ h.1)
 
   pub read_in : (answer : Result Problem ReadError) → IsRead limits new text answer → (file : List ℕ) × AreKnown old file × ReadsAsProblem file answer
   read_in (Ok p) h = whole (Ok p) h
@@ -45,6 +45,7 @@ module _ (limits : ReadLimits) (old new : Option (List ℕ)) (text : List ℕ) (
   read_in (Err (ObjectRange arc)) h = whole (Err (ObjectRange arc)) h
   read_in (Err (CostRange arc)) h = whole (Err (CostRange arc)) h
   read_in (Err (Cut tokens)) h = whole (Err (Cut tokens)) h
+  read_in (Err TooFewObjects) h = whole (Err TooFewObjects) h
   read_in (Err NoMemory) h = (known old, are_known old, tt)
   read_in (Err ReadFault) h = (known old, are_known old, tt)
   read_in (Err TooManyReads) h = many old new text MOST_READS taken (omega (arith, h, reads_is))

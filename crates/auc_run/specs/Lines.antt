@@ -2,9 +2,9 @@
 use Rattle.std.specs.Prelude.{ℕ, ◌+◌, List, ◌++◌, codes}
 use Rattle.std.specs.Fmt.{decimal, signed_decimal}
 use Rattle.auc_graph.specs.declared.read_error.ReadError.{ReadError}
-use Rattle.auc_graph.specs.declared.read_error.ReadError.TheVariants.{Empty, BadNumber, CountRange, TooManyArcs, PersonRange, ObjectRange, CostRange, Cut, NoMemory, ReadFault, TooManyReads}
+use Rattle.auc_graph.specs.declared.read_error.ReadError.TheVariants.{Empty, BadNumber, CountRange, TooManyArcs, PersonRange, ObjectRange, CostRange, Cut, NoMemory, ReadFault, TooManyReads, TooFewObjects}
 use Rattle.auc_cert.specs.declared.refused.CertRefused.{CertRefused}
-use Rattle.auc_cert.specs.declared.refused.CertRefused.TheVariants.{WrongSize, NoSuchArc, ObjectTwice, WrongCost, Slack, NotHall, WrongBound, NoMemory as NoMemoryToCheck}
+use Rattle.auc_cert.specs.declared.refused.CertRefused.TheVariants.{WrongSize, NoSuchArc, ObjectTwice, WrongCost, Slack, LeftOver, NotHall, WrongBound, NoMemory as NoMemoryToCheck}
 use Rattle.auc_cert.specs.declared.text_error.CertTextError.{CertTextError}
 use Rattle.auc_cert.specs.declared.text_error.CertTextError.TheVariants.{Line, NoMemory as NoMemoryForText}
 use Rattle.auc_run.specs.declared.input.ReadFault.{ReadFault as InputFault}
@@ -38,6 +38,7 @@ problem_line (Cut tokens) = counted (codes "refused cut ") tokens
 problem_line NoMemory = codes "refused memory\n"
 problem_line ReadFault = codes "refused read\n"
 problem_line TooManyReads = codes "refused reads\n"
+problem_line TooFewObjects = codes "refused objects\n"
 
 -- lines are written from 1 on
 abbrev pub certificate_line : CertTextError → List ℕ
@@ -51,6 +52,7 @@ claim_line (NoSuchArc person) = counted (codes "invalid arc ") (person + 1)
 claim_line (ObjectTwice object) = counted (codes "invalid twice ") (object + 1)
 claim_line WrongCost = codes "invalid cost\n"
 claim_line (Slack person) = counted (codes "invalid slack ") (person + 1)
+claim_line (LeftOver object) = counted (codes "invalid leftover ") (object + 1)
 claim_line NotHall = codes "invalid hall\n"
 claim_line WrongBound = codes "invalid bound\n"
 claim_line NoMemoryToCheck = codes "refused memory\n"

@@ -8,13 +8,13 @@ use Rattle.auc_graph.specs.Reading.{reading}
 use Rattle.auc_run.specs.declared.refusal.Refusal.{Refusal}
 use Rattle.auc_run.specs.declared.refusal.Refusal.TheVariants.{NotRead, NoProblem, NoCertificate, Invalid, NoScript, NoMemory as NoMemoryForJob, NoThreads}
 
--- A file reads as this problem, or by this first fault as none. Of a read that failed, and of want of memory, nothing is known; too many reads
+-- A file reads as this problem, with as many objects as persons, or by this first fault as none. Of a read that failed, and of want of memory, nothing is known; too many reads
 -- have each taken a byte.
 abbrev pub ReadsAsProblem : List ℕ → Result Problem ReadError → Type 0
 ReadsAsProblem file (Err NoMemory) = ⊤
 ReadsAsProblem file (Err ReadFault) = ⊤
 ReadsAsProblem file (Err TooManyReads) = MOST_READS ≤ length file
-ReadsAsProblem file answer = reading MOST_ARCS file ≡ answer
+ReadsAsProblem file answer = reading MOST_ARCS 0 file ≡ answer
 
 -- the problem that a file reads as
 abbrev pub IsProblemOf : List ℕ → Problem → Type 0

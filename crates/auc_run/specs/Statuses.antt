@@ -2,9 +2,9 @@
 -- and 6 where memory ran out.
 use Rattle.std.specs.Prelude.{ℕ}
 use Rattle.auc_graph.specs.declared.read_error.ReadError.{ReadError}
-use Rattle.auc_graph.specs.declared.read_error.ReadError.TheVariants.{Empty, BadNumber, CountRange, TooManyArcs, PersonRange, ObjectRange, CostRange, Cut, NoMemory, ReadFault, TooManyReads}
+use Rattle.auc_graph.specs.declared.read_error.ReadError.TheVariants.{Empty, BadNumber, CountRange, TooManyArcs, PersonRange, ObjectRange, CostRange, Cut, NoMemory, ReadFault, TooManyReads, TooFewObjects}
 use Rattle.auc_cert.specs.declared.refused.CertRefused.{CertRefused}
-use Rattle.auc_cert.specs.declared.refused.CertRefused.TheVariants.{WrongSize, NoSuchArc, ObjectTwice, WrongCost, Slack, NotHall, WrongBound, NoMemory as NoMemoryToCheck}
+use Rattle.auc_cert.specs.declared.refused.CertRefused.TheVariants.{WrongSize, NoSuchArc, ObjectTwice, WrongCost, Slack, LeftOver, NotHall, WrongBound, NoMemory as NoMemoryToCheck}
 use Rattle.auc_cert.specs.declared.text_error.CertTextError.{CertTextError}
 use Rattle.auc_cert.specs.declared.text_error.CertTextError.TheVariants.{Line, NoMemory as NoMemoryForText}
 use Rattle.auc_run.specs.declared.input.ReadFault.{ReadFault as InputFault}
@@ -31,6 +31,7 @@ problem_status (Cut tokens) = 5
 problem_status NoMemory = 6
 problem_status ReadFault = 5
 problem_status TooManyReads = 5
+problem_status TooFewObjects = 5
 
 abbrev pub certificate_status : CertTextError → ℕ
 certificate_status (Line k) = 5
@@ -42,6 +43,7 @@ claim_status (NoSuchArc person) = 3
 claim_status (ObjectTwice object) = 3
 claim_status WrongCost = 3
 claim_status (Slack person) = 3
+claim_status (LeftOver object) = 3
 claim_status NotHall = 3
 claim_status WrongBound = 3
 claim_status NoMemoryToCheck = 6

@@ -87,7 +87,7 @@ fn verdict_of<R: Read, Q: Read>(
     second: &mut Q,
 ) -> Result<Valid, Refusal>
     ensures verdict { IsVerdict (R.remaining reader.old) (Q.remaining second.old) result }
-    ensures unread { IfSome (R.remaining reader.old) (λ file. IsErr (reading MOST_ARCS file) → second.new ≡ second.old) }
+    ensures unread { IfSome (R.remaining reader.old) (λ file. IsErr (reading MOST_ARCS 0 file) → second.new ≡ second.old) }
 {
     let problem = problem_of(alloc, reader)?;
     let bytes = read_all(alloc, second, MOST_READS)?;
@@ -106,7 +106,7 @@ fn outcome_of<R: Read, Q: Read>(
     requires plain { IsPlain job.now }
     ensures outcome { IsOutcome job.now (R.remaining reader.old) (Q.remaining second.old) result }
     ensures writable { IfOk result IsWritable }
-    ensures unread { IfSome (R.remaining reader.old) (λ file. IsErr (reading MOST_ARCS file) → second.new ≡ second.old) }
+    ensures unread { IfSome (R.remaining reader.old) (λ file. IsErr (reading MOST_ARCS 0 file) → second.new ≡ second.old) }
     ensures alone { job.now ≢ Job.Check → second.new ≡ second.old }
 {
     match job {
@@ -163,7 +163,7 @@ pub fn run_plain<R: Read, Q: Read, W: Write>(
     // Where not all of it could be written, a beginning of such a text was.
     ensures unwritten { result ≡ 8 → SaidInPart job.now (R.remaining reader.old) (Q.remaining second.old) (W.contents writer.old) (W.contents writer.new) }
     // A certificate for what is no problem is left unread.
-    ensures unread { IfSome (R.remaining reader.old) (λ file. IsErr (reading MOST_ARCS file) → second.new ≡ second.old) }
+    ensures unread { IfSome (R.remaining reader.old) (λ file. IsErr (reading MOST_ARCS 0 file) → second.new ≡ second.old) }
     // Only a check has a second input.
     ensures alone { job.now ≢ Job.Check → second.new ≡ second.old }
 {
@@ -191,7 +191,7 @@ pub fn run_command<H: Threads + Wait + Sync, R: Read, Q: Read, W: Write, G: Gate
     // Where not all of it could be written, a beginning of such a text was.
     ensures unwritten { result ≡ 8 → SaidInPart job.now (R.remaining reader.old) (Q.remaining second.old) (W.contents writer.old) (W.contents writer.new) }
     // A certificate for what is no problem is left unread.
-    ensures unread { IfSome (R.remaining reader.old) (λ file. IsErr (reading MOST_ARCS file) → second.new ≡ second.old) }
+    ensures unread { IfSome (R.remaining reader.old) (λ file. IsErr (reading MOST_ARCS 0 file) → second.new ≡ second.old) }
     // Only a check has a second input.
     ensures alone { job.now ≢ Job.Check → second.new ≡ second.old }
 {

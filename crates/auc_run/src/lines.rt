@@ -106,6 +106,7 @@ fn write_problem<W: Write>(writer: &mut W, error: ReadError) -> Result<(), Write
         ReadError::NoMemory => write_whole(writer, b"refused memory\n"),
         ReadError::ReadFault => write_whole(writer, b"refused read\n"),
         ReadError::TooManyReads => write_whole(writer, b"refused reads\n"),
+        ReadError::TooFewObjects => write_whole(writer, b"refused objects\n"),
     }
 }
 
@@ -129,6 +130,9 @@ fn write_claim<W: Write>(writer: &mut W, error: CertRefused) -> Result<(), Write
         }
         CertRefused::WrongCost => write_whole(writer, b"invalid cost\n"),
         CertRefused::Slack { person } => { write_place(writer, b"invalid slack ", person as u64) }
+        CertRefused::LeftOver { object } => {
+            write_place(writer, b"invalid leftover ", object as u64)
+        }
         CertRefused::NotHall => write_whole(writer, b"invalid hall\n"),
         CertRefused::WrongBound => write_whole(writer, b"invalid bound\n"),
         CertRefused::NoMemory => write_whole(writer, b"refused memory\n"),

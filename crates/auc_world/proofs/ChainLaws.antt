@@ -1,5 +1,5 @@
 -- The chain, one phase more, and what its last phase claims.
-use Rattle.std.proofs.Common.{ℕ, ℤ, pos, ◌+◌, ◌<◌, ◌≡◌, true, false, refl, arith, List, [], ◌∷◌, length, get_or, Option, Some, None, Contains, sym, ap, subst, ◌∙◌}
+use Rattle.std.proofs.Common.{ℕ, ℤ, pos, ◌+◌, ◌<◌, ◌≤◌, ◌≡◌, ◌⊎◌, ◌%◌, inl, inr, nat_lt, true, false, refl, arith, List, [], ◌∷◌, length, get_or, Option, Some, None, Contains, sym, ap, subst, ◌∙◌}
 use Rattle.std.specs.Prelude.{All, Bool, IfOk, Result, Ok, Err, T, int_le, map, replicate, ◌≤ℤ◌}
 use Rattle.std.specs.Int.Signed.{le_z_yes}
 use Rattle.std.proofs.lemmas.Int.{ints}
@@ -9,7 +9,16 @@ use Rattle.std.proofs.lemmas.List.{length-map}
 use Rattle.std.proofs.lemmas.List.FromFn.{length-range_with_len}
 use Rattle.auc_graph.specs.declared.arc.Arc.{Arc}
 use Rattle.auc_graph.specs.Assignment.{IsAssignment, person_of, total_cost}
-use Rattle.auc_graph.specs.Problem.{IsProblem, Problem}
+use Rattle.auc_graph.specs.Dual.{price_at}
+use Rattle.auc_graph.specs.Problem.{IsProblem, IsSquare, Problem}
+use Rattle.std.proofs.lemmas.Bool.{cases_lt}
+use Rattle.std.proofs.lemmas.Bool.Decides.{nat_tests}
+use Rattle.auc_model.proofs.Unheld.{unheld_schedule}
+use Rattle.auc_objects.specs.Objects.{Objects, price_of}
+use Rattle.auc_world.specs.Making.{AreLimits, IsMade}
+use Rattle.auc_world.specs.Parts.{Parts, seen}
+use Rattle.auc_world.proofs.Made.{replicate_default}
+use Rattle.auc_world.proofs.RoundLaws.{rounds_schedule}
 use Rattle.auc_graph.specs.Table.{IsTable, IsTableOf, Table}
 use Rattle.auc_letters.specs.Price.{IsEps}
 use Rattle.auc_letters.specs.declared.state.Held.{Held}
@@ -23,16 +32,17 @@ use Rattle.auc_model.proofs.Theorems.{holders_slack, of_every_schedule}
 use Rattle.auc_world.specs.declared.answer.Answer.{Answer}
 use Rattle.auc_world.specs.declared.gathering.Gathered.{Gathered}
 use Rattle.auc_world.specs.declared.limits.Limits.{Limits}
-use Rattle.auc_world.specs.Answers.{IsAnswer, IsBracketAnswer, IsCertified, IsOptimalAnswer, why_of}
+use Rattle.auc_world.specs.Answers.{HasAssignment, IsAnswer, IsBracketAnswer, IsCertified, IsOptimalAnswer, why_of}
 use Rattle.auc_world.specs.Chain.{Begins, Chain, EndsIn, Follows, IsClaimOf, IsOfRun}
-use Rattle.auc_world.specs.Claims.{ArePlaceable, HoldsAt, IsChoiceOf, NobodyHoldsTwo, claim_of, holder_at}
+use Rattle.auc_world.specs.Claims.{ArePlaceable, BoundFits, HasNoPriceUnheld, HoldsAt, IsChoiceOf, NobodyHoldsTwo, claim_of, holder_at}
 use Rattle.auc_world.specs.Eps.{first_eps, next_eps}
 use Rattle.auc_world.specs.Phases.{IsPlayed, Leaves, Stage}
 use Rattle.auc_hall.proofs.ProblemLaws.{length-rows, row_is, stands_for}
 use Rattle.auc_graph.specs.Row.{row}
 use Rattle.auc_graph.specs.declared.rows.RowArc.{RowArc}
 use Rattle.auc_cert.specs.declared.reason.Reason.{Reason}
-use Rattle.auc_world.proofs.Bridge.{counted_are_certified}
+use Rattle.auc_world.proofs.BracketLaws.{bound_fits, holders_price_few}
+use Rattle.auc_world.proofs.Bridge.{counted_are_certified, in_range}
 use Rattle.auc_world.proofs.FoundLaws.{one_choice, person_at}
 use Rattle.auc_cert.specs.Claim.{pick_of}
 use Rattle.std.specs.List.{slice_get}
@@ -61,6 +71,45 @@ last_eps eps is none = by (int_le eps (pos 1)) refl
     by : (b : Bool) → int_le eps (pos 1) ≡ b → eps ≡ pos 1
     by true e = let le : eps ≤ℤ pos 1 = le_z_yes (subst (λ (x : Bool). T x) (sym e) tt) in let low = is.low in omega (arith, ints, le, low)
     by false e = absurd (let n = rw e at none in cc)
+
+-- ---- more objects than persons: one phase, from prices of 0
+
+-- where a phase comes behind another, there are no more objects than persons
+first_is_only : (t : Table) (next : ℤ) → length t.rows < t.objects → next_eps (first_eps t) ≡ Some next → ⊥
+first_is_only t next more e =
+    let b : nat_lt (length t.rows) t.objects ≡ true = grind (arith, nat_tests, more) in
+    let one : first_eps t ≡ pos 1 = rw b refl in
+    let none : ◌≡◌ {A = Option ℤ} None (Some next) = rw one at e in
+    cc
+
+followed_is_square : (t : Table) (limits : Limits) (start : Option (List ℤ)) (r : Stage) (rest : List Stage) (next : ℤ) → length t.rows < t.objects → Chain t limits start (r ∷ rest) → next_eps r.eps ≡ Some next → ⊥
+followed_is_square t limits None r [] next more chain e = first_is_only t next more (ap next_eps (sym chain.1.0) ∙ e)
+followed_is_square t limits (Some prices) r [] next more chain e = let square = chain.1.2 in omega (arith, more, square)
+followed_is_square t limits start r (q ∷ rest) next more chain e = followed_is_square t limits start q rest r.eps more chain.2 chain.1.next
+
+-- a phase from prices of 0 leaves none to what nobody holds
+made_price : (t : Table) (limits : Limits) (prices : List ℤ) (eps : ℤ) (made : Parts) → AreLimits limits → IsMade t limits prices eps made → (j : ℕ) → (seen made).price j ≡ price_at prices j
+made_price t limits prices eps made ok is j =
+    let some = ok.some in
+    let lt : j % made.shards < limits.shards = rw is.shards (omega arith) in
+    ap (λ (x : Objects). price_of x j) (is.each_objects (j % made.shards) lt)
+
+free_from_zeros : (t : Table) (limits : Limits) (s : Stage) → AreLimits limits → IsPlayed t limits s → s.prices ≡ replicate t.objects (pos 0) → (j : ℕ) → s.world.holder j ≡ None → s.world.price j ≡ pos 0
+free_from_zeros t limits s ok played zeros j none =
+    let run = rounds_schedule (phase_of t limits.shards s.eps) (seen played.parts) played.rounds s.world played.played in
+    let stays = unheld_schedule (phase_of t limits.shards s.eps) (seen played.parts) run.0 s.world run.1 j none in
+    stays.1 ∙ made_price t limits s.prices s.eps played.parts ok played.made j ∙ ap (λ (zs : List ℤ). price_at zs j) zeros ∙ replicate_default t.objects j (pos 0)
+
+-- what a phase of a chain leaves
+pub priced_by_holders : (p : Problem) (t : Table) (limits : Limits) (start : Option (List ℤ)) (done : List Stage) (s : Stage) → AreLimits limits → IsTable t → IsTableOf p t → IsReady t limits start done s.eps s.prices → IsPlayed t limits s
+    → IsSquare p ⊎ ((j : ℕ) → s.world.holder j ≡ None → s.world.price j ≡ pos 0)
+priced_by_holders p t limits None [] s ok table its ready played = inr (free_from_zeros t limits s ok played ready.1)
+priced_by_holders p t limits (Some prices) [] s ok table its ready played = let square = ready.2 in inl (omega (arith, square, its.objects, length-rows p t its))
+priced_by_holders p t limits start (r ∷ rest) s ok table its ready played =
+    elim (cases_lt (length t.rows) t.objects) [
+      | inl more ↦ absurd (followed_is_square t limits start r rest s.eps more ready.1 ready.0.next)
+      | inr le ↦ (let enough : length t.rows ≤ t.objects = table.enough in inl (omega (arith, le, enough, its.objects, length-rows p t its)))
+    ]
 
 -- ---- the holders of a reached world
 
@@ -95,9 +144,17 @@ module _ (p : Problem) (t : Table) (limits : Limits) (s : Stage) (gathered : Gat
     once = holds_one;
   }
 
+-- the prices that a phase leaves, as the answer has them
+pub priced_gathered : (p : Problem) (t : Table) (limits : Limits) (start : Option (List ℤ)) (done : List Stage) (s : Stage) (gathered : Gathered) → AreLimits limits → IsTable t → IsTableOf p t → IsReady t limits start done s.eps s.prices → Leaves t limits s gathered → IsSquare p ⊎ HasNoPriceUnheld gathered.holders.items gathered.prices.items
+priced_gathered p t limits start done s gathered ok table its ready left =
+    elim (priced_by_holders p t limits start done s ok table its ready left.played) [
+      | inl square ↦ inl square
+      | inr free ↦ inr (λ j none. left.sales.price_is j ∙ free j (sym (left.sales.holder_is j) ∙ none))
+    ]
+
 -- ---- the last phase has sold an object to each person
 
-module _ (p : Problem) (t : Table) (limits : Limits) (start : Option (List ℤ)) (done : List Stage) (s : Stage) (gathered : Gathered) (is : IsProblem p) (table : IsTable t) (its : IsTableOf p t) (ready : IsReady t limits start done s.eps s.prices) (left : Leaves t limits s gathered) where
+module _ (p : Problem) (t : Table) (limits : Limits) (start : Option (List ℤ)) (done : List Stage) (s : Stage) (gathered : Gathered) (is : IsProblem p) (table : IsTable t) (its : IsTableOf p t) (ready : IsReady t limits start done s.eps s.prices) (left : Leaves t limits s gathered) (ok : AreLimits limits) where
   pub ends_in : EndsIn p limits start s
   ends_in = record { table = t; of = its; before = done; chain = chain_more t limits start done s ready left.played }
 
@@ -112,7 +169,7 @@ module _ (p : Problem) (t : Table) (limits : Limits) (start : Option (List ℤ))
     priced = left.sales.prices_are ∙ its.objects
 
     chosen : (choice : List Arc) × IsAssignment p choice × All (IsHeldArc p s.world) choice × IsCertified p (claim_of choice gathered.prices.items)
-    chosen = counted_are_certified p t limits.shards s.world gathered.prices.items is table its at_one counted left.sales.price_is priced left.within
+    chosen = counted_are_certified p t limits.shards s.world gathered.prices.items is table its (priced_by_holders p t limits start done s ok table its ready left.played) at_one counted left.sales.price_is priced left.within
 
     choice_is : IsChoiceOf p gathered.holders.items chosen.0
     choice_is = choice_of_holders p t limits s gathered its left chosen.0 chosen.1 chosen.2
@@ -150,18 +207,25 @@ module _ (p : Problem) (t : Table) (limits : Limits) (start : Option (List ℤ))
   placeable : ArePlaceable p gathered.holders.items
   placeable = record { each = placed_rightly; once = holds_one p t limits s gathered its left }
 
-  module _ (reason : Reason) (stopped : s.world.end ≡ Some (End.Stopped (why_of reason))) where
+  -- and the bound has 64 bits
+  bound_is_cost : HasAssignment p → BoundFits p gathered.prices.items
+  bound_is_cost has =
+      let priced = left.sales.prices_are ∙ its.objects in
+      bound_fits p Reason.Bids gathered.prices.items is priced (in_range gathered.prices.items left.within)
+      (holders_price_few p gathered.holders.items gathered.prices.items is placeable priced (priced_gathered p t limits start done s gathered ok table its ready left)) has
+
+  module _ (reason : Reason) (stopped : s.world.end ≡ Some (End.Stopped (why_of reason))) (has : HasAssignment p) where
     pub stopped_is_answer : (answer : Answer) → IsBracketAnswer p reason gathered.holders.items gathered.prices.items answer → IsAnswer p answer
     stopped_is_answer (Answer.Optimal cert) h = absurd h
     stopped_is_answer (Answer.Infeasible cert) h = h
     stopped_is_answer (Answer.Bracket cert) h = let by = h.1 in record { reason = reason; lower = by.lower; cost = total_cost by.choice; choice = map pick_of by.choice; prices = gathered.prices.items; is = by.is; certified = h.2 }
-    stopped_is_answer (Answer.Broken guard) h = absurd (h.1 placeable)
+    stopped_is_answer (Answer.Broken guard) h = absurd (h.1 placeable (bound_is_cost has))
 
     pub stopped_is_of_run : (answer : Answer) → IsBracketAnswer p reason gathered.holders.items gathered.prices.items answer → IsOfRun p limits start answer
     stopped_is_of_run (Answer.Optimal cert) h = absurd h
     stopped_is_of_run (Answer.Infeasible cert) h = tt
     stopped_is_of_run (Answer.Bracket cert) h = (s, ends_in, record { reason = reason; stopped = stopped; prices = gathered.prices.items; each = left.sales.prices_are ∙ its.objects; true_prices = left.sales.price_is; by = h.1 })
-    stopped_is_of_run (Answer.Broken guard) h = absurd (h.1 placeable)
+    stopped_is_of_run (Answer.Broken guard) h = absurd (h.1 placeable (bound_is_cost has))
 
 -- ---- the same of what the code answers
 

@@ -17,8 +17,7 @@ use Rattle.auc_model.specs.Hub.{HubTakeTurn, counted, takes}
 use Rattle.auc_model.specs.Mails.{ObjectShard, PersonShard, Shard, box_of, number, sender, with_outbox}
 use Rattle.auc_model.specs.Posting.{PostTurn}
 use Rattle.auc_model.specs.Schedule.{Turned}
-use Rattle.auc_model.specs.Selling.{ObjectTakeTurn}
-use Rattle.auc_model.specs.World.{Phase, World, ended}
+use Rattle.auc_model.specs.World.{Phase, World}
 use Rattle.auc_model.specs.declared.turn.MailName.{MailName}
 use Rattle.auc_model.specs.declared.turn.Turn.{Turn}
 use Rattle.auc_model.specs.declared.turn.TurnReply.{TurnReply}
@@ -27,7 +26,7 @@ use Rattle.auc_objects.specs.Answers.{letters_of}
 use Rattle.auc_world.specs.declared.mails.Mails.{Mails}
 use Rattle.auc_world.specs.declared.selling.Dealt.{Dealt}
 use Rattle.auc_world.specs.declared.passing.Sold.{Sold}
-use Rattle.auc_world.specs.Mails.{TakesOne, name_of, named, with_named}
+use Rattle.auc_world.specs.Mails.{name_of, named, with_named}
 use Rattle.auc_world.specs.Parts.{AreParts, MayAnswer, Parts, Reaches, SamePhase, outbox_at, phase, seen}
 use Rattle.auc_world.specs.Passing.{BidPasses, Counts, FirstPasses, Hands, Judges, Leads, PassesBy, Sells, TakesFrom, Trades, sold_if, sold_moves, with_hub}
 use Rattle.auc_world.specs.Posting.{Leaves, MailsAlone}

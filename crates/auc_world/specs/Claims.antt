@@ -1,9 +1,10 @@
 -- The claim that holders and prices make.
-use Rattle.std.specs.Prelude.{ℕ, ℤ, pos, ◌≡◌, List, map, Option, Some, None, All, Contains, slice_get, slice_index_or}
+use Rattle.std.specs.Prelude.{ℕ, ℤ, pos, ◌≡◌, List, map, Option, Some, None, All, Contains, FitsSigned, slice_get, slice_index_or}
+use Rattle.std.specs.Int.{w64}
 use Rattle.std.specs.List.{range_with_len}
 use Rattle.auc_graph.specs.declared.arc.Arc.{Arc}
 use Rattle.auc_graph.specs.Assignment.{IsAssignment, person_of, total_cost}
-use Rattle.auc_graph.specs.Dual.{IsLower, dual, scale_of}
+use Rattle.auc_graph.specs.Dual.{IsLower, dual, price_at, scale_of}
 use Rattle.auc_graph.specs.Problem.{Problem}
 use Rattle.auc_letters.specs.declared.state.Held.{Held}
 use Rattle.auc_cert.specs.declared.reason.Reason.{Reason}
@@ -30,6 +31,14 @@ pub record IsHoldersArc (p : Problem) (holders : List (Option Held)) (arc : Arc)
 -- nobody holds two objects
 abbrev pub NobodyHoldsTwo : List (Option Held) → Type 0
 NobodyHoldsTwo holders = (j k : ℕ) (a b : Held) → holder_at holders j ≡ Some a → holder_at holders k ≡ Some b → a.person ≡ b.person → j ≡ k
+
+-- an object that nobody holds has no price
+abbrev pub HasNoPriceUnheld : List (Option Held) → List ℤ → Type 0
+HasNoPriceUnheld holders prices = (j : ℕ) → holder_at holders j ≡ None → price_at prices j ≡ pos 0
+
+-- the bound that the prices give has 64 bits
+abbrev pub BoundFits : Problem → List ℤ → Type 0
+BoundFits p prices = (lower : ℤ) → IsLower (scale_of p) (dual p prices) lower → FitsSigned w64 lower
 
 -- the choice is the holders' arcs: one for each person, in order, none left out, and nobody holds two objects
 pub record IsChoiceOf (p : Problem) (holders : List (Option Held)) (choice : List Arc) : Type 0 where

@@ -1,5 +1,5 @@
 -- Eps by phases, in scaled costs.
-use Rattle.std.specs.Prelude.{◌+◌, ℤ, pos, ◌*ℤ◌, int_div, int_le, if◌then◌else◌, Option, Some, None, length}
+use Rattle.std.specs.Prelude.{◌+◌, ℤ, pos, ◌*ℤ◌, int_div, int_le, nat_lt, if◌then◌else◌, Option, Some, None, length}
 use Rattle.std.specs.Int.{int_max}
 use Rattle.auc_graph.specs.Table.{Table}
 
@@ -7,9 +7,10 @@ use Rattle.auc_graph.specs.Table.{Table}
 abbrev pub scaled_spread : Table → ℤ
 scaled_spread t = pos (length t.rows + 1) *ℤ t.spread
 
--- an eighth of it, rounded down, and at least 1
+-- An eighth of it, rounded down, and at least 1. Where there are more objects than persons, 1, so that there is one phase: a later one
+-- would leave prices to objects that nobody holds.
 abbrev pub first_eps : Table → ℤ
-first_eps t = int_max (pos 1) (int_div (scaled_spread t) (pos 8))
+first_eps t = if nat_lt (length t.rows) t.objects then pos 1 else int_max (pos 1) (int_div (scaled_spread t) (pos 8))
 
 -- a fifth of the last one, rounded down, and at least 1; none behind 1
 abbrev pub next_eps : ℤ → Option ℤ

@@ -7,7 +7,7 @@ ghost use Rattle.auc_graph.specs.Table.{IsTableOf};
 ghost use Rattle.auc_cert.specs.Claim.{chosen};
 ghost use Rattle.auc_hall.specs.OfProblem.{IsHallSetOf};
 ghost use Rattle.auc_world.specs.Answers.{IsBracketAnswer, IsCertified, IsInfeasibleAnswer, IsOptimalAnswer, stop_of};
-ghost use Rattle.auc_world.specs.Claims.{IsBracketBy};
+ghost use Rattle.auc_world.specs.Claims.{BoundFits, IsBracketBy};
 
 use crate::answer::{Answer, Guard};
 use crate::gathering::Gathered;
@@ -81,39 +81,41 @@ pub fn optimal(alloc: Global, problem: &ArcList, gathered: Gathered) -> Result<A
     }
 }
 
-/// What a bracket claims: these picks, what they cost together, and the bound that the prices give.
+/// What a bracket claims: these picks, what they cost together, and the bound that the prices give. None where that has more than 64
+/// bits, as it may where there are more objects than persons, and too many of them have a price.
 fn bracket_parts(
     alloc: Global,
     problem: &ArcList,
     reason: Reason,
     picks: Vec<Pick>,
     prices: Vec<i64>,
-) -> Result<CertParts, AllocError>
+) -> Result<Option<CertParts>, AllocError>
     requires assignment { IsAssignment problem.now (chosen 0 picks.items) }
     requires each { length prices.items ≡ problem.now.objects }
     requires within { All IsPrice prices.items }
-    ensures { IfOk result (IsBracketBy problem.now reason prices.items) }
+    ensures some { IfOk result (λ o. IfSome o (IsBracketBy problem.now reason prices.items)) }
+    ensures none { IfOk result (λ o. IfNone o (BoundFits problem.now prices.items → ⊥)) }
 {
     let scale = problem.persons() + 1;
     let bound = dual_bound(alloc, problem, prices.as_slice())?;
     let Ok(lower) = i64::try_from(lower_of(scale, bound)) else {
-        unreachable!("the bound of lawful prices is a cost");
+        return Ok(None);
     };
     let Ok(cost) = i64::try_from(cost_of(picks.as_slice())) else {
         unreachable!("the costs of so few picks are a cost together");
     };
-    Ok(CertParts::Bracket {
+    Ok(Some(CertParts::Bracket {
         reason,
         lower,
         cost,
         choice: Picks::new(picks),
         prices: Prices::new(prices),
-    })
+    }))
 }
 
 /// The answer of a phase that a limit has stopped: an assignment that the search completes from the holders' arcs, and the bound on the
 /// cost of all that the prices give, where the checker lets it pass; or that there is no assignment. The guard `Check` where a
-/// holder's arc isn't one of his to his object, or somebody holds two.
+/// holder's arc isn't one of his to his object, or somebody holds two, or the bound has more than 64 bits.
 ///
 /// `rows` are those of the problem; `gathered.prices` are in scaled costs, from 0 to 2^61, and both lists are indexed by object.
 ///
@@ -146,7 +148,9 @@ pub fn bracket(
         }
     };
     let picks = picks_of_matching(alloc, problem, numbers.as_slice())?;
-    let parts = bracket_parts(alloc, problem, reason, picks, prices)?;
+    let Some(parts) = bracket_parts(alloc, problem, reason, picks, prices)? else {
+        return Ok(Answer::Broken(Guard::Check));
+    };
     match certified(alloc, problem, parts)? {
         Some(cert) => Ok(Answer::Bracket(cert)),
         None => Ok(Answer::Broken(Guard::Check)),

@@ -1,13 +1,13 @@
 //! What holds of every world that [`World::make`] gave and turns have led to. The functions do nothing: their contracts are
 //! theorems.
 
-ghost use Rattle.std.specs.Prelude.{true, ℕ, ℤ, pos, ◌<◌, ◌≤◌, ◌≤ℤ◌, ◌≡◌, ◌≢◌, List, [], ◌∷◌, Some, None, All, Contains, length, map};
+ghost use Rattle.std.specs.Prelude.{true, ℕ, ℤ, pos, ◌<◌, ◌≤◌, ◌≤ℤ◌, ◌≡◌, ◌≢◌, ◌⊎◌, List, [], ◌∷◌, Some, None, All, Contains, length, map};
 ghost use Rattle.auc_cert.specs.declared.cert.CertParts.TheVariants.{Optimal};
 ghost use Rattle.auc_cert.specs.Claim.{pick_of};
 ghost use Rattle.auc_graph.specs.declared.arc.Arc.{Arc};
 ghost use Rattle.auc_graph.specs.declared.rows.RowArc.{RowArc};
 ghost use Rattle.auc_graph.specs.Assignment.{IsAssignment, total_cost};
-ghost use Rattle.auc_graph.specs.Problem.{Problem, IsProblem};
+ghost use Rattle.auc_graph.specs.Problem.{Problem, IsProblem, IsSquare};
 ghost use Rattle.auc_graph.specs.Table.{Table, IsTable, IsTableOf};
 ghost use Rattle.auc_letters.specs.Price.{IsPrice};
 ghost use Rattle.auc_letters.specs.declared.letter.Letter.{Letter};
@@ -61,7 +61,8 @@ impl<'a> World<'a> {
 }
 
 /// Where the hub has counted as many as there are persons, the holders' arcs are an assignment; and at eps 1 the checker finds
-/// no fault in it with the true prices, so it costs least. A law, which does nothing.
+/// no fault in it with the true prices, so it costs least; there are as many objects as persons, or what nobody holds has no price,
+/// as in each world that was made with every price 0. A law, which does nothing.
 pub fn counted_holders_pass_the_checker()
-    ensures { (p : Problem) (t : Table) (shards : ℕ) (v : Model) (prices : List ℤ) → IsProblem p → IsTable t → IsTableOf p t → Reached (phase_of t shards (pos 1)) v → v.count ≡ length t.rows → ArePricesOf v prices → length prices ≡ p.objects → All IsPrice prices → (choice : List Arc) × IsAssignment p choice × All (IsHeldArc p v) choice × IsCertified p (Optimal (total_cost choice) (map pick_of choice) prices) }
+    ensures { (p : Problem) (t : Table) (shards : ℕ) (v : Model) (prices : List ℤ) → IsProblem p → IsTable t → IsTableOf p t → (IsSquare p ⊎ ((j : ℕ) → v.holder j ≡ None → v.price j ≡ pos 0)) → Reached (phase_of t shards (pos 1)) v → v.count ≡ length t.rows → ArePricesOf v prices → length prices ≡ p.objects → All IsPrice prices → (choice : List Arc) × IsAssignment p choice × All (IsHeldArc p v) choice × IsCertified p (Optimal (total_cost choice) (map pick_of choice) prices) }
 {}

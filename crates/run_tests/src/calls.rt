@@ -1,10 +1,12 @@
 //! Public calls on problems and inputs, once each with ample memory.
 
+ghost use Rattle.std.specs.Prelude.{◌≡◌};
+
 use crate::fakes::{Broken, Slow};
 use auc_graph::{
     Arc, Number, ReadError, ReadLimits, Token, assigned_persons_have_arcs,
-    assignments_leave_no_price, bounds_fit, limits_are, number_of, prices_bound_costs, read_arcs,
-    slack_right_costs_least, token_at,
+    assignments_leave_no_price, bounds_fit, limits_are, number_of, prices_are_few,
+    prices_bound_costs, read_arcs, slack_right_costs_least, token_at, wanted_objects_are_read,
 };
 use auc_run::{ReadFault, read_all};
 use std::io::ErrorKind;
@@ -25,6 +27,8 @@ fn problems(rt: HostRuntime) -> Result<(), Fail> {
     bounds_fit();
     slack_right_costs_least();
     assignments_leave_no_price();
+    prices_are_few();
+    wanted_objects_are_read();
     let problem = read_arcs(rt.alloc(), b" 2 1 2 -7.", ReadLimits::usual())?;
     assert_eq!(rt; (problem.persons(), problem.objects()), (2, 2));
     let arc = Arc {
@@ -36,9 +40,22 @@ fn problems(rt: HostRuntime) -> Result<(), Fail> {
     Ok(())
 }
 
+/// Limits for a problem with as many objects as persons.
+pub fn limits_of(arcs: u16, reads: u16) -> ReadLimits
+    ensures arcs { result.arcs ≡ arcs }
+    ensures reads { result.reads ≡ reads }
+    ensures objects { result.objects ≡ 0 }
+{
+    ReadLimits {
+        arcs: arcs as u32,
+        reads: reads as u32,
+        objects: 0,
+    }
+}
+
 /// What refuses a text, where one arc is allowed.
 fn refusal_of(rt: &HostRuntime, text: &[u8]) -> Option<ReadError> {
-    read_arcs(rt.alloc(), text, ReadLimits { arcs: 1, reads: 1 }).err()
+    read_arcs(rt.alloc(), text, limits_of(1, 1)).err()
 }
 
 /// What stands behind the last arc that is allowed is not looked at.

@@ -10,7 +10,7 @@ use auc_graph::{Indices, ReadLimits, read_arcs};
 use std::test::*;
 
 /// Whether the certificate of these parts has this text.
-fn is_text_of(rt: &HostRuntime, parts: CertParts, text: &str) -> bool {
+pub fn is_text_of(rt: &HostRuntime, parts: CertParts, text: &str) -> bool {
     let mut out = Vec::new(rt.alloc());
     match Cert::make(parts) {
         Ok(cert) => write_cert(&mut out, &cert).is_ok() && out.as_slice() == text.as_bytes(),

@@ -20,3 +20,5 @@ mod pieces;
 mod said;
 #[cfg(test)]
 mod solves;
+#[cfg(test)]
+mod unequal;

@@ -1,7 +1,8 @@
 //! A text in pieces reads as the whole text.
 
+use crate::calls::limits_of;
 use crate::fakes::Flaky;
-use auc_graph::{ArcList, ReadError, ReadLimits, read_arcs, read_arcs_from};
+use auc_graph::{ArcList, ReadError, read_arcs, read_arcs_from};
 use std::alloc::Global;
 use std::test::*;
 
@@ -21,10 +22,7 @@ fn read(
         most,
         good,
     };
-    let limits = ReadLimits {
-        arcs: 100,
-        reads: reads as u32,
-    };
+    let limits = limits_of(100, reads);
     read_arcs_from(alloc, &mut reader, limits)
 }
 
@@ -79,10 +77,7 @@ fn are_alike(whole: &Result<ArcList, ReadError>, pieces: &Result<ArcList, ReadEr
 /// Whether a text reads in pieces of many lengths as it does whole.
 fn reads_alike(rt: &HostRuntime, text: &str) -> bool {
     let alloc = rt.alloc();
-    let limits = ReadLimits {
-        arcs: 100,
-        reads: 0,
-    };
+    let limits = limits_of(100, 0);
     let whole = read_arcs(alloc, text.as_bytes(), limits);
     for most in [1usize, 2, 3, 7, 31, 32, 33, 64, 65, 1000] {
         let pieces = read(alloc, text.as_bytes(), most, u32::MAX, 10_000);
@@ -149,7 +144,7 @@ fn long_tokens_that_are_no_numbers(rt: HostRuntime) -> Result<(), Fail> {
 fn round_the_end_of_a_piece(rt: HostRuntime) -> Result<(), Fail> {
     let alloc = rt.alloc();
     let mut text = vec![in alloc; b' '; 65_500]?;
-    let limits = ReadLimits { arcs: 9, reads: 4 };
+    let limits = limits_of(9, 4);
     for _shift in 0..40u32 {
         let front = text.len();
         text.extend_from_slice(b"2 1 1 12345678.0 2 2 -7 1 2 9")?;

@@ -2,7 +2,7 @@ use Rattle.std.proofs.Common.{◌≤◌, ◌<◌, get_or, take, false, sym, ap, 
 use Rattle.std.specs.Prelude.{IsTrue}
 use Rattle.std.proofs.lemmas.List.{take_more}
 use Rattle.auc_graph.specs.Rising.{Rises}
-use Rattle.auc_cert.specs.Runs.{least_behind}
+use Rattle.auc_cert.specs.Spelled.{least_behind}
 use Rattle.auc_cert.proofs.RisingLaws.{rises_at, rises_push, behind_push}
 use Rattle.auc_cert.proofs.cert.do_rise.Goals as goal
 use Rattle.auc_cert.proofs.cert.do_rise.Goals.{then-number-least-via-then-number-least, then-number-least-via-else-number-least+then-end-number}

@@ -1,6 +1,6 @@
 use Rattle.std.proofs.Common.{◌≡◌, take}
 use Rattle.auc_graph.specs.Rising.{Rises}
-use Rattle.auc_cert.specs.Runs.{least_behind}
+use Rattle.auc_cert.specs.Spelled.{least_behind}
 use Rattle.auc_cert.proofs.cert.do_rise.Given as goal
 
 abbrev pub invariant-loop-number : goal.invariant-loop-number

@@ -6,5 +6,5 @@ use Rattle.auc_cert.proofs.laws.assignments_pass.Goals as goal
 pub returns : goal.returns
 returns c = record {
   spelled = assignment_spelled;
-  faultless = λ p choice prices given len slack. slack_right_faultless p choice given prices len (total_cost choice) refl slack;
+  faultless = λ p choice prices given len slack left. slack_right_faultless p choice given prices len (total_cost choice) refl slack left;
 }

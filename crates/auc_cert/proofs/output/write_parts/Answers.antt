@@ -1,4 +1,4 @@
-use Rattle.std.proofs.Common.{Ok, ◌≡◌, sym, ap, subst, ◌∙◌, List, [], ℕ, length, take, arith}
+use Rattle.std.proofs.Common.{◌≡◌, ap, subst, ◌∙◌, List, [], ℕ, take, arith}
 use Rattle.std.specs.List.{flat_map}
 use Rattle.std.specs.Io.KnownBytes.{Appends}
 use Rattle.std.proofs.lemmas.List.{take_all}

@@ -30,8 +30,8 @@ loop-arc-preserved c =
         record {
           some = old.sound.0.some;
           most = old.sound.0.most;
+          enough = old.sound.0.enough;
           most_objects = old.sound.0.most_objects;
-          square = old.sound.0.square;
           few = omega (arith, few, c.requires.few);
           within = rw e (All-push (IsWithin c.args.persons c.args.objects) arcs arc old.sound.0.within c.in-Some.ensures.within);
         },

@@ -16,4 +16,4 @@ picks_of_matching-requires c =
     (matching_of c.args.problem.now c.args.rows.now (Full c.in-Full.numbers) c.requires.rows (subst (IsMatching c.args.rows.now) c.in-Full.is c.in_ok-numbers.ensures))
 
 pub returns : goal.returns
-returns c = (refl, λ can. (rw c.in-None.is at c.in_ok-cert.ensures.none) (certified_bracket c.args.problem.now c.args.reason c.args.gathered.prices.items c.picks_of_matching.ensures.problem c.requires.prices c.requires.within c.in_ok-parts.parts c.in_ok-parts.ensures))
+returns c = (refl, λ can fits. (rw c.in-None.is at c.in_ok-cert.ensures.none) (certified_bracket c.args.problem.now c.args.reason c.args.gathered.prices.items c.picks_of_matching.ensures.problem c.requires.prices c.requires.within fits c.in-Some-2.parts (rw c.in-Some-2.is at c.in_ok-parts.ensures.some)))

@@ -47,7 +47,7 @@ returns-in_default-clause-is c =
     let ready = subst (λ (ps : List ℤ). IsReady c.args.rows.now c.args.limits.now start before.0 (to_z w64 c.loop-candidates.eps-bits) ps) (sym c.as_slice.ensures.value) before.1 in
     let last = last_eps (to_z w64 c.loop-candidates.eps-bits) inv.eps (sym c.in_default.ensures.is) in
     of_answers (IsOptimalAnswer c.args.problem.now c.in-Sold.gathered.holders.items c.in-Sold.gathered.prices.items) (IsAnswer c.args.problem.now) c.optimal.result
-    (sold_is_answer c.args.problem.now c.args.rows.now c.args.limits.now start before.0 here c.in-Sold.gathered c.arcs.ensures.problem c.objects.ensures.table c.requires.rows ready sold.1 last sold.2) c.optimal.ensures
+    (sold_is_answer c.args.problem.now c.args.rows.now c.args.limits.now start before.0 here c.in-Sold.gathered c.arcs.ensures.problem c.objects.ensures.table c.requires.rows ready sold.1 c.requires.limits last sold.2) c.optimal.ensures
 
 pub returns-in_default-clause-run : goal.returns-in_default-clause-run
 returns-in_default-clause-run c = λ start begins.
@@ -59,7 +59,7 @@ returns-in_default-clause-run c = λ start begins.
     let ready = subst (λ (ps : List ℤ). IsReady c.args.rows.now c.args.limits.now start before.0 (to_z w64 c.loop-candidates.eps-bits) ps) (sym c.as_slice.ensures.value) before.1 in
     let last = last_eps (to_z w64 c.loop-candidates.eps-bits) inv.eps (sym c.in_default.ensures.is) in
     of_answers (IsOptimalAnswer c.args.problem.now c.in-Sold.gathered.holders.items c.in-Sold.gathered.prices.items) (IsOfRun c.args.problem.now c.args.limits.now start) c.optimal.result
-    (sold_is_of_run c.args.problem.now c.args.rows.now c.args.limits.now start before.0 here c.in-Sold.gathered c.arcs.ensures.problem c.objects.ensures.table c.requires.rows ready sold.1 last sold.2) c.optimal.ensures
+    (sold_is_of_run c.args.problem.now c.args.rows.now c.args.limits.now start before.0 here c.in-Sold.gathered c.arcs.ensures.problem c.objects.ensures.table c.requires.rows ready sold.1 c.requires.limits last sold.2) c.optimal.ensures
 
 pub bracket-requires-clause-holders : goal.bracket-requires-clause-holders
 bracket-requires-clause-holders c = let stopped = rw c.in-Stopped.is at c.in_ok-played.ensures.comes in stopped.1.sales.holders_are ∙ c.requires.rows.objects
@@ -80,7 +80,7 @@ returns-in-Stopped-clause-is c =
     let before = inv.ready start (simp to_z-of_z c.requires.begins.1) in
     let ready = subst (λ (ps : List ℤ). IsReady c.args.rows.now c.args.limits.now start before.0 (to_z w64 c.loop-candidates.eps-bits) ps) (sym c.as_slice.ensures.value) before.1 in
     of_answers (IsBracketAnswer c.args.problem.now c.in-Stopped.reason c.in-Stopped.gathered.holders.items c.in-Stopped.gathered.prices.items) (IsAnswer c.args.problem.now) c.bracket.result
-    (stopped_is_answer c.args.problem.now c.args.rows.now c.args.limits.now start before.0 here c.in-Stopped.gathered c.arcs.ensures.problem c.objects.ensures.table c.requires.rows ready stopped.1 c.in-Stopped.reason stopped.2) c.bracket.ensures
+    (stopped_is_answer c.args.problem.now c.args.rows.now c.args.limits.now start before.0 here c.in-Stopped.gathered c.arcs.ensures.problem c.objects.ensures.table c.requires.rows ready stopped.1 c.requires.limits c.in-Stopped.reason stopped.2 c.requires.assignment) c.bracket.ensures
 
 pub returns-in-Stopped-clause-run : goal.returns-in-Stopped-clause-run
 returns-in-Stopped-clause-run c = λ start begins.
@@ -91,4 +91,4 @@ returns-in-Stopped-clause-run c = λ start begins.
     let before = inv.ready start (simp to_z-of_z begins) in
     let ready = subst (λ (ps : List ℤ). IsReady c.args.rows.now c.args.limits.now start before.0 (to_z w64 c.loop-candidates.eps-bits) ps) (sym c.as_slice.ensures.value) before.1 in
     of_answers (IsBracketAnswer c.args.problem.now c.in-Stopped.reason c.in-Stopped.gathered.holders.items c.in-Stopped.gathered.prices.items) (IsOfRun c.args.problem.now c.args.limits.now start) c.bracket.result
-    (stopped_is_of_run c.args.problem.now c.args.rows.now c.args.limits.now start before.0 here c.in-Stopped.gathered c.arcs.ensures.problem c.objects.ensures.table c.requires.rows ready stopped.1 c.in-Stopped.reason stopped.2) c.bracket.ensures
+    (stopped_is_of_run c.args.problem.now c.args.rows.now c.args.limits.now start before.0 here c.in-Stopped.gathered c.arcs.ensures.problem c.objects.ensures.table c.requires.rows ready stopped.1 c.requires.limits c.in-Stopped.reason stopped.2 c.requires.assignment) c.bracket.ensures

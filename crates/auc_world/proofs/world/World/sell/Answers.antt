@@ -1,4 +1,3 @@
-use Rattle.std.proofs.Common.{refl}
 use Rattle.auc_world.proofs.PassingLaws.{sold_barred, sold_idle, sold_out}
 use Rattle.auc_world.proofs.world.World.sell.Goals as goal
 

@@ -1,4 +1,4 @@
-use Rattle.std.proofs.Common.{◌<◌, refl, arith, [], ◌∷◌}
+use Rattle.std.proofs.Common.{◌<◌, refl, arith}
 use Rattle.auc_model.specs.Mails.{PersonShard}
 use Rattle.auc_world.proofs.PassingLaws.{mailed}
 use Rattle.auc_world.proofs.world.World.sell_by_mail.Goals as goal

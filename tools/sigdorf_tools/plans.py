@@ -4,6 +4,9 @@ import sys
 
 from .claims import read_arcs, read_claim
 
+# How many names a sentence holds.
+MOST_LISTED = 5
+
 
 def rows_of_plan(names, claim):
     """The rows for an answer."""
@@ -16,39 +19,52 @@ def rows_of_plan(names, claim):
             rows.append([names.person(number), names.object(thing), names.amount(cost)])
     rows.append(["total", "", names.amount(claim.cost)])
     if claim.kind == "bracket":
-        rows.append([sentence_of_bracket(names, claim)])
+        rows.append([sentence_of(names, claim)])
     return rows
 
 
-def sentence_of_bracket(names, claim):
-    """How far the plan is from the best, at most."""
-    gap = names._replace(maximise=False).amount(claim.cost - claim.lower)
-    bound = names.amount(claim.lower)
-    limit = f"no plan has a total above {bound}" if names.maximise else f"no plan has a total below {bound}"
-    return f"The search was stopped early. This plan is at most {gap} from the best: {limit}."
-
-
 def rows_of_hall_set(names, claim):
-    """Persons who may take too few objects; or, where some persons have to stay without an object, objects that too few persons may take."""
-    persons, objects = claim.persons, claim.objects
-    if names.dummy_objects:
-        # Each person may take each dummy, so all of them are in the set: what is left of the objects is for the persons who are left.
-        persons = [number for number in range(1, len(names.persons) + 1) if number not in set(claim.persons)]
-        objects = [number for number in range(1, len(names.objects) + 1) if number not in set(claim.objects)]
-        sentence = f"There is no plan that gives every object to somebody: {told(objects, 'object')} can go to {told(persons, 'person')} and to nobody else."
-    else:
-        sentence = f"There is no plan that gives every person an object: {told(persons, 'person')} may take {told(objects, 'object')} and nothing else."
-    rows = [[sentence]]
+    """A sentence, and then who and what it speaks of."""
+    persons, objects = blamed(names, claim)
+    rows = [[sentence_of(names, claim)]]
     rows += [["person", names.person(number)] for number in persons]
     rows += [["object", names.object(number)] for number in objects]
     return rows
 
 
-def told(numbers, word):
-    """How many there are, in words: `this 1 person`, `these 3 persons`, `no object`."""
-    if not numbers:
-        return f"no {word}"
-    return f"this one {word}" if len(numbers) == 1 else f"these {len(numbers)} {word}s"
+def blamed(names, claim):
+    """Persons who may take too few objects; or, where some persons have to stay without an object, objects that too few persons may take."""
+    if not names.dummy_objects:
+        return claim.persons, claim.objects
+    # Each person may take each dummy, so all of them are in the set: what is left of the objects is for the persons who are left.
+    persons = sorted(set(range(1, len(names.persons) + 1)) - set(claim.persons))
+    return persons, sorted(set(range(1, len(names.objects) + 1)) - set(claim.objects))
+
+
+def sentence_of(names, claim):
+    """The answer in one sentence."""
+    best = "greatest" if names.maximise else "least"
+    if claim.kind == "optimal":
+        return f"A best plan: the {best} total is {names.amount(claim.cost)}."
+    if claim.kind == "bracket":
+        gap = names._replace(maximise=False).amount(claim.cost - claim.lower)
+        return f"The search was stopped early: this plan is at most {gap} from the best, and no total is {'above' if names.maximise else 'below'} {names.amount(claim.lower)}."
+    persons, objects = blamed(names, claim)
+    told_persons = listed([names.person(number) for number in persons], "person")
+    told_objects = listed([names.object(number) for number in objects], "object")
+    if names.dummy_objects:
+        return f"No plan gives every object to somebody: {told_objects} can go to {told_persons}{', and to nobody else' if persons else ''}."
+    return f"No plan gives every person an object: {told_persons} may take {told_objects}{', and nothing else' if objects else ''}."
+
+
+def listed(names, word):
+    """Some names in a sentence, or how many there are where they are more than it can hold."""
+    if len(names) > MOST_LISTED:
+        return f"these {len(names)} {word}s"
+    if all(name.isdecimal() for name in names):
+        word = word if len(names) == 1 else f"{word}s" if names else f"no {word}"
+        names = [f"{word} {names[0]}", *names[1:]] if names else [word]
+    return names[0] if len(names) == 1 else f"{', '.join(names[:-1])} and {names[-1]}"
 
 
 def write_plan(names, file, certificate):

@@ -82,19 +82,16 @@ def problem_of(table, form, decimals, maximise):
 
 
 def form_of(table):
-    """Whether a table lists pairs, or has a row for each person and a column for each object."""
+    """Whether a table lists pairs, or has a row for each person and a column for each object. Three columns where both may be meant are a fault."""
     first, rest = table.rows[0], table.rows[1:]
-    if len(first.cells) != 3:
-        return "matrix"
-    if looks_like_number(first.cells[2]):
-        return "pairs"
     second = [row.cells[1] for row in rest if len(row.cells) > 1]
-    if not first.cells[0] or "" in second:
+    if len(first.cells) != 3 or not first.cells[0] or "" in second:
         return "matrix"
-    persons = [row.cells[0] for row in rest]
-    if not all(map(looks_like_number, second)) or len(set(persons)) < len(persons):
+    persons = [row.cells[0] for row in table.rows]
+    has_names = not all(map(looks_like_number, second)) or looks_like_number(first.cells[2]) > looks_like_number(first.cells[1])
+    if not rest or has_names or len(set(persons)) < len(persons):
         return "pairs"
-    raise Fault(f"{table.file}: it may be three columns (person, object, cost) or a row for each person; say --form pairs or --form matrix")
+    raise Fault(f"{table.file}, line {first.line}: person, object and cost in three columns, or a row for each person: say --form pairs or --form matrix")
 
 
 def looks_like_number(cell):

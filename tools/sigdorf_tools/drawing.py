@@ -28,6 +28,12 @@ class Label(NamedTuple):
     def meets(self, other):
         return abs(self.x - other.x) < (self.width() + other.width()) / 2 and abs(self.y - other.y) < 17
 
+    def lies_on(self, line):
+        """Whether a line, told by its two ends, goes through the box."""
+        x1, y1, x2, y2 = line
+        slope = (x2 - x1) / (y2 - y1)
+        return abs(x1 + slope * (self.y - y1) - self.x) < self.width() / 2 + 9 * abs(slope) + 3
+
 
 class Scene(NamedTuple):
     """What is drawn: all names, the arcs (person, object, cost) by their numbers from 1 on, how a cost is told, how many units of a price are one of cost,
@@ -38,6 +44,7 @@ class Scene(NamedTuple):
     objects: list
     arcs: list
     amount: object
+    mark: str
     scale: int
     claim: object
     persons_told: list
@@ -48,8 +55,10 @@ class Scene(NamedTuple):
         """From the middle of a name to the middle of the next one."""
         return max(108, LETTER * max(map(len, self.persons + self.objects)) + 44)
 
-    def x(self, number):
-        return LEFT + self.step() * (number - 0.5)
+    def x(self, number, names):
+        """The middle of a name in its row; the shorter row stands in the middle of the picture."""
+        columns = max(len(self.persons), len(self.objects))
+        return LEFT + self.step() * (number - 0.5 + (columns - len(names)) / 2)
 
     def width(self):
         return max(LEFT + RIGHT + self.step() * max(len(self.persons), len(self.objects)), 460)
@@ -79,8 +88,8 @@ def drawing(scene, title):
         text_at(24, 23, scene.titles[0], FAINT, 13, "start"),
         text_at(24, OBJECTS_AT + 23, scene.titles[1], FAINT, 13, "start"),
         *lines(scene),
-        *(box(scene.x(number), 0, name, *colours(scene, number in scene.persons_told)) for number, name in enumerate(scene.persons, 1)),
-        *(box(scene.x(number), OBJECTS_AT, name, *colours(scene, number in scene.objects_told)) for number, name in enumerate(scene.objects, 1)),
+        *(box(scene.x(number, scene.persons), 0, name, *colours(scene, number in scene.persons_told)) for number, name in enumerate(scene.persons, 1)),
+        *(box(scene.x(number, scene.objects), OBJECTS_AT, name, *colours(scene, number in scene.objects_told)) for number, name in enumerate(scene.objects, 1)),
         *costs(scene),
         *([] if scene.infeasible() else bars(scene)),
         *(text_at(24, legend_at + LEGEND_LINE * place, line, FAINT, 12.5, "start") for place, line in enumerate(legend)),
@@ -109,7 +118,7 @@ def box(x, y, name, fill, border, ink):
 
 def ends(scene, arc):
     """Where the line of an arc begins and ends."""
-    return scene.x(arc[0]), BOX_HEIGHT, scene.x(arc[1]), OBJECTS_AT
+    return scene.x(arc[0], scene.persons), BOX_HEIGHT, scene.x(arc[1], scene.objects), OBJECTS_AT
 
 
 def lines(scene):
@@ -121,13 +130,14 @@ def lines(scene):
 
 
 def costs(scene):
-    """The cost of each arc, on its line near the person, moved along where it would lie on another one. Picks come first."""
-    placed = []
+    """The cost of each arc, on its line near the person. Arcs that matter come first; others are moved along where they would hide something."""
+    placed, thick = [], [ends(scene, arc) for arc in scene.arcs if scene.is_told(arc)]
     for arc in sorted(scene.arcs, key=lambda arc: not scene.is_told(arc)):
         colour = FAINT if not scene.is_told(arc) else HALL if scene.infeasible() else PLAN
         x1, y1, x2, y2 = ends(scene, arc)
         choices = [Label(x1 + (x2 - x1) * part / 100, y1 + (y2 - y1) * part / 100, scene.amount(arc[2]), colour) for part in range(17, 84, 3)]
-        label = next((label for label in choices if not any(label.meets(other) for other in placed)), choices[0])
+        hides = [sum(map(label.meets, placed)) * 3 + sum(label.lies_on(line) for line in thick if line != (x1, y1, x2, y2)) for label in choices]
+        label = choices[hides.index(min(hides))]
         placed.append(label)
         weight = "bold" if colour != FAINT else "normal"
         yield f'<rect x="{label.x - label.width() / 2:.1f}" y="{label.y - 9:.1f}" width="{label.width():.1f}" height="18" rx="4" fill="{PAPER}"/>'
@@ -143,11 +153,12 @@ def bars(scene):
     yield f'<line x1="{LEFT}" y1="{top}" x2="{scene.width() - RIGHT:.1f}" y2="{top}" stroke="{ARC}" stroke-width="1"/>'
     for number, price in enumerate(prices, 1):
         height = BAR_MOST * price / most
-        yield f'<rect x="{scene.x(number) - 22:.1f}" y="{top}" width="44" height="{height:.1f}" fill="{BAR}"/>'
-        yield text_at(scene.x(number), top + height + 17, price_text(price, scene.scale), INK, 13)
+        x = scene.x(number, scene.objects)
+        yield f'<rect x="{x - 22:.1f}" y="{top}" width="44" height="{height:.1f}" fill="{BAR}"/>'
+        yield text_at(x, top + height + 17, price_text(price, scene.scale, scene.mark), INK, 13)
 
 
-def price_text(price, scale):
+def price_text(price, scale, mark):
     """A price in the unit of costs, rounded to a tenth."""
     tenths = round(Fraction(10 * price, scale))
-    return f"{tenths // 10}.{tenths % 10}"
+    return f"{tenths // 10}{mark}{tenths % 10}"

@@ -16,14 +16,15 @@ def run(main):
         sys.stdout.flush()
     except Fault as fault:
         status = tell(str(fault))
-    except BrokenPipeError:
-        # Nobody reads on, as with `| head`. Python would try to write the rest once more at its end.
-        os.dup2(os.open(os.devnull, os.O_WRONLY), sys.stdout.fileno())
-        status = tell("the output can't be written, since nobody reads it")
     except OSError as error:
-        status = tell(f"{error.filename}: {error.strerror}" if error.filename else f"the output can't be written: {error.strerror}")
+        if not error.filename:
+            # What couldn't be written stays in the buffer, and Python would try once more at its end.
+            os.dup2(os.open(os.devnull, os.O_WRONLY), sys.stdout.fileno())
+        status = tell(f"{error.filename or 'the output'}: it can't be written: {error.strerror}")
     except MemoryError:
         status = tell("there is too little memory for this problem")
+    except KeyboardInterrupt:
+        status = tell("stopped")
     sys.exit(status)
 
 

@@ -42,10 +42,14 @@ class Names(NamedTuple):
     def told(self):
         """How many there are of all, in words."""
         arcs = self.arcs.count("\n") - 1
-        dummies = f" ({self.dummy_persons or self.dummy_objects} of them dummies)"
-        persons = f"{len(self.persons) + self.dummy_persons} persons{dummies if self.dummy_persons else ''}"
-        objects = f"{len(self.objects) + self.dummy_objects} objects{dummies if self.dummy_objects else ''}"
-        return f"{persons}, {objects}, {arcs} arcs"
+        return f"{told(self.persons, self.dummy_persons, 'persons')}, {told(self.objects, self.dummy_objects, 'objects')}, {arcs} arcs"
+
+
+def told(names, dummies, word):
+    """How many names there are, and how many dummies beside them."""
+    with_dummies = f" with {dummies} dumm{'y' if dummies == 1 else 'ies'}" if dummies else ""
+    return f"{len(names) + dummies} {word}{with_dummies}"
+
 
 
 def read_names(file):
@@ -75,6 +79,7 @@ def look_at_names(file, names):
         "decimals": 0 <= names.decimals <= MOST_DECIMALS,
         "dummy_persons": names.dummy_persons >= 0,
         "dummy_objects": names.dummy_objects >= 0 and len(names.persons) + names.dummy_persons == len(names.objects) + names.dummy_objects,
+        "arcs": names.arcs.split(maxsplit=1)[:1] == [str(len(names.persons) + names.dummy_persons)],
     }
     for field, holds in sound.items():
         if not holds:

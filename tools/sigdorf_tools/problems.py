@@ -88,8 +88,8 @@ def form_of(table):
     if len(first.cells) != 3 or not first.cells[0] or "" in second:
         return "matrix"
     persons = [row.cells[0] for row in table.rows]
-    has_names = not all(map(looks_like_number, second)) or looks_like_number(first.cells[2]) > looks_like_number(first.cells[1])
-    if not rest or has_names or len(set(persons)) < len(persons):
+    has_names = not any(map(looks_like_number, second)) or looks_like_number(first.cells[2]) > looks_like_number(first.cells[1])
+    if has_names or len(set(persons)) < len(persons):
         return "pairs"
     raise Fault(f"{table.file}, line {first.line}: person, object and cost in three columns, or a row for each person: say --form pairs or --form matrix")
 

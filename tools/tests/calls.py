@@ -30,12 +30,12 @@ class ToolTest(unittest.TestCase):
     def read(self, name):
         return (self.folder / name).read_text(encoding="utf-8")
 
-    def call(self, tool, *words):
+    def call(self, tool, *words, output=subprocess.PIPE):
         """Status, standard output and standard error of a tool, which is named from the root of the repository."""
         # Without site packages, which no tool uses, a call takes half the time.
         command = [sys.executable, "-S", str(ROOT / tool), *map(str, words)]
-        done = subprocess.run(command, cwd=self.folder, stdout=subprocess.PIPE, stderr=subprocess.PIPE, timeout=60, stdin=subprocess.DEVNULL)
-        return done.returncode, done.stdout.decode(), done.stderr.decode()
+        done = subprocess.run(command, cwd=self.folder, stdout=output, stderr=subprocess.PIPE, timeout=60, stdin=subprocess.DEVNULL)
+        return done.returncode, (done.stdout or b"").decode(), done.stderr.decode()
 
     def assert_fault(self, answer, *parts):
         """The answer is status 2 with nothing on standard output, and one sentence on standard error that has all parts."""

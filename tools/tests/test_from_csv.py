@@ -108,6 +108,7 @@ class Faults(ToolTest):
         "open quote": ('a,x,1\n"b,y,2\n', [], "line 2", "quote"),
         "two forms": ("p,x,y\na,4,5\nb,6,7\n", [], "--form"),
         "two forms of numbers": ("p,1,2\na,4,5\nb,6,7\n", [], "--form"),
+        "two forms of numbers and a word": ("p,x,y\na,4,5\nb,n/a,7\n", [], "--form"),
         "too many persons": ("".join(f"a{n},x,{n}\n" for n in range(10_001)), [], "line 10001, column 1", "10,000"),
         "too many dummies": ("a,x,1\n" + "".join(f"a,x{n},{n}\n" for n in range(9_000)), [], "arcs"),
     }

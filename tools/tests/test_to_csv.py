@@ -92,6 +92,12 @@ class Faults(ToolTest):
                 self.write("spoiled.names", json.dumps(fields | {field: value}))
                 self.assert_fault(self.call("tools/to_csv", "certificate", "spoiled.names"))
 
+    def test_output_that_cannot_be_written(self):
+        self.convert(PAIRS)
+        self.write("certificate", BEST)
+        with open("/dev/full", "wb") as full:
+            self.assert_fault(self.call("tools/to_csv", "certificate", "table.names", output=full), "the output", "can't be written")
+
     def test_files(self):
         self.write("certificate", BEST)
         self.assert_fault(self.call("tools/to_csv", "certificate", "nosuch"), "nosuch", "no such file")

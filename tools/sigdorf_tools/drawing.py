@@ -37,7 +37,8 @@ class Label(NamedTuple):
 
 class Scene(NamedTuple):
     """What is drawn: all names, the arcs (person, object, cost) by their numbers from 1 on, how a cost is told, how many units of a price are one of cost,
-    and the claim. Where that is a Hall set, who and what stand out, and whether their arcs are those of these persons or those to these objects."""
+    and the claim; who and what stand out, which are those of the plan or of the Hall set; and whether the arcs of a Hall set are those of its persons or those
+    to its objects."""
 
     titles: list
     persons: list
@@ -99,11 +100,11 @@ def drawing(scene, title):
     return "\n".join(parts) + "\n"
 
 
-def colours(scene, in_hall_set):
+def colours(scene, is_told):
     """Fill, border and ink of a name."""
-    if not scene.infeasible():
-        return PLAN_FILL, PLAN, INK
-    return (HALL_FILL, HALL, INK) if in_hall_set else (PLAIN_FILL, ARC, FAINT)
+    if not is_told:
+        return PLAIN_FILL, ARC, FAINT
+    return (HALL_FILL, HALL, INK) if scene.infeasible() else (PLAN_FILL, PLAN, INK)
 
 
 def text_at(x, y, text, colour, size, anchor="middle", weight="normal"):

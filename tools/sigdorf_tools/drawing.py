@@ -10,8 +10,10 @@ PLAN_FILL, PLAIN_FILL, HALL_FILL = "#e6f0fa", "#f4f5f7", "#fbe4e1"
 # Places and sizes, in pixels. A picture is laid out from the top of the names of persons on; its title stands above that.
 LETTER, BOX_HEIGHT, OBJECTS_AT, BARS_AT, BAR_MOST, LEFT, RIGHT = 8.2, 36, 220, 268, 84, 104, 28
 TITLE_LETTER, TITLE_LINE, LEGEND_LINE = 10.6, 26, 19
+MOST_LABELS = 80
 LEGEND = ["thick: the plan; thin: other arcs; numbers: costs", "bars: prices, in the unit of costs, to a tenth"]
-HALL_LEGEND = ["red: who is in the way of a plan, and all that they may take"]
+HALL_MOST_LABELS = 80
+LEGEND = ["red: who is in the way of a plan, and all that they may take"]
 
 
 class Label(NamedTuple):
@@ -66,6 +68,11 @@ class Scene(NamedTuple):
 
     def infeasible(self):
         return self.claim.kind == "infeasible"
+
+    def labelled(self):
+        """The arcs whose costs are written: all, or where they are too many those that matter, or none."""
+        told = [arc for arc in self.arcs if self.is_told(arc)]
+        return next((arcs for arcs in (self.arcs, told) if len(arcs) <= MOST_LABELS), [])
 
     def is_told(self, arc):
         """Whether an arc is of the plan; or, where there is none, of those who are in its way."""
@@ -131,18 +138,23 @@ def lines(scene):
 
 
 def costs(scene):
-    """The cost of each arc, on its line near the person. Arcs that matter come first; others are moved along where they would hide something."""
-    placed, thick = [], [ends(scene, arc) for arc in scene.arcs if scene.is_told(arc)]
-    for arc in sorted(scene.arcs, key=lambda arc: not scene.is_told(arc)):
+    """The cost of each arc, on its line near the person, or further on where it would hide something. Arcs that matter come first."""
+    placed, arcs = [], scene.labelled()
+    for arc in sorted(arcs, key=lambda arc: not scene.is_told(arc)):
         colour = FAINT if not scene.is_told(arc) else HALL if scene.infeasible() else PLAN
         x1, y1, x2, y2 = ends(scene, arc)
         choices = [Label(x1 + (x2 - x1) * part / 100, y1 + (y2 - y1) * part / 100, scene.amount(arc[2]), colour) for part in range(17, 84, 3)]
-        hides = [sum(map(label.meets, placed)) * 3 + sum(label.lies_on(line) for line in thick if line != (x1, y1, x2, y2)) for label in choices]
-        label = choices[hides.index(min(hides))]
+        label = min(choices, key=lambda label: hidden_by(scene, label, [other for other in arcs if other != arc], placed))
         placed.append(label)
         weight = "bold" if colour != FAINT else "normal"
         yield f'<rect x="{label.x - label.width() / 2:.1f}" y="{label.y - 9:.1f}" width="{label.width():.1f}" height="18" rx="4" fill="{PAPER}"/>'
         yield text_at(label.x, label.y + 4.5, label.text, colour, 12.5, weight=weight)
+
+
+def hidden_by(scene, label, others, placed):
+    """How much the label of an arc would hide of the others: labels that are placed count most, thick lines less, thin lines least."""
+    crossed = [other for other in others if label.lies_on(ends(scene, other))]
+    return 9 * sum(map(label.meets, placed)) + sum(3 if scene.is_told(other) else 1 for other in crossed)
 
 
 def bars(scene):

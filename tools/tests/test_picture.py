@@ -37,6 +37,13 @@ class Pictures(ToolTest):
         picture = self.drawn("table.arcs", "certificate", "--names", "table.names")
         self.assertEqual(len(self.lines(picture, "#1b5fa7")), 1)
 
+    def test_many_arcs_without_labels(self):
+        """At 40 persons and 1,560 arcs that all matter a picture still takes little time."""
+        self.write("problem", "40\n" + "".join(f"{person} {thing} 7\n" for person in range(1, 41) for thing in range(1, 40)))
+        numbers = [f"person {number}\n" for number in range(1, 41)] + [f"object {number}\n" for number in range(1, 40)]
+        self.write("certificate", "auction 1\ninfeasible 40 39\n" + "".join(numbers))
+        self.assertEqual(len(self.lines(self.drawn("problem", "certificate"), "#b8322a")), 1560)
+
     def test_faults(self):
         crew, certificate, week = EXAMPLES / "crew.arcs", EXAMPLES / "crew.certificate", EXAMPLES / "week_of_vehicles.certificate"
         self.write("many.arcs", "41\n" + "".join(f"{n} {n} 0\n" for n in range(1, 42)))

@@ -12,8 +12,7 @@ LETTER, BOX_HEIGHT, OBJECTS_AT, BARS_AT, BAR_MOST, LEFT, RIGHT = 8.2, 36, 220, 2
 TITLE_LETTER, TITLE_LINE, LEGEND_LINE = 10.6, 26, 19
 MOST_LABELS = 80
 LEGEND = ["thick: the plan; thin: other arcs; numbers: costs", "bars: prices, in the unit of costs, to a tenth"]
-HALL_MOST_LABELS = 80
-LEGEND = ["red: who is in the way of a plan, and all that they may take"]
+HALL_LEGEND = ["red: who is in the way of a plan, and all that they may take"]
 
 
 class Label(NamedTuple):

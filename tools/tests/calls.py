@@ -1,4 +1,5 @@
 """Calls of the tools as a user makes them: in a folder of its own, by their words."""
+import concurrent.futures
 import os
 import pathlib
 import subprocess
@@ -36,6 +37,11 @@ class ToolTest(unittest.TestCase):
         command = [sys.executable, "-S", str(ROOT / tool), *map(str, words)]
         done = subprocess.run(command, cwd=self.folder, stdout=output, stderr=subprocess.PIPE, timeout=60, stdin=subprocess.DEVNULL)
         return done.returncode, (done.stdout or b"").decode(), done.stderr.decode()
+
+    def answers(self, calls):
+        """The answers of several calls, which run beside one another; each begins with its tool."""
+        with concurrent.futures.ThreadPoolExecutor() as threads:
+            return list(threads.map(lambda call: self.call(*call), calls))
 
     def assert_fault(self, answer, *parts):
         """The answer is status 2 with nothing on standard output, and one sentence on standard error that has all parts."""

@@ -78,10 +78,10 @@ class UnequalNumbers(ToolTest):
 
 class Faults(ToolTest):
     FAULTS = {
-        "empty": ("", [], "table.csv", "empty"),
-        "only empty rows": ("\n\n,,\n", [], "table.csv", "empty"),
+        "empty": ("", [], "empty"),
+        "only empty rows": ("\n\n,,\n", [], "empty"),
         "no table": ("hello\nworld\n", [], "line 1", "no table"),
-        "binary": (b"\x00\x01\xff\xfe\x80,1,2\n", [], "table.csv", "line 1", "UTF-8"),
+        "binary": (b"\x00\x01\xff\xfe\x80,1,2\n", [], "line 1", "UTF-8"),
         "UTF-16": ("a,b,1\n".encode("utf-16"), [], "UTF-16"),
         "Latin-1": ("a,b,1\nJosé,c,2\n".encode("latin-1"), [], "line 2", "byte 4", "UTF-8"),
         "control character": ("a,b,1\nx\x07y,c,2\n", [], "line 2, column 1", "control character"),
@@ -114,10 +114,13 @@ class Faults(ToolTest):
     }
 
     def test_faults(self):
-        for name, (table, words, *parts) in self.FAULTS.items():
+        calls = []
+        for number, (table, words, *_) in enumerate(self.FAULTS.values()):
+            self.write(f"{number}.csv", table)
+            calls.append(("tools/from_csv", f"{number}.csv", *words))
+        for (name, (_, _, *parts)), call, answer in zip(self.FAULTS.items(), calls, self.answers(calls)):
             with self.subTest(name):
-                self.write("table.csv", table)
-                self.assert_fault(self.call("tools/from_csv", "table.csv", *words), *parts)
+                self.assert_fault(answer, call[1], *parts)
 
     def test_files(self):
         self.assert_fault(self.call("tools/from_csv", "nosuch.csv"), "nosuch.csv", "no such file")

@@ -68,29 +68,34 @@ class Faults(ToolTest):
         "no format": "{}",
     }
 
+    def spoiled(self, texts, *call):
+        """The answers of a call for each text, which stands in a file of its own: `spoiled` in the call is its name."""
+        for number, text in enumerate(texts):
+            self.write(f"spoiled{number}", text)
+        return self.answers([[f"spoiled{number}" if word == "spoiled" else word for word in call] for number in range(len(texts))])
+
     def test_certificates(self):
         self.convert(PAIRS)
-        for name, (certificate, *parts) in self.CERTIFICATES.items():
+        answers = self.spoiled([text for text, *_ in self.CERTIFICATES.values()], "tools/to_csv", "spoiled", "table.names")
+        for (name, (_, *parts)), answer in zip(self.CERTIFICATES.items(), answers):
             with self.subTest(name):
-                self.write("certificate", certificate)
-                self.assert_fault(self.call("tools/to_csv", "certificate", "table.names"), "certificate", *parts)
+                self.assert_fault(answer, "spoiled", *parts)
 
     def test_names(self):
         self.write("certificate", BEST)
-        for name, text in self.NAMES.items():
+        for name, answer in zip(self.NAMES, self.spoiled(self.NAMES.values(), "tools/to_csv", "certificate", "spoiled")):
             with self.subTest(name):
-                self.write("spoiled.names", text)
-                self.assert_fault(self.call("tools/to_csv", "certificate", "spoiled.names"), "spoiled.names", "no names file")
+                self.assert_fault(answer, "spoiled", "no names file")
 
     def test_fields(self):
         self.convert(PAIRS)
         self.write("certificate", BEST)
         fields = json.loads(self.read("table.names"))
-        spoiled = [("persons", None), ("persons", [1, 2]), ("decimals", -1), ("decimals", True), ("separator", "x"), ("dummy_persons", 7), ("arcs", "x"), ("arcs", "3\n"), ("titles", [])]
-        for field, value in spoiled:
-            with self.subTest(field=field, value=value):
-                self.write("spoiled.names", json.dumps(fields | {field: value}))
-                self.assert_fault(self.call("tools/to_csv", "certificate", "spoiled.names"))
+        changes = [("persons", None), ("persons", [1, 2]), ("decimals", -1), ("decimals", True), ("separator", "x"), ("dummy_persons", -1), ("arcs", "x"), ("arcs", "3\n"), ("titles", [])]
+        texts = [json.dumps(fields | {field: value}) for field, value in changes]
+        for change, answer in zip(changes, self.spoiled(texts, "tools/to_csv", "certificate", "spoiled")):
+            with self.subTest(change):
+                self.assert_fault(answer, "spoiled", change[0])
 
     def test_output_that_cannot_be_written(self):
         self.convert(PAIRS)

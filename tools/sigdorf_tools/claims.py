@@ -1,0 +1,62 @@
+"""Certificates that are true of a problem, by the checker of this folder."""
+import pathlib
+import sys
+from typing import NamedTuple
+
+from .faults import Fault
+
+sys.path.append(str(pathlib.Path(__file__).resolve().parents[1]))
+import check_certificate  # noqa: E402
+
+REFUSED = {
+    "empty": "it is empty",
+    "count": "the number of persons is out of range",
+    "arcs": "it has too many arcs",
+}
+INVALID = {
+    "size": "it is of another number of persons",
+    "arc": "person {0} has no arc to the object of his pick at that cost",
+    "twice": "object {0} is picked twice",
+    "cost": "its picks cost another sum",
+    "slack": "person {0} has a better arc at its prices",
+    "hall": "the persons that it names may take other objects, or as many",
+    "bound": "its bound isn't the one of its prices",
+}
+
+
+class Claim(NamedTuple):
+    """What a certificate says. Picks and prices are of a plan, persons and objects of a Hall set; the lower bound is the cost where the claim is optimal."""
+
+    kind: str
+    picks: list
+    prices: list
+    lower: int
+    cost: int
+    persons: list
+    objects: list
+
+
+def read_arcs(file, text):
+    """The arcs of each person, as pairs of object and cost."""
+    try:
+        return check_certificate.read_problem(text)
+    except ValueError as fault:
+        _, what, *place = str(fault).split()
+        raise Fault(f"{file}: no problem that the solver takes: {REFUSED.get(what) or ' '.join(['fault', what, *place])}") from None
+
+
+def read_claim(file, text, arcs, problem):
+    """The claim of a certificate's text. One that isn't true of the problem, whose name is given, is a fault."""
+    try:
+        kind, numbers, first, second = check_certificate.read_claim(text)
+    except ValueError as fault:
+        raise Fault(f"{file}, line {str(fault).split()[-1]}: no certificate that `auction solve` writes") from None
+    try:
+        if kind == "infeasible":
+            check_certificate.judge_hall(arcs, first, second)
+            return Claim(kind, [], [], None, None, first, second)
+        check_certificate.judge_plan(arcs, kind, numbers, first, second)
+        return Claim(kind, first, second, numbers[-2] if kind == "bracket" else numbers[-1], numbers[-1], [], [])
+    except ValueError as fault:
+        _, what, *place = str(fault).split()
+        raise Fault(f"{file}: it isn't true of {problem}, so it may be of another problem: {INVALID[what].format(*place)}") from None

@@ -1,0 +1,46 @@
+"""Faults of an input, told in one sentence."""
+import os
+import sys
+
+STATUS = 2
+
+
+class Fault(Exception):
+    """What is wrong with an input: one sentence that names the place, what was found and what was wanted."""
+
+
+def run(main):
+    """Ends the process with the status of a tool's main function. A fault is one sentence on standard error and status 2."""
+    try:
+        status = main()
+        sys.stdout.flush()
+    except Fault as fault:
+        status = tell(str(fault))
+    except OSError as error:
+        if not error.filename:
+            # What couldn't be written stays in the buffer, and Python would try once more at its end.
+            os.dup2(os.open(os.devnull, os.O_WRONLY), sys.stdout.fileno())
+        status = tell(f"{error.filename or 'the output'}: it can't be written: {error.strerror}")
+    except MemoryError:
+        status = tell("there is too little memory for this problem")
+    except KeyboardInterrupt:
+        status = tell("stopped")
+    sys.exit(status)
+
+
+def tell(sentence):
+    print(f"{os.path.basename(sys.argv[0])}: {sentence}", file=sys.stderr)
+    return STATUS
+
+
+def read_bytes(file):
+    """All bytes of a file; the fault of one that can't be read names it."""
+    try:
+        with open(file, "rb") as opened:
+            return opened.read()
+    except IsADirectoryError:
+        raise Fault(f"{file}: a file is wanted, and this is a folder") from None
+    except FileNotFoundError:
+        raise Fault(f"{file}: there is no such file") from None
+    except (OSError, ValueError) as error:
+        raise Fault(f"{file}: it can't be read: {getattr(error, 'strerror', None) or error}") from None

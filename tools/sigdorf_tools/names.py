@@ -1,0 +1,86 @@
+"""Names files: what a plan needs to be told in the words of its table."""
+import json
+from typing import NamedTuple
+
+from .amounts import MOST_DECIMALS, amount_of
+from .faults import Fault, read_bytes
+
+FORMAT = "sigdorf names 1"
+
+
+class Names(NamedTuple):
+    """The fields of a names file, in its order; docs/FORMATS.md says what each one means."""
+
+    table: str
+    titles: list
+    separator: str
+    mark: str
+    decimals: int
+    maximise: bool
+    persons: list
+    objects: list
+    dummy_persons: int
+    dummy_objects: int
+    arcs: str
+
+    def amount(self, cost):
+        """A cost of the solver as an amount of the table, in the table's sign."""
+        return amount_of(-cost if self.maximise else cost, self.decimals, self.mark)
+
+    def person(self, number):
+        """The name of a person, or None of a dummy."""
+        return self.persons[number - 1] if number <= len(self.persons) else None
+
+    def object(self, number):
+        """The name of an object, or None of a dummy."""
+        return self.objects[number - 1] if number <= len(self.objects) else None
+
+    def text(self):
+        """The names file."""
+        return json.dumps({"format": FORMAT, **self._asdict()}, ensure_ascii=False, indent=1) + "\n"
+
+    def told(self):
+        """How many there are of all, in words."""
+        arcs = self.arcs.count("\n") - 1
+        return f"{told(self.persons, self.dummy_persons, 'persons')}, {told(self.objects, self.dummy_objects, 'objects')}, {arcs} arcs"
+
+
+def told(names, dummies, word):
+    """How many names there are, and how many dummies beside them."""
+    with_dummies = f" with {dummies} dumm{'y' if dummies == 1 else 'ies'}" if dummies else ""
+    return f"{len(names) + dummies} {word}{with_dummies}"
+
+
+
+def read_names(file):
+    """The names of a file, each field of the type and in the range that it has to have."""
+    try:
+        fields = json.loads(read_bytes(file).decode("utf-8"))
+    except (ValueError, RecursionError):
+        raise Fault(f"{file}: no names file, as from_csv writes it, since it is no JSON in UTF-8") from None
+    if not isinstance(fields, dict) or fields.get("format") != FORMAT:
+        raise Fault(f"{file}: no names file, as from_csv writes it, since it lacks `\"format\": \"{FORMAT}\"`")
+    for field, kind in Names.__annotations__.items():
+        if type(fields.get(field)) is not kind:
+            raise Fault(f"{file}: its field `{field}` is missing or of another type than {kind.__name__}")
+    names = Names(*(fields[field] for field in Names._fields))
+    look_at_names(file, names)
+    return names
+
+
+def look_at_names(file, names):
+    """Fields that fit one another."""
+    texts = [*names.titles, *names.persons, *names.objects]
+    sound = {
+        "titles": len(names.titles) == 3,
+        "persons": bool(names.persons) and all(isinstance(text, str) for text in texts),
+        "separator": names.separator in (",", ";", "\t"),
+        "mark": names.mark in (".", ","),
+        "decimals": 0 <= names.decimals <= MOST_DECIMALS,
+        "dummy_persons": names.dummy_persons >= 0,
+        "dummy_objects": names.dummy_objects >= 0 and len(names.persons) + names.dummy_persons == len(names.objects) + names.dummy_objects,
+        "arcs": names.arcs.split(maxsplit=1)[:1] == [str(len(names.persons) + names.dummy_persons)],
+    }
+    for field, holds in sound.items():
+        if not holds:
+            raise Fault(f"{file}: its field `{field}` is none that from_csv writes")

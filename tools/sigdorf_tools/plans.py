@@ -1,0 +1,75 @@
+"""Plans: the rows of a table that tell an answer in the words of the planner."""
+import csv
+import sys
+
+from .claims import read_arcs, read_claim
+
+# How many names a sentence holds.
+MOST_LISTED = 5
+
+
+def rows_of_plan(names, claim):
+    """The rows for an answer."""
+    if claim.kind == "infeasible":
+        return rows_of_hall_set(names, claim)
+    rows = [names.titles]
+    for number, (thing, cost) in enumerate(claim.picks, 1):
+        # Dummies stand in no plan.
+        if names.person(number) is not None and names.object(thing) is not None:
+            rows.append([names.person(number), names.object(thing), names.amount(cost)])
+    rows.append(["total", "", names.amount(claim.cost)])
+    if claim.kind == "bracket":
+        rows.append([sentence_of(names, claim)])
+    return rows
+
+
+def rows_of_hall_set(names, claim):
+    """A sentence, and then who and what it speaks of."""
+    persons, objects = blamed(names, claim)
+    rows = [[sentence_of(names, claim)]]
+    rows += [["person", names.person(number)] for number in persons]
+    rows += [["object", names.object(number)] for number in objects]
+    return rows
+
+
+def blamed(names, claim):
+    """Persons who may take too few objects; or, where some persons have to stay without an object, objects that too few persons may take."""
+    if not names.dummy_objects:
+        return claim.persons, claim.objects
+    # Each person may take each dummy, so all of them are in the set: what is left of the objects is for the persons who are left.
+    persons = sorted(set(range(1, len(names.persons) + 1)) - set(claim.persons))
+    return persons, sorted(set(range(1, len(names.objects) + 1)) - set(claim.objects))
+
+
+def sentence_of(names, claim):
+    """The answer in one sentence."""
+    best = "greatest" if names.maximise else "least"
+    if claim.kind == "optimal":
+        return f"A best plan: the {best} total is {names.amount(claim.cost)}."
+    if claim.kind == "bracket":
+        gap = names._replace(maximise=False).amount(claim.cost - claim.lower)
+        return f"The search was stopped early: this plan is at most {gap} from the best, and no total is {'above' if names.maximise else 'below'} {names.amount(claim.lower)}."
+    persons, objects = blamed(names, claim)
+    told_persons = listed([names.person(number) for number in persons], "person")
+    told_objects = listed([names.object(number) for number in objects], "object")
+    if names.dummy_objects:
+        return f"No plan gives every object to somebody: {told_objects} can go to {told_persons}{', and to nobody else' if persons else ''}."
+    return f"No plan gives every person an object: {told_persons} may take {told_objects}{', and nothing else' if objects else ''}."
+
+
+def listed(names, word):
+    """Some names in a sentence, or how many there are where they are more than it can hold."""
+    if len(names) > MOST_LISTED:
+        return f"these {len(names)} {word}s"
+    if all(name.isdecimal() for name in names):
+        word = word if len(names) == 1 else f"{word}s" if names else f"no {word}"
+        names = [f"{word} {names[0]}", *names[1:]] if names else [word]
+    return names[0] if len(names) == 1 else f"{', '.join(names[:-1])} and {names[-1]}"
+
+
+def write_plan(names, file, certificate):
+    """Writes the plan of a certificate, whose file is named for faults, to standard output, as a table like the one that the names are from."""
+    arcs = read_arcs(names.table, names.arcs.encode())
+    claim = read_claim(file, certificate, arcs, names.table)
+    sys.stdout.reconfigure(encoding="utf-8", newline="")
+    csv.writer(sys.stdout, delimiter=names.separator, lineterminator="\n").writerows(rows_of_plan(names, claim))

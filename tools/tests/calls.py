@@ -1,0 +1,66 @@
+"""Calls of the tools as a user makes them: in a folder of its own, by their words."""
+import concurrent.futures
+import os
+import pathlib
+import subprocess
+import sys
+import tempfile
+import unittest
+
+TOOLS = pathlib.Path(__file__).resolve().parents[1]
+ROOT = TOOLS.parent
+
+
+def has_program():
+    return unittest.skipUnless("AUCTION" in os.environ, "it needs a built program (--program)")
+
+
+class ToolTest(unittest.TestCase):
+    """A test with a folder that lasts as long as it does."""
+
+    def setUp(self):
+        folder = tempfile.TemporaryDirectory()
+        self.addCleanup(folder.cleanup)
+        self.folder = pathlib.Path(folder.name)
+
+    def write(self, name, content):
+        path = self.folder / name
+        path.write_bytes(content if isinstance(content, bytes) else content.encode())
+        return path
+
+    def read(self, name):
+        return (self.folder / name).read_text(encoding="utf-8")
+
+    def call(self, tool, *words, output=subprocess.PIPE):
+        """Status, standard output and standard error of a tool, which is named from the root of the repository."""
+        # Without site packages, which no tool uses, a call takes half the time.
+        command = [sys.executable, "-S", str(ROOT / tool), *map(str, words)]
+        done = subprocess.run(command, cwd=self.folder, stdout=output, stderr=subprocess.PIPE, timeout=60, stdin=subprocess.DEVNULL)
+        return done.returncode, (done.stdout or b"").decode(), done.stderr.decode()
+
+    def answers(self, calls):
+        """The answers of several calls, which run beside one another; each begins with its tool."""
+        with concurrent.futures.ThreadPoolExecutor() as threads:
+            return list(threads.map(lambda call: self.call(*call), calls))
+
+    def assert_fault(self, answer, *parts):
+        """The answer is status 2 with nothing on standard output, and one sentence on standard error that has all parts."""
+        status, output, said = answer
+        self.assertEqual((status, output), (2, ""), said)
+        self.assertEqual(said.count("\n"), 1, said)
+        self.assertNotIn("Traceback", said)
+        for part in parts:
+            self.assertIn(part, said)
+
+    def convert(self, table, *words):
+        """The arc file of a table."""
+        self.write("table.csv", table)
+        status, _, said = self.call("tools/from_csv", "table.csv", *words)
+        self.assertEqual((status, said), (0, ""))
+        return self.read("table.arcs")
+
+    def plan(self, table, certificate, *words):
+        """The plan that a certificate makes of a table."""
+        self.convert(table, *words)
+        self.write("certificate", certificate)
+        return self.call("tools/to_csv", "certificate", "table.names")

@@ -2,6 +2,7 @@
 
 use crate::problems::{NO_OBJECT, ONE, ONE_OBJECT, THREE, TWO, in_range, problem_of};
 use auc_cert::{check, write_cert};
+use auc_graph::ArcList;
 use auc_world::{Answer, Limits, solve_serial};
 use std::test::*;
 
@@ -61,14 +62,18 @@ const PRICED: [Example; 2] = [
 
 /// The text of the answer, in which the checker has found no fault.
 pub fn answered(rt: &HostRuntime, text: &str, limits: Limits) -> Result<Vec<u8>, Fail> {
-    let problem = problem_of(rt, text)?;
-    let cert = match solve_serial(rt.alloc(), &problem, &in_range(limits)?)? {
+    answered_of(rt, &problem_of(rt, text)?, limits)
+}
+
+/// The text of the answer about this problem, in which the checker has found no fault.
+pub fn answered_of(rt: &HostRuntime, problem: &ArcList, limits: Limits) -> Result<Vec<u8>, Fail> {
+    let cert = match solve_serial(rt.alloc(), problem, &in_range(limits)?)? {
         Answer::Optimal(cert) => cert,
         Answer::Infeasible(cert) => cert,
         Answer::Bracket(cert) => cert,
         Answer::Broken(guard) => return Err(Fail::new(format_args!("{guard:?}"))),
     };
-    check(rt.alloc(), &problem, &cert)?;
+    check(rt.alloc(), problem, &cert)?;
     let mut out = Vec::new(rt.alloc());
     write_cert(&mut out, &cert)?;
     Ok(out)

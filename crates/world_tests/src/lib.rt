@@ -27,3 +27,5 @@ mod schedules;
 mod telling;
 #[cfg(test)]
 mod turns;
+#[cfg(test)]
+mod unequal;

@@ -1,5 +1,5 @@
 use Rattle.auc_mail.specs.declared.call.Reply.TheVariants.{Posted}
-use Rattle.auc_cert.proofs.WriteLaws.{each_more, cut_in_one, cut}
+use Rattle.auc_cert.proofs.WriteLaws.{cut_in_one, cut}
 use Rattle.auc_run.specs.Replies.{reply_line, reply_lines}
 use Rattle.auc_run.proofs.replies.write_replies.Goals as goal
 

@@ -64,11 +64,7 @@ fn start_of(
 /// certificate is of a Hall set, [`StartError::OtherSize`] where its picks or its prices aren't as many as the problem's persons, and
 /// [`StartError::TooHigh`] with the first object whose price is above 2^60. [`StartError::NoMemory`] may stand in place of any other
 /// answer, where memory was refused.
-pub fn start_prices(
-    alloc: Global,
-    problem: &ArcList,
-    cert: &Cert,
-) -> Result<Vec<i64>, StartError>
+pub fn start_prices(alloc: Global, problem: &ArcList, cert: &Cert) -> Result<Vec<i64>, StartError>
     ensures exact { AnswersUnless StartError.NoMemory (λ v. v.items) result (λ r. r ≡ start_of problem.now cert.now) }
     ensures start { IfOk result (λ v. AreStart problem.now v.items) }
 {
@@ -77,7 +73,12 @@ pub fn start_prices(
     }
     match cert.parts() {
         CertParts::Optimal { choice, prices, .. } | CertParts::Bracket { choice, prices, .. } => {
-            start_of(alloc, problem.persons(), choice.as_slice(), prices.as_slice())
+            start_of(
+                alloc,
+                problem.persons(),
+                choice.as_slice(),
+                prices.as_slice(),
+            )
         }
         CertParts::Infeasible { .. } => Err(StartError::NoPrices),
     }

@@ -1,6 +1,6 @@
 //! What the solver in threads answers, up to the bytes of its certificate, and what a phase leaves.
 
-use crate::problems::{ONE, ONE_OBJECT, THREE, TWO, limits_of, problem_of, run};
+use crate::problems::{ONE, ONE_OBJECT, THREE, TWO, limits_of, problem_of, run, run_from};
 use auc_graph::Rows;
 use auc_threads::{FreeGate, phase_threads};
 use auc_world::End;
@@ -45,6 +45,23 @@ fn three_persons_with_any_shards(rt: HostRuntime) -> Result<(), Fail> {
             )
         );
         assert_eq!(rt; solved.phases.len(), 2);
+    }
+    Ok(())
+}
+
+/// From the prices of an old certificate there is one phase.
+#[test]
+fn from_a_start_with_any_shards(rt: HostRuntime) -> Result<(), Fail> {
+    let cert = "auction 1\noptimal 2 3\nassign 1 2 2\nassign 2 1 1\nprice 1 7\nprice 2 5\n";
+    for shards in SHARDS {
+        let text = "2\n1 1 1\n1 2 2\n2 1 4\n2 2 3\n";
+        let solved = run_from(&rt, rt.alloc(), text, cert, shards, &FreeGate)?;
+        assert!(rt;
+            solved.text.as_slice().starts_with(
+                b"auction 1\noptimal 2 4\nassign 1 1 1\nassign 2 2 3\nprice 1 "
+            )
+        );
+        assert_eq!(rt; solved.phases.len(), 1);
     }
     Ok(())
 }

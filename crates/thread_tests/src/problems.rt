@@ -4,11 +4,11 @@ ghost use Rattle.std.specs.Prelude.{◌≡◌, IfOk};
 ghost use Rattle.auc_threads.specs.Naming.{AreThreadLimits};
 
 use auc_book::MOST_ROOM;
-use auc_cert::{check, write_cert};
+use auc_cert::{check, read_cert, start_prices, write_cert};
 use auc_graph::{ArcList, ReadLimits, read_arcs};
 use auc_letters::MOST_SHARDS;
 use auc_mail::MOST_NODES;
-use auc_threads::{Gate, PhaseEnd, Solved, solve_threads};
+use auc_threads::{Gate, PhaseEnd, Solved, solve_threads, solve_threads_from};
 use auc_world::{Answer, Limits};
 use std::alloc::Global;
 use std::sync::Wait;
@@ -65,14 +65,36 @@ pub fn run<R: Threads + Wait + Sync, G: Gate + Sync>(
 ) -> Result<Outcome, Fail> {
     let problem = problem_of(alloc, text)?;
     let limits = limits_of(shards, audit)?;
-    let Solved { answer, phases } = solve_threads(rt, alloc, &problem, &limits, gate)?;
+    let solved = solve_threads(rt, alloc, &problem, &limits, gate)?;
+    outcome_of(alloc, &problem, solved)
+}
+
+/// Solves in threads from the prices of a certificate.
+pub fn run_from<R: Threads + Wait + Sync, G: Gate + Sync>(
+    rt: &R,
+    alloc: Global,
+    text: &str,
+    cert: &str,
+    shards: u32,
+    gate: &G,
+) -> Result<Outcome, Fail> {
+    let problem = problem_of(alloc, text)?;
+    let limits = limits_of(shards, 0)?;
+    let start = start_prices(alloc, &problem, &read_cert(alloc, cert.as_bytes())?)?;
+    let solved = solve_threads_from(rt, alloc, &problem, &limits, start.as_slice(), gate)?;
+    outcome_of(alloc, &problem, solved)
+}
+
+/// What a run has come to, once the checker has found no fault in its certificate.
+fn outcome_of(alloc: Global, problem: &ArcList, solved: Solved) -> Result<Outcome, Fail> {
+    let Solved { answer, phases } = solved;
     let cert = match answer {
         Answer::Optimal(cert) => cert,
         Answer::Infeasible(cert) => cert,
         Answer::Bracket(cert) => cert,
         Answer::Broken(guard) => return Err(Fail::new(format_args!("{guard:?}"))),
     };
-    check(alloc, &problem, &cert)?;
+    check(alloc, problem, &cert)?;
     let mut out = Vec::new(alloc);
     write_cert(&mut out, &cert)?;
     Ok(Outcome { text: out, phases })

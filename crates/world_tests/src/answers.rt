@@ -67,7 +67,13 @@ pub fn answered(rt: &HostRuntime, text: &str, limits: Limits) -> Result<Vec<u8>,
 
 /// The text of the answer about this problem, in which the checker has found no fault.
 pub fn answered_of(rt: &HostRuntime, problem: &ArcList, limits: Limits) -> Result<Vec<u8>, Fail> {
-    let cert = match solve_serial(rt.alloc(), problem, &in_range(limits)?)? {
+    let answer = solve_serial(rt.alloc(), problem, &in_range(limits)?)?;
+    text_of(rt, problem, answer)
+}
+
+/// The text of an answer about this problem, in which the checker has found no fault.
+pub fn text_of(rt: &HostRuntime, problem: &ArcList, answer: Answer) -> Result<Vec<u8>, Fail> {
+    let cert = match answer {
         Answer::Optimal(cert) => cert,
         Answer::Infeasible(cert) => cert,
         Answer::Bracket(cert) => cert,

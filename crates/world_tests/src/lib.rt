@@ -24,6 +24,8 @@ mod rounds;
 #[cfg(test)]
 mod schedules;
 #[cfg(test)]
+mod starts;
+#[cfg(test)]
 mod telling;
 #[cfg(test)]
 mod turns;

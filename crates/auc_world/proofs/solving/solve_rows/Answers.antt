@@ -32,8 +32,8 @@ loop-candidates-preserved c =
       eps = simp to_z-of_z (c.in-Some.ensures.range inv.eps);
       kept = rw c.in-Sold.is at c.in_ok-played.ensures.kept;
       ready = λ start begins.
-      let before = inv.ready start begins in
-      (here ∷ before.0, simp to_z-of_z (ready_next c.args.rows.now c.args.limits.now start before.0 here c.in-Some.next c.in-Sold.gathered (to_here start before.0 before.1) sold.1 sold.2 (sym c.in-Some.ensures.is)));
+          let before = inv.ready start begins in
+          (here ∷ before.0, simp to_z-of_z (ready_next c.args.rows.now c.args.limits.now start before.0 here c.in-Some.next c.in-Sold.gathered (to_here start before.0 before.1) sold.1 sold.2 (sym c.in-Some.ensures.is)));
     }
 
 pub returns-in_default-clause-is : goal.returns-in_default-clause-is

@@ -14,11 +14,12 @@ REFUSED = {
     "arcs": "it has too many arcs",
 }
 INVALID = {
-    "size": "it is of another number of persons",
+    "size": "it is of another number of persons or objects",
     "arc": "person {0} has no arc to the object of his pick at that cost",
     "twice": "object {0} is picked twice",
     "cost": "its picks cost another sum",
     "slack": "person {0} has a better arc at its prices",
+    "leftover": "nobody takes object {0}, and it has a price",
     "hall": "the persons that it names may take other objects, or as many",
     "bound": "its bound isn't the one of its prices",
 }
@@ -37,9 +38,9 @@ class Claim(NamedTuple):
 
 
 def read_arcs(file, text):
-    """The arcs of each person, as pairs of object and cost."""
+    """The arcs of each person, as pairs of object and cost, of a problem with as many objects as persons."""
     try:
-        return check_certificate.read_problem(text)
+        return check_certificate.read_problem(text)[0]
     except ValueError as fault:
         _, what, *place = str(fault).split()
         raise Fault(f"{file}: no problem that the solver takes: {REFUSED.get(what) or ' '.join(['fault', what, *place])}") from None
@@ -53,10 +54,10 @@ def read_claim(file, text, arcs, problem):
         raise Fault(f"{file}, line {str(fault).split()[-1]}: no certificate that `auction solve` writes") from None
     try:
         if kind == "infeasible":
-            check_certificate.judge_hall(arcs, first, second)
+            check_certificate.judge_hall(arcs, len(arcs), first, second)
             return Claim(kind, [], [], None, None, first, second)
-        check_certificate.judge_plan(arcs, kind, numbers, first, second)
-        return Claim(kind, first, second, numbers[-2] if kind == "bracket" else numbers[-1], numbers[-1], [], [])
+        check_certificate.judge_plan(arcs, len(arcs), kind, numbers, first, second)
+        return Claim(kind, first, second, numbers[0], numbers[-1], [], [])
     except ValueError as fault:
         _, what, *place = str(fault).split()
         raise Fault(f"{file}: it isn't true of {problem}, so it may be of another problem: {INVALID[what].format(*place)}") from None

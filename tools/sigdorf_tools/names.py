@@ -51,6 +51,11 @@ def told(names, dummies, word):
     return f"{len(names) + dummies} {word}{with_dummies}"
 
 
+def plain_names(count):
+    """Names for a problem that has none: its numbers."""
+    numbers = [str(number) for number in range(1, count + 1)]
+    return Names("the problem", ["person", "object", "cost"], ",", ".", 0, False, numbers, numbers, 0, 0, "")
+
 
 def read_names(file):
     """The names of a file, each field of the type and in the range that it has to have."""

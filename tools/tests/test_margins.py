@@ -1,0 +1,72 @@
+"""margins: worked rows, what they are measured in, and what has none."""
+from calls import ROOT, ToolTest
+
+EXAMPLES = ROOT / "examples"
+CERTIFICATE = "auction 1\noptimal 2 4\nassign 1 1 1\nassign 2 2 3\nprice 1 9\nprice 2 13\n"
+
+
+class Margins(ToolTest):
+    def rows(self, *words):
+        status, output, said = self.call("tools/margins", *words)
+        self.assertEqual((status, said), (0, ""))
+        return output.splitlines()
+
+    def test_two_persons(self):
+        """Values are 12 and 19, 21 and 22: the excesses 0 and 7, 0 and 1, of the plan together 1. Each margin is the rest of an excess, by 3, rounded up."""
+        self.write("problem", "2\n1 1 1\n1 2 2\n2 1 4\n2 2 3\n")
+        self.write("certificate", CERTIFICATE)
+        self.assertEqual(self.rows("problem", "certificate"), [
+            "person,object,cost,is,margin,holds to",
+            "1,1,1,plan,2,3",
+            "1,2,2,,2,0",
+            "2,1,4,contests,0,4",
+            "2,2,3,plan,0,3",
+            "Contested: object 1.",
+        ])
+
+    def test_the_only_best_plan(self):
+        """Prices that say more: the excesses 0 and 4, 2 and 0."""
+        self.write("problem", "2\n1 1 1\n1 2 2\n2 1 4\n2 2 3\n")
+        self.write("certificate", "auction 1\noptimal 2 4\nassign 1 1 1\nassign 2 2 3\nprice 1 9\nprice 2 10\n")
+        rows = self.rows("problem", "certificate")
+        self.assertEqual(rows[1:5], ["1,1,1,plan,2,3", "1,2,2,,2,0", "2,1,4,,1,3", "2,2,3,plan,1,4"])
+        self.assertEqual(rows[-1], "No object is contested: this is the only best plan.")
+
+    def test_a_person_with_one_arc(self):
+        self.write("problem", "2\n1 1 1\n2 1 4\n2 2 3\n")
+        self.write("certificate", "auction 1\noptimal 2 4\nassign 1 1 1\nassign 2 2 3\nprice 1 9\nprice 2 10\n")
+        self.assertIn("1,1,1,plan,any,any", self.rows("problem", "certificate"))
+
+    def test_the_greatest_total(self):
+        """Of points, what is in the plan may fall, and what isn't may rise."""
+        self.convert("a;x;0,3\na;y;0,2\nb;x;0,1\nb;y;0,2\n", "--maximise", "--decimals", "1")
+        self.write("certificate", "auction 1\noptimal 2 -5\nassign 1 1 -3\nassign 2 2 -2\nprice 1 0\nprice 2 0\n")
+        self.assertEqual(self.rows("table.arcs", "certificate", "--names", "table.names")[1:5], [
+            "a;x;0,3;plan;0,1;0,2",
+            "a;y;0,2;;0,1;0,3",
+            "b;x;0,1;;0,1;0,2",
+            "b;y;0,2;plan;0,1;0,1",
+        ])
+
+    def test_dummies_are_left_out(self):
+        self.convert("a,x,4\na,y,5\n")
+        self.write("certificate", "auction 1\noptimal 2 4\nassign 1 1 4\nassign 2 2 0\nprice 1 0\nprice 2 0\n")
+        self.assertEqual(self.rows("table.arcs", "certificate", "--names", "table.names")[1:3], ["a,x,4,plan,1,5", "a,y,5,,1,4"])
+
+    def test_faults(self):
+        crew, certificate, week = EXAMPLES / "crew.arcs", EXAMPLES / "crew.certificate", EXAMPLES / "week_of_vehicles.certificate"
+        self.write("problem", "2\n1 1 1\n1 2 2\n2 1 1\n2 2 3\n")
+        self.write("bracket", "auction 1\nbracket bids 2 3 4\nassign 1 1 1\nassign 2 2 3\nprice 1 4\nprice 2 0\n")
+        self.write("one object", "2\n1 1 1\n2 1 2\n")
+        self.write("infeasible", "auction 1\ninfeasible 2 1\nperson 1\nperson 2\nobject 1\n")
+        self.convert("a,x,4\n")
+        for words, *parts in [
+            ([crew, "nosuch"], "nosuch"),
+            ([crew, "."], "folder"),
+            ([crew, week], "another problem"),
+            ([crew, certificate, "--names", "table.names"], "table.names", "another problem"),
+            (["problem", "bracket"], "bracket", "a plan and a bound"),
+            (["one object", "infeasible"], "infeasible", "has none"),
+        ]:
+            with self.subTest(words=words):
+                self.assert_fault(self.call("tools/margins", *words), *parts)

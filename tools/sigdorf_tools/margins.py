@@ -64,4 +64,4 @@ def rows_of_margins(names, arcs, claim):
 def sentence_of(names, contested):
     if not contested:
         return "No object is contested: this is the only best plan."
-    return f"Contested: {listed([name for name in names.objects if name in contested], 'object')}."
+    return f"Contested at these prices: {listed([name for name in names.objects if name in contested], 'object')}."

@@ -21,7 +21,7 @@ class Margins(ToolTest):
             "1,2,2,,2,0",
             "2,1,4,contests,0,4",
             "2,2,3,plan,0,3",
-            "Contested: object 1.",
+            "Contested at these prices: object 1.",
         ])
 
     def test_the_only_best_plan(self):

@@ -1,5 +1,5 @@
 """margins: worked rows, what they are measured in, and what has none."""
-from calls import ROOT, ToolTest
+from calls import ROOT, ToolTest, has_program
 
 EXAMPLES = ROOT / "examples"
 CERTIFICATE = "auction 1\noptimal 2 4\nassign 1 1 1\nassign 2 2 3\nprice 1 9\nprice 2 13\n"
@@ -52,6 +52,14 @@ class Margins(ToolTest):
         self.convert("a,x,4\na,y,5\n")
         self.write("certificate", "auction 1\noptimal 2 4\nassign 1 1 4\nassign 2 2 0\nprice 1 0\nprice 2 0\n")
         self.assertEqual(self.rows("table.arcs", "certificate", "--names", "table.names")[1:3], ["a,x,4,plan,1,5", "a,y,5,,1,4"])
+
+    @has_program()
+    def test_true_limit_in_the_page(self):
+        """What docs/PLANNING.md says was found by planning again: up to 16.85 the same plan is a best one."""
+        table = (EXAMPLES / "tracks.csv").read_text(encoding="utf-8")
+        for distance, total in [("16.85", "74.28"), ("16.86", "74.28")]:
+            self.write("table.csv", table.replace("T1,D1,7.28", f"T1,D1,{distance}"))
+            self.assertIn(f"total,,{total}\n", self.call("plan", "table.csv", "--decimals", "2")[1])
 
     def test_faults(self):
         crew, certificate, week = EXAMPLES / "crew.arcs", EXAMPLES / "crew.certificate", EXAMPLES / "week_of_vehicles.certificate"

@@ -7,7 +7,9 @@ from calls import ROOT, ToolTest, has_program
 
 class Installed(ToolTest):
     def run_in_folder(self, *command, **variables):
-        done = subprocess.run(list(map(str, command)), cwd=self.folder, env=os.environ | variables, capture_output=True, text=True, timeout=60, stdin=subprocess.DEVNULL)
+        """Status, standard output and standard error of a command. A program is always named, since `install` would build one."""
+        environment = {"AUCTION": "/bin/false"} | os.environ | variables
+        done = subprocess.run(list(map(str, command)), cwd=self.folder, env=environment, capture_output=True, text=True, timeout=60, stdin=subprocess.DEVNULL)
         return done.returncode, done.stdout, done.stderr
 
     @has_program()

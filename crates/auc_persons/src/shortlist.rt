@@ -257,13 +257,7 @@ impl Shortlist {
 
     /// Makes a list anew, and finds the best arc by it; nothing where no list is made, or it doesn't decide. `second` bounds that of
     /// the row: the second of the list's arcs, where they have one, and else the greatest number.
-    fn scan_anew(
-        &mut self,
-        scale: i64,
-        row: &[RowArc],
-        copies: &[i64],
-        second: i64,
-    ) -> Option<Scan>
+    fn scan_anew(&mut self, scale: i64, row: &[RowArc], copies: &[i64], second: i64) -> Option<Scan>
         requires scale_low { pos 1 ≤ℤ scale }
         requires scale_high { scale ≤ℤ pos 10001 }
         requires row { IsRow (length copies.now) row.now }

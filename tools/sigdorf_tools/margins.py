@@ -1,4 +1,5 @@
 """Margins: how far one cost may change while the prices of a certificate still show that its plan is a best one."""
+from math import inf
 from typing import NamedTuple
 
 from .plans import listed
@@ -6,7 +7,7 @@ from .plans import listed
 
 class Margin(NamedTuple):
     """An arc of a person, whether it is the one of the plan, and its margin: how far the cost may rise where it is, or fall where it isn't, if no other cost
-    changes; None where it may rise as far as it likes, since every plan has this arc."""
+    changes; None where it may go as far as it likes, since every plan has this arc, or none has."""
 
     person: int
     arc: tuple
@@ -26,16 +27,33 @@ def margins_of(arcs, claim):
     """The margins of all arcs, by persons, for a claim of a best plan.
 
     The excess of an arc is how far it is above the least of its person, each at his costs times persons + 1, and prices. The excesses of any plan, together,
-    are its cost times persons + 1, less a sum that is the same for all plans. So a plan with this arc is at least as much above the best one as the
-    arc's excess is above all of the best plan's; and a plan without a person's own arc has another one of his. Costs are whole, so it is rounded up.
+    are its cost times persons + 1, less a sum that is the same for all plans. So a plan costs at least as much more than the best one as the excesses that
+    it can't do without are above all of the best plan's. Costs are whole, so it is rounded up. A plan without a person's own arc has another one of his.
     """
     scale = len(arcs) + 1
     excesses = {person: excesses_of(arcs[person], claim.prices, scale) for person in arcs}
     of_plan = sum(excesses[person][pick] for person, pick in enumerate(claim.picks, 1))
+    detour = detours_of(excesses, claim.picks)
     for person, pick in enumerate(claim.picks, 1):
-        falls = {arc: -((of_plan - excess) // scale) for arc, excess in sorted(excesses[person].items()) if arc != pick}
+        wanted = {arc: excess + detour(pick[0], arc[0]) for arc, excess in excesses[person].items() if arc != pick}
+        falls = {arc: None if excess == inf else -((of_plan - excess) // scale) for arc, excess in wanted.items()}
+        rise = min((fall for fall in falls.values() if fall is not None), default=None)
         for arc in sorted(arcs[person]):
-            yield Margin(person, arc, arc == pick, min(falls.values(), default=None) if arc == pick else falls[arc])
+            yield Margin(person, arc, arc == pick, rise if arc == pick else falls[arc])
+
+
+def detours_of(excesses, picks):
+    """What excess others can't do without where a person changes his own object for another one: a function of both.
+
+    Whoever has the other one has to leave it, and somebody else has to take the own one, since there are as many objects as persons. Both may be the
+    same arc, so the greater one counts.
+    """
+    leave, take = dict.fromkeys(range(1, len(picks) + 1), inf), dict.fromkeys(range(1, len(picks) + 1), inf)
+    for person, (own, _) in enumerate(picks, 1):
+        for (thing, _), excess in excesses[person].items():
+            if thing != own:
+                leave[own], take[thing] = min(leave[own], excess), min(take[thing], excess)
+    return lambda own, thing: 0 if own == thing else max(leave[thing], take[own])
 
 
 def excesses_of(arcs, prices, scale):

@@ -27,7 +27,7 @@ class Installed(ToolTest):
         steps += " && auction-margins table.arcs certificate && auction-picture table.arcs certificate"
         status, output, said = self.run_in_folder("sh", "-c", steps, **without, PATH=f"{prefix}/bin:{os.environ['PATH']}")
         self.assertEqual((status, said), (0, ""))
-        for part in ("total,,2", "valid optimal 2", "Contested", "</svg>"):
+        for part in ("total,,2", "valid optimal 2", "only best plan", "</svg>"):
             self.assertIn(part, output)
         self.assertTrue((prefix / "share/man/man1/auction.1").is_file())
         self.assert_fault(self.run_in_folder("a place/bin/auction-plan", "nosuch"), "auction-plan: nosuch")

@@ -12,40 +12,52 @@ class Margins(ToolTest):
         return output.splitlines()
 
     def test_two_persons(self):
-        """Values are 12 and 19, 21 and 22: the excesses 0 and 7, 0 and 1, of the plan together 1. Each margin is the rest of an excess, by 3, rounded up."""
+        """Values are 12 and 19, 21 and 22: the excesses 0 and 7, 0 and 1, of the plan together 1. The other plan has 7 of them, and costs 2 more."""
         self.write("problem", "2\n1 1 1\n1 2 2\n2 1 4\n2 2 3\n")
         self.write("certificate", CERTIFICATE)
         self.assertEqual(self.rows("problem", "certificate"), [
             "person,object,cost,is,margin,holds to",
             "1,1,1,plan,2,3",
             "1,2,2,,2,0",
-            "2,1,4,contests,0,4",
-            "2,2,3,plan,0,3",
-            "Contested at these prices: object 1.",
+            "2,1,4,,2,2",
+            "2,2,3,plan,2,5",
+            "No object is contested: this is the only best plan.",
         ])
 
-    def test_the_only_best_plan(self):
-        """Prices that say more: the excesses 0 and 4, 2 and 0."""
-        self.write("problem", "2\n1 1 1\n1 2 2\n2 1 4\n2 2 3\n")
-        self.write("certificate", "auction 1\noptimal 2 4\nassign 1 1 1\nassign 2 2 3\nprice 1 9\nprice 2 10\n")
-        rows = self.rows("problem", "certificate")
-        self.assertEqual(rows[1:5], ["1,1,1,plan,2,3", "1,2,2,,2,0", "2,1,4,,1,3", "2,2,3,plan,1,4"])
-        self.assertEqual(rows[-1], "No object is contested: this is the only best plan.")
+    def test_several_best_plans(self):
+        """Persons 1 and 2 may change with each other; where person 3 does, it costs 1."""
+        self.write("problem", "3\n1 1 0\n1 2 0\n2 1 0\n2 2 0\n2 3 0\n3 2 0\n3 3 -1\n")
+        self.write("certificate", "auction 1\noptimal 3 -1\nassign 1 1 0\nassign 2 2 0\nassign 3 3 -1\nprice 1 0\nprice 2 0\nprice 3 4\n")
+        self.assertEqual(self.rows("problem", "certificate")[1:], [
+            "1,1,0,plan,0,0",
+            "1,2,0,contests,0,0",
+            "2,1,0,contests,0,0",
+            "2,2,0,plan,0,0",
+            "2,3,0,,1,-1",
+            "3,2,0,,1,-1",
+            "3,3,-1,plan,1,0",
+            "Contested at these prices: objects 1 and 2.",
+        ])
 
-    def test_a_person_with_one_arc(self):
+    def test_arcs_of_every_plan_and_of_none(self):
         self.write("problem", "2\n1 1 1\n2 1 4\n2 2 3\n")
         self.write("certificate", "auction 1\noptimal 2 4\nassign 1 1 1\nassign 2 2 3\nprice 1 9\nprice 2 10\n")
-        self.assertIn("1,1,1,plan,any,any", self.rows("problem", "certificate"))
+        self.assertEqual(self.rows("problem", "certificate")[1:4], ["1,1,1,plan,any,any", "2,1,4,,any,any", "2,2,3,plan,any,any"])
+
+    def test_the_same_pair_twice(self):
+        self.write("problem", "1\n1 1 1\n1 1 4\n")
+        self.write("certificate", "auction 1\noptimal 1 1\nassign 1 1 1\nprice 1 0\n")
+        self.assertEqual(self.rows("problem", "certificate")[1:3], ["1,1,1,plan,3,4", "1,1,4,,3,1"])
 
     def test_the_greatest_total(self):
         """Of points, what is in the plan may fall, and what isn't may rise."""
         self.convert("a;x;0,3\na;y;0,2\nb;x;0,1\nb;y;0,2\n", "--maximise", "--decimals", "1")
         self.write("certificate", "auction 1\noptimal 2 -5\nassign 1 1 -3\nassign 2 2 -2\nprice 1 0\nprice 2 0\n")
         self.assertEqual(self.rows("table.arcs", "certificate", "--names", "table.names")[1:5], [
-            "a;x;0,3;plan;0,1;0,2",
-            "a;y;0,2;;0,1;0,3",
-            "b;x;0,1;;0,1;0,2",
-            "b;y;0,2;plan;0,1;0,1",
+            "a;x;0,3;plan;0,2;0,1",
+            "a;y;0,2;;0,2;0,4",
+            "b;x;0,1;;0,2;0,3",
+            "b;y;0,2;plan;0,2;0,0",
         ])
 
     def test_dummies_are_left_out(self):

@@ -35,7 +35,7 @@ def read_problem(text, objects=None):
 def read_claim(text):
     """A claim: its kind, the numbers that a verdict tells of it, and its two lists: persons and objects, or picks and prices."""
     taken, lines = 0, text.decode("latin-1").split("\n")
-    def take(spelling, *ranges):  # the numbers of the next line: for each # of its spelling one, in its range
+    def take(spelling, *ranges):  # the numbers of the next line: for each # of its spelling one, out of its range
         nonlocal taken
         taken += 1
         found = taken < len(lines) and re.fullmatch(spelling.replace("#", "(0|-?[1-9][0-9]{0,18})"), lines[taken - 1])
@@ -58,8 +58,8 @@ def read_claim(text):
         numbers = take(start + " #" * len(counts + totals), *counts, *totals)
         counts, numbers = numbers[:version], numbers[version:]
         must(version == 1 or counts[0] < counts[1], "refused certificate 2")
-        picks = [tuple(take(f"assign {person} # #", objects, COSTS)) for person in range(1, counts[0] + 1)]
-        lists = picks, [take(f"price {thing} #", PRICES)[0] for thing in range(1, counts[-1] + 1)]
+        picks = [tuple(take("assign # # #", [person], objects, COSTS)[1:]) for person in range(1, counts[0] + 1)]
+        lists = picks, [take("price # #", [thing], PRICES)[1] for thing in range(1, counts[-1] + 1)]
     must(lines[taken:] == [""], f"refused certificate {taken + 1}")
     return kind, numbers, *lists
 

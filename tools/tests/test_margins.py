@@ -70,7 +70,7 @@ class Margins(ToolTest):
         """What docs/PLANNING.md says was found by planning again: up to 16.85 the same plan is a best one."""
         table = (EXAMPLES / "tracks.csv").read_text(encoding="utf-8")
         for distance, total in [("16.85", "74.28"), ("16.86", "74.28")]:
-            self.write("table.csv", table.replace("T1,D1,7.28", f"T1,D1,{distance}"))
+            self.write("table.csv", table.replace("track 1,spot 1,7.28", f"track 1,spot 1,{distance}"))
             self.assertIn(f"total,,{total}\n", self.call("plan", "table.csv", "--decimals", "2")[1])
 
     def test_faults(self):

@@ -4,4 +4,5 @@ mod VerdictLaws
 mod ScriptLaws
 mod ReplyLaws
 mod CompletionLaws
+mod StartLaws
 mod OutcomeLaws

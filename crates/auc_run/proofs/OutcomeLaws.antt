@@ -1,5 +1,5 @@
--- The outcome of a job, by what its own kind has found. The second reader plays a part in a check alone.
-use Rattle.std.proofs.Common.{◌≡◌, ◌≤◌, ℕ, zero, suc, arith, List, Option, Result, Ok, Err, ℤ, refl, sym, subst}
+-- The outcome of a job, by what its own kind has found.
+use Rattle.std.proofs.Common.{◌≡◌, ℕ, Bool, List, Option, Result, Ok, Err, ℤ, refl, sym, subst}
 use Rattle.std.specs.Prelude.{IsErrAnd}
 use Rattle.auc_mail.specs.declared.call.Reply.{Reply}
 use Rattle.auc_world.specs.declared.answer.Answer.{Answer}
@@ -13,24 +13,23 @@ use Rattle.auc_run.specs.declared.valid.Valid.{Valid}
 use Rattle.auc_run.specs.Completions.{IsFoundIn}
 use Rattle.auc_run.specs.Replies.{AreReplies}
 use Rattle.auc_run.specs.Said.{IsOutcome, reported}
-use Rattle.auc_run.specs.Solutions.{IsSolvedByThreadsIn, IsSolvedIn}
+use Rattle.auc_run.specs.Starts.{IsSolvingIn}
 use Rattle.auc_run.specs.Verdicts.{IsVerdict}
 use Rattle.auc_run.proofs.ProblemLaws.{known, are_known}
 
 module _ (a b : Option (List ℕ)) where
-  pub solved : (workers bids audit : ℕ) (answer : Result Answer Refusal) → workers ≡ 0 → IsSolvedIn bids a answer → IsOutcome (Solve workers bids audit) a b (reported Solved answer)
-  solved zero bids audit answer e h = (h.0, known b, h.1, are_known b, (answer, h.2, refl))
-  solved (suc workers) bids audit answer e h = absurd (omega (arith, e))
+  pub solved : (workers bids audit objects : ℕ) (from : Bool) (answer : Result Answer Refusal) → IsSolvingIn from objects workers bids audit a b answer → IsOutcome (Solve workers bids audit objects from) a b (reported Solved answer)
+  solved workers bids audit objects from answer h = (h.0, h.1, h.2, h.3, (answer, h.4, refl))
 
-  pub solved_by_threads : (workers bids audit : ℕ) (answer : Result Answer Refusal) → 1 ≤ workers → IsSolvedByThreadsIn workers bids audit a answer → IsOutcome (Solve workers bids audit) a b (reported Solved answer)
-  solved_by_threads zero bids audit answer some h = absurd (omega (arith, some))
-  solved_by_threads (suc workers) bids audit answer some h = (h.0, known b, h.1, are_known b, (answer, h.2, refl))
+  -- without workers, of which the answer says that there are none
+  pub solved_plainly : (workers bids audit objects : ℕ) (from : Bool) (answer : Result Answer Refusal) → workers ≡ 0 → ((trail : ℕ) → IsSolvingIn from objects 0 bids trail a b answer) → IsOutcome (Solve workers bids audit objects from) a b (reported Solved answer)
+  solved_plainly workers bids audit objects from answer none h = rw none (solved 0 bids audit objects from answer (h audit))
 
-  pub judged : (verdict : Result Valid Refusal) → IsVerdict a b verdict → IsOutcome Check a b (reported Judged verdict)
-  judged verdict h = (h.0, h.1, h.2, h.3, (verdict, h.4, refl))
+  pub judged : (objects : ℕ) (verdict : Result Valid Refusal) → IsVerdict objects a b verdict → IsOutcome (Check objects) a b (reported Judged verdict)
+  judged objects verdict h = (h.0, h.1, h.2, h.3, (verdict, h.4, refl))
 
-  pub completed : (found : Result Found Refusal) → IsFoundIn a found → IsOutcome Hall a b (reported Completed found)
-  completed found h = (h.0, known b, h.1, are_known b, (found, h.2, refl))
+  pub completed : (objects : ℕ) (found : Result Found Refusal) → IsFoundIn objects a found → IsOutcome (Hall objects) a b (reported Completed found)
+  completed objects found h = (h.0, known b, h.1, are_known b, (found, h.2, refl))
 
   pub replied : (replies : Result (List (Reply ℤ)) Refusal) → AreReplies a replies → IsOutcome Mail a b (reported Replied replies)
   replied replies h = (h.0, known b, h.1, are_known b, (replies, h.2, refl))

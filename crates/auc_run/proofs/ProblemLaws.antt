@@ -30,12 +30,12 @@ many None new text n c le = (text, tt, le)
 many (Some xs) None text n c le = absurd c
 many (Some xs) (Some ys) text n c le = (xs, refl, omega (arith, ap length c, length-append text ys, le))
 
-module _ (limits : ReadLimits) (old new : Option (List ℕ)) (text : List ℕ) (arcs_is : limits.arcs ≡ MOST_ARCS) (reads_is : limits.reads ≡ MOST_READS) (objects_is : limits.objects ≡ 0) (taken : Consumes old new text) where
+module _ (limits : ReadLimits) (old new : Option (List ℕ)) (text : List ℕ) (arcs_is : limits.arcs ≡ MOST_ARCS) (reads_is : limits.reads ≡ MOST_READS) (objects : ℕ) (objects_is : limits.objects ≡ objects) (taken : Consumes old new text) where
   -- at the end the whole file was taken
-  whole : (answer : Result Problem ReadError) → IsAtEnd new × (reading limits.arcs limits.objects text ≡ answer) → (file : List ℕ) × AreKnown old file × (reading MOST_ARCS 0 file ≡ answer)
-  whole answer h = (text, Consumes-whole old new text (λ xs. text ≡ xs) taken h.0 refl, ap (λ (n : ℕ). reading n 0 text) (sym arcs_is) ∙ ap (λ (m : ℕ). reading limits.arcs m text) (sym objects_is) ∙ h.1)
+  whole : (answer : Result Problem ReadError) → IsAtEnd new × (reading limits.arcs limits.objects text ≡ answer) → (file : List ℕ) × AreKnown old file × (reading MOST_ARCS objects file ≡ answer)
+  whole answer h = (text, Consumes-whole old new text (λ xs. text ≡ xs) taken h.0 refl, ap (λ (n : ℕ). reading n objects text) (sym arcs_is) ∙ ap (λ (m : ℕ). reading limits.arcs m text) (sym objects_is) ∙ h.1)
 
-  pub read_in : (answer : Result Problem ReadError) → IsRead limits new text answer → (file : List ℕ) × AreKnown old file × ReadsAsProblem file answer
+  pub read_in : (answer : Result Problem ReadError) → IsRead limits new text answer → (file : List ℕ) × AreKnown old file × ReadsAsProblem objects file answer
   read_in (Ok p) h = whole (Ok p) h
   read_in (Err Empty) h = whole (Err Empty) h
   read_in (Err (BadNumber token)) h = whole (Err (BadNumber token)) h
@@ -51,6 +51,6 @@ module _ (limits : ReadLimits) (old new : Option (List ℕ)) (text : List ℕ) (
   read_in (Err TooManyReads) h = many old new text MOST_READS taken (omega (arith, h, reads_is))
 
 -- a refusal that is this fault
-pub refused_in : (reader : Option (List ℕ)) (r : Result Problem Refusal) (e : ReadError) → IsErrAnd r (λ x. x ≡ NoProblem e) → (file : List ℕ) × AreKnown reader file × ReadsAsProblem file (Err e) → IsProblemIn reader r
-refused_in reader (Ok x) e p h = absurd p
-refused_in reader (Err x) e p h = subst (λ (y : Refusal). IsProblemIn reader (Err y)) (sym p) h
+pub refused_in : (objects : ℕ) (reader : Option (List ℕ)) (r : Result Problem Refusal) (e : ReadError) → IsErrAnd r (λ x. x ≡ NoProblem e) → (file : List ℕ) × AreKnown reader file × ReadsAsProblem objects file (Err e) → IsProblemIn objects reader r
+refused_in objects reader (Ok x) e p h = absurd p
+refused_in objects reader (Err x) e p h = subst (λ (y : Refusal). IsProblemIn objects reader (Err y)) (sym p) h

@@ -4,30 +4,31 @@ use Rattle.std.specs.Prelude.{IsErrAnd}
 use Rattle.auc_graph.specs.Problem.{Problem}
 use Rattle.auc_run.specs.declared.input.ReadFault.{ReadFault}
 use Rattle.auc_run.specs.declared.refusal.Refusal.{Refusal}
-use Rattle.auc_run.specs.declared.refusal.Refusal.TheVariants.{NotRead, NoProblem, NoCertificate, Invalid, NoScript, NoMemory as NoMemoryForJob, NoThreads}
+use Rattle.auc_run.specs.declared.refusal.Refusal.TheVariants.{NotRead, NoProblem, NoCertificate, Invalid, NoStart, NoScript, NoMemory as NoMemoryForJob, NoThreads}
 use Rattle.auc_run.specs.declared.valid.Valid.{Valid}
 use Rattle.auc_run.specs.Verdicts.{IsVerdict}
 use Rattle.auc_run.specs.Problems.{IsProblemIn}
 use Rattle.auc_run.proofs.ProblemLaws.{known, are_known}
 
 -- a verdict that is an error
-turned : (a b : Option (List ℕ)) (r : Result Valid Refusal) (e : Refusal) → IsErrAnd r (λ x. x ≡ e) → IsVerdict a b (Err e) → IsVerdict a b r
-turned a b (Ok z) e p v = absurd p
-turned a b (Err x) e p v = subst (λ (y : Refusal). IsVerdict a b (Err y)) (sym p) v
+turned : (objects : ℕ) (a b : Option (List ℕ)) (r : Result Valid Refusal) (e : Refusal) → IsErrAnd r (λ x. x ≡ e) → IsVerdict objects a b (Err e) → IsVerdict objects a b r
+turned objects a b (Ok z) e p v = absurd p
+turned objects a b (Err x) e p v = subst (λ (y : Refusal). IsVerdict objects a b (Err y)) (sym p) v
 
 -- the problem was read, and the certificate was not
-pub input_fails : (a b : Option (List ℕ)) (r : Result Valid Refusal) (problem : Problem) (e : ReadFault) → IsProblemIn a (Ok problem) → IsErrAnd r (λ x. x ≡ NotRead e) → IsVerdict a b r
-input_fails a b r problem e h p = turned a b r (NotRead e) p (h.0, known b, h.1, are_known b, (problem, h.2))
+pub input_fails : (objects : ℕ) (a b : Option (List ℕ)) (r : Result Valid Refusal) (problem : Problem) (e : ReadFault) → IsProblemIn objects a (Ok problem) → IsErrAnd r (λ x. x ≡ NotRead e) → IsVerdict objects a b r
+input_fails objects a b r problem e h p = turned objects a b r (NotRead e) p (h.0, known b, h.1, are_known b, (problem, h.2))
 
 -- no problem was read, and the certificate was left unread
-not_read : (a b : Option (List ℕ)) (e : Refusal) → IsProblemIn a (Err e) → e ≢ NoMemoryForJob → IsVerdict a b (Err e)
-not_read a b (NotRead fault) h other = absurd h.2
-not_read a b (NoProblem error) h other = (h.0, known b, h.1, are_known b, h.2)
-not_read a b (NoCertificate error) h other = absurd h.2
-not_read a b (Invalid error) h other = absurd h.2
-not_read a b (NoScript error) h other = absurd h.2
-not_read a b NoMemoryForJob h other = absurd (other refl)
-not_read a b NoThreads h other = absurd h.2
+not_read : (objects : ℕ) (a b : Option (List ℕ)) (e : Refusal) → IsProblemIn objects a (Err e) → e ≢ NoMemoryForJob → IsVerdict objects a b (Err e)
+not_read objects a b (NotRead fault) h other = absurd h.2
+not_read objects a b (NoProblem error) h other = (h.0, known b, h.1, are_known b, h.2)
+not_read objects a b (NoCertificate error) h other = absurd h.2
+not_read objects a b (Invalid error) h other = absurd h.2
+not_read objects a b (NoStart error) h other = absurd h.2
+not_read objects a b (NoScript error) h other = absurd h.2
+not_read objects a b NoMemoryForJob h other = absurd (other refl)
+not_read objects a b NoThreads h other = absurd h.2
 
-pub not_judged : (a b : Option (List ℕ)) (r : Result Valid Refusal) (e : Refusal) → IsProblemIn a (Err e) → e ≢ NoMemoryForJob → IsErrAnd r (λ x. x ≡ e) → IsVerdict a b r
-not_judged a b r e h other p = turned a b r e p (not_read a b e h other)
+pub not_judged : (objects : ℕ) (a b : Option (List ℕ)) (r : Result Valid Refusal) (e : Refusal) → IsProblemIn objects a (Err e) → e ≢ NoMemoryForJob → IsErrAnd r (λ x. x ≡ e) → IsVerdict objects a b r
+not_judged objects a b r e h other p = turned objects a b r e p (not_read objects a b e h other)

@@ -17,13 +17,13 @@ IsFound p (Full choice) = IsAssignment p (chosen 0 choice)
 IsFound p (Hall cert) = IsHallCertificate p cert
 
 -- the bytes of a problem bear out what was found, or the refusal
-abbrev pub BearOutFound : List ℕ → Result Found Refusal → Type 0
-BearOutFound file (Ok found) = (p : Problem) × IsProblemOf file p × IsFound p found
-BearOutFound file (Err refusal) = BearOutRefusal file refusal
+abbrev pub BearOutFound : ℕ → List ℕ → Result Found Refusal → Type 0
+BearOutFound objects file (Ok found) = (p : Problem) × IsProblemOf objects file p × IsFound p found
+BearOutFound objects file (Err refusal) = BearOutRefusal objects file refusal
 
 -- what was found in the problem that a reader has
-abbrev pub IsFoundIn : Option (List ℕ) → Result Found Refusal → Type 0
-IsFoundIn reader found = (file : List ℕ) × AreKnown reader file × BearOutFound file found
+abbrev pub IsFoundIn : ℕ → Option (List ℕ) → Result Found Refusal → Type 0
+IsFoundIn objects reader found = (file : List ℕ) × AreKnown reader file × BearOutFound objects file found
 
 -- no more picks than a problem can have persons
 abbrev pub IsSmall : Found → Type 0

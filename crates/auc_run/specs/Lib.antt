@@ -6,6 +6,7 @@ pub mod Refusals
 pub mod Problems
 pub mod Completions
 pub mod Solutions
+pub mod Starts
 pub mod Reports
 pub mod Jobs
 pub mod Said

@@ -5,12 +5,14 @@ use Rattle.auc_graph.specs.declared.read_error.ReadError.{ReadError}
 use Rattle.auc_graph.specs.declared.read_error.ReadError.TheVariants.{Empty, BadNumber, CountRange, TooManyArcs, PersonRange, ObjectRange, CostRange, Cut, NoMemory, ReadFault, TooManyReads, TooFewObjects}
 use Rattle.auc_cert.specs.declared.refused.CertRefused.{CertRefused}
 use Rattle.auc_cert.specs.declared.refused.CertRefused.TheVariants.{WrongSize, NoSuchArc, ObjectTwice, WrongCost, Slack, LeftOver, NotHall, WrongBound, NoMemory as NoMemoryToCheck}
+use Rattle.auc_cert.specs.declared.start_error.StartError.{StartError}
+use Rattle.auc_cert.specs.declared.start_error.StartError.TheVariants.{NotSquare, NoPrices, OtherSize, TooHigh, NoMemory as NoMemoryToStart}
 use Rattle.auc_cert.specs.declared.text_error.CertTextError.{CertTextError}
 use Rattle.auc_cert.specs.declared.text_error.CertTextError.TheVariants.{Line, NoMemory as NoMemoryForText}
 use Rattle.auc_run.specs.declared.input.ReadFault.{ReadFault as InputFault}
 use Rattle.auc_run.specs.declared.input.ReadFault.TheVariants.{Failed, TooManyReads as TooManyInputReads, NoMemory as NoMemoryToRead}
 use Rattle.auc_run.specs.declared.refusal.Refusal.{Refusal}
-use Rattle.auc_run.specs.declared.refusal.Refusal.TheVariants.{NotRead, NoProblem, NoCertificate, Invalid, NoScript, NoMemory as NoMemoryForJob, NoThreads}
+use Rattle.auc_run.specs.declared.refusal.Refusal.TheVariants.{NotRead, NoProblem, NoCertificate, Invalid, NoStart, NoScript, NoMemory as NoMemoryForJob, NoThreads}
 use Rattle.auc_run.specs.declared.valid.Valid.{Valid}
 use Rattle.auc_run.specs.declared.valid.Valid.TheVariants.{Optimal, Bracket, Infeasible}
 use Rattle.auc_run.specs.declared.script_error.ScriptError.{ScriptError}
@@ -57,6 +59,13 @@ claim_line NotHall = codes "invalid hall\n"
 claim_line WrongBound = codes "invalid bound\n"
 claim_line NoMemoryToCheck = codes "refused memory\n"
 
+abbrev pub start_line : StartError → List ℕ
+start_line NotSquare = codes "refused start\n"
+start_line NoPrices = codes "refused start\n"
+start_line OtherSize = codes "refused start\n"
+start_line (TooHigh object) = codes "refused start\n"
+start_line NoMemoryToStart = codes "refused memory\n"
+
 -- tokens are written from 1 on
 abbrev pub script_line : ScriptError → List ℕ
 script_line (Word token) = counted (codes "refused word ") (token + 1)
@@ -70,6 +79,7 @@ refusal_line (NotRead fault) = input_line fault
 refusal_line (NoProblem error) = problem_line error
 refusal_line (NoCertificate error) = certificate_line error
 refusal_line (Invalid error) = claim_line error
+refusal_line (NoStart error) = start_line error
 refusal_line (NoScript error) = script_line error
 refusal_line NoMemoryForJob = codes "refused memory\n"
 refusal_line NoThreads = codes "refused threads\n"

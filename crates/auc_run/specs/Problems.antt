@@ -6,39 +6,40 @@ use Rattle.auc_graph.specs.declared.read_error.ReadError.TheVariants.{NoMemory, 
 use Rattle.auc_graph.specs.Problem.{Problem}
 use Rattle.auc_graph.specs.Reading.{reading}
 use Rattle.auc_run.specs.declared.refusal.Refusal.{Refusal}
-use Rattle.auc_run.specs.declared.refusal.Refusal.TheVariants.{NotRead, NoProblem, NoCertificate, Invalid, NoScript, NoMemory as NoMemoryForJob, NoThreads}
+use Rattle.auc_run.specs.declared.refusal.Refusal.TheVariants.{NotRead, NoProblem, NoCertificate, Invalid, NoStart, NoScript, NoMemory as NoMemoryForJob, NoThreads}
 
--- A file reads as this problem, with as many objects as persons, or by this first fault as none. Of a read that failed, and of want of memory, nothing is known; too many reads
+-- A file reads as this problem, with so many objects, where 0 stands for as many as persons, or by this first fault as none. Of a read that failed, and of want of memory, nothing is known; too many reads
 -- have each taken a byte.
-abbrev pub ReadsAsProblem : List ℕ → Result Problem ReadError → Type 0
-ReadsAsProblem file (Err NoMemory) = ⊤
-ReadsAsProblem file (Err ReadFault) = ⊤
-ReadsAsProblem file (Err TooManyReads) = MOST_READS ≤ length file
-ReadsAsProblem file answer = reading MOST_ARCS 0 file ≡ answer
+abbrev pub ReadsAsProblem : ℕ → List ℕ → Result Problem ReadError → Type 0
+ReadsAsProblem objects file (Err NoMemory) = ⊤
+ReadsAsProblem objects file (Err ReadFault) = ⊤
+ReadsAsProblem objects file (Err TooManyReads) = MOST_READS ≤ length file
+ReadsAsProblem objects file answer = reading MOST_ARCS objects file ≡ answer
 
 -- the problem that a file reads as
-abbrev pub IsProblemOf : List ℕ → Problem → Type 0
-IsProblemOf file p = ReadsAsProblem file (Ok p)
+abbrev pub IsProblemOf : ℕ → List ℕ → Problem → Type 0
+IsProblemOf objects file p = ReadsAsProblem objects file (Ok p)
 
 -- the bytes are these, where they are known
 abbrev pub AreKnown : Option (List ℕ) → List ℕ → Type 0
 AreKnown known bytes = IfSome known (λ xs. bytes ≡ xs)
 
 -- The bytes of a problem bear out the refusal of a job that has no other input. Of want of memory behind the reading nothing is known.
-abbrev pub BearOutRefusal : List ℕ → Refusal → Type 0
-BearOutRefusal file (NoProblem error) = ReadsAsProblem file (Err error)
-BearOutRefusal file (NotRead fault) = ⊥
-BearOutRefusal file NoMemoryForJob = ⊤
-BearOutRefusal file NoThreads = ⊥
-BearOutRefusal file (NoCertificate error) = ⊥
-BearOutRefusal file (Invalid error) = ⊥
-BearOutRefusal file (NoScript error) = ⊥
+abbrev pub BearOutRefusal : ℕ → List ℕ → Refusal → Type 0
+BearOutRefusal objects file (NoProblem error) = ReadsAsProblem objects file (Err error)
+BearOutRefusal objects file (NotRead fault) = ⊥
+BearOutRefusal objects file NoMemoryForJob = ⊤
+BearOutRefusal objects file NoThreads = ⊥
+BearOutRefusal objects file (NoCertificate error) = ⊥
+BearOutRefusal objects file (Invalid error) = ⊥
+BearOutRefusal objects file (NoStart error) = ⊥
+BearOutRefusal objects file (NoScript error) = ⊥
 
 -- the bytes are those of this problem, or bear the refusal out
-abbrev pub BearOutProblem : List ℕ → Result Problem Refusal → Type 0
-BearOutProblem file (Ok p) = IsProblemOf file p
-BearOutProblem file (Err refusal) = BearOutRefusal file refusal
+abbrev pub BearOutProblem : ℕ → List ℕ → Result Problem Refusal → Type 0
+BearOutProblem objects file (Ok p) = IsProblemOf objects file p
+BearOutProblem objects file (Err refusal) = BearOutRefusal objects file refusal
 
 -- the problem that a reader has
-abbrev pub IsProblemIn : Option (List ℕ) → Result Problem Refusal → Type 0
-IsProblemIn reader problem = (file : List ℕ) × AreKnown reader file × BearOutProblem file problem
+abbrev pub IsProblemIn : ℕ → Option (List ℕ) → Result Problem Refusal → Type 0
+IsProblemIn objects reader problem = (file : List ℕ) × AreKnown reader file × BearOutProblem objects file problem

@@ -10,7 +10,7 @@ use Rattle.auc_mail.specs.declared.call.Taken.TheVariants.{Letter, Empty, Over}
 use Rattle.auc_mail.specs.declared.call.Reply.{Reply}
 use Rattle.auc_mail.specs.declared.call.Reply.TheVariants.{Posted, Refused, Took, WasOpen}
 use Rattle.auc_run.specs.declared.refusal.Refusal.{Refusal}
-use Rattle.auc_run.specs.declared.refusal.Refusal.TheVariants.{NotRead, NoProblem, NoCertificate, Invalid, NoScript, NoMemory as NoMemoryForJob, NoThreads}
+use Rattle.auc_run.specs.declared.refusal.Refusal.TheVariants.{NotRead, NoProblem, NoCertificate, Invalid, NoStart, NoScript, NoMemory as NoMemoryForJob, NoThreads}
 use Rattle.auc_run.specs.declared.script.Script.{Script}
 use Rattle.auc_run.specs.Lines.{counted}
 use Rattle.auc_run.specs.Script.{ReadsAsScript}
@@ -48,6 +48,7 @@ BearOutReplies file (Err (NotRead fault)) = ⊤
 BearOutReplies file (Err (NoProblem error)) = ⊥
 BearOutReplies file (Err (NoCertificate error)) = ⊥
 BearOutReplies file (Err (Invalid error)) = ⊥
+BearOutReplies file (Err (NoStart error)) = ⊥
 BearOutReplies file (Err NoMemoryForJob) = ⊥
 BearOutReplies file (Err NoThreads) = ⊥
 

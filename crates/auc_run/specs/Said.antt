@@ -14,7 +14,7 @@ use Rattle.auc_run.specs.declared.valid.Valid.{Valid}
 use Rattle.auc_run.specs.Problems.{AreKnown}
 use Rattle.auc_run.specs.Verdicts.{BearOut}
 use Rattle.auc_run.specs.Completions.{BearOutFound}
-use Rattle.auc_run.specs.Solutions.{BearOutSolve}
+use Rattle.auc_run.specs.Starts.{BearOutSolving}
 use Rattle.auc_run.specs.Replies.{BearOutReplies}
 use Rattle.auc_run.specs.Reports.{outcome_text, outcome_status}
 
@@ -26,9 +26,9 @@ reported report (Err refusal) = Err refusal
 -- The bytes of the two inputs bear the outcome of the job out: an answer about the problem, a verdict on the certificate's claim, a full
 -- assignment or the certificate that there is none, or the replies of a run of the mail.
 abbrev pub BearOutJob : Job → List ℕ → List ℕ → Result Report Refusal → Type 0
-BearOutJob (Solve workers bids audit) file cert outcome = (answer : Result Answer Refusal) × BearOutSolve workers bids audit file answer × (outcome ≡ reported Solved answer)
-BearOutJob Check file cert outcome = (verdict : Result Valid Refusal) × BearOut file cert verdict × (outcome ≡ reported Judged verdict)
-BearOutJob Hall file cert outcome = (found : Result Found Refusal) × BearOutFound file found × (outcome ≡ reported Completed found)
+BearOutJob (Solve workers bids audit objects from) file cert outcome = (answer : Result Answer Refusal) × BearOutSolving from objects workers bids audit file cert answer × (outcome ≡ reported Solved answer)
+BearOutJob (Check objects) file cert outcome = (verdict : Result Valid Refusal) × BearOut objects file cert verdict × (outcome ≡ reported Judged verdict)
+BearOutJob (Hall objects) file cert outcome = (found : Result Found Refusal) × BearOutFound objects file found × (outcome ≡ reported Completed found)
 BearOutJob Mail file cert outcome = (replies : Result (List (Reply ℤ)) Refusal) × BearOutReplies file replies × (outcome ≡ reported Replied replies)
 
 -- an outcome of the job on what two readers have; bytes that a reader does not tell are some bytes

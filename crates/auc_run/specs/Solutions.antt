@@ -12,7 +12,7 @@ use Rattle.auc_world.specs.Chain.{IsOfRun}
 use Rattle.auc_threads.specs.declared.phase.PhaseEnd.{PhaseEnd}
 use Rattle.auc_threads.specs.Solved.{IsSolvedBy, IsThreadAnswer}
 use Rattle.auc_run.specs.declared.refusal.Refusal.{Refusal}
-use Rattle.auc_run.specs.declared.refusal.Refusal.TheVariants.{NotRead, NoProblem, NoCertificate, Invalid, NoScript, NoMemory, NoThreads}
+use Rattle.auc_run.specs.declared.refusal.Refusal.TheVariants.{NotRead, NoProblem, NoCertificate, Invalid, NoStart, NoScript, NoMemory, NoThreads}
 use Rattle.auc_run.specs.Problems.{AreKnown, BearOutRefusal, IsProblemOf}
 
 -- the limits of a solve without threads: one shard of each kind, so many bids, and else the usual numbers
@@ -21,37 +21,38 @@ limits_of bids = record { shards = 1; bids = bids; posts = 1000000000000; audit 
 
 -- The bytes of a problem bear an answer out, or the refusal. An answer is a certificate in which the checker finds no fault: of a least assignment, of an
 -- assignment and a bound, or that there is none; and it is that of a run by so many bids. No guard is hit.
-abbrev pub BearOutSolved : ℕ → List ℕ → Result Answer Refusal → Type 0
-BearOutSolved bids file (Ok answer) = (p : Problem) × IsProblemOf file p × IsAnswer p answer × IsOfRun p (limits_of bids) None answer
-BearOutSolved bids file (Err refusal) = BearOutRefusal file refusal
+abbrev pub BearOutSolved : ℕ → ℕ → List ℕ → Result Answer Refusal → Type 0
+BearOutSolved objects bids file (Ok answer) = (p : Problem) × IsProblemOf objects file p × IsAnswer p answer × IsOfRun p (limits_of bids) None answer
+BearOutSolved objects bids file (Err refusal) = BearOutRefusal objects file refusal
 
 -- the limits of a solve with threads: so many shards of each kind, bids, and places in each trail, and else the usual numbers
 abbrev pub thread_limits_of : ℕ → ℕ → ℕ → Limits
 thread_limits_of workers bids audit = record { shards = workers; bids = bids; posts = 1000000000000; audit = audit; nodes = 0 }
 
 -- The same of a solve with threads. An answer is that of its phases, of which the last one decides; it may be a guard that was hit.
-abbrev pub BearOutThreads : ℕ → ℕ → ℕ → List ℕ → Result Answer Refusal → Type 0
-BearOutThreads workers bids audit file (Ok answer) = (p : Problem) × IsProblemOf file p × IsThreadAnswer p answer × ((phases : List PhaseEnd) × IsSolvedBy p (thread_limits_of workers bids audit) None phases answer)
-BearOutThreads workers bids audit file (Err NoThreads) = ⊤
-BearOutThreads workers bids audit file (Err (NotRead fault)) = BearOutRefusal file (NotRead fault)
-BearOutThreads workers bids audit file (Err (NoProblem error)) = BearOutRefusal file (NoProblem error)
-BearOutThreads workers bids audit file (Err (NoCertificate error)) = ⊥
-BearOutThreads workers bids audit file (Err (Invalid error)) = ⊥
-BearOutThreads workers bids audit file (Err (NoScript error)) = ⊥
-BearOutThreads workers bids audit file (Err NoMemory) = BearOutRefusal file NoMemory
+abbrev pub BearOutThreads : ℕ → ℕ → ℕ → ℕ → List ℕ → Result Answer Refusal → Type 0
+BearOutThreads objects workers bids audit file (Ok answer) = (p : Problem) × IsProblemOf objects file p × IsThreadAnswer p answer × ((phases : List PhaseEnd) × IsSolvedBy p (thread_limits_of workers bids audit) None phases answer)
+BearOutThreads objects workers bids audit file (Err NoThreads) = ⊤
+BearOutThreads objects workers bids audit file (Err (NotRead fault)) = BearOutRefusal objects file (NotRead fault)
+BearOutThreads objects workers bids audit file (Err (NoProblem error)) = BearOutRefusal objects file (NoProblem error)
+BearOutThreads objects workers bids audit file (Err (NoCertificate error)) = ⊥
+BearOutThreads objects workers bids audit file (Err (Invalid error)) = ⊥
+BearOutThreads objects workers bids audit file (Err (NoStart error)) = ⊥
+BearOutThreads objects workers bids audit file (Err (NoScript error)) = ⊥
+BearOutThreads objects workers bids audit file (Err NoMemory) = BearOutRefusal objects file NoMemory
 
 -- a solve goes by threads where there are workers
-abbrev pub BearOutSolve : ℕ → ℕ → ℕ → List ℕ → Result Answer Refusal → Type 0
-BearOutSolve zero bids audit file answer = BearOutSolved bids file answer
-BearOutSolve (suc workers) bids audit file answer = BearOutThreads (suc workers) bids audit file answer
+abbrev pub BearOutSolve : ℕ → ℕ → ℕ → ℕ → List ℕ → Result Answer Refusal → Type 0
+BearOutSolve objects zero bids audit file answer = BearOutSolved objects bids file answer
+BearOutSolve objects (suc workers) bids audit file answer = BearOutThreads objects (suc workers) bids audit file answer
 
 -- what was answered in threads about the problem that a reader has
-abbrev pub IsSolvedByThreadsIn : ℕ → ℕ → ℕ → Option (List ℕ) → Result Answer Refusal → Type 0
-IsSolvedByThreadsIn workers bids audit reader answer = (file : List ℕ) × AreKnown reader file × BearOutThreads workers bids audit file answer
+abbrev pub IsSolvedByThreadsIn : ℕ → ℕ → ℕ → ℕ → Option (List ℕ) → Result Answer Refusal → Type 0
+IsSolvedByThreadsIn objects workers bids audit reader answer = (file : List ℕ) × AreKnown reader file × BearOutThreads objects workers bids audit file answer
 
 -- what was answered about the problem that a reader has
-abbrev pub IsSolvedIn : ℕ → Option (List ℕ) → Result Answer Refusal → Type 0
-IsSolvedIn bids reader answer = (file : List ℕ) × AreKnown reader file × BearOutSolved bids file answer
+abbrev pub IsSolvedIn : ℕ → ℕ → Option (List ℕ) → Result Answer Refusal → Type 0
+IsSolvedIn objects bids reader answer = (file : List ℕ) × AreKnown reader file × BearOutSolved objects bids file answer
 
 abbrev pub guard_line : Guard → List ℕ
 guard_line Fell = codes "broken fell\n"

@@ -5,12 +5,14 @@ use Rattle.auc_graph.specs.declared.read_error.ReadError.{ReadError}
 use Rattle.auc_graph.specs.declared.read_error.ReadError.TheVariants.{Empty, BadNumber, CountRange, TooManyArcs, PersonRange, ObjectRange, CostRange, Cut, NoMemory, ReadFault, TooManyReads, TooFewObjects}
 use Rattle.auc_cert.specs.declared.refused.CertRefused.{CertRefused}
 use Rattle.auc_cert.specs.declared.refused.CertRefused.TheVariants.{WrongSize, NoSuchArc, ObjectTwice, WrongCost, Slack, LeftOver, NotHall, WrongBound, NoMemory as NoMemoryToCheck}
+use Rattle.auc_cert.specs.declared.start_error.StartError.{StartError}
+use Rattle.auc_cert.specs.declared.start_error.StartError.TheVariants.{NotSquare, NoPrices, OtherSize, TooHigh, NoMemory as NoMemoryToStart}
 use Rattle.auc_cert.specs.declared.text_error.CertTextError.{CertTextError}
 use Rattle.auc_cert.specs.declared.text_error.CertTextError.TheVariants.{Line, NoMemory as NoMemoryForText}
 use Rattle.auc_run.specs.declared.input.ReadFault.{ReadFault as InputFault}
 use Rattle.auc_run.specs.declared.input.ReadFault.TheVariants.{Failed, TooManyReads as TooManyInputReads, NoMemory as NoMemoryToRead}
 use Rattle.auc_run.specs.declared.refusal.Refusal.{Refusal}
-use Rattle.auc_run.specs.declared.refusal.Refusal.TheVariants.{NotRead, NoProblem, NoCertificate, Invalid, NoScript, NoMemory as NoMemoryForJob, NoThreads}
+use Rattle.auc_run.specs.declared.refusal.Refusal.TheVariants.{NotRead, NoProblem, NoCertificate, Invalid, NoStart, NoScript, NoMemory as NoMemoryForJob, NoThreads}
 use Rattle.auc_run.specs.declared.script_error.ScriptError.{ScriptError}
 use Rattle.auc_run.specs.declared.script_error.ScriptError.TheVariants.{Word, Range, Cut as CutScript, TooManyCalls, NoMemory as NoMemoryForScript}
 
@@ -48,6 +50,13 @@ claim_status NotHall = 3
 claim_status WrongBound = 3
 claim_status NoMemoryToCheck = 6
 
+abbrev pub start_status : StartError → ℕ
+start_status NotSquare = 5
+start_status NoPrices = 5
+start_status OtherSize = 5
+start_status (TooHigh object) = 5
+start_status NoMemoryToStart = 6
+
 abbrev pub script_status : ScriptError → ℕ
 script_status (Word token) = 5
 script_status (Range token) = 5
@@ -60,6 +69,7 @@ refusal_status (NotRead fault) = input_status fault
 refusal_status (NoProblem error) = problem_status error
 refusal_status (NoCertificate error) = certificate_status error
 refusal_status (Invalid error) = claim_status error
+refusal_status (NoStart error) = start_status error
 refusal_status (NoScript error) = script_status error
 refusal_status NoMemoryForJob = 6
 refusal_status NoThreads = 6

@@ -12,7 +12,7 @@ use Rattle.auc_cert.specs.Text.{text}
 use Rattle.auc_cert.specs.CertReading.{IsFirstBadLine}
 use Rattle.auc_cert.specs.Claim.{fault_of, IsAllowed, IsVerdict as IsVerdictOn}
 use Rattle.auc_run.specs.declared.refusal.Refusal.{Refusal}
-use Rattle.auc_run.specs.declared.refusal.Refusal.TheVariants.{NotRead, NoProblem, NoCertificate, Invalid, NoScript, NoMemory as NoMemoryForJob, NoThreads}
+use Rattle.auc_run.specs.declared.refusal.Refusal.TheVariants.{NotRead, NoProblem, NoCertificate, Invalid, NoStart, NoScript, NoMemory as NoMemoryForJob, NoThreads}
 use Rattle.auc_run.specs.declared.valid.Valid.{Valid}
 use Rattle.auc_run.specs.Problems.{AreKnown, IsProblemOf, ReadsAsProblem}
 
@@ -39,22 +39,24 @@ Judges p c (Err (Invalid error)) = IsCheckOf p c (Err error)
 Judges p c (Err (NotRead fault)) = ⊥
 Judges p c (Err (NoProblem error)) = ⊥
 Judges p c (Err (NoCertificate error)) = ⊥
+Judges p c (Err (NoStart error)) = ⊥
 Judges p c (Err (NoScript error)) = ⊥
 Judges p c (Err NoMemoryForJob) = ⊥
 Judges p c (Err NoThreads) = ⊥
 
 -- The bytes of a problem and of a certificate bear a verdict out. Where the certificate could not be read, or memory ran out, nothing is known of it.
-abbrev pub BearOut : List ℕ → List ℕ → Result Valid Refusal → Type 0
-BearOut file cert (Ok valid) = (p : Problem) × (c : CertParts) × IsProblemOf file p × IsClaimOf cert c × Judges p c (Ok valid)
-BearOut file cert (Err (Invalid error)) = (p : Problem) × (c : CertParts) × IsProblemOf file p × IsClaimOf cert c × Judges p c (Err (Invalid error))
-BearOut file cert (Err (NoCertificate (Line k))) = (p : Problem) × IsProblemOf file p × IsFirstBadLine cert k
-BearOut file cert (Err (NoCertificate NoMemoryForText)) = ⊤
-BearOut file cert (Err (NoProblem error)) = ReadsAsProblem file (Err error)
-BearOut file cert (Err (NotRead fault)) = (p : Problem) × IsProblemOf file p
-BearOut file cert (Err (NoScript error)) = ⊥
-BearOut file cert (Err NoMemoryForJob) = ⊥
-BearOut file cert (Err NoThreads) = ⊥
+abbrev pub BearOut : ℕ → List ℕ → List ℕ → Result Valid Refusal → Type 0
+BearOut objects file cert (Ok valid) = (p : Problem) × (c : CertParts) × IsProblemOf objects file p × IsClaimOf cert c × Judges p c (Ok valid)
+BearOut objects file cert (Err (Invalid error)) = (p : Problem) × (c : CertParts) × IsProblemOf objects file p × IsClaimOf cert c × Judges p c (Err (Invalid error))
+BearOut objects file cert (Err (NoCertificate (Line k))) = (p : Problem) × IsProblemOf objects file p × IsFirstBadLine cert k
+BearOut objects file cert (Err (NoCertificate NoMemoryForText)) = ⊤
+BearOut objects file cert (Err (NoProblem error)) = ReadsAsProblem objects file (Err error)
+BearOut objects file cert (Err (NotRead fault)) = (p : Problem) × IsProblemOf objects file p
+BearOut objects file cert (Err (NoStart error)) = ⊥
+BearOut objects file cert (Err (NoScript error)) = ⊥
+BearOut objects file cert (Err NoMemoryForJob) = ⊥
+BearOut objects file cert (Err NoThreads) = ⊥
 
 -- a verdict on what two readers have
-abbrev pub IsVerdict : Option (List ℕ) → Option (List ℕ) → Result Valid Refusal → Type 0
-IsVerdict first second verdict = (file : List ℕ) × (cert : List ℕ) × AreKnown first file × AreKnown second cert × BearOut file cert verdict
+abbrev pub IsVerdict : ℕ → Option (List ℕ) → Option (List ℕ) → Result Valid Refusal → Type 0
+IsVerdict objects first second verdict = (file : List ℕ) × (cert : List ℕ) × AreKnown first file × AreKnown second cert × BearOut objects file cert verdict

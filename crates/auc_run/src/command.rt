@@ -1,10 +1,10 @@
 //! The jobs.
 
-ghost use Rattle.std.specs.Prelude.{◌≡◌, ◌≢◌, ◌≤◌, ℕ, List, Option, IfOk, IfSome, IsErr};
+ghost use Rattle.std.specs.Prelude.{◌≡◌, ◌≢◌, ◌≤◌, false, IfOk, IfSome, IsErr};
 ghost use Rattle.auc_graph.specs.Reading.{reading};
 ghost use Rattle.auc_cert.specs.Spelled.{IsSpelled};
 ghost use Rattle.auc_run.specs.Verdicts.{Judges, IsVerdict, said_by};
-ghost use Rattle.auc_run.specs.Jobs.{IsInRange, IsPlain};
+ghost use Rattle.auc_run.specs.Jobs.{IsInRange, IsPlain, has_second, objects_of, solve_by};
 ghost use Rattle.auc_run.specs.Reports.{IsWritable};
 ghost use Rattle.auc_run.specs.Said.{IsOutcome, Said, SaidInPart};
 
@@ -14,7 +14,7 @@ use crate::mail::replies_of;
 use crate::problem::problem_of;
 use crate::refusal::Refusal;
 use crate::report::{Report, tell};
-use crate::solve::{answer_by_threads, answer_of};
+use crate::solve::{answer_in_threads, answer_plainly};
 use crate::valid::Valid;
 use auc_cert::{Cert, CertParts, check, read_cert};
 use auc_graph::{ArcList, MOST_ARCS, MOST_READS};
@@ -40,15 +40,35 @@ pub enum Job {
         /// How many calls the trail of each mail may note, by which the phases are judged: 0 to 1,000,000, and 0 for no trail. Without
         /// threads there is none.
         audit: u32,
+        /// How many objects the problem has: to 20,000, and 0 for as many as persons.
+        objects: u32,
+        /// Whether it starts from the prices of an old certificate, which the second reader has, see [`auc_cert::start_prices`].
+        from: bool,
     },
     /// Reads a problem from the first reader and a certificate from the second, and says whether what the certificate
     /// claims of the problem holds.
-    Check,
+    Check {
+        /// How many objects the problem has, as for a solve.
+        objects: u32,
+    },
     /// Reads a problem from the first reader, and finds an arc for each person, no object twice, or persons who together
     /// know too few objects.
-    Hall,
+    Hall {
+        /// How many objects the problem has, as for a solve.
+        objects: u32,
+    },
     /// Reads a script from the first reader, makes its calls on a new mail, and tells the replies.
     Mail,
+}
+
+/// The numbers of a solve, as [`Job::Solve`] has them.
+#[derive(Clone, Copy)]
+pub(crate) struct SolveNumbers {
+    pub(crate) workers: u32,
+    pub(crate) bids: u64,
+    pub(crate) audit: u32,
+    pub(crate) objects: u32,
+    pub(crate) from: bool,
 }
 
 /// What a certificate says, if its claim holds.
@@ -85,11 +105,13 @@ fn verdict_of<R: Read, Q: Read>(
     alloc: Global,
     reader: &mut R,
     second: &mut Q,
+    objects: u32,
 ) -> Result<Valid, Refusal>
-    ensures verdict { IsVerdict (R.remaining reader.old) (Q.remaining second.old) result }
-    ensures unread { IfSome (R.remaining reader.old) (λ file. IsErr (reading MOST_ARCS 0 file) → second.new ≡ second.old) }
+    requires { objects ≤ 20000 }
+    ensures verdict { IsVerdict objects (R.remaining reader.old) (Q.remaining second.old) result }
+    ensures unread { IfSome (R.remaining reader.old) (λ file. IsErr (reading MOST_ARCS objects file) → second.new ≡ second.old) }
 {
-    let problem = problem_of(alloc, reader)?;
+    let problem = problem_of(alloc, reader, objects)?;
     let bytes = read_all(alloc, second, MOST_READS)?;
     let cert = read_cert(alloc, bytes.as_slice())?;
     judge(alloc, &problem, &cert)
@@ -106,33 +128,44 @@ fn outcome_of<R: Read, Q: Read>(
     requires plain { IsPlain job.now }
     ensures outcome { IsOutcome job.now (R.remaining reader.old) (Q.remaining second.old) result }
     ensures writable { IfOk result IsWritable }
-    ensures unread { IfSome (R.remaining reader.old) (λ file. IsErr (reading MOST_ARCS 0 file) → second.new ≡ second.old) }
-    ensures alone { job.now ≢ Job.Check → second.new ≡ second.old }
+    ensures unread { IfSome (R.remaining reader.old) (λ file. IsErr (reading MOST_ARCS (objects_of job.now) file) → second.new ≡ second.old) }
+    ensures alone { has_second job.now ≡ false → second.new ≡ second.old }
 {
     match job {
-        Job::Solve { bids, .. } => Ok(Report::Solved(answer_of(alloc, reader, *bids)?)),
-        Job::Check => Ok(Report::Judged(verdict_of(alloc, reader, second)?)),
-        Job::Hall => Ok(Report::Completed(found_of(alloc, reader)?)),
+        Job::Solve {
+            objects,
+            bids,
+            from,
+            ..
+        } => {
+            let answer = answer_plainly(alloc, reader, second, *objects, *bids, *from)?;
+            Ok(Report::Solved(answer))
+        }
+        Job::Check { objects } => {
+            Ok(Report::Judged(verdict_of(alloc, reader, second, *objects)?))
+        }
+        Job::Hall { objects } => Ok(Report::Completed(found_of(alloc, reader, *objects)?)),
         Job::Mail => Ok(Report::Replied(replies_of(alloc, reader)?)),
     }
 }
 
-/// What a solve with threads comes to on what the reader has.
-fn outcome_by_threads<H: Threads + Wait + Sync, R: Read, G: Gate + Sync>(
+/// What a solve with threads comes to on what the readers have.
+fn outcome_by_threads<H: Threads + Wait + Sync, R: Read, Q: Read, G: Gate + Sync>(
     rt: &H,
     alloc: Global,
     reader: &mut R,
-    workers: u32,
-    bids: u64,
-    audit: u32,
+    second: &mut Q,
+    numbers: SolveNumbers,
     gate: &G,
 ) -> Result<Report, Refusal>
-    requires some { 1 ≤ workers }
-    requires range { IsInRange (Job.Solve workers bids audit) }
-    ensures outcome { (second : Option (List ℕ)) → IsOutcome (Job.Solve workers bids audit) (R.remaining reader.old) second result }
+    requires some { 1 ≤ numbers.workers }
+    requires range { IsInRange (solve_by numbers) }
+    ensures outcome { IsOutcome (solve_by numbers) (R.remaining reader.old) (Q.remaining second.old) result }
     ensures writable { IfOk result IsWritable }
+    ensures unread { IfSome (R.remaining reader.old) (λ file. IsErr (reading MOST_ARCS numbers.objects file) → second.new ≡ second.old) }
+    ensures alone { numbers.from ≡ false → second.new ≡ second.old }
 {
-    let answer = answer_by_threads(rt, alloc, reader, workers, bids, audit, gate)?;
+    let answer = answer_in_threads(rt, alloc, reader, second, numbers, gate)?;
     Ok(Report::Solved(answer))
 }
 
@@ -163,9 +196,9 @@ pub fn run_plain<R: Read, Q: Read, W: Write>(
     // Where not all of it could be written, a beginning of such a text was.
     ensures unwritten { result ≡ 8 → SaidInPart job.now (R.remaining reader.old) (Q.remaining second.old) (W.contents writer.old) (W.contents writer.new) }
     // A certificate for what is no problem is left unread.
-    ensures unread { IfSome (R.remaining reader.old) (λ file. IsErr (reading MOST_ARCS 0 file) → second.new ≡ second.old) }
-    // Only a check has a second input.
-    ensures alone { job.now ≢ Job.Check → second.new ≡ second.old }
+    ensures unread { IfSome (R.remaining reader.old) (λ file. IsErr (reading MOST_ARCS (objects_of job.now) file) → second.new ≡ second.old) }
+    // Only a check, and a solve that starts from a certificate, has a second input.
+    ensures alone { has_second job.now ≡ false → second.new ≡ second.old }
 {
     let outcome = outcome_of(alloc, job, reader, second);
     tell(writer, outcome)
@@ -191,18 +224,27 @@ pub fn run_command<H: Threads + Wait + Sync, R: Read, Q: Read, W: Write, G: Gate
     // Where not all of it could be written, a beginning of such a text was.
     ensures unwritten { result ≡ 8 → SaidInPart job.now (R.remaining reader.old) (Q.remaining second.old) (W.contents writer.old) (W.contents writer.new) }
     // A certificate for what is no problem is left unread.
-    ensures unread { IfSome (R.remaining reader.old) (λ file. IsErr (reading MOST_ARCS 0 file) → second.new ≡ second.old) }
-    // Only a check has a second input.
-    ensures alone { job.now ≢ Job.Check → second.new ≡ second.old }
+    ensures unread { IfSome (R.remaining reader.old) (λ file. IsErr (reading MOST_ARCS (objects_of job.now) file) → second.new ≡ second.old) }
+    // Only a check, and a solve that starts from a certificate, has a second input.
+    ensures alone { has_second job.now ≡ false → second.new ≡ second.old }
 {
     if let Job::Solve {
         workers,
         bids,
         audit,
+        objects,
+        from,
     } = *job
     {
         if workers > 0 {
-            let outcome = outcome_by_threads(rt, alloc, reader, workers, bids, audit, gate);
+            let numbers = SolveNumbers {
+                workers,
+                bids,
+                audit,
+                objects,
+                from,
+            };
+            let outcome = outcome_by_threads(rt, alloc, reader, second, numbers, gate);
             return tell(writer, outcome);
         }
     }

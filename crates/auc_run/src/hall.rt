@@ -1,6 +1,6 @@
 //! The job of a hall: a problem is read, and each person gets an arc, or persons are named who know too few objects.
 
-ghost use Rattle.std.specs.Prelude.{◌≡◌, IfOk};
+ghost use Rattle.std.specs.Prelude.{◌≡◌, ◌≤◌, IfOk};
 ghost use Rattle.auc_cert.specs.Spelled.{AreNamed};
 ghost use Rattle.auc_cert.specs.Writing.{Writes};
 ghost use Rattle.auc_run.specs.Completions.{IsFound, IsFoundIn, IsSmall, found_text};
@@ -45,12 +45,17 @@ fn found_in(alloc: Global, problem: &ArcList) -> Result<Found, AllocError>
     }
 }
 
-/// What is found in the problem that the reader has.
-pub(crate) fn found_of<R: Read>(alloc: Global, reader: &mut R) -> Result<Found, Refusal>
-    ensures found { IsFoundIn (R.remaining reader.old) result }
+/// What is found in the problem that the reader has, with so many objects.
+pub(crate) fn found_of<R: Read>(
+    alloc: Global,
+    reader: &mut R,
+    objects: u32,
+) -> Result<Found, Refusal>
+    requires { objects ≤ 20000 }
+    ensures found { IsFoundIn objects (R.remaining reader.old) result }
     ensures small { IfOk result IsSmall }
 {
-    let problem = problem_of(alloc, reader)?;
+    let problem = problem_of(alloc, reader, objects)?;
     let found = found_in(alloc, &problem)?;
     Ok(found)
 }

@@ -21,6 +21,7 @@ mod script;
 mod script_error;
 mod script_reading;
 mod solve;
+mod start;
 pub mod status;
 mod valid;
 

@@ -3,13 +3,15 @@
 ghost use Rattle.std.specs.Prelude.{◌+◌};
 ghost use Rattle.auc_cert.specs.Writing.{Writes};
 ghost use Rattle.auc_run.specs.declared.valid.Valid.TheVariants.{Optimal, Bracket, Infeasible};
-ghost use Rattle.auc_run.specs.Lines.{counted, input_line, problem_line, certificate_line, claim_line, script_line, refusal_line, valid_line};
+ghost use Rattle.auc_run.specs.Lines.{counted, input_line, problem_line, certificate_line, claim_line, start_line, script_line, refusal_line, valid_line};
 
 use crate::input::ReadFault;
 use crate::refusal::Refusal;
 use crate::script_error::ScriptError;
 use crate::valid::Valid;
-use auc_cert::{CertRefused, CertTextError, Part, WriteFault, write_parts, write_whole};
+use auc_cert::{
+    CertRefused, CertTextError, Part, StartError, WriteFault, write_parts, write_whole,
+};
 use auc_graph::ReadError;
 use std::io::Write;
 
@@ -139,6 +141,18 @@ fn write_claim<W: Write>(writer: &mut W, error: CertRefused) -> Result<(), Write
     }
 }
 
+fn write_start<W: Write>(writer: &mut W, error: StartError) -> Result<(), WriteFault>
+    ensures { Writes result (W.contents writer.old) (W.contents writer.new) (start_line error) }
+{
+    match error {
+        StartError::NotSquare
+        | StartError::NoPrices
+        | StartError::OtherSize
+        | StartError::TooHigh { .. } => write_whole(writer, b"refused start\n"),
+        StartError::NoMemory => write_whole(writer, b"refused memory\n"),
+    }
+}
+
 fn write_script<W: Write>(writer: &mut W, error: ScriptError) -> Result<(), WriteFault>
     ensures { Writes result (W.contents writer.old) (W.contents writer.new) (script_line error) }
 {
@@ -160,6 +174,7 @@ pub(crate) fn write_refusal<W: Write>(writer: &mut W, refusal: Refusal) -> Resul
         Refusal::NoProblem(error) => write_problem(writer, error),
         Refusal::NoCertificate(error) => write_certificate(writer, error),
         Refusal::Invalid(error) => write_claim(writer, error),
+        Refusal::NoStart(error) => write_start(writer, error),
         Refusal::NoScript(error) => write_script(writer, error),
         Refusal::NoMemory => write_whole(writer, b"refused memory\n"),
         Refusal::NoThreads => write_whole(writer, b"refused threads\n"),

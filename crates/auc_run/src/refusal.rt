@@ -1,12 +1,12 @@
 //! Why a job was refused.
 
 ghost use Rattle.std.specs.Prelude.{◌≡◌};
-ghost use Rattle.auc_run.specs.declared.refusal.Refusal.TheVariants.{NotRead, NoProblem, NoCertificate, Invalid, NoScript, NoMemory, NoThreads};
+ghost use Rattle.auc_run.specs.declared.refusal.Refusal.TheVariants.{NotRead, NoProblem, NoCertificate, Invalid, NoStart, NoScript, NoMemory, NoThreads};
 ghost use Rattle.auc_run.specs.Refusals.{refusal_of_run};
 
 use crate::input::ReadFault;
 use crate::script_error::ScriptError;
-use auc_cert::{CertRefused, CertTextError};
+use auc_cert::{CertRefused, CertTextError, StartError};
 use auc_graph::ReadError;
 use auc_threads::RunError;
 use std::alloc::AllocError;
@@ -22,6 +22,8 @@ pub enum Refusal {
     NoCertificate(CertTextError),
     /// What the certificate claims does not hold of the problem.
     Invalid(CertRefused),
+    /// The certificate has no prices from which the problem can be solved.
+    NoStart(StartError),
     /// The input is no script.
     NoScript(ScriptError),
     /// Memory ran out, when the inputs had been read.
@@ -59,6 +61,14 @@ impl From<CertRefused> for Refusal {
 
     fn from(error: CertRefused) -> Refusal {
         Refusal::Invalid(error)
+    }
+}
+
+impl From<StartError> for Refusal {
+    ghost from_gives = { λ error r. r ≡ NoStart error };
+
+    fn from(error: StartError) -> Refusal {
+        Refusal::NoStart(error)
     }
 }
 

@@ -19,7 +19,7 @@ use crate::status::{
     VALID,
 };
 use crate::valid::Valid;
-use auc_cert::{CertRefused, CertTextError, WriteFault};
+use auc_cert::{CertRefused, CertTextError, StartError, WriteFault};
 use auc_graph::ReadError;
 use auc_world::Answer;
 use std::io::Write;
@@ -77,6 +77,7 @@ fn status_of_refusal(refusal: Refusal) -> u8
         | Refusal::NoProblem(ReadError::NoMemory)
         | Refusal::NoCertificate(CertTextError::NoMemory)
         | Refusal::Invalid(CertRefused::NoMemory)
+        | Refusal::NoStart(StartError::NoMemory)
         | Refusal::NoScript(ScriptError::NoMemory)
         | Refusal::NoMemory
         | Refusal::NoThreads => NO_MEMORY,
@@ -84,6 +85,7 @@ fn status_of_refusal(refusal: Refusal) -> u8
         Refusal::NotRead(_)
         | Refusal::NoProblem(_)
         | Refusal::NoCertificate(_)
+        | Refusal::NoStart(_)
         | Refusal::NoScript(_) => REFUSED,
     }
 }

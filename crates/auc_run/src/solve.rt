@@ -1,29 +1,37 @@
 //! The job of a solve: a problem is read, and a least-cost assignment is found, persons who together know too few objects, or an
 //! assignment and a bound.
 
-ghost use Rattle.std.specs.Prelude.{◌≤◌};
+ghost use Rattle.std.specs.Prelude.{◌≡◌, ◌≤◌, ℕ, false, IfSome, IsErr};
 ghost use Rattle.auc_cert.specs.Writing.{Writes};
-ghost use Rattle.auc_run.specs.Solutions.{IsSolvedByThreadsIn, IsSolvedIn, answer_text, guard_line};
+ghost use Rattle.auc_graph.specs.Reading.{reading};
+ghost use Rattle.auc_run.specs.Jobs.{IsInRange, solve_by};
+ghost use Rattle.auc_run.specs.Solutions.{IsSolvedByThreadsIn, IsSolvedIn, answer_text, guard_line, thread_limits_of};
+ghost use Rattle.auc_run.specs.Starts.{IsSolvedFromIn, IsSolvingIn};
 
+use crate::command::SolveNumbers;
 use crate::problem::problem_of;
 use crate::refusal::Refusal;
+use crate::start::started_of;
 use auc_cert::{WriteFault, write_cert, write_whole};
-use auc_threads::{Gate, solve_threads};
-use auc_world::{Answer, Guard, Limits, solve_serial};
+use auc_graph::MOST_ARCS;
+use auc_threads::{Gate, solve_threads, solve_threads_from};
+use auc_world::{Answer, Guard, Limits, solve_serial, solve_serial_from};
 use std::alloc::Global;
 use std::io::{Read, Write};
 use std::sync::Wait;
 use std::thread::Threads;
 
-/// What the solver answers about the problem that the reader has, with so many bids for each shard of the persons in a phase.
-pub(crate) fn answer_of<R: Read>(
+/// What the solver answers about the problem that the reader has, from nothing.
+fn answer_of<R: Read>(
     alloc: Global,
     reader: &mut R,
+    objects: u32,
     bids: u64,
 ) -> Result<Answer, Refusal>
-    ensures { IsSolvedIn bids (R.remaining reader.old) result }
+    requires { objects ≤ 20000 }
+    ensures { IsSolvedIn objects bids (R.remaining reader.old) result }
 {
-    let problem = problem_of(alloc, reader)?;
+    let problem = problem_of(alloc, reader, objects)?;
     let limits = Limits {
         bids,
         ..Limits::usual(1)
@@ -32,30 +40,123 @@ pub(crate) fn answer_of<R: Read>(
     Ok(answer)
 }
 
-/// What the solver in threads answers about the problem that the reader has: so many workers for each kind of shard, bids for each shard of the persons
-/// in a phase, and places in the trail of each mail.
-pub(crate) fn answer_by_threads<H: Threads + Wait + Sync, R: Read, G: Gate + Sync>(
-    rt: &H,
+/// What the solver answers about the first reader's problem, from the prices of the second one's certificate.
+fn answer_from<R: Read, Q: Read>(
     alloc: Global,
     reader: &mut R,
-    workers: u32,
+    second: &mut Q,
+    objects: u32,
     bids: u64,
-    audit: u32,
-    gate: &G,
 ) -> Result<Answer, Refusal>
-    requires some { 1 ≤ workers }
-    requires few { workers ≤ 16 }
-    requires audit { audit ≤ 1000000 }
-    ensures { IsSolvedByThreadsIn workers bids audit (R.remaining reader.old) result }
+    requires { objects ≤ 20000 }
+    ensures from { (audit : ℕ) → IsSolvedFromIn objects 0 bids audit (R.remaining reader.old) (Q.remaining second.old) result }
+    ensures unread { IfSome (R.remaining reader.old) (λ file. IsErr (reading MOST_ARCS objects file) → second.new ≡ second.old) }
 {
-    let problem = problem_of(alloc, reader)?;
+    let started = started_of(alloc, reader, second, objects)?;
     let limits = Limits {
+        bids,
+        ..Limits::usual(1)
+    };
+    let prices = started.prices.as_slice();
+    let answer = solve_serial_from(alloc, &started.problem, &limits, prices)?;
+    Ok(answer)
+}
+
+/// What the solver answers about the first reader's problem: with so many objects, where 0 stands for as many as persons, and so many bids for each shard of
+/// the persons in a phase; from nothing, or from the prices of the second reader's certificate.
+pub(crate) fn answer_plainly<R: Read, Q: Read>(
+    alloc: Global,
+    reader: &mut R,
+    second: &mut Q,
+    objects: u32,
+    bids: u64,
+    from: bool,
+) -> Result<Answer, Refusal>
+    requires { objects ≤ 20000 }
+    ensures solving { (audit : ℕ) → IsSolvingIn from objects 0 bids audit (R.remaining reader.old) (Q.remaining second.old) result }
+    ensures unread { IfSome (R.remaining reader.old) (λ file. IsErr (reading MOST_ARCS objects file) → second.new ≡ second.old) }
+    ensures alone { from ≡ false → second.new ≡ second.old }
+{
+    if from {
+        return answer_from(alloc, reader, second, objects, bids);
+    }
+    answer_of(alloc, reader, objects, bids)
+}
+
+/// The limits of a solve with threads.
+fn limits_of(numbers: SolveNumbers) -> Limits
+    ensures { result ≡ thread_limits_of numbers.workers numbers.bids numbers.audit }
+{
+    let SolveNumbers {
+        workers,
+        bids,
+        audit,
+        ..
+    } = numbers;
+    Limits {
         bids,
         audit,
         ..Limits::usual(workers)
-    };
-    let solved = solve_threads(rt, alloc, &problem, &limits, gate)?;
+    }
+}
+
+/// What the solver in threads answers about the problem that the reader has, from nothing.
+fn answer_by_threads<H: Threads + Wait + Sync, R: Read, G: Gate + Sync>(
+    rt: &H,
+    alloc: Global,
+    reader: &mut R,
+    numbers: SolveNumbers,
+    gate: &G,
+) -> Result<Answer, Refusal>
+    requires some { 1 ≤ numbers.workers }
+    requires range { IsInRange (solve_by numbers) }
+    ensures { IsSolvedByThreadsIn numbers.objects numbers.workers numbers.bids numbers.audit (R.remaining reader.old) result }
+{
+    let problem = problem_of(alloc, reader, numbers.objects)?;
+    let solved = solve_threads(rt, alloc, &problem, &limits_of(numbers), gate)?;
     Ok(solved.answer)
+}
+
+/// What the solver in threads answers about the first reader's problem, from the prices of the second one's certificate.
+fn answer_by_threads_from<H: Threads + Wait + Sync, R: Read, Q: Read, G: Gate + Sync>(
+    rt: &H,
+    alloc: Global,
+    reader: &mut R,
+    second: &mut Q,
+    numbers: SolveNumbers,
+    gate: &G,
+) -> Result<Answer, Refusal>
+    requires some { 1 ≤ numbers.workers }
+    requires range { IsInRange (solve_by numbers) }
+    ensures from { IsSolvedFromIn numbers.objects numbers.workers numbers.bids numbers.audit (R.remaining reader.old) (Q.remaining second.old) result }
+    ensures unread { IfSome (R.remaining reader.old) (λ file. IsErr (reading MOST_ARCS numbers.objects file) → second.new ≡ second.old) }
+{
+    let started = started_of(alloc, reader, second, numbers.objects)?;
+    let limits = limits_of(numbers);
+    let prices = started.prices.as_slice();
+    let solved = solve_threads_from(rt, alloc, &started.problem, &limits, prices, gate)?;
+    Ok(solved.answer)
+}
+
+/// What the solver in threads answers about the first reader's problem: from nothing, or from the prices of the second reader's certificate.
+pub(crate) fn answer_in_threads<H: Threads + Wait + Sync, R: Read, Q: Read, G: Gate + Sync>(
+    rt: &H,
+    alloc: Global,
+    reader: &mut R,
+    second: &mut Q,
+    numbers: SolveNumbers,
+    gate: &G,
+) -> Result<Answer, Refusal>
+    requires some { 1 ≤ numbers.workers }
+    requires range { IsInRange (solve_by numbers) }
+    ensures solving { IsSolvingIn numbers.from numbers.objects numbers.workers numbers.bids numbers.audit (R.remaining reader.old) (Q.remaining second.old) result }
+    ensures unread { IfSome (R.remaining reader.old) (λ file. IsErr (reading MOST_ARCS numbers.objects file) → second.new ≡ second.old) }
+    ensures alone { numbers.from ≡ false → second.new ≡ second.old }
+{
+    if numbers.from {
+        return answer_by_threads_from(rt, alloc, reader, second, numbers, gate);
+    }
+    answer_by_threads(rt, alloc, reader, numbers, gate)
 }
 
 /// Writes the line of a guard that was hit.

@@ -1,5 +1,5 @@
 mod AskLaws
+mod CommandFits
 mod GrammarLaws
-mod SolveFits
-mod SolveLaws
+mod WalkLaws
 mod WordLaws

@@ -6,26 +6,26 @@ use Rattle.clap.specs.Simple.{on_top}
 abbrev pub file_rule : Rule
 file_rule = record (new_rule (codes "file")) { required = true }
 
--- `check FILE [CERT]`
-abbrev pub check_grammar : App
-check_grammar = with_rule (with_rule (on_top (λ s. record s { disable_help_flag = true }) (new_app (codes "check"))) file_rule) (new_rule (codes "cert"))
+-- `--NAME VALUE` or `--NAME=VALUE`, at most once
+abbrev pub option_rule : List ℕ → Rule
+option_rule name = record (new_rule name) { long = Some name }
 
--- `hall [FILE]`
+-- `check FILE [CERT] [--objects M]`
+abbrev pub check_grammar : App
+check_grammar = with_rule (with_rule (with_rule (on_top (λ s. record s { disable_help_flag = true }) (new_app (codes "check"))) file_rule) (new_rule (codes "cert"))) (option_rule (codes "objects"))
+
+-- `hall [FILE] [--objects M]`
 abbrev pub hall_grammar : App
-hall_grammar = with_rule (on_top (λ s. record s { disable_help_flag = true }) (new_app (codes "hall"))) (new_rule (codes "file"))
+hall_grammar = with_rule (with_rule (on_top (λ s. record s { disable_help_flag = true }) (new_app (codes "hall"))) (new_rule (codes "file"))) (option_rule (codes "objects"))
 
 -- `mail [SCRIPT]`
 abbrev pub mail_grammar : App
 mail_grammar = with_rule (on_top (λ s. record s { disable_help_flag = true }) (new_app (codes "mail"))) (new_rule (codes "script"))
 
--- `--NAME VALUE` or `--NAME=VALUE`, at most once
-abbrev pub option_rule : List ℕ → Rule
-option_rule name = record (new_rule name) { long = Some name }
-
--- `solve [FILE] [--workers K] [--bids N] [--audit ROOM]`
+-- `solve [FILE] [--workers K] [--bids N] [--audit ROOM] [--objects M] [--from CERT]`
 abbrev pub solve_grammar : App
-solve_grammar = with_rule (with_rule (with_rule (with_rule (on_top (λ s. record s { disable_help_flag = true }) (new_app (codes "solve"))) (new_rule (codes "file")))
-    (option_rule (codes "workers"))) (option_rule (codes "bids"))) (option_rule (codes "audit"))
+solve_grammar = with_rule (with_rule (with_rule (with_rule (with_rule (with_rule (on_top (λ s. record s { disable_help_flag = true }) (new_app (codes "solve"))) (new_rule (codes "file")))
+    (option_rule (codes "workers"))) (option_rule (codes "bids"))) (option_rule (codes "audit"))) (option_rule (codes "objects"))) (option_rule (codes "from"))
 
 -- no help, no version, and a command has to be named
 abbrev pub bare_grammar : App

@@ -8,37 +8,6 @@ ghost use Rattle.auction.specs.Grammar.{check_grammar, hall_grammar, mail_gramma
 use clap::{Arg, Command};
 use std::alloc::{AllocError, Global};
 
-/// `check FILE [CERT]`.
-fn check_command<'a>(alloc: Global) -> Result<Command<'a>, AllocError>
-    ensures shape { IfOk result (λ c. app_of c ≡ check_grammar) }
-    ensures local { IfOk result (λ c. (fields_of c).has_globals ≡ false) }
-{
-    Command::new(alloc, "check")
-        .disable_help_flag(true)
-        .arg(Arg::new(alloc, "file").required(true))?
-        .arg(Arg::new(alloc, "cert"))
-}
-
-/// `hall [FILE]`.
-fn hall_command<'a>(alloc: Global) -> Result<Command<'a>, AllocError>
-    ensures shape { IfOk result (λ c. app_of c ≡ hall_grammar) }
-    ensures local { IfOk result (λ c. (fields_of c).has_globals ≡ false) }
-{
-    Command::new(alloc, "hall")
-        .disable_help_flag(true)
-        .arg(Arg::new(alloc, "file"))
-}
-
-/// `mail [SCRIPT]`.
-fn mail_command<'a>(alloc: Global) -> Result<Command<'a>, AllocError>
-    ensures shape { IfOk result (λ c. app_of c ≡ mail_grammar) }
-    ensures local { IfOk result (λ c. (fields_of c).has_globals ≡ false) }
-{
-    Command::new(alloc, "mail")
-        .disable_help_flag(true)
-        .arg(Arg::new(alloc, "script"))
-}
-
 /// One more option, `--NAME VALUE` or `--NAME=VALUE`.
 fn with_option<'a>(
     alloc: Global,
@@ -51,7 +20,41 @@ fn with_option<'a>(
     command.arg(Arg::new(alloc, name).long(name))
 }
 
-/// `solve [FILE] [--workers K] [--bids N] [--audit ROOM]`. The numbers are read behind the parser, by [`crate::numbers`].
+/// `check FILE [CERT] [--objects M]`.
+fn check_command<'a>(alloc: Global) -> Result<Command<'a>, AllocError>
+    ensures shape { IfOk result (λ c. app_of c ≡ check_grammar) }
+    ensures local { IfOk result (λ c. (fields_of c).has_globals ≡ false) }
+{
+    let of_files = Command::new(alloc, "check")
+        .disable_help_flag(true)
+        .arg(Arg::new(alloc, "file").required(true))?
+        .arg(Arg::new(alloc, "cert"))?;
+    with_option(alloc, of_files, "objects")
+}
+
+/// `hall [FILE] [--objects M]`.
+fn hall_command<'a>(alloc: Global) -> Result<Command<'a>, AllocError>
+    ensures shape { IfOk result (λ c. app_of c ≡ hall_grammar) }
+    ensures local { IfOk result (λ c. (fields_of c).has_globals ≡ false) }
+{
+    let of_file = Command::new(alloc, "hall")
+        .disable_help_flag(true)
+        .arg(Arg::new(alloc, "file"))?;
+    with_option(alloc, of_file, "objects")
+}
+
+/// `mail [SCRIPT]`.
+fn mail_command<'a>(alloc: Global) -> Result<Command<'a>, AllocError>
+    ensures shape { IfOk result (λ c. app_of c ≡ mail_grammar) }
+    ensures local { IfOk result (λ c. (fields_of c).has_globals ≡ false) }
+{
+    Command::new(alloc, "mail")
+        .disable_help_flag(true)
+        .arg(Arg::new(alloc, "script"))
+}
+
+/// `solve [FILE] [--workers K] [--bids N] [--audit ROOM] [--objects M] [--from CERT]`. The numbers are read behind the parser, by
+/// [`crate::numbers`].
 fn solve_command<'a>(alloc: Global) -> Result<Command<'a>, AllocError>
     ensures shape { IfOk result (λ c. app_of c ≡ solve_grammar) }
     ensures local { IfOk result (λ c. (fields_of c).has_globals ≡ false) }
@@ -61,7 +64,9 @@ fn solve_command<'a>(alloc: Global) -> Result<Command<'a>, AllocError>
         .arg(Arg::new(alloc, "file"))?;
     let with_workers = with_option(alloc, of_file, "workers")?;
     let with_bids = with_option(alloc, with_workers, "bids")?;
-    with_option(alloc, with_bids, "audit")
+    let with_audit = with_option(alloc, with_bids, "audit")?;
+    let with_objects = with_option(alloc, with_audit, "objects")?;
+    with_option(alloc, with_objects, "from")
 }
 
 /// No command yet. Words that ask for help or for the version are at fault like others.

@@ -110,7 +110,7 @@ fn status_of(error: WordsError) -> u8
     ensures { result ≡ words_status error }
 {
     match error {
-        WordsError::Usage | WordsError::AuditAlone => USAGE,
+        WordsError::Usage | WordsError::AuditAlone | WordsError::FromObjects => USAGE,
         WordsError::NoMemory => NO_MEMORY,
     }
 }

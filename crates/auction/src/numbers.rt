@@ -1,9 +1,9 @@
-//! The numbers that the options of a solve give.
+//! The numbers that options give.
 
-ghost use Rattle.std.specs.Prelude.{◌≡◌, ℕ, IfErr, IfOk};
+ghost use Rattle.std.specs.Prelude.{◌≡◌, ◌≤◌, ℕ, IfErr, IfOk, codes, is_some};
 ghost use Rattle.clap.specs.Words.{first_value, found_of};
 ghost use Rattle.auc_run.specs.Jobs.{IsInRange};
-ghost use Rattle.auction.specs.Options.{HasNumber, IsNumberIn, IsSolveOf};
+ghost use Rattle.auction.specs.Options.{HasNumber, HasObjects, IsNumberIn, IsSolveOf};
 
 use crate::words_error::WordsError;
 use auc_run::{Job, MOST_BIDS, USUAL_BIDS};
@@ -14,6 +14,9 @@ const MOST_WORKERS: u64 = 16;
 
 /// The most calls that the trail of a mail may note.
 const MOST_AUDIT: u64 = 1_000_000;
+
+/// The most objects that a problem may have.
+const MOST_OBJECTS: u64 = 20_000;
 
 /// The number that a text spells, where it is from `least` to `most`.
 fn number_in(text: &str, least: u64, most: u64) -> Result<u64, WordsError>
@@ -42,7 +45,25 @@ fn number_of(
     }
 }
 
-/// The solve that the options ask for. A number that is wrong is told before a trail without threads.
+/// How many objects the problem is to have; 0, as without the option, stands for as many as persons.
+pub(crate) fn objects_of(matches: &ArgMatches<'_>) -> Result<u32, WordsError>
+    ensures given { IfOk result (HasObjects (first_value (found_of matches.now) (codes "objects"))) }
+    ensures refused { IfErr result (λ e. (e ≡ WordsError.Usage) × ((n : ℕ) → ¬ HasObjects (first_value (found_of matches.now) (codes "objects")) n)) }
+    ensures range { IfOk result (λ n. n ≤ 20000) }
+{
+    let objects = number_of(matches, "objects", 1, MOST_OBJECTS, 0)?;
+    Ok(objects as u32)
+}
+
+/// Whether an option is given.
+fn is_given(matches: &ArgMatches<'_>, id: &str) -> bool
+    ensures { result ≡ is_some (first_value (found_of matches.now) id.now) }
+{
+    matches.get_str(id).is_some()
+}
+
+/// The solve that the options ask for. A number that is wrong is told before a trail without threads, and that before a start with a
+/// number of objects.
 pub(crate) fn solve_of_options(matches: &ArgMatches<'_>) -> Result<Job, WordsError>
     ensures solve { IsSolveOf (λ name. first_value (found_of matches.now) name) result }
     ensures range { IfOk result IsInRange }
@@ -50,12 +71,19 @@ pub(crate) fn solve_of_options(matches: &ArgMatches<'_>) -> Result<Job, WordsErr
     let workers = number_of(matches, "workers", 0, MOST_WORKERS, 0)?;
     let bids = number_of(matches, "bids", 1, MOST_BIDS, USUAL_BIDS)?;
     let audit = number_of(matches, "audit", 0, MOST_AUDIT, 0)?;
+    let objects = objects_of(matches)?;
+    let from = is_given(matches, "from");
     if workers == 0 && audit > 0 {
         return Err(WordsError::AuditAlone);
+    }
+    if from && is_given(matches, "objects") {
+        return Err(WordsError::FromObjects);
     }
     Ok(Job::Solve {
         workers: workers as u32,
         bids,
         audit: audit as u32,
+        objects,
+        from,
     })
 }

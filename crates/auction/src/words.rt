@@ -1,16 +1,17 @@
 //! The words of the command line.
 
-ghost use Rattle.std.specs.Prelude.{◌≡◌, ◌≢◌, ◌<◌, ◌⊎◌, ℕ, List, [], Option, Some, IfOk, IfErr, map, option_map, codes, true};
+ghost use Rattle.std.specs.Prelude.{◌≡◌, ◌≢◌, ◌<◌, ◌⊎◌, ℕ, List, [], Option, Some, None, IfOk, IfErr, map, option_map, codes, is_some, true, false};
 ghost use Rattle.std.specs.String.{string_bytes};
 ghost use Rattle.clap.specs.Words.{Row, fault_of, first_of, first_value, found_of, rows_of, subcommand_of, subcommand_rows_of, takes};
 ghost use Rattle.auc_run.specs.Jobs.{IsInRange};
-ghost use Rattle.auction.specs.CommandLine.{AreCheck, AreJob, AsksFor, AsksToCheck, HasFilesOf, HasNameOf, IsAuditAlone, IsUsage};
+ghost use Rattle.auction.specs.Arguments.{AreCheck, AreCheckOf, AreHallOf, AreJob, AreSolve, value_in};
+ghost use Rattle.auction.specs.CommandLine.{AsksFor, IsAuditAlone, IsFromObjects, IsUsage};
 ghost use Rattle.auction.specs.Grammar.{grammar};
-ghost use Rattle.auction.specs.Options.{AreNumbers, AreSolve, HasSolveOf, value_in};
+ghost use Rattle.auction.specs.Options.{AreNumbers, HasBoth, HasCheckOf, HasHallOf, HasObjects, HasSolveOf};
 
 use crate::asked::Words;
 use crate::grammar::all_commands;
-use crate::numbers::solve_of_options;
+use crate::numbers::{objects_of, solve_of_options};
 use crate::words_error::WordsError;
 use auc_run::Job;
 use clap::ArgMatches;
@@ -41,22 +42,10 @@ fn name_of(alloc: Global, matches: &ArgMatches<'_>, id: &str) -> Result<Option<S
     }
 }
 
-/// A check of the files that are named.
-fn check_of(alloc: Global, matches: &ArgMatches<'_>) -> Result<Words, WordsError>
-    ensures files { HasFilesOf result (rows_of (found_of matches.now)) }
-    ensures range { IfOk result (λ w. IsInRange w.job) }
-{
-    Ok(Words {
-        job: Job::Check,
-        first: name_of(alloc, matches, "file")?,
-        second: name_of(alloc, matches, "cert")?,
-    })
-}
-
 /// A job with one input, the one that this argument names.
 fn job_of(alloc: Global, matches: &ArgMatches<'_>, job: Job, id: &str) -> Result<Words, WordsError>
     requires { IsInRange job }
-    ensures name { HasNameOf job id.now result (rows_of (found_of matches.now)) }
+    ensures names { AsksFor job result (first_of id.now (rows_of (found_of matches.now))) None }
     ensures range { IfOk result (λ w. IsInRange w.job) }
 {
     Ok(Words {
@@ -66,26 +55,63 @@ fn job_of(alloc: Global, matches: &ArgMatches<'_>, job: Job, id: &str) -> Result
     })
 }
 
-/// The solve that the options ask for, of the file that is named.
+/// A job with two inputs, those that these arguments name.
+fn job_of_two(
+    alloc: Global,
+    matches: &ArgMatches<'_>,
+    job: Job,
+    first: &str,
+    second: &str,
+) -> Result<Words, WordsError>
+    requires { IsInRange job }
+    ensures names { AsksFor job result (first_of first.now (rows_of (found_of matches.now))) (first_of second.now (rows_of (found_of matches.now))) }
+    ensures range { IfOk result (λ w. IsInRange w.job) }
+{
+    Ok(Words {
+        job,
+        first: name_of(alloc, matches, first)?,
+        second: name_of(alloc, matches, second)?,
+    })
+}
+
+/// A check of the files that are named.
+fn check_of(alloc: Global, matches: &ArgMatches<'_>) -> Result<Words, WordsError>
+    ensures check { HasCheckOf result (rows_of (found_of matches.now)) }
+    ensures range { IfOk result (λ w. IsInRange w.job) }
+{
+    let objects = objects_of(matches)?;
+    job_of_two(alloc, matches, Job::Check { objects }, "file", "cert")
+}
+
+/// A hall of the file that is named.
+fn hall_of(alloc: Global, matches: &ArgMatches<'_>) -> Result<Words, WordsError>
+    ensures hall { HasHallOf result (rows_of (found_of matches.now)) }
+    ensures range { IfOk result (λ w. IsInRange w.job) }
+{
+    let objects = objects_of(matches)?;
+    job_of(alloc, matches, Job::Hall { objects }, "file")
+}
+
+/// The solve that the options ask for, of the file that is named, from the certificate that is named.
 fn solve_of(alloc: Global, matches: &ArgMatches<'_>) -> Result<Words, WordsError>
     ensures solve { HasSolveOf result (rows_of (found_of matches.now)) }
     ensures range { IfOk result (λ w. IsInRange w.job) }
 {
     let solve = solve_of_options(matches)?;
-    job_of(alloc, matches, solve, "file")
+    job_of_two(alloc, matches, solve, "file", "from")
 }
 
 /// What the command that was found asks for.
 fn words_of(alloc: Global, matches: &ArgMatches<'_>) -> Result<Words, WordsError>
-    ensures check { (rows : List Row) → subcommand_rows_of matches.now ≡ Some (codes "check", rows) → HasFilesOf result rows }
-    ensures hall { (rows : List Row) → subcommand_rows_of matches.now ≡ Some (codes "hall", rows) → HasNameOf Job.Hall (codes "file") result rows }
-    ensures mail { (rows : List Row) → subcommand_rows_of matches.now ≡ Some (codes "mail", rows) → HasNameOf Job.Mail (codes "script") result rows }
+    ensures check { (rows : List Row) → subcommand_rows_of matches.now ≡ Some (codes "check", rows) → HasCheckOf result rows }
+    ensures hall { (rows : List Row) → subcommand_rows_of matches.now ≡ Some (codes "hall", rows) → HasHallOf result rows }
+    ensures mail { (rows : List Row) → subcommand_rows_of matches.now ≡ Some (codes "mail", rows) → AsksFor Job.Mail result (first_of (codes "script") rows) None }
     ensures solve { (rows : List Row) → subcommand_rows_of matches.now ≡ Some (codes "solve", rows) → HasSolveOf result rows }
     ensures range { IfOk result (λ w. IsInRange w.job) }
 {
     match matches.subcommand() {
         Some(("check", matches)) => check_of(alloc, matches),
-        Some(("hall", matches)) => job_of(alloc, matches, Job::Hall, "file"),
+        Some(("hall", matches)) => hall_of(alloc, matches),
         Some(("mail", matches)) => job_of(alloc, matches, Job::Mail, "script"),
         Some(("solve", matches)) => solve_of(alloc, matches),
         _ => Err(WordsError::Usage),
@@ -97,25 +123,39 @@ fn words_of(alloc: Global, matches: &ArgMatches<'_>) -> Result<Words, WordsError
 /// # Errors
 ///
 /// [`WordsError::Usage`] where the words are no job, or a number is out of its range; then [`WordsError::AuditAlone`] where a
-/// solve without threads is to keep a trail.
+/// solve without threads is to keep a trail; then [`WordsError::FromObjects`] where a solve is to start from a certificate and has a number
+/// of objects.
 pub fn read_words(alloc: Global, words: &[String]) -> Result<Words, WordsError>
-    // A check that is asked for is read as that check, unless memory runs out.
-    ensures check { (file : List ℕ) (cert : Option (List ℕ)) → AreCheck (map string_bytes words.now) file cert → AsksToCheck result file cert }
-    // A hall that is asked for is read as that hall, unless memory runs out.
-    ensures hall { (file : Option (List ℕ)) → AreJob (codes "hall") (map string_bytes words.now) file → AsksFor Job.Hall result file }
+    // A check that is asked for without options is read as that check, of as many objects as persons, unless memory runs out.
+    ensures check { (file : List ℕ) (cert : Option (List ℕ)) → AreCheck (map string_bytes words.now) file cert → AsksFor (Job.Check 0) result (Some file) cert }
+    // A check with a number of objects, anywhere among its files, is read as the check with that number, unless memory runs out.
+    ensures check_objects { (given : List (List ℕ × List ℕ)) (objects : ℕ) → AreCheckOf (map string_bytes words.now) given → HasObjects (value_in given (codes "objects")) objects
+        → AsksFor (Job.Check objects) result (value_in given (codes "file")) (value_in given (codes "cert")) }
+    // A hall that is asked for without options is read as that hall, of as many objects as persons, unless memory runs out.
+    ensures hall { (file : Option (List ℕ)) → AreJob (codes "hall") (map string_bytes words.now) file → AsksFor (Job.Hall 0) result file None }
+    // A hall with a number of objects, before or behind its file, is read as the hall with that number, unless memory runs out.
+    ensures hall_objects { (given : List (List ℕ × List ℕ)) (objects : ℕ) → AreHallOf (map string_bytes words.now) given → HasObjects (value_in given (codes "objects")) objects
+        → AsksFor (Job.Hall objects) result (value_in given (codes "file")) None }
     // A mail that is asked for is read as that mail, unless memory runs out.
-    ensures mail { (script : Option (List ℕ)) → AreJob (codes "mail") (map string_bytes words.now) script → AsksFor Job.Mail result script }
-    // A solve that is asked for is read as that solve, with no threads, the usual bids and no trail, unless memory runs out.
-    ensures solve { (file : Option (List ℕ)) → AreJob (codes "solve") (map string_bytes words.now) file → AsksFor (Job.Solve 0 100000000 0) result file }
-    // A solve with options, in any order, is read as the solve with their numbers and the usual ones of the others, unless memory runs out.
-    ensures options { (given : List (List ℕ × List ℕ)) (workers bids audit : ℕ) → AreSolve (map string_bytes words.now) given → AreNumbers (value_in given) workers bids audit
-        → (workers ≡ 0 → audit ≡ 0) → AsksFor (Job.Solve workers bids audit) result (value_in given (codes "file")) }
+    ensures mail { (script : Option (List ℕ)) → AreJob (codes "mail") (map string_bytes words.now) script → AsksFor Job.Mail result script None }
+    // A solve that is asked for without options is read as that solve, with no threads, the usual bids, no trail, as many objects as persons, and from no certificate, unless memory runs out.
+    ensures solve { (file : Option (List ℕ)) → AreJob (codes "solve") (map string_bytes words.now) file → AsksFor (Job.Solve 0 100000000 0 0 false) result file None }
+    // A solve with options, in any order, is read as the solve with their numbers and the usual ones of the others, and from the certificate that they name, unless memory runs out.
+    ensures options { (given : List (List ℕ × List ℕ)) (workers bids audit objects : ℕ) → AreSolve (map string_bytes words.now) given → AreNumbers (value_in given) workers bids audit objects
+        → (workers ≡ 0 → audit ≡ 0) → ¬ HasBoth (value_in given)
+        → AsksFor (Job.Solve workers bids audit objects (is_some (value_in given (codes "from")))) result (value_in given (codes "file")) (value_in given (codes "from")) }
     // An option whose value is no number, or one out of range, is a fault of usage, unless memory runs out.
     ensures wrong_number { (given : List (List ℕ × List ℕ)) → AreSolve (map string_bytes words.now) given
-        → ((workers bids audit : ℕ) → ¬ AreNumbers (value_in given) workers bids audit) → IsUsage result }
+        → ((workers bids audit objects : ℕ) → ¬ AreNumbers (value_in given) workers bids audit objects) → IsUsage result }
+    // So is a number of objects of a check, or of a hall.
+    ensures wrong_objects { (given : List (List ℕ × List ℕ)) → AreCheckOf (map string_bytes words.now) given ⊎ AreHallOf (map string_bytes words.now) given
+        → ((objects : ℕ) → ¬ HasObjects (value_in given (codes "objects")) objects) → IsUsage result }
     // A trail without threads is a fault of its own, unless memory runs out.
-    ensures audit_alone { (given : List (List ℕ × List ℕ)) (bids audit : ℕ) → AreSolve (map string_bytes words.now) given → AreNumbers (value_in given) 0 bids audit → 0 < audit
+    ensures audit_alone { (given : List (List ℕ × List ℕ)) (bids audit objects : ℕ) → AreSolve (map string_bytes words.now) given → AreNumbers (value_in given) 0 bids audit objects → 0 < audit
         → IsAuditAlone result }
+    // Behind it, so is a start from a certificate with a number of objects.
+    ensures from_objects { (given : List (List ℕ × List ℕ)) (workers bids audit objects : ℕ) → AreSolve (map string_bytes words.now) given → AreNumbers (value_in given) workers bids audit objects
+        → (workers ≡ 0 → audit ≡ 0) → HasBoth (value_in given) → IsFromObjects result }
     // Words that the grammar does not take are a fault of usage, unless memory runs out.
     ensures unfit { fault_of grammar (map string_bytes words.now) ≢ [] → IsUsage result }
     // The numbers of the job are those that it may have.

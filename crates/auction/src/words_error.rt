@@ -10,9 +10,9 @@ use thiserror::Error;
 #[derive(Clone, Copy, Debug, PartialEq, Eq, Error)]
 pub enum WordsError {
     /// They are none that the program knows.
-    #[error("usage: auction solve [FILE] [--workers K] [--bids N] [--audit ROOM]
-       auction check FILE [CERT]
-       auction hall [FILE]
+    #[error("usage: auction solve [FILE] [--workers K] [--bids N] [--audit ROOM] [--objects M] [--from CERT]
+       auction check FILE [CERT] [--objects M]
+       auction hall [FILE] [--objects M]
        auction mail [SCRIPT]
 
 solve finds a least-cost assignment of the problem FILE, with prices that show it, or persons who together know too few objects.
@@ -21,12 +21,15 @@ K threads do the work of each kind of shard: 0 to 16; 0, as without --workers, s
 Each shard of the persons makes at most N bids in a phase: 1 to 1000000000000, without --bids 100000000.
 Where they don't do, solve gives an assignment and a bound below which none costs.
 Each mail keeps a trail of at most ROOM calls, by which the phases are judged: 0 to 1000000; 0, as without --audit, keeps none. Trails want threads.
+With --from the prices begin at those of the certificate CERT, of a problem with as many persons, and as many objects; without, at 0.
 
 check says whether the claim of the certificate CERT holds of the problem FILE: a least-cost assignment, or that there is none.
 Without CERT the certificate is read from standard input.
 
 hall finds an arc for each person of the problem FILE, no object twice, or persons who together know too few objects.
 Without FILE the problem is read from standard input.
+
+The problem of a solve, a check or a hall has M objects: 1 to 20000, and no fewer than persons; without --objects as many as persons.
 
 mail makes the calls of SCRIPT on a new mail, and tells the replies.
 Without SCRIPT the script is read from standard input.")]
@@ -37,6 +40,9 @@ Without SCRIPT the script is read from standard input.")]
     /// Memory ran out.
     #[error("auction: out of memory")]
     NoMemory,
+    /// They ask for a start from a certificate, and for a number of objects.
+    #[error("auction: --from CERT goes without --objects M: a solve from old prices has as many objects as persons")]
+    FromObjects,
 }
 
 impl From<AllocError> for WordsError {

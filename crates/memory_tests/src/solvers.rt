@@ -6,13 +6,17 @@ ghost use Rattle.auc_threads.specs.Naming.{AreThreadLimits};
 use crate::marks::refuse_one;
 use crate::problems::{LONG, ONE_OBJECT, THREE, problem_of};
 use auc_book::MOST_ROOM;
-use auc_cert::write_cert;
+use auc_cert::{StartError, read_cert, start_prices, write_cert};
 use auc_graph::Rows;
 use auc_letters::MOST_SHARDS;
 use auc_mail::MOST_NODES;
-use auc_world::{Answer, Limits, World, solve_serial};
+use auc_world::{Answer, Limits, World, solve_serial, solve_serial_from};
 use std::alloc::Global;
 use std::test::*;
+
+/// A certificate of `THREE`.
+pub const OF_THREE: &str =
+    "auction 1\noptimal 3 5\nassign 1 2 1\nassign 2 1 2\nassign 3 3 2\nprice 1 10\nprice 2 17\nprice 3 15\n";
 
 /// The usual limits, with so many shards of each kind and places in each trail.
 pub fn limits_of(shards: u32, audit: u32) -> Result<Limits, Fail>
@@ -55,6 +59,35 @@ fn solves(alloc: Global, text: &str, limits: &Limits) -> Result<bool, Fail>
         Ok(answer) => Ok(text_of(alloc, &answer)?.as_slice() == ample.as_slice()),
         Err(_) => Ok(true),
     }
+}
+
+/// Whether a solve from the prices of a certificate gives the answer that it gives with ample memory, or none.
+fn solves_from(alloc: Global, text: &str, cert: &str, limits: &Limits) -> Result<bool, Fail>
+    requires { AreThreadLimits limits.now }
+{
+    let problem = problem_of(alloc, text)?;
+    let cert = read_cert(alloc, cert.as_bytes())?;
+    let start = start_prices(alloc, &problem, &cert)?;
+    let ample = solve_serial_from(alloc, &problem, limits, start.as_slice())?;
+    let ample = text_of(alloc, &ample)?;
+    let mark = refuse_one(alloc)?;
+    let again = start_prices(alloc, &problem, &cert);
+    let solved = match &again {
+        Ok(again) => Some(solve_serial_from(alloc, &problem, limits, again.as_slice())),
+        Err(_) => None,
+    };
+    drop(mark);
+    match solved {
+        Some(Ok(answer)) => Ok(text_of(alloc, &answer)?.as_slice() == ample.as_slice()),
+        Some(Err(_)) => Ok(true),
+        None => Ok(matches!(again, Err(StartError::NoMemory))),
+    }
+}
+
+#[test]
+fn from_a_start(rt: HostRuntime) -> Result<(), Fail> {
+    assert!(rt; solves_from(rt.alloc(), THREE, OF_THREE, &limits_of(1, 0)?)?);
+    Ok(())
 }
 
 #[test]

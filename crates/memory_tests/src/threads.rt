@@ -2,9 +2,10 @@
 
 use crate::marks::refuse_one;
 use crate::problems::{THREE, problem_of};
-use crate::solvers::{limits_of, text_of};
+use crate::solvers::{OF_THREE, limits_of, text_of};
+use auc_cert::{read_cert, start_prices};
 use auc_graph::Rows;
-use auc_threads::{FreeGate, RunError, phase_threads, solve_threads};
+use auc_threads::{FreeGate, RunError, phase_threads, solve_threads, solve_threads_from};
 use auc_world::End;
 use std::alloc::Global;
 use std::sync::Wait;
@@ -31,6 +32,27 @@ fn solves<R: Threads + Wait + Sync>(rt: &R, alloc: Global, audit: u32) -> Result
 fn solving(rt: HostRuntime) -> Result<(), Fail> {
     assert!(rt; solves(&rt, rt.alloc(), 0)?);
     assert!(rt; solves(&rt, rt.alloc(), 1000)?);
+    Ok(())
+}
+
+/// The same from start prices.
+#[test]
+fn solving_from_a_start(rt: HostRuntime) -> Result<(), Fail> {
+    let alloc = rt.alloc();
+    let problem = problem_of(alloc, THREE)?;
+    let limits = limits_of(2, 0)?;
+    let cert = read_cert(alloc, OF_THREE.as_bytes())?;
+    let start = start_prices(alloc, &problem, &cert)?;
+    let mark = refuse_one(alloc)?;
+    let solved = solve_threads_from(&rt, alloc, &problem, &limits, start.as_slice(), &FreeGate);
+    drop(mark);
+    let is_lawful = match solved {
+        Ok(solved) => text_of(alloc, &solved.answer)?
+            .as_slice()
+            .starts_with(b"auction 1\noptimal 3 5\n"),
+        Err(error) => error == RunError::NoMemory || error == RunError::Spawn,
+    };
+    assert!(rt; is_lawful);
     Ok(())
 }
 

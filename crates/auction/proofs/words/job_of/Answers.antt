@@ -3,5 +3,5 @@ use Rattle.clap.specs.Words.{found_of}
 use Rattle.clap.proofs.WalkLemmas.{first_value-rows}
 use Rattle.auction.proofs.words.job_of.Goals as goal
 
-pub returns-clause-name : goal.returns-clause-name
-returns-clause-name c = (refl, c.in_ok-name_of.ensures ∙ first_value-rows (found_of c.args.matches.now) c.args.id.now, refl)
+pub returns-clause-names : goal.returns-clause-names
+returns-clause-names c = (refl, c.in_ok-name_of.ensures ∙ first_value-rows (found_of c.args.matches.now) c.args.id.now, refl)

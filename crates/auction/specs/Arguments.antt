@@ -1,0 +1,64 @@
+-- How words give the arguments of a command their values.
+use Rattle.std.specs.Prelude.{◌≡◌, ◌≢◌, ◌⊎◌, ℕ, List, [], ◌∷◌, ◌++◌, Option, Some, None, is_some, true, codes, ⊤}
+use Rattle.std.specs.List.{IsDistinct}
+use Rattle.std.specs.Map.{keys_of, lookup}
+use Rattle.std.specs.Str.{bytes_eq}
+
+-- the word is no option: it does not begin with a hyphen
+abbrev pub IsName : List ℕ → Type 0
+IsName [] = ⊤
+IsName (b ∷ bytes) = b ≢ 45
+
+-- the name is one of these
+abbrev pub IsOneOf : List ℕ → List (List ℕ) → Type 0
+IsOneOf name [] = ⊥
+IsOneOf name (first ∷ names) = (name ≡ first) ⊎ IsOneOf name names
+
+-- the words of an option and its value: two words, of which the second begins with no hyphen, or one with an equals sign between them
+abbrev pub AreOption : List ℕ → List ℕ → List (List ℕ) → Type 0
+AreOption option value words = (IsName value × (words ≡ option ∷ value ∷ [])) ⊎ (words ≡ (option ++ codes "=" ++ value) ∷ [])
+
+-- the words give an argument its value: the next of these files its name, and then the others are left; or one of these options its value
+abbrev pub AreArgument : List (List ℕ) → List (List ℕ) → List (List ℕ) → List ℕ × List ℕ → List (List ℕ) → Type 0
+AreArgument options files left given words = ((files ≡ given.0 ∷ left) × IsName given.1 × (words ≡ given.1 ∷ []))
+    ⊎ (IsOneOf given.0 options × AreOption (codes "--" ++ given.0) given.1 words × (files ≡ left))
+
+-- the words give these arguments their values, one behind the other: files in their order, and options anywhere among them
+abbrev pub AreArguments : List (List ℕ) → List (List ℕ) → List (List ℕ × List ℕ) → List (List ℕ) → Type 0
+AreArguments options files [] words = words ≡ []
+AreArguments options files (first ∷ given) words =
+    (left : List (List ℕ)) × (front : List (List ℕ)) × (rest : List (List ℕ)) × AreArgument options files left first front × AreArguments options left given rest × (words ≡ front ++ rest)
+
+-- the words are a command with these options and these files, and give these arguments their values, in this order and none twice
+abbrev pub AreCommand : List ℕ → List (List ℕ) → List (List ℕ) → List (List ℕ) → List (List ℕ × List ℕ) → Type 0
+AreCommand command options files words given = (rest : List (List ℕ)) × (words ≡ command ∷ rest) × AreArguments options files given rest × IsDistinct bytes_eq (keys_of given)
+
+-- the value of an argument, where it is given
+abbrev pub value_in : List (List ℕ × List ℕ) → List ℕ → Option (List ℕ)
+value_in given name = lookup (λ key. bytes_eq key name) given
+
+-- the options of a solve
+abbrev pub solve_options : List (List ℕ)
+solve_options = codes "workers" ∷ codes "bids" ∷ codes "audit" ∷ codes "objects" ∷ codes "from" ∷ []
+
+-- `solve [FILE]` with options
+abbrev pub AreSolve : List (List ℕ) → List (List ℕ × List ℕ) → Type 0
+AreSolve words given = AreCommand (codes "solve") solve_options (codes "file" ∷ []) words given
+
+-- `check FILE [CERT]` with options
+abbrev pub AreCheckOf : List (List ℕ) → List (List ℕ × List ℕ) → Type 0
+AreCheckOf words given = AreCommand (codes "check") (codes "objects" ∷ []) (codes "file" ∷ codes "cert" ∷ []) words given × (is_some (value_in given (codes "file")) ≡ true)
+
+-- `hall [FILE]` with options
+abbrev pub AreHallOf : List (List ℕ) → List (List ℕ × List ℕ) → Type 0
+AreHallOf words given = AreCommand (codes "hall") (codes "objects" ∷ []) (codes "file" ∷ []) words given
+
+-- the words are this command, and may have the name of its input
+abbrev pub AreJob : List ℕ → List (List ℕ) → Option (List ℕ) → Type 0
+AreJob command words None = words ≡ command ∷ []
+AreJob command words (Some name) = IsName name × (words ≡ command ∷ name ∷ [])
+
+-- the words are `check` and the name of a file, and may have the name of a certificate
+abbrev pub AreCheck : List (List ℕ) → List ℕ → Option (List ℕ) → Type 0
+AreCheck words file None = IsName file × (words ≡ codes "check" ∷ file ∷ [])
+AreCheck words file (Some cert) = IsName file × IsName cert × (words ≡ codes "check" ∷ file ∷ cert ∷ [])

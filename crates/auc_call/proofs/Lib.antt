@@ -1,0 +1,5 @@
+mod PlaceLaws
+mod PickLaws
+mod StartLaws
+mod HandLaws
+mod MadeLaws

@@ -1,5 +1,5 @@
 -- What a certificate holds that is handed out.
-use Rattle.std.proofs.Common.{◌≡◌, ◌≤◌, ◌<◌, ℕ, ◌+◌, List, length, take, None, refl, sym, subst, ◌∙◌, arith, All, Contains}
+use Rattle.std.proofs.Common.{◌≡◌, ◌≤◌, ℕ, ◌+◌, List, length, take, None, sym, subst, ◌∙◌, arith, All, Contains}
 use Rattle.std.specs.Prelude.{ℤ}
 use Rattle.auc_graph.specs.declared.arc.Arc.{Arc}
 use Rattle.auc_graph.specs.Problem.{Problem, IsProblem}

@@ -3,3 +3,6 @@ mod PickLaws
 mod StartLaws
 mod HandLaws
 mod MadeLaws
+mod CheckLaws
+mod ToldLaws
+mod ToldChecks

@@ -1,6 +1,6 @@
 -- The problem that a list makes.
 use Rattle.std.proofs.Common.{◌≡◌, ℕ, List, Option, Some, None, ap, ◌∙◌}
-use Rattle.std.specs.Prelude.{Result, Ok, Err}
+use Rattle.std.specs.Prelude.{Result, Ok}
 use Rattle.auc_graph.specs.declared.arc.Arc.{Arc}
 use Rattle.auc_graph.specs.declared.listing_fault.ListFault.{ListFault}
 use Rattle.auc_graph.specs.Problem.{Problem}

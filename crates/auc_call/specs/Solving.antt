@@ -1,5 +1,5 @@
 -- What a solve comes to.
-use Rattle.std.specs.Prelude.{◌≡◌, ℕ, ℤ, List, Some, Result, Ok, Err}
+use Rattle.std.specs.Prelude.{◌≡◌, ℤ, List, Some, Result, Ok, Err}
 use Rattle.auc_graph.specs.Problem.{Problem, IsProblem}
 use Rattle.auc_graph.specs.Listing.{problem_fault}
 use Rattle.auc_call.specs.declared.solved.Solved.{Solved}

@@ -1,5 +1,4 @@
 use Rattle.std.proofs.Common.{◌≡◌, List, refl, sym, subst, ◌∙◌, ap, arith}
-use Rattle.std.specs.Prelude.{ℤ}
 use Rattle.auc_graph.specs.declared.arc.Arc.{Arc}
 use Rattle.auc_graph.specs.Problem.{Problem, IsProblem}
 use Rattle.auc_graph.specs.Listing.{objects_or, problem_from}

@@ -1,5 +1,5 @@
 -- What a status says of a solve.
-use Rattle.std.proofs.Common.{◌≡◌, ℕ, List, Option, Some, refl, sym, ap, subst, arith}
+use Rattle.std.proofs.Common.{◌≡◌, ◌≢◌, ℕ, List, Option, Some, None, refl, sym, ap, subst, arith}
 use Rattle.std.specs.Prelude.{ℤ, pos, unsigned_abs, Result, Ok, Err, Contains}
 use Rattle.auc_graph.specs.declared.listing_fault.ListFault.{ListFault}
 use Rattle.auc_graph.specs.Problem.{Problem}
@@ -31,7 +31,7 @@ solve_known (Err (Start fault)) = (6, omega arith, refl)
 solve_known (Err NoMemory) = (5, omega arith, refl)
 
 pub told_optimal : (p : Problem) (start : List ℤ) (before after : Memory) (r : Result Solved Failed) (old : Found) → Solves p start before after r → solve_status r ≡ pos 0 → IsLeastAt p after.choice after.prices (solve_found r old).cost
-told_optimal p start before after (Ok (Optimal cost)) old h e = h.1.0
+told_optimal p start before after (Ok (Optimal cost)) old h e = h.2.0
 told_optimal p start before after (Ok (Infeasible persons objects)) old h e = absurd (omega (arith, apart 3 0 e))
 told_optimal p start before after (Ok (Bracket reason lower cost)) old h e = absurd (omega (arith, apart 4 0 e))
 told_optimal p start before after (Err Sizes) old h e = absurd (omega (arith, apart 2 0 e))
@@ -41,7 +41,7 @@ told_optimal p start before after (Err NoMemory) old h e = absurd (omega (arith,
 
 pub told_infeasible : (p : Problem) (start : List ℤ) (before after : Memory) (r : Result Solved Failed) (old : Found) → Solves p start before after r → solve_status r ≡ pos 3 → IsHallAt p after.choice after.set (solve_found r old).persons (solve_found r old).objects
 told_infeasible p start before after (Ok (Optimal cost)) old h e = absurd (omega (arith, apart 0 3 e))
-told_infeasible p start before after (Ok (Infeasible persons objects)) old h e = h.1.0
+told_infeasible p start before after (Ok (Infeasible persons objects)) old h e = h.2.0
 told_infeasible p start before after (Ok (Bracket reason lower cost)) old h e = absurd (omega (arith, apart 4 3 e))
 told_infeasible p start before after (Err Sizes) old h e = absurd (omega (arith, apart 2 3 e))
 told_infeasible p start before after (Err (Fault fault)) old h e = absurd (omega (arith, apart 5 3 e))
@@ -51,7 +51,7 @@ told_infeasible p start before after (Err NoMemory) old h e = absurd (omega (ari
 pub told_bracket : (p : Problem) (start : List ℤ) (before after : Memory) (r : Result Solved Failed) (old : Found) → Solves p start before after r → solve_status r ≡ pos 4 → IsBracketTold p after.choice after.prices (solve_found r old).kind (solve_found r old).lower (solve_found r old).cost
 told_bracket p start before after (Ok (Optimal cost)) old h e = absurd (omega (arith, apart 0 4 e))
 told_bracket p start before after (Ok (Infeasible persons objects)) old h e = absurd (omega (arith, apart 3 4 e))
-told_bracket p start before after (Ok (Bracket reason lower cost)) old h e = record { reason = reason; kind_is = refl; right = h.1.0 }
+told_bracket p start before after (Ok (Bracket reason lower cost)) old h e = record { reason = reason; kind_is = refl; right = h.2.0 }
 told_bracket p start before after (Err Sizes) old h e = absurd (omega (arith, apart 2 4 e))
 told_bracket p start before after (Err (Fault fault)) old h e = absurd (omega (arith, apart 5 4 e))
 told_bracket p start before after (Err (Start fault)) old h e = absurd (omega (arith, apart 7 4 e))
@@ -97,10 +97,17 @@ sizes_told p start before after (Err (Fault fault)) h not_so = absurd (not_so h.
 sizes_told p start before after (Err (Start fault)) h not_so = absurd (not_so h.0.0)
 sizes_told p start before after (Err NoMemory) h not_so = absurd (not_so h.0)
 
+pub told_started : (p : Problem) (start : List ℤ) (before after : Memory) (r : Result Solved Failed) → Solves p start before after r → solve_status r ≢ pos 2 → solve_status r ≢ pos 5 → solve_status r ≢ pos 6 → solve_status r ≢ pos 7 → start_fault p start ≡ None
+told_started p start before after (Ok solved) h two five six seven = h.1
+told_started p start before after (Err Sizes) h two five six seven = absurd (two refl)
+told_started p start before after (Err (Fault fault)) h two five six seven = absurd (five refl)
+told_started p start before after (Err (Start fault)) h two five six seven = absurd (seven refl)
+told_started p start before after (Err NoMemory) h two five six seven = absurd (six refl)
+
 pub told_same : (p : Problem) (start : List ℤ) (before after : Memory) (r : Result Solved Failed) → Solves p start before after r → KeepsMemory (solve_status r) before after
-told_same p start before after (Ok (Optimal cost)) h = record { choice = λ a b c. absurd (a refl); prices = λ a b. absurd (a refl); set = λ a. h.1.1 }
-told_same p start before after (Ok (Infeasible persons objects)) h = record { choice = λ a b c. absurd (b refl); prices = λ a b. h.1.1; set = λ a. absurd (a refl) }
-told_same p start before after (Ok (Bracket reason lower cost)) h = record { choice = λ a b c. absurd (c refl); prices = λ a b. absurd (b refl); set = λ a. h.1.1 }
+told_same p start before after (Ok (Optimal cost)) h = record { choice = λ a b c. absurd (a refl); prices = λ a b. absurd (a refl); set = λ a. h.2.1 }
+told_same p start before after (Ok (Infeasible persons objects)) h = record { choice = λ a b c. absurd (b refl); prices = λ a b. h.2.1; set = λ a. absurd (a refl) }
+told_same p start before after (Ok (Bracket reason lower cost)) h = record { choice = λ a b c. absurd (c refl); prices = λ a b. absurd (b refl); set = λ a. h.2.1 }
 told_same p start before after (Err failed) h = record { choice = λ a b c. ap (λ (m : Memory). m.choice) h.1; prices = λ a b. ap (λ (m : Memory). m.prices) h.1; set = λ a. ap (λ (m : Memory). m.set) h.1 }
 
 pub told_found : (r : Result Solved Failed) (old : Found) → KeepsFound (solve_status r) old (solve_found r old)

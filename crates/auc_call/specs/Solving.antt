@@ -1,5 +1,5 @@
 -- What a solve comes to.
-use Rattle.std.specs.Prelude.{◌≡◌, ℤ, List, Some, Result, Ok, Err}
+use Rattle.std.specs.Prelude.{◌≡◌, ℤ, List, Some, None, Result, Ok, Err}
 use Rattle.auc_graph.specs.Problem.{Problem, IsProblem}
 use Rattle.auc_graph.specs.Listing.{problem_fault}
 use Rattle.auc_call.specs.declared.solved.Solved.{Solved}
@@ -25,5 +25,5 @@ IsCause p start before NoMemory = AreSizes p before
 
 -- what a solve came to is right; where it is refused, nothing is written
 abbrev pub Solves : Problem → List ℤ → Memory → Memory → Result Solved Failed → Type 0
-Solves p start before after (Ok solved) = AreSizes p before × IsSolved p before after solved
+Solves p start before after (Ok solved) = AreSizes p before × (start_fault p start ≡ None) × IsSolved p before after solved
 Solves p start before after (Err failed) = IsCause p start before failed × (after ≡ before)

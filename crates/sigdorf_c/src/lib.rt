@@ -5,7 +5,7 @@
 //! the top of `c/sigdorf.h`.
 #![tactic(auto)]
 
-ghost use Rattle.std.specs.Prelude.{◌≡◌, ◌≢◌, ◌↔◌, Contains, pos};
+ghost use Rattle.std.specs.Prelude.{◌≡◌, ◌≢◌, ◌↔◌, Contains, None, pos};
 ghost use Rattle.auc_graph.specs.HallSet.{IsHallSet};
 ghost use Rattle.auc_graph.specs.Listing.{problem_from, list_fault};
 ghost use Rattle.auc_call.specs.Memory.{AreSizes, memory};
@@ -42,6 +42,7 @@ pub extern "C" fn sigdorf_solve(
     ensures bracket { result ≡ pos 4 → IsBracketTold (problem_from persons objects arcs.now) choice.new prices.new found.new.kind found.new.lower found.new.cost }
     ensures refused { result ≡ pos 5 → IsListFault (list_fault persons objects arcs.now) found.new.kind found.new.place }
     ensures start { result ≡ pos 7 → IsStartFault (start_fault (problem_from persons objects arcs.now) start.now) found.new.kind found.new.place }
+    ensures started { result ≢ pos 2 → result ≢ pos 5 → result ≢ pos 6 → result ≢ pos 7 → start_fault (problem_from persons objects arcs.now) start.now ≡ None }
     ensures same { KeepsMemory result (memory choice.old prices.old hall_objects.old) (memory choice.new prices.new hall_objects.new) }
     ensures same_found { KeepsFound result found.old found.new }
 {

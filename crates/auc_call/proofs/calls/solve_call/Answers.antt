@@ -5,7 +5,7 @@ use Rattle.auc_graph.specs.Listing.{problem_from}
 use Rattle.auc_call.specs.declared.found.Found.{Found}
 use Rattle.auc_call.specs.Memory.{memory}
 use Rattle.auc_call.specs.Telling.{solve_status, solve_statuses, KeepsFound, KeepsMemory}
-use Rattle.auc_call.proofs.ToldLaws.{solve_known, told_optimal, told_infeasible, told_bracket, told_refused, told_start, told_sizes, sizes_told, told_same, told_found}
+use Rattle.auc_call.proofs.ToldLaws.{solve_known, told_optimal, told_infeasible, told_bracket, told_refused, told_start, told_started, told_sizes, sizes_told, told_same, told_found}
 use Rattle.auc_call.proofs.calls.solve_call.Goals as goal
 
 pub returns-clause-known : goal.returns-clause-known
@@ -44,6 +44,12 @@ returns-clause-sizes c =
       λ told. told_sizes (problem_from c.args.persons c.args.objects c.args.arcs.now) c.args.start.now (memory c.args.choice.now c.args.prices.now c.args.hall_objects.now) (memory c.solve_into-solved.new.choice c.solve_into-solved.new.prices c.solve_into-solved.new.set) c.solve_into-solved.result c.solve_into-solved.ensures (sym c.tell_solved.ensures.status ∙ simp to_z-of_z at told),
       λ others. simp to_z-of_z (c.tell_solved.ensures.status ∙ sizes_told (problem_from c.args.persons c.args.objects c.args.arcs.now) c.args.start.now (memory c.args.choice.now c.args.prices.now c.args.hall_objects.now) (memory c.solve_into-solved.new.choice c.solve_into-solved.new.prices c.solve_into-solved.new.set) c.solve_into-solved.result c.solve_into-solved.ensures others),
     )
+
+pub returns-clause-started : goal.returns-clause-started
+returns-clause-started c = λ two five six seven.
+    let fits : FitsSigned w32 c.tell_solved.result = search rules in
+    told_started (problem_from c.args.persons c.args.objects c.args.arcs.now) c.args.start.now (memory c.args.choice.now c.args.prices.now c.args.hall_objects.now) (memory c.solve_into-solved.new.choice c.solve_into-solved.new.prices c.solve_into-solved.new.set) c.solve_into-solved.result c.solve_into-solved.ensures
+    (λ e. two (simp to_z-of_z (c.tell_solved.ensures.status ∙ e))) (λ e. five (simp to_z-of_z (c.tell_solved.ensures.status ∙ e))) (λ e. six (simp to_z-of_z (c.tell_solved.ensures.status ∙ e))) (λ e. seven (simp to_z-of_z (c.tell_solved.ensures.status ∙ e)))
 
 pub returns-clause-same : goal.returns-clause-same
 returns-clause-same c =

@@ -40,4 +40,4 @@ returns c =
       prices = omega (arith, c.if-prices-wanted.false, wanted);
       set = omega (arith, c.if-set-places.false);
     } in
-    (sizes, subst (λ (p : Problem). IsSolved p (memory c.args.choice.now c.args.prices.now c.args.set.now) (memory c.hand_out.new.choice c.hand_out.new.prices c.hand_out.new.set) c.hand_out.result) e c.hand_out.ensures)
+    (sizes, ap (λ (p : Problem). start_fault p c.args.start.now) (sym e) ∙ sym c.start_fault.ensures.exact ∙ c.in_default.is, subst (λ (p : Problem). IsSolved p (memory c.args.choice.now c.args.prices.now c.args.set.now) (memory c.hand_out.new.choice c.hand_out.new.prices c.hand_out.new.set) c.hand_out.result) e c.hand_out.ensures)

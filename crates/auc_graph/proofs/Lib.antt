@@ -12,6 +12,7 @@ mod StepLaws
 mod ShortLaws
 mod AlikeLaws
 mod PieceLaws
+mod ListingLaws
 mod EndLaws
 mod RowLaws
 mod CountLaws

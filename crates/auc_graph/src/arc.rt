@@ -4,7 +4,8 @@ ghost use Rattle.std.specs.Prelude.{◌≡◌, length};
 
 use std::marker::Model;
 
-/// An arc: this person may take this object at this cost, a cost of the file.
+/// An arc: this person may take this object at this cost, a cost of the file. C knows it by these three fields.
+#[repr(C)]
 #[derive(Clone, Copy, Debug, PartialEq, Eq)]
 pub struct Arc {
     // The widest field stands first: so an arc takes 16 bytes.

@@ -12,6 +12,8 @@ mod laws;
 mod layout;
 mod limits;
 mod lined;
+mod listing;
+mod listing_fault;
 mod number;
 mod pieces;
 mod read_error;
@@ -30,6 +32,8 @@ pub use laws::{
     prices_bound_costs, slack_right_costs_least, wanted_objects_are_read,
 };
 pub use limits::{MOST_ARCS, MOST_COST, MOST_OBJECTS, MOST_PERSONS, MOST_READS};
+pub use listing::{list_fault, objects_or};
+pub use listing_fault::ListFault;
 pub use number::{Number, number_of};
 pub use read_error::ReadError;
 pub use reading::{ReadLimits, read_arcs, read_arcs_from};

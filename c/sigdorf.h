@@ -1,0 +1,126 @@
+/* Sigdorf as a C library: least-cost assignments of sparse problems, and their checks. docs/LIBRARY.md shows its use.
+ *
+ * What is proved holds of a call that keeps the duties below, and of no other. Nothing on this side of the border is seen by the
+ * prover: this file is written by hand, and `c/test` tries its numbers against the library.
+ *
+ * DUTIES of the caller, for each call:
+ *   1  Each pointer is not null, is aligned as its type, and leads to as many whole values as the length behind it says. A length of 0
+ *      still takes a pointer that is not null and is aligned. No length is above 2^63 / (size of a value).
+ *   2  What a const pointer leads to is initialised, and no thread writes it while the call runs.
+ *   3  What a pointer without const leads to is initialised, and is read and written by nobody else while the call runs: it shares no
+ *      byte with any other argument.
+ *   4  malloc, realloc and free are those of one allocator, and align as the C standard says.
+ *   5  No call from a signal handler, nor in the child of a fork of a process with threads.
+ * Sizes and ranges are no duty: they are tested. Several threads may call at a time, each with memory of its own for what is written. No
+ * call keeps a pointer, waits, prints, or ends the process; all memory that a call takes is given back before it returns.
+ */
+#ifndef SIGDORF_H
+#define SIGDORF_H
+
+#include <stddef.h>
+#include <stdint.h>
+
+#ifdef __cplusplus
+extern "C" {
+#endif
+
+#define SIGDORF_MOST_PERSONS 10000u
+#define SIGDORF_MOST_OBJECTS 20000u
+#define SIGDORF_MOST_ARCS 33554432u
+#define SIGDORF_MOST_COST 1000000000
+/* The highest price that a start may have, on the scale of costs times persons + 1. */
+#define SIGDORF_HIGHEST_START (INT64_C(1) << 60)
+#define SIGDORF_USUAL_BIDS UINT64_C(100000000)
+
+/* This person may take this object at this cost; both are numbered from 0. 16 bytes. */
+typedef struct sigdorf_arc {
+    int64_t cost;
+    uint32_t person;
+    uint32_t object;
+} sigdorf_arc;
+
+/* What a call tells beside its status. A field that the status does not name keeps its value. 32 bytes. */
+typedef struct sigdorf_found {
+    int64_t cost;     /* SIGDORF_OPTIMAL, SIGDORF_BRACKET */
+    int64_t lower;    /* SIGDORF_BRACKET */
+    uint32_t persons; /* SIGDORF_INFEASIBLE */
+    uint32_t objects; /* SIGDORF_INFEASIBLE */
+    uint32_t kind;    /* SIGDORF_REFUSED: a sigdorf_list_fault; SIGDORF_START: a sigdorf_start_fault; SIGDORF_INVALID: a
+                         sigdorf_claim_fault; SIGDORF_BRACKET: a sigdorf_limit */
+    uint32_t place;   /* of these but SIGDORF_BRACKET: the arc, person or object that is at fault, or 0 */
+} sigdorf_found;
+
+enum sigdorf_status {
+    SIGDORF_OPTIMAL = 0,    /* of a check: the claim holds */
+    SIGDORF_SIZES = 2,      /* a length is not the number of persons, or of objects */
+    SIGDORF_INFEASIBLE = 3, /* there is no assignment */
+    SIGDORF_INVALID = 3,    /* of a check: the claim does not pass */
+    SIGDORF_BRACKET = 4,    /* the bids did not suffice: an assignment, and a bound */
+    SIGDORF_REFUSED = 5,    /* the arcs are no problem */
+    SIGDORF_MEMORY = 6,     /* malloc or realloc gave NULL; nothing was written */
+    SIGDORF_START = 7       /* no run can start from the prices */
+};
+
+/* The first fault of a list, looked for in this order; the last four arc by arc. */
+enum sigdorf_list_fault {
+    SIGDORF_PERSONS = 1,   /* persons is not from 1 to 10,000 */
+    SIGDORF_OBJECTS,       /* objects is not 0, and below persons or above 20,000 */
+    SIGDORF_TOO_MANY_ARCS, /* 33,554,432 arcs are right, and one more stands behind them */
+    SIGDORF_PERSON,        /* the person of arc `place` is none of the problem */
+    SIGDORF_OBJECT,        /* the object of arc `place` is none of the problem */
+    SIGDORF_COST           /* the cost of arc `place` is beyond 10^9 in magnitude */
+};
+
+enum sigdorf_start_fault {
+    SIGDORF_NOT_SQUARE = 1, /* there are more objects than persons */
+    SIGDORF_OTHER_SIZE,     /* the prices are not as many as the objects */
+    SIGDORF_PRICE           /* the price of object `place` is not from 0 to 2^60 */
+};
+
+enum sigdorf_claim_fault {
+    SIGDORF_MISPLACED = 1, /* at the place of person `place` stands no arc of his */
+    SIGDORF_UNSPELLED,     /* a number is out of range, or a Hall set's numbers do not rise */
+    SIGDORF_TWICE,         /* object `place` is taken twice */
+    SIGDORF_WRONG_COST,    /* the cost is not the sum */
+    SIGDORF_SLACK,         /* person `place` has a better arc at the prices */
+    SIGDORF_LEFT_OVER,     /* nobody takes object `place`, and it has a price */
+    SIGDORF_NOT_HALL       /* the persons do not know too few objects */
+};
+
+/* What ended a phase. */
+enum sigdorf_limit { SIGDORF_BIDS = 1, SIGDORF_CEILING, SIGDORF_POSTS, SIGDORF_TRAIL, SIGDORF_MAIL };
+
+/* Solves the problem of `persons` persons, `objects` objects (0 stands for as many as persons) and these arcs. `start` has no price at
+ * all, or for each object one to start from, as an earlier call has left them in `prices`; then objects are as many as persons. `bids` is the
+ * most bids of a phase. `choice` and `hall_objects` have a place for each person, `prices` for each object.
+ *
+ * SIGDORF_OPTIMAL: choice[i] is the place in `arcs` of an arc of person i; no two lead to one object; found->cost is the sum of their
+ *   costs; and NO ASSIGNMENT OF THE PROBLEM COSTS LESS. prices[j] is a price of object j from 0 to 2^61, on the scale of costs times
+ *   persons + 1. sigdorf_check lets all of it pass, unless memory is refused.
+ * SIGDORF_BRACKET: the same, but that no assignment costs less than found->lower.
+ * SIGDORF_INFEASIBLE: all arcs of the first found->persons persons in `choice` lead to the first found->objects objects in
+ *   `hall_objects`, which are fewer; so there is no assignment. Both rise. sigdorf_check_hall lets them pass, unless memory is refused.
+ * SIGDORF_REFUSED: found->kind and found->place are exactly the first fault of the list.
+ * SIGDORF_MEMORY may stand in place of every other status but SIGDORF_SIZES. What a status does not name keeps its values. */
+int32_t sigdorf_solve(uint32_t persons, uint32_t objects, const sigdorf_arc *arcs, size_t arcs_len, const int64_t *start,
+                      size_t start_len, uint64_t bids, uint32_t *choice, size_t choice_len, int64_t *prices, size_t prices_len,
+                      uint32_t *hall_objects, size_t hall_objects_len, sigdorf_found *found);
+
+/* Checks an answer, whoever found it. SIGDORF_OPTIMAL: choice, cost and prices are as under SIGDORF_OPTIMAL above. */
+int32_t sigdorf_check(uint32_t persons, uint32_t objects, const sigdorf_arc *arcs, size_t arcs_len, const uint32_t *choice,
+                      size_t choice_len, const int64_t *prices, size_t prices_len, int64_t cost, sigdorf_found *found);
+
+/* Checks a Hall set, whoever found it. SIGDORF_OPTIMAL: all arcs of these persons lead to these objects, which are fewer. */
+int32_t sigdorf_check_hall(uint32_t persons, uint32_t objects, const sigdorf_arc *arcs, size_t arcs_len, const uint32_t *hall_persons,
+                           size_t hall_persons_len, const uint32_t *hall_objects, size_t hall_objects_len, sigdorf_found *found);
+
+#ifdef __cplusplus
+}
+#endif
+
+#if defined(__STDC_VERSION__) && __STDC_VERSION__ >= 201112L
+_Static_assert(sizeof(sigdorf_arc) == 16 && offsetof(sigdorf_arc, person) == 8 && offsetof(sigdorf_arc, object) == 12, "layout of an arc");
+_Static_assert(sizeof(sigdorf_found) == 32 && offsetof(sigdorf_found, persons) == 16 && offsetof(sigdorf_found, place) == 28, "layout of what is found");
+#endif
+
+#endif

@@ -1,0 +1,43 @@
+use Rattle.std.proofs.Common.{◌≡◌, List, refl, sym, subst, ◌∙◌, ap, arith}
+use Rattle.auc_graph.specs.declared.arc.Arc.{Arc}
+use Rattle.auc_graph.specs.Problem.{Problem, IsProblem}
+use Rattle.auc_graph.specs.Listing.{objects_or, problem_from}
+use Rattle.auc_call.specs.Memory.{AreSizes, memory}
+use Rattle.auc_call.specs.Solving.{IsSolved}
+use Rattle.auc_call.specs.Start.{start_fault}
+use Rattle.auc_call.proofs.MadeLaws.{made_of}
+use Rattle.auc_call.proofs.solving.solve_into.Goals as goal
+
+pub returns-in-Some : goal.returns-in-Some
+returns-in-Some c =
+    let e = made_of c.args.persons c.args.objects c.in_ok-problem.problem c.in_ok-arcs.arcs.items c.args.arcs.now c.in_ok-problem.ensures.exact c.in_ok-arcs.ensures.items in
+    let wanted : c.objects_or-wanted.result ≡ objects_or c.args.objects c.args.persons = c.objects_or-wanted.ensures in
+    let sizes : AreSizes (problem_from c.args.persons c.args.objects c.args.arcs.now) (memory c.args.choice.now c.args.prices.now c.args.set.now) = record {
+      choice = omega (arith, c.if-choice-places.false);
+      prices = omega (arith, c.if-prices-wanted.false, wanted);
+      set = omega (arith, c.if-set-places.false);
+    } in
+    let is : IsProblem (problem_from c.args.persons c.args.objects c.args.arcs.now) = subst (λ (arcs : List Arc). IsProblem (problem_from c.args.persons c.args.objects arcs)) c.in_ok-arcs.ensures.items (c.in_ok-problem.ensures.ok.0 refl) in
+    ((sizes, is, ap (λ (p : Problem). start_fault p c.args.start.now) (sym e) ∙ sym c.start_fault.ensures.exact ∙ c.in-Some.is), refl)
+
+pub hand_out-requires-clause-sizes : goal.hand_out-requires-clause-sizes
+hand_out-requires-clause-sizes c =
+    let e = made_of c.args.persons c.args.objects c.in_ok-problem.problem c.in_ok-arcs.arcs.items c.args.arcs.now c.in_ok-problem.ensures.exact c.in_ok-arcs.ensures.items in
+    let wanted : c.objects_or-wanted.result ≡ objects_or c.args.objects c.args.persons = c.objects_or-wanted.ensures in
+    let sizes : AreSizes (problem_from c.args.persons c.args.objects c.args.arcs.now) (memory c.args.choice.now c.args.prices.now c.args.set.now) = record {
+      choice = omega (arith, c.if-choice-places.false);
+      prices = omega (arith, c.if-prices-wanted.false, wanted);
+      set = omega (arith, c.if-set-places.false);
+    } in
+    subst (λ (p : Problem). AreSizes p (memory c.args.choice.now c.args.prices.now c.args.set.now)) (sym e) sizes
+
+pub returns : goal.returns
+returns c =
+    let e = made_of c.args.persons c.args.objects c.in_ok-problem.problem c.in_ok-arcs.arcs.items c.args.arcs.now c.in_ok-problem.ensures.exact c.in_ok-arcs.ensures.items in
+    let wanted : c.objects_or-wanted.result ≡ objects_or c.args.objects c.args.persons = c.objects_or-wanted.ensures in
+    let sizes : AreSizes (problem_from c.args.persons c.args.objects c.args.arcs.now) (memory c.args.choice.now c.args.prices.now c.args.set.now) = record {
+      choice = omega (arith, c.if-choice-places.false);
+      prices = omega (arith, c.if-prices-wanted.false, wanted);
+      set = omega (arith, c.if-set-places.false);
+    } in
+    (sizes, ap (λ (p : Problem). start_fault p c.args.start.now) (sym e) ∙ sym c.start_fault.ensures.exact ∙ c.in_default.is, subst (λ (p : Problem). IsSolved p (memory c.args.choice.now c.args.prices.now c.args.set.now) (memory c.hand_out.new.choice c.hand_out.new.prices c.hand_out.new.set) c.hand_out.result) e c.hand_out.ensures)

@@ -1,0 +1,120 @@
+//! The calls, each with one promise a status.
+
+ghost use Rattle.std.specs.Prelude.{◌≡◌, ◌≢◌, ◌↔◌, Contains, None, pos};
+ghost use Rattle.auc_graph.specs.Problem.{IsProblem};
+ghost use Rattle.auc_graph.specs.HallSet.{IsHallSet};
+ghost use Rattle.auc_graph.specs.Listing.{problem_from, list_fault};
+ghost use Rattle.auc_call.specs.Memory.{AreSizes, memory};
+ghost use Rattle.auc_call.specs.Shown.{IsLeastAt, IsHallAt};
+ghost use Rattle.auc_call.specs.Start.{start_fault};
+ghost use Rattle.auc_call.specs.Codes.{IsListFault, IsStartFault};
+ghost use Rattle.auc_call.specs.Checking.{AreClaimSizes};
+ghost use Rattle.auc_call.specs.Answers.{IsBracketTold, IsClaimFaultTold, IsHallFaultTold, IsHallShown};
+ghost use Rattle.auc_call.specs.Telling.{solve_statuses, check_statuses, KeepsFound, KeepsMemory, KeepsChecked};
+
+use crate::checking::{check_at, check_hall_at};
+use crate::found::Found;
+use crate::solving::solve_into;
+use crate::telling::{tell_checked, tell_solved};
+use auc_graph::Arc;
+use std::alloc::Global;
+
+/// Solves the problem of so many persons, so many objects and these arcs: a least-cost assignment, persons who together know too few
+/// objects, or, where the bids don't suffice, an assignment and a bound on what any costs.
+///
+/// Persons and objects are numbered from 0; `objects` 0 stands for as many as persons. `start` holds the prices to start from, indexed by
+/// object, on the scale of costs times persons + 1, as an earlier call has left them in `prices`; none at all is a start from nothing. `bids` is the most bids of a
+/// phase.
+///
+/// `choice` and `hall_objects` have a place for each person, and `prices` one for each object. Behind [`OPTIMAL`](crate::OPTIMAL) and
+/// [`BRACKET`](crate::BRACKET) `choice` holds for each person the place in `arcs` of his arc, and `prices` the prices that show it; behind
+/// [`INFEASIBLE`](crate::INFEASIBLE) `choice` begins with `found.persons` persons, and `hall_objects` with the `found.objects` objects that
+/// they know, both rising. All else stays as it was.
+///
+/// Takes the time of [`auc_world::solve_serial`], and 44 bytes of memory an arc, the caller's own among them.
+pub fn solve_call(
+    alloc: Global,
+    persons: u32,
+    objects: u32,
+    arcs: &[Arc],
+    start: &[i64],
+    bids: u64,
+    choice: &mut [u32],
+    prices: &mut [i64],
+    hall_objects: &mut [u32],
+    found: &mut Found,
+) -> i32
+    ensures known { Contains solve_statuses result }
+    ensures optimal { result ≡ pos 0 → IsLeastAt (problem_from persons objects arcs.now) choice.new prices.new found.new.cost }
+    ensures sizes { result ≡ pos 2 ↔ (AreSizes (problem_from persons objects arcs.now) (memory choice.old prices.old hall_objects.old) → ⊥) }
+    ensures infeasible { result ≡ pos 3 → IsHallAt (problem_from persons objects arcs.now) choice.new hall_objects.new found.new.persons found.new.objects }
+    ensures bracket { result ≡ pos 4 → IsBracketTold (problem_from persons objects arcs.now) choice.new prices.new found.new.kind found.new.lower found.new.cost }
+    ensures refused { result ≡ pos 5 → IsListFault (list_fault persons objects arcs.now) found.new.kind found.new.place }
+    ensures start { result ≡ pos 7 → IsStartFault (start_fault (problem_from persons objects arcs.now) start.now) found.new.kind found.new.place }
+    ensures started { result ≢ pos 2 → result ≢ pos 5 → result ≢ pos 6 → result ≢ pos 7 → start_fault (problem_from persons objects arcs.now) start.now ≡ None }
+    ensures same { KeepsMemory result (memory choice.old prices.old hall_objects.old) (memory choice.new prices.new hall_objects.new) }
+    ensures same_found { KeepsFound result found.old found.new }
+{
+    let solved = solve_into(
+        alloc,
+        persons,
+        objects,
+        arcs,
+        start,
+        bids,
+        choice,
+        prices,
+        hall_objects,
+    );
+    tell_solved(solved, found)
+}
+
+/// Checks that the arcs at these places are an assignment of this cost than which none costs less, as the prices show, whoever found it.
+/// The slices are as [`solve_call`] has left them; it takes O(arcs + persons + objects) time, and memory for a copy of the arcs.
+///
+/// What [`solve_call`] answers as [`OPTIMAL`](crate::OPTIMAL) passes, unless memory is refused.
+pub fn check_call(
+    alloc: Global,
+    persons: u32,
+    objects: u32,
+    arcs: &[Arc],
+    choice: &[u32],
+    prices: &[i64],
+    cost: i64,
+    found: &mut Found,
+) -> i32
+    ensures known { Contains check_statuses result }
+    ensures valid { result ≡ pos 0 → IsLeastAt (problem_from persons objects arcs.now) choice.now prices.now cost }
+    ensures passes { IsLeastAt (problem_from persons objects arcs.now) choice.now prices.now cost → result ≢ pos 6 → result ≡ pos 0 }
+    ensures sizes { result ≡ pos 2 ↔ (AreClaimSizes (problem_from persons objects arcs.now) choice.now prices.now → ⊥) }
+    ensures invalid { result ≡ pos 3 → IsClaimFaultTold (problem_from persons objects arcs.now) choice.now prices.now cost found.new.kind found.new.place }
+    ensures refused { result ≡ pos 5 → IsListFault (list_fault persons objects arcs.now) found.new.kind found.new.place }
+    ensures same { KeepsChecked result found.old found.new }
+{
+    let checked = check_at(alloc, persons, objects, arcs, choice, prices, cost);
+    tell_checked(checked, found)
+}
+
+/// Checks that these persons together know none but these objects, which are fewer, whoever found them. Both rise. It takes O(arcs +
+/// persons + objects) time, and memory for a copy of the arcs.
+///
+/// What [`solve_call`] answers as [`INFEASIBLE`](crate::INFEASIBLE) passes, unless memory is refused.
+pub fn check_hall_call(
+    alloc: Global,
+    persons: u32,
+    objects: u32,
+    arcs: &[Arc],
+    hall_persons: &[u32],
+    hall_objects: &[u32],
+    found: &mut Found,
+) -> i32
+    ensures known { Contains check_statuses result }
+    ensures valid { result ≡ pos 0 → IsHallSet (problem_from persons objects arcs.now) hall_persons.now hall_objects.now }
+    ensures passes { IsHallShown (problem_from persons objects arcs.now) hall_persons.now hall_objects.now → result ≢ pos 6 → result ≡ pos 0 }
+    ensures invalid { result ≡ pos 3 → IsHallFaultTold (problem_from persons objects arcs.now) hall_persons.now hall_objects.now found.new.kind found.new.place }
+    ensures refused { result ≡ pos 5 → IsListFault (list_fault persons objects arcs.now) found.new.kind found.new.place }
+    ensures same { KeepsChecked result found.old found.new }
+{
+    let checked = check_hall_at(alloc, persons, objects, arcs, hall_persons, hall_objects);
+    tell_checked(checked, found)
+}

@@ -1,0 +1,60 @@
+//! The prices from which a caller wants a run to start.
+
+ghost use Rattle.std.specs.Prelude.{◌≡◌, ◌≢◌, ◌<◌, ◌^◌, None, [], length};
+ghost use Rattle.auc_cert.specs.Start.{AreStart};
+ghost use Rattle.auc_call.specs.Start.{is_outside, outside, start_fault};
+
+use auc_graph::ArcList;
+
+/// The highest price that a run may start from, 2^60, on the scale of costs times persons + 1.
+const HIGHEST_START: i64 = 1_152_921_504_606_846_976;
+
+/// Why no run can start from the prices.
+#[derive(Clone, Copy, Debug, PartialEq, Eq)]
+pub(crate) enum StartFault {
+    /// There are more objects than persons.
+    NotSquare,
+    /// They aren't as many as the objects.
+    OtherSize,
+    /// The price of this object, the first such, isn't from 0 to 2^60.
+    Price { object: u32 },
+}
+
+fn is_outside(price: i64) -> bool
+    ensures { result ≡ is_outside price }
+{
+    price < 0 || HIGHEST_START < price
+}
+
+/// The first object whose price isn't one to start from.
+fn outside(prices: &[i64]) -> Option<u32>
+    requires { length prices.now < 2 ^ 32 }
+    ensures { result ≡ outside prices.now }
+{
+    for object in 0..prices.len() {
+        if is_outside(prices[object]) {
+            return Some(object as u32);
+        }
+    }
+    None
+}
+
+/// Why no run on this problem can start from these prices; no prices at all are no start, and no fault.
+pub(crate) fn start_fault(problem: &ArcList, start: &[i64]) -> Option<StartFault>
+    ensures exact { result ≡ start_fault problem.now start.now }
+    ensures start { result ≡ None → start.now ≢ [] → AreStart problem.now start.now }
+{
+    if start.is_empty() {
+        return None;
+    }
+    if problem.objects() != problem.persons() {
+        return Some(StartFault::NotSquare);
+    }
+    if start.len() != problem.objects() as usize {
+        return Some(StartFault::OtherSize);
+    }
+    match outside(start) {
+        Some(object) => Some(StartFault::Price { object }),
+        None => None,
+    }
+}

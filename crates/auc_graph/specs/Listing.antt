@@ -1,0 +1,45 @@
+-- Which lists of arcs are problems, and the first fault of one that is none: in the order in which a text of them would be read.
+use Rattle.std.specs.Prelude.{ℕ, suc, not, ◌==◌, ◌&&◌, nat_le, if◌then◌else◌, List, [], ◌∷◌, Option, Some, None, Result, Ok, Err, neg_ℤ}
+use Rattle.std.specs.Option.{option_or}
+use Rattle.auc_graph.specs.declared.arc.Arc.{Arc}
+use Rattle.auc_graph.specs.declared.listing_fault.ListFault.{ListFault}
+use Rattle.auc_graph.specs.declared.listing_fault.ListFault.TheVariants.{Persons, Objects, TooManyArcs, Person, Object, Cost}
+use Rattle.auc_graph.specs.declared.limits.TheConstants.{MOST_PERSONS, MOST_OBJECTS, MOST_ARCS, MOST_COST}
+use Rattle.auc_graph.specs.Problem.{Problem}
+use Rattle.auc_graph.specs.Reading.{is_between, problem}
+
+-- the number of objects, where 0 stands for as many as persons
+abbrev pub objects_or : ℕ → ℕ → ℕ
+objects_or wanted persons = if wanted == 0 then persons else wanted
+
+-- so many persons, so many objects, and these arcs
+abbrev pub problem_from : ℕ → ℕ → List Arc → Problem
+problem_from persons wanted arcs = problem persons (objects_or wanted persons) arcs
+
+-- the fault of the arc at this place
+abbrev pub fault_at : ℕ → ℕ → ℕ → Arc → Option ListFault
+fault_at persons objects place a = if nat_le MOST_ARCS place then Some TooManyArcs else (if nat_le persons a.person then Some (Person place) else (if nat_le objects a.object then Some (Object place) else (if is_between (neg_ℤ MOST_COST) MOST_COST a.cost then None else Some (Cost place))))
+
+-- the first fault of arcs, the first of which has this place
+abbrev pub first_fault : ℕ → ℕ → ℕ → List Arc → Option ListFault
+first_fault persons objects place [] = None
+first_fault persons objects place (a ∷ arcs) = option_or (fault_at persons objects place a) (first_fault persons objects (suc place) arcs)
+
+abbrev pub counts_fault : ℕ → ℕ → Option ListFault
+counts_fault persons objects = if not (nat_le 1 persons && nat_le persons MOST_PERSONS) then Some Persons else (if not (nat_le persons objects && nat_le objects MOST_OBJECTS) then Some Objects else None)
+
+-- the first fault of what is to be a problem
+abbrev pub problem_fault : Problem → Option ListFault
+problem_fault p = option_or (counts_fault p.persons p.objects) (first_fault p.persons p.objects 0 p.arcs)
+
+-- the first fault of a list
+abbrev pub list_fault : ℕ → ℕ → List Arc → Option ListFault
+list_fault persons wanted arcs = problem_fault (problem_from persons wanted arcs)
+
+abbrev pub unless : Problem → Option ListFault → Result Problem ListFault
+unless p None = Ok p
+unless p (Some fault) = Err fault
+
+-- the problem of a list, or its first fault
+abbrev pub listed : ℕ → ℕ → List Arc → Result Problem ListFault
+listed persons wanted arcs = unless (problem_from persons wanted arcs) (list_fault persons wanted arcs)

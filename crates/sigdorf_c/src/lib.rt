@@ -1,0 +1,114 @@
+//! The solver and the checker as C calls them: the exports alone, over [`auc_call`].
+//!
+//! Each export takes what a C program holds: numbers, references to `#[repr(C)]` structs, and slices as a pointer and a length. What a
+//! call answers is a status; the rest goes out through `&mut`. No call keeps anything behind its return. What the caller owes stands at
+//! the top of `c/sigdorf.h`.
+#![tactic(auto)]
+
+ghost use Rattle.std.specs.Prelude.{◌≡◌, ◌≢◌, ◌↔◌, Contains, None, pos};
+ghost use Rattle.auc_graph.specs.HallSet.{IsHallSet};
+ghost use Rattle.auc_graph.specs.Listing.{problem_from, list_fault};
+ghost use Rattle.auc_call.specs.Memory.{AreSizes, memory};
+ghost use Rattle.auc_call.specs.Shown.{IsLeastAt, IsHallAt};
+ghost use Rattle.auc_call.specs.Start.{start_fault};
+ghost use Rattle.auc_call.specs.Codes.{IsListFault, IsStartFault};
+ghost use Rattle.auc_call.specs.Checking.{AreClaimSizes};
+ghost use Rattle.auc_call.specs.Answers.{IsBracketTold, IsClaimFaultTold, IsHallFaultTold, IsHallShown};
+ghost use Rattle.auc_call.specs.Telling.{solve_statuses, check_statuses, KeepsFound, KeepsMemory, KeepsChecked};
+
+use auc_call::{Found, check_call, check_hall_call, solve_call};
+use auc_graph::Arc;
+use std::alloc::Global;
+
+/// Solves the problem of so many persons, so many objects (0: as many as persons) and these arcs, from nothing where `start` is empty, else
+/// from its prices: see [`auc_call::solve_call`].
+#[unsafe(no_mangle)]
+pub extern "C" fn sigdorf_solve(
+    alloc: Global,
+    persons: u32,
+    objects: u32,
+    arcs: &[Arc],
+    start: &[i64],
+    bids: u64,
+    choice: &mut [u32],
+    prices: &mut [i64],
+    hall_objects: &mut [u32],
+    found: &mut Found,
+) -> i32
+    ensures known { Contains solve_statuses result }
+    ensures optimal { result ≡ pos 0 → IsLeastAt (problem_from persons objects arcs.now) choice.new prices.new found.new.cost }
+    ensures sizes { result ≡ pos 2 ↔ (AreSizes (problem_from persons objects arcs.now) (memory choice.old prices.old hall_objects.old) → ⊥) }
+    ensures infeasible { result ≡ pos 3 → IsHallAt (problem_from persons objects arcs.now) choice.new hall_objects.new found.new.persons found.new.objects }
+    ensures bracket { result ≡ pos 4 → IsBracketTold (problem_from persons objects arcs.now) choice.new prices.new found.new.kind found.new.lower found.new.cost }
+    ensures refused { result ≡ pos 5 → IsListFault (list_fault persons objects arcs.now) found.new.kind found.new.place }
+    ensures start { result ≡ pos 7 → IsStartFault (start_fault (problem_from persons objects arcs.now) start.now) found.new.kind found.new.place }
+    ensures started { result ≢ pos 2 → result ≢ pos 5 → result ≢ pos 6 → result ≢ pos 7 → start_fault (problem_from persons objects arcs.now) start.now ≡ None }
+    ensures same { KeepsMemory result (memory choice.old prices.old hall_objects.old) (memory choice.new prices.new hall_objects.new) }
+    ensures same_found { KeepsFound result found.old found.new }
+{
+    solve_call(
+        alloc,
+        persons,
+        objects,
+        arcs,
+        start,
+        bids,
+        choice,
+        prices,
+        hall_objects,
+        found,
+    )
+}
+
+/// Checks that the arcs at these places are an assignment of this cost than which none costs less, as the prices show: see
+/// [`auc_call::check_call`].
+#[unsafe(no_mangle)]
+pub extern "C" fn sigdorf_check(
+    alloc: Global,
+    persons: u32,
+    objects: u32,
+    arcs: &[Arc],
+    choice: &[u32],
+    prices: &[i64],
+    cost: i64,
+    found: &mut Found,
+) -> i32
+    ensures known { Contains check_statuses result }
+    ensures valid { result ≡ pos 0 → IsLeastAt (problem_from persons objects arcs.now) choice.now prices.now cost }
+    ensures passes { IsLeastAt (problem_from persons objects arcs.now) choice.now prices.now cost → result ≢ pos 6 → result ≡ pos 0 }
+    ensures sizes { result ≡ pos 2 ↔ (AreClaimSizes (problem_from persons objects arcs.now) choice.now prices.now → ⊥) }
+    ensures invalid { result ≡ pos 3 → IsClaimFaultTold (problem_from persons objects arcs.now) choice.now prices.now cost found.new.kind found.new.place }
+    ensures refused { result ≡ pos 5 → IsListFault (list_fault persons objects arcs.now) found.new.kind found.new.place }
+    ensures same { KeepsChecked result found.old found.new }
+{
+    check_call(alloc, persons, objects, arcs, choice, prices, cost, found)
+}
+
+/// Checks that these persons together know none but these objects, which are fewer: see [`auc_call::check_hall_call`].
+#[unsafe(no_mangle)]
+pub extern "C" fn sigdorf_check_hall(
+    alloc: Global,
+    persons: u32,
+    objects: u32,
+    arcs: &[Arc],
+    hall_persons: &[u32],
+    hall_objects: &[u32],
+    found: &mut Found,
+) -> i32
+    ensures known { Contains check_statuses result }
+    ensures valid { result ≡ pos 0 → IsHallSet (problem_from persons objects arcs.now) hall_persons.now hall_objects.now }
+    ensures passes { IsHallShown (problem_from persons objects arcs.now) hall_persons.now hall_objects.now → result ≢ pos 6 → result ≡ pos 0 }
+    ensures invalid { result ≡ pos 3 → IsHallFaultTold (problem_from persons objects arcs.now) hall_persons.now hall_objects.now found.new.kind found.new.place }
+    ensures refused { result ≡ pos 5 → IsListFault (list_fault persons objects arcs.now) found.new.kind found.new.place }
+    ensures same { KeepsChecked result found.old found.new }
+{
+    check_hall_call(
+        alloc,
+        persons,
+        objects,
+        arcs,
+        hall_persons,
+        hall_objects,
+        found,
+    )
+}

@@ -1,0 +1,102 @@
+"""The C library, by ctypes: each call with arrays that are right by construction."""
+import ctypes
+import os
+import pathlib
+
+import numpy
+
+from .faults import Refused
+
+ARC = numpy.dtype([("cost", "<i8"), ("person", "<u4"), ("object", "<u4")])
+OPTIMAL, SIZES, INFEASIBLE, BRACKET, REFUSED, MEMORY, START = 0, 2, 3, 4, 5, 6, 7
+INVALID = INFEASIBLE
+USUAL_BIDS = 100_000_000
+LIST_FAULTS = {
+    1: "the smaller side of the problem must number 1 to 10,000",
+    2: "the larger side of the problem must number 20,000 at most",
+    3: "there are more than 33,554,432 entries",
+    4: "entry {place} names a row or column that the shape doesn't have",
+    5: "entry {place} names a row or column that the shape doesn't have",
+    6: "the cost of entry {place} is beyond 10^9 in magnitude, scaled",
+}
+START_FAULTS = {
+    1: "a start is for as many rows as columns",
+    2: "a start has a price for each column",
+    3: "the price {place} of the start is not from 0 to 2^60",
+}
+CLAIM_FAULTS = {
+    1: "entry number {place} of the solution is no entry of its row",
+    2: "a number of the solution is out of range",
+    3: "number {place} is taken twice",
+    4: "the cost is not the sum of the entries",
+    5: "number {place} has a better entry at these prices",
+    6: "number {place} is left over and has a price",
+    7: "the set doesn't lead to fewer than it numbers",
+}
+
+
+class Found(ctypes.Structure):
+    _fields_ = [(name, ctypes.c_int64) for name in ("cost", "lower")] + [(name, ctypes.c_uint32) for name in ("persons", "objects", "kind", "place")]
+
+
+def _path():
+    """The library that SIGDORF_LIBRARY names, or the one beside this module, or the one that `c/build` has made."""
+    named = os.environ.get("SIGDORF_LIBRARY")
+    if named:
+        return named
+    here = pathlib.Path(__file__).resolve()
+    for path in (here.with_name("libsigdorf.so"), here.parents[2] / "c" / "out" / "libsigdorf.so"):
+        if path.exists():
+            return str(path)
+    raise ImportError("libsigdorf.so isn't there: make it by c/build, or name it in the variable SIGDORF_LIBRARY")
+
+
+def _load():
+    library = ctypes.CDLL(_path())
+    number, pointer, size, found = ctypes.c_uint32, ctypes.c_void_p, ctypes.c_size_t, ctypes.POINTER(Found)
+    problem = [number, number, pointer, size]
+    library.sigdorf_solve.argtypes = [*problem, pointer, size, ctypes.c_uint64, *[pointer, size] * 3, found]
+    library.sigdorf_check.argtypes = [*problem, *[pointer, size] * 2, ctypes.c_int64, found]
+    for call in (library.sigdorf_solve, library.sigdorf_check):
+        call.restype = ctypes.c_int32
+    return library
+
+
+_library = _load()
+
+
+def _passed(*arrays):
+    """Pointers and lengths, as C takes them."""
+    return [word for array in arrays for word in (array.ctypes.data, len(array))]
+
+
+def _refuse(status, found):
+    if status == REFUSED:
+        raise ValueError(LIST_FAULTS[found.kind].format(place=found.place))
+    if status == START:
+        raise ValueError(START_FAULTS[found.kind].format(place=found.place))
+    if status == MEMORY:
+        raise MemoryError
+    raise AssertionError(f"the library answered {status}")
+
+
+def solve_arcs(persons, objects, arcs, start, bids):
+    """The status, places of arcs or persons, prices, objects, and what was found."""
+    choice, hall_objects = numpy.zeros(persons, numpy.uint32), numpy.zeros(persons, numpy.uint32)
+    prices, found = numpy.zeros(objects, numpy.int64), Found()
+    status = _library.sigdorf_solve(persons, objects, *_passed(arcs, start), bids, *_passed(choice, prices, hall_objects), ctypes.byref(found))
+    if status not in (OPTIMAL, INFEASIBLE, BRACKET):
+        _refuse(status, found)
+    return status, choice, prices, hall_objects, found
+
+
+def check_arcs(persons, objects, arcs, choice, prices, cost):
+    """Raises Refused where the claim doesn't pass."""
+    found = Found()
+    status = _library.sigdorf_check(persons, objects, *_passed(arcs, choice, prices), cost, ctypes.byref(found))
+    if status == INVALID:
+        raise Refused(CLAIM_FAULTS[found.kind].format(place=found.place))
+    if status == SIZES:
+        raise Refused("the solution is not of the size of the problem")
+    if status != OPTIMAL:
+        _refuse(status, found)

@@ -1,6 +1,7 @@
 pub mod Scans
 pub mod Found
 pub mod Parts
+pub mod KeptBlocks
 pub mod BlockBounds
 pub mod SameRows
 pub mod Shortlists

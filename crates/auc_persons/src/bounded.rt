@@ -105,6 +105,7 @@ pub(crate) fn scan_blocks(
     requires right { AreRight _made.now.value rows.now copies.now bounds.old }
     ensures some { IfSome result (λ s. IsScan (value (pos (length rows.now.rows + 1)) (copy_in copies.now)) (row_of rows.now blocked.person) s.scan) }
     ensures right { AreRight _made.now.value rows.now copies.now bounds.new }
+    ensures length { length bounds.new ≡ length bounds.old }
 {
     let person = blocked.person;
     let row = rows.row(person);

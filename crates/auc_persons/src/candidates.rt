@@ -72,6 +72,7 @@ fn scan_list(
     requires kept { Kept rows.now copies.now lists.old }
     ensures some { IfSome result (λ f. IsScan (value (pos (length rows.now.rows + 1)) (copy_in copies.now)) (row_of rows.now person) f) }
     ensures kept { Kept rows.now copies.now lists.new }
+    ensures length { length lists.new ≡ length lists.old }
 {
     let place = place as usize;
     if place >= lists.len() {

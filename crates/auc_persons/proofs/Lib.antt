@@ -1,5 +1,9 @@
 pub mod Scans
 pub mod Found
+pub mod Parts
+pub mod KeptBlocks
+pub mod BlockBounds
+pub mod SameRows
 pub mod Shortlists
 pub mod Amounts
 pub mod Bounds

@@ -1,4 +1,5 @@
 pub mod Scan
 pub mod Search
 pub mod Candidates
+pub mod Blocks
 pub mod Persons

@@ -9,6 +9,7 @@ ghost use Rattle.auc_persons.specs.Scan.{copy_in, IsScan};
 ghost use Rattle.auc_letters.specs.Price.{IsPrice};
 
 use crate::amount::scaled;
+use crate::blocks::Blocks;
 use crate::scan::{Scan, scale_of};
 use crate::shortlist::Shortlist;
 use auc_graph::Rows;
@@ -25,15 +26,17 @@ const WANTED: i64 = 7;
 #[derive(Drop)]
 pub struct Candidates {
     lists: Vec<Shortlist>,
+    blocks: Option<Blocks>,
 }
 
 impl Model for Candidates {
-    ghost use Rattle.std.specs.Prelude.{List};
+    ghost use Rattle.std.specs.Prelude.{List, ◌++◌};
+    ghost use Rattle.auc_persons.specs.Blocks.{or_none};
     ghost use Rattle.auc_persons.specs.Candidates.{Listed};
 
     ghost Value = { List Listed };
 
-    ghost view = { λ c. c.lists.items };
+    ghost view = { λ c. c.lists.items ++ or_none c.blocks };
 }
 
 /// Whether some row is so long that lists serve it. O(persons).
@@ -54,6 +57,39 @@ fn first_delta(rows: &Rows, person: u32) -> i64
     scaled(scale_of(rows.persons()), rows.cost_spread()) / (arcs + 1) * WANTED
 }
 
+/// The best arc of a person, where his list tells it.
+#[inline]
+fn scan_list(
+    lists: &mut [Shortlist],
+    rows: &Rows,
+    person: u32,
+    place: u32,
+    copies: &[i64],
+) -> Option<Scan>
+    requires person { person < length rows.now.rows }
+    requires objects { rows.now.objects ≡ length copies.now }
+    requires copies { All IsPrice copies.now }
+    requires kept { Kept rows.now copies.now lists.old }
+    ensures some { IfSome result (λ f. IsScan (value (pos (length rows.now.rows + 1)) (copy_in copies.now)) (row_of rows.now person) f) }
+    ensures kept { Kept rows.now copies.now lists.new }
+    ensures length { length lists.new ≡ length lists.old }
+{
+    let place = place as usize;
+    if place >= lists.len() {
+        return None;
+    }
+    let row = rows.row(person);
+    if row.len() <= MIDDLE {
+        return None;
+    }
+    let scale = scale_of(rows.persons());
+    let list = &mut lists[place];
+    if list.person() != person {
+        return None;
+    }
+    list.scan(scale, row, copies)
+}
+
 impl Candidates {
     /// No lists. Takes no memory.
     pub fn none(alloc: Global) -> Candidates
@@ -61,6 +97,7 @@ impl Candidates {
     {
         Candidates {
             lists: Vec::new(alloc),
+            blocks: None,
         }
     }
 
@@ -85,14 +122,18 @@ impl Candidates {
                 lists.push(Shortlist::new(person, first_delta(rows, person)))?;
             }
         }
-        Ok(Candidates { lists })
+        let blocks = Blocks::make(alloc, rows, shard, of)?;
+        Ok(Candidates { lists, blocks })
     }
 
     /// Whether there are no lists. O(1).
     pub fn is_empty(&self) -> bool
         ensures { IsTrue result ↔ (self.now ≡ []) }
     {
-        self.lists.is_empty()
+        let Some(blocks) = &self.blocks else {
+            return self.lists.is_empty();
+        };
+        self.lists.is_empty() && blocks.is_empty()
     }
 
     /// The best arc of a person, where his list tells it. `place` is where his list stands, if anywhere.
@@ -111,20 +152,13 @@ impl Candidates {
         ensures some { IfSome result (λ f. IsScan (value (pos (length rows.now.rows + 1)) (copy_in copies.now)) (row_of rows.now person) f) }
         ensures kept { Kept rows.now copies.now self.new }
     {
-        let place = place as usize;
-        if place >= self.lists.len() {
-            return None;
+        if let Some(scan) = scan_list(self.lists.as_mut_slice(), rows, person, place, copies) {
+            return Some(scan);
         }
-        let row = rows.row(person);
-        if row.len() <= MIDDLE {
+        let Some(blocks) = &mut self.blocks else {
             return None;
-        }
-        let scale = scale_of(rows.persons());
-        let list = &mut self.lists[place];
-        if list.person() != person {
-            return None;
-        }
-        list.scan(scale, row, copies)
+        };
+        blocks.scan(rows, person, place, copies)
     }
 }
 

@@ -11,6 +11,9 @@
 
 mod amount;
 mod bidding;
+mod blocks;
+mod bound;
+mod bounded;
 mod candidates;
 mod scan;
 mod search;

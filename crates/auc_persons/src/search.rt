@@ -96,7 +96,8 @@ impl Search {
     }
 
     /// With one arc more, of this value, which stands here in the row.
-    fn with(self, arc: RowArc, value: i64, place: u32) -> Search
+    #[inline]
+    pub(crate) fn with(self, arc: RowArc, value: i64, place: u32) -> Search
         requires value { IsValue value }
         requires best { IsValue self.scan.value }
         requires low { neg_ℤ (pos (2 ^ 44)) ≤ℤ self.scan.second }
@@ -155,7 +156,7 @@ fn within(place: u32, row: &[RowArc]) -> u32
 
 /// What the two remembered arcs alone decide; nothing where the row has no arc.
 #[inline]
-fn begun(scale: i64, row: &[RowArc], copies: &[i64], hint: Hint) -> Option<Search>
+pub(crate) fn begun(scale: i64, row: &[RowArc], copies: &[i64], hint: Hint) -> Option<Search>
     requires scale_low { pos 1 ≤ℤ scale }
     requires scale_high { scale ≤ℤ pos 10001 }
     requires row { IsRow (length copies.now) row.now }

@@ -13,3 +13,7 @@ mod placing;
 mod rows;
 #[cfg(test)]
 mod stall;
+#[cfg(test)]
+mod twins;
+#[cfg(test)]
+mod wide;

@@ -1,4 +1,5 @@
-use Rattle.std.proofs.lemmas.List.Elements.{All-push}
+use Rattle.std.proofs.lemmas.List.Elements.{All-append, All-push}
+use Rattle.auc_persons.specs.Blocks.{or_none}
 use Rattle.auc_persons.specs.Candidates.{KeepsListed, no_list}
 use Rattle.auc_persons.proofs.Shortlists.{keeps_new}
 use Rattle.auc_persons.proofs.candidates.Candidates.make.Goals as goal
@@ -13,3 +14,8 @@ loop-person-preserved c = λ copies.
           )
       | else-person-of w ↦ rw w.lists-is (c.loop-person.invariant copies)
     ]
+
+pub returns : goal.returns
+returns c = record {
+  kept = λ copies. All-append (KeepsListed c.args.rows.now copies) c.loop-person.lists.items (or_none c.in_ok-blocks.blocks) (c.loop-person.invariant copies) (c.in_ok-blocks.ensures.kept copies);
+}

@@ -1,33 +1,33 @@
-use Rattle.std.proofs.Common.{◌<◌, ◌+◌, length, pos, ap, ◌∙◌, w64, arith, rules}
-use Rattle.std.specs.Prelude.{FitsSigned}
-use Rattle.std.proofs.lemmas.Int.{to_z-of_z}
-use Rattle.std.proofs.lemmas.List.Elements.{All-get_or, All-same, All-set}
+use Rattle.std.proofs.Common.{◌≡◌, ◌++◌, ap, length, arith}
+use Rattle.std.specs.Prelude.{All, Some}
+use Rattle.std.proofs.lemmas.List.{with_items_is}
+use Rattle.std.proofs.lemmas.List.Elements.{All-append, All-same}
+use Rattle.auc_persons.specs.Blocks.{or_none}
 use Rattle.auc_persons.specs.Candidates.{KeepsListed}
-use Rattle.auc_persons.proofs.Shortlists.{keeps_at, keeps_back}
+use Rattle.auc_persons.proofs.KeptBlocks.{behind, front}
 use Rattle.auc_persons.proofs.candidates.Candidates.scan.Goals as goal
 
-pub returns-then-person-clause-kept : goal.returns-then-person-clause-kept
-returns-then-person-clause-kept c =
+pub scan_list-requires-clause-kept : goal.scan_list-requires-clause-kept
+scan_list-requires-clause-kept c =
     let P = KeepsListed c.args.rows.now c.args.copies.now in
-    let lt : c.args.place < length c.self.inside.lists.items = omega (arith, c.len.ensures) in
-    let kept = All-same P c.self.inside.lists.items c.args.self.now c.self.view_is c.requires.kept in
-    All-set P c.self.inside.lists.items c.args.place c.index_mut-list.result.now (rw c.index_mut-list.ensures.value (All-get_or P c.self.inside.lists.items c.args.place c.index_mut-list.result.now lt kept)) kept
+    let kept = All-same P (c.self.inside.lists.items ++ or_none c.self.inside.blocks) c.args.self.now c.self.view_is c.requires.kept in
+    rw c.as_mut_slice.ensures.value (front P c.self.inside.lists.items (or_none c.self.inside.blocks) kept)
 
-pub scan-requires-clause-keeps : goal.scan-requires-clause-keeps
-scan-requires-clause-keeps c =
-    let f1 : FitsSigned w64 c.scale_of-scale.result = search rules in
+pub returns-in-Some-clause-kept : goal.returns-in-Some-clause-kept
+returns-in-Some-clause-kept c =
     let P = KeepsListed c.args.rows.now c.args.copies.now in
-    let lt : c.args.place < length c.self.inside.lists.items = omega (arith, c.len.ensures) in
-    let kept = All-same P c.self.inside.lists.items c.args.self.now c.self.view_is c.requires.kept in
-    let here = All-get_or P c.self.inside.lists.items c.args.place c.index_mut-list.result.now lt kept in
-    let scale = c.scale_of-scale.ensures.is ∙ ap (λ n. pos (n + 1)) c.persons.ensures.persons in
-    simp to_z-of_z (keeps_at c.args.rows.now c.args.copies.now c.index_mut-list.result.now c.args.person c.scale_of-scale.result c.row-row.result.now (rw c.index_mut-list.ensures.value here) (omega (arith, c.person.ensures)) scale c.row-row.ensures.row)
+    let kept = All-same P (c.self.inside.lists.items ++ or_none c.self.inside.blocks) c.args.self.now c.self.view_is c.requires.kept in
+    let len : length c.scan_list.new.lists ≡ c.self.inside.lists.len = omega (arith, c.scan_list.ensures.length, c.as_mut_slice.ensures.len, ap length c.as_mut_slice.ensures.value) in
+    rw (with_items_is c.self.inside.lists c.scan_list.new.lists len) (All-append P c.scan_list.new.lists (or_none c.self.inside.blocks) c.scan_list.ensures.kept (behind P c.self.inside.lists.items (or_none c.self.inside.blocks) kept))
+
+pub scan-requires-clause-kept : goal.scan-requires-clause-kept
+scan-requires-clause-kept c =
+    let P = KeepsListed c.args.rows.now c.args.copies.now in
+    let kept = All-same P (c.self.inside.lists.items ++ or_none c.self.inside.blocks) c.args.self.now c.self.view_is c.requires.kept in
+    rw c.in-Some-blocks.is at (behind P c.self.inside.lists.items (or_none c.self.inside.blocks) kept)
 
 pub returns-clause-kept : goal.returns-clause-kept
 returns-clause-kept c =
-    let f1 : FitsSigned w64 c.scale_of-scale.result = search rules in
     let P = KeepsListed c.args.rows.now c.args.copies.now in
-    let kept = All-same P c.self.inside.lists.items c.args.self.now c.self.view_is c.requires.kept in
-    let scale = c.scale_of-scale.ensures.is ∙ ap (λ n. pos (n + 1)) c.persons.ensures.persons in
-    let keeps = simp to_z-of_z at c.scan.ensures.keeps in
-    All-set P c.self.inside.lists.items c.args.place c.scan.new.self (keeps_back c.args.rows.now c.args.copies.now c.scan.new.self c.args.person c.scale_of-scale.result c.row-row.result.now keeps (omega (arith, c.person.ensures, c.scan.ensures.person)) scale c.row-row.ensures.row) kept
+    let len : length c.scan_list.new.lists ≡ c.self.inside.lists.len = omega (arith, c.scan_list.ensures.length, c.as_mut_slice.ensures.len, ap length c.as_mut_slice.ensures.value) in
+    rw (with_items_is c.self.inside.lists c.scan_list.new.lists len) (All-append P c.scan_list.new.lists (or_none (Some c.scan.new.self)) c.scan_list.ensures.kept c.scan.ensures.kept)

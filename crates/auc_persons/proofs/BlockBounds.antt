@@ -1,0 +1,126 @@
+-- Bounds of blocks, seen as lists of candidates.
+use Rattle.std.proofs.Common.{◌≡◌, ℕ, ◌+◌, ◌-◌, ◌*◌, ◌<◌, ◌≤◌, ◌⊎◌, inl, inr, cond, List, [], ◌++◌, length, get_or, take, drop, ap, sym, refl, ◌∙◌, arith, pos, true}
+use Rattle.std.specs.Prelude.{ℤ, ◌≤ℤ◌, All, Contains, nat_lt}
+use Rattle.std.proofs.lemmas.Bool.{cases_lt}
+use Rattle.std.proofs.lemmas.Bool.Decides.{nat_tests}
+use Rattle.std.proofs.lemmas.List.{get_or-take, get_or-drop, get_or_append_left, get_or-append_right, get_or_default, length-take-le, length-drop, length-append}
+use Rattle.std.proofs.lemmas.List.Elements.{All-append, All-contains_itself, All-drop, All-take, Contains-append_cases, Contains-append_left, Contains-append_right, Contains-get_or}
+use Rattle.auc_graph.specs.declared.rows.RowArc.{RowArc}
+use Rattle.auc_graph.specs.Bid.{value}
+use Rattle.auc_graph.specs.Table.{Table, row_of}
+use Rattle.auc_persons.specs.declared.bound.Bound.{Bound}
+use Rattle.auc_persons.specs.Blocks.{Above, beside, of_bound}
+use Rattle.auc_persons.specs.Candidates.{Keeps, KeepsListed}
+use Rattle.auc_persons.specs.Scan.{copy_in}
+use Rattle.auc_persons.proofs.SameRows.{Rises}
+
+module _ (row : List RowArc) (block : ℕ) (within : 16 * block ≤ length row) where
+  front : List RowArc
+  front = take (16 * block) row
+
+  back : List RowArc
+  back = drop (16 * block + 16) row
+
+  front_length : length (take (16 * block) row) ≡ 16 * block
+  front_length = length-take-le (16 * block) row within
+
+  back_length : length (drop (16 * block + 16) row) ≡ length row - (16 * block + 16)
+  back_length = length-drop (16 * block + 16) row
+
+  beside_length : length (beside block row) ≡ 16 * block + (length row - (16 * block + 16))
+  beside_length = length-append (take (16 * block) row) (drop (16 * block + 16) row) ∙ omega (arith, front_length, back_length)
+
+  -- where an arc beside the block stands in the row
+  stands_by : (i : ℕ) (d : RowArc) → i < length (beside block row) → (i < 16 * block) ⊎ (16 * block ≤ i) → (p : ℕ) × (get_or (beside block row) i d ≡ get_or row p d) × (p < length row) × (((i < 16 * block) × (p ≡ i)) ⊎ ((16 * block ≤ i) × (p ≡ i + 16)))
+  stands_by i d lt (inl before) = (i, get_or_append_left (take (16 * block) row) (drop (16 * block + 16) row) d i (omega (arith, front_length, before)) ∙ get_or-take (16 * block) row i d before, omega (arith, before, within), inl (before, refl))
+  stands_by i d lt (inr behind) = (
+    16 * block + 16 + (i - 16 * block),
+    get_or-append_right (take (16 * block) row) (drop (16 * block + 16) row) (16 * block) i d front_length behind ∙ get_or-drop (16 * block + 16) row (i - 16 * block) d,
+    omega (arith, lt, beside_length, behind),
+    inr (behind, omega (arith, behind)),
+  )
+
+  stands : (i : ℕ) (d : RowArc) → i < length (beside block row) → (p : ℕ) × (get_or (beside block row) i d ≡ get_or row p d) × (p < length row) × (((i < 16 * block) × (p ≡ i)) ⊎ ((16 * block ≤ i) × (p ≡ i + 16)))
+  stands i d lt = stands_by i d lt (cases_lt i (16 * block))
+
+  in_order : (i j p q : ℕ) → i < j → ((i < 16 * block) × (p ≡ i)) ⊎ ((16 * block ≤ i) × (p ≡ i + 16)) → ((j < 16 * block) × (q ≡ j)) ⊎ ((16 * block ≤ j) × (q ≡ j + 16)) → p < q
+  in_order i j p q lt (inl x) (inl y) = omega (arith, lt, x.1, y.1)
+  in_order i j p q lt (inl x) (inr y) = omega (arith, lt, x.1, y.1)
+  in_order i j p q lt (inr x) (inl y) = omega (arith, lt, x.0, y.0)
+  in_order i j p q lt (inr x) (inr y) = omega (arith, lt, x.1, y.1)
+
+  beside_rises : Rises row → Rises (beside block row)
+  beside_rises rises i j d lt j_lt =
+      let x = stands i d (omega (arith, lt, j_lt)) in
+      let y = stands j d j_lt in
+      rw (x.1, y.1) (rises x.0 y.0 d (in_order i j x.0 y.0 lt x.3 y.3) y.2)
+
+  -- no arc of the block is beside it
+  not_beside : (k : ℕ) (d : RowArc) → Rises row → 16 * block ≤ k → k < 16 * block + 16 → k < length row → Contains (beside block row) (get_or row k d) → ⊥
+  not_beside k d rises low high lt (m, m_lt, e) =
+      let s = stands m (get_or row k d) m_lt in
+      let same : get_or row s.0 d ≡ get_or row k d = get_or_default row s.0 d (get_or row k d) s.2 ∙ sym s.1 ∙ e in
+      apart s.0 s.2 (ap (λ (a : RowArc). a.arc) same) (other s.0 s.3)
+    where
+      other : (p : ℕ) → ((m < 16 * block) × (p ≡ m)) ⊎ ((16 * block ≤ m) × (p ≡ m + 16)) → (p < k) ⊎ (k < p)
+      other p (inl x) = inl (omega (arith, x.0, x.1, low))
+      other p (inr x) = inr (omega (arith, x.0, x.1, high))
+
+      apart : (p : ℕ) → p < length row → (get_or row p d).arc ≡ (get_or row k d).arc → (p < k) ⊎ (k < p) → ⊥
+      apart p p_lt same (inl before) = let o = rises p k d before lt in omega (arith, o, same)
+      apart p p_lt same (inr behind) = let o = rises k p d behind p_lt in omega (arith, o, same)
+
+  -- the others are
+  contained_front : (k : ℕ) (d : RowArc) → k < 16 * block → Contains (take (16 * block) row) (get_or row k d)
+  contained_front k d lt = rw (get_or-take (16 * block) row k d lt) at (Contains-get_or (take (16 * block) row) k d (omega (arith, front_length, lt)))
+
+  contained_back : (k : ℕ) (d : RowArc) → 16 * block + 16 ≤ k → k < length row → Contains (drop (16 * block + 16) row) (get_or row k d)
+  contained_back k d le lt =
+      let here : 16 * block + 16 + (k - (16 * block + 16)) ≡ k = omega (arith, le) in
+      let e : get_or (drop (16 * block + 16) row) (k - (16 * block + 16)) d ≡ get_or row k d = get_or-drop (16 * block + 16) row (k - (16 * block + 16)) d ∙ ap (λ n. get_or row n d) here in
+      rw e at (Contains-get_or (drop (16 * block + 16) row) (k - (16 * block + 16)) d (omega (arith, back_length, le, lt)))
+
+  rest_by : (val : RowArc → ℤ) (least : ℤ) (k : ℕ) (d : RowArc) → Above val row (16 * block) (16 * block + 16) least → k < length row → (k < 16 * block) ⊎ (16 * block ≤ k) → (k < 16 * block + 16) ⊎ (16 * block + 16 ≤ k) → Contains (beside block row) (get_or row k d) ⊎ (least ≤ℤ val (get_or row k d))
+  rest_by val least k d above lt (inl before) _ = inl (Contains-append_left (take (16 * block) row) (drop (16 * block + 16) row) (get_or row k d) (contained_front k d before))
+  rest_by val least k d above lt (inr le) (inl inside) = inr (above k d le inside lt)
+  rest_by val least k d above lt (inr le) (inr behind) = inl (Contains-append_right (take (16 * block) row) (drop (16 * block + 16) row) (get_or row k d) (contained_back k d behind lt))
+
+  -- a bound of the block's arcs is one of all arcs that aren't beside it
+  keeps_beside : (val : RowArc → ℤ) (least : ℤ) → Rises row → Above val row (16 * block) (16 * block + 16) least → Keeps val row (beside block row) least
+  keeps_beside val least rises above = record {
+    members = All-append (Contains row) (take (16 * block) row) (drop (16 * block + 16) row) (All-take (Contains row) (16 * block) row (All-contains_itself row)) (All-drop (Contains row) (16 * block + 16) row (All-contains_itself row));
+    rising = beside_rises rises;
+    rest = inr (λ k d lt. rest_by val least k d above lt (cases_lt k (16 * block)) (cases_lt k (16 * block + 16)));
+  }
+
+  -- and the other way round
+  above_by : (val : RowArc → ℤ) (least : ℤ) (k : ℕ) (d : RowArc) → Rises row → 16 * block ≤ k → k < 16 * block + 16 → k < length row → Contains (beside block row) (get_or row k d) ⊎ (least ≤ℤ val (get_or row k d)) → least ≤ℤ val (get_or row k d)
+  above_by val least k d rises low high lt (inl there) = absurd (not_beside k d rises low high lt there)
+  above_by val least k d rises low high lt (inr out) = out
+
+  beside_above : (val : RowArc → ℤ) (least : ℤ) → Rises row → 256 < length row → (beside block row ≡ []) ⊎ All (λ b. Contains (beside block row) b ⊎ (least ≤ℤ val b)) row → Above val row (16 * block) (16 * block + 16) least
+  beside_above val least rises long (inl none) k d low high lt = absurd (omega (arith, ap length none, beside_length, long))
+  beside_above val least rises long (inr rest) k d low high lt = above_by val least k d rises low high lt (rest k d lt)
+
+-- ---- a bound
+
+is_below : (a b : ℕ) → a < b → nat_lt a b ≡ true
+is_below a b lt = grind (arith, nat_tests)
+
+arcs_are : (made : Table) (b : Bound) → b.block < 4294967295 → (of_bound made b).arcs ≡ beside b.block (row_of made b.person)
+arcs_are made b lt = ap (λ x. cond x (beside b.block (row_of made b.person)) []) (is_below b.block 4294967295 lt)
+
+-- what a bound says of the block of its person
+pub bound_says : (made t : Table) (copies : List ℤ) (b : Bound) (person block : ℕ) → b.person ≡ person → b.block ≡ block → block < 4294967295 → row_of made person ≡ row_of t person → 16 * block ≤ length (row_of t person) → 256 < length (row_of t person) → Rises (row_of t person)
+    → KeepsListed t copies (of_bound made b) → Above (value (pos (length t.rows + 1)) (copy_in copies)) (row_of t person) (16 * block) (16 * block + 16) b.least
+bound_says made t copies b person block own here lt same within long rises keeps =
+    let arcs : (of_bound made b).arcs ≡ beside block (row_of t person) = arcs_are made b (omega (arith, here, lt)) ∙ ap (λ n. beside n (row_of made b.person)) here ∙ ap (λ n. beside block (row_of made n)) own ∙ ap (beside block) same in
+    let rest = rw (arcs, own) at keeps.rest in
+    beside_above (row_of t person) block within (value (pos (length t.rows + 1)) (copy_in copies)) b.least rises long rest
+
+-- a new bound is right
+pub bound_is : (made t : Table) (copies : List ℤ) (b : Bound) → b.block < 4294967295 → row_of made b.person ≡ row_of t b.person → 16 * b.block ≤ length (row_of t b.person) → Rises (row_of t b.person)
+    → Above (value (pos (length t.rows + 1)) (copy_in copies)) (row_of t b.person) (16 * b.block) (16 * b.block + 16) b.least → KeepsListed t copies (of_bound made b)
+bound_is made t copies b lt same within rises above =
+    let arcs : (of_bound made b).arcs ≡ beside b.block (row_of t b.person) = arcs_are made b lt ∙ ap (beside b.block) same in
+    rw arcs (keeps_beside (row_of t b.person) b.block within (value (pos (length t.rows + 1)) (copy_in copies)) b.least rises above)

@@ -1,0 +1,64 @@
+-- Two rows that rise, one of which has the other's arcs, and as many of them, are one row.
+use Rattle.std.proofs.Common.{◌≡◌, ℕ, ◌+◌, ◌-◌, ◌<◌, ◌≤◌, ◌⊎◌, inl, inr, List, length, get_or, ap, sym, ◌∙◌, arith, zero, suc}
+use Rattle.std.specs.Prelude.{All, AllPairs, Contains}
+use Rattle.std.proofs.lemmas.Bool.{cases_lt}
+use Rattle.std.proofs.lemmas.List.{get_or_default, same_lists}
+use Rattle.auc_graph.specs.declared.rows.RowArc.{RowArc}
+use Rattle.auc_persons.proofs.Found.{no_arc}
+
+abbrev pub Rises : List RowArc → Type 0
+Rises row = AllPairs (λ a b. a.arc < b.arc) row
+
+-- the place of an arc in the list of arcs
+abbrev pub place : List RowArc → ℕ → ℕ
+place row i = (get_or row i no_arc).arc
+
+-- the order of places is that of arcs
+pub order : (row : List RowArc) (p q : ℕ) → Rises row → p < length row → q < length row → place row p < place row q → p < q
+order row p q rises p_lt q_lt lt = by (cases_lt p q) (cases_lt q p)
+  where
+    by : (p < q) ⊎ (q ≤ p) → (q < p) ⊎ (p ≤ q) → p < q
+    by (inl below) _ = below
+    by (inr le) (inl above) = let o = rises q p no_arc above p_lt in absurd (omega (arith, o, lt))
+    by (inr le) (inr ge) = let same : p ≡ q = omega arith in let e = ap (place row) same in absurd (omega (arith, e, lt))
+
+-- where an arc of the other row stands in this one
+found : (row other : List RowArc) (i : ℕ) → All (Contains row) other → i < length other → (q : ℕ) × (q < length row) × (get_or row q no_arc ≡ get_or other i no_arc)
+found row other i members lt = let m = members i no_arc lt in (m.0, m.1, get_or_default row m.0 no_arc (get_or other i no_arc) m.1 ∙ m.2)
+
+module _ (row other : List RowArc) (rises : Rises row) (also : Rises other) (members : All (Contains row) other) (same : length other ≡ length row) where
+  -- of two arcs of the other row, the earlier one stands earlier in this row too
+  in_order : (i j p q : ℕ) → i < j → j < length other → p < length row → q < length row → get_or row p no_arc ≡ get_or other i no_arc → get_or row q no_arc ≡ get_or other j no_arc → p < q
+  in_order i j p q lt j_lt p_lt q_lt p_is q_is =
+      let up : place other i < place other j = also i j no_arc lt j_lt in
+      let e : place row p ≡ place other i = ap (λ (a : RowArc). a.arc) p_is in
+      let f : place row q ≡ place other j = ap (λ (a : RowArc). a.arc) q_is in
+      order row p q rises p_lt q_lt (omega (arith, e, f, up))
+
+  no_earlier : (i p : ℕ) → i < length other → p < length row → get_or row p no_arc ≡ get_or other i no_arc → i ≤ p
+  no_earlier zero p lt there is = omega arith
+  no_earlier (suc i) p lt there is =
+      let f = found row other i members (omega (arith, lt)) in
+      let le = no_earlier i f.0 (omega (arith, lt)) f.1 f.2 in
+      let before = in_order i (suc i) f.0 p (omega arith) lt f.1 there f.2 is in
+      omega (arith, le, before)
+
+  no_later : (left i p : ℕ) → i + left + 1 ≡ length other → p < length row → get_or row p no_arc ≡ get_or other i no_arc → p ≤ i
+  no_later zero i p e there is = omega (arith, e, there, same)
+  no_later (suc left) i p e there is =
+      let lt : suc i < length other = omega (arith, e) in
+      let f = found row other (suc i) members lt in
+      let le = no_later left (suc i) f.0 (omega (arith, e)) f.1 f.2 in
+      let before = in_order i (suc i) p f.0 (omega arith) lt there f.1 is f.2 in
+      omega (arith, le, before)
+
+  at : (i : ℕ) (d : RowArc) → i < length other → get_or other i d ≡ get_or row i d
+  at i d lt =
+      let f = found row other i members lt in
+      let low = no_earlier i f.0 lt f.1 f.2 in
+      let high = no_later (length other - i - 1) i f.0 (omega (arith, lt)) f.1 f.2 in
+      let e : f.0 ≡ i = omega (arith, low, high) in
+      get_or_default other i d no_arc lt ∙ sym f.2 ∙ ap (λ n. get_or row n no_arc) e ∙ get_or_default row i no_arc d (omega (arith, lt, same))
+
+  pub same_row : other ≡ row
+  same_row = same_lists other row same at

@@ -1,0 +1,74 @@
+use Rattle.std.proofs.Common.{◌≡◌, ◌<◌, ◌++◌, ap, sym, subst, length, get_or, List, ℤ, arith}
+use Rattle.std.specs.Prelude.{map, All}
+use Rattle.std.proofs.lemmas.List.{with_items_is}
+use Rattle.std.proofs.lemmas.List.Elements.{All-get_or, All-same, All-set}
+use Rattle.auc_graph.specs.Table.{row_of}
+use Rattle.auc_persons.specs.declared.bound.Blocked.{Blocked}
+use Rattle.auc_persons.specs.Blocks.{HasArcs, of_blocked, of_bound}
+use Rattle.auc_persons.specs.Candidates.{KeepsListed, Kept}
+use Rattle.auc_persons.proofs.KeptBlocks.{kept_bounds, kept_of, kept_persons, same_as}
+use Rattle.auc_persons.proofs.SameRows.{Rises}
+use Rattle.auc_persons.proofs.blocks.Blocks.scan.Goals as goal
+
+pub scan_blocks-requires-clause-same : goal.scan_blocks-requires-clause-same
+scan_blocks-requires-clause-same c =
+    let t = c.args.rows.now in
+    let made = c.self.inside.made.value in
+    let copies = c.args.copies.now in
+    let persons = c.self.inside.persons.items in
+    let bounds = c.self.inside.bounds.items in
+    let b = c.index-blocked.result.now in
+    let lt : c.args.place < length persons = omega (arith, c.len.ensures, c.if-place-len.false) in
+    let kept = All-same (KeepsListed t copies) (map (of_blocked made) persons ++ map (of_bound made) bounds) c.args.self.now c.self.view_is c.requires.kept in
+    let here : KeepsListed t copies (of_blocked made b) = rw c.index-blocked.ensures (All-get_or (λ x. KeepsListed t copies (of_blocked made x)) persons c.args.place b lt (kept_persons made t copies persons bounds kept)) in
+    let has : HasArcs made b = rw c.index-blocked.ensures (All-get_or (HasArcs made) persons c.args.place b lt c.self.invariant) in
+    let e : b.person ≡ c.args.person = omega (arith, c.if-blocked-person.false) in
+    let f : length (row_of t b.person) ≡ length (row_of t c.args.person) = ap (λ n. length (row_of t n)) e in
+    let sound = rw c.row-arcs.ensures.row at c.row-arcs.ensures.sound in
+    let rises : Rises (row_of t b.person) = subst (λ n. Rises (row_of t n)) (sym e) sound.rising in
+    same_as made t copies b here has (omega (arith, c.if-blocked-arcs.false, ap length c.row-arcs.ensures.row, f)) rises
+
+pub scan_blocks-requires-clause-right : goal.scan_blocks-requires-clause-right
+scan_blocks-requires-clause-right c =
+    let t = c.args.rows.now in
+    let made = c.self.inside.made.value in
+    let copies = c.args.copies.now in
+    let persons = c.self.inside.persons.items in
+    let bounds = c.self.inside.bounds.items in
+    let kept = All-same (KeepsListed t copies) (map (of_blocked made) persons ++ map (of_bound made) bounds) c.args.self.now c.self.view_is c.requires.kept in
+    rw c.as_mut_slice.ensures.value (kept_bounds made t copies persons bounds kept)
+
+pub returns-in_err-search-clause-kept : goal.returns-in_err-search-clause-kept
+returns-in_err-search-clause-kept c =
+    let t = c.args.rows.now in
+    let made = c.self.inside.made.value in
+    let copies = c.args.copies.now in
+    let persons = c.self.inside.persons.items in
+    let bounds = c.self.inside.bounds.items in
+    let kept = All-same (KeepsListed t copies) (map (of_blocked made) persons ++ map (of_bound made) bounds) c.args.self.now c.self.view_is c.requires.kept in
+    let len : length c.scan_blocks.new.bounds ≡ c.self.inside.bounds.len = omega (arith, c.scan_blocks.ensures.length, c.as_mut_slice.ensures.len, ap length c.as_mut_slice.ensures.value) in
+    rw (with_items_is c.self.inside.bounds c.scan_blocks.new.bounds len) (kept_of made t copies persons c.scan_blocks.new.bounds (kept_persons made t copies persons bounds kept) c.scan_blocks.ensures.right)
+
+pub invariant_of-self-2 : goal.invariant_of-self-2
+invariant_of-self-2 c =
+    let made = c.self.inside.made.value in
+    let persons = c.self.inside.persons.items in
+    let b = c.index-blocked.result.now in
+    let lt : c.args.place < length persons = omega (arith, c.len.ensures, c.if-place-len.false) in
+    let has : HasArcs made b = rw c.index-blocked.ensures (All-get_or (HasArcs made) persons c.args.place b lt c.self.invariant) in
+    All-set (HasArcs made) persons c.args.place _ has c.self.invariant
+
+pub returns-clause-kept : goal.returns-clause-kept
+returns-clause-kept c =
+    let t = c.args.rows.now in
+    let made = c.self.inside.made.value in
+    let copies = c.args.copies.now in
+    let persons = c.self.inside.persons.items in
+    let bounds = c.self.inside.bounds.items in
+    let b = c.index-blocked.result.now in
+    let lt : c.args.place < length persons = omega (arith, c.len.ensures, c.if-place-len.false) in
+    let kept = All-same (KeepsListed t copies) (map (of_blocked made) persons ++ map (of_bound made) bounds) c.args.self.now c.self.view_is c.requires.kept in
+    let own = kept_persons made t copies persons bounds kept in
+    let here : KeepsListed t copies (of_blocked made b) = rw c.index-blocked.ensures (All-get_or (λ x. KeepsListed t copies (of_blocked made x)) persons c.args.place b lt own) in
+    let len : length c.scan_blocks.new.bounds ≡ c.self.inside.bounds.len = omega (arith, c.scan_blocks.ensures.length, c.as_mut_slice.ensures.len, ap length c.as_mut_slice.ensures.value) in
+    rw (with_items_is c.self.inside.bounds c.scan_blocks.new.bounds len) (kept_of made t copies _ c.scan_blocks.new.bounds (All-set (λ x. KeepsListed t copies (of_blocked made x)) persons c.args.place _ here own) c.scan_blocks.ensures.right)

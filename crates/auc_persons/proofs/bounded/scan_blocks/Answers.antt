@@ -1,0 +1,89 @@
+use Rattle.std.proofs.Common.{◌≡◌, ◌<◌, ◌≤◌, ◌+◌, ◌-◌, ◌*◌, ◌∙◌, ap, ℕ, length, get_or, pos, w64, arith, rules, length-set, refl}
+use Rattle.std.specs.Prelude.{FitsSigned, All}
+use Rattle.std.proofs.lemmas.Int.{ints, to_z-of_z}
+use Rattle.std.proofs.lemmas.List.Elements.{All-get_or, All-set}
+use Rattle.auc_graph.specs.declared.rows.RowArc.{RowArc}
+use Rattle.auc_graph.specs.Bid.{value}
+use Rattle.auc_graph.specs.Table.{row_of}
+use Rattle.auc_persons.specs.declared.bound.Bound.{Bound}
+use Rattle.auc_persons.specs.Blocks.{of_bound}
+use Rattle.auc_persons.specs.Candidates.{KeepsListed}
+use Rattle.auc_persons.specs.Scan.{copy_in}
+use Rattle.auc_persons.specs.Search.{Covers}
+use Rattle.auc_persons.proofs.BlockBounds.{bound_is, bound_says}
+use Rattle.auc_persons.proofs.Found.{whole}
+use Rattle.auc_persons.proofs.Parts.{covered_above, covered_block}
+use Rattle.auc_persons.proofs.SameRows.{Rises}
+use Rattle.auc_persons.proofs.bounded.scan_blocks.Goals as goal
+use Rattle.auc_persons.proofs.bounded.scan_blocks.Goals.{then-not-is_above, else-not-is_above}
+
+abbrev no_bound : Bound
+no_bound = record { least = pos 0; person = 0; block = 0 }
+
+pub with_part-looked-requires-clause-found : goal.with_part-looked-requires-clause-found
+with_part-looked-requires-clause-found c =
+    let f1 : FitsSigned w64 c.scale_of-scale.result = search rules in
+    let scale : c.scale_of-scale.result ≡ pos (length c.args.rows.now.rows + 1) = c.scale_of-scale.ensures.is ∙ ap (λ n. pos (n + 1)) c.persons.ensures.persons in
+    simp to_z-of_z (rw (scale, c.row-row.ensures.row) c.loop-block.invariant.found)
+
+pub returns-clause-some : goal.returns-clause-some
+returns-clause-some c =
+    let t = c.args.rows.now in
+    let row = row_of t c.args.blocked.person in
+    let inv = c.loop-block.invariant in
+    let len = ap length c.row-row.ensures.row in
+    whole (value (pos (length t.rows + 1)) (copy_in c.args.copies.now)) row c.loop-block.search.scan inv.found (λ k d lt. inv.covered k d (omega (arith, c.loop-block-test.false, len, lt)) lt)
+
+pub loop-block-preserved : goal.loop-block-preserved
+loop-block-preserved c =
+    let f1 : FitsSigned w64 c.scale_of-scale.result = search rules in
+    let t = c.args.rows.now in
+    let made = c.args._made.now.value in
+    let copies = c.args.copies.now in
+    let person = c.args.blocked.person in
+    let row = row_of t person in
+    let val = value (pos (length t.rows + 1)) (copy_in copies) in
+    let block = c.loop-block.block in
+    let inv = c.loop-block.invariant in
+    let len = ap length c.row-row.ensures.row in
+    let scale : c.scale_of-scale.result ≡ pos (length t.rows + 1) = c.scale_of-scale.ensures.is ∙ ap (λ n. pos (n + 1)) c.persons.ensures.persons in
+    let sound = rw (c.row-row.ensures.row, c.requires.objects) at c.row-row.ensures.sound in
+    let rises : Rises row = sound.rising in
+    let within : 16 * block ≤ length row = omega (arith, c.loop-block-test.true, len, c.requires.long) in
+    let few : block < 4294967295 = omega (arith, within, sound.few) in
+    let at = c.args.blocked.start + block in
+    let at_lt : at < length c.loop-block.bounds = omega (arith, inv.length, c.loop-block-test.true, c.if-blocked-bounds.false, c.if-count-bounds.false) in
+    let P : Bound → Type 0 = λ b. KeepsListed t copies (of_bound made b) in
+    elim c.if-not-is_above.branch [
+      | then-not-is_above w ↦ (
+          let looked = w.with_part-looked in
+          let f2 : FitsSigned w64 looked.result.least = search rules in
+          let found = rw (scale, c.row-row.ensures.row) at (simp to_z-of_z at looked.ensures.found) in
+          let kept = rw scale at (simp to_z-of_z at looked.ensures.kept) in
+          let covered = rw (scale, c.row-row.ensures.row) at (simp to_z-of_z at looked.ensures.covered) in
+          let least = rw (scale, c.row-row.ensures.row) at (simp to_z-of_z at looked.ensures.least) in
+          let new : Bound = record { least = looked.result.least; person = person; block = block } in
+          let ends : (k : ℕ) → k < 16 * block + 16 → k < length row → k < w.lesser-to.result = λ k lt below. w.lesser-to.ensures.least k (omega (arith, lt)) (omega (arith, len, below)) in
+          let right : P new = bound_is made t copies new few c.requires.same within rises (λ k d low lt below. least k d (omega (arith, low)) (ends k lt below) below) in
+          rw (simp to_z-of_z at w.bounds-is, w.search-is) (record {
+            found = found;
+            limit = looked.ensures.limit;
+            covered = λ k d lt below. covered_block val row looked.result.search.scan block k d (λ before. kept (get_or row k d) (inv.covered k d before below)) (λ low high. covered k d (omega (arith, low)) (ends k high below)) lt;
+            right = All-set P c.loop-block.bounds at new right inv.right;
+            length = length-set c.loop-block.bounds at new ∙ inv.length;
+          })
+          )
+      | else-not-is_above w ↦ (
+          let f3 : FitsSigned w64 c.loop-block.search.limit = search rules in
+          let b : Bound = get_or c.loop-block.bounds at no_bound in
+          let e = simp to_z-of_z at (w.if-not-is_above.ensures refl) in
+          let says = bound_says made t copies b person block e.1 e.2 few c.requires.same within c.requires.long rises (All-get_or P c.loop-block.bounds at no_bound at_lt inv.right) in
+          rw (w.bounds-is, w.search-is) (record {
+            found = inv.found;
+            limit = inv.limit;
+            covered = λ k d lt below. covered_block val row c.loop-block.search.scan block k d (λ before. inv.covered k d before below) (λ low high. covered_above (pos (length t.rows + 1)) copies row c.loop-block.search.scan c.loop-block.search.limit b.least k d (rw (← scale) c.scale_of-scale.ensures.low) (rw (← scale) c.scale_of-scale.ensures.high) sound c.requires.copies inv.found inv.limit e.0 (says k d low high below) below) lt;
+            right = inv.right;
+            length = inv.length;
+          })
+          )
+    ]

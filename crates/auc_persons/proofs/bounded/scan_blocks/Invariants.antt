@@ -1,0 +1,17 @@
+use Rattle.std.proofs.Common.{◌≡◌, ℕ, ◌+◌, ◌*◌, ◌≤◌, ◌<◌, length, get_or, pos}
+use Rattle.auc_graph.specs.declared.rows.RowArc.{RowArc}
+use Rattle.auc_graph.specs.Bid.{value}
+use Rattle.auc_graph.specs.Table.{row_of}
+use Rattle.auc_persons.specs.Blocks.{AreRight}
+use Rattle.auc_persons.specs.Scan.{copy_in}
+use Rattle.auc_persons.specs.Search.{Covers, IsFound, IsLimit}
+use Rattle.auc_persons.proofs.bounded.scan_blocks.Given as goal
+
+abbrev pub invariant-loop-block : goal.invariant-loop-block
+invariant-loop-block l = record {
+  found : IsFound (value (pos (length l.rows.rows + 1)) (copy_in l.copies)) (row_of l.rows l.fn.blocked.person) l.search.scan;
+  limit : IsLimit l.search.scan l.search.limit;
+  covered : (k : ℕ) (d : RowArc) → k < 16 * l.block → k < length (row_of l.rows l.fn.blocked.person) → Covers (value (pos (length l.rows.rows + 1)) (copy_in l.copies)) l.search.scan (get_or (row_of l.rows l.fn.blocked.person) k d);
+  right : AreRight l._made.value l.rows l.copies l.bounds;
+  length : length l.bounds ≡ length l.fn.bounds;
+}

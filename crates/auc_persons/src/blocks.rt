@@ -1,0 +1,140 @@
+//! The blocks of the long rows of a shard's persons.
+
+ghost use Rattle.std.specs.Prelude.{◌≡◌, ◌<◌, ◌≤◌, ◌+◌, List, ℤ, pos, length, All, IfOk, IfSome, IsTrue, ◌↔◌, []};
+ghost use Rattle.auc_graph.specs.Bid.{value};
+ghost use Rattle.auc_graph.specs.Table.{row_of};
+ghost use Rattle.auc_letters.specs.Price.{IsPrice};
+ghost use Rattle.auc_persons.specs.Blocks.{or_none};
+ghost use Rattle.auc_persons.specs.Candidates.{Kept};
+ghost use Rattle.auc_persons.specs.Scan.{copy_in, IsScan};
+
+use crate::bound::{BLOCK, Blocked, Bound, LONG};
+use crate::bounded::scan_blocks;
+use crate::scan::Scan;
+use crate::search::Hint;
+use auc_graph::Rows;
+use std::alloc::{AllocError, Global};
+use std::marker::Model;
+use std::snapshot::Snapshot;
+
+/// A bound for each 16 arcs of the long rows. They are of the rows that they were made for, and stay right as long as no copy falls.
+#[derive(Drop)]
+pub(crate) struct Blocks {
+    made: Snapshot<Rows>,
+    persons: Vec<Blocked>,
+    bounds: Vec<Bound>,
+}
+
+impl Model for Blocks {
+    ghost use Rattle.std.specs.Prelude.{List, All, map, ◌++◌};
+    ghost use Rattle.auc_persons.specs.Blocks.{HasArcs, of_blocked, of_bound};
+    ghost use Rattle.auc_persons.specs.Candidates.{Listed};
+
+    ghost Value = { List Listed };
+
+    ghost view = { λ b. map (of_blocked b.made.value) b.persons.items ++ map (of_bound b.made.value) b.bounds.items };
+
+    ghost invariant = { λ b. All (HasArcs b.made.value) b.persons.items };
+}
+
+/// How many blocks a row of so many arcs has.
+fn blocks_of(arcs: usize) -> usize
+    ensures { result ≤ arcs }
+{
+    if arcs <= LONG {
+        return 0;
+    }
+    (arcs - 1) / BLOCK + 1
+}
+
+/// Whether some row is so long that it has blocks. O(persons).
+fn has_blocks(rows: &Rows) -> bool {
+    for person in 0..rows.persons() {
+        if rows.row(person).len() > LONG {
+            return true;
+        }
+    }
+    false
+}
+
+impl Blocks {
+    /// Blocks for the persons of shard number `shard` of `of`, with no bounds yet; none where no row is long.
+    pub(crate) fn make(
+        alloc: Global,
+        rows: &Rows,
+        shard: u32,
+        of: u32,
+    ) -> Result<Option<Blocks>, AllocError>
+        requires { shard < of }
+        ensures kept { IfOk result (λ b. (copies : List ℤ) → Kept rows.now copies (or_none b)) }
+    {
+        if !has_blocks(rows) {
+            return Ok(None);
+        }
+        let mut persons = Vec::with_capacity(alloc, (rows.persons() / of) as usize + 1)?;
+        let mut start = 0;
+        for person in 0..rows.persons() {
+            if person % of == shard {
+                let arcs = rows.row(person).len();
+                persons.push(Blocked {
+                    person,
+                    arcs: arcs as u32,
+                    start,
+                    hint: Hint::NONE,
+                })?;
+                start += blocks_of(arcs);
+            }
+        }
+        let bounds = vec![in alloc; Bound::NONE; start]?;
+        Ok(Some(Blocks {
+            made: Snapshot::of(rows),
+            persons,
+            bounds,
+        }))
+    }
+
+    /// Whether there is nobody.
+    pub(crate) fn is_empty(&self) -> bool
+        ensures { IsTrue result ↔ (self.now ≡ []) }
+    {
+        self.persons.is_empty() && self.bounds.is_empty()
+    }
+
+    /// The best arc of a person who has blocks. `place` is where he stands among the persons of the shard.
+    pub(crate) fn scan(
+        &mut self,
+        rows: &Rows,
+        person: u32,
+        place: u32,
+        copies: &[i64],
+    ) -> Option<Scan>
+        requires person { person < length rows.now.rows }
+        requires objects { rows.now.objects ≡ length copies.now }
+        requires copies { All IsPrice copies.now }
+        requires kept { Kept rows.now copies.now self.old }
+        ensures some { IfSome result (λ f. IsScan (value (pos (length rows.now.rows + 1)) (copy_in copies.now)) (row_of rows.now person) f) }
+        ensures kept { Kept rows.now copies.now self.new }
+    {
+        let place = place as usize;
+        if place >= self.persons.len() {
+            return None;
+        }
+        let blocked = self.persons[place];
+        let arcs = rows.row(person).len();
+        if blocked.person != person || blocked.arcs as usize != arcs || arcs <= LONG {
+            return None;
+        }
+        let search = scan_blocks(
+            rows,
+            &self.made,
+            copies,
+            blocked,
+            self.bounds.as_mut_slice(),
+        )?;
+        self.persons[place] = Blocked {
+            hint: search.hint,
+            ..blocked
+        };
+        Some(search.scan)
+    }
+}

@@ -1,0 +1,36 @@
+//! A bound of the values of some arcs of a long row, and what is kept of a person who has such a row.
+
+use crate::search::Hint;
+
+/// How many arcs a block has; the last one of a row may have fewer.
+pub(crate) const BLOCK: usize = 16;
+/// Rows up to so many arcs have no blocks.
+pub(crate) const LONG: usize = 256;
+/// No block.
+const NOWHERE: u32 = 4294967295;
+
+/// A value that no arc of a block is below: a person's block of this number.
+#[derive(Clone, Copy, Debug, PartialEq, Eq)]
+pub(crate) struct Bound {
+    pub least: i64,
+    pub person: u32,
+    pub block: u32,
+}
+
+impl Bound {
+    /// A bound of no block.
+    pub(crate) const NONE: Bound = Bound {
+        least: i64::MIN,
+        person: 0,
+        block: NOWHERE,
+    };
+}
+
+/// A person, how many arcs he has, where the bounds of his blocks begin, and the arcs that decided his last bid.
+#[derive(Clone, Copy, Debug, PartialEq, Eq)]
+pub(crate) struct Blocked {
+    pub person: u32,
+    pub arcs: u32,
+    pub start: usize,
+    pub hint: Hint,
+}

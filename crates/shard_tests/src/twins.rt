@@ -1,0 +1,78 @@
+//! Two shards of the same persons, one of which bids by lists and blocks.
+
+ghost use Rattle.std.specs.Prelude.{IfSome};
+ghost use Rattle.auc_letters.specs.Price.{IsEps};
+ghost use Rattle.auc_persons.specs.Persons.{IsMadeFor};
+ghost use Rattle.shard_tests.specs.Twins.{AreTwins};
+
+use auc_graph::Rows;
+use auc_letters::Letter;
+use auc_persons::{Bidding, Candidates, PersonShard};
+use std::test::*;
+
+/// How many shards there are, of which these are the first.
+const SHARDS: u32 = 75;
+
+/// Two shards that are asked and told the same.
+#[derive(Drop)]
+pub struct Twins {
+    pub whole: PersonShard,
+    pub listed: PersonShard,
+    pub lists: Candidates,
+}
+
+/// The first of the shards, at prices of 0.
+fn first_shard(rt: &HostRuntime, rows: &Rows) -> Option<PersonShard>
+    ensures { IfSome result (IsMadeFor rows.now) }
+{
+    let prices = vec![in rt.alloc(); 0; rows.objects() as usize].ok()?;
+    PersonShard::make(
+        rt.alloc(),
+        0,
+        SHARDS,
+        1,
+        rows.persons(),
+        prices.as_slice(),
+        1_000,
+    )
+    .ok()
+}
+
+impl Twins {
+    /// Two shards for these rows, and lists for one of them.
+    pub fn new(rt: &HostRuntime, rows: &Rows) -> Option<Twins>
+        ensures { IfSome result (λ t. AreTwins rows.now t.whole t.listed t.lists) }
+    {
+        let whole = first_shard(rt, rows)?;
+        let listed = first_shard(rt, rows)?;
+        let Ok(lists) = Candidates::make(rt.alloc(), rows, 0, SHARDS) else {
+            return None;
+        };
+        Some(Twins {
+            whole,
+            listed,
+            lists,
+        })
+    }
+
+    /// What is bid next after a whole pass, where it is the same by lists and blocks.
+    pub fn asks(&mut self, rows: &Rows, eps: i64) -> Option<Bidding>
+        requires twins { AreTwins rows.now self.old.whole self.old.listed self.old.lists }
+        requires eps { IsEps eps }
+        ensures { AreTwins rows.now self.new.whole self.new.listed self.new.lists }
+    {
+        let whole = self.whole.next_bid(rows, eps);
+        let listed = self.listed.next_bid_by(rows, eps, &mut self.lists);
+        if whole == listed { Some(whole) } else { None }
+    }
+
+    /// Tells both a letter; whether they answer the same.
+    pub fn hears(&mut self, _rows: &Rows, letter: Letter) -> bool
+        requires { AreTwins _rows.now self.old.whole self.old.listed self.old.lists }
+        ensures { AreTwins _rows.now self.new.whole self.new.listed self.new.lists }
+    {
+        let whole = self.whole.on_letter(letter);
+        let listed = self.listed.on_letter(letter);
+        whole == listed
+    }
+}

@@ -1,0 +1,127 @@
+//! Bids by lists and blocks are those of a whole pass, for rows of each length that has a way of its own.
+
+ghost use Rattle.std.specs.Prelude.{◌<◌};
+ghost use Rattle.auc_letters.specs.Price.{IsEps};
+ghost use Rattle.shard_tests.specs.Twins.{AreTwins};
+
+use crate::desk::rows_of;
+use crate::twins::Twins;
+use auc_graph::Rows;
+use auc_letters::Letter;
+use auc_persons::Bidding;
+use std::alloc::AllocError;
+use std::test::*;
+
+/// How many arcs the persons of the first shard have.
+const LENGTHS: [u32; 8] = [1, 2, 3, 40, 41, 256, 257, 600];
+
+/// What the arc of a person at a place of his row costs, in one of four ways: all arcs cost the same; there are a few levels;
+/// costs are products; they look like drawn.
+fn cost_of(way: u32, person: u32, place: u32) -> u32 {
+    match way {
+        0 => 5,
+        1 => place.wrapping_mul(7) % 5,
+        2 => person.wrapping_add(1).wrapping_mul(place.wrapping_add(1)),
+        _ => place.wrapping_mul(7_919).wrapping_add(person) % 1_000,
+    }
+}
+
+/// To which object the arc at a place leads: places and objects are in different orders. With levels two arcs each lead to one.
+fn object_of(way: u32, place: u32) -> u32
+    ensures { result < 600 }
+{
+    let place = if way == 1 { place / 2 } else { place };
+    place.wrapping_mul(367) % 600
+}
+
+/// The text of a problem of 600 persons, of whom each 75th has arcs.
+fn text_of(rt: &HostRuntime, way: u32) -> Result<String, AllocError> {
+    let mut text = String::new(rt.alloc());
+    text.push_str("600\n")?;
+    for turn in 0..8 {
+        let person = turn as u32 * 75 + 1;
+        for place in 0..LENGTHS[turn] {
+            let object = object_of(way, place) + 1;
+            let cost = cost_of(way, person, place);
+            let line = format!(in rt.alloc(); "{person} {object} {cost}\n")?;
+            text.push_str(line.as_str())?;
+        }
+    }
+    Ok(text)
+}
+
+/// Whether a bid of each is the same; it is refused, and another price rises to its amount.
+fn bids_alike(rows: &Rows, twins: &mut Twins, eps: i64, other: u32) -> bool
+    requires twins { AreTwins rows.now twins.old.whole twins.old.listed twins.old.lists }
+    requires eps { IsEps eps }
+    ensures { AreTwins rows.now twins.new.whole twins.new.listed twins.new.lists }
+{
+    let Some(Bidding::Out { out }) = twins.asks(rows, eps) else {
+        return false;
+    };
+    let Letter::Bid {
+        person,
+        object,
+        amount,
+        ..
+    } = out.letter
+    else {
+        return false;
+    };
+    let refused = Letter::Refused {
+        person,
+        object,
+        price: amount,
+    };
+    let price = Letter::Price {
+        object: other,
+        price: amount,
+    };
+    twins.hears(rows, refused) && twins.hears(rows, price)
+}
+
+/// Whether 400 bids of each are the same.
+fn stay_alike(rows: &Rows, twins: &mut Twins) -> bool
+    requires { AreTwins rows.now twins.old.whole twins.old.listed twins.old.lists }
+{
+    for round in 0..400 {
+        if !bids_alike(rows, twins, 1 + round as i64, object_of(0, round + 11)) {
+            return false;
+        }
+    }
+    true
+}
+
+/// Whether bids of two shards are the same, at costs of one way.
+fn are_alike(rt: &HostRuntime, way: u32) -> bool {
+    let Ok(text) = text_of(rt, way) else {
+        return false;
+    };
+    let Some(rows) = rows_of(rt, text.as_str()) else {
+        return false;
+    };
+    let Some(mut twins) = Twins::new(rt, &rows) else {
+        return false;
+    };
+    !twins.lists.is_empty() && stay_alike(&rows, &mut twins)
+}
+
+#[test]
+fn same_bids_at_one_cost(rt: HostRuntime) {
+    assert!(rt; are_alike(&rt, 0), "one cost");
+}
+
+#[test]
+fn same_bids_at_a_few_levels(rt: HostRuntime) {
+    assert!(rt; are_alike(&rt, 1), "levels");
+}
+
+#[test]
+fn same_bids_at_products(rt: HostRuntime) {
+    assert!(rt; are_alike(&rt, 2), "products");
+}
+
+#[test]
+fn same_bids_at_costs_like_drawn(rt: HostRuntime) {
+    assert!(rt; are_alike(&rt, 3), "costs like drawn");
+}

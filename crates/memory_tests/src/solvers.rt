@@ -6,17 +6,13 @@ ghost use Rattle.auc_threads.specs.Naming.{AreThreadLimits};
 use crate::marks::refuse_one;
 use crate::problems::{LONG, ONE_OBJECT, THREE, problem_of};
 use auc_book::MOST_ROOM;
-use auc_cert::{Cert, StartError, read_cert, start_prices, write_cert};
-use auc_graph::{ArcList, Rows};
+use auc_cert::write_cert;
+use auc_graph::Rows;
 use auc_letters::MOST_SHARDS;
 use auc_mail::MOST_NODES;
-use auc_world::{Answer, Limits, World, solve_serial, solve_serial_from};
+use auc_world::{Answer, Limits, World, solve_serial};
 use std::alloc::Global;
 use std::test::*;
-
-/// A certificate of `THREE`.
-pub const OF_THREE: &str =
-    "auction 1\noptimal 3 5\nassign 1 2 1\nassign 2 1 2\nassign 3 3 2\nprice 1 10\nprice 2 17\nprice 3 15\n";
 
 /// The usual limits, with so many shards of each kind and places in each trail.
 pub fn limits_of(shards: u32, audit: u32) -> Result<Limits, Fail>
@@ -59,45 +55,6 @@ fn solves(alloc: Global, text: &str, limits: &Limits) -> Result<bool, Fail>
         Ok(answer) => Ok(text_of(alloc, &answer)?.as_slice() == ample.as_slice()),
         Err(_) => Ok(true),
     }
-}
-
-/// What the solver answers from the prices of a certificate, and none for want of memory.
-fn answer_from(
-    alloc: Global,
-    problem: &ArcList,
-    cert: &Cert,
-    limits: &Limits,
-) -> Result<Answer, StartError>
-    requires { AreThreadLimits limits.now }
-{
-    let start = start_prices(alloc, problem, cert)?;
-    match solve_serial_from(alloc, problem, limits, start.as_slice()) {
-        Ok(answer) => Ok(answer),
-        Err(_) => Err(StartError::NoMemory),
-    }
-}
-
-/// Whether a solve from the prices of a certificate gives the answer that it gives with ample memory, or none.
-fn solves_from(alloc: Global, problem: &ArcList, cert: &Cert, limits: &Limits) -> Result<bool, Fail>
-    requires { AreThreadLimits limits.now }
-{
-    let ample = text_of(alloc, &answer_from(alloc, problem, cert, limits)?)?;
-    let mark = refuse_one(alloc)?;
-    let solved = answer_from(alloc, problem, cert, limits);
-    drop(mark);
-    match solved {
-        Ok(answer) => Ok(text_of(alloc, &answer)?.as_slice() == ample.as_slice()),
-        Err(error) => Ok(matches!(error, StartError::NoMemory)),
-    }
-}
-
-#[test]
-fn from_a_start(rt: HostRuntime) -> Result<(), Fail> {
-    let alloc = rt.alloc();
-    let problem = problem_of(alloc, THREE)?;
-    let cert = read_cert(alloc, OF_THREE.as_bytes())?;
-    assert!(rt; solves_from(alloc, &problem, &cert, &limits_of(1, 0)?)?);
-    Ok(())
 }
 
 #[test]

@@ -78,7 +78,7 @@ def solve(rows, columns, costs, shape=None, *, maximize=False, decimals=0, start
     """The assignment of least cost, and prices that show it: a :class:`Solution`.
 
     Entry k says that row rows[k] may have column columns[k] at costs[k]. Each row gets a column, or where there are more rows than columns
-    each column a row, none twice. O(rows * entries) time at most in the search of a first assignment, mostly far less, and 60 bytes an entry.
+    each column a row, none twice. The search of a first assignment takes O(rows * entries) time at most, mostly far less.
 
     rows, columns: int arrays of one length, from 0; a pair may stand twice.
     costs: int or float array of the same length. What counts is costs * 10^decimals, which must be whole numbers to 10^9 in magnitude.

@@ -1,10 +1,10 @@
 -- Bounds of blocks, seen as lists of candidates.
-use Rattle.std.proofs.Common.{◌≡◌, ℕ, ◌+◌, ◌-◌, ◌*◌, ◌<◌, ◌≤◌, ◌⊎◌, inl, inr, cond, List, [], ◌++◌, length, get_or, take, drop, ap, sym, refl, ◌∙◌, arith, pos, true}
+use Rattle.std.proofs.Common.{◌≡◌, ℕ, ◌+◌, ◌-◌, ◌*◌, ◌<◌, ◌≤◌, ◌⊎◌, inl, inr, cond, List, [], length, get_or, take, drop, ap, sym, refl, ◌∙◌, arith, pos, true}
 use Rattle.std.specs.Prelude.{ℤ, ◌≤ℤ◌, All, Contains, nat_lt}
 use Rattle.std.proofs.lemmas.Bool.{cases_lt}
 use Rattle.std.proofs.lemmas.Bool.Decides.{nat_tests}
 use Rattle.std.proofs.lemmas.List.{get_or-take, get_or-drop, get_or_append_left, get_or-append_right, get_or_default, length-take-le, length-drop, length-append}
-use Rattle.std.proofs.lemmas.List.Elements.{All-append, All-contains_itself, All-drop, All-take, Contains-append_cases, Contains-append_left, Contains-append_right, Contains-get_or}
+use Rattle.std.proofs.lemmas.List.Elements.{All-append, All-contains_itself, All-drop, All-take, Contains-append_left, Contains-append_right, Contains-get_or}
 use Rattle.auc_graph.specs.declared.rows.RowArc.{RowArc}
 use Rattle.auc_graph.specs.Bid.{value}
 use Rattle.auc_graph.specs.Table.{Table, row_of}
@@ -15,12 +15,6 @@ use Rattle.auc_persons.specs.Scan.{copy_in}
 use Rattle.auc_persons.proofs.SameRows.{Rises}
 
 module _ (row : List RowArc) (block : ℕ) (within : 16 * block ≤ length row) where
-  front : List RowArc
-  front = take (16 * block) row
-
-  back : List RowArc
-  back = drop (16 * block + 16) row
-
   front_length : length (take (16 * block) row) ≡ 16 * block
   front_length = length-take-le (16 * block) row within
 

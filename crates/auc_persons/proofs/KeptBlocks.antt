@@ -1,6 +1,6 @@
 -- Blocks of a shard, seen as lists of candidates.
-use Rattle.std.proofs.Common.{◌≡◌, ℕ, ◌+◌, inr, inl, List, [], ◌∷◌, ◌++◌, length, get_or, refl, ap, arith, pos}
-use Rattle.std.specs.Prelude.{ℤ, All, Contains, map}
+use Rattle.std.proofs.Common.{◌≡◌, ◌+◌, inr, inl, List, [], ◌∷◌, ◌++◌, length, get_or, refl, ap, arith, pos}
+use Rattle.std.specs.Prelude.{ℤ, All, map}
 use Rattle.std.specs.List.{AllByRecursion}
 use Rattle.std.proofs.lemmas.List.{length-append}
 use Rattle.std.proofs.lemmas.List.Elements.{All-append, All-contains, All-contains_itself, All-from_recursion, All-map, All-weaker, Contains-append_left, Contains-append_right, Contains-get_or, recursion_from_All}

@@ -1,12 +1,10 @@
 -- Blocks of long rows: what a bound says of the arcs of a row that stand in a block, in the words of lists of candidates.
-use Rattle.std.specs.Prelude.{◌≡◌, ◌<◌, ◌≤◌, ◌*◌, ◌+◌, ◌++◌, ◌≤ℤ◌, ℕ, ℤ, pos, nat_lt, cond, List, [], length, take, drop, map, All, Option, Some, None, slice_index_or}
+use Rattle.std.specs.Prelude.{◌≡◌, ◌<◌, ◌≤◌, ◌*◌, ◌+◌, ◌++◌, ◌≤ℤ◌, ℕ, ℤ, pos, nat_lt, cond, List, [], length, take, drop, All, Option, Some, None, slice_index_or}
 use Rattle.auc_graph.specs.declared.rows.RowArc.{RowArc}
-use Rattle.auc_graph.specs.Bid.{value}
 use Rattle.auc_graph.specs.Table.{Table, row_of}
 use Rattle.auc_persons.specs.declared.bound.Bound.{Bound}
 use Rattle.auc_persons.specs.declared.bound.Blocked.{Blocked}
 use Rattle.auc_persons.specs.Candidates.{KeepsListed, Listed}
-use Rattle.auc_persons.specs.Scan.{copy_in}
 
 -- the arcs of a row beside those of a block, which has 16
 abbrev pub beside : ℕ → List RowArc → List RowArc

@@ -20,6 +20,7 @@ use std::snapshot::Snapshot;
 /// A bound for each 16 arcs of the long rows. They are of the rows that they were made for, and stay right as long as no copy falls.
 #[derive(Drop)]
 pub(crate) struct Blocks {
+    // The rows that they were made for. It has no bytes.
     made: Snapshot<Rows>,
     persons: Vec<Blocked>,
     bounds: Vec<Bound>,

@@ -21,11 +21,12 @@ pub(crate) const MIDDLE: usize = 40;
 /// How many arcs a list is to hold.
 const WANTED: i64 = 7;
 
-/// Lists of candidates, one for each person of a shard, by which most bids look at a few arcs alone
+/// Lists of candidates, one for each person of a shard, by which most bids look at a few arcs alone, and bounds of blocks for rows of more than 256 arcs
 /// ([`crate::PersonShard::next_bid_by`]). They are of the rows that they were made for, and stay right as long as no copy falls.
 #[derive(Drop)]
 pub struct Candidates {
     lists: Vec<Shortlist>,
+    // Where some row is long enough for blocks.
     blocks: Option<Blocks>,
 }
 
@@ -57,7 +58,7 @@ fn first_delta(rows: &Rows, person: u32) -> i64
     scaled(scale_of(rows.persons()), rows.cost_spread()) / (arcs + 1) * WANTED
 }
 
-/// The best arc of a person, where his list tells it.
+/// The best arc of a person, where his list tells it. `place` is where the list stands, if anywhere.
 #[inline]
 fn scan_list(
     lists: &mut [Shortlist],
@@ -103,7 +104,8 @@ impl Candidates {
 
     /// Empty lists for the persons of shard number `shard` of `of`; none where no row is long.
     ///
-    /// Takes O(persons) time and 168 bytes of memory for each person of the shard.
+    /// Takes O(persons + arcs / 16) time, and 168 bytes of memory for each person of the shard. Where some row has more than 256 arcs,
+    /// it takes 24 bytes more for each person, and 16 for each 16 arcs of such a row.
     ///
     /// # Errors
     ///
@@ -136,7 +138,8 @@ impl Candidates {
         self.lists.is_empty() && blocks.is_empty()
     }
 
-    /// The best arc of a person, where his list tells it. `place` is where his list stands, if anywhere.
+    /// The best arc of a person, by his list where that tells it, and else by his blocks where he has some. `place` is where they
+    /// stand, if anywhere.
     #[inline]
     pub(crate) fn scan(
         &mut self,

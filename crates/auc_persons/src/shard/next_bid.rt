@@ -146,7 +146,8 @@ impl PersonShard {
     /// `candidates` are lists for these rows that no copy has fallen since: lists that were made for them stay such in each
     /// call of the shard, since copies never fall, and where a world of later prices begins.
     ///
-    /// Takes a pass over a short list for most bids, and else as long as [`Self::next_bid`]; no memory.
+    /// Takes a pass over a short list for most bids, and else as long as [`Self::next_bid`], where a row of more than 256 arcs is looked
+    /// at in part; no memory.
     #[inline]
     pub fn next_bid_by(&mut self, rows: &Rows, eps: i64, candidates: &mut Candidates) -> Bidding
         requires rows { IsMadeFor rows.now self.old }

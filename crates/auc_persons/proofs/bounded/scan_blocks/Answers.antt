@@ -1,15 +1,13 @@
-use Rattle.std.proofs.Common.{◌≡◌, ◌<◌, ◌≤◌, ◌+◌, ◌-◌, ◌*◌, ◌∙◌, ap, ℕ, length, get_or, pos, w64, arith, rules, length-set, refl}
-use Rattle.std.specs.Prelude.{FitsSigned, All}
-use Rattle.std.proofs.lemmas.Int.{ints, to_z-of_z}
+use Rattle.std.proofs.Common.{◌≡◌, ◌<◌, ◌≤◌, ◌+◌, ◌*◌, ◌∙◌, ap, ℕ, length, get_or, pos, w64, arith, rules, length-set, refl}
+use Rattle.std.specs.Prelude.{FitsSigned}
+use Rattle.std.proofs.lemmas.Int.{to_z-of_z}
 use Rattle.std.proofs.lemmas.List.Elements.{All-get_or, All-set}
-use Rattle.auc_graph.specs.declared.rows.RowArc.{RowArc}
 use Rattle.auc_graph.specs.Bid.{value}
 use Rattle.auc_graph.specs.Table.{row_of}
 use Rattle.auc_persons.specs.declared.bound.Bound.{Bound}
 use Rattle.auc_persons.specs.Blocks.{of_bound}
 use Rattle.auc_persons.specs.Candidates.{KeepsListed}
 use Rattle.auc_persons.specs.Scan.{copy_in}
-use Rattle.auc_persons.specs.Search.{Covers}
 use Rattle.auc_persons.proofs.BlockBounds.{bound_is, bound_says}
 use Rattle.auc_persons.proofs.Found.{whole}
 use Rattle.auc_persons.proofs.Parts.{covered_above, covered_block}

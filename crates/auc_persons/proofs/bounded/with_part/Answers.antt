@@ -7,10 +7,8 @@ use Rattle.auc_graph.specs.Bid.{value}
 use Rattle.auc_persons.specs.Scan.{copy_in}
 use Rattle.auc_persons.specs.Search.{Covers}
 use Rattle.auc_persons.proofs.Found.{above_limit, no_arc, taken_is}
-use Rattle.auc_persons.proofs.SameRows.{same_row}
-use Rattle.auc_persons.proofs.Parts.{above_more, above_none, covered_more, covered_none, covered_weaker}
+use Rattle.auc_persons.proofs.Parts.{above_more, covered_more, covered_weaker}
 use Rattle.auc_persons.proofs.bounded.with_part.Goals as goal
-use Rattle.std.specs.List.{AllWithin}
 use Rattle.auc_persons.proofs.bounded.with_part.Goals.{then-value-search, else-value-search}
 
 pub loop-place-preserved : goal.loop-place-preserved

@@ -1,7 +1,7 @@
 use Rattle.std.proofs.Common.{◌≡◌, [], rules, ◌∙◌, ap, length, ℕ, arith}
 use Rattle.std.specs.Prelude.{vec_len}
 use Rattle.std.specs.Bool.{◌==◌}
-use Rattle.auc_persons.proofs.KeptBlocks.{nobody, nothing}
+use Rattle.auc_persons.proofs.KeptBlocks.{nobody}
 use Rattle.auc_persons.proofs.blocks.Blocks.is_empty.Goals as goal
 
 pub returns-else-is_empty : goal.returns-else-is_empty

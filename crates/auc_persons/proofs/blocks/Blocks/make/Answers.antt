@@ -1,6 +1,4 @@
-use Rattle.std.proofs.Common.{neg_ℤ, pos}
 use Rattle.std.proofs.lemmas.List.Elements.{All-replicate}
-use Rattle.auc_persons.specs.declared.bound.Bound.{Bound}
 use Rattle.auc_persons.specs.Blocks.{of_bound}
 use Rattle.auc_persons.specs.Candidates.{KeepsListed}
 use Rattle.auc_persons.proofs.KeptBlocks.{kept_of, none_is, own_new}

@@ -1,11 +1,10 @@
-use Rattle.std.proofs.Common.{◌≡◌, ◌<◌, ◌++◌, ap, sym, subst, length, get_or, List, ℤ, arith}
-use Rattle.std.specs.Prelude.{map, All}
+use Rattle.std.proofs.Common.{◌≡◌, ◌<◌, ◌++◌, ap, sym, subst, length, arith}
+use Rattle.std.specs.Prelude.{map}
 use Rattle.std.proofs.lemmas.List.{with_items_is}
 use Rattle.std.proofs.lemmas.List.Elements.{All-get_or, All-same, All-set}
 use Rattle.auc_graph.specs.Table.{row_of}
-use Rattle.auc_persons.specs.declared.bound.Blocked.{Blocked}
 use Rattle.auc_persons.specs.Blocks.{HasArcs, of_blocked, of_bound}
-use Rattle.auc_persons.specs.Candidates.{KeepsListed, Kept}
+use Rattle.auc_persons.specs.Candidates.{KeepsListed}
 use Rattle.auc_persons.proofs.KeptBlocks.{kept_bounds, kept_of, kept_persons, same_as}
 use Rattle.auc_persons.proofs.SameRows.{Rises}
 use Rattle.auc_persons.proofs.blocks.Blocks.scan.Goals as goal

@@ -1,5 +1,5 @@
 use Rattle.std.proofs.Common.{◌≡◌, ◌++◌, ap, length, arith}
-use Rattle.std.specs.Prelude.{All, Some}
+use Rattle.std.specs.Prelude.{Some}
 use Rattle.std.proofs.lemmas.List.{with_items_is}
 use Rattle.std.proofs.lemmas.List.Elements.{All-append, All-same}
 use Rattle.auc_persons.specs.Blocks.{or_none}

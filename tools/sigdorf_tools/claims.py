@@ -11,6 +11,7 @@ import check_certificate  # noqa: E402
 REFUSED = {
     "empty": "it is empty",
     "count": "the number of persons is out of range",
+    "objects": "it has more persons than objects",
     "arcs": "it has too many arcs",
 }
 INVALID = {
@@ -37,26 +38,26 @@ class Claim(NamedTuple):
     objects: list
 
 
-def read_arcs(file, text):
-    """The arcs of each person, as pairs of object and cost, of a problem with as many objects as persons."""
+def read_arcs(file, text, objects=None):
+    """The arcs of each person, as pairs of object and cost, of a problem with so many objects; where no number is given, as many as persons."""
     try:
-        return check_certificate.read_problem(text)[0]
+        return check_certificate.read_problem(text, objects)[0]
     except ValueError as fault:
         _, what, *place = str(fault).split()
         raise Fault(f"{file}: no problem that the solver takes: {REFUSED.get(what) or ' '.join(['fault', what, *place])}") from None
 
 
-def read_claim(file, text, arcs, problem):
-    """The claim of a certificate's text. One that isn't true of the problem, whose name is given, is a fault."""
+def read_claim(file, text, arcs, objects, problem):
+    """The claim of a certificate's text. One that isn't true of the problem with these arcs and so many objects, whose name is given, is a fault."""
     try:
         kind, numbers, first, second = check_certificate.read_claim(text)
     except ValueError as fault:
         raise Fault(f"{file}, line {str(fault).split()[-1]}: no certificate that `auction solve` writes") from None
     try:
         if kind == "infeasible":
-            check_certificate.judge_hall(arcs, len(arcs), first, second)
+            check_certificate.judge_hall(arcs, objects, first, second)
             return Claim(kind, [], [], None, None, first, second)
-        check_certificate.judge_plan(arcs, len(arcs), kind, numbers, first, second)
+        check_certificate.judge_plan(arcs, objects, kind, numbers, first, second)
         return Claim(kind, first, second, numbers[0], numbers[-1], [], [])
     except ValueError as fault:
         _, what, *place = str(fault).split()

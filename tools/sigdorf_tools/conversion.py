@@ -27,7 +27,7 @@ def converted(words):
     """The text of the arc file, and the names, of the table that the words name."""
     table = read_table(words.file, SEPARATORS.get(words.separator))
     problem = problem_of(table, words.form, words.decimals, words.maximise)
-    arcs, dummy_persons, dummy_objects = arc_file_of(words.file, problem)
+    arcs, dummy_objects = arc_file_of(words.file, problem)
     names = Names(
         table=os.path.basename(words.file),
         titles=problem.titles,
@@ -37,7 +37,6 @@ def converted(words):
         maximise=words.maximise,
         persons=problem.persons,
         objects=problem.objects,
-        dummy_persons=dummy_persons,
         dummy_objects=dummy_objects,
         arcs=arcs,
     )

@@ -26,14 +26,14 @@ class Margin(NamedTuple):
 def margins_of(arcs, claim):
     """The margins of all arcs, by persons, for a claim of a best plan.
 
-    The excess of an arc is how far it is above the least of its person, each at his costs times persons + 1, and prices. The excesses of any plan, together,
-    are its cost times persons + 1, less a sum that is the same for all plans. So a plan costs at least as much more than the best one as the excesses that
+    The excess of an arc is how far it is above the least of its person, each at his costs times persons + 1, and prices. The excesses of any plan, and the prices
+    of what it leaves over, together, are its cost times persons + 1, less a sum that is the same for all plans. So a plan costs at least as much more than the best one as the excesses that
     it can't do without are above all of the best plan's. Costs are whole, so it is rounded up. A plan without a person's own arc has another one of his.
     """
     scale = len(arcs) + 1
     excesses = {person: excesses_of(arcs[person], claim.prices, scale) for person in arcs}
     of_plan = sum(excesses[person][pick] for person, pick in enumerate(claim.picks, 1))
-    detour = detours_of(excesses, claim.picks)
+    detour = detours_of(excesses, claim)
     for person, pick in enumerate(claim.picks, 1):
         wanted = {arc: excess + detour(pick[0], arc[0]) for arc, excess in excesses[person].items() if arc != pick}
         falls = {arc: None if excess == inf else -((of_plan - excess) // scale) for arc, excess in wanted.items()}
@@ -42,14 +42,16 @@ def margins_of(arcs, claim):
             yield Margin(person, arc, arc == pick, rise if arc == pick else falls[arc])
 
 
-def detours_of(excesses, picks):
+def detours_of(excesses, claim):
     """What excess others can't do without where a person changes his own object for another one: a function of both.
 
-    Whoever has the other one has to leave it, and somebody else has to take the own one, since there are as many objects as persons. Both may be the
-    same arc, so the greater one counts.
+    Whoever has the other one has to leave it. The own one is taken by somebody else, or, where objects are more than persons, it may be left over, which costs
+    its price. Both may be the same arc, so the greater one counts.
     """
-    leave, take = dict.fromkeys(range(1, len(picks) + 1), inf), dict.fromkeys(range(1, len(picks) + 1), inf)
-    for person, (own, _) in enumerate(picks, 1):
+    has_spare = len(claim.prices) > len(claim.picks)
+    leave = dict.fromkeys(range(1, len(claim.prices) + 1), 0) | {own: inf for own, _ in claim.picks}
+    take = {thing: price if has_spare else inf for thing, price in enumerate(claim.prices, 1)}
+    for person, (own, _) in enumerate(claim.picks, 1):
         for (thing, _), excess in excesses[person].items():
             if thing != own:
                 leave[own], take[thing] = min(leave[own], excess), min(take[thing], excess)
@@ -70,7 +72,8 @@ def rows_of_margins(names, arcs, claim):
     yield [*names.titles, "is", "margin", "holds to"]
     for margin in margins_of(arcs, claim):
         person, thing = names.person(margin.person), names.object(margin.arc[0])
-        if person is None or thing is None:
+        # A dummy has no row.
+        if thing is None:
             continue
         contested |= {thing} if margin.contests() else set()
         role = "plan" if margin.is_picked else "contests" if margin.contests() else ""

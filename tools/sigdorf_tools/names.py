@@ -5,7 +5,7 @@ from typing import NamedTuple
 from .amounts import MOST_DECIMALS, amount_of
 from .faults import Fault, read_bytes
 
-FORMAT = "sigdorf names 1"
+FORMAT = "sigdorf names 2"
 
 
 class Names(NamedTuple):
@@ -19,7 +19,6 @@ class Names(NamedTuple):
     maximise: bool
     persons: list
     objects: list
-    dummy_persons: int
     dummy_objects: int
     arcs: str
 
@@ -28,8 +27,8 @@ class Names(NamedTuple):
         return amount_of(-cost if self.maximise else cost, self.decimals, self.mark)
 
     def person(self, number):
-        """The name of a person, or None of a dummy."""
-        return self.persons[number - 1] if number <= len(self.persons) else None
+        """The name of a person."""
+        return self.persons[number - 1]
 
     def object(self, number):
         """The name of an object, or None of a dummy."""
@@ -41,20 +40,22 @@ class Names(NamedTuple):
 
     def told(self):
         """How many there are of all, in words."""
-        arcs = self.arcs.count("\n") - 1
-        return f"{told(self.persons, self.dummy_persons, 'persons')}, {told(self.objects, self.dummy_objects, 'objects')}, {arcs} arcs"
+        dummies = f" with {self.dummy_objects} dumm{'y' if self.dummy_objects == 1 else 'ies'}" if self.dummy_objects else ""
+        return f"{len(self.persons)} persons, {self.number_of_objects()} objects{dummies}, {self.arcs.count(chr(10)) - 1} arcs"
+
+    def number_of_objects(self):
+        """How many objects the problem has, dummies among them."""
+        return len(self.objects) + self.dummy_objects
+
+    def words_for_objects(self):
+        """What tells `auction` how many objects there are, where they are more than the persons."""
+        return [f"--objects={len(self.objects)}"] if len(self.objects) > len(self.persons) else []
 
 
-def told(names, dummies, word):
-    """How many names there are, and how many dummies beside them."""
-    with_dummies = f" with {dummies} dumm{'y' if dummies == 1 else 'ies'}" if dummies else ""
-    return f"{len(names) + dummies} {word}{with_dummies}"
-
-
-def plain_names(count):
+def plain_names(persons, objects):
     """Names for a problem that has none: its numbers."""
-    numbers = [str(number) for number in range(1, count + 1)]
-    return Names("the problem", ["person", "object", "cost"], ",", ".", 0, False, numbers, numbers, 0, 0, "")
+    numbers = [str(number) for number in range(1, objects + 1)]
+    return Names("the problem", ["person", "object", "cost"], ",", ".", 0, False, numbers[:persons], numbers, 0, "")
 
 
 def read_names(file):
@@ -82,9 +83,8 @@ def look_at_names(file, names):
         "separator": names.separator in (",", ";", "\t"),
         "mark": names.mark in (".", ","),
         "decimals": 0 <= names.decimals <= MOST_DECIMALS,
-        "dummy_persons": names.dummy_persons >= 0,
-        "dummy_objects": names.dummy_objects >= 0 and len(names.persons) + names.dummy_persons == len(names.objects) + names.dummy_objects,
-        "arcs": names.arcs.split(maxsplit=1)[:1] == [str(len(names.persons) + names.dummy_persons)],
+        "dummy_objects": names.dummy_objects == max(len(names.persons) - len(names.objects), 0),
+        "arcs": names.arcs.split(maxsplit=1)[:1] == [str(len(names.persons))],
     }
     for field, holds in sound.items():
         if not holds:

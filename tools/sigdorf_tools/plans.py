@@ -14,8 +14,8 @@ def rows_of_plan(names, claim):
         return rows_of_hall_set(names, claim)
     rows = [names.titles]
     for number, (thing, cost) in enumerate(claim.picks, 1):
-        # Dummies stand in no plan.
-        if names.person(number) is not None and names.object(thing) is not None:
+        # Who takes a dummy stays without an object.
+        if names.object(thing) is not None:
             rows.append([names.person(number), names.object(thing), names.amount(cost)])
     rows.append(["total", "", names.amount(claim.cost)])
     if claim.kind == "bracket":
@@ -69,7 +69,8 @@ def listed(names, word):
 
 def write_plan(names, file, certificate):
     """Writes the plan of a certificate, whose file is named for faults, to standard output, as a table like the one that the names are from."""
-    arcs = read_arcs(names.table, names.arcs.encode())
-    claim = read_claim(file, certificate, arcs, names.table)
+    objects = names.number_of_objects()
+    arcs = read_arcs(names.table, names.arcs.encode(), objects)
+    claim = read_claim(file, certificate, arcs, objects, names.table)
     sys.stdout.reconfigure(encoding="utf-8", newline="")
     csv.writer(sys.stdout, delimiter=names.separator, lineterminator="\n").writerows(rows_of_plan(names, claim))

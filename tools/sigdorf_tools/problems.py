@@ -5,6 +5,7 @@ from .amounts import NotAnAmount, mark_of, units_of
 from .faults import Fault
 
 MOST_PERSONS = 10_000
+MOST_OBJECTS = 20_000
 MOST_ARCS = 33_554_432
 TITLES = ["person", "object", "cost"]
 
@@ -28,8 +29,8 @@ class Problem(NamedTuple):
 class Numbers:
     """Numbers names from 1 on, in the order in which they come."""
 
-    def __init__(self, table):
-        self.table, self.numbers = table, {}
+    def __init__(self, table, most):
+        self.table, self.most, self.numbers = table, most, {}
 
     def of(self, row, place):
         """The number of the name in a cell; a name that wasn't there before has the next one."""
@@ -37,8 +38,8 @@ class Numbers:
         if not name:
             raise self.table.fault(row, place, "a name is wanted, and the cell is empty")
         number = self.numbers.setdefault(name, len(self.numbers) + 1)
-        if number > MOST_PERSONS:
-            raise self.table.fault(row, place, f"`{name}` is one name more than the {MOST_PERSONS:,} that a problem may have")
+        if number > self.most:
+            raise self.table.fault(row, place, f"`{name}` is one name more than the {self.most:,} that a problem may have")
         return number
 
     def new(self, row, place):
@@ -104,7 +105,7 @@ def problem_of_pairs(table, costs):
     look_at_lengths(table, 3)
     if not looks_like_number(rows[0].cells[2]):
         titles, rows = titles_of(table), rows[1:]
-    persons, objects, arcs, lines = Numbers(table), Numbers(table), [], {}
+    persons, objects, arcs, lines = Numbers(table, MOST_PERSONS), Numbers(table, MOST_OBJECTS), [], {}
     for row in rows:
         if not row.cells[2]:
             raise table.fault(row, 2, "a cost is wanted, and the cell is empty; leave out the row of a pair that isn't allowed")
@@ -131,7 +132,7 @@ def problem_of_matrix(table, costs):
     """A column for each object with its name on top, and a row for each person with his name in front. An empty cell is a pair that isn't allowed."""
     first, rest = table.rows[0], table.rows[1:]
     look_at_lengths(table, len(first.cells))
-    persons, objects, arcs = Numbers(table), Numbers(table), []
+    persons, objects, arcs = Numbers(table, MOST_PERSONS), Numbers(table, MOST_OBJECTS), []
     for place in range(1, len(first.cells)):
         objects.new(first, place)
     for row in rest:
@@ -151,24 +152,22 @@ def look_at_lengths(table, length):
 
 
 def dummies_of(persons, objects):
-    """How many dummy persons and dummy objects a problem gets, and their arcs, which cost nothing.
+    """How many dummy objects a problem gets, and their arcs, which cost nothing.
 
-    The solver wants as many persons as objects. A dummy person may take each object, and whoever takes a dummy object stays without one. What else is
-    here knows of dummies only how many there are.
+    The solver wants no fewer objects than persons, since each person gets one: whoever takes a dummy stays without. What else is here knows of dummies only
+    how many there are.
     """
-    count = max(persons, objects)
-    arcs = [Arc(person, thing, 0) for person in range(persons + 1, count + 1) for thing in range(1, count + 1)]
-    arcs += [Arc(person, thing, 0) for person in range(1, count + 1) for thing in range(objects + 1, count + 1)]
-    return count - persons, count - objects, arcs
+    count = max(persons - objects, 0)
+    return count, [Arc(person, objects + dummy, 0) for person in range(1, persons + 1) for dummy in range(1, count + 1)]
 
 
 def arc_file_of(file, problem):
-    """The text of the arc file of a problem, and how many dummy persons and dummy objects it has."""
+    """The text of the arc file of a problem, and how many dummy objects it has."""
     persons, objects = len(problem.persons), len(problem.objects)
-    total = len(problem.arcs) + abs(persons - objects) * max(persons, objects)
+    total = len(problem.arcs) + max(persons - objects, 0) * persons
     if total > MOST_ARCS:
         raise Fault(f"{file}: the problem has {total:,} arcs with those of dummies, and may have {MOST_ARCS:,}")
-    dummy_persons, dummy_objects, dummies = dummies_of(persons, objects)
-    lines = [f"{persons + dummy_persons}\n"]
+    dummy_objects, dummies = dummies_of(persons, objects)
+    lines = [f"{persons}\n"]
     lines += [f"{arc.person} {arc.object} {arc.cost}\n" for arc in problem.arcs + dummies]
-    return "".join(lines), dummy_persons, dummy_objects
+    return "".join(lines), dummy_objects

@@ -68,8 +68,11 @@ class Amounts(ToolTest):
 
 class UnequalNumbers(ToolTest):
     def test_more_objects(self):
-        self.assertEqual(self.convert("a,x,4\na,y,5\n"), "2\n1 1 4\n1 2 5\n2 1 0\n2 2 0\n")
-        self.assertIn('"dummy_persons": 1', self.read("table.names"))
+        self.write("table.csv", "a,x,4\na,y,5\n")
+        said = "table.arcs: 1 persons, 2 objects, 2 arcs; solve and check it with --objects=2\ntable.names: their names\n"
+        self.assertEqual(self.call("tools/from_csv", "table.csv"), (0, said, ""))
+        self.assertEqual(self.read("table.arcs"), "1\n1 1 4\n1 2 5\n")
+        self.assertIn('"dummy_objects": 0', self.read("table.names"))
 
     def test_more_persons(self):
         self.assertEqual(self.convert("a,x,4\nb,x,5\n"), "2\n1 1 4\n2 1 5\n1 2 0\n2 2 0\n")
@@ -110,7 +113,8 @@ class Faults(ToolTest):
         "two forms of numbers": ("p,1,2\na,4,5\nb,6,7\n", [], "--form"),
         "two forms of numbers and a word": ("p,x,y\na,4,5\nb,n/a,7\n", [], "--form"),
         "too many persons": ("".join(f"a{n},x,{n}\n" for n in range(10_001)), [], "line 10001, column 1", "10,000"),
-        "too many dummies": ("a,x,1\n" + "".join(f"a,x{n},{n}\n" for n in range(9_000)), [], "arcs"),
+        "too many objects": ("".join(f"a,x{n},{n}\n" for n in range(20_001)), [], "line 20001, column 2", "20,000"),
+        "too many dummies": ("".join(f"a{n},x,{n}\n" for n in range(9_000)), [], "arcs"),
     }
 
     def test_faults(self):

@@ -60,10 +60,22 @@ class Margins(ToolTest):
             "b;y;0,2;plan;0,2;0,0",
         ])
 
+    def test_objects_left_over(self):
+        """Values are 15 and 15, 18 and 27: the only excess is 9, where the second person leaves the first object. The other plan costs 3 more."""
+        self.write("problem", "2\n1 1 1\n1 2 5\n2 1 2\n2 3 9\n")
+        self.write("certificate", "auction 2\noptimal 2 3 7\nassign 1 2 5\nassign 2 1 2\nprice 1 12\nprice 2 0\nprice 3 0\n")
+        self.assertEqual(self.rows("problem", "certificate", "--objects", "3")[1:5], ["1,1,1,,3,-2", "1,2,5,plan,3,8", "2,1,2,plan,3,5", "2,3,9,,3,6"])
+
+    def test_an_object_that_only_one_person_may_take(self):
+        """If he leaves it, its price of 3 is lost: less the excess of 1 that is 2, a cost of 1."""
+        self.write("problem", "1\n1 1 4\n1 2 5\n")
+        self.write("certificate", "auction 2\noptimal 1 2 4\nassign 1 1 4\nprice 1 3\nprice 2 0\n")
+        self.assertEqual(self.rows("problem", "certificate", "--objects", "2")[1:3], ["1,1,4,plan,1,5", "1,2,5,,1,4"])
+
     def test_dummies_are_left_out(self):
-        self.convert("a,x,4\na,y,5\n")
-        self.write("certificate", "auction 1\noptimal 2 4\nassign 1 1 4\nassign 2 2 0\nprice 1 0\nprice 2 0\n")
-        self.assertEqual(self.rows("table.arcs", "certificate", "--names", "table.names")[1:3], ["a,x,4,plan,1,5", "a,y,5,,1,4"])
+        self.convert("a,x,4\nb,x,5\n")
+        self.write("certificate", "auction 1\noptimal 2 4\nassign 1 1 4\nassign 2 2 0\nprice 1 0\nprice 2 12\n")
+        self.assertEqual(len(self.rows("table.arcs", "certificate", "--names", "table.names")), 4)
 
     @has_program()
     def test_true_limit_in_the_page(self):

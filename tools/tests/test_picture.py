@@ -31,9 +31,16 @@ class Pictures(ToolTest):
         picture = self.drawn(EXAMPLES / "crew_without_licences.arcs", "certificate")
         self.assertEqual(len(self.lines(picture, "#b8322a")), 5)
 
-    def test_dummies_are_left_out(self):
+    def test_more_objects(self):
         self.convert("a,x,4\na,y,5\n")
-        self.write("certificate", "auction 1\noptimal 2 4\nassign 1 1 4\nassign 2 2 0\nprice 1 0\nprice 2 0\n")
+        self.write("certificate", "auction 2\noptimal 1 2 4\nassign 1 1 4\nprice 1 0\nprice 2 0\n")
+        for words in ["--names", "table.names"], ["--objects", "2"]:
+            picture = self.drawn("table.arcs", "certificate", *words)
+            self.assertEqual(len(self.lines(picture, "#1b5fa7")), 1)
+
+    def test_dummies_are_left_out(self):
+        self.convert("a,x,4\nb,x,5\n")
+        self.write("certificate", "auction 1\noptimal 2 4\nassign 1 1 4\nassign 2 2 0\nprice 1 0\nprice 2 12\n")
         picture = self.drawn("table.arcs", "certificate", "--names", "table.names")
         self.assertEqual(len(self.lines(picture, "#1b5fa7")), 1)
 

@@ -23,9 +23,11 @@ class Plans(ToolTest):
         certificate = "auction 1\noptimal 1 4\nassign 1 1 4\nprice 1 0\n"
         self.assertEqual(self.plan('"Smith, Ann","the ""big"" pump",4\n', certificate)[1], 'person,object,cost\n"Smith, Ann","the ""big"" pump",4\ntotal,,4\n')
 
+    def test_more_objects(self):
+        certificate = "auction 2\noptimal 1 2 4\nassign 1 1 4\nprice 1 0\nprice 2 0\n"
+        self.assertEqual(self.plan("a,x,4\na,y,5\n", certificate)[1], "person,object,cost\na,x,4\ntotal,,4\n")
+
     def test_dummies_are_left_out(self):
-        more_objects = "auction 1\noptimal 2 4\nassign 1 1 4\nassign 2 2 0\nprice 1 0\nprice 2 0\n"
-        self.assertEqual(self.plan("a,x,4\na,y,5\n", more_objects)[1], "person,object,cost\na,x,4\ntotal,,4\n")
         more_persons = "auction 1\noptimal 2 4\nassign 1 1 4\nassign 2 2 0\nprice 1 0\nprice 2 12\n"
         self.assertEqual(self.plan("a,x,4\nb,x,5\n", more_persons)[1], "person,object,cost\na,x,4\ntotal,,4\n")
 
@@ -55,6 +57,7 @@ class Faults(ToolTest):
         "another size": ("auction 1\noptimal 1 4\nassign 1 1 4\nprice 1 0\n", "another problem", "number of persons"),
         "another cost": (BEST.replace("1 1 40", "1 1 41").replace("60", "61"), "another problem", "person 1"),
         "another sum": (BEST.replace("60", "61"), "another sum"),
+        "more objects": ("auction 2\noptimal 2 3 60\nassign 1 1 40\nassign 2 2 20\nprice 1 0\nprice 2 0\nprice 3 0\n", "number of persons or objects"),
         "object twice": ("auction 1\noptimal 2 75\nassign 1 1 40\nassign 2 1 35\nprice 1 0\nprice 2 0\n", "object 1", "twice"),
         "not the least": ("auction 1\noptimal 2 100\nassign 1 2 65\nassign 2 1 35\nprice 1 0\nprice 2 0\n", "person 1"),
         "no Hall set": ("auction 1\ninfeasible 2 1\nperson 1\nperson 2\nobject 1\n", "another problem"),
@@ -91,7 +94,7 @@ class Faults(ToolTest):
         self.convert(PAIRS)
         self.write("certificate", BEST)
         fields = json.loads(self.read("table.names"))
-        changes = [("persons", None), ("persons", [1, 2]), ("decimals", -1), ("decimals", True), ("separator", "x"), ("dummy_persons", -1), ("arcs", "x"), ("arcs", "3\n"), ("titles", [])]
+        changes = [("persons", None), ("persons", [1, 2]), ("decimals", -1), ("decimals", True), ("separator", "x"), ("dummy_objects", 1), ("arcs", "x"), ("arcs", "3\n"), ("titles", [])]
         texts = [json.dumps(fields | {field: value}) for field, value in changes]
         for change, answer in zip(changes, self.spoiled(texts, "tools/to_csv", "certificate", "spoiled")):
             with self.subTest(change):

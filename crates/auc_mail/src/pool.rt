@@ -1,18 +1,18 @@
 //! The mail itself: what each call makes of it.
 
-ghost use Rattle.std.specs.Prelude.{true, false, [], replicate, slice_index_or, ◌≡◌, ◌≢◌, ◌+◌, ◌*◌, ◌<◌, ◌≤◌, ◌↔◌, IfOk, IfErr, OnOk, IsTrue};
+ghost use Rattle.std.specs.Prelude.{replicate, ◌≡◌, ◌≤◌, IfOk, IfErr, OnOk};
 ghost use Rattle.auc_nodes.specs.Lists.{empty_lists};
 ghost use Rattle.auc_mail.specs.Limits.{LanesFit, NodesFit, IsRefusedFor};
-ghost use Rattle.auc_mail.specs.Mail.{HasBox, HasLane, IsClosed, IsSound, NothingWaits, blank_lane, empty_mail, free_of, lane_of, posted_of, waiting_at};
-ghost use Rattle.auc_mail.specs.Passing.{MayPass, Passes};
-ghost use Rattle.auc_mail.specs.Step.{Fits, Step, reply_to_post};
-ghost use Rattle.auc_mail.specs.Pool.{IsLaneOf, new_box};
+ghost use Rattle.auc_mail.specs.Mail.{IsSound, empty_mail};
+ghost use Rattle.auc_mail.specs.Step.{Fits, Step};
+ghost use Rattle.auc_mail.specs.Pool.{new_box};
 
-use crate::boxes::{
-    MailBox, NO_LANE, lane_in_turn, lane_number, note_close, note_pass, note_post, note_take,
-    sender_of,
-};
-use crate::call::{Call, PostRefused, Reply, Taken};
+mod looking;
+mod posting;
+mod taking;
+
+use crate::boxes::{MailBox, NO_LANE, note_close};
+use crate::call::{Call, Reply};
 use crate::error::MailError;
 use crate::limits::{MOST_BOXES, MOST_LANES, MOST_NODES, MOST_SENDERS};
 use auc_nodes::NodePool;
@@ -116,204 +116,6 @@ impl<T: Copy> MailPool<T> {
                 senders,
             }),
             Err(_) => Err(MailError::NoMemory),
-        }
-    }
-
-    /// Whether the call's box and sender are there. Takes O(1) time.
-    pub fn fits(&self, call: &Call<T>) -> bool
-        ensures { IsTrue result ↔ Fits self.now call.now }
-    {
-        match *call {
-            Call::Post { sender, to, .. } => {
-                sender < self.senders && (to as usize) < self.boxes.len()
-            }
-            Call::Take { at } | Call::Close { at } => (at as usize) < self.boxes.len(),
-        }
-    }
-
-    /// Whether the box is closed. Takes O(1) time.
-    #[inline]
-    pub fn is_closed(&self, at: u32) -> bool
-        requires { HasBox self.now at }
-        ensures { IsTrue result ↔ IsClosed self.now at }
-    {
-        !self.boxes[at as usize].accepting
-    }
-
-    /// How many more letters may wait, in all boxes together. Takes O(1) time.
-    #[inline]
-    pub fn free(&self) -> u32
-        ensures { result ≡ free_of self.now }
-    {
-        self.lists.free()
-    }
-
-    /// How many letters of the sender were posted to the box, those taken since among them. Takes O(1) time.
-    #[inline]
-    pub fn posted(&self, at: u32, sender: u32) -> u64
-        requires { HasLane self.now at sender }
-        ensures { result ≡ posted_of self.now at sender }
-    {
-        self.posted[lane_number(self.senders, at, sender) as usize]
-    }
-
-    /// How many letters of the sender were taken out of the box. Takes O(1) time.
-    pub fn taken(&self, at: u32, sender: u32) -> u64
-        requires { HasLane self.now at sender }
-        ensures { result ≡ (lane_of self.now at sender).taken }
-    {
-        let lane = lane_number(self.senders, at, sender);
-        self.posted[lane as usize] - u64::from(self.lists.len(lane))
-    }
-
-    /// How many letters wait in the box, of all senders. Takes O(1) time.
-    pub fn waiting(&self, at: u32) -> u32
-        requires { HasBox self.now at }
-        ensures { result ≡ waiting_at self.now at }
-    {
-        self.boxes[at as usize].waiting
-    }
-
-    /// Whether a letter waits in the box, of any sender. Takes O(1) time.
-    #[inline]
-    pub fn has_letter(&self, at: u32) -> bool
-        requires { HasBox self.now at }
-        ensures { IsTrue result ↔ (0 < waiting_at self.now at) }
-    {
-        self.boxes[at as usize].waiting > 0
-    }
-
-    /// Posts `item` from `sender` to the box `to`, and answers the letter's number in its lane, from 1.
-    ///
-    /// Refused, in this order: `Closed` where the box is closed; `Spent` where the lane had all its posts; `Full` where no
-    /// more than `reserve` letters are free. A refused post changes nothing. Takes O(1) time.
-    #[inline(always)]
-    pub fn post(&mut self, sender: u32, to: u32, item: T, reserve: u32) -> Result<u64, PostRefused>
-        requires { Fits self.old (Call.Post sender to item reserve) }
-        ensures { Step self.old (Call.Post sender to item reserve) (reply_to_post result) self.new }
-    {
-        if !self.boxes[to as usize].accepting {
-            return Err(PostRefused::Closed);
-        }
-        let lane = lane_number(self.senders, to, sender);
-        let posted = self.posted[lane as usize];
-        if posted == self.most {
-            return Err(PostRefused::Spent);
-        }
-        if self.lists.free() <= reserve {
-            return Err(PostRefused::Full);
-        }
-        // The law that bounds how many letters wait.
-        self.lists.every_pool_is_sound();
-        match self.lists.push_back(lane, item) {
-            Ok(()) => {
-                self.posted[lane as usize] += 1;
-                note_post(&mut self.boxes, to, lane);
-                Ok(posted + 1)
-            }
-            Err(_) => Err(PostRefused::Full),
-        }
-    }
-
-    /// Posts a letter from `sender` to the box `to` and takes it at once, so that whoever calls may hand it on by itself: the mail
-    /// comes to be what [`Self::post`] of any item and [`Self::take`] behind it would make of it.
-    ///
-    /// That needs a letter that would be accepted and would be the only one in its box: where the box is closed, the lane had all its
-    /// posts, no more than `reserve` letters are free, or a letter waits in the box, the answer is false and nothing is changed.
-    /// Takes O(1) time.
-    #[inline]
-    pub fn pass(&mut self, sender: u32, to: u32, reserve: u32) -> bool
-        requires { HasLane self.old to sender }
-        ensures may { IsTrue result ↔ MayPass self.old sender to reserve }
-        ensures passes { IsTrue result → Passes self.old sender to reserve self.new }
-        ensures stays { result ≡ false → self.new ≡ self.old }
-    {
-        if !self.may_pass(sender, to, reserve) {
-            return false;
-        }
-        let lane = lane_number(self.senders, to, sender);
-        self.posted[lane as usize] += 1;
-        note_pass(&mut self.boxes, to, lane);
-        true
-    }
-
-    // Whether a letter would be accepted, and would be the only one in its box.
-    #[inline]
-    fn may_pass(&self, sender: u32, to: u32, reserve: u32) -> bool
-        requires { HasLane self.now to sender }
-        ensures { IsTrue result ↔ MayPass self.now sender to reserve }
-    {
-        !self.is_closed(to)
-            && !self.has_letter(to)
-            && self.posted(to, sender) < self.most
-            && reserve < self.free()
-    }
-
-    /// Takes the first waiting letter of one of the box's lanes; where none has one, says whether one may still come.
-    ///
-    /// Which lane is left open: it is the first with a letter, in rotating order from the one behind the last giver. Takes O(1)
-    /// time where all letters of the box wait in one lane, or none waits, and else O(senders).
-    #[inline(always)]
-    pub fn take(&mut self, at: u32) -> Taken<T>
-        requires { Fits self.old (Call.Take at) }
-        ensures { Step self.old (Call.Take at) (Reply.Took result) self.new }
-    {
-        if self.boxes[at as usize].waiting == 0 {
-            return self.none_waits(at);
-        }
-        // Where the newest letter's lane has all that wait, no other is looked at.
-        let lane = self.boxes[at as usize].last;
-        if self.lists.len(lane) == self.boxes[at as usize].waiting {
-            return self.take_from(at, lane);
-        }
-        self.take_in_turn(at)
-    }
-
-    // What a take answers where no letter waits in the box.
-    #[inline]
-    fn none_waits(&self, at: u32) -> Taken<T>
-        requires at { HasBox self.now at }
-        requires none { NothingWaits self.now at }
-        ensures { Step self.now (Call.Take at) (Reply.Took result) self.now }
-    {
-        if self.boxes[at as usize].accepting {
-            Taken::Empty
-        } else {
-            Taken::Over
-        }
-    }
-
-    // Takes the first letter of a lane of the box.
-    #[inline(always)]
-    fn take_from(&mut self, at: u32, lane: u32) -> Taken<T>
-        requires at { HasBox self.old at }
-        requires lane { IsLaneOf self.old.senders at lane }
-        requires some { (slice_index_or self.old.lanes lane blank_lane).waiting ≢ [] }
-        ensures { Step self.old (Call.Take at) (Reply.Took result) self.new }
-    {
-        let sender = sender_of(self.senders, at, lane);
-        let before = self.posted[lane as usize] - u64::from(self.lists.len(lane));
-        let Some(item) = self.lists.pop_front(lane) else {
-            unreachable!();
-        };
-        note_take(&mut self.boxes, at, lane);
-        Taken::Letter {
-            sender,
-            number: before + 1,
-            item,
-        }
-    }
-
-    // Takes the first letter of the lane whose turn it is. Seldom needed, so it stays out of the callers.
-    #[inline(never)]
-    fn take_in_turn(&mut self, at: u32) -> Taken<T>
-        requires { HasBox self.old at }
-        ensures { Step self.old (Call.Take at) (Reply.Took result) self.new }
-    {
-        let giver = self.boxes[at as usize].giver;
-        match lane_in_turn(&self.lists, self.senders, at, giver) {
-            Some(lane) => self.take_from(at, lane),
-            None => self.none_waits(at),
         }
     }
 

@@ -6,8 +6,8 @@ ghost use Rattle.auc_threads.specs.Naming.{AreThreadLimits};
 use crate::marks::refuse_one;
 use crate::problems::{LONG, ONE_OBJECT, THREE, problem_of};
 use auc_book::MOST_ROOM;
-use auc_cert::{StartError, read_cert, start_prices, write_cert};
-use auc_graph::Rows;
+use auc_cert::{Cert, StartError, read_cert, start_prices, write_cert};
+use auc_graph::{ArcList, Rows};
 use auc_letters::MOST_SHARDS;
 use auc_mail::MOST_NODES;
 use auc_world::{Answer, Limits, World, solve_serial, solve_serial_from};
@@ -61,32 +61,42 @@ fn solves(alloc: Global, text: &str, limits: &Limits) -> Result<bool, Fail>
     }
 }
 
-/// Whether a solve from the prices of a certificate gives the answer that it gives with ample memory, or none.
-fn solves_from(alloc: Global, text: &str, cert: &str, limits: &Limits) -> Result<bool, Fail>
+/// What the solver answers from the prices of a certificate, and none for want of memory.
+fn answer_from(
+    alloc: Global,
+    problem: &ArcList,
+    cert: &Cert,
+    limits: &Limits,
+) -> Result<Answer, StartError>
     requires { AreThreadLimits limits.now }
 {
-    let problem = problem_of(alloc, text)?;
-    let cert = read_cert(alloc, cert.as_bytes())?;
-    let start = start_prices(alloc, &problem, &cert)?;
-    let ample = solve_serial_from(alloc, &problem, limits, start.as_slice())?;
-    let ample = text_of(alloc, &ample)?;
+    let start = start_prices(alloc, problem, cert)?;
+    match solve_serial_from(alloc, problem, limits, start.as_slice()) {
+        Ok(answer) => Ok(answer),
+        Err(_) => Err(StartError::NoMemory),
+    }
+}
+
+/// Whether a solve from the prices of a certificate gives the answer that it gives with ample memory, or none.
+fn solves_from(alloc: Global, problem: &ArcList, cert: &Cert, limits: &Limits) -> Result<bool, Fail>
+    requires { AreThreadLimits limits.now }
+{
+    let ample = text_of(alloc, &answer_from(alloc, problem, cert, limits)?)?;
     let mark = refuse_one(alloc)?;
-    let again = start_prices(alloc, &problem, &cert);
-    let solved = match &again {
-        Ok(again) => Some(solve_serial_from(alloc, &problem, limits, again.as_slice())),
-        Err(_) => None,
-    };
+    let solved = answer_from(alloc, problem, cert, limits);
     drop(mark);
     match solved {
-        Some(Ok(answer)) => Ok(text_of(alloc, &answer)?.as_slice() == ample.as_slice()),
-        Some(Err(_)) => Ok(true),
-        None => Ok(matches!(again, Err(StartError::NoMemory))),
+        Ok(answer) => Ok(text_of(alloc, &answer)?.as_slice() == ample.as_slice()),
+        Err(error) => Ok(matches!(error, StartError::NoMemory)),
     }
 }
 
 #[test]
 fn from_a_start(rt: HostRuntime) -> Result<(), Fail> {
-    assert!(rt; solves_from(rt.alloc(), THREE, OF_THREE, &limits_of(1, 0)?)?);
+    let alloc = rt.alloc();
+    let problem = problem_of(alloc, THREE)?;
+    let cert = read_cert(alloc, OF_THREE.as_bytes())?;
+    assert!(rt; solves_from(alloc, &problem, &cert, &limits_of(1, 0)?)?);
     Ok(())
 }
 

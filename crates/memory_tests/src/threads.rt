@@ -1,10 +1,12 @@
 //! Phases and solves in threads: want of memory, or a thread that can't be started.
 
+ghost use Rattle.auc_cert.specs.Start.{AreStart};
+
 use crate::marks::refuse_one;
 use crate::problems::{THREE, problem_of};
 use crate::solvers::{OF_THREE, limits_of, text_of};
 use auc_cert::{read_cert, start_prices};
-use auc_graph::Rows;
+use auc_graph::{ArcList, Rows};
 use auc_threads::{FreeGate, RunError, phase_threads, solve_threads, solve_threads_from};
 use auc_world::End;
 use std::alloc::Global;
@@ -35,24 +37,35 @@ fn solving(rt: HostRuntime) -> Result<(), Fail> {
     Ok(())
 }
 
-/// The same from start prices.
+/// Whether a solve in threads from start prices gives a least-cost assignment, or none for want of memory or of a thread.
+fn solves_from<R: Threads + Wait + Sync>(
+    rt: &R,
+    alloc: Global,
+    problem: &ArcList,
+    start: &[i64],
+) -> Result<bool, Fail>
+    requires { AreStart problem.now start.now }
+{
+    let limits = limits_of(2, 0)?;
+    let mark = refuse_one(alloc)?;
+    let solved = solve_threads_from(rt, alloc, problem, &limits, start, &FreeGate);
+    drop(mark);
+    match solved {
+        Ok(solved) => {
+            let text = text_of(alloc, &solved.answer)?;
+            Ok(text.as_slice().starts_with(b"auction 1\noptimal 3 5\n"))
+        }
+        Err(error) => Ok(error == RunError::NoMemory || error == RunError::Spawn),
+    }
+}
+
 #[test]
 fn solving_from_a_start(rt: HostRuntime) -> Result<(), Fail> {
     let alloc = rt.alloc();
     let problem = problem_of(alloc, THREE)?;
-    let limits = limits_of(2, 0)?;
     let cert = read_cert(alloc, OF_THREE.as_bytes())?;
     let start = start_prices(alloc, &problem, &cert)?;
-    let mark = refuse_one(alloc)?;
-    let solved = solve_threads_from(&rt, alloc, &problem, &limits, start.as_slice(), &FreeGate);
-    drop(mark);
-    let is_lawful = match solved {
-        Ok(solved) => text_of(alloc, &solved.answer)?
-            .as_slice()
-            .starts_with(b"auction 1\noptimal 3 5\n"),
-        Err(error) => error == RunError::NoMemory || error == RunError::Spawn,
-    };
-    assert!(rt; is_lawful);
+    assert!(rt; solves_from(&rt, alloc, &problem, start.as_slice())?);
     Ok(())
 }
 

@@ -1,6 +1,6 @@
 -- Which words ask for a page about the program.
 use Rattle.std.specs.Prelude.{ℕ, Bool, ◌||◌, ◌&&◌, if◌then◌else◌, List, [], ◌∷◌, codes, nat_eq, Option, Some, None}
-use Rattle.std.specs.List.{pointwise}
+use Rattle.std.specs.Cmp.Lexicographic.{pointwise}
 use Rattle.auc_messages.specs.declared.pages.Page.{Page}
 use Rattle.auc_messages.specs.declared.pages.Page.TheVariants.{Usage, Version}
 

@@ -40,10 +40,16 @@ sentence_on name (Line line) phrase = sentence_numbered name (codes ", line ") l
 sentence_on name (Person person) phrase = sentence_numbered name (codes ", person ") person phrase
 sentence_on name (Object object) phrase = sentence_numbered name (codes ", object ") object phrase
 
+-- where a token stands, and its first bytes in quotation marks
+abbrev pub place_words : List ℕ → Place → List ℕ
+place_words name place = codes "auction: " ++ name ++ codes ", line " ++ decimal place.line ++ codes ", column " ++ decimal place.column ++ codes ", \""
+
+abbrev pub quoted_end : Bool → List ℕ → List ℕ
+quoted_end whole phrase = quote_end whole ++ codes ": " ++ phrase ++ codes "\n"
+
 -- a sentence about a token, by its place
 abbrev pub sentence_at : List ℕ → Place → List ℕ → List ℕ
-sentence_at name place phrase =
-    codes "auction: " ++ name ++ codes ", line " ++ decimal place.line ++ codes ", column " ++ decimal place.column ++ codes ", \"" ++ map shown_byte place.front.items ++ quote_end place.whole ++ codes ": " ++ phrase ++ codes "\n"
+sentence_at name place phrase = place_words name place ++ (map shown_byte place.front.items ++ quoted_end place.whole phrase)
 
 -- a sentence about no input
 abbrev pub sentence_alone : List ℕ → List ℕ

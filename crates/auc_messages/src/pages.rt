@@ -2,7 +2,7 @@
 
 ghost use Rattle.std.specs.Prelude.{◌≡◌, map};
 ghost use Rattle.std.specs.String.{string_bytes};
-ghost use Rattle.auc_messages.specs.Pages.{is_command, is_help, is_version, page_of};
+ghost use Rattle.auc_messages.specs.Pages.{is_command, is_help, is_help_command, is_version, page_of};
 
 /// A page about the program.
 #[derive(Clone, Copy, Debug, PartialEq, Eq)]

@@ -2,7 +2,7 @@
 
 ghost use Rattle.std.specs.Prelude.{◌≡◌, ◌≢◌, ℕ, IfSome, IsSome, IsTrue, Some, None};
 ghost use Rattle.auc_run.specs.declared.command.Job.{Job};
-ghost use Rattle.auc_messages.specs.Remarks.{IsRemark, IsRemarkOn, subject_of_status};
+ghost use Rattle.auc_messages.specs.Remarks.{IsRemark, IsRemarkOn, subject_of_status, told_refusal};
 ghost use Rattle.auc_messages.specs.Sentences.{is_phrase};
 
 use crate::phrases::{of_refusal, of_status};
@@ -56,6 +56,17 @@ fn remark_of_status(status: u8) -> Remark
     }
 }
 
+/// Why a job was refused, where that is told: not where it wasn't written.
+fn told_refusal(ending: Ending) -> Option<Refusal>
+    ensures { result ≡ told_refusal ending }
+{
+    if ending.status == UNWRITTEN {
+        None
+    } else {
+        ending.refusal
+    }
+}
+
 /// What is to be said of the end of this job, or nothing where its status is 0.
 pub fn remark_of(job: &Job, ending: Ending) -> Option<Remark>
     ensures silent { ending.status ≡ 0 → result ≡ None }
@@ -68,8 +79,8 @@ pub fn remark_of(job: &Job, ending: Ending) -> Option<Remark>
     if ending.status == OPTIMAL {
         return None;
     }
-    match ending.refusal {
-        Some(refusal) if ending.status != UNWRITTEN => Some(remark_of_refusal(job, refusal)),
-        _ => Some(remark_of_status(ending.status)),
+    match told_refusal(ending) {
+        Some(refusal) => Some(remark_of_refusal(job, refusal)),
+        None => Some(remark_of_status(ending.status)),
     }
 }

@@ -1,7 +1,7 @@
 //! Which input a refusal is about, and where in it.
 
 ghost use Rattle.std.specs.Prelude.{◌≡◌};
-ghost use Rattle.auc_messages.specs.Spots.{spot_of, subject_of};
+ghost use Rattle.auc_messages.specs.Spots.{last_of, spot_in_claim, spot_in_problem, spot_in_script, spot_of, subject_of, token_of_arc};
 
 use auc_cert::{CertRefused, CertTextError, StartError};
 use auc_graph::{MOST_ARCS, ReadError};

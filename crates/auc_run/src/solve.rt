@@ -5,7 +5,7 @@ ghost use Rattle.std.specs.Prelude.{◌≡◌, ◌≤◌, ℕ, false, IfSome, Is
 ghost use Rattle.auc_cert.specs.Writing.{Writes};
 ghost use Rattle.auc_graph.specs.Reading.{reading};
 ghost use Rattle.auc_run.specs.Jobs.{IsInRange, solve_by};
-ghost use Rattle.auc_run.specs.Solutions.{IsSolvedByThreadsIn, IsSolvedIn, answer_text, guard_line, thread_limits_of};
+ghost use Rattle.auc_run.specs.Solutions.{IsSolvedByThreadsIn, IsSolvedIn, answer_text, guard_line, limits_of, thread_limits_of};
 ghost use Rattle.auc_run.specs.Starts.{IsSolvedFromIn, IsSolvingIn};
 
 use crate::command::SolveNumbers;
@@ -21,6 +21,16 @@ use std::io::{Read, Write};
 use std::sync::Wait;
 use std::thread::Threads;
 
+/// The limits of a solve without threads.
+fn serial_limits(bids: u64) -> Limits
+    ensures { result ≡ limits_of bids }
+{
+    Limits {
+        bids,
+        ..Limits::usual(1)
+    }
+}
+
 /// What the solver answers about the problem that the reader has, from nothing.
 fn answer_of<R: Read>(
     alloc: Global,
@@ -32,11 +42,7 @@ fn answer_of<R: Read>(
     ensures { IsSolvedIn objects bids (R.remaining reader.old) result }
 {
     let problem = problem_of(alloc, reader, objects)?;
-    let limits = Limits {
-        bids,
-        ..Limits::usual(1)
-    };
-    let answer = solve_serial(alloc, &problem, &limits)?;
+    let answer = solve_serial(alloc, &problem, &serial_limits(bids))?;
     Ok(answer)
 }
 
@@ -53,10 +59,7 @@ fn answer_from<R: Read, Q: Read>(
     ensures unread { IfSome (R.remaining reader.old) (λ file. IsErr (reading MOST_ARCS objects file) → second.new ≡ second.old) }
 {
     let started = started_of(alloc, reader, second, objects)?;
-    let limits = Limits {
-        bids,
-        ..Limits::usual(1)
-    };
+    let limits = serial_limits(bids);
     let prices = started.prices.as_slice();
     let answer = solve_serial_from(alloc, &started.problem, &limits, prices)?;
     Ok(answer)
@@ -84,7 +87,7 @@ pub(crate) fn answer_plainly<R: Read, Q: Read>(
 }
 
 /// The limits of a solve with threads.
-fn limits_of(numbers: SolveNumbers) -> Limits
+fn thread_limits(numbers: SolveNumbers) -> Limits
     ensures { result ≡ thread_limits_of numbers.workers numbers.bids numbers.audit }
 {
     let SolveNumbers {
@@ -113,7 +116,7 @@ fn answer_by_threads<H: Threads + Wait + Sync, R: Read, G: Gate + Sync>(
     ensures { IsSolvedByThreadsIn numbers.objects numbers.workers numbers.bids numbers.audit (R.remaining reader.old) result }
 {
     let problem = problem_of(alloc, reader, numbers.objects)?;
-    let solved = solve_threads(rt, alloc, &problem, &limits_of(numbers), gate)?;
+    let solved = solve_threads(rt, alloc, &problem, &thread_limits(numbers), gate)?;
     Ok(solved.answer)
 }
 
@@ -132,7 +135,7 @@ fn answer_by_threads_from<H: Threads + Wait + Sync, R: Read, Q: Read, G: Gate + 
     ensures unread { IfSome (R.remaining reader.old) (λ file. IsErr (reading MOST_ARCS numbers.objects file) → second.new ≡ second.old) }
 {
     let started = started_of(alloc, reader, second, numbers.objects)?;
-    let limits = limits_of(numbers);
+    let limits = thread_limits(numbers);
     let prices = started.prices.as_slice();
     let solved = solve_threads_from(rt, alloc, &started.problem, &limits, prices, gate)?;
     Ok(solved.answer)

@@ -55,6 +55,8 @@ fn solving(rt: HostRuntime) -> Result<(), Fail> {
             workers,
             bids: 1_000,
             audit,
+            objects: 0,
+            from: false,
         };
         assert!(rt; answers(&rt, rt.alloc(), &job, THREE, "auction 1\noptimal 3 5\n", 0)?);
     }
@@ -64,16 +66,25 @@ fn solving(rt: HostRuntime) -> Result<(), Fail> {
 #[test]
 fn checking(rt: HostRuntime) -> Result<(), Fail> {
     let valid = "valid optimal 5\n";
-    assert!(rt; answers(&rt, rt.alloc(), &Job::Check, THREE, valid, 0)?);
+    assert!(rt; answers(&rt, rt.alloc(), &Job::Check { objects: 0 }, THREE, valid, 0)?);
     let refused = "refused cut 3\n";
-    assert!(rt; answers(&rt, rt.alloc(), &Job::Check, "2 1 1", refused, 5)?);
+    assert!(rt;
+        answers(
+            &rt,
+            rt.alloc(),
+            &Job::Check { objects: 0 },
+            "2 1 1",
+            refused,
+            5
+        )?
+    );
     Ok(())
 }
 
 #[test]
 fn matching(rt: HostRuntime) -> Result<(), Fail> {
     let full = "full 3\nassign 1 1 4\nassign 2 2 0\nassign 3 3 2\n";
-    assert!(rt; answers(&rt, rt.alloc(), &Job::Hall, THREE, full, 0)?);
+    assert!(rt; answers(&rt, rt.alloc(), &Job::Hall { objects: 0 }, THREE, full, 0)?);
     Ok(())
 }
 

@@ -6,6 +6,9 @@ use auc_run::Job;
 use std::io::ErrorKind;
 use std::test::*;
 
+/// A check with as many objects as persons.
+const CHECK: Job = Job::Check { objects: 0 };
+
 /// A check may get its inputs byte by byte.
 #[test]
 fn slow_readers(rt: HostRuntime) {
@@ -15,16 +18,7 @@ fn slow_readers(rt: HostRuntime) {
     let mut second = Slow {
         rest: TWO_BEST.as_bytes(),
     };
-    assert!(rt;
-        says(
-            &rt,
-            &Job::Check,
-            &mut first,
-            &mut second,
-            "valid optimal 3\n",
-            0
-        )
-    );
+    assert!(rt; says(&rt, &CHECK, &mut first, &mut second, "valid optimal 3\n", 0));
 }
 
 /// The first reader fails behind the whole problem, and the second one is left alone.
@@ -35,16 +29,7 @@ fn broken_first_reader(rt: HostRuntime) {
         kind: ErrorKind::Interrupted,
     };
     let mut second = TWO_BEST.as_bytes();
-    assert!(rt;
-        says(
-            &rt,
-            &Job::Check,
-            &mut first,
-            &mut second,
-            "refused read\n",
-            5
-        )
-    );
+    assert!(rt; says(&rt, &CHECK, &mut first, &mut second, "refused read\n", 5));
     assert_eq!(rt; second.len(), TWO_BEST.len());
 }
 
@@ -55,16 +40,7 @@ fn broken_second_reader(rt: HostRuntime) {
         rest: TWO_BEST.as_bytes(),
         kind: ErrorKind::BrokenPipe,
     };
-    assert!(rt;
-        says(
-            &rt,
-            &Job::Check,
-            &mut first,
-            &mut second,
-            "refused read\n",
-            5
-        )
-    );
+    assert!(rt; says(&rt, &CHECK, &mut first, &mut second, "refused read\n", 5));
 }
 
 /// Each read of the second reader fails in turn, that for the end too.
@@ -77,16 +53,7 @@ fn failed_second_reads(rt: HostRuntime) {
             most: 1,
             good,
         };
-        assert!(rt;
-            says(
-                &rt,
-                &Job::Check,
-                &mut first,
-                &mut second,
-                "refused read\n",
-                5
-            )
-        );
+        assert!(rt; says(&rt, &CHECK, &mut first, &mut second, "refused read\n", 5));
     }
 }
 
@@ -101,7 +68,7 @@ fn unread_second_reader(rt: HostRuntime) {
     assert!(rt;
         says(
             &rt,
-            &Job::Check,
+            &CHECK,
             &mut first,
             &mut second,
             "refused number 2\n",
@@ -113,5 +80,5 @@ fn unread_second_reader(rt: HostRuntime) {
 
 #[test]
 fn full_writers(rt: HostRuntime) {
-    assert!(rt; is_unwritten(&rt, &Job::Check, TWO, TWO_BEST));
+    assert!(rt; is_unwritten(&rt, &CHECK, TWO, TWO_BEST));
 }

@@ -6,6 +6,9 @@ use auc_run::Job;
 use std::io::ErrorKind;
 use std::test::*;
 
+/// A search with as many objects as persons.
+const HALL: Job = Job::Hall { objects: 0 };
+
 /// A hall may get its problem byte by byte, and has one input.
 #[test]
 fn slow_reader(rt: HostRuntime) {
@@ -13,7 +16,7 @@ fn slow_reader(rt: HostRuntime) {
         rest: ONE_OBJECT.as_bytes(),
     };
     let mut second = b"left alone".as_slice();
-    assert!(rt; says(&rt, &Job::Hall, &mut first, &mut second, ONE_OBJECT_CERT, 3));
+    assert!(rt; says(&rt, &HALL, &mut first, &mut second, ONE_OBJECT_CERT, 3));
     assert_eq!(rt; second.len(), 10);
 }
 
@@ -24,21 +27,12 @@ fn broken_reader(rt: HostRuntime) {
         kind: ErrorKind::Interrupted,
     };
     let mut second = b"".as_slice();
-    assert!(rt;
-        says(
-            &rt,
-            &Job::Hall,
-            &mut first,
-            &mut second,
-            "refused read\n",
-            5
-        )
-    );
+    assert!(rt; says(&rt, &HALL, &mut first, &mut second, "refused read\n", 5));
 }
 
 #[test]
 fn full_writers(rt: HostRuntime) {
-    assert!(rt; is_unwritten(&rt, &Job::Hall, TWO, ""));
-    assert!(rt; is_unwritten(&rt, &Job::Hall, ONE_OBJECT, ""));
-    assert!(rt; is_unwritten(&rt, &Job::Hall, "0", ""));
+    assert!(rt; is_unwritten(&rt, &HALL, TWO, ""));
+    assert!(rt; is_unwritten(&rt, &HALL, ONE_OBJECT, ""));
+    assert!(rt; is_unwritten(&rt, &HALL, "0", ""));
 }

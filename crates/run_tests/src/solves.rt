@@ -13,6 +13,17 @@ const USUAL: Job = Job::Solve {
     workers: 0,
     bids: 100_000_000,
     audit: 0,
+    objects: 0,
+    from: false,
+};
+
+/// The same from an old certificate.
+const FROM: Job = Job::Solve {
+    workers: 0,
+    bids: 100_000_000,
+    audit: 0,
+    objects: 0,
+    from: true,
 };
 
 /// Whether a solve of two persons by so many bids writes this text, and answers this status.
@@ -24,6 +35,8 @@ fn two_say(rt: &HostRuntime, bids: u64, text: &str, status: u8) -> bool
         workers: 0,
         bids,
         audit: 0,
+        objects: 0,
+        from: false,
     };
     let mut first = TWO.as_bytes();
     let mut second = b"".as_slice();
@@ -117,6 +130,41 @@ fn failed_writes(rt: HostRuntime) {
             assert_eq!(rt; writer.rest.len(), TWO_BEST.len() - good);
         }
     }
+}
+
+/// What a solve of two persons from their best certificate writes.
+const TWO_AGAIN: &str =
+    "auction 1\noptimal 2 3\nassign 1 2 2\nassign 2 1 1\nprice 1 12\nprice 2 10\n";
+
+/// Each read of the certificate fails in turn, that for the end too; where none does, it may come byte by byte.
+#[test]
+fn reads_of_a_start(rt: HostRuntime) {
+    for good in 0..=TWO_BEST.len() as u32 {
+        let mut first = TWO.as_bytes();
+        let mut second = Flaky {
+            rest: TWO_BEST.as_bytes(),
+            most: 1,
+            good,
+        };
+        assert!(rt; says(&rt, &FROM, &mut first, &mut second, "refused read\n", 5));
+    }
+    let mut first = TWO.as_bytes();
+    let mut second = Slow {
+        rest: TWO_BEST.as_bytes(),
+    };
+    assert!(rt; says(&rt, &FROM, &mut first, &mut second, TWO_AGAIN, 0));
+}
+
+/// Where the problem is refused, the certificate is left alone, also one that would fail.
+#[test]
+fn unread_start(rt: HostRuntime) {
+    let mut first = b"2 x".as_slice();
+    let mut second = Broken {
+        rest: TWO_BEST.as_bytes(),
+        kind: ErrorKind::BrokenPipe,
+    };
+    assert!(rt; says(&rt, &FROM, &mut first, &mut second, "refused number 2\n", 5));
+    assert_eq!(rt; second.rest.len(), TWO_BEST.len());
 }
 
 #[test]

@@ -1,5 +1,5 @@
 -- What a job has to tell, or why it was refused: the text that tells it, and its status.
-use Rattle.std.specs.Prelude.{ℕ, List, Result, Ok, Err, ⊤}
+use Rattle.std.specs.Prelude.{ℕ, List, Option, Some, None, Result, Ok, Err, ⊤}
 use Rattle.auc_run.specs.declared.refusal.Refusal.{Refusal}
 use Rattle.auc_run.specs.declared.report.Report.{Report}
 use Rattle.auc_run.specs.declared.report.Report.TheVariants.{Solved, Judged, Completed, Replied}
@@ -29,6 +29,11 @@ outcome_text (Err refusal) = refusal_line refusal
 abbrev pub outcome_status : Result Report Refusal → ℕ
 outcome_status (Ok report) = report_status report
 outcome_status (Err refusal) = refusal_status refusal
+
+-- why an outcome is no report
+abbrev pub refusal_of : Result Report Refusal → Option Refusal
+refusal_of (Ok report) = None
+refusal_of (Err refusal) = Some refusal
 
 -- a report of picks has no more of them than a problem can have persons
 abbrev pub IsWritable : Report → Type 0

@@ -1,11 +1,12 @@
 -- What a job may write, and its status, by what it was given to read.
-use Rattle.std.specs.Prelude.{◌≡◌, ℕ, List, Option, Result, Ok, Err, ℤ}
+use Rattle.std.specs.Prelude.{◌≡◌, ◌≢◌, ℕ, List, Option, Result, Ok, Err, ℤ}
 use Rattle.std.specs.Io.KnownBytes.{Appends}
 use Rattle.auc_cert.specs.Writing.{Begins}
 use Rattle.auc_mail.specs.declared.call.Reply.{Reply}
 use Rattle.auc_world.specs.declared.answer.Answer.{Answer}
 use Rattle.auc_run.specs.declared.command.Job.{Job}
 use Rattle.auc_run.specs.declared.command.Job.TheVariants.{Solve, Check, Hall, Mail}
+use Rattle.auc_run.specs.declared.ending.Ending.{Ending}
 use Rattle.auc_run.specs.declared.found.Found.{Found}
 use Rattle.auc_run.specs.declared.refusal.Refusal.{Refusal}
 use Rattle.auc_run.specs.declared.report.Report.{Report}
@@ -16,7 +17,7 @@ use Rattle.auc_run.specs.Verdicts.{BearOut}
 use Rattle.auc_run.specs.Completions.{BearOutFound}
 use Rattle.auc_run.specs.Starts.{BearOutSolving}
 use Rattle.auc_run.specs.Replies.{BearOutReplies}
-use Rattle.auc_run.specs.Reports.{outcome_text, outcome_status}
+use Rattle.auc_run.specs.Reports.{outcome_text, outcome_status, refusal_of}
 
 -- what a job of one kind has found is its report
 abbrev pub reported : {X : Type 0} → (X → Report) → Result X Refusal → Result Report Refusal
@@ -43,3 +44,14 @@ Said job first second before after status =
 -- a job wrote a beginning of the text of an outcome on what the two readers had, and not all of it
 abbrev pub SaidInPart : Job → Option (List ℕ) → Option (List ℕ) → Option (List ℕ) → Option (List ℕ) → Type 0
 SaidInPart job first second before after = (outcome : Result Report Refusal) × IsOutcome job first second outcome × Begins before after (outcome_text outcome)
+
+-- How a job ended that has this outcome: its text stands behind what the writer had, or a beginning of it where the status says so; and the
+-- refusal is the outcome's.
+pub record EndsBy (before after : Option (List ℕ)) (outcome : Result Report Refusal) (ending : Ending) : Type 0 where
+  pub whole : ending.status ≢ 8 → Appends before after (outcome_text outcome) × (ending.status ≡ outcome_status outcome)
+  pub cut : ending.status ≡ 8 → Begins before after (outcome_text outcome)
+  pub refusal : ending.refusal ≡ refusal_of outcome
+
+-- a job ended so, by an outcome on what the two readers had
+abbrev pub Ended : Job → Option (List ℕ) → Option (List ℕ) → Option (List ℕ) → Option (List ℕ) → Ending → Type 0
+Ended job first second before after ending = (outcome : Result Report Refusal) × IsOutcome job first second outcome × EndsBy before after outcome ending

@@ -6,8 +6,9 @@ ghost use Rattle.auc_cert.specs.Spelled.{IsSpelled};
 ghost use Rattle.auc_run.specs.Verdicts.{Judges, IsVerdict, said_by};
 ghost use Rattle.auc_run.specs.Jobs.{IsInRange, IsPlain, has_second, objects_of, solve_by};
 ghost use Rattle.auc_run.specs.Reports.{IsWritable};
-ghost use Rattle.auc_run.specs.Said.{IsOutcome, Said, SaidInPart};
+ghost use Rattle.auc_run.specs.Said.{Ended, IsOutcome, Said, SaidInPart};
 
+use crate::ending::Ending;
 use crate::hall::found_of;
 use crate::input::read_all;
 use crate::mail::replies_of;
@@ -169,6 +170,24 @@ fn outcome_by_threads<H: Threads + Wait + Sync, R: Read, Q: Read, G: Gate + Sync
     Ok(Report::Solved(answer))
 }
 
+/// Does a job that starts no thread, as [`run_plain`] does, and says how it ended.
+fn perform_plainly<R: Read, Q: Read, W: Write>(
+    alloc: Global,
+    job: &Job,
+    reader: &mut R,
+    second: &mut Q,
+    writer: &mut W,
+) -> Ending
+    requires range { IsInRange job.now }
+    requires plain { IsPlain job.now }
+    ensures ended { Ended job.now (R.remaining reader.old) (Q.remaining second.old) (W.contents writer.old) (W.contents writer.new) result }
+    ensures unread { IfSome (R.remaining reader.old) (λ file. IsErr (reading MOST_ARCS (objects_of job.now) file) → second.new ≡ second.old) }
+    ensures alone { has_second job.now ≡ false → second.new ≡ second.old }
+{
+    let outcome = outcome_of(alloc, job, reader, second);
+    tell(writer, outcome)
+}
+
 /// Does a job that starts no thread: reads `reader` and, where the job wants it, `second`, writes the answer to `writer`, and gives the
 /// status, one of [`crate::status`]. Each reader is read to its end, by at most [`MOST_READS`] reads, and a failed read
 /// is never tried again. The writer is not flushed.
@@ -200,8 +219,49 @@ pub fn run_plain<R: Read, Q: Read, W: Write>(
     // Only a check, and a solve that starts from a certificate, has a second input.
     ensures alone { has_second job.now ≡ false → second.new ≡ second.old }
 {
-    let outcome = outcome_of(alloc, job, reader, second);
-    tell(writer, outcome)
+    perform_plainly(alloc, job, reader, second, writer).status
+}
+
+/// Does a job, as [`run_command`] does, and says how it ended: with its status, and why it was refused, where it was.
+pub fn perform<H: Threads + Wait + Sync, R: Read, Q: Read, W: Write, G: Gate + Sync>(
+    rt: &H,
+    alloc: Global,
+    job: &Job,
+    reader: &mut R,
+    second: &mut Q,
+    writer: &mut W,
+    gate: &G,
+) -> Ending
+    // The job's numbers are those that its fields allow.
+    requires range { IsInRange job.now }
+    // What was written, the status and the refusal are those of one outcome, which is right for the bytes that were read.
+    ensures ended { Ended job.now (R.remaining reader.old) (Q.remaining second.old) (W.contents writer.old) (W.contents writer.new) result }
+    // A certificate for what is no problem is left unread.
+    ensures unread { IfSome (R.remaining reader.old) (λ file. IsErr (reading MOST_ARCS (objects_of job.now) file) → second.new ≡ second.old) }
+    // Only a check, and a solve that starts from a certificate, has a second input.
+    ensures alone { has_second job.now ≡ false → second.new ≡ second.old }
+{
+    if let Job::Solve {
+        workers,
+        bids,
+        audit,
+        objects,
+        from,
+    } = *job
+    {
+        if workers > 0 {
+            let numbers = SolveNumbers {
+                workers,
+                bids,
+                audit,
+                objects,
+                from,
+            };
+            let outcome = outcome_by_threads(rt, alloc, reader, second, numbers, gate);
+            return tell(writer, outcome);
+        }
+    }
+    perform_plainly(alloc, job, reader, second, writer)
 }
 
 /// Does a job, as [`run_plain`] does; but a solve with workers by threads, see [`auc_threads::solve_threads`]: a thread for each worker in each phase,
@@ -228,25 +288,5 @@ pub fn run_command<H: Threads + Wait + Sync, R: Read, Q: Read, W: Write, G: Gate
     // Only a check, and a solve that starts from a certificate, has a second input.
     ensures alone { has_second job.now ≡ false → second.new ≡ second.old }
 {
-    if let Job::Solve {
-        workers,
-        bids,
-        audit,
-        objects,
-        from,
-    } = *job
-    {
-        if workers > 0 {
-            let numbers = SolveNumbers {
-                workers,
-                bids,
-                audit,
-                objects,
-                from,
-            };
-            let outcome = outcome_by_threads(rt, alloc, reader, second, numbers, gate);
-            return tell(writer, outcome);
-        }
-    }
-    run_plain(alloc, job, reader, second, writer)
+    perform(rt, alloc, job, reader, second, writer, gate).status
 }

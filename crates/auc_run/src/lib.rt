@@ -7,6 +7,7 @@
 
 mod command;
 mod command_word;
+mod ending;
 mod found;
 mod hall;
 mod input;
@@ -30,7 +31,8 @@ pub use auc_threads::{
     solve_threads,
 };
 pub use auc_world::USUAL_BIDS;
-pub use command::{Job, MOST_BIDS, run_command, run_plain};
+pub use command::{Job, MOST_BIDS, perform, run_command, run_plain};
+pub use ending::Ending;
 pub use found::Found;
 pub use input::{ReadFault, read_all};
 pub use laws::limits_are;

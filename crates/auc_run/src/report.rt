@@ -4,8 +4,9 @@ ghost use Rattle.std.specs.Prelude.{◌≡◌, ◌≢◌, ◌<◌, IfOk};
 ghost use Rattle.std.specs.Io.KnownBytes.{Appends};
 ghost use Rattle.auc_cert.specs.Writing.{Begins, Writes};
 ghost use Rattle.auc_run.specs.Statuses.{refusal_status};
-ghost use Rattle.auc_run.specs.Reports.{IsWritable, outcome_status, outcome_text, report_status, report_text};
+ghost use Rattle.auc_run.specs.Reports.{IsWritable, outcome_status, outcome_text, refusal_of, report_status, report_text};
 
+use crate::ending::Ending;
 use crate::found::Found;
 use crate::hall::write_found;
 use crate::input::ReadFault;
@@ -115,15 +116,30 @@ fn status_of(outcome: &Result<Report, Refusal>) -> u8
     }
 }
 
-/// Writes the outcome of a job, and gives its status, or 8 where it was not written, or not all of it.
-pub(crate) fn tell<W: Write>(writer: &mut W, outcome: Result<Report, Refusal>) -> u8
+/// Why an outcome is no report.
+fn refusal_of(outcome: &Result<Report, Refusal>) -> Option<Refusal>
+    ensures { result ≡ refusal_of outcome.now }
+{
+    match outcome {
+        Ok(_) => None,
+        Err(refusal) => Some(*refusal),
+    }
+}
+
+/// Writes the outcome of a job, and says how it ended: with status 8 where it was not written, or not all of it.
+pub(crate) fn tell<W: Write>(writer: &mut W, outcome: Result<Report, Refusal>) -> Ending
     requires { IfOk outcome IsWritable }
-    ensures told { result ≢ 8 → Appends (W.contents writer.old) (W.contents writer.new) (outcome_text outcome) × (result ≡ outcome_status outcome) }
-    ensures cut { result ≡ 8 → Begins (W.contents writer.old) (W.contents writer.new) (outcome_text outcome) }
+    ensures whole { result.status ≢ 8 → Appends (W.contents writer.old) (W.contents writer.new) (outcome_text outcome) × (result.status ≡ outcome_status outcome) }
+    ensures cut { result.status ≡ 8 → Begins (W.contents writer.old) (W.contents writer.new) (outcome_text outcome) }
+    ensures refusal { result.refusal ≡ refusal_of outcome }
 {
     let status = status_of(&outcome);
-    match write_outcome(writer, &outcome) {
+    let status = match write_outcome(writer, &outcome) {
         Ok(()) => status,
         Err(_) => UNWRITTEN,
+    };
+    Ending {
+        status,
+        refusal: refusal_of(&outcome),
     }
 }

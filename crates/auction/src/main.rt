@@ -1,7 +1,7 @@
 //! The program: the words of its command line, the files that they name, and the job over them.
 #![tactic(auto)]
 
-ghost use Rattle.std.specs.Prelude.{◌≡◌, IfOk};
+ghost use Rattle.std.specs.Prelude.{◌≡◌};
 ghost use Rattle.auc_run.specs.Jobs.{IsInRange};
 ghost use Rattle.auction.specs.CommandLine.{words_status};
 
@@ -12,11 +12,14 @@ mod words;
 mod words_error;
 
 use asked::Words;
-use auc_run::status::{NO_MEMORY, REFUSED, UNWRITTEN, USAGE};
-use auc_run::{FreeGate, Job, run_command};
+use auc_graph::MOST_READS;
+use auc_messages::{Page, Spot, Subject, page_of, remark_of, write_remark};
+use auc_place::{Place, find_token};
+use auc_run::status::{NO_MEMORY, OPTIMAL, REFUSED, UNWRITTEN, USAGE};
+use auc_run::{Ending, FreeGate, Job, perform};
 use std::fs::File;
 use std::io;
-use std::io::{BufWriter, ErrorKind, Read, Write};
+use std::io::{BufWriter, ErrorKind, Read, Seek, SeekFrom, Write};
 use std::process::ExitCode;
 use std::rt::{Env, Files};
 use std::sync::Wait;
@@ -24,11 +27,11 @@ use std::thread::Threads;
 use words::read_words;
 use words_error::WordsError;
 
-/// The words that the program was started with. One that is not UTF-8 is at fault.
-fn given_words<R: Env + AllocGlobal>(rt: &R) -> Result<Words, WordsError>
-    ensures { IfOk result (λ w. IsInRange w.job) }
-{
-    let alloc = rt.alloc();
+/// How a job ended; or the status alone, where standard error has been told why already.
+type Ended = Result<Ending, u8>;
+
+/// The words that the program was started with, without its name. One that is not UTF-8 is at fault.
+fn given_words<R: Env + AllocGlobal>(rt: &R) -> Result<Vec<String>, WordsError> {
     let all = match std::env::args(rt) {
         Ok(all) => all,
         Err(error) if error.kind() == ErrorKind::OutOfMemory => {
@@ -36,8 +39,7 @@ fn given_words<R: Env + AllocGlobal>(rt: &R) -> Result<Words, WordsError>
         }
         Err(_) => return Err(WordsError::Usage),
     };
-    let words: Vec<String> = all.skip(1).collect(alloc)?;
-    read_words(alloc, words.as_slice())
+    Ok(all.skip(1).collect(rt.alloc())?)
 }
 
 /// Does the job with these readers, and writes to standard output.
@@ -46,19 +48,22 @@ fn answer<R: Print + Eprint + AllocGlobal + Threads + Wait + Sync, A: Read, B: R
     job: &Job,
     first: &mut A,
     second: &mut B,
-) -> u8
+) -> Ended
     requires { IsInRange job.now }
 {
     let alloc = rt.alloc();
     let Ok(mut writer) = BufWriter::new(alloc, io::writer(rt)) else {
         let _ = eprintln!(rt; "{}", WordsError::NoMemory);
-        return NO_MEMORY;
+        return Err(NO_MEMORY);
     };
-    let status = run_command(rt, alloc, job, first, second, &mut writer, &FreeGate);
+    let ending = perform(rt, alloc, job, first, second, &mut writer, &FreeGate);
     if writer.flush().is_err() {
-        return UNWRITTEN;
+        return Ok(Ending {
+            status: UNWRITTEN,
+            refusal: ending.refusal,
+        });
     }
-    status
+    Ok(ending)
 }
 
 /// Opens a file, or tells on standard error why not.
@@ -77,31 +82,83 @@ fn with_second<R: Files + Input + Print + Eprint + AllocGlobal + Threads + Wait 
     rt: &R,
     words: &Words,
     first: &mut A,
-) -> u8
+) -> Ended
     requires { IsInRange words.now.job }
 {
     match &words.second {
         Some(name) => match open(rt, name.as_str()) {
             Some(mut second) => answer(rt, &words.job, first, &mut second),
-            None => REFUSED,
+            None => Err(REFUSED),
         },
         None => answer(rt, &words.job, first, &mut rt.reader()),
     }
 }
 
+/// Where the token stands that the end of the job is about, looked up in the first file; none where there is no such token, or the file can't be
+/// read a second time, as a pipe.
+fn place_in<F: Read + Seek>(file: &mut F, job: &Job, ended: &Ended) -> Option<Place> {
+    let Ok(ending) = ended else {
+        return None;
+    };
+    let remark = remark_of(job, *ending)?;
+    let (Subject::First, Spot::Token(number)) = (remark.subject, remark.spot) else {
+        return None;
+    };
+    if file.seek(SeekFrom::Start(0)).is_err() {
+        return None;
+    }
+    match find_token(file, number, MOST_READS) {
+        Ok(place) => place,
+        Err(_) => None,
+    }
+}
+
+/// The name of an input.
+fn name_of(words: &Words, subject: Subject) -> Option<&str> {
+    let name = match subject {
+        Subject::First => &words.first,
+        Subject::Second => &words.second,
+        Subject::Neither => return None,
+    };
+    match name {
+        Some(name) => Some(name.as_str()),
+        None => Some("standard input"),
+    }
+}
+
+/// Tells the end of a job, where its status isn't 0 and nothing has been told yet, and gives the status.
+fn conclude<E: Write>(errors: &mut E, words: &Words, ended: Ended, place: &Option<Place>) -> u8 {
+    let ending = match ended {
+        Ok(ending) => ending,
+        Err(status) => return status,
+    };
+    if let Some(remark) = remark_of(&words.job, ending) {
+        let _ = write_remark(errors, name_of(words, remark.subject), place, remark);
+    }
+    ending.status
+}
+
 /// Opens the first file, then the second, before anything is read, and does the job.
-fn with_files<R: Files + Input + Print + Eprint + AllocGlobal + Threads + Wait + Sync>(
+fn with_files<R: Files + Input + Print + Eprint + AllocGlobal + Threads + Wait + Sync, E: Write>(
     rt: &R,
+    errors: &mut E,
     words: &Words,
 ) -> u8
     requires { IsInRange words.now.job }
 {
     match &words.first {
         Some(name) => match open(rt, name.as_str()) {
-            Some(mut first) => with_second(rt, words, &mut first),
+            Some(mut first) => {
+                let ended = with_second(rt, words, &mut first);
+                let place = place_in(&mut first, &words.job, &ended);
+                conclude(errors, words, ended, &place)
+            }
             None => REFUSED,
         },
-        None => with_second(rt, words, &mut rt.reader()),
+        None => {
+            let ended = with_second(rt, words, &mut rt.reader());
+            conclude(errors, words, ended, &None)
+        }
     }
 }
 
@@ -115,19 +172,45 @@ fn status_of(error: WordsError) -> u8
     }
 }
 
+/// Tells on standard error why the words are no job, and gives the status.
+fn refuse<R: Eprint>(rt: &R, error: WordsError) -> u8
+    ensures { result ≡ words_status error }
+{
+    let _ = eprintln!(rt; "{error}");
+    status_of(error)
+}
+
+/// Writes a page about the program to standard output, and gives the status.
+fn show<R: Print + Eprint>(rt: &R, page: Page) -> u8 {
+    let shown = match page {
+        Page::Usage => println!(rt; "{}", WordsError::Usage),
+        Page::Version => println!(rt; "auction 1.0 (Sigdorf)"),
+    };
+    if shown.is_err() {
+        let _ = eprintln!(rt; "auction: standard output was not written, or not all of it");
+        return UNWRITTEN;
+    }
+    OPTIMAL
+}
+
 /// Reads the words, opens the files that they name, does the job, and gives the status.
-fn run<R: Env + Files + Input + Print + Eprint + AllocGlobal + Threads + Wait + Sync>(
+fn run<R: Env + Files + Input + Print + Eprint + AllocGlobal + Threads + Wait + Sync, E: Write>(
     rt: &R,
+    errors: &mut E,
 ) -> u8 {
-    match given_words(rt) {
-        Ok(words) => with_files(rt, &words),
-        Err(error) => {
-            let _ = eprintln!(rt; "{error}");
-            status_of(error)
-        }
+    let given = match given_words(rt) {
+        Ok(given) => given,
+        Err(error) => return refuse(rt, error),
+    };
+    if let Some(page) = page_of(given.as_slice()) {
+        return show(rt, page);
+    }
+    match read_words(rt.alloc(), given.as_slice()) {
+        Ok(words) => with_files(rt, errors, &words),
+        Err(error) => refuse(rt, error),
     }
 }
 
 fn main(rt: HostRuntime) -> ExitCode {
-    ExitCode::from(run(&rt))
+    ExitCode::from(run(&rt, &mut rt.stderr()))
 }

@@ -14,6 +14,7 @@ pub enum WordsError {
        auction check FILE [CERT] [--objects M]
        auction hall [FILE] [--objects M]
        auction mail [SCRIPT]
+       auction help | --help | -h | COMMAND --help | COMMAND -h | --version
 
 solve finds a least-cost assignment of the problem FILE, with prices that show it, or persons who together know too few objects.
 Without FILE the problem is read from standard input.
@@ -32,7 +33,16 @@ Without FILE the problem is read from standard input.
 The problem of a solve, a check or a hall has M objects: 1 to 20000, and no fewer than persons; without --objects as many as persons.
 
 mail makes the calls of SCRIPT on a new mail, and tells the replies.
-Without SCRIPT the script is read from standard input.")]
+Without SCRIPT the script is read from standard input.
+
+A name that begins with a hyphen stands behind --. Answers go to standard output, sentences on what is wrong to standard error.
+
+Status 0: an assignment of least cost, a claim that holds, an arc for each person, or all replies; 2: the words are no command;
+3: there is no assignment, or the claim doesn't hold; 4: a limit ended the search with an assignment and a bound;
+5: a file can't be opened or read, or is no problem, no certificate or no script; 6: want of memory or of threads;
+7: a guard of the solver was hit; 8: standard output was not written, or not all of it.
+
+Read on: man auction (auction.1), docs/FORMATS.md for problems, certificates and scripts, docs/PLANNING.md for tables and plans.")]
     Usage,
     /// They ask for a trail without threads.
     #[error("auction: --audit ROOM wants --workers K above 0: a solve without threads keeps no trail")]

@@ -1,0 +1,9 @@
+use Rattle.std.proofs.Common.{sym, ◌∙◌, subst}
+use Rattle.auc_messages.specs.Remarks.{IsRemarkOn}
+use Rattle.auc_messages.proofs.remark.remark_of.Goals as goal
+
+pub returns-in-Some-clause-is : goal.returns-in-Some-clause-is
+returns-in-Some-clause-is c = subst (λ r. IsRemarkOn c.args.job.now c.args.ending.status r c.remark_of_refusal.result) (sym c.in-Some.is ∙ c.told_refusal.ensures) (c.remark_of_refusal.ensures.is c.args.ending.status)
+
+pub returns-in-None-clause-is : goal.returns-in-None-clause-is
+returns-in-None-clause-is c = subst (λ r. IsRemarkOn c.args.job.now c.args.ending.status r c.remark_of_status.result) (sym c.in-None.is ∙ c.told_refusal.ensures) (c.remark_of_status.ensures.is c.args.job.now)

@@ -1,0 +1,4 @@
+pub mod Spots
+pub mod Sentences
+pub mod Remarks
+pub mod Pages

@@ -1,0 +1,26 @@
+-- What a remark is about.
+use Rattle.std.specs.Prelude.{◌≡◌, ℕ, ◌==◌, ◌||◌, if◌then◌else◌, Option, Some, None}
+use Rattle.auc_run.specs.declared.command.Job.{Job}
+use Rattle.auc_run.specs.declared.ending.Ending.{Ending}
+use Rattle.auc_run.specs.declared.refusal.Refusal.{Refusal}
+use Rattle.auc_messages.specs.declared.remark.Remark.{Remark}
+use Rattle.auc_messages.specs.declared.spot.Spot.TheVariants.{All}
+use Rattle.auc_messages.specs.declared.spot.Subject.{Subject}
+use Rattle.auc_messages.specs.declared.spot.Subject.TheVariants.{First, Neither}
+use Rattle.auc_messages.specs.Spots.{spot_of, subject_of}
+
+-- the refusal that is told: none where the answer was not written, since that is told then
+abbrev pub told_refusal : Ending → Option Refusal
+told_refusal ending = if ending.status == 8 then None else ending.refusal
+
+-- without a refusal it is about the problem where there is no assignment, or a limit ended the search
+abbrev pub subject_of_status : ℕ → Subject
+subject_of_status status = if status == 3 || status == 4 then First else Neither
+
+-- it is about the input that was refused, and the spot there
+abbrev pub IsRemarkOn : Job → ℕ → Option Refusal → Remark → Type 0
+IsRemarkOn job status (Some refusal) remark = (remark.subject ≡ subject_of job refusal) × (remark.spot ≡ spot_of refusal)
+IsRemarkOn job status None remark = (remark.subject ≡ subject_of_status status) × (remark.spot ≡ All)
+
+abbrev pub IsRemark : Job → Ending → Remark → Type 0
+IsRemark job ending remark = IsRemarkOn job ending.status (told_refusal ending) remark

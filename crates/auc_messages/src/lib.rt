@@ -1,0 +1,15 @@
+//! What the program says on standard error about a job that didn't end with status 0: one sentence on one line, which names the input, the
+//! place in it, what stands there, what was wanted, and what to do. And which words ask for a page about the program in place of a job.
+#![tactic(auto)]
+
+mod pages;
+mod phrases;
+mod remark;
+mod shown;
+mod spot;
+mod writing;
+
+pub use pages::{Page, page_of};
+pub use remark::{Remark, remark_of};
+pub use spot::{Spot, Subject};
+pub use writing::write_remark;

@@ -1,0 +1,86 @@
+//! What is to be said of a job's end.
+
+ghost use Rattle.std.specs.Prelude.{◌≡◌, ◌≢◌, ℕ, IfSome, IsSome, IsTrue, Some, None};
+ghost use Rattle.auc_run.specs.declared.command.Job.{Job};
+ghost use Rattle.auc_messages.specs.Remarks.{IsRemark, IsRemarkOn, subject_of_status, told_refusal};
+ghost use Rattle.auc_messages.specs.Sentences.{is_phrase};
+
+use crate::phrases::{of_refusal, of_status};
+use crate::spot::{Spot, Subject, spot_of, subject_of};
+use auc_run::status::{BRACKET, INFEASIBLE, OPTIMAL, UNWRITTEN};
+use auc_run::{Ending, Job, Refusal};
+
+/// What is to be said of a job's end.
+#[derive(Clone, Copy, Debug)]
+pub struct Remark {
+    /// Which input it is about.
+    pub subject: Subject,
+    /// Where in this input.
+    pub spot: Spot,
+    /// What was wrong or wanted there, and what to do.
+    pub phrase: &'static [u8],
+}
+
+/// What is to be said of a refusal.
+fn remark_of_refusal(job: &Job, refusal: Refusal) -> Remark
+    ensures is { (status : ℕ) → IsRemarkOn job.now status (Some refusal) result }
+    ensures phrase { IsTrue (is_phrase result.phrase.now) }
+{
+    Remark {
+        subject: subject_of(job, refusal),
+        spot: spot_of(refusal),
+        phrase: of_refusal(refusal),
+    }
+}
+
+/// Which input a status is about without a refusal: the problem, where there is no assignment, or a limit ended the search.
+fn subject_of_status(status: u8) -> Subject
+    ensures { result ≡ subject_of_status status }
+{
+    if status == INFEASIBLE || status == BRACKET {
+        Subject::First
+    } else {
+        Subject::Neither
+    }
+}
+
+/// What is to be said of a status.
+fn remark_of_status(status: u8) -> Remark
+    ensures is { (job : Job) → IsRemarkOn job status None result }
+    ensures phrase { IsTrue (is_phrase result.phrase.now) }
+{
+    Remark {
+        subject: subject_of_status(status),
+        spot: Spot::All,
+        phrase: of_status(status),
+    }
+}
+
+/// Why a job was refused, where that is told: not where it wasn't written.
+fn told_refusal(ending: Ending) -> Option<Refusal>
+    ensures { result ≡ told_refusal ending }
+{
+    if ending.status == UNWRITTEN {
+        None
+    } else {
+        ending.refusal
+    }
+}
+
+/// What is to be said of the end of this job, or nothing where its status is 0.
+pub fn remark_of(job: &Job, ending: Ending) -> Option<Remark>
+    ensures silent { ending.status ≡ 0 → result ≡ None }
+    ensures told { ending.status ≢ 0 → IsSome result }
+    // It is about the input that was refused, and the spot in it; where the answer was not written, it is about that alone.
+    ensures is { IfSome result (IsRemark job.now ending) }
+    // It says something, on one line.
+    ensures phrase { IfSome result (λ remark. IsTrue (is_phrase remark.phrase.now)) }
+{
+    if ending.status == OPTIMAL {
+        return None;
+    }
+    match told_refusal(ending) {
+        Some(refusal) => Some(remark_of_refusal(job, refusal)),
+        None => Some(remark_of_status(ending.status)),
+    }
+}

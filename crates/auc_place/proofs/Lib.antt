@@ -1,0 +1,2 @@
+mod TokenLaws
+mod PlaceLaws

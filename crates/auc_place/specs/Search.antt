@@ -1,0 +1,53 @@
+-- What is known of a text of which a beginning has been looked through.
+use Rattle.std.specs.Prelude.{◌≡◌, ℕ, ◌<◌, ◌≤◌, Bool, true, false, List, [], ◌∷◌, ◌++◌, length, ⊤}
+use Rattle.auc_graph.specs.Tokens.{is_separator, tokens}
+use Rattle.auc_place.specs.declared.place.Place.{Place}
+use Rattle.auc_place.specs.declared.cursor.Cursor.{Cursor}
+use Rattle.auc_place.specs.declared.finding.Finding.{Finding}
+use Rattle.auc_place.specs.declared.finding.Finding.TheVariants.{Before, Within, Behind}
+use Rattle.auc_place.specs.Places.{IsPlaceOf, line_behind, column_behind, shows}
+
+-- there is no separator in it
+abbrev pub IsPlain : List ℕ → Type 0
+IsPlain [] = ⊤
+IsPlain (b ∷ bs) = (is_separator b ≡ false) × IsPlain bs
+
+-- no token of what follows begins in this text
+abbrev pub IsApart : List ℕ → Type 0
+IsApart seen = (more : List ℕ) → tokens (seen ++ more) ≡ tokens seen ++ tokens more
+
+-- bytes that follow and are no separators go on with its last token
+abbrev pub IsInside : List ℕ → Type 0
+IsInside seen = (more : List ℕ) → IsPlain more → length (tokens (seen ++ more)) ≡ length (tokens seen)
+
+abbrev pub EndsSo : Bool → List ℕ → Type 0
+EndsSo true seen = IsInside seen
+EndsSo false seen = IsApart seen
+
+-- so many tokens begin in this text, and it ends so
+pub record HasTokens (seen : List ℕ) (count : ℕ) (inside : Bool) : Type 0 where
+  pub many : count ≡ length (tokens seen)
+  pub ends : EndsSo inside seen
+
+pub record IsCursor (seen : List ℕ) (cursor : Cursor) : Type 0 where
+  pub has : HasTokens seen cursor.tokens cursor.inside
+  pub line : cursor.line ≡ line_behind seen
+  pub column : cursor.column ≡ column_behind seen
+
+-- the token of this number has begun, and no separator has come since
+pub record IsBegun (number : ℕ) (seen : List ℕ) (place : Place) : Type 0 where
+  pub before : List ℕ
+  pub token : List ℕ
+  pub parts : seen ≡ before ++ token
+  pub apart : IsApart before
+  pub numbered : length (tokens before) ≡ number
+  pub some : 0 < length token
+  pub plain : IsPlain token
+  pub line : place.line ≡ line_behind before
+  pub column : place.column ≡ column_behind before
+  pub shown : shows place token
+
+abbrev pub IsFinding : ℕ → List ℕ → Finding → Type 0
+IsFinding number seen (Before cursor) = IsCursor seen cursor × (length (tokens seen) ≤ number)
+IsFinding number seen (Within place) = IsBegun number seen place
+IsFinding number seen (Behind place) = (more : List ℕ) → IsPlaceOf (seen ++ more) number place

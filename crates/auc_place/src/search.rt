@@ -1,0 +1,57 @@
+//! The search for a token in what a reader has.
+
+ghost use Rattle.std.specs.Prelude.{◌≡◌, ◌≤◌, Err, IfOk, IfSome, length};
+ghost use Rattle.auc_place.specs.Places.{IsFound};
+
+use crate::finding::Finding;
+use crate::place::Place;
+use std::io::Read;
+use thiserror::Error;
+
+/// The most bytes that are taken of a reader at a time.
+const PIECE: usize = 65_536;
+
+/// Why a search was given up.
+#[derive(Clone, Copy, Debug, PartialEq, Eq, Error)]
+pub enum SearchFault {
+    /// A read failed, or was interrupted.
+    #[error("a read failed")]
+    Failed,
+    /// As many reads as are allowed reached neither the token's end nor the text's.
+    #[error("too many reads")]
+    TooManyReads,
+}
+
+/// The place of the token of this number, from 0 on, in the text that a reader has, or none where the text has no such token. `limit` is
+/// the most calls of `read`. The reader is read up to the piece in which the token ends.
+///
+/// # Errors
+///
+/// [`SearchFault::Failed`] at the first read that fails, also by an interrupt: no read is tried again. [`SearchFault::TooManyReads`] where
+/// `limit` reads gave bytes each, and the token has not ended in them.
+///
+/// Takes O(bytes read) time, 64 kB on the stack, and no memory.
+pub fn find_token<R: Read>(
+    reader: &mut R,
+    number: u64,
+    limit: u32,
+) -> Result<Option<Place>, SearchFault>
+    // The place is that of the token in the whole text.
+    ensures found { IfOk result (λ place. IfSome (R.remaining reader.old) (λ text. IsFound text number place)) }
+    // Each read gave at least one byte.
+    ensures many { result ≡ Err SearchFault.TooManyReads → IfSome (R.remaining reader.old) (λ text. limit ≤ length text) }
+{
+    let mut finding = Finding::new();
+    let mut piece = [0u8; PIECE];
+    for _done in 0..limit {
+        match reader.read(&mut piece) {
+            Ok(0) => return Ok(finding.at_end()),
+            Ok(count) => finding = finding.behind(number, &piece[..count]),
+            Err(_) => return Err(SearchFault::Failed),
+        }
+        if let Finding::Behind(place) = finding {
+            return Ok(Some(place));
+        }
+    }
+    Err(SearchFault::TooManyReads)
+}

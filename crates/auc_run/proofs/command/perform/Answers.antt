@@ -1,0 +1,4 @@
+use Rattle.auc_run.proofs.command.perform.Goals as goal
+
+pub returns-then-workers-gt0-clause-ended : goal.returns-then-workers-gt0-clause-ended
+returns-then-workers-gt0-clause-ended g c = (c.outcome_by_threads-outcome.result, rw c.in-Solve.is c.outcome_by_threads-outcome.ensures.outcome, record { whole = c.tell.ensures.whole; cut = c.tell.ensures.cut; refusal = c.tell.ensures.refusal })

@@ -1,0 +1,12 @@
+//! How a job ended.
+
+use crate::refusal::Refusal;
+
+/// How a job ended, beside what it wrote.
+#[derive(Clone, Copy, Debug, PartialEq, Eq)]
+pub struct Ending {
+    /// One of [`crate::status`].
+    pub status: u8,
+    /// Why the job was refused, where it was; also where the line that tells it was not written.
+    pub refusal: Option<Refusal>,
+}

@@ -53,12 +53,13 @@ def read_claim(file, text, arcs, objects, problem):
         kind, numbers, first, second = check_certificate.read_claim(text)
     except ValueError as fault:
         raise Fault(f"{file}, line {str(fault).split()[-1]}: no certificate that `auction solve` writes") from None
-    try:
-        if kind == "infeasible":
-            check_certificate.judge_hall(arcs, objects, first, second)
-            return Claim(kind, [], [], None, None, first, second)
-        check_certificate.judge_plan(arcs, objects, kind, numbers, first, second)
-        return Claim(kind, first, second, numbers[0], numbers[-1], [], [])
-    except ValueError as fault:
-        _, what, *place = str(fault).split()
-        raise Fault(f"{file}: it isn't true of {problem}, so it may be of another problem: {INVALID[what].format(*place)}") from None
+    if kind == "infeasible":
+        faults = check_certificate.faults_of_hall(arcs, objects, first, second)
+    else:
+        faults = check_certificate.faults_of_plan(arcs, objects, kind, numbers, first, second)
+    for fault in faults:
+        _, what, *place = fault.split()
+        raise Fault(f"{file}: it isn't true of {problem}, so it may be of another problem: {INVALID[what].format(*place)}")
+    if kind == "infeasible":
+        return Claim(kind, [], [], None, None, first, second)
+    return Claim(kind, first, second, numbers[0], numbers[-1], [], [])

@@ -41,7 +41,8 @@ class Names(NamedTuple):
     def told(self):
         """How many there are of all, in words."""
         dummies = f" with {self.dummy_objects} dumm{'y' if self.dummy_objects == 1 else 'ies'}" if self.dummy_objects else ""
-        return f"{len(self.persons)} persons, {self.number_of_objects()} objects{dummies}, {self.arcs.count(chr(10)) - 1} arcs"
+        arcs = self.arcs.count("\n") - 1
+        return f"{counted(len(self.persons), 'person')}, {counted(self.number_of_objects(), 'object')}{dummies}, {counted(arcs, 'arc')}"
 
     def number_of_objects(self):
         """How many objects the problem has, dummies among them."""
@@ -50,6 +51,11 @@ class Names(NamedTuple):
     def words_for_objects(self):
         """What tells `auction` how many objects there are, where they are more than the persons."""
         return [f"--objects={len(self.objects)}"] if len(self.objects) > len(self.persons) else []
+
+
+def counted(number, word):
+    """A number of things."""
+    return f"{number} {word}{'s' * (number != 1)}"
 
 
 def plain_names(persons, objects):

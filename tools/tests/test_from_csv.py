@@ -69,7 +69,7 @@ class Amounts(ToolTest):
 class UnequalNumbers(ToolTest):
     def test_more_objects(self):
         self.write("table.csv", "a,x,4\na,y,5\n")
-        said = "table.arcs: 1 persons, 2 objects, 2 arcs; solve and check it with --objects=2\ntable.names: their names\n"
+        said = "table.arcs: 1 person, 2 objects, 2 arcs; solve and check it with --objects=2\ntable.names: their names\n"
         self.assertEqual(self.call("tools/from_csv", "table.csv"), (0, said, ""))
         self.assertEqual(self.read("table.arcs"), "1\n1 1 4\n1 2 5\n")
         self.assertIn('"dummy_objects": 0', self.read("table.names"))

@@ -1,6 +1,7 @@
 mod PlaceLaws
 mod PickLaws
 mod StartLaws
+mod RunLaws
 mod HandLaws
 mod MadeLaws
 mod CheckLaws

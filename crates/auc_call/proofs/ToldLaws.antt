@@ -1,6 +1,6 @@
 -- What a status says of a solve.
 use Rattle.std.proofs.Common.{◌≡◌, ◌≢◌, ℕ, List, Option, Some, None, refl, sym, ap, subst, arith}
-use Rattle.std.specs.Prelude.{ℤ, pos, unsigned_abs, Result, Ok, Err, Contains}
+use Rattle.std.specs.Prelude.{ℤ, pos, unsigned_abs, Result, Ok, Err, Contains, IfOk}
 use Rattle.auc_graph.specs.declared.listing_fault.ListFault.{ListFault}
 use Rattle.auc_graph.specs.Problem.{Problem}
 use Rattle.auc_graph.specs.Listing.{problem_fault}
@@ -16,6 +16,7 @@ use Rattle.auc_call.specs.Start.{start_fault}
 use Rattle.auc_call.specs.Codes.{list_kind, list_place, start_kind, start_place, IsListFault, IsStartFault}
 use Rattle.auc_call.specs.Solving.{Solves}
 use Rattle.auc_call.specs.Answers.{IsBracketTold}
+use Rattle.auc_call.specs.Running.{IsOfRunFrom, IsRunTold}
 use Rattle.auc_call.specs.Telling.{solve_status, solve_found, solve_statuses, KeepsFound, KeepsMemory}
 
 pub apart : (m n : ℕ) → pos m ≡ pos n → m ≡ n
@@ -103,6 +104,14 @@ told_started p start before after (Err Sizes) h two five six seven = absurd (two
 told_started p start before after (Err (Fault fault)) h two five six seven = absurd (five refl)
 told_started p start before after (Err (Start fault)) h two five six seven = absurd (seven refl)
 told_started p start before after (Err NoMemory) h two five six seven = absurd (six refl)
+
+pub told_run : (p : Problem) (start : List ℤ) (bids : ℕ) (after : Memory) (r : Result Solved Failed) (status : ℤ) (old new : Found) → IfOk r (IsOfRunFrom p start bids after) → status ≡ solve_status r → new ≡ solve_found r old
+    → solve_status r ≢ pos 2 → solve_status r ≢ pos 5 → solve_status r ≢ pos 6 → solve_status r ≢ pos 7 → IsRunTold p start bids after status old new
+told_run p start bids after (Ok solved) status old new h s f two five six seven = record { solved = solved; run = h; status_is = s; found_is = f }
+told_run p start bids after (Err Sizes) status old new h s f two five six seven = absurd (two refl)
+told_run p start bids after (Err (Fault fault)) status old new h s f two five six seven = absurd (five refl)
+told_run p start bids after (Err (Start fault)) status old new h s f two five six seven = absurd (seven refl)
+told_run p start bids after (Err NoMemory) status old new h s f two five six seven = absurd (six refl)
 
 pub told_same : (p : Problem) (start : List ℤ) (before after : Memory) (r : Result Solved Failed) → Solves p start before after r → KeepsMemory (solve_status r) before after
 told_same p start before after (Ok (Optimal cost)) h = record { choice = λ a b c. absurd (a refl); prices = λ a b. absurd (a refl); set = λ a. h.2.1 }

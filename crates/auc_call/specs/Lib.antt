@@ -5,4 +5,5 @@ pub mod Solving
 pub mod Checking
 pub mod Codes
 pub mod Telling
+pub mod Running
 pub mod Answers

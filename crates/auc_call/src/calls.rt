@@ -10,6 +10,7 @@ ghost use Rattle.auc_call.specs.Start.{start_fault};
 ghost use Rattle.auc_call.specs.Codes.{IsListFault, IsStartFault};
 ghost use Rattle.auc_call.specs.Checking.{AreClaimSizes};
 ghost use Rattle.auc_call.specs.Answers.{IsBracketTold, IsClaimFaultTold, IsHallFaultTold, IsHallShown};
+ghost use Rattle.auc_call.specs.Running.{IsRunTold};
 ghost use Rattle.auc_call.specs.Telling.{solve_statuses, check_statuses, KeepsFound, KeepsMemory, KeepsChecked};
 
 use crate::checking::{check_at, check_hall_at};
@@ -52,6 +53,7 @@ pub fn solve_call(
     ensures refused { result ≡ pos 5 → IsListFault (list_fault persons objects arcs.now) found.new.kind found.new.place }
     ensures start { result ≡ pos 7 → IsStartFault (start_fault (problem_from persons objects arcs.now) start.now) found.new.kind found.new.place }
     ensures started { result ≢ pos 2 → result ≢ pos 5 → result ≢ pos 6 → result ≢ pos 7 → start_fault (problem_from persons objects arcs.now) start.now ≡ None }
+    ensures run { result ≢ pos 2 → result ≢ pos 5 → result ≢ pos 6 → result ≢ pos 7 → IsRunTold (problem_from persons objects arcs.now) start.now bids (memory choice.new prices.new hall_objects.new) result found.old found.new }
     ensures same { KeepsMemory result (memory choice.old prices.old hall_objects.old) (memory choice.new prices.new hall_objects.new) }
     ensures same_found { KeepsFound result found.old found.new }
 {

@@ -3,6 +3,7 @@
 ghost use Rattle.std.specs.Prelude.{◌≡◌, ◌≤◌, length, take, List, ℕ};
 ghost use Rattle.auc_world.specs.Answers.{IsLeastCertificate, IsHallCertificate, IsBracketCertificate};
 ghost use Rattle.auc_call.specs.Memory.{memory};
+ghost use Rattle.auc_call.specs.Running.{IsWritten};
 ghost use Rattle.auc_call.specs.Solving.{IsSolved};
 
 use crate::places::set_places;
@@ -28,7 +29,8 @@ pub(crate) fn hand_optimal(
     requires cert { IsLeastCertificate problem.now cert.now }
     requires choice { length choice.old ≡ problem.now.persons }
     requires prices { length prices.old ≡ problem.now.objects }
-    ensures { (set : List ℕ) → IsSolved problem.now (memory choice.old prices.old set) (memory choice.new prices.new set) result }
+    ensures solved { (set : List ℕ) → IsSolved problem.now (memory choice.old prices.old set) (memory choice.new prices.new set) result }
+    ensures written { (set : List ℕ) → IsWritten problem.now cert.now (memory choice.new prices.new set) result }
 {
     match cert.parts() {
         CertParts::Optimal {
@@ -54,7 +56,8 @@ pub(crate) fn hand_bracket(
     requires cert { IsBracketCertificate problem.now cert.now }
     requires choice { length choice.old ≡ problem.now.persons }
     requires prices { length prices.old ≡ problem.now.objects }
-    ensures { (set : List ℕ) → IsSolved problem.now (memory choice.old prices.old set) (memory choice.new prices.new set) result }
+    ensures solved { (set : List ℕ) → IsSolved problem.now (memory choice.old prices.old set) (memory choice.new prices.new set) result }
+    ensures written { (set : List ℕ) → IsWritten problem.now cert.now (memory choice.new prices.new set) result }
 {
     match cert.parts() {
         CertParts::Bracket {
@@ -87,7 +90,8 @@ pub(crate) fn hand_hall(
     requires cert { IsHallCertificate problem.now cert.now }
     requires choice { length choice.old ≡ problem.now.persons }
     requires set { length set.old ≡ problem.now.persons }
-    ensures { IsSolved problem.now (memory choice.old prices.now set.old) (memory choice.new prices.now set.new) result }
+    ensures solved { IsSolved problem.now (memory choice.old prices.now set.old) (memory choice.new prices.now set.new) result }
+    ensures written { IsWritten problem.now cert.now (memory choice.new prices.now set.new) result }
 {
     // Read here, so that the proof knows what every problem keeps.
     let _ = problem.arcs();

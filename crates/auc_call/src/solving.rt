@@ -5,6 +5,8 @@ ghost use Rattle.auc_graph.specs.Listing.{problem_from};
 ghost use Rattle.auc_world.specs.Answers.{IsAnswer};
 ghost use Rattle.auc_call.specs.Memory.{AreSizes, memory};
 ghost use Rattle.auc_cert.specs.Start.{AreStart};
+ghost use Rattle.auc_world.specs.Chain.{IsOfRun};
+ghost use Rattle.auc_call.specs.Running.{IsAnswerWritten, IsOfRunFrom, limits_of, start_in};
 ghost use Rattle.auc_call.specs.Solving.{IsSolved, Solves};
 
 use crate::handing::{hand_bracket, hand_hall, hand_optimal};
@@ -22,7 +24,8 @@ fn answer_of(
     bids: u64,
 ) -> Result<Answer, AllocError>
     requires { start.now ≢ [] → AreStart problem.now start.now }
-    ensures { IfOk result (IsAnswer problem.now) }
+    ensures is { IfOk result (IsAnswer problem.now) }
+    ensures run { IfOk result (IsOfRun problem.now (limits_of bids) (start_in start.now)) }
 {
     let limits = Limits {
         bids,
@@ -44,7 +47,8 @@ fn hand_out(
 ) -> Solved
     requires answer { IsAnswer problem.now answer.now }
     requires sizes { AreSizes problem.now (memory choice.old prices.old set.old) }
-    ensures { IsSolved problem.now (memory choice.old prices.old set.old) (memory choice.new prices.new set.new) result }
+    ensures solved { IsSolved problem.now (memory choice.old prices.old set.old) (memory choice.new prices.new set.new) result }
+    ensures written { IsAnswerWritten problem.now answer.now (memory choice.new prices.new set.new) result }
 {
     match answer {
         Answer::Optimal(cert) => hand_optimal(problem, cert, choice, prices),
@@ -66,7 +70,8 @@ pub(crate) fn solve_into(
     prices: &mut [i64],
     set: &mut [u32],
 ) -> Result<Solved, Failed>
-    ensures { Solves (problem_from persons objects arcs.now) start.now (memory choice.old prices.old set.old) (memory choice.new prices.new set.new) result }
+    ensures solves { Solves (problem_from persons objects arcs.now) start.now (memory choice.old prices.old set.old) (memory choice.new prices.new set.new) result }
+    ensures run { IfOk result (IsOfRunFrom (problem_from persons objects arcs.now) start.now bids (memory choice.new prices.new set.new)) }
 {
     let wanted = objects_or(objects, persons) as usize;
     let places = persons as usize;

@@ -5,7 +5,7 @@ use Rattle.auc_graph.specs.Listing.{problem_from}
 use Rattle.auc_call.specs.declared.found.Found.{Found}
 use Rattle.auc_call.specs.Memory.{memory}
 use Rattle.auc_call.specs.Telling.{solve_status, solve_statuses, KeepsFound, KeepsMemory}
-use Rattle.auc_call.proofs.ToldLaws.{solve_known, told_optimal, told_infeasible, told_bracket, told_refused, told_start, told_started, told_sizes, sizes_told, told_same, told_found}
+use Rattle.auc_call.proofs.ToldLaws.{solve_known, told_optimal, told_infeasible, told_bracket, told_refused, told_start, told_started, told_run, told_sizes, sizes_told, told_same, told_found}
 use Rattle.auc_call.proofs.calls.solve_call.Goals as goal
 
 pub returns-clause-known : goal.returns-clause-known
@@ -16,45 +16,51 @@ returns-clause-known c =
 pub returns-clause-optimal : goal.returns-clause-optimal
 returns-clause-optimal c = λ told.
     let fits : FitsSigned w32 c.tell_solved.result = search rules in
-    rw c.tell_solved.ensures.found (told_optimal (problem_from c.args.persons c.args.objects c.args.arcs.now) c.args.start.now (memory c.args.choice.now c.args.prices.now c.args.hall_objects.now) (memory c.solve_into-solved.new.choice c.solve_into-solved.new.prices c.solve_into-solved.new.set) c.solve_into-solved.result c.args.found.now c.solve_into-solved.ensures (sym c.tell_solved.ensures.status ∙ simp to_z-of_z at told))
+    rw c.tell_solved.ensures.found (told_optimal (problem_from c.args.persons c.args.objects c.args.arcs.now) c.args.start.now (memory c.args.choice.now c.args.prices.now c.args.hall_objects.now) (memory c.solve_into-solved.new.choice c.solve_into-solved.new.prices c.solve_into-solved.new.set) c.solve_into-solved.result c.args.found.now c.solve_into-solved.ensures.solves (sym c.tell_solved.ensures.status ∙ simp to_z-of_z at told))
 
 pub returns-clause-infeasible : goal.returns-clause-infeasible
 returns-clause-infeasible c = λ told.
     let fits : FitsSigned w32 c.tell_solved.result = search rules in
-    rw c.tell_solved.ensures.found (told_infeasible (problem_from c.args.persons c.args.objects c.args.arcs.now) c.args.start.now (memory c.args.choice.now c.args.prices.now c.args.hall_objects.now) (memory c.solve_into-solved.new.choice c.solve_into-solved.new.prices c.solve_into-solved.new.set) c.solve_into-solved.result c.args.found.now c.solve_into-solved.ensures (sym c.tell_solved.ensures.status ∙ simp to_z-of_z at told))
+    rw c.tell_solved.ensures.found (told_infeasible (problem_from c.args.persons c.args.objects c.args.arcs.now) c.args.start.now (memory c.args.choice.now c.args.prices.now c.args.hall_objects.now) (memory c.solve_into-solved.new.choice c.solve_into-solved.new.prices c.solve_into-solved.new.set) c.solve_into-solved.result c.args.found.now c.solve_into-solved.ensures.solves (sym c.tell_solved.ensures.status ∙ simp to_z-of_z at told))
 
 pub returns-clause-bracket : goal.returns-clause-bracket
 returns-clause-bracket c = λ told.
     let fits : FitsSigned w32 c.tell_solved.result = search rules in
-    rw c.tell_solved.ensures.found (told_bracket (problem_from c.args.persons c.args.objects c.args.arcs.now) c.args.start.now (memory c.args.choice.now c.args.prices.now c.args.hall_objects.now) (memory c.solve_into-solved.new.choice c.solve_into-solved.new.prices c.solve_into-solved.new.set) c.solve_into-solved.result c.args.found.now c.solve_into-solved.ensures (sym c.tell_solved.ensures.status ∙ simp to_z-of_z at told))
+    rw c.tell_solved.ensures.found (told_bracket (problem_from c.args.persons c.args.objects c.args.arcs.now) c.args.start.now (memory c.args.choice.now c.args.prices.now c.args.hall_objects.now) (memory c.solve_into-solved.new.choice c.solve_into-solved.new.prices c.solve_into-solved.new.set) c.solve_into-solved.result c.args.found.now c.solve_into-solved.ensures.solves (sym c.tell_solved.ensures.status ∙ simp to_z-of_z at told))
 
 pub returns-clause-refused : goal.returns-clause-refused
 returns-clause-refused c = λ told.
     let fits : FitsSigned w32 c.tell_solved.result = search rules in
-    rw c.tell_solved.ensures.found (told_refused (problem_from c.args.persons c.args.objects c.args.arcs.now) c.args.start.now (memory c.args.choice.now c.args.prices.now c.args.hall_objects.now) (memory c.solve_into-solved.new.choice c.solve_into-solved.new.prices c.solve_into-solved.new.set) c.solve_into-solved.result c.args.found.now c.solve_into-solved.ensures (sym c.tell_solved.ensures.status ∙ simp to_z-of_z at told))
+    rw c.tell_solved.ensures.found (told_refused (problem_from c.args.persons c.args.objects c.args.arcs.now) c.args.start.now (memory c.args.choice.now c.args.prices.now c.args.hall_objects.now) (memory c.solve_into-solved.new.choice c.solve_into-solved.new.prices c.solve_into-solved.new.set) c.solve_into-solved.result c.args.found.now c.solve_into-solved.ensures.solves (sym c.tell_solved.ensures.status ∙ simp to_z-of_z at told))
 
 pub returns-clause-start : goal.returns-clause-start
 returns-clause-start c = λ told.
     let fits : FitsSigned w32 c.tell_solved.result = search rules in
-    rw c.tell_solved.ensures.found (told_start (problem_from c.args.persons c.args.objects c.args.arcs.now) c.args.start.now (memory c.args.choice.now c.args.prices.now c.args.hall_objects.now) (memory c.solve_into-solved.new.choice c.solve_into-solved.new.prices c.solve_into-solved.new.set) c.solve_into-solved.result c.args.found.now c.solve_into-solved.ensures (sym c.tell_solved.ensures.status ∙ simp to_z-of_z at told))
+    rw c.tell_solved.ensures.found (told_start (problem_from c.args.persons c.args.objects c.args.arcs.now) c.args.start.now (memory c.args.choice.now c.args.prices.now c.args.hall_objects.now) (memory c.solve_into-solved.new.choice c.solve_into-solved.new.prices c.solve_into-solved.new.set) c.solve_into-solved.result c.args.found.now c.solve_into-solved.ensures.solves (sym c.tell_solved.ensures.status ∙ simp to_z-of_z at told))
 
 pub returns-clause-sizes : goal.returns-clause-sizes
 returns-clause-sizes c =
     let fits : FitsSigned w32 c.tell_solved.result = search rules in (
-      λ told. told_sizes (problem_from c.args.persons c.args.objects c.args.arcs.now) c.args.start.now (memory c.args.choice.now c.args.prices.now c.args.hall_objects.now) (memory c.solve_into-solved.new.choice c.solve_into-solved.new.prices c.solve_into-solved.new.set) c.solve_into-solved.result c.solve_into-solved.ensures (sym c.tell_solved.ensures.status ∙ simp to_z-of_z at told),
-      λ others. simp to_z-of_z (c.tell_solved.ensures.status ∙ sizes_told (problem_from c.args.persons c.args.objects c.args.arcs.now) c.args.start.now (memory c.args.choice.now c.args.prices.now c.args.hall_objects.now) (memory c.solve_into-solved.new.choice c.solve_into-solved.new.prices c.solve_into-solved.new.set) c.solve_into-solved.result c.solve_into-solved.ensures others),
+      λ told. told_sizes (problem_from c.args.persons c.args.objects c.args.arcs.now) c.args.start.now (memory c.args.choice.now c.args.prices.now c.args.hall_objects.now) (memory c.solve_into-solved.new.choice c.solve_into-solved.new.prices c.solve_into-solved.new.set) c.solve_into-solved.result c.solve_into-solved.ensures.solves (sym c.tell_solved.ensures.status ∙ simp to_z-of_z at told),
+      λ others. simp to_z-of_z (c.tell_solved.ensures.status ∙ sizes_told (problem_from c.args.persons c.args.objects c.args.arcs.now) c.args.start.now (memory c.args.choice.now c.args.prices.now c.args.hall_objects.now) (memory c.solve_into-solved.new.choice c.solve_into-solved.new.prices c.solve_into-solved.new.set) c.solve_into-solved.result c.solve_into-solved.ensures.solves others),
     )
 
 pub returns-clause-started : goal.returns-clause-started
 returns-clause-started c = λ two five six seven.
     let fits : FitsSigned w32 c.tell_solved.result = search rules in
-    told_started (problem_from c.args.persons c.args.objects c.args.arcs.now) c.args.start.now (memory c.args.choice.now c.args.prices.now c.args.hall_objects.now) (memory c.solve_into-solved.new.choice c.solve_into-solved.new.prices c.solve_into-solved.new.set) c.solve_into-solved.result c.solve_into-solved.ensures
+    told_started (problem_from c.args.persons c.args.objects c.args.arcs.now) c.args.start.now (memory c.args.choice.now c.args.prices.now c.args.hall_objects.now) (memory c.solve_into-solved.new.choice c.solve_into-solved.new.prices c.solve_into-solved.new.set) c.solve_into-solved.result c.solve_into-solved.ensures.solves
     (λ e. two (simp to_z-of_z (c.tell_solved.ensures.status ∙ e))) (λ e. five (simp to_z-of_z (c.tell_solved.ensures.status ∙ e))) (λ e. six (simp to_z-of_z (c.tell_solved.ensures.status ∙ e))) (λ e. seven (simp to_z-of_z (c.tell_solved.ensures.status ∙ e)))
+
+pub returns-clause-run : goal.returns-clause-run
+returns-clause-run c = λ two five six seven.
+    let fits : FitsSigned w32 c.tell_solved.result = search rules in
+    simp to_z-of_z (told_run (problem_from c.args.persons c.args.objects c.args.arcs.now) c.args.start.now c.args.bids (memory c.solve_into-solved.new.choice c.solve_into-solved.new.prices c.solve_into-solved.new.set) c.solve_into-solved.result c.tell_solved.result c.args.found.now c.tell_solved.new.found c.solve_into-solved.ensures.run c.tell_solved.ensures.status c.tell_solved.ensures.found
+    (λ e. two (simp to_z-of_z (c.tell_solved.ensures.status ∙ e))) (λ e. five (simp to_z-of_z (c.tell_solved.ensures.status ∙ e))) (λ e. six (simp to_z-of_z (c.tell_solved.ensures.status ∙ e))) (λ e. seven (simp to_z-of_z (c.tell_solved.ensures.status ∙ e))))
 
 pub returns-clause-same : goal.returns-clause-same
 returns-clause-same c =
     let fits : FitsSigned w32 c.tell_solved.result = search rules in
-    simp to_z-of_z (subst (λ (z : ℤ). KeepsMemory z (memory c.args.choice.now c.args.prices.now c.args.hall_objects.now) (memory c.solve_into-solved.new.choice c.solve_into-solved.new.prices c.solve_into-solved.new.set)) (sym c.tell_solved.ensures.status) (told_same (problem_from c.args.persons c.args.objects c.args.arcs.now) c.args.start.now (memory c.args.choice.now c.args.prices.now c.args.hall_objects.now) (memory c.solve_into-solved.new.choice c.solve_into-solved.new.prices c.solve_into-solved.new.set) c.solve_into-solved.result c.solve_into-solved.ensures))
+    simp to_z-of_z (subst (λ (z : ℤ). KeepsMemory z (memory c.args.choice.now c.args.prices.now c.args.hall_objects.now) (memory c.solve_into-solved.new.choice c.solve_into-solved.new.prices c.solve_into-solved.new.set)) (sym c.tell_solved.ensures.status) (told_same (problem_from c.args.persons c.args.objects c.args.arcs.now) c.args.start.now (memory c.args.choice.now c.args.prices.now c.args.hall_objects.now) (memory c.solve_into-solved.new.choice c.solve_into-solved.new.prices c.solve_into-solved.new.set) c.solve_into-solved.result c.solve_into-solved.ensures.solves))
 
 pub returns-clause-same_found : goal.returns-clause-same_found
 returns-clause-same_found c =

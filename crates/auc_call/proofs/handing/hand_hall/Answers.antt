@@ -22,8 +22,8 @@ overflow_cast-result-in-Infeasible c =
     let n = named c.args.problem.now c.args.cert.now c.parts.result.now c.in-Infeasible.persons c.in-Infeasible.objects c.as_slice-persons.result.now c.as_slice-objects.result.now c.requires.cert c.parts.ensures.is c.in-Infeasible.is c.as_slice-persons.ensures c.as_slice-objects.ensures in
     omega (arith, few_objects c.args.problem.now c.as_slice-persons.result.now c.as_slice-objects.result.now n, c.arcs.ensures.problem.most)
 
-pub returns : goal.returns
-returns c =
+pub returns-clause-solved : goal.returns-clause-solved
+returns-clause-solved c =
     let n = named c.args.problem.now c.args.cert.now c.parts.result.now c.in-Infeasible.persons c.in-Infeasible.objects c.as_slice-persons.result.now c.as_slice-objects.result.now c.requires.cert c.parts.ensures.is c.in-Infeasible.is c.as_slice-persons.ensures c.as_slice-objects.ensures in
     let persons_in : length c.as_slice-persons.result.now ≤ length c.put_front.new.target = omega (arith, few_persons c.args.problem.now c.as_slice-persons.result.now c.as_slice-objects.result.now n, c.requires.choice, c.put_front.auto.target) in
     let objects_in : length c.as_slice-objects.result.now ≤ length c.put_front-in-Infeasible.new.target = omega (arith, few_objects c.args.problem.now c.as_slice-persons.result.now c.as_slice-objects.result.now n, c.requires.set, c.put_front-in-Infeasible.auto.target) in (

@@ -3,13 +3,14 @@ use Rattle.auc_graph.specs.declared.arc.Arc.{Arc}
 use Rattle.auc_graph.specs.Problem.{Problem, IsProblem}
 use Rattle.auc_graph.specs.Listing.{objects_or, problem_from}
 use Rattle.auc_call.specs.Memory.{AreSizes, memory}
+use Rattle.auc_call.specs.Running.{IsOfRunFrom}
 use Rattle.auc_call.specs.Solving.{IsSolved}
 use Rattle.auc_call.specs.Start.{start_fault}
 use Rattle.auc_call.proofs.MadeLaws.{made_of}
 use Rattle.auc_call.proofs.solving.solve_into.Goals as goal
 
-pub returns-in-Some : goal.returns-in-Some
-returns-in-Some c =
+pub returns-in-Some-clause-solves : goal.returns-in-Some-clause-solves
+returns-in-Some-clause-solves c =
     let e = made_of c.args.persons c.args.objects c.in_ok-problem.problem c.in_ok-arcs.arcs.items c.args.arcs.now c.in_ok-problem.ensures.exact c.in_ok-arcs.ensures.items in
     let wanted : c.objects_or-wanted.result ≡ objects_or c.args.objects c.args.persons = c.objects_or-wanted.ensures in
     let sizes : AreSizes (problem_from c.args.persons c.args.objects c.args.arcs.now) (memory c.args.choice.now c.args.prices.now c.args.set.now) = record {
@@ -31,8 +32,8 @@ hand_out-requires-clause-sizes c =
     } in
     subst (λ (p : Problem). AreSizes p (memory c.args.choice.now c.args.prices.now c.args.set.now)) (sym e) sizes
 
-pub returns : goal.returns
-returns c =
+pub returns-clause-solves : goal.returns-clause-solves
+returns-clause-solves c =
     let e = made_of c.args.persons c.args.objects c.in_ok-problem.problem c.in_ok-arcs.arcs.items c.args.arcs.now c.in_ok-problem.ensures.exact c.in_ok-arcs.ensures.items in
     let wanted : c.objects_or-wanted.result ≡ objects_or c.args.objects c.args.persons = c.objects_or-wanted.ensures in
     let sizes : AreSizes (problem_from c.args.persons c.args.objects c.args.arcs.now) (memory c.args.choice.now c.args.prices.now c.args.set.now) = record {
@@ -40,4 +41,13 @@ returns c =
       prices = omega (arith, c.if-prices-wanted.false, wanted);
       set = omega (arith, c.if-set-places.false);
     } in
-    (sizes, ap (λ (p : Problem). start_fault p c.args.start.now) (sym e) ∙ sym c.start_fault.ensures.exact ∙ c.in_default.is, subst (λ (p : Problem). IsSolved p (memory c.args.choice.now c.args.prices.now c.args.set.now) (memory c.hand_out.new.choice c.hand_out.new.prices c.hand_out.new.set) c.hand_out.result) e c.hand_out.ensures)
+    (sizes, ap (λ (p : Problem). start_fault p c.args.start.now) (sym e) ∙ sym c.start_fault.ensures.exact ∙ c.in_default.is, subst (λ (p : Problem). IsSolved p (memory c.args.choice.now c.args.prices.now c.args.set.now) (memory c.hand_out.new.choice c.hand_out.new.prices c.hand_out.new.set) c.hand_out.result) e c.hand_out.ensures.solved)
+
+pub returns-clause-run : goal.returns-clause-run
+returns-clause-run c =
+    let e = made_of c.args.persons c.args.objects c.in_ok-problem.problem c.in_ok-arcs.arcs.items c.args.arcs.now c.in_ok-problem.ensures.exact c.in_ok-arcs.ensures.items in
+    subst (λ (p : Problem). IsOfRunFrom p c.args.start.now c.args.bids (memory c.hand_out.new.choice c.hand_out.new.prices c.hand_out.new.set) c.hand_out.result) e (record {
+      answer = c.in_ok-answer.answer;
+      run = c.in_ok-answer.ensures.run;
+      written = c.hand_out.ensures.written;
+    })

@@ -89,6 +89,19 @@ impl Mails {
         }
     }
 
+    /// Whether a take from a box gives no letter, since none waits there.
+    #[inline(always)]
+    pub(crate) fn gives_none(&self, mail: MailName, at: u32) -> bool
+        requires { HasBox (named self.now mail) at }
+        ensures { IsTrue result → TakesNone (named self.now mail) at }
+    {
+        match mail {
+            MailName::Objects => !self.objects.has_letter(at),
+            MailName::Persons => !self.persons.has_letter(at),
+            MailName::Hub => !self.hub.has_letter(at),
+        }
+    }
+
     /// What a take from a box gives.
     #[inline(always)]
     fn taken(&mut self, mail: MailName, at: u32) -> Taken<Letter>

@@ -4,7 +4,9 @@
 
 ghost use Rattle.std.specs.Prelude.{◌≡◌, ◌<◌, ◌+◌, ◌*◌, true, false, [], ◌∷◌, All, IsTrue};
 ghost use Rattle.auc_objects.specs.Answers.{letters_of};
-ghost use Rattle.auc_world.specs.Parts.{Reaches, SamePhase, outbox_at};
+ghost use Rattle.auc_model.specs.declared.turn.Turn.{Turn};
+ghost use Rattle.auc_world.specs.Parts.{Reaches, SamePhase, outbox_at, phase, seen};
+ghost use Rattle.auc_world.specs.Rounds.{Plays};
 ghost use Rattle.auc_world.specs.Passing.{BidPasses, FirstPasses, Hands, PassesBy, Sells, Trades, sold_if, sold_moves};
 
 use crate::bidding::Asked;
@@ -42,6 +44,67 @@ impl Sold {
         ensures { result ≡ sold_if moved }
     {
         if moved { Sold::Moved } else { Sold::Still }
+    }
+}
+
+/// The same letter to be posted.
+#[inline(always)]
+fn copy_of(out: Out) -> Out
+    ensures { result ≡ out }
+{
+    let Out {
+        letter,
+        to,
+        reserve,
+    } = out;
+    Out {
+        letter,
+        to,
+        reserve,
+    }
+}
+
+/// The same letter to be posted, where each mail has one box: its number is told, so that it need not be worked out.
+#[inline(always)]
+fn to_only_box(out: Out) -> Out
+    requires { Reaches 1 out }
+    ensures { result ≡ out }
+{
+    let Out {
+        letter,
+        to,
+        reserve,
+    } = out;
+    let to = match to {
+        To::Person { .. } => To::Person { shard: 0 },
+        To::Object { .. } => To::Object { shard: 0 },
+        To::Hub => To::Hub,
+    };
+    Out {
+        letter,
+        to,
+        reserve,
+    }
+}
+
+/// The same answers, where each mail has one box.
+#[inline(always)]
+fn all_to_only_box(answers: Answers) -> Answers
+    requires { All (Reaches 1) (letters_of answers) }
+    ensures { result ≡ answers }
+{
+    match answers {
+        Answers::Refused { refused } => Answers::Refused {
+            refused: to_only_box(refused),
+        },
+        Answers::First { award, first } => Answers::First {
+            award: to_only_box(award),
+            first: to_only_box(first),
+        },
+        Answers::Outbid { outbid, award } => Answers::Outbid {
+            outbid: to_only_box(outbid),
+            award: to_only_box(award),
+        },
     }
 }
 
@@ -123,6 +186,7 @@ impl<'a> World<'a> {
         ensures moves { sold_moves result ≡ true }
         ensures phase { SamePhase self.old self.new }
     {
+        let answers = all_to_only_box(answers);
         if let Answers::First { award, first } = answers {
             return self.hand_first(award, first);
         }
@@ -154,13 +218,26 @@ impl<'a> World<'a> {
         ensures phase { SamePhase self.old self.new }
     {
         if !self.pass_bid(out) {
-            self.sell_by_mail(out);
+            // A copy, so that the bid itself never has to stand in memory.
+            self.sell_by_mail(copy_of(out));
             return Sold::Moved;
         }
         match self.judge(0, out.letter) {
             Some(answers) => self.hand_out(answers),
             None => Sold::Moved,
         }
+    }
+
+    /// The only shard of the objects takes a bid and posts its answers, where no bid was made. Nearly always none waits.
+    #[inline(always)]
+    fn answer_waiting(&mut self) -> bool
+        ensures plays { Plays (phase self.old) (seen self.old) (Turn.ObjectTake 0 ∷ Turn.ObjectPost 0 ∷ Turn.ObjectPost 0 ∷ []) result (seen self.new) }
+        ensures phase { SamePhase self.old self.new }
+    {
+        if self.finds_none(0) {
+            return false;
+        }
+        self.take_and_post(0)
     }
 
     /// The only shard of the persons bids and posts, and the only one of the objects takes a bid and posts its answers.
@@ -176,7 +253,7 @@ impl<'a> World<'a> {
                 let taken = self.take_and_post(0);
                 Sold::if_moved(either(posted, taken))
             }
-            Asked::Idle => Sold::if_moved(self.take_and_post(0)),
+            Asked::Idle => Sold::if_moved(self.answer_waiting()),
             Asked::Sends { out } => self.trade(out),
         }
     }

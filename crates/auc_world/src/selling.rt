@@ -13,6 +13,7 @@ ghost use Rattle.auc_world.specs.Passing.{Judges};
 ghost use Rattle.auc_world.specs.Parts.{AreParts, MayAnswer, OwnsObject, Reaches, SamePhase, objects_at, outbox_at, phase, seen};
 ghost use Rattle.auc_world.specs.Rounds.{Plays};
 ghost use Rattle.auc_world.specs.Selling.{Deals};
+ghost use Rattle.auc_world.specs.declared.selling.Dealt.{Dealt};
 
 use crate::rounds::{either, has_moved};
 use crate::world::World;
@@ -53,6 +54,14 @@ impl<'a> World<'a> {
         ensures sound { AreParts self.now }
     {
         shard < self.shards && self.outboxes[(self.shards + shard) as usize].is_empty()
+    }
+
+    /// Whether a shard of the objects would take a letter, and none waits for it.
+    #[inline(always)]
+    pub(crate) fn finds_none(&self, shard: u32) -> bool
+        ensures { IsTrue result → Deals self.now shard Dealt.Nothing self.now }
+    {
+        self.may_answer(shard) && self.mails.gives_none(MailName::Objects, shard)
     }
 
     /// The bid that a letter to a shard of the objects is, where it fits: the object is the shard's, and the amount is in range.

@@ -4,6 +4,7 @@
 
 ghost use Rattle.std.specs.Prelude.{◌≡◌, ◌<◌, ◌+◌, ◌*◌, true, false, [], ◌∷◌, All, IsTrue};
 ghost use Rattle.auc_objects.specs.Answers.{letters_of};
+ghost use Rattle.auc_model.specs.Mails.{Shard, with_outbox};
 ghost use Rattle.auc_model.specs.declared.turn.Turn.{Turn};
 ghost use Rattle.auc_world.specs.Parts.{Reaches, SamePhase, outbox_at, phase, seen};
 ghost use Rattle.auc_world.specs.Rounds.{Plays};
@@ -154,6 +155,18 @@ impl<'a> World<'a> {
         self.pass(sender, out)
     }
 
+    /// Posts two letters of the only shard of the objects, by two turns. Seldom needed, so it stays out of the round.
+    #[inline(never)]
+    fn send_both_apart(&mut self, first: Out, second: Out)
+        requires one { self.old.shards ≡ 1 }
+        requires empty { outbox_at self.old 1 ≡ [] }
+        requires reach { All (Reaches self.old.shards) (first ∷ second ∷ []) }
+        ensures plays { Plays (phase self.old) (with_outbox (seen self.old) (Shard.ObjectShard 0) (first ∷ second ∷ [])) (Turn.ObjectPost 0 ∷ Turn.ObjectPost 0 ∷ []) true (seen self.new) }
+        ensures phase { SamePhase self.old self.new }
+    {
+        self.send_both(0, first, second);
+    }
+
     /// Posts the answers to a first bid on an object, by two turns; the First letter passes the hub's mail, if it may.
     #[inline(always)]
     fn hand_first(&mut self, award: Out, first: Out) -> Sold
@@ -166,7 +179,7 @@ impl<'a> World<'a> {
     {
         if let Some(_) = self.post_past(1, award) {
             // Nothing has changed, and the same comes of it again.
-            self.send_both(0, award, first);
+            self.send_both_apart(award, first);
             return Sold::Moved;
         }
         if self.pass_first(1, first) {

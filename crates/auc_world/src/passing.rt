@@ -11,6 +11,7 @@ ghost use Rattle.auc_world.specs.Rounds.{Plays};
 ghost use Rattle.auc_world.specs.Passing.{BidPasses, FirstPasses, Hands, PassesBy, Sells, Trades, sold_if, sold_moves};
 
 use crate::bidding::Asked;
+use crate::outbox::copy_of;
 use crate::rounds::{either, has_moved};
 use crate::world::World;
 use auc_letters::{Letter, Out, To};
@@ -45,23 +46,6 @@ impl Sold {
         ensures { result ≡ sold_if moved }
     {
         if moved { Sold::Moved } else { Sold::Still }
-    }
-}
-
-/// The same letter to be posted.
-#[inline(always)]
-fn copy_of(out: Out) -> Out
-    ensures { result ≡ out }
-{
-    let Out {
-        letter,
-        to,
-        reserve,
-    } = out;
-    Out {
-        letter,
-        to,
-        reserve,
     }
 }
 
@@ -134,7 +118,7 @@ impl<'a> World<'a> {
         let To::Object { shard } = out.to else {
             return false;
         };
-        shard == 0 && self.may_answer(0) && self.pass(0, out)
+        shard == 0 && self.may_only_answer() && self.pass(0, out)
     }
 
     /// A First letter passes the hub's mail.
@@ -155,7 +139,19 @@ impl<'a> World<'a> {
         self.pass(sender, out)
     }
 
-    /// Posts two letters of the only shard of the objects, by two turns. Seldom needed, so it stays out of the round.
+    /// Posts two letters of the only shard of the objects, by two turns.
+    #[inline(always)]
+    fn send_two(&mut self, first: Out, second: Out)
+        requires one { self.old.shards ≡ 1 }
+        requires empty { outbox_at self.old 1 ≡ [] }
+        requires reach { All (Reaches self.old.shards) (first ∷ second ∷ []) }
+        ensures plays { Plays (phase self.old) (with_outbox (seen self.old) (Shard.ObjectShard 0) (first ∷ second ∷ [])) (Turn.ObjectPost 0 ∷ Turn.ObjectPost 0 ∷ []) true (seen self.new) }
+        ensures phase { SamePhase self.old self.new }
+    {
+        self.send_both_apart(copy_of(first), copy_of(second));
+    }
+
+    /// Does what [`World::send_two`] says. Seldom needed, so it stays out of the round.
     #[inline(never)]
     fn send_both_apart(&mut self, first: Out, second: Out)
         requires one { self.old.shards ≡ 1 }
@@ -179,7 +175,7 @@ impl<'a> World<'a> {
     {
         if let Some(_) = self.post_past(1, award) {
             // Nothing has changed, and the same comes of it again.
-            self.send_both_apart(award, first);
+            self.send_two(award, first);
             return Sold::Moved;
         }
         if self.pass_first(1, first) {
@@ -207,9 +203,21 @@ impl<'a> World<'a> {
         Sold::Moved
     }
 
-    /// The only shard of the persons posts its bid, or its Stop, by way of the mails. Seldom needed, so it stays out of the round.
-    #[inline(never)]
+    /// The only shard of the persons posts its bid, or its Stop, by way of the mails.
+    #[inline(always)]
     fn sell_by_mail(&mut self, out: Out)
+        requires one { self.old.shards ≡ 1 }
+        requires empty { outbox_at self.old 0 ≡ [] }
+        requires reaches { Reaches self.old.shards out }
+        ensures trades { Trades self.old out Sold.Moved self.new }
+        ensures phase { SamePhase self.old self.new }
+    {
+        self.sell_apart(copy_of(out));
+    }
+
+    /// Does what [`World::sell_by_mail`] says. Seldom needed, so it stays out of the round.
+    #[inline(never)]
+    fn sell_apart(&mut self, out: Out)
         requires one { self.old.shards ≡ 1 }
         requires empty { outbox_at self.old 0 ≡ [] }
         requires reaches { Reaches self.old.shards out }
@@ -231,8 +239,7 @@ impl<'a> World<'a> {
         ensures phase { SamePhase self.old self.new }
     {
         if !self.pass_bid(out) {
-            // A copy, so that the bid itself never has to stand in memory.
-            self.sell_by_mail(copy_of(out));
+            self.sell_by_mail(out);
             return Sold::Moved;
         }
         match self.judge(0, out.letter) {
@@ -244,10 +251,11 @@ impl<'a> World<'a> {
     /// The only shard of the objects takes a bid and posts its answers, where no bid was made. Nearly always none waits.
     #[inline(always)]
     fn answer_waiting(&mut self) -> bool
+        requires { self.old.shards ≡ 1 }
         ensures plays { Plays (phase self.old) (seen self.old) (Turn.ObjectTake 0 ∷ Turn.ObjectPost 0 ∷ Turn.ObjectPost 0 ∷ []) result (seen self.new) }
         ensures phase { SamePhase self.old self.new }
     {
-        if self.finds_none(0) {
+        if self.finds_none() {
             return false;
         }
         self.take_and_post(0)

@@ -1,5 +1,4 @@
 use Rattle.std.proofs.Common.{subst}
-use Rattle.auc_letters.specs.declared.out.Out.{Out}
 use Rattle.auc_world.specs.declared.passing.Sold.{Sold}
 use Rattle.auc_world.specs.Parts.{Parts}
 use Rattle.auc_world.specs.Passing.{Trades}
@@ -8,8 +7,7 @@ use Rattle.auc_world.proofs.world.World.trade.Goals as goal
 
 pub returns-then-not-pass_bid-clause-trades : goal.returns-then-not-pass_bid-clause-trades
 returns-then-not-pass_bid-clause-trades c =
-    subst (λ (z : Parts). Trades z c.args.out Sold.Moved c.sell_by_mail.new.self) (c.pass_bid.ensures.stays c.if-not-pass_bid.true)
-    (subst (λ (o : Out). Trades c.pass_bid.new.self o Sold.Moved c.sell_by_mail.new.self) c.copy_of.ensures c.sell_by_mail.ensures.trades)
+    subst (λ (z : Parts). Trades z c.args.out Sold.Moved c.sell_by_mail.new.self) (c.pass_bid.ensures.stays c.if-not-pass_bid.true) c.sell_by_mail.ensures.trades
 
 pub hand_out-requires-clause-empty : goal.hand_out-requires-clause-empty
 hand_out-requires-clause-empty c =

@@ -85,7 +85,7 @@ impl Outbox {
     }
 
     /// Puts a letter in, where there is none.
-    #[inline]
+    #[inline(always)]
     pub(crate) fn put(&mut self, out: Out)
         requires { self.old ≡ [] }
         ensures { self.new ≡ out ∷ [] }
@@ -94,7 +94,7 @@ impl Outbox {
     }
 
     /// These letters, in place of all that were there.
-    #[inline]
+    #[inline(always)]
     pub(crate) fn replace(&mut self, letters: ArrayVec<Out, 4>)
         ensures { self.new ≡ letters.items }
     {

@@ -37,7 +37,7 @@ pub(crate) enum Dealt {
 }
 
 /// A list of two letters.
-#[inline]
+#[inline(always)]
 fn two_letters(first: Out, second: Out) -> ArrayVec<Out, 4>
     ensures { result.items ≡ first ∷ second ∷ [] }
 {

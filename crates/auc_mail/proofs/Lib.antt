@@ -1,4 +1,4 @@
--- The laws of steps and of runs are for the crates above too; the rest is this crate's own.
+-- The laws of steps, of runs and of empty boxes are for the crates above too; the rest is this crate's own.
 mod Tables
 mod Lanes
 mod Keeping
@@ -8,6 +8,7 @@ mod Closing
 mod Posting
 mod Taking
 pub mod StepLaws
+pub mod EmptyBoxes
 mod Passing
 mod Outcomes
 pub mod RunLaws

@@ -99,6 +99,7 @@ fn first_waiting<T: Copy>(lists: &NodePool<T>, from: u32, to: u32) -> Option<u32
 }
 
 // The lane whose turn it is: the first of the box's that has a letter, in rotating order from the one behind the last giver.
+#[inline(never)]
 pub(crate) fn lane_in_turn<T: Copy>(
     lists: &NodePool<T>,
     senders: u32,

@@ -41,7 +41,7 @@ pub(crate) fn join<T: Copy>(nodes: &mut Vec<Node<T>>, front: Ends, back: Ends) -
 }
 
 // Links a node behind a list. Writes one link at most, and the fields that change alone: this is what most calls come to.
-#[inline]
+#[inline(always)]
 pub(crate) fn link_behind<T: Copy>(
     nodes: &mut Vec<Node<T>>,
     ends: &mut Vec<Ends>,

@@ -143,7 +143,7 @@ impl<T: Copy> NodePool<T> {
     }
 
     /// Puts the item behind the list, or gives it back where no node is free. Takes O(1) time.
-    #[inline]
+    #[inline(always)]
     pub fn push_back(&mut self, list: u32, item: T) -> Result<(), T>
         requires { HasList self.old list }
         ensures { MatchResult result (λ _. (0 < free_of self.old) × (self.new ≡ with_list self.old list (list_of self.old list ++ item ∷ []))) (λ back. (free_of self.old ≡ 0) × (back ≡ item) × (self.new ≡ self.old)) }
@@ -161,7 +161,7 @@ impl<T: Copy> NodePool<T> {
     }
 
     /// Takes the first item of the list. Takes O(1) time.
-    #[inline]
+    #[inline(always)]
     pub fn pop_front(&mut self, list: u32) -> Option<T>
         requires { HasList self.old list }
         ensures { MatchOption result ((list_of self.old list ≡ []) × (self.new ≡ self.old)) (λ item. (rest : List _) × (list_of self.old list ≡ item ∷ rest) × (self.new ≡ with_list self.old list rest)) }

@@ -2,6 +2,7 @@
 mod WorkedEps
 pub mod Keeping
 mod Seen
+mod EmptyBoxes
 mod PostingLaws
 mod BiddingLaws
 mod HearingLaws

@@ -29,8 +29,8 @@ impl<'a> World<'a> {
         let mut holders = Vec::with_capacity(alloc, objects as usize)?;
         let mut prices = Vec::with_capacity(alloc, objects as usize)?;
         for object in 0..objects {
-            holders.push(self.holder(object))?;
-            prices.push(self.price(object))?;
+            holders.push_reserved(self.holder(object));
+            prices.push_reserved(self.price(object));
         }
         Ok(Gathered { holders, prices })
     }

@@ -43,6 +43,16 @@ impl<'a> World<'a> {
         if !self.is_shard(shard) {
             return TurnReply::Nothing;
         }
+        self.person_takes(shard)
+    }
+
+    /// A shard of the persons that is there takes a letter and hears it.
+    #[inline(always)]
+    pub(crate) fn person_takes(&mut self, shard: u32) -> TurnReply
+        requires { shard < self.old.shards }
+        ensures turn { PersonTakeTurn (phase self.old) (seen self.old) shard result (seen self.new) }
+        ensures phase { SamePhase self.old self.new }
+    {
         let Some(letter) = self.take(MailName::Persons, shard) else {
             return TurnReply::Nothing;
         };

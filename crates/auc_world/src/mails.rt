@@ -44,9 +44,22 @@ pub(crate) fn new_mail(
 }
 
 impl Mails {
-    /// Posts a letter of a sender. Inlined where its mail is known, which is nearly everywhere.
+    /// Posts a letter of a sender. Inlined for the answers to bids, which are most of the letters that are posted.
     #[inline(always)]
     pub(crate) fn post(&mut self, sender: u32, out: Out) -> Result<u64, PostRefused>
+        requires { Fits (named self.old (name_of out.to)) (Call.Post sender (box_of out.to) out.letter out.reserve) }
+        ensures step { Step (named self.old (name_of out.to)) (Call.Post sender (box_of out.to) out.letter out.reserve) (reply_to_post result) (named self.new (name_of out.to)) }
+        ensures rest { self.new ≡ with_named self.old (name_of out.to) (named self.new (name_of out.to)) }
+    {
+        let To::Person { shard } = out.to else {
+            return self.post_apart(sender, out);
+        };
+        self.persons.post(sender, shard, out.letter, out.reserve)
+    }
+
+    /// Posts a letter of a sender, of any mail.
+    #[inline(never)]
+    fn post_apart(&mut self, sender: u32, out: Out) -> Result<u64, PostRefused>
         requires { Fits (named self.old (name_of out.to)) (Call.Post sender (box_of out.to) out.letter out.reserve) }
         ensures step { Step (named self.old (name_of out.to)) (Call.Post sender (box_of out.to) out.letter out.reserve) (reply_to_post result) (named self.new (name_of out.to)) }
         ensures rest { self.new ≡ with_named self.old (name_of out.to) (named self.new (name_of out.to)) }
@@ -86,6 +99,19 @@ impl Mails {
             Taken::Letter { item, .. } => Some(item),
             Taken::Empty => None,
             Taken::Over => None,
+        }
+    }
+
+    /// Whether a take from a box gives no letter, since none waits there.
+    #[inline(always)]
+    pub(crate) fn gives_none(&self, mail: MailName, at: u32) -> bool
+        requires { HasBox (named self.now mail) at }
+        ensures { IsTrue result → TakesNone (named self.now mail) at }
+    {
+        match mail {
+            MailName::Objects => !self.objects.has_letter(at),
+            MailName::Persons => !self.persons.has_letter(at),
+            MailName::Hub => !self.hub.has_letter(at),
         }
     }
 

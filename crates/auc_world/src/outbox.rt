@@ -6,6 +6,23 @@ use arrayvec::ArrayVec;
 use auc_letters::Out;
 use std::marker::Model;
 
+/// The same letter to be posted. Where a letter is seldom handed to a call, the copy stands in memory then, and the letter never does.
+#[inline(always)]
+pub(crate) fn copy_of(out: Out) -> Out
+    ensures { result ≡ out }
+{
+    let Out {
+        letter,
+        to,
+        reserve,
+    } = out;
+    Out {
+        letter,
+        to,
+        reserve,
+    }
+}
+
 /// The letters that a shard has still to post, the next one first: at most four, which is room for the answers to a bid.
 ///
 /// Contracts see them as a list.
@@ -68,16 +85,16 @@ impl Outbox {
     }
 
     /// Puts a letter in, where there is none.
-    #[inline]
+    #[inline(always)]
     pub(crate) fn put(&mut self, out: Out)
         requires { self.old ≡ [] }
         ensures { self.new ≡ out ∷ [] }
     {
-        self.letters.push(out);
+        self.letters.push(copy_of(out));
     }
 
     /// These letters, in place of all that were there.
-    #[inline]
+    #[inline(always)]
     pub(crate) fn replace(&mut self, letters: ArrayVec<Out, 4>)
         ensures { self.new ≡ letters.items }
     {

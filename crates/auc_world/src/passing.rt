@@ -4,10 +4,14 @@
 
 ghost use Rattle.std.specs.Prelude.{◌≡◌, ◌<◌, ◌+◌, ◌*◌, true, false, [], ◌∷◌, All, IsTrue};
 ghost use Rattle.auc_objects.specs.Answers.{letters_of};
-ghost use Rattle.auc_world.specs.Parts.{Reaches, SamePhase, outbox_at};
+ghost use Rattle.auc_model.specs.Mails.{Shard, with_outbox};
+ghost use Rattle.auc_model.specs.declared.turn.Turn.{Turn};
+ghost use Rattle.auc_world.specs.Parts.{Reaches, SamePhase, outbox_at, phase, seen};
+ghost use Rattle.auc_world.specs.Rounds.{Plays};
 ghost use Rattle.auc_world.specs.Passing.{BidPasses, FirstPasses, Hands, PassesBy, Sells, Trades, sold_if, sold_moves};
 
 use crate::bidding::Asked;
+use crate::outbox::copy_of;
 use crate::rounds::{either, has_moved};
 use crate::world::World;
 use auc_letters::{Letter, Out, To};
@@ -45,6 +49,50 @@ impl Sold {
     }
 }
 
+/// The same letter to be posted, where each mail has one box: its number is told, so that it need not be worked out.
+#[inline(always)]
+fn to_only_box(out: Out) -> Out
+    requires { Reaches 1 out }
+    ensures { result ≡ out }
+{
+    let Out {
+        letter,
+        to,
+        reserve,
+    } = out;
+    let to = match to {
+        To::Person { .. } => To::Person { shard: 0 },
+        To::Object { .. } => To::Object { shard: 0 },
+        To::Hub => To::Hub,
+    };
+    Out {
+        letter,
+        to,
+        reserve,
+    }
+}
+
+/// The same answers, where each mail has one box.
+#[inline(always)]
+fn all_to_only_box(answers: Answers) -> Answers
+    requires { All (Reaches 1) (letters_of answers) }
+    ensures { result ≡ answers }
+{
+    match answers {
+        Answers::Refused { refused } => Answers::Refused {
+            refused: to_only_box(refused),
+        },
+        Answers::First { award, first } => Answers::First {
+            award: to_only_box(award),
+            first: to_only_box(first),
+        },
+        Answers::Outbid { outbid, award } => Answers::Outbid {
+            outbid: to_only_box(outbid),
+            award: to_only_box(award),
+        },
+    }
+}
+
 impl<'a> World<'a> {
     /// Posts a letter of a sender past its outbox and takes it out of its box, if the box is open and empty and the mail accepts it.
     #[inline(always)]
@@ -70,7 +118,7 @@ impl<'a> World<'a> {
         let To::Object { shard } = out.to else {
             return false;
         };
-        shard == 0 && self.may_answer(0) && self.pass(0, out)
+        shard == 0 && self.may_only_answer() && self.pass(0, out)
     }
 
     /// A First letter passes the hub's mail.
@@ -91,6 +139,30 @@ impl<'a> World<'a> {
         self.pass(sender, out)
     }
 
+    /// Posts two letters of the only shard of the objects, by two turns.
+    #[inline(always)]
+    fn send_two(&mut self, first: Out, second: Out)
+        requires one { self.old.shards ≡ 1 }
+        requires empty { outbox_at self.old 1 ≡ [] }
+        requires reach { All (Reaches self.old.shards) (first ∷ second ∷ []) }
+        ensures plays { Plays (phase self.old) (with_outbox (seen self.old) (Shard.ObjectShard 0) (first ∷ second ∷ [])) (Turn.ObjectPost 0 ∷ Turn.ObjectPost 0 ∷ []) true (seen self.new) }
+        ensures phase { SamePhase self.old self.new }
+    {
+        self.send_both_apart(copy_of(first), copy_of(second));
+    }
+
+    /// Does what [`World::send_two`] says. Seldom needed, so it stays out of the round.
+    #[inline(never)]
+    fn send_both_apart(&mut self, first: Out, second: Out)
+        requires one { self.old.shards ≡ 1 }
+        requires empty { outbox_at self.old 1 ≡ [] }
+        requires reach { All (Reaches self.old.shards) (first ∷ second ∷ []) }
+        ensures plays { Plays (phase self.old) (with_outbox (seen self.old) (Shard.ObjectShard 0) (first ∷ second ∷ [])) (Turn.ObjectPost 0 ∷ Turn.ObjectPost 0 ∷ []) true (seen self.new) }
+        ensures phase { SamePhase self.old self.new }
+    {
+        self.send_both(0, first, second);
+    }
+
     /// Posts the answers to a first bid on an object, by two turns; the First letter passes the hub's mail, if it may.
     #[inline(always)]
     fn hand_first(&mut self, award: Out, first: Out) -> Sold
@@ -103,7 +175,7 @@ impl<'a> World<'a> {
     {
         if let Some(_) = self.post_past(1, award) {
             // Nothing has changed, and the same comes of it again.
-            self.send_both(0, award, first);
+            self.send_two(award, first);
             return Sold::Moved;
         }
         if self.pass_first(1, first) {
@@ -123,6 +195,7 @@ impl<'a> World<'a> {
         ensures moves { sold_moves result ≡ true }
         ensures phase { SamePhase self.old self.new }
     {
+        let answers = all_to_only_box(answers);
         if let Answers::First { award, first } = answers {
             return self.hand_first(award, first);
         }
@@ -130,9 +203,21 @@ impl<'a> World<'a> {
         Sold::Moved
     }
 
-    /// The only shard of the persons posts its bid, or its Stop, by way of the mails. Seldom needed, so it stays out of the round.
-    #[inline(never)]
+    /// The only shard of the persons posts its bid, or its Stop, by way of the mails.
+    #[inline(always)]
     fn sell_by_mail(&mut self, out: Out)
+        requires one { self.old.shards ≡ 1 }
+        requires empty { outbox_at self.old 0 ≡ [] }
+        requires reaches { Reaches self.old.shards out }
+        ensures trades { Trades self.old out Sold.Moved self.new }
+        ensures phase { SamePhase self.old self.new }
+    {
+        self.sell_apart(copy_of(out));
+    }
+
+    /// Does what [`World::sell_by_mail`] says. Seldom needed, so it stays out of the round.
+    #[inline(never)]
+    fn sell_apart(&mut self, out: Out)
         requires one { self.old.shards ≡ 1 }
         requires empty { outbox_at self.old 0 ≡ [] }
         requires reaches { Reaches self.old.shards out }
@@ -163,6 +248,19 @@ impl<'a> World<'a> {
         }
     }
 
+    /// The only shard of the objects takes a bid and posts its answers, where no bid was made. Nearly always none waits.
+    #[inline(always)]
+    fn answer_waiting(&mut self) -> bool
+        requires { self.old.shards ≡ 1 }
+        ensures plays { Plays (phase self.old) (seen self.old) (Turn.ObjectTake 0 ∷ Turn.ObjectPost 0 ∷ Turn.ObjectPost 0 ∷ []) result (seen self.new) }
+        ensures phase { SamePhase self.old self.new }
+    {
+        if self.finds_none() {
+            return false;
+        }
+        self.take_and_post(0)
+    }
+
     /// The only shard of the persons bids and posts, and the only one of the objects takes a bid and posts its answers.
     #[inline(always)]
     pub(crate) fn sell(&mut self) -> Sold
@@ -176,7 +274,7 @@ impl<'a> World<'a> {
                 let taken = self.take_and_post(0);
                 Sold::if_moved(either(posted, taken))
             }
-            Asked::Idle => Sold::if_moved(self.take_and_post(0)),
+            Asked::Idle => Sold::if_moved(self.answer_waiting()),
             Asked::Sends { out } => self.trade(out),
         }
     }

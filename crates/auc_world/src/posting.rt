@@ -61,7 +61,7 @@ impl<'a> World<'a> {
     }
 
     /// Puts a letter into the empty outbox of a sender.
-    #[inline]
+    #[inline(always)]
     pub(crate) fn put(&mut self, sender: u32, out: Out)
         requires known { sender < 2 * self.old.shards }
         requires empty { outbox_at self.old sender ≡ [] }
@@ -74,7 +74,7 @@ impl<'a> World<'a> {
     }
 
     /// Puts letters into the empty outbox of a sender.
-    #[inline]
+    #[inline(always)]
     pub(crate) fn put_all(&mut self, sender: u32, letters: ArrayVec<Out, 4>)
         requires known { sender < 2 * self.old.shards }
         requires reach { All (Reaches self.old.shards) letters.items }

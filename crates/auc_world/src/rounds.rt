@@ -94,7 +94,7 @@ impl<'a> World<'a> {
         ensures phase { phase self.new ≡ phase self.old }
     {
         let sold = self.sell();
-        let hears = has_moved(self.person_take(0));
+        let hears = has_moved(self.person_takes(0));
         let counts = self.count(sold);
         either(either(sold.has_moved(), hears), counts)
     }

@@ -13,7 +13,9 @@ ghost use Rattle.auc_world.specs.Passing.{Judges};
 ghost use Rattle.auc_world.specs.Parts.{AreParts, MayAnswer, OwnsObject, Reaches, SamePhase, objects_at, outbox_at, phase, seen};
 ghost use Rattle.auc_world.specs.Rounds.{Plays};
 ghost use Rattle.auc_world.specs.Selling.{Deals};
+ghost use Rattle.auc_world.specs.declared.selling.Dealt.{Dealt};
 
+use crate::outbox::copy_of;
 use crate::rounds::{either, has_moved};
 use crate::world::World;
 use arrayvec::ArrayVec;
@@ -35,13 +37,13 @@ pub(crate) enum Dealt {
 }
 
 /// A list of two letters.
-#[inline]
+#[inline(always)]
 fn two_letters(first: Out, second: Out) -> ArrayVec<Out, 4>
     ensures { result.items ≡ first ∷ second ∷ [] }
 {
     let mut letters = ArrayVec::new();
-    letters.push(first);
-    letters.push(second);
+    letters.push(copy_of(first));
+    letters.push(copy_of(second));
     letters
 }
 
@@ -53,6 +55,25 @@ impl<'a> World<'a> {
         ensures sound { AreParts self.now }
     {
         shard < self.shards && self.outboxes[(self.shards + shard) as usize].is_empty()
+    }
+
+    /// Whether the outbox of the only shard of the objects is empty.
+    #[inline(always)]
+    pub(crate) fn may_only_answer(&self) -> bool
+        requires { self.now.shards ≡ 1 }
+        ensures is { IsTrue result ↔ MayAnswer self.now 0 }
+        ensures sound { AreParts self.now }
+    {
+        self.outboxes[1].is_empty()
+    }
+
+    /// Whether the only shard of the objects would take a letter, and none waits for it.
+    #[inline(always)]
+    pub(crate) fn finds_none(&self) -> bool
+        requires { self.now.shards ≡ 1 }
+        ensures { IsTrue result → Deals self.now 0 Dealt.Nothing self.now }
+    {
+        self.may_only_answer() && self.mails.gives_none(MailName::Objects, 0)
     }
 
     /// The bid that a letter to a shard of the objects is, where it fits: the object is the shard's, and the amount is in range.

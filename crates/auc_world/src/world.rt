@@ -233,6 +233,7 @@ impl<'a> World<'a> {
         ensures none { IfNone result (TakesNone (named self.old.mails mail) at) }
         ensures still { IfNone result (self.new ≡ self.old) }
         ensures rest { self.new ≡ record self.old { mails = with_named self.old.mails mail (named self.new.mails mail) } }
+        ensures sound { AreParts self.old }
     {
         self.mails.take(mail, at)
     }

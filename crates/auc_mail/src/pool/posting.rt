@@ -48,7 +48,7 @@ impl<T: Copy> MailPool<T> {
     /// That needs a letter that would be accepted and would be the only one in its box: where the box is closed, the lane had all its
     /// posts, no more than `reserve` letters are free, or a letter waits in the box, the answer is false and nothing is changed.
     /// Takes O(1) time.
-    #[inline]
+    #[inline(always)]
     pub fn pass(&mut self, sender: u32, to: u32, reserve: u32) -> bool
         requires { HasLane self.old to sender }
         ensures may { IsTrue result ↔ MayPass self.old sender to reserve }
@@ -65,7 +65,7 @@ impl<T: Copy> MailPool<T> {
     }
 
     // Whether a letter would be accepted, and would be the only one in its box.
-    #[inline]
+    #[inline(always)]
     fn may_pass(&self, sender: u32, to: u32, reserve: u32) -> bool
         requires { HasLane self.now to sender }
         ensures { IsTrue result ↔ MayPass self.now sender to reserve }

@@ -65,8 +65,9 @@ impl<T: Copy> MailPool<T> {
         }
     }
 
-    // Takes the first letter of the lane whose turn it is. Seldom needed, so it stays out of the callers.
-    #[inline(never)]
+    // Takes the first letter of the lane whose turn it is. Inlined, so that no letter goes through memory: the lane alone is seldom
+    // looked for, and out of the callers.
+    #[inline(always)]
     fn take_in_turn(&mut self, at: u32) -> Taken<T>
         requires { HasBox self.old at }
         ensures { Step self.old (Call.Take at) (Reply.Took result) self.new }

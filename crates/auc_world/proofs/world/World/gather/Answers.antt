@@ -11,12 +11,12 @@ pub loop-object-preserved : goal.loop-object-preserved
 loop-object-preserved c =
     let before = c.loop-object.invariant in
     let fits : FitsSigned w64 c.price.result = search rules in
-    let items = simp to_z-of_z at c.in_ok-push-2.ensures.items in
+    let items = simp to_z-of_z at c.push_reserved-in-loop-object.ensures.items in
     record {
-      holders_are = one_longer c.loop-object.holders.items c.push.new.self.items c.holder.result c.loop-object.object c.in_ok-push.ensures.items before.holders_are;
-      prices_are = one_longer c.loop-object.prices.items c.push-in-loop-object.new.self.items c.price.result c.loop-object.object items before.prices_are;
-      holder_is = one_more c.loop-object.holders.items c.push.new.self.items None c.holder.result c.loop-object.object (λ j. (seen c.args.self.now).holder j) c.in_ok-push.ensures.items before.holders_are c.holder.ensures before.holder_is;
-      price_is = one_more c.loop-object.prices.items c.push-in-loop-object.new.self.items (pos 0) c.price.result c.loop-object.object (λ j. (seen c.args.self.now).price j) items before.prices_are c.price.ensures.present before.price_is;
+      holders_are = one_longer c.loop-object.holders.items c.push_reserved.new.self.items c.holder.result c.loop-object.object c.push_reserved.ensures.items before.holders_are;
+      prices_are = one_longer c.loop-object.prices.items c.push_reserved-in-loop-object.new.self.items c.price.result c.loop-object.object items before.prices_are;
+      holder_is = one_more c.loop-object.holders.items c.push_reserved.new.self.items None c.holder.result c.loop-object.object (λ j. (seen c.args.self.now).holder j) c.push_reserved.ensures.items before.holders_are c.holder.ensures before.holder_is;
+      price_is = one_more c.loop-object.prices.items c.push_reserved-in-loop-object.new.self.items (pos 0) c.price.result c.loop-object.object (λ j. (seen c.args.self.now).price j) items before.prices_are c.price.ensures.present before.price_is;
       range = rw items (All-push IsPrice c.loop-object.prices.items c.price.result before.range c.price.ensures.range);
     }
 

@@ -10,7 +10,7 @@ use Rattle.auc_world.proofs.world.World.hand_first.Goals as goal
 pub returns-in-Some-clause-hands : goal.returns-in-Some-clause-hands
 returns-in-Some-clause-hands c =
     let os : List Out = c.args.award ∷ c.args.first ∷ [] in
-    subst (λ (z : Parts). Plays (phase z) (with_outbox (seen z) (ObjectShard 0) os) (Turn.ObjectPost 0 ∷ Turn.ObjectPost 0 ∷ []) true (seen c.send_both.new.self)) c.in-Some.ensures.same c.send_both.ensures.plays
+    subst (λ (z : Parts). Plays (phase z) (with_outbox (seen z) (ObjectShard 0) os) (Turn.ObjectPost 0 ∷ Turn.ObjectPost 0 ∷ []) true (seen c.send_two.new.self)) c.in-Some.ensures.same c.send_two.ensures.plays
 
 pub returns-then-pass_first-clause-hands : goal.returns-then-pass_first-clause-hands
 returns-then-pass_first-clause-hands c =

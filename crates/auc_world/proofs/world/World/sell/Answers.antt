@@ -8,7 +8,7 @@ returns-in-Barred-clause-sells c =
 pub returns-in-Idle-clause-sells : goal.returns-in-Idle-clause-sells
 returns-in-Idle-clause-sells c =
     let asks = c.in-Idle.ensures.asks in
-    sold_idle c.args.self.now c.ask.new.self c.take_and_post.new.self c.take_and_post.result c.if_moved-in-Idle.result asks.0 asks.1 asks.2 c.ask.ensures.phase c.take_and_post.ensures.plays c.if_moved-in-Idle.ensures
+    sold_idle c.args.self.now c.ask.new.self c.answer_waiting.new.self c.answer_waiting.result c.if_moved-in-Idle.result asks.0 asks.1 asks.2 c.ask.ensures.phase c.answer_waiting.ensures.plays c.if_moved-in-Idle.ensures
 
 pub returns-in-Sends-clause-sells : goal.returns-in-Sends-clause-sells
 returns-in-Sends-clause-sells c =

@@ -1,9 +1,8 @@
-use Rattle.std.proofs.Common.{◌<◌, refl, arith}
-use Rattle.auc_model.specs.Mails.{PersonShard}
-use Rattle.auc_world.proofs.PassingLaws.{mailed}
+use Rattle.std.proofs.Common.{subst}
+use Rattle.auc_letters.specs.declared.out.Out.{Out}
+use Rattle.auc_world.specs.declared.passing.Sold.{Sold}
+use Rattle.auc_world.specs.Passing.{Trades}
 use Rattle.auc_world.proofs.world.World.sell_by_mail.Goals as goal
 
 pub returns-clause-trades : goal.returns-clause-trades
-returns-clause-trades c =
-    let known : 0 < c.args.self.now.shards = let one = c.requires.one in omega (arith, one) in
-    mailed c.args.self.now c.send.new.self c.take_and_post.new.self c.args.out c.send.ensures.phase (c.send.ensures.turn (PersonShard 0) refl known) c.take_and_post.result c.take_and_post.ensures.plays
+returns-clause-trades c = subst (λ (o : Out). Trades c.args.self.now o Sold.Moved c.sell_apart.new.self) c.copy_of.ensures c.sell_apart.ensures.trades

@@ -11,7 +11,8 @@ ghost use Rattle.auc_persons.specs.Persons.{Bids, IsMadeFor, NextBid, Rising, Sa
 use crate::amount::{Bid, bid_of};
 use crate::bidding::Bidding;
 use crate::candidates::Candidates;
-use crate::scan::{Scan, scale_of, scan_of};
+use crate::rising::scan_short;
+use crate::scan::{Scan, scale_of};
 use crate::search::scan_from;
 use crate::shard::PersonShard;
 use auc_graph::Rows;
@@ -35,7 +36,7 @@ impl PersonShard {
         let scale = scale_of(rows.persons());
         let copies = self.copies.as_slice();
         if row.len() <= SHORT {
-            return scan_of(scale, row, copies);
+            return scan_short(scale, row, copies);
         }
         let search = scan_from(scale, row, copies, self.hints[person as usize])?;
         self.hints[person as usize] = search.hint;

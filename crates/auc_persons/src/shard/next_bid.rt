@@ -24,7 +24,7 @@ const SHORT: usize = 40;
 
 impl PersonShard {
     /// The best arc of a person, in one pass over his row; nothing where he has none.
-    #[inline]
+    #[inline(always)]
     fn best_for(&mut self, rows: &Rows, person: u32) -> Option<Scan>
         requires rows { IsMadeFor rows.now self.old }
         requires person { person < length self.old.states }
@@ -34,10 +34,25 @@ impl PersonShard {
     {
         let row = rows.row(person);
         let scale = scale_of(rows.persons());
-        let copies = self.copies.as_slice();
         if row.len() <= SHORT {
-            return scan_short(scale, row, copies);
+            return scan_short(scale, row, self.copies.as_slice());
         }
+        self.best_of_long(rows, person)
+    }
+
+    /// The same, from the two arcs on that decided his last bid.
+    // Apart, so that what a bid on a short row takes is small enough to stand where it is called.
+    #[inline(never)]
+    fn best_of_long(&mut self, rows: &Rows, person: u32) -> Option<Scan>
+        requires rows { IsMadeFor rows.now self.old }
+        requires person { person < length self.old.states }
+        ensures some { IfSome result (λ f. IsScan (value (pos (length rows.now.rows + 1)) (copy_in self.old.copies)) (row_of rows.now person) f) }
+        ensures none { IfNone result (row_of rows.now person ≡ []) }
+        ensures same { self.new ≡ self.old }
+    {
+        let row = rows.row(person);
+        let scale = scale_of(rows.persons());
+        let copies = self.copies.as_slice();
         let search = scan_from(scale, row, copies, self.hints[person as usize])?;
         self.hints[person as usize] = search.hint;
         Some(search.scan)

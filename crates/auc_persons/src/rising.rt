@@ -51,7 +51,7 @@ impl Least {
 
 /// The best arc of a row whose objects rise; nothing where they don't, or there is no arc.
 #[inline]
-fn scan_rising(scale: i64, row: &[RowArc], copies: &[i64]) -> Option<Scan>
+pub(crate) fn scan_rising(scale: i64, row: &[RowArc], copies: &[i64]) -> Option<Scan>
     requires scale_low { pos 1 ≤ℤ scale }
     requires scale_high { scale ≤ℤ pos 10001 }
     requires row { IsRow (length copies.now) row.now }
@@ -83,20 +83,6 @@ fn scan_rising(scale: i64, row: &[RowArc], copies: &[i64]) -> Option<Scan>
     })
 }
 
-/// The best arc of a row.
-// Apart, so that a pass over a sorted row is small enough to stand where it is called.
-#[inline(never)]
-fn scan_unsorted(scale: i64, row: &[RowArc], copies: &[i64]) -> Option<Scan>
-    requires scale_low { pos 1 ≤ℤ scale }
-    requires scale_high { scale ≤ℤ pos 10001 }
-    requires row { IsRow (length copies.now) row.now }
-    requires copies { All IsPrice copies.now }
-    ensures some { IfSome result (λ s. IsScan (value scale (copy_in copies.now)) row.now s) }
-    ensures none { IfNone result (row.now ≡ []) }
-{
-    scan_of(scale, row, copies)
-}
-
 /// The best arc of a short row, in one pass, or in two where objects don't rise in it; nothing where the row has no arc.
 #[inline]
 pub(crate) fn scan_short(scale: i64, row: &[RowArc], copies: &[i64]) -> Option<Scan>
@@ -110,5 +96,5 @@ pub(crate) fn scan_short(scale: i64, row: &[RowArc], copies: &[i64]) -> Option<S
     if let Some(scan) = scan_rising(scale, row, copies) {
         return Some(scan);
     }
-    scan_unsorted(scale, row, copies)
+    scan_of(scale, row, copies)
 }

@@ -11,6 +11,7 @@ ghost use Rattle.auc_letters.specs.Price.{IsPrice};
 ghost use Rattle.auc_persons.specs.Candidates.{Decides, Keeps, Listed, no_list};
 ghost use Rattle.auc_persons.specs.Scan.{copy_in, IsScan, IsValue, endless};
 
+use crate::rising::scan_short;
 use crate::scan::{Scan, scan_of, value_of};
 use auc_graph::RowArc;
 use std::marker::Model;
@@ -238,7 +239,7 @@ impl Shortlist {
         ensures found { IfSome result (λ f. Decides self.now.bound f → IsScan (value scale (copy_in copies.now)) _row.now f) }
         ensures second { IfSome result (λ f. f.second <ℤ endless → IsValue f.second) }
     {
-        scan_of(scale, self.arcs(), copies)
+        scan_short(scale, self.arcs(), copies)
     }
 
     /// What a pass over the list finds, where that decides.

@@ -12,7 +12,8 @@ ghost use Rattle.auc_persons.specs.Candidates.{Decides, Keeps, Listed, no_list};
 ghost use Rattle.auc_persons.specs.Scan.{copy_in, IsScan, IsValue, endless};
 
 use crate::rising::scan_short;
-use crate::scan::{Scan, scan_of, value_of};
+use crate::scan::{Scan, value_of};
+use crate::search::{Hint, scan_from};
 use auc_graph::RowArc;
 use std::marker::Model;
 
@@ -276,7 +277,7 @@ impl Shortlist {
             self.remake(scale, row, copies, second);
             return self.decided(scale, row, copies);
         }
-        let whole = scan_of(scale, row, copies)?;
+        let whole = scan_from(scale, row, copies, Hint::NONE)?.scan;
         if whole.second < i64::MAX {
             self.remake(scale, row, copies, whole.second);
         }

@@ -1,3 +1,4 @@
+pub mod RisingRows
 pub mod Scans
 pub mod Found
 pub mod Parts

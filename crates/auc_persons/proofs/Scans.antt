@@ -1,6 +1,6 @@
 -- A pass over a row, arc by arc.
 use Rattle.std.proofs.Common.{◌≡◌, ◌≢◌, ℕ, ◌<◌, ◌≤◌, ◌⊎◌, inl, inr, List, [], ◌∷◌, ◌++◌, refl, sym, ap, ◌∙◌, arith}
-use Rattle.std.specs.Prelude.{ℤ, ◌≤ℤ◌, ◌<ℤ◌, All, AllPairs, Contains}
+use Rattle.std.specs.Prelude.{Bool, true, false, ℤ, ◌≤ℤ◌, ◌<ℤ◌, All, AllPairs, Contains}
 use Rattle.std.proofs.lemmas.Int.{ints, by_lt_z}
 use Rattle.std.proofs.lemmas.Bool.{cases_eq, cases_lt}
 use Rattle.std.proofs.lemmas.List.{get_or-take, get_or_default, take_more, length-take, take_all}
@@ -8,7 +8,7 @@ use Rattle.std.proofs.Common.{get_or, ◌+◌, take, length, add-one}
 use Rattle.std.proofs.lemmas.List.Elements.{All-nil, All-push, All-weaker, Contains-push, Contains-append_left}
 use Rattle.auc_graph.specs.declared.rows.RowArc.{RowArc}
 use Rattle.auc_persons.specs.declared.scan.Scan.{Scan}
-use Rattle.auc_persons.specs.Scan.{endless, Reached, IsValue, IsScan, Beats, Loses, Joined}
+use Rattle.auc_persons.specs.Scan.{endless, Reached, IsValue, IsScan, Beats, Loses, Judged, Joined, Chosen, Passed}
 
 grow : (P Q : RowArc → Type 0) (row : List RowArc) (a : RowArc) → ((b : RowArc) → P b → Q b) → All P row → Q a → All Q (row ++ a ∷ [])
 grow P Q row a h old new = All-push Q row a (All-weaker P Q h row old) new
@@ -120,6 +120,27 @@ clash a v f (inl l) (inl b) = omega (arith, ints, l, b)
 clash a v f (inl l) (inr b) = omega (arith, ints, l, b.0)
 clash a v f (inr l) (inl b) = omega (arith, ints, l.0, b)
 clash a v f (inr l) (inr b) = omega (arith, l.1, b.1)
+
+same_lost : (a : RowArc) (v : ℤ) (f : Scan) → a.object ≡ f.best.object → f.value ≤ℤ v → Loses a v f
+same_lost a v f same le = by_lt_z f.value v (λ lt. inl lt) (λ ge. inr (omega (arith, ints), omega (arith, same)))
+
+-- one arc more, number by number
+pub joined : (f : Scan) (a best : RowArc) (v value second : ℤ) (is_better : Bool) → Judged is_better a v f → Chosen is_better a f.best best → Chosen is_better v f.value value
+    → (a.object ≡ f.best.object → second ≡ f.second) → (a.object ≢ f.best.object → Passed is_better v f second) → Joined f a v (record { value = value; second = second; best = best })
+joined f a best v value second true beats is_best is_value same other = record {
+  same_wins = λ e _. rw (is_best, is_value, same e) refl;
+  same_loses = λ e le. absurd (clash a v f (same_lost a v f e le) beats);
+  other_wins = λ ne _. rw (is_best, is_value, other ne) refl;
+  other_next = λ _ loses _. absurd (clash a v f loses beats);
+  other_loses = λ _ loses _. absurd (clash a v f loses beats);
+}
+joined f a best v value second false loses is_best is_value same other = record {
+  same_wins = λ _ lt. absurd (clash a v f loses (inl lt));
+  same_loses = λ e _. rw (is_best, is_value, same e) refl;
+  other_wins = λ _ beats. absurd (clash a v f loses beats);
+  other_next = λ ne _ lt. rw (is_best, is_value, (other ne).0 lt) refl;
+  other_loses = λ ne _ le. rw (is_best, is_value, (other ne).1 le) refl;
+}
 
 loses : (val : RowArc → ℤ) (row : List RowArc) (f r : Scan) (a : RowArc) (v : ℤ) → IsScan val row f → v ≡ val a → IsValue v → Joined f a v r → a.object ≢ f.best.object → Loses a v f → IsScan val (row ++ a ∷ []) r
 loses val row f r a v s is ok j other l =

@@ -1,3 +1,4 @@
+pub mod Rising
 pub mod Scan
 pub mod Search
 pub mod Candidates

@@ -43,6 +43,16 @@ abbrev pub Judged : Bool → RowArc → ℤ → Scan → Type 0
 Judged true a v f = Beats a v f
 Judged false a v f = Loses a v f
 
+-- the first of two where this is true, and else the second
+abbrev pub Chosen : {X : Type 0} → Bool → X → X → X → Type 0
+Chosen true x y r = r ≡ x
+Chosen false x y r = r ≡ y
+
+-- the least value of arcs to others, with an arc to another that is better or isn't
+abbrev pub Passed : Bool → ℤ → Scan → ℤ → Type 0
+Passed true v f r = r ≡ f.value
+Passed false v f r = (v <ℤ f.second → r ≡ v) × (f.second ≤ℤ v → r ≡ f.second)
+
 -- one arc more, by cases
 pub record Joined (f : Scan) (a : RowArc) (v : ℤ) (r : Scan) : Type 0 where
   pub same_wins : a.object ≡ f.best.object → v <ℤ f.value → r ≡ record { value = v; second = f.second; best = a }

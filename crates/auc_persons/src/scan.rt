@@ -1,10 +1,10 @@
 //! A person's best arc, in one pass over his row.
 
-ghost use Rattle.std.specs.Prelude.{◌≡◌, ◌≤◌, ◌+◌, ◌*◌, ◌^◌, pos, neg_ℤ, ◌+ℤ◌, ◌*ℤ◌, ◌≤ℤ◌, All, length, IfSome, IfNone, []};
+ghost use Rattle.std.specs.Prelude.{◌≡◌, ◌≢◌, ◌≤◌, ◌+◌, ◌*◌, ◌^◌, pos, neg_ℤ, ◌+ℤ◌, ◌*ℤ◌, ◌≤ℤ◌, All, length, IfSome, IfNone, []};
 ghost use Rattle.auc_graph.specs.Bid.{value};
 ghost use Rattle.auc_graph.specs.Table.{IsRow};
 ghost use Rattle.auc_letters.specs.Price.{IsPrice};
-ghost use Rattle.auc_persons.specs.Scan.{copy_in, Judged, Joined, IsScan};
+ghost use Rattle.auc_persons.specs.Scan.{copy_in, Chosen, Judged, Joined, Passed, IsScan, IsValue};
 
 use auc_graph::{MOST_PERSONS, RowArc};
 
@@ -20,49 +20,68 @@ impl Scan {
     /// Whether an arc of this value is better.
     #[inline]
     fn is_beaten(self, arc: RowArc, value: i64) -> bool
+        requires { IsValue self.value }
         ensures { Judged result arc value self }
     {
-        if self.value > value {
-            return true;
-        }
-        if self.value < value {
-            return false;
-        }
-        if arc.object < self.best.object {
-            true
+        // A tie is won by one number more, so that one test decides, and no branch.
+        let bound = if arc.object < self.best.object {
+            self.value + 1
         } else {
-            false
-        }
+            self.value
+        };
+        value < bound
     }
 
     /// With one arc more, of this value.
     #[inline]
     fn with(self, arc: RowArc, value: i64) -> Scan
+        requires { IsValue self.value }
         ensures { Joined self arc value result }
     {
-        if self.is_beaten(arc, value) {
-            let second = if arc.object == self.best.object {
-                self.second
-            } else {
-                self.value
-            };
-            return Scan {
-                value,
-                second,
-                best: arc,
-            };
-        }
-        // Most arcs of a long row end here.
-        if self.second <= value {
-            return self;
-        }
-        if arc.object == self.best.object {
-            return self;
-        }
+        // Each number is chosen apart: LLVM makes selects of them so, and in a short row a branch is guessed wrongly too often.
+        let is_better = self.is_beaten(arc, value);
         Scan {
-            value: self.value,
-            second: value,
-            best: self.best,
+            value: self.value_with(value, is_better),
+            second: self.second_with(arc, value, is_better),
+            best: self.best_with(arc, is_better),
+        }
+    }
+
+    /// The value with one arc more, which may be better.
+    #[inline]
+    fn value_with(self, value: i64, is_better: bool) -> i64
+        ensures { Chosen is_better value self.value result }
+    {
+        if is_better { value } else { self.value }
+    }
+
+    /// The least value of arcs to others with one arc more.
+    #[inline]
+    fn second_with(self, arc: RowArc, value: i64, is_better: bool) -> i64
+        ensures same { arc.object ≡ self.best.object → result ≡ self.second }
+        ensures other { arc.object ≢ self.best.object → Passed is_better value self result }
+    {
+        if arc.object == self.best.object {
+            self.second
+        } else if is_better {
+            self.value
+        } else if value < self.second {
+            value
+        } else {
+            self.second
+        }
+    }
+
+    /// The best arc with one more, which may be better.
+    #[inline]
+    fn best_with(self, arc: RowArc, is_better: bool) -> RowArc
+        ensures { Chosen is_better arc self.best result }
+    {
+        let best = self.best;
+        RowArc {
+            cost: if is_better { arc.cost } else { best.cost },
+            object: if is_better { arc.object } else { best.object },
+            arc: if is_better { arc.arc } else { best.arc },
         }
     }
 }

@@ -11,7 +11,9 @@ ghost use Rattle.auc_letters.specs.Price.{IsPrice};
 ghost use Rattle.auc_persons.specs.Candidates.{Decides, Keeps, Listed, no_list};
 ghost use Rattle.auc_persons.specs.Scan.{copy_in, IsScan, IsValue, endless};
 
-use crate::scan::{Scan, scan_of, value_of};
+use crate::rising::scan_short;
+use crate::scan::{Scan, value_of};
+use crate::search::{Hint, scan_from};
 use auc_graph::RowArc;
 use std::marker::Model;
 
@@ -238,7 +240,7 @@ impl Shortlist {
         ensures found { IfSome result (λ f. Decides self.now.bound f → IsScan (value scale (copy_in copies.now)) _row.now f) }
         ensures second { IfSome result (λ f. f.second <ℤ endless → IsValue f.second) }
     {
-        scan_of(scale, self.arcs(), copies)
+        scan_short(scale, self.arcs(), copies)
     }
 
     /// What a pass over the list finds, where that decides.
@@ -275,7 +277,7 @@ impl Shortlist {
             self.remake(scale, row, copies, second);
             return self.decided(scale, row, copies);
         }
-        let whole = scan_of(scale, row, copies)?;
+        let whole = scan_from(scale, row, copies, Hint::NONE)?.scan;
         if whole.second < i64::MAX {
             self.remake(scale, row, copies, whole.second);
         }

@@ -11,6 +11,7 @@ ghost use Rattle.auc_persons.specs.Persons.{Bids, IsMadeFor, NextBid, Rising, Sa
 use crate::amount::{Bid, bid_of};
 use crate::bidding::Bidding;
 use crate::candidates::Candidates;
+use crate::rising::scan_rising;
 use crate::scan::{Scan, scale_of, scan_of};
 use crate::search::scan_from;
 use crate::shard::PersonShard;
@@ -22,6 +23,20 @@ use auc_letters::{Letter, MOST_PRICE, Out, To, Why, shard_of};
 const SHORT: usize = 40;
 
 impl PersonShard {
+    /// The best arc of a person, whose row is short and leads to rising objects.
+    #[inline]
+    fn best_at_once(&self, rows: &Rows, person: u32) -> Option<Scan>
+        requires rows { IsMadeFor rows.now self.now }
+        requires person { person < length self.now.states }
+        ensures { IfSome result (λ f. IsScan (value (pos (length rows.now.rows + 1)) (copy_in self.now.copies)) (row_of rows.now person) f) }
+    {
+        let row = rows.row(person);
+        if row.len() > SHORT {
+            return None;
+        }
+        scan_rising(scale_of(rows.persons()), row, self.copies.as_slice())
+    }
+
     /// The best arc of a person, in one pass over his row; nothing where he has none.
     #[inline]
     fn best_for(&mut self, rows: &Rows, person: u32) -> Option<Scan>
@@ -40,23 +55,6 @@ impl PersonShard {
         let search = scan_from(scale, row, copies, self.hints[person as usize])?;
         self.hints[person as usize] = search.hint;
         Some(search.scan)
-    }
-
-    /// The same, by his list of candidates where that tells it.
-    #[inline]
-    fn best_by(&mut self, rows: &Rows, person: u32, candidates: &mut Candidates) -> Option<Scan>
-        requires rows { IsMadeFor rows.now self.old }
-        requires person { person < length self.old.states }
-        requires kept { Kept rows.now self.old.copies candidates.old }
-        ensures some { IfSome result (λ f. IsScan (value (pos (length rows.now.rows + 1)) (copy_in self.old.copies)) (row_of rows.now person) f) }
-        ensures none { IfNone result (row_of rows.now person ≡ []) }
-        ensures same { self.new ≡ self.old }
-        ensures kept { Kept rows.now self.old.copies candidates.new }
-    {
-        if let Some(scan) = self.listed_for(rows, person, candidates) {
-            return Some(scan);
-        }
-        self.best_for(rows, person)
     }
 
     /// The best arc of a person, where his list of candidates tells it.
@@ -115,6 +113,24 @@ impl PersonShard {
         Bidding::Out { out }
     }
 
+    /// The bid of the person who has been free longest, by a pass over his row.
+    // Apart, so that the bids of most persons stand where they are called, with what is found in registers.
+    #[inline(never)]
+    fn bid_by_row(&mut self, rows: &Rows, eps: i64, person: u32) -> Bidding
+        requires rows { IsMadeFor rows.now self.old }
+        requires eps { IsEps eps }
+        requires some { self.old.idle ≢ [] }
+        requires first { person ≡ first_idle self.old }
+        requires known { person < length self.old.states }
+        requires left { self.old.bids ≢ 0 }
+        ensures exact { NextBid rows.now eps self.old result self.new }
+        ensures rise { Rising self.old.copies self.new.copies }
+        ensures shape { SameShape self.old self.new }
+    {
+        let found = self.best_for(rows, person);
+        self.bid_with(rows, eps, person, found)
+    }
+
     /// The bid of the person who has been free longest; he waits from now on. Idle where nobody is free.
     ///
     /// Stop tells why he can't bid, and nothing is changed then: Bids where the shard has used up its bids, else Stuck where
@@ -137,8 +153,11 @@ impl PersonShard {
         if self.left() == 0 {
             return Bidding::Stop { why: Why::Bids };
         }
-        let found = self.best_for(rows, person);
-        self.bid_with(rows, eps, person, found)
+        let found = self.best_at_once(rows, person);
+        if found.is_some() {
+            return self.bid_with(rows, eps, person, found);
+        }
+        self.bid_by_row(rows, eps, person)
     }
 
     /// The same bid as [`Self::next_bid`] makes, by lists of candidates that are kept beside the shard.
@@ -164,8 +183,11 @@ impl PersonShard {
         if self.left() == 0 {
             return Bidding::Stop { why: Why::Bids };
         }
-        let found = self.best_by(rows, person, candidates);
-        self.bid_with(rows, eps, person, found)
+        let found = self.listed_for(rows, person, candidates);
+        if found.is_some() {
+            return self.bid_with(rows, eps, person, found);
+        }
+        self.bid_by_row(rows, eps, person)
     }
 
     /// The person that has been free longest.

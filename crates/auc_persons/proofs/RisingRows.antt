@@ -1,0 +1,67 @@
+-- A pass over a row whose objects rise.
+use Rattle.std.proofs.Common.{◌≡◌, ◌≢◌, ℕ, ◌+◌, ◌<◌, ◌≤◌, inl, inr, List, [], ◌∷◌, ◌++◌, length, take, get_or, arith}
+use Rattle.std.specs.Prelude.{ℤ, ◌≤ℤ◌, All}
+use Rattle.std.proofs.lemmas.Int.{ints, by_lt_z}
+use Rattle.std.proofs.lemmas.List.{take_more}
+use Rattle.std.proofs.lemmas.List.Elements.{All-contains, All-more, All-nil, All-weaker}
+use Rattle.auc_graph.specs.declared.rows.RowArc.{RowArc}
+use Rattle.auc_persons.specs.declared.rising.Least.{Least}
+use Rattle.auc_persons.specs.declared.scan.Scan.{Scan}
+use Rattle.auc_persons.specs.Rising.{Lowered}
+use Rattle.auc_persons.specs.Scan.{endless, IsScan, IsValue, Loses}
+use Rattle.auc_persons.proofs.Found.{no_arc}
+use Rattle.auc_persons.proofs.Scans.{first, other_loses, other_next, other_wins, row_whole}
+
+-- what is found, with the arc itself
+abbrev pub scan_at : List RowArc → Least → Scan
+scan_at row l = record { value = l.value; second = l.second; best = get_or row l.place no_arc }
+
+-- what holds after some arcs of the row
+pub record Rises (val : RowArc → ℤ) (row seen : List RowArc) (l : Least) (last : ℕ) : Type 0 where
+  pub found : IsScan val seen (scan_at row l)
+  pub within : l.place < length row
+  pub rising : All (λ b. b.object ≤ last) seen
+
+loses : (f : Scan) (a : RowArc) (v : ℤ) → f.best.object < a.object → f.value ≤ℤ v → Loses a v f
+loses f a v higher le = by_lt_z f.value v (λ lt. inl lt) (λ ge. inr (omega (arith, ints), omega arith))
+
+-- one arc more, to a higher object
+found_more : (val : RowArc → ℤ) (row seen : List RowArc) (l r : Least) (i : ℕ) (v : ℤ) → IsScan val seen (scan_at row l) → (get_or row l.place no_arc).object < (get_or row i no_arc).object
+    → v ≡ val (get_or row i no_arc) → IsValue v → Lowered l v i r → IsScan val (seen ++ get_or row i no_arc ∷ []) (scan_at row r)
+found_more val row seen l r i v s higher is ok low =
+    let other : (get_or row i no_arc).object ≢ (get_or row l.place no_arc).object = λ e. omega (arith, e, higher) in
+    by_lt_z v l.value
+    (λ lt. rw (low.wins lt) (other_wins val seen (scan_at row l) (get_or row i no_arc) v s is ok other (inl lt)))
+    (λ le. by_lt_z v l.second
+    (λ lt. rw (low.next le lt) (other_next val seen (scan_at row l) (get_or row i no_arc) v s is ok other (loses (scan_at row l) (get_or row i no_arc) v higher le) lt))
+    (λ ge. rw (low.stays le ge) (other_loses val seen (scan_at row l) (get_or row i no_arc) v s is ok other (loses (scan_at row l) (get_or row i no_arc) v higher le) ge)))
+
+place_within : (row : List RowArc) (l r : Least) (i : ℕ) (v : ℤ) → l.place < length row → i < length row → Lowered l v i r → r.place < length row
+place_within row l r i v before lt low = by_lt_z v l.value
+    (λ less. rw (low.wins less) lt)
+    (λ le. by_lt_z v l.second
+    (λ less. rw (low.next le less) before)
+    (λ ge. rw (low.stays le ge) before))
+
+pub rises_more : (val : RowArc → ℤ) (row : List RowArc) (l r : Least) (last i : ℕ) (v : ℤ) → Rises val row (take i row) l last → i < length row → last < (get_or row i no_arc).object
+    → v ≡ val (get_or row i no_arc) → IsValue v → Lowered l v i r → Rises val row (take (i + 1) row) r (get_or row i no_arc).object
+rises_more val row l r last i v h lt above is ok low =
+    let at : (get_or row l.place no_arc).object ≤ last = All-contains (λ b. b.object ≤ last) (take i row) (get_or row l.place no_arc) h.rising h.found.listed in
+    let found = found_more val row (take i row) l r i v h.found (omega (arith, at, above)) is ok low in
+    let lower = All-weaker (λ b. b.object ≤ last) (λ b. b.object ≤ (get_or row i no_arc).object) (λ b le. omega (arith, le, above)) (take i row) h.rising in
+    record {
+      found = rw (take_more row i no_arc lt) found;
+      within = place_within row l r i v h.within lt low;
+      rising = All-more (λ b. b.object ≤ (get_or row i no_arc).object) row i no_arc lt lower (omega arith);
+    }
+
+pub rises_first : (val : RowArc → ℤ) (row : List RowArc) (v : ℤ) → 0 < length row → v ≡ val (get_or row 0 no_arc) → IsValue v
+    → Rises val row (take 1 row) (record { value = v; second = endless; place = 0 }) (get_or row 0 no_arc).object
+rises_first val row v lt is ok = record {
+  found = rw (take_more row 0 no_arc lt) (first val (get_or row 0 no_arc) v is ok);
+  within = lt;
+  rising = All-more (λ b. b.object ≤ (get_or row 0 no_arc).object) row 0 no_arc lt (All-nil (λ b. b.object ≤ (get_or row 0 no_arc).object)) (omega arith);
+}
+
+pub rises_whole : (val : RowArc → ℤ) (row : List RowArc) (l : Least) (last i : ℕ) → length row ≤ i → Rises val row (take i row) l last → IsScan val row (scan_at row l)
+rises_whole val row l last i le h = row_whole val row i (scan_at row l) le h.found

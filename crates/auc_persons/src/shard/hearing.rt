@@ -49,7 +49,7 @@ impl PersonShard {
 
     /// An Award.
     #[tactic(auto, using(crate::proofs::Rise::shape_held, crate::proofs::Rise::shape_same, crate::proofs::Rise::rises_same))]
-    #[inline]
+    #[inline(always)]
     fn on_award(&mut self, person: u32, object: u32, price: i64) -> Result<(), PersonFault>
         ensures exact { Answered self.old person object price (PersonState.Waits object) (held_after self.old person object price) result self.new }
         ensures rise { Rising self.old.copies self.new.copies }
@@ -65,7 +65,7 @@ impl PersonShard {
 
     /// A Refused or an Outbid.
     #[tactic(auto, using(crate::proofs::Rise::shape_free, crate::proofs::Rise::shape_same, crate::proofs::Rise::rises_same))]
-    #[inline]
+    #[inline(always)]
     fn on_freeing(
         &mut self,
         person: u32,
@@ -88,7 +88,8 @@ impl PersonShard {
 
     /// A Price.
     #[tactic(auto, using(crate::proofs::Rise::shape_copy, crate::proofs::Rise::shape_same, crate::proofs::Rise::rises_same))]
-    #[inline]
+    // Apart: it is seldom told.
+    #[inline(never)]
     fn on_price(&mut self, object: u32, price: i64) -> Result<(), PersonFault>
         ensures exact { Priced self.old object price result self.new }
         ensures rise { Rising self.old.copies self.new.copies }
@@ -111,7 +112,8 @@ impl PersonShard {
     /// Nothing is changed by a letter that is refused. [`PersonFault::Stray`] comes first: another kind of letter, a person
     /// or an object that isn't the shard's or is out of range, a price out of range, or a state that doesn't fit. Then
     /// [`PersonFault::Fell`]: the price is below the copy.
-    #[inline]
+    // In line, so that a letter that is taken goes through no memory.
+    #[inline(always)]
     pub fn on_letter(&mut self, letter: Letter) -> Result<(), PersonFault>
         ensures exact { OnLetter self.old letter result self.new }
         ensures rise { Rising self.old.copies self.new.copies }

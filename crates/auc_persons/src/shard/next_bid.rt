@@ -24,7 +24,7 @@ const SHORT: usize = 40;
 
 impl PersonShard {
     /// The best arc of a person, whose row is short and leads to rising objects.
-    #[inline]
+    #[inline(always)]
     fn best_at_once(&self, rows: &Rows, person: u32) -> Option<Scan>
         requires rows { IsMadeFor rows.now self.now }
         requires person { person < length self.now.states }
@@ -87,7 +87,7 @@ impl PersonShard {
 
     /// The bid of the person who has been free longest, whose best arc is found, where he has one.
     #[tactic(auto, using(crate::proofs::Rise::shape_bid, crate::proofs::Rise::shape_same))]
-    #[inline]
+    #[inline(always)]
     fn bid_with(&mut self, rows: &Rows, eps: i64, person: u32, found: Option<Scan>) -> Bidding
         requires rows { IsMadeFor rows.now self.old }
         requires eps { IsEps eps }
@@ -139,7 +139,7 @@ impl PersonShard {
     ///
     /// Takes one pass over the person's row, O(arcs of the person) time and no memory.
     #[tactic(auto, using(crate::proofs::Rise::shape_bid, crate::proofs::Rise::shape_same))]
-    #[inline]
+    #[inline(always)]
     pub fn next_bid(&mut self, rows: &Rows, eps: i64) -> Bidding
         requires rows { IsMadeFor rows.now self.old }
         requires eps { IsEps eps }

@@ -12,8 +12,6 @@ mod laws;
 mod limits;
 mod pool;
 mod script;
-#[cfg(test)]
-mod tests;
 
 pub use call::{Call, PostRefused, Reply, Taken};
 pub use equality::{same_call, same_reply, same_taken};

@@ -9,8 +9,6 @@ mod laws;
 mod limits;
 mod links;
 mod pool;
-#[cfg(test)]
-mod tests;
 
 pub use error::PoolError;
 pub use laws::limits_are;

@@ -1,4 +1,5 @@
-//! Mails that threads share, their seats and trails, and mails that no script makes: tests of `auc_book` and `auc_mail` by their public calls alone.
+//! Pools of nodes, mails and scripts of calls, mails that threads share, their seats and trails: tests of `auc_nodes`, `auc_mail` and `auc_book` by their public calls
+//! alone.
 #![tactic(auto)]
 
 #[cfg(test)]
@@ -6,7 +7,11 @@ mod letters;
 #[cfg(test)]
 mod limits;
 #[cfg(test)]
+mod nodes;
+#[cfg(test)]
 mod pools;
+#[cfg(test)]
+mod scripts;
 #[cfg(test)]
 mod states;
 #[cfg(test)]

@@ -1,6 +1,6 @@
 //! Calls on small pools, and what they answer.
 
-use super::*;
+use auc_nodes::{NodePool, PoolError};
 use std::process::Abort;
 use std::test::Fail;
 

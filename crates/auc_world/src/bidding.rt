@@ -25,6 +25,18 @@ pub(crate) enum Asked {
     Sends { out: Out },
 }
 
+/// The same. What a call has answered in memory is told anew, so that a bid that was made in line stays in registers.
+#[inline(always)]
+fn retold(bidding: Bidding) -> Bidding
+    ensures { result ≡ bidding }
+{
+    match bidding {
+        Bidding::Idle => Bidding::Idle,
+        Bidding::Stop { why } => Bidding::Stop { why },
+        Bidding::Out { out } => Bidding::Out { out },
+    }
+}
+
 impl<'a> World<'a> {
     /// Whether a shard of the persons may bid: it is there, its outbox is empty, and it has made no Stop.
     #[inline]
@@ -50,7 +62,7 @@ impl<'a> World<'a> {
         let persons = &mut self.persons[place];
         if place < self.candidates.len() {
             let candidates = &mut self.candidates[place];
-            return persons.next_bid_by(rows, eps, candidates);
+            return retold(persons.next_bid_by(rows, eps, candidates));
         }
         persons.next_bid(rows, eps)
     }

@@ -22,6 +22,18 @@ use auc_letters::{Letter, MOST_PRICE, Out, To, Why, shard_of};
 /// more instructions, and in a price war they are old at each bid.
 const SHORT: usize = 40;
 
+/// The same. What a call has answered in memory is told anew, so that a bid that was made in line stays in registers.
+#[inline(always)]
+fn retold(bidding: Bidding) -> Bidding
+    ensures { result ≡ bidding }
+{
+    match bidding {
+        Bidding::Idle => Bidding::Idle,
+        Bidding::Stop { why } => Bidding::Stop { why },
+        Bidding::Out { out } => Bidding::Out { out },
+    }
+}
+
 impl PersonShard {
     /// The best arc of a person, whose row is short and leads to rising objects.
     #[inline(always)]
@@ -157,7 +169,7 @@ impl PersonShard {
         if found.is_some() {
             return self.bid_with(rows, eps, person, found);
         }
-        self.bid_by_row(rows, eps, person)
+        retold(self.bid_by_row(rows, eps, person))
     }
 
     /// The same bid as [`Self::next_bid`] makes, by lists of candidates that are kept beside the shard.

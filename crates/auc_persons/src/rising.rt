@@ -1,8 +1,8 @@
 //! A person's best arc, in one pass over his row that has no branch by the values where the objects of the row rise.
 //!
-//! In a short row best and second change at every few arcs, and in a price war no guess of the processor at which is any good:
-//! with selects alone a pass takes some half of the time. Where objects rise, as in a file that is sorted, the first of equal arcs
-//! is the one to the lowest object, and no two arcs lead to the same: so the values alone decide.
+//! In a short row best and second change at every few arcs, and in a price war the processor can't guess at which: with selects
+//! alone no guess is wrong. Where objects rise, as in a file that is sorted, the first of equal arcs is the one to the lowest
+//! object, and no two arcs lead to the same: so the values alone decide.
 
 ghost use Rattle.std.specs.Prelude.{◌≡◌, ◌≤◌, ◌^◌, ◌≤ℤ◌, pos, All, length, IfSome, IfNone, []};
 ghost use Rattle.auc_graph.specs.Bid.{value};

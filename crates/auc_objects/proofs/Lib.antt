@@ -1,3 +1,4 @@
 -- for use above
+pub mod Lots
 pub mod Sales
 pub mod Letters

@@ -6,6 +6,7 @@
 
 mod answers;
 mod law;
+mod lot;
 mod shard;
 
 pub use answers::Answers;

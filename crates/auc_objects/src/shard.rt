@@ -1,13 +1,15 @@
 //! One shard of the objects.
 
-ghost use Rattle.std.specs.Prelude.{◌≡◌, ◌<◌, ◌≤◌, ◌^◌, ◌*◌, pos, ◌+ℤ◌, ◌≤ℤ◌, ◌<ℤ◌, length, replicate, ◌∷◌, [], ◌↔◌, All, IfOk, IfSome, IfNone, IsTrue, Some, None};
+ghost use Rattle.std.specs.Prelude.{map, ◌≡◌, ◌<◌, ◌≤◌, ◌^◌, ◌*◌, pos, ◌+ℤ◌, ◌≤ℤ◌, ◌<ℤ◌, length, replicate, ◌∷◌, [], ◌↔◌, All, IfOk, IfSome, IfNone, IsTrue, Some, None};
 ghost use Rattle.auc_letters.specs.Price.{IsPrice, IsEps};
 ghost use Rattle.auc_letters.specs.Routing.{to_person, to_hub, price_told};
 ghost use Rattle.auc_letters.specs.Award.{Sale, answers, offer_of};
 ghost use Rattle.auc_objects.specs.Objects.{AreObjects, Objects, IsOffer, Owns, SameShape, after_bid, holder_of, price_of, sale_of, with_sale};
 ghost use Rattle.auc_objects.specs.Answers.{letters_of};
+ghost use Rattle.auc_objects.specs.Lots.{holder_in, price_in};
 
 use crate::answers::Answers;
+use crate::lot::Lot;
 use arrayvec::ArrayVec;
 use auc_letters::{Held, Letter, MOST_PRICE, Offer, Out, To, shard_of};
 use std::alloc::{AllocError, Global};
@@ -23,18 +25,32 @@ pub struct ObjectShard {
     of: u32,
     person_shards: u32,
     persons: u32,
-    prices: Vec<i64>,
-    holders: Vec<Option<Held>>,
+    lots: Vec<Lot>,
 }
 
 impl Model for ObjectShard {
+    ghost use Rattle.std.specs.Prelude.{map};
+    ghost use Rattle.auc_objects.specs.Lots.{holder_in, price_in};
     ghost use Rattle.auc_objects.specs.Objects.{Objects, AreObjects};
 
     ghost Value = { Objects };
 
-    ghost view = { λ s. record { shard = s.shard; of = s.of; person_shards = s.person_shards; persons = s.persons; prices = s.prices.items; holders = s.holders.items } };
+    ghost view = { λ s. record { shard = s.shard; of = s.of; person_shards = s.person_shards; persons = s.persons; prices = map price_in s.lots.items; holders = map holder_in s.lots.items } };
 
-    ghost invariant = { λ s. AreObjects (record { shard = s.shard; of = s.of; person_shards = s.person_shards; persons = s.persons; prices = s.prices.items; holders = s.holders.items }) };
+    ghost invariant = { λ s. AreObjects (record { shard = s.shard; of = s.of; person_shards = s.person_shards; persons = s.persons; prices = map price_in s.lots.items; holders = map holder_in s.lots.items }) };
+}
+
+/// Objects at these prices, which nobody has.
+fn unsold_at(alloc: Global, prices: &[i64]) -> Result<Vec<Lot>, AllocError>
+    requires { All IsPrice prices.now }
+    ensures prices { IfOk result (λ l. map price_in l.items ≡ prices.now) }
+    ensures holders { IfOk result (λ l. map holder_in l.items ≡ replicate (length prices.now) None) }
+{
+    let mut lots = Vec::with_capacity(alloc, prices.len())?;
+    for price in prices {
+        lots.push(Lot::unsold(*price))?;
+    }
+    Ok(lots)
 }
 
 impl ObjectShard {
@@ -61,15 +77,13 @@ impl ObjectShard {
         requires prices { All IsPrice prices.now }
         ensures { IfOk result (λ s. s ≡ record { shard = shard; of = of; person_shards = person_shards; persons = persons; prices = prices.now; holders = replicate (length prices.now) None }) }
     {
-        let copied = prices.to_vec(alloc)?;
-        let holders = vec![in alloc; None; prices.len()]?;
+        let lots = unsold_at(alloc, prices)?;
         Ok(ObjectShard {
             shard,
             of,
             person_shards,
             persons,
-            prices: copied,
-            holders,
+            lots,
         })
     }
 
@@ -80,7 +94,7 @@ impl ObjectShard {
         ensures present { result ≡ price_of self.now object }
         ensures range { IsPrice result }
     {
-        self.prices[object as usize]
+        self.lots[object as usize].price()
     }
 
     /// The holder of an object of the shard, if it has one. O(1).
@@ -89,7 +103,7 @@ impl ObjectShard {
         requires { Owns self.now object }
         ensures { result ≡ holder_of self.now object }
     {
-        self.holders[object as usize]
+        self.lots[object as usize].holder()
     }
 
     /// The present price of an object of the shard, as a letter to a shard of the persons. O(1).
@@ -101,7 +115,7 @@ impl ObjectShard {
         Out {
             letter: Letter::Price {
                 object,
-                price: self.prices[object as usize],
+                price: self.price(object),
             },
             to: To::Person {
                 shard: person_shard,
@@ -119,7 +133,7 @@ impl ObjectShard {
         ensures sound { AreObjects self.now }
     {
         // Read here, so that the proof knows what every shard keeps.
-        let _ = &self.prices;
+        let _ = &self.lots;
         let Letter::Bid {
             person,
             arc,
@@ -229,7 +243,7 @@ impl ObjectShard {
     fn owns(&self, object: u32) -> bool
         ensures { IsTrue result ↔ Owns self.now object }
     {
-        (object as usize) < self.prices.len() && shard_of(object, self.of) == self.shard
+        (object as usize) < self.lots.len() && shard_of(object, self.of) == self.shard
     }
 
     /// Sets the price and the holder of an object.
@@ -239,8 +253,7 @@ impl ObjectShard {
         requires price { IsPrice price }
         ensures { self.new ≡ with_sale self.old object (record { price = price; holder = Some held }) }
     {
-        self.prices[object as usize] = price;
-        self.holders[object as usize] = Some(held);
+        self.lots[object as usize] = Lot::sold(price, held);
     }
 
     /// A letter to the shard of a person.

@@ -13,6 +13,7 @@ mod flags;
 mod hall;
 mod laws;
 mod limits;
+mod line;
 mod lists;
 mod name_reading;
 mod output;

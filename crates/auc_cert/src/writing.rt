@@ -1,12 +1,13 @@
 //! The text of a certificate, written.
 
-ghost use Rattle.std.specs.Prelude.{◌++◌, ◌<◌, ◌^◌, length};
+ghost use Rattle.std.specs.Prelude.{◌++◌, ◌<◌, ◌≤◌, ◌^◌, length};
 ghost use Rattle.auc_cert.specs.Writing.{Writes};
 ghost use Rattle.auc_cert.specs.Text.{text, head_line, assign_line, price_line, optimal_line, infeasible_line, bracket_line, number_line, numbered, joined, choice_lines};
 
 use crate::cert::{Cert, CertParts};
+use crate::line::Line;
 use crate::lists::Pick;
-use crate::output::{Part, WriteFault, write_parts};
+use crate::output::{Part, WriteFault, write_parts, write_whole};
 use crate::reason::Reason;
 use crate::version::{Version, names_version};
 use std::io::Write;
@@ -115,33 +116,30 @@ fn write_bracket_head<W: Write>(
 
 /// Writes the line of a person, who is numbered from 0.
 fn write_pick<W: Write>(writer: &mut W, person: u64, pick: Pick) -> Result<(), WriteFault>
+    requires { person < 2 ^ 32 }
     ensures { Writes result (W.contents writer.old) (W.contents writer.new) (assign_line person pick) }
 {
-    let object = Part::Place(pick.object as u64);
-    let parts = [
-        Part::Words(b"assign "),
-        Part::Place(person),
-        Part::Space,
-        object,
-        Part::Space,
-        Part::Number(pick.cost),
-        Part::LineEnd,
-    ];
-    write_parts(writer, &parts)
+    let mut line = Line::ended();
+    line.put_number(pick.cost);
+    line.put_space();
+    line.put_count(u64::from(pick.object) + 1);
+    line.put_space();
+    line.put_count(person + 1);
+    line.put_words(b"assign ");
+    write_whole(writer, line.as_slice())
 }
 
 /// Writes the line of an object, which is numbered from 0.
 fn write_price<W: Write>(writer: &mut W, object: u64, price: i64) -> Result<(), WriteFault>
+    requires { object < 2 ^ 32 }
     ensures { Writes result (W.contents writer.old) (W.contents writer.new) (price_line object price) }
 {
-    let parts = [
-        Part::Words(b"price "),
-        Part::Place(object),
-        Part::Space,
-        Part::Number(price),
-        Part::LineEnd,
-    ];
-    write_parts(writer, &parts)
+    let mut line = Line::ended();
+    line.put_number(price);
+    line.put_space();
+    line.put_count(object + 1);
+    line.put_words(b"price ");
+    write_whole(writer, line.as_slice())
 }
 
 /// Writes the lines of all persons: `assign I J C` for the pick of person I, who takes object J at cost C, both numbered
@@ -220,19 +218,24 @@ fn write_bracket<W: Write>(
     write_choice(writer, choice, prices)
 }
 
+/// Writes the line of a number, which the text counts from 1 on, behind this front.
+fn write_number<W: Write>(writer: &mut W, front: &[u8], number: u32) -> Result<(), WriteFault>
+    requires { length front.now ≤ 8 }
+    ensures { Writes result (W.contents writer.old) (W.contents writer.new) (number_line front.now 0 number) }
+{
+    let mut line = Line::ended();
+    line.put_count(u64::from(number) + 1);
+    line.put_words(front);
+    write_whole(writer, line.as_slice())
+}
+
 /// Writes the lines of numbers, each behind this front.
 fn write_numbers<W: Write>(writer: &mut W, front: &[u8], numbers: &[u32]) -> Result<(), WriteFault>
+    requires { length front.now ≤ 8 }
     ensures { Writes result (W.contents writer.old) (W.contents writer.new) (joined (numbered (number_line front.now) 0 numbers.now)) }
 {
     for number in numbers {
-        write_parts(
-            writer,
-            &[
-                Part::Words(front),
-                Part::Place(*number as u64),
-                Part::LineEnd,
-            ],
-        )?;
+        write_number(writer, front, *number)?;
     }
     Ok(())
 }

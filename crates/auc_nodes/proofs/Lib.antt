@@ -9,4 +9,5 @@ mod Contents
 mod Steps
 mod Parts
 mod Counting
+mod Growing
 mod Making

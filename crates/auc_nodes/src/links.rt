@@ -1,7 +1,7 @@
 //! Lists of nodes: where a list begins and ends, and how two are joined.
 
-ghost use Rattle.std.specs.Prelude.{◌≡◌, ◌+◌, ◌<◌, ◌++◌, length, slice_set};
-ghost use Rattle.auc_nodes.specs.Links.{CanJoin, EndsWith, IsJoined, behind, end_of, links_of, items_of, nodes_from, single};
+ghost use Rattle.std.specs.Prelude.{◌≡◌, ◌+◌, ◌<◌, ◌++◌, ◌^◌, length, slice_set, vec_len, vec_capacity};
+ghost use Rattle.auc_nodes.specs.Links.{CanJoin, EndsWith, IsJoined, behind, end_of, grown, links_of, items_of, nodes_from, single};
 
 // A place for an item, and the number of the node behind it in its list.
 #[derive(Clone, Copy)]
@@ -25,6 +25,7 @@ pub(crate) fn join<T: Copy>(nodes: &mut Vec<Node<T>>, front: Ends, back: Ends) -
     ensures last { EndsWith (nodes_from (links_of nodes.old.items) back) back.last → EndsWith (nodes_from (links_of nodes.old.items) front ++ nodes_from (links_of nodes.old.items) back) result.last }
     ensures joined { IsJoined (links_of nodes.old.items) (links_of nodes.new.items) front back result }
     ensures items { items_of nodes.new.items ≡ items_of nodes.old.items }
+    ensures room { vec_capacity nodes.new ≡ vec_capacity nodes.old }
 {
     if front.len == 0 {
         return back;
@@ -53,6 +54,7 @@ pub(crate) fn link_behind<T: Copy>(
     ensures joined { IsJoined (links_of nodes.old.items) (links_of nodes.new.items) (end_of ends.old.items list) (single node) (behind (end_of ends.old.items list) node) }
     ensures last { EndsWith (nodes_from (links_of nodes.old.items) (single node)) node → EndsWith (nodes_from (links_of nodes.old.items) (end_of ends.old.items list) ++ nodes_from (links_of nodes.old.items) (single node)) node }
     ensures items { items_of nodes.new.items ≡ items_of nodes.old.items }
+    ensures room { vec_capacity nodes.new ≡ vec_capacity nodes.old }
     ensures ends { ends.new.items ≡ slice_set ends.old.items list (behind (end_of ends.old.items list) node) }
 {
     let list = &mut ends[list];
@@ -63,6 +65,30 @@ pub(crate) fn link_behind<T: Copy>(
     }
     list.last = node;
     list.len += 1;
+}
+
+// Links a node that was never used behind a list, with this item. Called apart: few letters need one, and all others are
+// linked where they are pushed.
+#[inline(never)]
+pub(crate) fn link_fresh<T: Copy>(
+    nodes: &mut Vec<Node<T>>,
+    ends: &mut Vec<Ends>,
+    list: usize,
+    item: T,
+)
+    requires room { vec_len nodes.old < vec_capacity nodes.old }
+    requires few { length nodes.old.items < 2 ^ 32 }
+    requires list { list < length ends.old.items }
+    requires can { CanJoin (links_of (grown nodes.old.items item)) (end_of ends.old.items list) (single (length nodes.old.items)) }
+    ensures joined { IsJoined (links_of (grown nodes.old.items item)) (links_of nodes.new.items) (end_of ends.old.items list) (single (length nodes.old.items)) (behind (end_of ends.old.items list) (length nodes.old.items)) }
+    ensures last { EndsWith (nodes_from (links_of (grown nodes.old.items item)) (single (length nodes.old.items))) (length nodes.old.items) → EndsWith (nodes_from (links_of (grown nodes.old.items item)) (end_of ends.old.items list) ++ nodes_from (links_of (grown nodes.old.items item)) (single (length nodes.old.items))) (length nodes.old.items) }
+    ensures items { items_of nodes.new.items ≡ items_of (grown nodes.old.items item) }
+    ensures ends { ends.new.items ≡ slice_set ends.old.items list (behind (end_of ends.old.items list) (length nodes.old.items)) }
+    ensures room { vec_capacity nodes.new ≡ vec_capacity nodes.old }
+{
+    let node = nodes.len() as u32;
+    nodes.push_reserved(Node { item, next: 0 });
+    link_behind(nodes, ends, list, node);
 }
 
 // Lets a list begin with another node, and have so many. Its last one stays.

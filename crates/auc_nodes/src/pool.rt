@@ -1,14 +1,13 @@
 //! The pool itself: what each call makes of it.
 
-ghost use Rattle.std.specs.Prelude.{[], ◌∷◌, ◌++◌, ◌≡◌, ◌≢◌, ◌+◌, ◌-◌, ◌<◌, ◌≤◌, List, length, slice_get, slice_set, replicate, map, IfOk, IfErr, OnOk, MatchResult, MatchOption};
-ghost use Rattle.std.specs.List.{range_with_len};
+ghost use Rattle.std.specs.Prelude.{[], ◌∷◌, ◌++◌, ◌≡◌, ◌≢◌, ◌+◌, ◌-◌, ◌<◌, ◌≤◌, List, length, slice_get, slice_set, replicate, IfOk, IfErr, OnOk, MatchResult, MatchOption};
 ghost use Rattle.auc_nodes.specs.Limits.{ListsFit, NodesFit, IsRefusedFor};
 ghost use Rattle.auc_nodes.specs.Lists.{HasList, IsSound, empty_lists, free_of, list_of, used_of, with_list};
 ghost use Rattle.auc_nodes.specs.Links.{no_ends};
 
 use crate::error::PoolError;
 use crate::limits::{MOST_LISTS, MOST_NODES};
-use crate::links::{Ends, Node, join, link_behind, set_front};
+use crate::links::{Ends, Node, join, link_behind, link_fresh, set_front};
 use std::alloc::{AllocError, Global};
 use std::marker::Model;
 
@@ -19,12 +18,16 @@ use std::marker::Model;
 /// Contracts see a pool as the `Lists` of `specs/Lists.antt`.
 #[derive(Drop)]
 pub struct NodePool<T: Copy> {
+    // The nodes that were used. They are linked at their first use, so that `make` touches no memory of them.
     nodes: Vec<Node<T>>,
+
+    // How many more there are, for which memory is reserved.
+    fresh: u32,
 
     // The ends of each list.
     ends: Vec<Ends>,
 
-    // The ends of the free nodes, of which the last one means nothing.
+    // The ends of the nodes that were used and are free, of which the last one means nothing.
     free: Ends,
     blank: T,
 }
@@ -34,13 +37,13 @@ impl<T: Copy> Model for NodePool<T> {
 
     ghost Value = { Lists T };
 
-    ghost use Rattle.std.specs.Prelude.{◌∷◌};
+    ghost use Rattle.std.specs.Prelude.{◌∷◌, vec_capacity};
     ghost use Rattle.auc_nodes.specs.Links.{links_of};
-    ghost use Rattle.auc_nodes.specs.Pool.{lists_of, IsLinked};
+    ghost use Rattle.auc_nodes.specs.Pool.{lists_of, with_fresh, IsKept};
 
-    ghost view = { λ p. lists_of p.blank p.nodes.items (p.free ∷ p.ends.items) };
+    ghost view = { λ p. with_fresh p.fresh (lists_of p.blank p.nodes.items (p.free ∷ p.ends.items)) };
 
-    ghost invariant = { λ p. IsLinked (links_of p.nodes.items) (p.free ∷ p.ends.items) };
+    ghost invariant = { λ p. IsKept (links_of p.nodes.items) (p.free ∷ p.ends.items) p.fresh (vec_capacity p.nodes) };
 }
 
 // A list that has no node.
@@ -49,20 +52,6 @@ const NO_ENDS: Ends = Ends {
     last: 0,
     len: 0,
 };
-
-// Nodes that each lead to the next one.
-fn new_nodes<T: Copy>(alloc: Global, nodes: u32, blank: T) -> Result<Vec<Node<T>>, AllocError>
-    ensures { IfOk result (λ made. made.items ≡ map (λ i. record { item = blank; next = i + 1 }) (range_with_len 0 nodes)) }
-{
-    let mut made = Vec::with_capacity(alloc, nodes as usize)?;
-    for i in 0..nodes {
-        made.push_reserved(Node {
-            item: blank,
-            next: i + 1,
-        });
-    }
-    Ok(made)
-}
 
 // The ends of empty lists.
 fn new_ends(alloc: Global, lists: u32) -> Result<Vec<Ends>, AllocError>
@@ -74,13 +63,13 @@ fn new_ends(alloc: Global, lists: u32) -> Result<Vec<Ends>, AllocError>
 impl<T: Copy> NodePool<T> {
     /// A pool whose lists are all empty.
     ///
-    /// There are `lists` lists, and `nodes` items may stand in them at a time. `blank` is any item: it fills nodes that are
-    /// free, and is never handed out.
+    /// There are `lists` lists, and `nodes` items may stand in them at a time. `blank` is any item, which is
+    /// never handed out.
     ///
     /// Errors, in this order: `TooManyLists` above `MOST_LISTS`; `TooManyNodes` above `MOST_NODES`; `NoMemory` where memory
     /// was refused.
     ///
-    /// Takes O(lists + nodes) time and memory.
+    /// Takes O(lists) time, and O(lists + nodes) memory, of which it touches that of the lists alone.
     pub fn make(alloc: Global, lists: u32, nodes: u32, blank: T) -> Result<NodePool<T>, PoolError>
         ensures made { IfOk result (λ pool. pool ≡ empty_lists lists nodes) }
         ensures within { OnOk result (ListsFit lists × NodesFit nodes) }
@@ -92,7 +81,7 @@ impl<T: Copy> NodePool<T> {
         if nodes > MOST_NODES {
             return Err(PoolError::TooManyNodes);
         }
-        let Ok(made) = new_nodes(alloc, nodes, blank) else {
+        let Ok(made) = Vec::with_capacity(alloc, nodes as usize) else {
             return Err(PoolError::NoMemory);
         };
         let Ok(ends) = new_ends(alloc, lists) else {
@@ -100,12 +89,9 @@ impl<T: Copy> NodePool<T> {
         };
         Ok(NodePool {
             nodes: made,
+            fresh: nodes,
             ends,
-            free: Ends {
-                first: 0,
-                last: 0,
-                len: nodes,
-            },
+            free: NO_ENDS,
             blank,
         })
     }
@@ -125,7 +111,7 @@ impl<T: Copy> NodePool<T> {
         ensures free { result ≡ free_of self.now }
         ensures all { result + used_of self.now ≡ self.now.nodes }
     {
-        self.free.len
+        self.free.len + self.fresh
     }
 
     /// The first item of the list. Takes O(1) time.
@@ -149,7 +135,12 @@ impl<T: Copy> NodePool<T> {
         ensures { MatchResult result (λ _. (0 < free_of self.old) × (self.new ≡ with_list self.old list (list_of self.old list ++ item ∷ []))) (λ back. (free_of self.old ≡ 0) × (back ≡ item) × (self.new ≡ self.old)) }
     {
         if self.free.len == 0 {
-            return Err(item);
+            if self.fresh == 0 {
+                return Err(item);
+            }
+            self.fresh -= 1;
+            link_fresh(&mut self.nodes, &mut self.ends, list as usize, item);
+            return Ok(());
         }
         let node = self.free.first;
         let next = self.nodes[node as usize].next;

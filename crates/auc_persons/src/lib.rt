@@ -16,6 +16,7 @@ mod blocks;
 mod bound;
 mod bounded;
 mod candidates;
+mod least;
 mod rising;
 mod scan;
 mod search;

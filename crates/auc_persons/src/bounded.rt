@@ -1,6 +1,6 @@
 //! A person's best arc, in a pass over his row that leaves blocks out whose bound is too high.
 
-ghost use Rattle.std.specs.Prelude.{◌≡◌, ◌<◌, ◌≤◌, ◌+◌, ◌*◌, pos, ◌≤ℤ◌, ◌<ℤ◌, IsTrue, All, length, slice_index_or, IfSome, ℕ};
+ghost use Rattle.std.specs.Prelude.{◌≡◌, ◌<◌, ◌≤◌, ◌+◌, ◌*◌, pos, ◌≤ℤ◌, All, length, slice_index_or, IfSome, ℕ};
 ghost use Rattle.std.specs.List.{AllWithin};
 ghost use Rattle.auc_graph.specs.Bid.{value};
 ghost use Rattle.auc_graph.specs.Table.{IsRow, row_of};
@@ -52,7 +52,7 @@ fn with_part(
 
 /// The lesser of two numbers.
 #[inline]
-fn lesser(one: usize, other: usize) -> usize
+pub(crate) fn lesser(one: usize, other: usize) -> usize
     ensures one { result ≤ one }
     ensures other { result ≤ other }
     ensures least { (k : ℕ) → k < one → k < other → k < result }
@@ -88,16 +88,6 @@ fn with_block(
     }
     let to = from + lesser(BLOCK, row.len() - from);
     with_part(scale, row, copies, begun, from, to)
-}
-
-impl Bound {
-    /// Whether it is of this block of a person, and above a value.
-    #[inline]
-    fn is_above(self, limit: i64, person: u32, block: u32) -> bool
-        ensures { IsTrue result → (limit <ℤ self.least) × (self.person ≡ person) × (self.block ≡ block) }
-    {
-        self.least > limit && self.block == block && self.person == person
-    }
 }
 
 /// The best arc of a person with a long row, in one pass over his blocks that begins with the two remembered arcs. Each block that is

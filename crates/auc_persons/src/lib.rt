@@ -17,6 +17,7 @@ mod bound;
 mod bounded;
 mod candidates;
 mod least;
+mod listing;
 mod rising;
 mod scan;
 mod search;

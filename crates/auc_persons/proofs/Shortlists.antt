@@ -1,7 +1,8 @@
 -- Lists of candidates.
-use Rattle.std.proofs.Common.{◌≡◌, ℕ, ◌+◌, ◌<◌, ◌≤◌, ◌⊎◌, inl, inr, List, [], ◌∷◌, ◌++◌, length, get_or, take, ap, refl, arith, pos, Option, Some, None}
+use Rattle.std.proofs.Common.{◌≡◌, ℕ, zero, suc, Bool, true, false, ◌+◌, ◌-◌, ◌<◌, ◌≤◌, ◌⊎◌, inl, inr, List, [], ◌∷◌, ◌++◌, length, get_or, take, ap, refl, arith, pos, Option, Some, None}
 use Rattle.std.specs.Prelude.{ℤ, ◌≤ℤ◌, All, AllPairs, Contains, IfSome}
 use Rattle.std.proofs.lemmas.Int.{ints}
+use Rattle.std.proofs.lemmas.Bool.{cases_lt}
 use Rattle.std.proofs.lemmas.List.{get_or-take, take_more, take_all, length-take}
 use Rattle.std.proofs.lemmas.List.Elements.{All-contains, All-from_get_or, All-nil, All-push, All-weaker, Contains-append_left, Contains-push}
 use Rattle.std.proofs.lemmas.List.Quantifiers.{all_pairs_push}
@@ -9,7 +10,7 @@ use Rattle.auc_graph.specs.declared.rows.RowArc.{RowArc}
 use Rattle.auc_graph.specs.Bid.{value}
 use Rattle.auc_graph.specs.Table.{IsRow, IsRowArc, Table, row_of}
 use Rattle.auc_persons.specs.declared.scan.Scan.{Scan}
-use Rattle.auc_persons.specs.Candidates.{Decides, Keeps, KeepsListed, Kept, Listed, no_list}
+use Rattle.auc_persons.specs.Candidates.{Decides, Gathered, Keeps, KeepsListed, Kept, Listed, no_list}
 use Rattle.auc_persons.specs.Persons.{Rising}
 use Rattle.auc_persons.specs.Scan.{copy_in, IsScan, Reached}
 use Rattle.auc_persons.proofs.Found.{no_arc}
@@ -67,12 +68,6 @@ list_is_row val objects row arcs bound is keeps few = record {
 
 -- ---- making a list
 
--- the arcs below the bound, of those that were seen
-pub record Gathered (val : RowArc → ℤ) (seen arcs : List RowArc) (bound : ℤ) : Type 0 where
-  pub members : All (Contains seen) arcs
-  pub rising : AllPairs (λ a b. a.arc < b.arc) arcs
-  pub rest : All (λ b. Contains arcs b ⊎ (bound ≤ℤ val b)) seen
-
 pub gathered_none : (val : RowArc → ℤ) (bound : ℤ) → Gathered val [] [] bound
 gathered_none val bound = record {
   members = All-nil (Contains []);
@@ -111,6 +106,22 @@ module _ (val : RowArc → ℤ) (row arcs : List RowArc) (bound : ℤ) (i : ℕ)
   pub row_out : bound ≤ℤ val (get_or row i no_arc) → Gathered val (take (i + 1) row) arcs bound
   row_out out = rw (take_more row i no_arc lt) (gathered_out val (take i row) arcs bound (get_or row i no_arc) g out)
 
+-- places that are left out, since what stands there is at the bound or above
+out_by : (val : RowArc → ℤ) (row arcs : List RowArc) (bound : ℤ) (i : ℕ) → AllPairs (λ a b. a.arc < b.arc) row → (i < length row → bound ≤ℤ val (get_or row i no_arc)) → Gathered val (take i row) arcs bound → (i < length row) ⊎ (length row ≤ i) → Gathered val (take (i + 1) row) arcs bound
+out_by val row arcs bound i order out g (inl lt) = row_out val row arcs bound i order lt g (out lt)
+out_by val row arcs bound i order out g (inr le) = rw (take_all (i + 1) row (omega (arith, le))) (rw (take_all i row le) at g)
+
+outs : (val : RowArc → ℤ) (row arcs : List RowArc) (bound : ℤ) (i n : ℕ) → AllPairs (λ a b. a.arc < b.arc) row → ((k : ℕ) → i ≤ k → k < i + n → k < length row → bound ≤ℤ val (get_or row k no_arc)) → Gathered val (take i row) arcs bound → (j : ℕ) → j ≡ i + n → Gathered val (take j row) arcs bound
+outs val row arcs bound i zero order out g j e = let same : j ≡ i = omega (arith, e) in rw same g
+outs val row arcs bound i (suc n) order out g j e =
+    let before = outs val row arcs bound i n order (λ k le lt below. out k le (omega (arith, lt)) below) g (i + n) refl in
+    let next = out_by val row arcs bound (i + n) order (λ lt. out (i + n) (omega arith) (omega arith) lt) before (cases_lt (i + n) (length row)) in
+    let same : j ≡ i + n + 1 = omega (arith, e) in
+    rw same next
+
+pub gathered_to : (val : RowArc → ℤ) (row arcs : List RowArc) (bound : ℤ) (i j : ℕ) → AllPairs (λ a b. a.arc < b.arc) row → i ≤ j → ((k : ℕ) → i ≤ k → k < j → k < length row → bound ≤ℤ val (get_or row k no_arc)) → Gathered val (take i row) arcs bound → Gathered val (take j row) arcs bound
+gathered_to val row arcs bound i j order le out g = outs val row arcs bound i (j - i) order (λ k low lt below. out k low (omega (arith, le, lt)) below) g j (omega (arith, le))
+
 pub gathered_keeps : (val : RowArc → ℤ) (row arcs : List RowArc) (bound : ℤ) (i : ℕ) → length row ≤ i → Gathered val (take i row) arcs bound → Keeps val row arcs bound
 gathered_keeps val row arcs bound i le g =
     let all = rw (take_all i row le) at g in
@@ -119,6 +130,11 @@ gathered_keeps val row arcs bound i le g =
 -- a list with no arc says nothing
 pub none_keeps : (val : RowArc → ℤ) (row arcs : List RowArc) (bound : ℤ) → arcs ≡ [] → Keeps val row arcs bound
 none_keeps val row arcs bound none = rw none (record { members = All-nil (Contains row); rising = λ i j d lt below. absurd (omega (arith, below)); rest = inl refl })
+
+-- a list that took all arcs below its bound, or none
+pub taken_keeps : (val : RowArc → ℤ) (row arcs : List RowArc) (bound : ℤ) (i : ℕ) (fitted : Bool) → length row ≤ i → (fitted ≡ true → Gathered val (take i row) arcs bound) → (fitted ≡ false → arcs ≡ []) → Keeps val row arcs bound
+taken_keeps val row arcs bound i true le all none = gathered_keeps val row arcs bound i le (all refl)
+taken_keeps val row arcs bound i false le all none = none_keeps val row arcs bound (none refl)
 
 -- ---- copies rise
 

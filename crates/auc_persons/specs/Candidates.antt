@@ -35,3 +35,9 @@ pub record Decides (bound : ℤ) (f : Scan) : Type 0 where
   pub best : f.value <ℤ bound
   pub next : f.second ≤ℤ bound
   pub some : f.second <ℤ endless
+
+-- a list, as far as the arcs of a row were seen: those of the list are among them, and each other one is at the bound or above
+pub record Gathered (val : RowArc → ℤ) (seen arcs : List RowArc) (bound : ℤ) : Type 0 where
+  pub members : All (Contains seen) arcs
+  pub rising : AllPairs (λ a b. a.arc < b.arc) arcs
+  pub rest : All (λ b. Contains arcs b ⊎ (bound ≤ℤ val b)) seen

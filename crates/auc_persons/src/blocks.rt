@@ -9,9 +9,10 @@ ghost use Rattle.auc_persons.specs.Candidates.{Kept};
 ghost use Rattle.auc_persons.specs.Scan.{copy_in, IsScan};
 
 use crate::bound::{BLOCK, Blocked, Bound, LONG};
-use crate::bounded::scan_blocks;
+use crate::listing::scan_and_list;
 use crate::scan::Scan;
 use crate::search::Hint;
+use crate::shortlist::Shortlist;
 use auc_graph::Rows;
 use std::alloc::{AllocError, Global};
 use std::marker::Model;
@@ -101,23 +102,28 @@ impl Blocks {
         self.persons.is_empty() && self.bounds.is_empty()
     }
 
-    /// The best arc of a person who has blocks. `place` is where he stands among the persons of the shard.
+    /// The best arc of a person who has blocks, by which his list is made anew, where one is wanted. `place` is where he stands among
+    /// the persons of the shard.
     pub(crate) fn scan(
         &mut self,
         rows: &Rows,
         person: u32,
         place: u32,
         copies: &[i64],
+        lists: &mut [Shortlist],
     ) -> Option<Scan>
         requires person { person < length rows.now.rows }
         requires objects { rows.now.objects ≡ length copies.now }
         requires copies { All IsPrice copies.now }
         requires kept { Kept rows.now copies.now self.old }
+        requires lists { Kept rows.now copies.now lists.old }
         ensures some { IfSome result (λ f. IsScan (value (pos (length rows.now.rows + 1)) (copy_in copies.now)) (row_of rows.now person) f) }
         ensures kept { Kept rows.now copies.now self.new }
+        ensures lists { Kept rows.now copies.now lists.new }
+        ensures length { length lists.new ≡ length lists.old }
     {
         let place = place as usize;
-        if place >= self.persons.len() {
+        if place >= self.persons.len() || place >= lists.len() {
             return None;
         }
         let blocked = self.persons[place];
@@ -125,12 +131,17 @@ impl Blocks {
         if blocked.person != person || blocked.arcs as usize != arcs || arcs <= LONG {
             return None;
         }
-        let search = scan_blocks(
+        let list = &mut lists[place];
+        if list.person() != person {
+            return None;
+        }
+        let search = scan_and_list(
             rows,
             &self.made,
             copies,
             blocked,
             self.bounds.as_mut_slice(),
+            list,
         )?;
         self.persons[place] = Blocked {
             hint: search.hint,

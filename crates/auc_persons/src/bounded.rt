@@ -1,6 +1,6 @@
 //! A person's best arc, in a pass over his row that leaves blocks out whose bound is too high.
 
-ghost use Rattle.std.specs.Prelude.{◌≡◌, ◌<◌, ◌≤◌, ◌+◌, ◌*◌, pos, ◌≤ℤ◌, ◌<ℤ◌, IsTrue, All, length, IfSome, ℕ};
+ghost use Rattle.std.specs.Prelude.{◌≡◌, ◌<◌, ◌≤◌, ◌+◌, ◌*◌, pos, ◌≤ℤ◌, All, length, slice_index_or, IfSome, ℕ};
 ghost use Rattle.std.specs.List.{AllWithin};
 ghost use Rattle.auc_graph.specs.Bid.{value};
 ghost use Rattle.auc_graph.specs.Table.{IsRow, row_of};
@@ -11,26 +11,11 @@ ghost use Rattle.auc_persons.specs.Scan.{copy_in, IsScan};
 ghost use Rattle.auc_persons.specs.Search.{Covers, IsFound, IsLimit};
 
 use crate::bound::{BLOCK, Blocked, Bound};
+use crate::least::least_of;
 use crate::scan::scale_of;
 use crate::search::{Search, begun, value_here};
 use auc_graph::{RowArc, Rows};
 use std::snapshot::Snapshot;
-
-/// What is found with the arcs of a block, and their least value.
-#[derive(Clone, Copy, Debug, PartialEq, Eq)]
-struct Looked {
-    search: Search,
-    least: i64,
-}
-
-/// The lower of two values.
-#[inline]
-fn lower(one: i64, other: i64) -> i64
-    ensures one { result ≤ℤ one }
-    ensures other { result ≤ℤ other }
-{
-    if other < one { other } else { one }
-}
 
 /// A search with the arcs of a row from one place to another.
 #[inline]
@@ -41,7 +26,7 @@ fn with_part(
     begun: Search,
     from: usize,
     to: usize,
-) -> Looked
+) -> Search
     requires scale_low { pos 1 ≤ℤ scale }
     requires scale_high { scale ≤ℤ pos 10001 }
     requires row { IsRow (length copies.now) row.now }
@@ -49,43 +34,60 @@ fn with_part(
     requires within { to ≤ length row.now }
     requires found { IsFound (value scale (copy_in copies.now)) row.now begun.scan }
     requires limit { IsLimit begun.scan begun.limit }
-    ensures found { IsFound (value scale (copy_in copies.now)) row.now result.search.scan }
-    ensures limit { IsLimit result.search.scan result.search.limit }
-    ensures kept { (b : RowArc) → Covers (value scale (copy_in copies.now)) begun.scan b → Covers (value scale (copy_in copies.now)) result.search.scan b }
-    ensures covered { AllWithin (Covers (value scale (copy_in copies.now)) result.search.scan) row.now from to }
-    ensures least { Above (value scale (copy_in copies.now)) row.now from to result.least }
+    ensures found { IsFound (value scale (copy_in copies.now)) row.now result.scan }
+    ensures limit { IsLimit result.scan result.limit }
+    ensures kept { (b : RowArc) → Covers (value scale (copy_in copies.now)) begun.scan b → Covers (value scale (copy_in copies.now)) result.scan b }
+    ensures covered { AllWithin (Covers (value scale (copy_in copies.now)) result.scan) row.now from to }
 {
     let mut search = begun;
-    let mut least = i64::MAX;
     for place in from..to {
         let arc = row[place];
         let value = value_here(scale, arc, copies);
-        least = lower(least, value);
         if value <= search.limit {
             search = search.with(arc, value, place as u32);
         }
     }
-    Looked { search, least }
-}
-
-impl Bound {
-    /// Whether it is of this block of a person, and above a value.
-    #[inline]
-    fn is_above(self, limit: i64, person: u32, block: u32) -> bool
-        ensures { IsTrue result → (limit <ℤ self.least) × (self.person ≡ person) × (self.block ≡ block) }
-    {
-        self.least > limit && self.block == block && self.person == person
-    }
+    search
 }
 
 /// The lesser of two numbers.
 #[inline]
-fn lesser(one: usize, other: usize) -> usize
+pub(crate) fn lesser(one: usize, other: usize) -> usize
     ensures one { result ≤ one }
     ensures other { result ≤ other }
     ensures least { (k : ℕ) → k < one → k < other → k < result }
 {
     if one < other { one } else { other }
+}
+
+/// A search with the arcs of a block, none of which is below this value. Most blocks change nothing, and are left out by one test.
+#[inline]
+fn with_block(
+    scale: i64,
+    row: &[RowArc],
+    copies: &[i64],
+    begun: Search,
+    from: usize,
+    least: i64,
+) -> Search
+    requires scale_low { pos 1 ≤ℤ scale }
+    requires scale_high { scale ≤ℤ pos 10001 }
+    requires row { IsRow (length copies.now) row.now }
+    requires copies { All IsPrice copies.now }
+    requires within { from ≤ length row.now }
+    requires found { IsFound (value scale (copy_in copies.now)) row.now begun.scan }
+    requires limit { IsLimit begun.scan begun.limit }
+    requires least { Above (value scale (copy_in copies.now)) row.now from (from + 16) least }
+    ensures found { IsFound (value scale (copy_in copies.now)) row.now result.scan }
+    ensures limit { IsLimit result.scan result.limit }
+    ensures kept { (b : RowArc) → Covers (value scale (copy_in copies.now)) begun.scan b → Covers (value scale (copy_in copies.now)) result.scan b }
+    ensures covered { (k : ℕ) (d : RowArc) → from ≤ k → k < from + 16 → k < length row.now → Covers (value scale (copy_in copies.now)) result.scan (slice_index_or row.now k d) }
+{
+    if least > begun.limit {
+        return begun;
+    }
+    let to = from + lesser(BLOCK, row.len() - from);
+    with_part(scale, row, copies, begun, from, to)
 }
 
 /// The best arc of a person with a long row, in one pass over his blocks that begins with the two remembered arcs. Each block that is
@@ -120,14 +122,13 @@ pub(crate) fn scan_blocks(
         let at = blocked.start + block;
         if !bounds[at].is_above(search.limit, person, number) {
             let from = block * BLOCK;
-            let to = lesser(from + BLOCK, row.len());
-            let looked = with_part(scale, row, copies, search, from, to);
-            search = looked.search;
+            let least = least_of(scale, row, copies, from);
             bounds[at] = Bound {
-                least: looked.least,
+                least,
                 person,
                 block: number,
             };
+            search = with_block(scale, row, copies, search, from, least);
         }
     }
     Some(search)

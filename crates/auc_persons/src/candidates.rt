@@ -138,8 +138,8 @@ impl Candidates {
         self.lists.is_empty() && blocks.is_empty()
     }
 
-    /// The best arc of a person, by his list where that tells it, and else by his blocks where he has some. `place` is where they
-    /// stand, if anywhere.
+    /// The best arc of a person, by his list where that tells it, and else by his blocks where he has some, which then make his list
+    /// anew. `place` is where they stand, if anywhere.
     #[inline]
     pub(crate) fn scan(
         &mut self,
@@ -155,13 +155,14 @@ impl Candidates {
         ensures some { IfSome result (λ f. IsScan (value (pos (length rows.now.rows + 1)) (copy_in copies.now)) (row_of rows.now person) f) }
         ensures kept { Kept rows.now copies.now self.new }
     {
-        if let Some(scan) = scan_list(self.lists.as_mut_slice(), rows, person, place, copies) {
+        let lists = self.lists.as_mut_slice();
+        if let Some(scan) = scan_list(lists, rows, person, place, copies) {
             return Some(scan);
         }
         let Some(blocks) = &mut self.blocks else {
             return None;
         };
-        blocks.scan(rows, person, place, copies)
+        blocks.scan(rows, person, place, copies, lists)
     }
 }
 

@@ -16,6 +16,8 @@ mod blocks;
 mod bound;
 mod bounded;
 mod candidates;
+mod least;
+mod listing;
 mod rising;
 mod scan;
 mod search;

@@ -4,16 +4,17 @@
 //! Copies of prices never fall, so a bound of an arc's value stays one. How the bound is found, and when a list is made or
 //! left alone, is of no importance to what is bid.
 
-ghost use Rattle.std.specs.Prelude.{false, ◌≡◌, ◌<◌, ◌≤◌, ◌^◌, ◌<ℤ◌, ◌≤ℤ◌, [], ◌∷◌, ◌++◌, pos, neg_ℤ, All, IsTrue, IfSome, IfNone, length};
+ghost use Rattle.std.specs.Prelude.{true, false, ◌≡◌, ◌<◌, ◌≤◌, ◌^◌, ◌<ℤ◌, ◌≤ℤ◌, [], ◌∷◌, ◌++◌, pos, neg_ℤ, All, IsTrue, IfSome, IfNone, length, take};
 ghost use Rattle.auc_graph.specs.Bid.{value};
 ghost use Rattle.auc_graph.specs.Table.{IsRow};
 ghost use Rattle.auc_letters.specs.Price.{IsPrice};
-ghost use Rattle.auc_persons.specs.Candidates.{Decides, Keeps, Listed, no_list};
+ghost use Rattle.auc_persons.specs.Candidates.{Decides, Gathered, Keeps, Listed, no_list};
 ghost use Rattle.auc_persons.specs.Scan.{copy_in, IsScan, IsValue, endless};
 
+use crate::bound::LONG;
 use crate::rising::scan_short;
-use crate::scan::{Scan, value_of};
-use crate::search::{Hint, scan_from};
+use crate::scan::Scan;
+use crate::search::{Hint, scan_from, value_here};
 use auc_graph::RowArc;
 use std::marker::Model;
 
@@ -151,7 +152,54 @@ impl Shortlist {
         scan.value < self.bound && scan.second <= self.bound
     }
 
-    /// Takes the arcs below a bound; none where they are too many.
+    /// No arc, and this bound.
+    #[inline]
+    pub(crate) fn begin(&mut self, bound: i64)
+        requires { bound ≤ℤ pos (2 ^ 62) }
+        ensures { self.new ≡ record self.old { bound = bound; arcs = [] } }
+    {
+        self.clear();
+        self.bound = bound;
+    }
+
+    /// Takes the arcs below a bound from one place of a row to another, where it has those before; no arc at all where they are
+    /// too many.
+    pub(crate) fn take_part(
+        &mut self,
+        scale: i64,
+        row: &[RowArc],
+        copies: &[i64],
+        bound: i64,
+        from: usize,
+        to: usize,
+    ) -> bool
+        requires scale_low { pos 1 ≤ℤ scale }
+        requires scale_high { scale ≤ℤ pos 10001 }
+        requires row { IsRow (length copies.now) row.now }
+        requires copies { All IsPrice copies.now }
+        requires order { from ≤ to }
+        requires within { to ≤ length row.now }
+        requires gathered { Gathered (value scale (copy_in copies.now)) (take from row.now) self.old.arcs bound }
+        ensures taken { result ≡ true → Gathered (value scale (copy_in copies.now)) (take to row.now) self.new.arcs bound }
+        ensures none { result ≡ false → self.new.arcs ≡ [] }
+        ensures bound { self.new.bound ≡ self.old.bound }
+        ensures person { self.new.person ≡ self.old.person }
+    {
+        for place in from..to {
+            let arc = row[place];
+            let value = value_here(scale, arc, copies);
+            if value < bound {
+                if self.is_full() {
+                    self.clear();
+                    return false;
+                }
+                self.push(arc);
+            }
+        }
+        true
+    }
+
+    /// Takes the arcs of a row below a bound; none where they are too many.
     fn fill(&mut self, scale: i64, row: &[RowArc], copies: &[i64], bound: i64) -> bool
         requires scale_low { pos 1 ≤ℤ scale }
         requires scale_high { scale ≤ℤ pos 10001 }
@@ -161,23 +209,12 @@ impl Shortlist {
         ensures keeps { Keeps (value scale (copy_in copies.now)) row.now self.new.arcs self.new.bound }
         ensures person { self.new.person ≡ self.old.person }
     {
-        self.clear();
-        self.bound = bound;
-        for arc in row {
-            let value = value_of(scale, arc.cost, copies[arc.object as usize]);
-            if value < bound {
-                if self.is_full() {
-                    self.clear();
-                    return false;
-                }
-                self.push(*arc);
-            }
-        }
-        true
+        self.begin(bound);
+        self.take_part(scale, row, copies, bound, 0, row.len())
     }
 
     /// Sets how far above the second the next bound is to lie, by how many arcs this one has taken.
-    fn adapt(&mut self, fitted: bool)
+    pub(crate) fn adapt(&mut self, fitted: bool)
         ensures { self.new ≡ self.old }
     {
         let delta = self.delta;
@@ -190,6 +227,16 @@ impl Shortlist {
         }
     }
 
+    /// The bound of a list that reaches above this second.
+    #[inline]
+    pub(crate) fn bound_above(&self, second: i64) -> i64
+        requires { IsValue second }
+        ensures low { neg_ℤ (pos (2 ^ 44)) <ℤ result }
+        ensures high { result ≤ℤ pos (2 ^ 62) }
+    {
+        second + self.delta
+    }
+
     /// Makes a list that reaches above this second.
     fn remake(&mut self, scale: i64, row: &[RowArc], copies: &[i64], second: i64)
         requires scale_low { pos 1 ≤ℤ scale }
@@ -200,13 +247,13 @@ impl Shortlist {
         ensures keeps { Keeps (value scale (copy_in copies.now)) row.now self.new.arcs self.new.bound }
         ensures person { self.new.person ≡ self.old.person }
     {
-        let bound = second + self.delta;
+        let bound = self.bound_above(second);
         let fitted = self.fill(scale, row, copies, bound);
         self.adapt(fitted);
     }
 
     /// Whether a list is to be made: after some that were of no use none is made for a while.
-    fn is_wanted(&mut self) -> bool
+    pub(crate) fn is_wanted(&mut self) -> bool
         ensures { self.new ≡ self.old }
     {
         if self.rest > 0 {
@@ -258,7 +305,8 @@ impl Shortlist {
     }
 
     /// Makes a list anew, and finds the best arc by it; nothing where no list is made, or it doesn't decide. `second` bounds that of
-    /// the row: the second of the list's arcs, where they have one, and else the greatest number.
+    /// the row: the second of the list's arcs, where they have one, and else the greatest number. The blocks of a longer row make its
+    /// list themselves.
     fn scan_anew(&mut self, scale: i64, row: &[RowArc], copies: &[i64], second: i64) -> Option<Scan>
         requires scale_low { pos 1 ≤ℤ scale }
         requires scale_high { scale ≤ℤ pos 10001 }
@@ -270,7 +318,7 @@ impl Shortlist {
         ensures keeps { Keeps (value scale (copy_in copies.now)) row.now self.new.arcs self.new.bound }
         ensures person { self.new.person ≡ self.old.person }
     {
-        if !self.is_wanted() {
+        if row.len() > LONG || !self.is_wanted() {
             return None;
         }
         if second < i64::MAX {

@@ -1,4 +1,4 @@
-use Rattle.std.proofs.Common.{◌≡◌, ◌<◌, ◌≤◌, ◌+◌, ◌*◌, ◌∙◌, ap, ℕ, length, get_or, pos, w64, arith, rules, length-set, refl}
+use Rattle.std.proofs.Common.{◌≡◌, ◌<◌, ◌≤◌, ◌+◌, ◌*◌, ◌∙◌, ap, length, get_or, pos, w64, arith, rules, length-set, refl}
 use Rattle.std.specs.Prelude.{FitsSigned}
 use Rattle.std.proofs.lemmas.Int.{to_z-of_z}
 use Rattle.std.proofs.lemmas.List.Elements.{All-get_or, All-set}
@@ -18,11 +18,17 @@ use Rattle.auc_persons.proofs.bounded.scan_blocks.Goals.{then-not-is_above, else
 abbrev no_bound : Bound
 no_bound = record { least = pos 0; person = 0; block = 0 }
 
-pub with_part-looked-requires-clause-found : goal.with_part-looked-requires-clause-found
-with_part-looked-requires-clause-found c =
+pub with_block-search-requires-clause-found : goal.with_block-search-requires-clause-found
+with_block-search-requires-clause-found c =
     let f1 : FitsSigned w64 c.scale_of-scale.result = search rules in
     let scale : c.scale_of-scale.result ≡ pos (length c.args.rows.now.rows + 1) = c.scale_of-scale.ensures.is ∙ ap (λ n. pos (n + 1)) c.persons.ensures.persons in
     simp to_z-of_z (rw (scale, c.row-row.ensures.row) c.loop-block.invariant.found)
+
+pub with_block-search-requires-clause-least : goal.with_block-search-requires-clause-least
+with_block-search-requires-clause-least c =
+    let f1 : FitsSigned w64 c.scale_of-scale.result = search rules in
+    let f2 : FitsSigned w64 c.least_of-least.result = search rules in
+    simp to_z-of_z (simp to_z-of_z at c.least_of-least.ensures)
 
 pub returns-clause-some : goal.returns-clause-some
 returns-clause-some c =
@@ -54,19 +60,18 @@ loop-block-preserved c =
     let P : Bound → Type 0 = λ b. KeepsListed t copies (of_bound made b) in
     elim c.if-not-is_above.branch [
       | then-not-is_above w ↦ (
-          let looked = w.with_part-looked in
-          let f2 : FitsSigned w64 looked.result.least = search rules in
-          let found = rw (scale, c.row-row.ensures.row) at (simp to_z-of_z at looked.ensures.found) in
-          let kept = rw scale at (simp to_z-of_z at looked.ensures.kept) in
-          let covered = rw (scale, c.row-row.ensures.row) at (simp to_z-of_z at looked.ensures.covered) in
-          let least = rw (scale, c.row-row.ensures.row) at (simp to_z-of_z at looked.ensures.least) in
-          let new : Bound = record { least = looked.result.least; person = person; block = block } in
-          let ends : (k : ℕ) → k < 16 * block + 16 → k < length row → k < w.lesser-to.result = λ k lt below. w.lesser-to.ensures.least k (omega (arith, lt)) (omega (arith, len, below)) in
-          let right : P new = bound_is made t copies new few c.requires.same within rises (λ k d low lt below. least k d (omega (arith, low)) (ends k lt below) below) in
+          let one = w.with_block-search in
+          let f2 : FitsSigned w64 w.least_of-least.result = search rules in
+          let found = rw (scale, c.row-row.ensures.row) at (simp to_z-of_z at one.ensures.found) in
+          let kept = rw scale at (simp to_z-of_z at one.ensures.kept) in
+          let covered = rw (scale, c.row-row.ensures.row) at (simp to_z-of_z at one.ensures.covered) in
+          let least = rw (scale, c.row-row.ensures.row) at (simp to_z-of_z at w.least_of-least.ensures) in
+          let new : Bound = record { least = w.least_of-least.result; person = person; block = block } in
+          let right : P new = bound_is made t copies new few c.requires.same within rises (λ k d low lt below. least k d (omega (arith, low)) (omega (arith, lt)) below) in
           rw (simp to_z-of_z at w.bounds-is, w.search-is) (record {
             found = found;
-            limit = looked.ensures.limit;
-            covered = λ k d lt below. covered_block val row looked.result.search.scan block k d (λ before. kept (get_or row k d) (inv.covered k d before below)) (λ low high. covered k d (omega (arith, low)) (ends k high below)) lt;
+            limit = one.ensures.limit;
+            covered = λ k d lt below. covered_block val row one.result.scan block k d (λ before. kept (get_or row k d) (inv.covered k d before below)) (λ low high. covered k d (omega (arith, low)) (omega (arith, high)) below) lt;
             right = All-set P c.loop-block.bounds at new right inv.right;
             length = length-set c.loop-block.bounds at new ∙ inv.length;
           })

@@ -7,7 +7,7 @@ use Rattle.auc_graph.specs.Bid.{value}
 use Rattle.auc_persons.specs.Scan.{copy_in}
 use Rattle.auc_persons.specs.Search.{Covers}
 use Rattle.auc_persons.proofs.Found.{above_limit, no_arc, taken_is}
-use Rattle.auc_persons.proofs.Parts.{above_more, covered_more, covered_weaker}
+use Rattle.auc_persons.proofs.Parts.{covered_more, covered_weaker}
 use Rattle.auc_persons.proofs.bounded.with_part.Goals as goal
 use Rattle.auc_persons.proofs.bounded.with_part.Goals.{then-value-search, else-value-search}
 
@@ -15,7 +15,6 @@ pub loop-place-preserved : goal.loop-place-preserved
 loop-place-preserved c =
     let f1 : FitsSigned w64 c.args.scale = c.ranges.scale in
     let f2 : FitsSigned w64 c.value_here-value.result = search rules in
-    let f3 : FitsSigned w64 c.lower-least.result = search rules in
     let val = value c.args.scale (copy_in c.args.copies.now) in
     let row = c.args.row.now in
     let i = c.loop-place.place in
@@ -25,8 +24,6 @@ loop-place-preserved c =
     let is = simp to_z-of_z at c.value_here-value.ensures.is in
     let ok = c.value_here-value.ensures.range in
     let there = Contains-get_or row i no_arc lt in
-    let other = simp to_z-of_z at c.lower-least.ensures.other in
-    let least = above_more val row c.args.from i _ c.lower-least.result lt inv.least c.lower-least.ensures.one (omega (arith, ints, other, is)) in
     elim c.if-value-search.branch [
       | then-value-search w ↦ (
           let t = simp to_z-of_z at w.with-search.ensures.taken in
@@ -36,7 +33,6 @@ loop-place-preserved c =
             limit = w.with-search.ensures.limit;
             kept = λ b old. got.kept b (inv.kept b old);
             covered = covered_more (Covers val w.with-search.result.scan) row c.args.from i lt (covered_weaker val c.loop-place.search.scan w.with-search.result.scan row c.args.from i got.kept inv.covered) got.covered;
-            least = least;
           }))
           )
       | else-value-search w ↦ (
@@ -45,7 +41,6 @@ loop-place-preserved c =
             limit = inv.limit;
             kept = inv.kept;
             covered = covered_more (Covers val c.loop-place.search.scan) row c.args.from i lt inv.covered (above_limit val row c.loop-place.search.scan a c.value_here-value.result c.loop-place.search.limit inv.found is ok inv.limit (omega (arith, ints)));
-            least = least;
           }))
           )
     ]
@@ -61,9 +56,3 @@ returns-clause-covered c =
     let f1 : FitsSigned w64 c.args.scale = c.ranges.scale in
     let inv = simp to_z-of_z at c.loop-place.invariant in
     λ k d le lt. inv.covered k d le (omega (arith, c.loop-place-test.false))
-
-pub returns-clause-least : goal.returns-clause-least
-returns-clause-least c =
-    let f1 : FitsSigned w64 c.args.scale = c.ranges.scale in
-    let inv = simp to_z-of_z at c.loop-place.invariant in
-    λ k d le lt below. inv.least k d le (omega (arith, c.loop-place-test.false)) below

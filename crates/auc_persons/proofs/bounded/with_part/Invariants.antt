@@ -1,6 +1,5 @@
 use Rattle.auc_graph.specs.declared.rows.RowArc.{RowArc}
 use Rattle.auc_graph.specs.Bid.{value}
-use Rattle.auc_persons.specs.Blocks.{Above}
 use Rattle.auc_persons.specs.Scan.{copy_in}
 use Rattle.auc_persons.specs.Search.{Covers, IsFound, IsLimit}
 use Rattle.std.specs.List.{AllWithin}
@@ -12,5 +11,4 @@ invariant-loop-place l = record {
   limit : IsLimit l.search.scan l.search.limit;
   kept : (b : RowArc) → Covers (value l.scale (copy_in l.copies)) l.fn.begun.scan b → Covers (value l.scale (copy_in l.copies)) l.search.scan b;
   covered : AllWithin (Covers (value l.scale (copy_in l.copies)) l.search.scan) l.row l.from l.place;
-  least : Above (value l.scale (copy_in l.copies)) l.row l.from l.place l.least;
 }

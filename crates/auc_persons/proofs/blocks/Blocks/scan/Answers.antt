@@ -1,4 +1,4 @@
-use Rattle.std.proofs.Common.{◌≡◌, ◌<◌, ◌++◌, ap, sym, subst, length, arith}
+use Rattle.std.proofs.Common.{◌≡◌, ◌<◌, ◌++◌, ap, sym, subst, get_or, length, arith}
 use Rattle.std.specs.Prelude.{map}
 use Rattle.std.proofs.lemmas.List.{with_items_is}
 use Rattle.std.proofs.lemmas.List.Elements.{All-get_or, All-same, All-set}
@@ -9,8 +9,8 @@ use Rattle.auc_persons.proofs.KeptBlocks.{kept_bounds, kept_of, kept_persons, sa
 use Rattle.auc_persons.proofs.SameRows.{Rises}
 use Rattle.auc_persons.proofs.blocks.Blocks.scan.Goals as goal
 
-pub scan_blocks-requires-clause-same : goal.scan_blocks-requires-clause-same
-scan_blocks-requires-clause-same c =
+pub scan_and_list-requires-clause-same : goal.scan_and_list-requires-clause-same
+scan_and_list-requires-clause-same c =
     let t = c.args.rows.now in
     let made = c.self.inside.made.value in
     let copies = c.args.copies.now in
@@ -27,8 +27,8 @@ scan_blocks-requires-clause-same c =
     let rises : Rises (row_of t b.person) = subst (λ n. Rises (row_of t n)) (sym e) sound.rising in
     same_as made t copies b here has (omega (arith, c.if-blocked-arcs.false, ap length c.row-arcs.ensures.row, f)) rises
 
-pub scan_blocks-requires-clause-right : goal.scan_blocks-requires-clause-right
-scan_blocks-requires-clause-right c =
+pub scan_and_list-requires-clause-right : goal.scan_and_list-requires-clause-right
+scan_and_list-requires-clause-right c =
     let t = c.args.rows.now in
     let made = c.self.inside.made.value in
     let copies = c.args.copies.now in
@@ -45,8 +45,8 @@ returns-in_err-search-clause-kept c =
     let persons = c.self.inside.persons.items in
     let bounds = c.self.inside.bounds.items in
     let kept = All-same (KeepsListed t copies) (map (of_blocked made) persons ++ map (of_bound made) bounds) c.args.self.now c.self.view_is c.requires.kept in
-    let len : length c.scan_blocks.new.bounds ≡ c.self.inside.bounds.len = omega (arith, c.scan_blocks.ensures.length, c.as_mut_slice.ensures.len, ap length c.as_mut_slice.ensures.value) in
-    rw (with_items_is c.self.inside.bounds c.scan_blocks.new.bounds len) (kept_of made t copies persons c.scan_blocks.new.bounds (kept_persons made t copies persons bounds kept) c.scan_blocks.ensures.right)
+    let len : length c.scan_and_list.new.bounds ≡ c.self.inside.bounds.len = omega (arith, c.scan_and_list.ensures.length, c.as_mut_slice.ensures.len, ap length c.as_mut_slice.ensures.value) in
+    rw (with_items_is c.self.inside.bounds c.scan_and_list.new.bounds len) (kept_of made t copies persons c.scan_and_list.new.bounds (kept_persons made t copies persons bounds kept) c.scan_and_list.ensures.right)
 
 pub invariant_of-self-2 : goal.invariant_of-self-2
 invariant_of-self-2 c =
@@ -69,5 +69,18 @@ returns-clause-kept c =
     let kept = All-same (KeepsListed t copies) (map (of_blocked made) persons ++ map (of_bound made) bounds) c.args.self.now c.self.view_is c.requires.kept in
     let own = kept_persons made t copies persons bounds kept in
     let here : KeepsListed t copies (of_blocked made b) = rw c.index-blocked.ensures (All-get_or (λ x. KeepsListed t copies (of_blocked made x)) persons c.args.place b lt own) in
-    let len : length c.scan_blocks.new.bounds ≡ c.self.inside.bounds.len = omega (arith, c.scan_blocks.ensures.length, c.as_mut_slice.ensures.len, ap length c.as_mut_slice.ensures.value) in
-    rw (with_items_is c.self.inside.bounds c.scan_blocks.new.bounds len) (kept_of made t copies _ c.scan_blocks.new.bounds (All-set (λ x. KeepsListed t copies (of_blocked made x)) persons c.args.place _ here own) c.scan_blocks.ensures.right)
+    let len : length c.scan_and_list.new.bounds ≡ c.self.inside.bounds.len = omega (arith, c.scan_and_list.ensures.length, c.as_mut_slice.ensures.len, ap length c.as_mut_slice.ensures.value) in
+    rw (with_items_is c.self.inside.bounds c.scan_and_list.new.bounds len) (kept_of made t copies _ c.scan_and_list.new.bounds (All-set (λ x. KeepsListed t copies (of_blocked made x)) persons c.args.place _ here own) c.scan_and_list.ensures.right)
+
+pub returns-then-person-clause-lists : goal.returns-then-person-clause-lists
+returns-then-person-clause-lists c =
+    let P = KeepsListed c.args.rows.now c.args.copies.now in
+    let lists = c.args.lists.now in
+    let lt : c.args.place < length lists = omega (arith, c.if-place-lists.false) in
+    All-set P lists c.args.place (get_or lists c.args.place c.index-lists-place.result) (All-get_or P lists c.args.place c.index-lists-place.result lt c.requires.lists) c.requires.lists
+
+pub returns-in_err-search-clause-lists : goal.returns-in_err-search-clause-lists
+returns-in_err-search-clause-lists c = All-set (KeepsListed c.args.rows.now c.args.copies.now) c.args.lists.now c.args.place c.scan_and_list.new.list c.scan_and_list.ensures.keeps c.requires.lists
+
+pub returns-clause-lists : goal.returns-clause-lists
+returns-clause-lists c = All-set (KeepsListed c.args.rows.now c.args.copies.now) c.args.lists.now c.args.place c.scan_and_list.new.list c.scan_and_list.ensures.keeps c.requires.lists

@@ -11,13 +11,13 @@ pub scan_list-requires-clause-kept : goal.scan_list-requires-clause-kept
 scan_list-requires-clause-kept c =
     let P = KeepsListed c.args.rows.now c.args.copies.now in
     let kept = All-same P (c.self.inside.lists.items ++ or_none c.self.inside.blocks) c.args.self.now c.self.view_is c.requires.kept in
-    rw c.as_mut_slice.ensures.value (front P c.self.inside.lists.items (or_none c.self.inside.blocks) kept)
+    rw c.as_mut_slice-lists.ensures.value (front P c.self.inside.lists.items (or_none c.self.inside.blocks) kept)
 
 pub returns-in-Some-clause-kept : goal.returns-in-Some-clause-kept
 returns-in-Some-clause-kept c =
     let P = KeepsListed c.args.rows.now c.args.copies.now in
     let kept = All-same P (c.self.inside.lists.items ++ or_none c.self.inside.blocks) c.args.self.now c.self.view_is c.requires.kept in
-    let len : length c.scan_list.new.lists ≡ c.self.inside.lists.len = omega (arith, c.scan_list.ensures.length, c.as_mut_slice.ensures.len, ap length c.as_mut_slice.ensures.value) in
+    let len : length c.scan_list.new.lists ≡ c.self.inside.lists.len = omega (arith, c.scan_list.ensures.length, c.as_mut_slice-lists.ensures.len, ap length c.as_mut_slice-lists.ensures.value) in
     rw (with_items_is c.self.inside.lists c.scan_list.new.lists len) (All-append P c.scan_list.new.lists (or_none c.self.inside.blocks) c.scan_list.ensures.kept (behind P c.self.inside.lists.items (or_none c.self.inside.blocks) kept))
 
 pub scan-requires-clause-kept : goal.scan-requires-clause-kept
@@ -29,5 +29,5 @@ scan-requires-clause-kept c =
 pub returns-clause-kept : goal.returns-clause-kept
 returns-clause-kept c =
     let P = KeepsListed c.args.rows.now c.args.copies.now in
-    let len : length c.scan_list.new.lists ≡ c.self.inside.lists.len = omega (arith, c.scan_list.ensures.length, c.as_mut_slice.ensures.len, ap length c.as_mut_slice.ensures.value) in
-    rw (with_items_is c.self.inside.lists c.scan_list.new.lists len) (All-append P c.scan_list.new.lists (or_none (Some c.scan.new.self)) c.scan_list.ensures.kept c.scan.ensures.kept)
+    let len : length c.scan.new.lists ≡ c.self.inside.lists.len = omega (arith, c.scan.ensures.length, c.scan_list.ensures.length, c.as_mut_slice-lists.ensures.len, ap length c.as_mut_slice-lists.ensures.value) in
+    rw (with_items_is c.self.inside.lists c.scan.new.lists len) (All-append P c.scan.new.lists (or_none (Some c.scan.new.self)) c.scan.ensures.lists c.scan.ensures.kept)

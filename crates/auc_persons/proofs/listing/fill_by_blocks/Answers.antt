@@ -1,0 +1,113 @@
+use Rattle.std.proofs.Common.{◌≡◌, ◌<◌, ◌≤◌, ◌+◌, ◌*◌, ◌∙◌, ap, length, get_or, pos, w64, arith, rules, length-set, refl}
+use Rattle.std.specs.Prelude.{FitsSigned, ◌-ℤ◌, ◌≤ℤ◌}
+use Rattle.std.proofs.lemmas.Int.{ints, to_z-of_z}
+use Rattle.std.proofs.lemmas.List.Elements.{All-get_or, All-set}
+use Rattle.auc_graph.specs.Bid.{value}
+use Rattle.auc_graph.specs.Table.{row_of}
+use Rattle.auc_persons.specs.declared.bound.Bound.{Bound}
+use Rattle.auc_persons.specs.Blocks.{of_bound}
+use Rattle.auc_persons.specs.Candidates.{KeepsListed}
+use Rattle.auc_persons.specs.Scan.{copy_in}
+use Rattle.auc_persons.proofs.BlockBounds.{bound_is, bound_says}
+use Rattle.auc_persons.proofs.Found.{no_arc}
+use Rattle.auc_persons.proofs.SameRows.{Rises}
+use Rattle.auc_persons.proofs.Shortlists.{gathered_keeps, gathered_to}
+use Rattle.auc_persons.proofs.listing.fill_by_blocks.Goals as goal
+use Rattle.auc_persons.proofs.listing.fill_by_blocks.Goals.{then-not-is_above+else-not-take_block, else-not-is_above}
+
+abbrev no_bound : Bound
+no_bound = record { least = pos 0; person = 0; block = 0 }
+
+pub take_block-requires-clause-gathered : goal.take_block-requires-clause-gathered
+take_block-requires-clause-gathered c =
+    let f1 : FitsSigned w64 c.scale_of-scale.result = search rules in
+    let f5 : FitsSigned w64 c.args.bound = c.ranges.bound in
+    let scale : c.scale_of-scale.result ≡ pos (length c.args.rows.now.rows + 1) = c.scale_of-scale.ensures.is ∙ ap (λ n. pos (n + 1)) c.persons.ensures.persons in
+    let at : c.loop-block.block * 16 ≡ 16 * c.loop-block.block = omega arith in
+    let inv = simp to_z-of_z at c.loop-block.invariant in
+    simp to_z-of_z (rw (scale, c.row-row.ensures.row, at) inv.gathered)
+
+pub returns-then-not-take_block-clause-right : goal.returns-then-not-take_block-clause-right
+returns-then-not-take_block-clause-right c =
+    let f1 : FitsSigned w64 c.scale_of-scale.result = search rules in
+    let f2 : FitsSigned w64 c.least_of-least.result = search rules in
+    let t = c.args.rows.now in
+    let made = c.args._made.now.value in
+    let copies = c.args.copies.now in
+    let person = c.args.blocked.person in
+    let row = row_of t person in
+    let block = c.loop-block.block in
+    let inv = c.loop-block.invariant in
+    let len = ap length c.row-row.ensures.row in
+    let scale : c.scale_of-scale.result ≡ pos (length t.rows + 1) = c.scale_of-scale.ensures.is ∙ ap (λ n. pos (n + 1)) c.persons.ensures.persons in
+    let sound = rw (c.row-row.ensures.row, c.requires.objects) at c.row-row.ensures.sound in
+    let within : 16 * block ≤ length row = omega (arith, c.loop-block-test.true, len, c.requires.long) in
+    let least = rw (scale, c.row-row.ensures.row) at (simp to_z-of_z at c.least_of-least.ensures) in
+    let P : Bound → Type 0 = λ b. KeepsListed t copies (of_bound made b) in
+    let new : Bound = record { least = c.least_of-least.result; person = person; block = block } in
+    let right : P new = bound_is made t copies new (omega (arith, within, sound.few)) c.requires.same within sound.rising (λ k d low lt below. least k d (omega (arith, low)) (omega (arith, lt)) below) in
+    simp to_z-of_z (All-set P c.loop-block.bounds (c.args.blocked.start + block) new right inv.right)
+
+pub returns-clause-keeps : goal.returns-clause-keeps
+returns-clause-keeps c =
+    let f5 : FitsSigned w64 c.args.bound = c.ranges.bound in
+    let t = c.args.rows.now in
+    let row = row_of t c.args.blocked.person in
+    let inv = simp to_z-of_z at c.loop-block.invariant in
+    let len = ap length c.row-row.ensures.row in
+    let b = inv.bound in
+    rw b (gathered_keeps (value (pos (length t.rows + 1)) (copy_in c.args.copies.now)) row c.loop-block.list.arcs c.args.bound (16 * c.loop-block.block) (omega (arith, c.loop-block-test.false, len)) inv.gathered)
+
+pub loop-block-preserved : goal.loop-block-preserved
+loop-block-preserved c =
+    let f1 : FitsSigned w64 c.scale_of-scale.result = search rules in
+    let f5 : FitsSigned w64 c.args.bound = c.ranges.bound in
+    let f6 : FitsSigned w64 (c.args.bound -ℤ pos 1) = omega (arith, ints, c.requires.low, c.requires.high) in
+    let t = c.args.rows.now in
+    let made = c.args._made.now.value in
+    let copies = c.args.copies.now in
+    let person = c.args.blocked.person in
+    let row = row_of t person in
+    let val = value (pos (length t.rows + 1)) (copy_in copies) in
+    let block = c.loop-block.block in
+    let inv = simp to_z-of_z at c.loop-block.invariant in
+    let len = ap length c.row-row.ensures.row in
+    let scale : c.scale_of-scale.result ≡ pos (length t.rows + 1) = c.scale_of-scale.ensures.is ∙ ap (λ n. pos (n + 1)) c.persons.ensures.persons in
+    let sound = rw (c.row-row.ensures.row, c.requires.objects) at c.row-row.ensures.sound in
+    let rises : Rises row = sound.rising in
+    let within : 16 * block ≤ length row = omega (arith, c.loop-block-test.true, len, c.requires.long) in
+    let few : block < 4294967295 = omega (arith, within, sound.few) in
+    let at = c.args.blocked.start + block in
+    let at_lt : at < length c.loop-block.bounds = omega (arith, inv.length, c.loop-block-test.true, c.if-blocked-bounds.false, c.if-count-bounds.false) in
+    let P : Bound → Type 0 = λ b. KeepsListed t copies (of_bound made b) in
+    elim c.if-not-is_above.branch [
+      | then-not-is_above+else-not-take_block w ↦ (
+          let f2 : FitsSigned w64 w.least_of-least.result = search rules in
+          let least = rw (scale, c.row-row.ensures.row) at (simp to_z-of_z at w.least_of-least.ensures) in
+          let new : Bound = record { least = w.least_of-least.result; person = person; block = block } in
+          let right : P new = bound_is made t copies new few c.requires.same within rises (λ k d low lt below. least k d (omega (arith, low)) (omega (arith, lt)) below) in
+          let took = w.if-not-take_block.ensures in
+          let taken = rw (scale, c.row-row.ensures.row) at (simp to_z-of_z at (took.taken refl)) in
+          let next : block * 16 + 16 ≡ 16 * (block + 1) = omega arith in
+          rw (simp to_z-of_z at w.bounds-is, w.list-is) (simp to_z-of_z (record {
+            gathered = rw next at taken;
+            bound = took.bound ∙ inv.bound;
+            owner = took.person ∙ inv.owner;
+            right = All-set P c.loop-block.bounds at new right inv.right;
+            length = length-set c.loop-block.bounds at new ∙ inv.length;
+          }))
+          )
+      | else-not-is_above w ↦ (
+          let b : Bound = get_or c.loop-block.bounds at no_bound in
+          let e = simp to_z-of_z at (w.if-not-is_above.ensures refl) in
+          let far : c.args.bound ≤ℤ b.least = omega (arith, ints, e.0) in
+          let says = bound_says made t copies b person block e.1 e.2 few c.requires.same within c.requires.long rises (All-get_or P c.loop-block.bounds at no_bound at_lt inv.right) in
+          rw (w.bounds-is, w.list-is) (simp to_z-of_z (record {
+            gathered = gathered_to val row c.loop-block.list.arcs c.args.bound (16 * block) (16 * (block + 1)) rises (omega arith) (λ k low high below. omega (arith, ints, far, says k no_arc low (omega (arith, high)) below)) inv.gathered;
+            bound = inv.bound;
+            owner = inv.owner;
+            right = inv.right;
+            length = inv.length;
+          }))
+          )
+    ]

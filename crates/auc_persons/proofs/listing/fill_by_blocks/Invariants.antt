@@ -1,0 +1,16 @@
+use Rattle.std.proofs.Common.{◌≡◌, ◌+◌, ◌*◌, length, pos, take}
+use Rattle.auc_graph.specs.Bid.{value}
+use Rattle.auc_graph.specs.Table.{row_of}
+use Rattle.auc_persons.specs.Blocks.{AreRight}
+use Rattle.auc_persons.specs.Candidates.{Gathered}
+use Rattle.auc_persons.specs.Scan.{copy_in}
+use Rattle.auc_persons.proofs.listing.fill_by_blocks.Given as goal
+
+abbrev pub invariant-loop-block : goal.invariant-loop-block
+invariant-loop-block l = record {
+  gathered : Gathered (value (pos (length l.rows.rows + 1)) (copy_in l.copies)) (take (16 * l.block) (row_of l.rows l.fn.blocked.person)) l.list.arcs l.bound;
+  bound : l.list.bound ≡ l.bound;
+  owner : l.list.person ≡ l.fn.list.person;
+  right : AreRight l._made.value l.rows l.copies l.bounds;
+  length : length l.bounds ≡ length l.fn.bounds;
+}

@@ -1,0 +1,171 @@
+//! A list of candidates of a long row, made by its blocks.
+//!
+//! The blocks have decided the bid, so the second of the whole row is known, and a block whose bound is not below that of the new list
+//! has no arc for it.
+
+ghost use Rattle.std.specs.Prelude.{true, false, ◌≡◌, ◌<◌, ◌≤◌, ◌+◌, ◌^◌, [], pos, neg_ℤ, ◌<ℤ◌, ◌≤ℤ◌, All, IfSome, length, take};
+ghost use Rattle.auc_graph.specs.Bid.{value};
+ghost use Rattle.auc_graph.specs.Table.{IsRow, row_of};
+ghost use Rattle.auc_letters.specs.Price.{IsPrice};
+ghost use Rattle.auc_persons.specs.Blocks.{Above, AreRight};
+ghost use Rattle.auc_persons.specs.Candidates.{Gathered, Keeps, KeepsListed};
+ghost use Rattle.auc_persons.specs.Scan.{copy_in, endless, IsScan, IsValue};
+
+use crate::bound::{BLOCK, Blocked, Bound};
+use crate::bounded::{lesser, scan_blocks};
+use crate::least::least_of;
+use crate::scan::scale_of;
+use crate::search::Search;
+use crate::shortlist::Shortlist;
+use auc_graph::{RowArc, Rows};
+use std::snapshot::Snapshot;
+
+impl Shortlist {
+    /// Takes the arcs below a bound of the block that begins here, none of whose arcs is below `least`; no arc at all where they are
+    /// too many.
+    #[inline]
+    fn take_block(
+        &mut self,
+        scale: i64,
+        row: &[RowArc],
+        copies: &[i64],
+        bound: i64,
+        from: usize,
+        least: i64,
+    ) -> bool
+        requires scale_low { pos 1 ≤ℤ scale }
+        requires scale_high { scale ≤ℤ pos 10001 }
+        requires row { IsRow (length copies.now) row.now }
+        requires copies { All IsPrice copies.now }
+        requires within { from ≤ length row.now }
+        requires least { Above (value scale (copy_in copies.now)) row.now from (from + 16) least }
+        requires gathered { Gathered (value scale (copy_in copies.now)) (take from row.now) self.old.arcs bound }
+        ensures taken { result ≡ true → Gathered (value scale (copy_in copies.now)) (take (from + 16) row.now) self.new.arcs bound }
+        ensures none { result ≡ false → self.new.arcs ≡ [] }
+        ensures bound { self.new.bound ≡ self.old.bound }
+        ensures person { self.new.person ≡ self.old.person }
+    {
+        if least >= bound {
+            return true;
+        }
+        let to = from + lesser(BLOCK, row.len() - from);
+        self.take_part(scale, row, copies, bound, from, to)
+    }
+}
+
+/// Takes the arcs of a long row that are below a bound; none where they are too many. Each block that is looked at gets its least
+/// value as bound.
+fn fill_by_blocks(
+    rows: &Rows,
+    _made: &Snapshot<Rows>,
+    copies: &[i64],
+    blocked: Blocked,
+    bounds: &mut [Bound],
+    list: &mut Shortlist,
+    bound: i64,
+) -> bool
+    requires person { blocked.person < length rows.now.rows }
+    requires objects { rows.now.objects ≡ length copies.now }
+    requires copies { All IsPrice copies.now }
+    requires long { 256 < length (row_of rows.now blocked.person) }
+    requires same { row_of _made.now.value blocked.person ≡ row_of rows.now blocked.person }
+    requires right { AreRight _made.now.value rows.now copies.now bounds.old }
+    requires low { neg_ℤ (pos (2 ^ 44)) <ℤ bound }
+    requires high { bound ≤ℤ pos (2 ^ 62) }
+    ensures keeps { Keeps (value (pos (length rows.now.rows + 1)) (copy_in copies.now)) (row_of rows.now blocked.person) list.new.arcs list.new.bound }
+    ensures owner { list.new.person ≡ list.old.person }
+    ensures right { AreRight _made.now.value rows.now copies.now bounds.new }
+    ensures length { length bounds.new ≡ length bounds.old }
+{
+    let person = blocked.person;
+    let row = rows.row(person);
+    let scale = scale_of(rows.persons());
+    let count = (row.len() - 1) / BLOCK + 1;
+    list.begin(bound);
+    if blocked.start > bounds.len() || count > bounds.len() - blocked.start {
+        return false;
+    }
+    for block in 0..count {
+        let number = block as u32;
+        let at = blocked.start + block;
+        if !bounds[at].is_above(bound - 1, person, number) {
+            let from = block * BLOCK;
+            let least = least_of(scale, row, copies, from);
+            bounds[at] = Bound {
+                least,
+                person,
+                block: number,
+            };
+            if !list.take_block(scale, row, copies, bound, from, least) {
+                return false;
+            }
+        }
+    }
+    true
+}
+
+/// Makes the list of a person with a long row anew, where one is wanted, so that it reaches above the second of his row.
+fn list_anew(
+    rows: &Rows,
+    made: &Snapshot<Rows>,
+    copies: &[i64],
+    blocked: Blocked,
+    bounds: &mut [Bound],
+    list: &mut Shortlist,
+    second: i64,
+)
+    requires person { blocked.person < length rows.now.rows }
+    requires objects { rows.now.objects ≡ length copies.now }
+    requires copies { All IsPrice copies.now }
+    requires long { 256 < length (row_of rows.now blocked.person) }
+    requires same { row_of made.now.value blocked.person ≡ row_of rows.now blocked.person }
+    requires right { AreRight made.now.value rows.now copies.now bounds.old }
+    requires second { second <ℤ endless → IsValue second }
+    requires owner { list.old.person ≡ blocked.person }
+    requires keeps { KeepsListed rows.now copies.now list.old }
+    ensures keeps { KeepsListed rows.now copies.now list.new }
+    ensures right { AreRight made.now.value rows.now copies.now bounds.new }
+    ensures length { length bounds.new ≡ length bounds.old }
+{
+    if second == i64::MAX || !list.is_wanted() {
+        return;
+    }
+    let bound = list.bound_above(second);
+    let fitted = fill_by_blocks(rows, made, copies, blocked, bounds, list, bound);
+    list.adapt(fitted);
+}
+
+/// The best arc of a person with a long row, by his blocks; and his list is made anew by them, where one is wanted.
+pub(crate) fn scan_and_list(
+    rows: &Rows,
+    made: &Snapshot<Rows>,
+    copies: &[i64],
+    blocked: Blocked,
+    bounds: &mut [Bound],
+    list: &mut Shortlist,
+) -> Option<Search>
+    requires person { blocked.person < length rows.now.rows }
+    requires objects { rows.now.objects ≡ length copies.now }
+    requires copies { All IsPrice copies.now }
+    requires long { 256 < length (row_of rows.now blocked.person) }
+    requires same { row_of made.now.value blocked.person ≡ row_of rows.now blocked.person }
+    requires right { AreRight made.now.value rows.now copies.now bounds.old }
+    requires owner { list.old.person ≡ blocked.person }
+    requires keeps { KeepsListed rows.now copies.now list.old }
+    ensures some { IfSome result (λ s. IsScan (value (pos (length rows.now.rows + 1)) (copy_in copies.now)) (row_of rows.now blocked.person) s.scan) }
+    ensures keeps { KeepsListed rows.now copies.now list.new }
+    ensures right { AreRight made.now.value rows.now copies.now bounds.new }
+    ensures length { length bounds.new ≡ length bounds.old }
+{
+    let search = scan_blocks(rows, made, copies, blocked, bounds)?;
+    list_anew(
+        rows,
+        made,
+        copies,
+        blocked,
+        bounds,
+        list,
+        search.scan.second,
+    );
+    Some(search)
+}

@@ -45,7 +45,9 @@ fn behind_row<'a>(
     Ok(rest)
 }
 
-/// The text behind the arcs of three short numbers each, which are put behind the others.
+/// The text behind the arcs of three short numbers each, which are put behind the others. A function of its own, so that the
+/// loop of a row has the registers.
+#[inline(never)]
 fn behind_short_arcs<'a>(
     limit: u32,
     persons: u32,

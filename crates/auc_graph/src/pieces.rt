@@ -16,7 +16,8 @@ use crate::stage::Stage;
 use crate::tokens::separators_len;
 use crate::unfinished::{MOST_KEPT, keep};
 
-/// The text behind the arcs of three short numbers each whose person is written so. They are put behind the others.
+/// The text behind the arcs of three short numbers each whose person is written so, as many as there is room for. They are put
+/// behind the others.
 #[inline(always)]
 fn behind_row<'a>(
     limit: u32,
@@ -34,12 +35,18 @@ fn behind_row<'a>(
     ensures memory { IfErr result (λ e. e ≡ ReadError.NoMemory) }
     ensures behind { IfOk result (λ rest. (length rest.now ≤ length bytes.now) × (rest.now ≡ drop (length bytes.now - length rest.now) bytes.now)) }
 {
+    if arcs.len() >= limit as usize {
+        return Ok(bytes);
+    }
+    arcs.reserve(1)?;
+    // One test for the limit and the room.
+    let end = arcs.capacity().min(limit as usize);
     let mut rest = bytes;
-    while let Some((arc, behind)) = short_arc(written, objects, rest) {
-        if arcs.len() >= limit as usize {
+    'lines: while arcs.len() < end {
+        let Some((arc, behind)) = short_arc(written, objects, rest) else {
             break;
-        }
-        arcs.push(arc)?;
+        };
+        arcs.push_reserved(arc);
         rest = behind;
     }
     Ok(rest)

@@ -9,23 +9,25 @@ use Rattle.auc_graph.proofs.StepLaws.{arc_more}
 use Rattle.auc_graph.proofs.PieceLaws.{rest_of_rest}
 use Rattle.auc_graph.proofs.pieces.behind_row.Goals as goal
 
-pub loop-arc-preserved : goal.loop-arc-preserved
-loop-arc-preserved c =
-    let old = c.loop-arc.invariant in
-    let rest = c.loop-arc.rest.now in
+pub lines-preserved : goal.lines-preserved
+lines-preserved c =
+    let old = c.lines.invariant in
+    let rest = c.lines.rest.now in
     let behind = c.in-Some.behind.now in
     let shorter = c.in-Some.ensures.shorter in
-    let arcs = c.loop-arc.arcs.items in
+    let arcs = c.lines.arcs.items in
     let arc = c.in-Some.arc in
-    let e = c.in_ok-push.ensures.items in
-    let room : length c.loop-arc.arcs.items < c.args.limit = omega arith in
+    let e = c.push_reserved.ensures.items in
+    let room : length c.lines.arcs.items < c.args.limit = omega (arith, c.lines-test.true, c.len-in-lines.ensures, old.most) in
     let places : length c.args.bytes.now - (length rest - (length rest - length behind)) ≡ length c.args.bytes.now - length behind = omega (arith, shorter) in
-    let few : length c.push.new.self.items ≤ c.args.limit = omega (arith, room, ap length e, length-append arcs (arc ∷ [])) in
+    let few : length c.push_reserved.new.self.items ≤ c.args.limit = omega (arith, room, ap length e, length-append arcs (arc ∷ [])) in
     record {
       exact = λ more.
           old.exact more ∙ ap (reading_on c.args.limit (Ok (AtPerson c.args._persons c.args.objects, arcs))) (c.in-Some.ensures.found more)
           ∙ arc_more c.args.limit c.args._persons c.args.objects arcs arc (numbers (behind ++ more)) room (c.in-Some.ensures.within c.args._persons c.requires.written.1)
           ∙ ap (λ xs. reading_on c.args.limit (Ok (AtPerson c.args._persons c.args.objects, xs)) (numbers (behind ++ more))) (sym e);
+      room = omega (arith, old.room, c.push_reserved.ensures.capacity);
+      most = old.most;
       sound = (
         record {
           some = old.sound.0.some;

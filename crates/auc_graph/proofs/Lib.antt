@@ -10,6 +10,7 @@ mod MagnitudeLaws
 mod NumberLaws
 mod StepLaws
 mod ShortLaws
+mod WrittenLaws
 mod AlikeLaws
 mod PieceLaws
 mod ListingLaws

@@ -5,6 +5,7 @@ pub mod Numbers
 pub mod Problem
 pub mod Reading
 pub mod Pieces
+pub mod Written
 pub mod Listing
 pub mod Assignment
 pub mod HallSet

@@ -1,42 +1,60 @@
-//! Numbers and arcs at the front of a text that goes on.
+//! Numbers at the front of a text that goes on.
 
-ghost use Rattle.std.specs.Prelude.{◌≡◌, ◌+◌, ◌-◌, ◌≤◌, ◌<◌, ◌∷◌, ◌++◌, List, ℕ, length, drop, pos, neg_ℤ, ◌≤ℤ◌, IfSome, IfNone};
+ghost use Rattle.std.specs.Prelude.{◌≡◌, ◌+◌, ◌-◌, ◌≤◌, ◌<◌, ◌∷◌, ◌++◌, List, ℕ, true, false, length, drop, pos, neg_ℤ, ◌≤ℤ◌, IfSome, IfNone};
+ghost use Rattle.std.specs.Char.{is_ascii_digit};
 ghost use Rattle.std.specs.List.{prefix_len};
 ghost use Rattle.auc_graph.specs.declared.number.Number.TheVariants.{Value};
 ghost use Rattle.auc_graph.specs.Tokens.{is_separator};
 ghost use Rattle.auc_graph.specs.Numbers.{numbers, signed, IsPlainToken};
-ghost use Rattle.auc_graph.specs.Problem.{IsWithin};
 ghost use Rattle.auc_graph.specs.Pieces.{IsPlain};
 
-use crate::arc::Arc;
 use crate::number::{Number, number_at, split_sign_of};
-use crate::tokens::{from_place, is_separator_byte, separators_len};
+use crate::tokens::{from_place, separators_len};
 
 /// One more than the digits of a short number.
-const SHORT: usize = 8;
+pub(crate) const SHORT: usize = 8;
 
-/// The value and the length of the token at the front, where it is one to seven digits and a separator follows. The
-/// compiler writes this loop out, so that each of its tests is guessed by its own history.
+/// The value of a digit; what another byte gives is above nine. Of 32 bits, so that the sum that takes it needs no widening.
 #[inline(always)]
-fn short_number_at(bytes: &[u8; SHORT]) -> Option<(u32, usize)>
+fn digit_of(byte: u8) -> u32
+    ensures digit { result ≤ 9 → (is_ascii_digit byte ≡ true) × (byte ≡ result + 48) }
+    ensures other { 9 < result → is_ascii_digit byte ≡ false }
+{
+    (byte as u32).wrapping_sub(b'0' as u32)
+}
+
+/// Whether a byte is one of the separators that nearly all files have: a space or a line feed.
+#[inline(always)]
+#[tactic(auto, unfolding(crate::specs::Tokens::is_separator))]
+fn is_usual_separator(byte: u8) -> bool
+    ensures { result ≡ true → is_separator byte ≡ true }
+{
+    byte == b' ' || byte == b'\n'
+}
+
+/// The value and the length of the token at the front, where it is one to seven digits and a space or a line feed follows.
+/// The compiler writes this loop out, so that each of its tests is guessed by its own history.
+#[inline(always)]
+pub(crate) fn short_number_at(bytes: &[u8; SHORT]) -> Option<(u32, usize)>
     ensures { IfSome result (λ x. (x.1 < SHORT) × (x.0 < 10000000) × IsPlainToken bytes.now x.0 x.1) }
 {
     let mut value: u32 = 0;
     for (i, byte) in bytes.iter().enumerate() {
-        if !byte.is_ascii_digit() {
-            if i > 0 && is_separator_byte(*byte) {
+        let digit = digit_of(*byte);
+        if digit > 9 {
+            if i > 0 && is_usual_separator(*byte) {
                 return Some((value, i));
             }
             return None;
         }
-        value = 10 * value + (*byte - b'0') as u32;
+        value = 10 * value + digit;
     }
     None
 }
 
 /// The short number at the front, and the text behind the separator that follows it.
 #[inline(always)]
-fn short_number(bytes: &[u8]) -> Option<(u32, &[u8])>
+pub(crate) fn short_number(bytes: &[u8]) -> Option<(u32, &[u8])>
     ensures found { IfSome result (λ x. (more : List ℕ) → numbers (bytes.now ++ more) ≡ Value (pos x.0) ∷ numbers (x.1.now ++ more)) }
     ensures small { IfSome result (λ x. x.0 < 10000000) }
     ensures shorter { IfSome result (λ x. length x.1.now < length bytes.now) }
@@ -59,9 +77,9 @@ fn signed_of(negative: bool, size: u32) -> i64
     }
 }
 
-/// The short number at the front, which may have a sign, and the text behind the separator that follows it.
+/// The short number at the front, behind a sign or none, and the text behind the separator that follows it.
 #[inline(always)]
-fn short_signed(bytes: &[u8]) -> Option<(i64, &[u8])>
+fn short_after_sign(bytes: &[u8]) -> Option<(i64, &[u8])>
     ensures found { IfSome result (λ x. (more : List ℕ) → numbers (bytes.now ++ more) ≡ Value x.0 ∷ numbers (x.1.now ++ more)) }
     ensures low { IfSome result (λ x. neg_ℤ (pos 10000000) ≤ℤ x.0) }
     ensures high { IfSome result (λ x. x.0 ≤ℤ pos 10000000) }
@@ -72,6 +90,21 @@ fn short_signed(bytes: &[u8]) -> Option<(i64, &[u8])>
     let front = unsigned.first_chunk::<SHORT>()?;
     let (value, len) = short_number_at(front)?;
     Some((signed_of(negative, value), from_place(unsigned, len + 1)))
+}
+
+/// The short number at the front, which may have a sign, and the text behind the separator that follows it. Most have none.
+#[inline(always)]
+pub(crate) fn short_signed(bytes: &[u8]) -> Option<(i64, &[u8])>
+    ensures found { IfSome result (λ x. (more : List ℕ) → numbers (bytes.now ++ more) ≡ Value x.0 ∷ numbers (x.1.now ++ more)) }
+    ensures low { IfSome result (λ x. neg_ℤ (pos 10000000) ≤ℤ x.0) }
+    ensures high { IfSome result (λ x. x.0 ≤ℤ pos 10000000) }
+    ensures shorter { IfSome result (λ x. length x.1.now < length bytes.now) }
+    ensures behind { IfSome result (λ x. x.1.now ≡ drop (length bytes.now - length x.1.now) bytes.now) }
+{
+    match short_number(bytes) {
+        Some((value, rest)) => Some((value as i64, rest)),
+        None => short_after_sign(bytes),
+    }
 }
 
 /// The number at the front, where a separator stands behind it, and the text behind that.
@@ -107,26 +140,4 @@ pub(crate) fn next_whole(bytes: &[u8]) -> Option<(Number, &[u8])>
         Some((value, rest)) => Some((Number::Value(value as i64), rest)),
         None => any_whole(bytes),
     }
-}
-
-/// The arc of three short numbers at the front, the cost with or without a sign, where all are in range, and the text behind it.
-#[inline(always)]
-pub(crate) fn short_arc(persons: u32, objects: u32, bytes: &[u8]) -> Option<(Arc, &[u8])>
-    ensures found { IfSome result (λ x. (more : List ℕ) → numbers (bytes.now ++ more) ≡ Value (pos (x.0.person + 1)) ∷ Value (pos (x.0.object + 1)) ∷ Value x.0.cost ∷ numbers (x.1.now ++ more)) }
-    ensures within { IfSome result (λ x. IsWithin persons objects x.0) }
-    ensures shorter { IfSome result (λ x. length x.1.now < length bytes.now) }
-    ensures behind { IfSome result (λ x. x.1.now ≡ drop (length bytes.now - length x.1.now) bytes.now) }
-{
-    let (person, rest) = short_number(bytes)?;
-    let (object, rest) = short_number(rest)?;
-    let (cost, rest) = short_signed(rest)?;
-    if person < 1 || person > persons || object < 1 || object > objects {
-        return None;
-    }
-    let arc = Arc {
-        person: person - 1,
-        object: object - 1,
-        cost,
-    };
-    Some((arc, rest))
 }

@@ -11,6 +11,7 @@ mod indices;
 mod laws;
 mod layout;
 mod limits;
+mod line;
 mod lined;
 mod listing;
 mod listing_fault;

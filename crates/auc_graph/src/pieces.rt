@@ -1,20 +1,60 @@
 //! Reading a text piece by piece.
 
-ghost use Rattle.std.specs.Prelude.{◌≡◌, ◌≢◌, ◌-◌, ◌≤◌, ◌++◌, List, ℕ, length, take, drop, Ok, Err, true, false, IfOk, IfErr};
+ghost use Rattle.std.specs.Prelude.{◌≡◌, ◌≢◌, ◌-◌, ◌<◌, ◌≤◌, ◌++◌, List, ℕ, length, take, drop, Ok, Err, true, false, IfOk, IfErr};
 ghost use Rattle.auc_graph.specs.declared.stage.Stage.TheVariants.{AtPerson};
 ghost use Rattle.auc_graph.specs.Memory.{AnswersUnless};
 ghost use Rattle.auc_graph.specs.Pieces.{reading_at, reading_from, IsStage, IsKnown, IsPlain};
+ghost use Rattle.auc_graph.specs.Written.{IsWritten};
 
 use crate::arc::{Arc, ArcList};
-use crate::front::{next_whole, short_arc};
+use crate::front::next_whole;
 use crate::limits::MOST_ARCS;
+use crate::line::{WrittenPerson, person_at, short_arc};
 use crate::number::number_at;
 use crate::read_error::ReadError;
 use crate::stage::Stage;
 use crate::tokens::separators_len;
 use crate::unfinished::{MOST_KEPT, keep};
 
-/// The text behind the arcs of three short numbers each, which are put behind the others.
+/// The text behind the arcs of three short numbers each whose person is written so, as many as there is room for. They are put
+/// behind the others.
+#[inline(always)]
+fn behind_row<'a>(
+    limit: u32,
+    _persons: u32,
+    objects: u32,
+    written: WrittenPerson,
+    arcs: &mut Vec<Arc>,
+    bytes: &'a [u8],
+) -> Result<&'a [u8], ReadError>
+    requires written { IsWritten written × (written.person < _persons) }
+    requires few { limit ≤ MOST_ARCS }
+    requires sound { IsStage limit (AtPerson _persons objects) arcs.old.items }
+    ensures exact { IfOk result (λ rest. (more : List ℕ) → reading_at limit (AtPerson _persons objects) arcs.old.items (bytes.now ++ more) ≡ reading_at limit (AtPerson _persons objects) arcs.new.items (rest.now ++ more)) }
+    ensures sound { IfOk result (λ _. IsStage limit (AtPerson _persons objects) arcs.new.items) }
+    ensures memory { IfErr result (λ e. e ≡ ReadError.NoMemory) }
+    ensures behind { IfOk result (λ rest. (length rest.now ≤ length bytes.now) × (rest.now ≡ drop (length bytes.now - length rest.now) bytes.now)) }
+{
+    if arcs.len() >= limit as usize {
+        return Ok(bytes);
+    }
+    arcs.reserve(1)?;
+    // One test for the limit and the room.
+    let end = arcs.capacity().min(limit as usize);
+    let mut rest = bytes;
+    'lines: while arcs.len() < end {
+        let Some((arc, behind)) = short_arc(written, objects, rest) else {
+            break;
+        };
+        arcs.push_reserved(arc);
+        rest = behind;
+    }
+    Ok(rest)
+}
+
+/// The text behind the arcs of three short numbers each, which are put behind the others. A function of its own, so that the
+/// loop of a row has the registers.
+#[inline(never)]
 fn behind_short_arcs<'a>(
     limit: u32,
     persons: u32,
@@ -30,11 +70,11 @@ fn behind_short_arcs<'a>(
     ensures behind { IfOk result (λ rest. (length rest.now ≤ length bytes.now) × (rest.now ≡ drop (length bytes.now - length rest.now) bytes.now)) }
 {
     let mut rest = bytes;
-    while let Some((arc, behind)) = short_arc(persons, objects, rest) {
-        if arcs.len() >= limit as usize {
+    while let Some(written) = person_at(persons, rest) {
+        let behind = behind_row(limit, persons, objects, written, arcs, rest)?;
+        if behind.len() == rest.len() {
             break;
         }
-        arcs.push(arc)?;
         rest = behind;
     }
     Ok(rest)

@@ -1,42 +1,18 @@
-use Rattle.std.proofs.Common.{◌≡◌, ◌≤◌, ◌<◌, ◌-◌, ◌++◌, ◌∷◌, [], Ok, length, drop, sym, ap, ◌∙◌, arith}
-use Rattle.std.proofs.lemmas.List.{length-append}
-use Rattle.std.proofs.lemmas.List.Elements.{All-push}
-use Rattle.auc_graph.specs.declared.stage.Stage.TheVariants.{AtPerson}
-use Rattle.auc_graph.specs.Problem.{IsWithin}
-use Rattle.auc_graph.specs.Numbers.{numbers}
-use Rattle.auc_graph.specs.Reading.{reading_on}
-use Rattle.auc_graph.proofs.StepLaws.{arc_more}
+use Rattle.std.proofs.Common.{◌≡◌, ◌-◌, length, drop, ap, ◌∙◌, arith}
 use Rattle.auc_graph.proofs.PieceLaws.{rest_of_rest}
 use Rattle.auc_graph.proofs.pieces.behind_short_arcs.Goals as goal
 
-pub loop-arc-preserved : goal.loop-arc-preserved
-loop-arc-preserved c =
-    let old = c.loop-arc.invariant in
-    let rest = c.loop-arc.rest.now in
-    let behind = c.in-Some.behind.now in
-    let shorter = c.in-Some.ensures.shorter in
-    let arcs = c.loop-arc.arcs.items in
-    let arc = c.in-Some.arc in
-    let e = c.in_ok-push.ensures.items in
-    let room : length c.loop-arc.arcs.items < c.args.limit = omega arith in
-    let places : length c.args.bytes.now - (length rest - (length rest - length behind)) ≡ length c.args.bytes.now - length behind = omega (arith, shorter) in
-    let few : length c.push.new.self.items ≤ c.args.limit = omega (arith, room, ap length e, length-append arcs (arc ∷ [])) in
+pub loop-written-preserved : goal.loop-written-preserved
+loop-written-preserved c =
+    let old = c.loop-written.invariant in
+    let bytes = c.args.bytes.now in
+    let rest = c.loop-written.rest.now in
+    let behind = c.in_ok-behind.behind.now in
+    let le = c.in_ok-behind.ensures.behind.0 in
+    let places : length bytes - (length rest - (length rest - length behind)) ≡ length bytes - length behind = omega (arith, le) in
     record {
-      exact = λ more.
-          old.exact more ∙ ap (reading_on c.args.limit (Ok (AtPerson c.args.persons c.args.objects, arcs))) (c.in-Some.ensures.found more)
-          ∙ arc_more c.args.limit c.args.persons c.args.objects arcs arc (numbers (behind ++ more)) room c.in-Some.ensures.within
-          ∙ ap (λ xs. reading_on c.args.limit (Ok (AtPerson c.args.persons c.args.objects, xs)) (numbers (behind ++ more))) (sym e);
-      sound = (
-        record {
-          some = old.sound.0.some;
-          most = old.sound.0.most;
-          enough = old.sound.0.enough;
-          most_objects = old.sound.0.most_objects;
-          few = omega (arith, few, c.requires.few);
-          within = rw e (All-push (IsWithin c.args.persons c.args.objects) arcs arc old.sound.0.within c.in-Some.ensures.within);
-        },
-        few,
-      );
-      few = omega (arith, shorter, old.few);
-      behind = c.in-Some.ensures.behind ∙ rest_of_rest c.args.bytes.now rest (length rest - length behind) (omega arith) old.few old.behind ∙ ap (λ m. drop m c.args.bytes.now) places;
+      exact = λ more. old.exact more ∙ c.in_ok-behind.ensures.exact more;
+      sound = c.in_ok-behind.ensures.sound;
+      few = omega (arith, le, old.few);
+      behind = c.in_ok-behind.ensures.behind.1 ∙ rest_of_rest bytes rest (length rest - length behind) (omega arith) old.few old.behind ∙ ap (λ m. drop m bytes) places;
     }

@@ -5,7 +5,7 @@ use Rattle.std.proofs.lemmas.List.{length-take-le}
 use Rattle.auc_graph.specs.declared.number.Number.TheVariants.{Value}
 use Rattle.auc_graph.specs.Numbers.{numbers}
 use Rattle.auc_graph.proofs.ShortLaws.{whole_short, signed_found, behind_sign}
-use Rattle.auc_graph.proofs.front.short_signed.Goals as goal
+use Rattle.auc_graph.proofs.front.short_after_sign.Goals as goal
 
 pub returns-clause-found : goal.returns-clause-found
 returns-clause-found c = λ more.

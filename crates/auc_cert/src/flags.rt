@@ -1,9 +1,12 @@
 //! What one pass over the arcs shows of each person's pick: a flag for each person.
 
-ghost use Rattle.std.specs.Prelude.{◌≡◌, ◌<◌, ◌+◌, ◌^◌, not, ◌&&◌, true, length, map, All, None, IfOk, pos, neg_ℤ, ◌+ℤ◌, ◌*ℤ◌, ◌≤ℤ◌, int_le};
+ghost use Rattle.std.specs.Prelude.{◌≡◌, ◌<◌, ◌≤◌, ◌+◌, ◌^◌, not, ◌&&◌, true, length, map, All, None, IfOk, pos, neg_ℤ, ◌+ℤ◌, ◌*ℤ◌, ◌≤ℤ◌, int_le};
 ghost use Rattle.std.specs.List.{position};
 ghost use Rattle.auc_graph.specs.Problem.{IsWithin};
+ghost use Rattle.auc_graph.specs.declared.limits.TheConstants.{MOST_PERSONS, MOST_COST};
+ghost use Rattle.auc_graph.specs.Price.{IsPrice};
 ghost use Rattle.auc_graph.specs.Dual.{price_at, arc_value};
+ghost use Rattle.auc_cert.specs.Spelled.{IsChoice};
 ghost use Rattle.auc_cert.specs.Claim.{arc_of, pick_value, chosen, same_arc, is_missing, bears, is_slack_right, AreFlags, is_flag};
 
 use crate::lists::Pick;
@@ -121,9 +124,23 @@ pub(crate) fn slack_person(
     Ok(first_person(fine.as_slice(), false))
 }
 
+/// The value of an arc of a problem or a certificate, whose costs and prices are so small that 64 bits hold it.
+fn small_value(scale: u32, cost: i64, price: i64) -> i64
+    requires scale { scale ≤ MOST_PERSONS + 1 }
+    requires cost_low { neg_ℤ MOST_COST ≤ℤ cost }
+    requires cost_high { cost ≤ℤ MOST_COST }
+    requires price { IsPrice price }
+    ensures is { result ≡ pos scale *ℤ cost +ℤ price }
+    ensures high { result ≤ℤ pos (2 ^ 62) }
+{
+    i64::from(scale) * cost + price
+}
+
 /// The price of an object, and 0 where it has none.
 fn price_of(prices: &[i64], object: u32) -> i64
-    ensures { result ≡ price_at prices.now object }
+    requires { All IsPrice prices.now }
+    ensures is { result ≡ price_at prices.now object }
+    ensures price { IsPrice result }
 {
     match prices.get(object as usize) {
         Some(price) => *price,
@@ -137,22 +154,28 @@ fn pick_values(
     scale: u32,
     choice: &[Pick],
     prices: &[i64],
-) -> Result<Vec<i128>, AllocError>
+) -> Result<Vec<i64>, AllocError>
+    requires scale { scale ≤ MOST_PERSONS + 1 }
+    requires choice { IsChoice choice.now prices.now }
     ensures { IfOk result (λ v. v.items ≡ map (pick_value scale prices.now) choice.now) }
 {
     let mut values = Vec::with_capacity(alloc, choice.len())?;
     for pick in choice {
-        values.push(value_of(scale, pick.cost, price_of(prices, pick.object)))?;
+        values.push(small_value(scale, pick.cost, price_of(prices, pick.object)))?;
     }
     Ok(values)
 }
 
 /// Whether an arc is not better than a pick of this value by more than 1.
-fn is_near(scale: u32, prices: &[i64], value: i128, arc: Arc) -> bool
-    requires { arc.object < length prices.now }
+fn is_near(scale: u32, prices: &[i64], value: i64, arc: Arc) -> bool
+    requires scale { scale ≤ MOST_PERSONS + 1 }
+    requires object { arc.object < length prices.now }
+    requires cost_low { neg_ℤ MOST_COST ≤ℤ arc.cost }
+    requires cost_high { arc.cost ≤ℤ MOST_COST }
+    requires prices { All IsPrice prices.now }
     ensures { result ≡ int_le value (arc_value scale prices.now arc +ℤ pos 1) }
 {
-    value <= value_of(scale, arc.cost, prices[arc.object as usize]) + 1
+    value <= small_value(scale, arc.cost, prices[arc.object as usize]) + 1
 }
 
 /// The first person whose pick is no arc of his, and whether no person has an arc better than his pick by more than 1.
@@ -163,7 +186,8 @@ pub(crate) fn first_look(
     prices: &[i64],
     arcs: &[Arc],
 ) -> Result<(Option<u32>, bool), AllocError>
-    requires few { length choice.now < 2 ^ 32 }
+    requires scale { scale ≤ MOST_PERSONS + 1 }
+    requires choice { IsChoice choice.now prices.now }
     requires arcs { All (IsWithin (length choice.now) (length prices.now)) arcs.now }
     ensures missing { IfOk result (λ x. x.0 ≡ position (is_missing arcs.now) (chosen 0 choice.now)) }
     ensures slack { IfOk result (λ x. x.1 ≡ true → position (λ c. not (is_slack_right scale prices.now arcs.now c)) (chosen 0 choice.now) ≡ None) }

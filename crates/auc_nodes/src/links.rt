@@ -67,8 +67,9 @@ pub(crate) fn link_behind<T: Copy>(
     list.len += 1;
 }
 
-// Links a node that was never used behind a list, with this item. Called apart: few letters need one, and all others are
-// linked where they are pushed.
+// Links a node that was never used behind a list, with this item. It stands apart, so that the push of a used node, which nearly
+// all are, keeps its values in registers.
+#[cold]
 #[inline(never)]
 pub(crate) fn link_fresh<T: Copy>(
     nodes: &mut Vec<Node<T>>,

@@ -1,6 +1,5 @@
-use Rattle.std.proofs.Common.{◌≡◌, not, ◌&&◌, List, All, length, take, pos, get_or, sym, ap, subst, ◌∙◌, arith, rules}
+use Rattle.std.proofs.Common.{◌≡◌, not, ◌&&◌, List, All, length, take, pos, get_or, sym, ap, subst, ◌∙◌, arith, rules, w64}
 use Rattle.std.specs.Prelude.{ℤ, ◌+ℤ◌, int_le, FitsSigned}
-use Rattle.std.specs.Int.{w128}
 use Rattle.std.proofs.lemmas.Int.{to_z-of_z}
 use Rattle.std.proofs.lemmas.List.{take_all, get_or-map}
 use Rattle.std.proofs.lemmas.List.Elements.{All-get_or}
@@ -23,7 +22,7 @@ pub loop-arc-preserved : goal.loop-arc-preserved
 loop-arc-preserved c =
     let within = All-get_or (IsWithin (length c.args.choice.now) (length c.args.prices.now)) c.args.arcs.now c.loop-arc.arc-index no_arc c.loop-arc-test.true c.requires.arcs in
     let held = c.index-in-loop-arc.result.now in
-    let fits : FitsSigned w128 held = search rules in
+    let fits : FitsSigned w64 held = search rules in
     let near = simp to_z-of_z at c.is_near.ensures in
     let value : held ≡ pick_value c.args.scale c.args.prices.now (get_or c.args.choice.now (get_or c.args.arcs.now c.loop-arc.arc-index no_arc).person no_pick) =
     c.index-in-loop-arc.ensures ∙ ap (λ (zs : List ℤ). get_or zs (get_or c.args.arcs.now c.loop-arc.arc-index no_arc).person held) c.in_ok-values.ensures
@@ -37,7 +36,7 @@ loop-arc-preserved c =
 
 pub first_person-requires : goal.first_person-requires
 first_person-requires c =
-    omega (arith, some_length (is_missing (take c.loop-arc.arc-index c.args.arcs.now)) 0 c.args.choice.now c.as_slice.result.now c.loop-arc.missing.items c.as_slice.ensures.value c.loop-arc.invariant.missing, c.requires.few)
+    omega (arith, some_length (is_missing (take c.loop-arc.arc-index c.args.arcs.now)) 0 c.args.choice.now c.as_slice.result.now c.loop-arc.missing.items c.as_slice.ensures.value c.loop-arc.invariant.missing, c.requires.choice.most)
 
 pub returns-clause-missing : goal.returns-clause-missing
 returns-clause-missing c =

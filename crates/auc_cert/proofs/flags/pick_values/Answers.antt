@@ -1,6 +1,5 @@
 use Rattle.std.proofs.Common.{◌≡◌, ◌∷◌, [], ◌++◌, take, List, pos, get_or, w64, rules, ap, sym, ◌∙◌}
 use Rattle.std.specs.Prelude.{ℤ, map, ◌+ℤ◌, ◌*ℤ◌, FitsSigned}
-use Rattle.std.specs.Int.{w128}
 use Rattle.std.proofs.lemmas.Int.{to_z-of_z}
 use Rattle.std.proofs.lemmas.List.{take_more, map-append}
 use Rattle.auc_cert.specs.Claim.{pick_value}
@@ -15,7 +14,7 @@ loop-pick-preserved c =
     let p = get_or picks i no_pick in
     let f1 : FitsSigned w64 p.cost = search rules in
     let f2 : FitsSigned w64 c.price_of.result = search rules in
-    let g : FitsSigned w128 c.value_of.result = search rules in
-    let is : c.value_of.result ≡ f p = (simp to_z-of_z at c.value_of.ensures.is) ∙ ap (λ (z : ℤ). pos c.args.scale *ℤ p.cost +ℤ z) c.price_of.ensures in
-    (simp to_z-of_z at c.in_ok-push.ensures.items) ∙ ap (λ (zs : List ℤ). zs ++ c.value_of.result ∷ []) c.loop-pick.invariant ∙ ap (λ (z : ℤ). map f (take i picks) ++ z ∷ []) is
+    let g : FitsSigned w64 c.small_value.result = search rules in
+    let is : c.small_value.result ≡ f p = (simp to_z-of_z at c.small_value.ensures.is) ∙ ap (λ (z : ℤ). pos c.args.scale *ℤ p.cost +ℤ z) c.price_of.ensures.is in
+    (simp to_z-of_z at c.in_ok-push.ensures.items) ∙ ap (λ (zs : List ℤ). zs ++ c.small_value.result ∷ []) c.loop-pick.invariant ∙ ap (λ (z : ℤ). map f (take i picks) ++ z ∷ []) is
     ∙ sym (ap (map f) (take_more picks i no_pick c.loop-pick-test.true) ∙ map-append f (take i picks) (p ∷ []))

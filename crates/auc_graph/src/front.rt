@@ -23,16 +23,16 @@ fn digit_of(byte: u8) -> u32
     (byte as u32).wrapping_sub(b'0' as u32)
 }
 
-/// Whether a byte is one of the separators that nearly all files have: a space or a line feed.
+/// Whether a byte is a separator that files have, which is any but the byte 26: one test less.
 #[inline(always)]
 #[tactic(auto, unfolding(crate::specs::Tokens::is_separator))]
 fn is_usual_separator(byte: u8) -> bool
     ensures { result ≡ true → is_separator byte ≡ true }
 {
-    byte == b' ' || byte == b'\n'
+    matches!(byte, 9..=13 | 32)
 }
 
-/// The value and the length of the token at the front, where it is one to seven digits and a space or a line feed follows.
+/// The value and the length of the token at the front, where it is one to seven digits and a usual separator follows.
 /// The compiler writes this loop out, so that each of its tests is guessed by its own history.
 #[inline(always)]
 pub(crate) fn short_number_at(bytes: &[u8; SHORT]) -> Option<(u32, usize)>

@@ -9,7 +9,7 @@ ghost use Rattle.auc_graph.specs.Numbers.{numbers, signed, IsPlainToken};
 ghost use Rattle.auc_graph.specs.Pieces.{IsPlain};
 
 use crate::number::{Number, number_at, split_sign_of};
-use crate::tokens::{from_place, separators_len};
+use crate::tokens::{from_place, is_separator_byte, separators_len};
 
 /// One more than the digits of a short number.
 pub(crate) const SHORT: usize = 8;
@@ -23,26 +23,36 @@ fn digit_of(byte: u8) -> u32
     (byte as u32).wrapping_sub(b'0' as u32)
 }
 
-/// Whether a byte is one of the separators that nearly all files have: a space or a line feed.
-#[inline(always)]
-#[tactic(auto, unfolding(crate::specs::Tokens::is_separator))]
-fn is_usual_separator(byte: u8) -> bool
-    ensures { result ≡ true → is_separator byte ≡ true }
-{
-    byte == b' ' || byte == b'\n'
+/// The separators that may stand behind a short number.
+#[derive(Clone, Copy)]
+pub(crate) enum Separators {
+    /// A space or a line feed: nearly all files have no others, and to ask for these alone is quickest.
+    Usual,
+    All,
 }
 
-/// The value and the length of the token at the front, where it is one to seven digits and a space or a line feed follows.
+#[inline(always)]
+#[tactic(auto, unfolding(crate::specs::Tokens::is_separator))]
+fn is_among(separators: Separators, byte: u8) -> bool
+    ensures { result ≡ true → is_separator byte ≡ true }
+{
+    match separators {
+        Separators::Usual => byte == b' ' || byte == b'\n',
+        Separators::All => is_separator_byte(byte),
+    }
+}
+
+/// The value and the length of the token at the front, where it is one to seven digits and such a separator follows.
 /// The compiler writes this loop out, so that each of its tests is guessed by its own history.
 #[inline(always)]
-pub(crate) fn short_number_at(bytes: &[u8; SHORT]) -> Option<(u32, usize)>
+pub(crate) fn short_number_at(separators: Separators, bytes: &[u8; SHORT]) -> Option<(u32, usize)>
     ensures { IfSome result (λ x. (x.1 < SHORT) × (x.0 < 10000000) × IsPlainToken bytes.now x.0 x.1) }
 {
     let mut value: u32 = 0;
     for (i, byte) in bytes.iter().enumerate() {
         let digit = digit_of(*byte);
         if digit > 9 {
-            if i > 0 && is_usual_separator(*byte) {
+            if i > 0 && is_among(separators, *byte) {
                 return Some((value, i));
             }
             return None;
@@ -54,14 +64,14 @@ pub(crate) fn short_number_at(bytes: &[u8; SHORT]) -> Option<(u32, usize)>
 
 /// The short number at the front, and the text behind the separator that follows it.
 #[inline(always)]
-pub(crate) fn short_number(bytes: &[u8]) -> Option<(u32, &[u8])>
+pub(crate) fn short_number(separators: Separators, bytes: &[u8]) -> Option<(u32, &[u8])>
     ensures found { IfSome result (λ x. (more : List ℕ) → numbers (bytes.now ++ more) ≡ Value (pos x.0) ∷ numbers (x.1.now ++ more)) }
     ensures small { IfSome result (λ x. x.0 < 10000000) }
     ensures shorter { IfSome result (λ x. length x.1.now < length bytes.now) }
     ensures behind { IfSome result (λ x. x.1.now ≡ drop (length bytes.now - length x.1.now) bytes.now) }
 {
     let front = bytes.first_chunk::<SHORT>()?;
-    let (value, len) = short_number_at(front)?;
+    let (value, len) = short_number_at(separators, front)?;
     Some((value, from_place(bytes, len + 1)))
 }
 
@@ -88,7 +98,7 @@ fn short_after_sign(bytes: &[u8]) -> Option<(i64, &[u8])>
 {
     let (negative, unsigned) = split_sign_of(bytes);
     let front = unsigned.first_chunk::<SHORT>()?;
-    let (value, len) = short_number_at(front)?;
+    let (value, len) = short_number_at(Separators::Usual, front)?;
     Some((signed_of(negative, value), from_place(unsigned, len + 1)))
 }
 
@@ -101,7 +111,7 @@ pub(crate) fn short_signed(bytes: &[u8]) -> Option<(i64, &[u8])>
     ensures shorter { IfSome result (λ x. length x.1.now < length bytes.now) }
     ensures behind { IfSome result (λ x. x.1.now ≡ drop (length bytes.now - length x.1.now) bytes.now) }
 {
-    match short_number(bytes) {
+    match short_number(Separators::Usual, bytes) {
         Some((value, rest)) => Some((value as i64, rest)),
         None => short_after_sign(bytes),
     }
@@ -136,7 +146,7 @@ pub(crate) fn next_whole(bytes: &[u8]) -> Option<(Number, &[u8])>
     ensures behind { IfSome result (λ x. x.1.now ≡ drop (length bytes.now - length x.1.now) bytes.now) }
     ensures none { IfNone result (IsPlain (drop (prefix_len is_separator bytes.now) bytes.now)) }
 {
-    match short_number(bytes) {
+    match short_number(Separators::All, bytes) {
         Some((value, rest)) => Some((Number::Value(value as i64), rest)),
         None => any_whole(bytes),
     }

@@ -11,7 +11,7 @@ ghost use Rattle.std.specs.Int.{w64, from_le_bytes};
 ghost use Rattle.auc_graph.specs.Written.{AreBytes, IsWritten};
 
 use crate::arc::Arc;
-use crate::front::{SHORT, short_number, short_number_at, short_signed};
+use crate::front::{SHORT, Separators, short_number, short_number_at, short_signed};
 use crate::tokens::from_place;
 
 /// The bytes of the longest line of three short numbers: the last may have a sign.
@@ -44,7 +44,7 @@ pub(crate) fn person_at(persons: u32, bytes: &[u8]) -> Option<WrittenPerson>
     ensures within { IfSome result (λ x. x.person < persons) }
 {
     let front = bytes.first_chunk::<SHORT>()?;
-    let (value, digits) = short_number_at(front)?;
+    let (value, digits) = short_number_at(Separators::Usual, front)?;
     if digits + 1 >= SHORT || value < 1 || value > persons {
         return None;
     }
@@ -87,7 +87,7 @@ pub(crate) fn short_arc(written: WrittenPerson, objects: u32, bytes: &[u8]) -> O
         return None;
     }
     let rest = behind_person(written, bytes)?;
-    let (object, rest) = short_number(rest)?;
+    let (object, rest) = short_number(Separators::Usual, rest)?;
     let (cost, rest) = short_signed(rest)?;
     if object < 1 || object > objects {
         return None;

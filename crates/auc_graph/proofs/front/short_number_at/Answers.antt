@@ -5,13 +5,13 @@ use Rattle.auc_graph.proofs.ShortLaws.{tens}
 use Rattle.std.proofs.lemmas.Grind.{pow_more}
 use Rattle.auc_graph.proofs.front.short_number_at.Goals as goal
 
-pub returns-then-is_usual_separator : goal.returns-then-is_usual_separator
-returns-then-is_usual_separator c =
+pub returns-then-is_among : goal.returns-then-is_among
+returns-then-is_among c =
     let lt : c.loop-i.i < 8 = omega (arith, c.loop-i-test.true, c.fits-bytes) in (
       lt,
       omega (arith, c.loop-i.invariant.small, tens c.loop-i.i lt),
       plain_token c.args.bytes.now c.loop-i.value c.loop-i.i c.if-i-gt0.true (omega (arith, lt, c.fits-bytes)) c.loop-i.invariant.digits
-          (c.digit_of-digit.ensures.other c.if-digit-gt9.true) (c.is_usual_separator.ensures c.if-is_usual_separator.true) c.loop-i.invariant.value (omega (arith, c.loop-i.invariant.small, tens c.loop-i.i lt)),
+          (c.digit_of-digit.ensures.other c.if-digit-gt9.true) (c.is_among.ensures c.if-is_among.true) c.loop-i.invariant.value (omega (arith, c.loop-i.invariant.small, tens c.loop-i.i lt)),
     )
 
 pub overflow_mul-value : goal.overflow_mul-value

@@ -104,7 +104,7 @@ impl Candidates {
 
     /// Empty lists for the persons of shard number `shard` of `of`; none where no row is long.
     ///
-    /// Takes O(persons + arcs / 16) time, and 168 bytes of memory for each person of the shard. Where some row has more than 256 arcs,
+    /// Takes O(persons + arcs / 16) time, and 216 bytes of memory for each person of the shard. Where some row has more than 256 arcs,
     /// it takes 24 bytes more for each person, and 16 for each 16 arcs of such a row.
     ///
     /// # Errors

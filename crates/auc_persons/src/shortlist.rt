@@ -19,7 +19,7 @@ use auc_graph::RowArc;
 use std::marker::Model;
 
 /// How many arcs a list has room for.
-pub(crate) const ROOM: usize = 12;
+pub(crate) const ROOM: usize = 16;
 /// With fewer arcs the next list is to hold more, and with more than the second number fewer.
 const FEW: u32 = 6;
 
@@ -51,7 +51,7 @@ impl Model for Shortlist {
 
     ghost view = { λ s. record { person = s.person; bound = s.bound; arcs = take s.count s.arcs } };
 
-    ghost invariant = { λ s. (s.count ≤ 12) × (length s.arcs ≡ 12) × (pos 1 ≤ℤ s.delta) × (s.delta ≤ℤ pos (2 ^ 60)) × (s.bound ≤ℤ pos (2 ^ 62)) };
+    ghost invariant = { λ s. (s.count ≤ 16) × (length s.arcs ≡ 16) × (pos 1 ≤ℤ s.delta) × (s.delta ≤ℤ pos (2 ^ 60)) × (s.bound ≤ℤ pos (2 ^ 62)) };
 }
 
 /// For how many bids no list is made, after so many in a row that were of no use.
@@ -112,7 +112,7 @@ impl Shortlist {
     #[inline]
     fn arcs(&self) -> &[RowArc]
         ensures value { result.now ≡ self.now.arcs }
-        ensures few { length result.now ≤ 12 }
+        ensures few { length result.now ≤ 16 }
     {
         &self.arcs[..self.count as usize]
     }
@@ -120,7 +120,7 @@ impl Shortlist {
     /// One arc more.
     #[inline]
     fn push(&mut self, arc: RowArc)
-        requires { length self.old.arcs < 12 }
+        requires { length self.old.arcs < 16 }
         ensures { self.new ≡ record self.old { arcs = self.old.arcs ++ arc ∷ [] } }
     {
         self.arcs[self.count as usize] = arc;
@@ -130,7 +130,7 @@ impl Shortlist {
     /// Whether there is no room for an arc more.
     #[inline]
     fn is_full(&self) -> bool
-        ensures { result ≡ false → length self.now.arcs < 12 }
+        ensures { result ≡ false → length self.now.arcs < 16 }
     {
         self.count as usize == ROOM
     }

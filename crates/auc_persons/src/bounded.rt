@@ -92,6 +92,8 @@ fn with_block(
 
 /// The best arc of a person with a long row, in one pass over his blocks that begins with the two remembered arcs. Each block that is
 /// looked at gets its least value as bound.
+// Apart from the bids that a list decides, so that what it keeps from block to block is in registers.
+#[inline(never)]
 pub(crate) fn scan_blocks(
     rows: &Rows,
     _made: &Snapshot<Rows>,

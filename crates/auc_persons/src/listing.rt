@@ -55,6 +55,8 @@ impl Shortlist {
 
 /// Takes the arcs of a long row that are below a bound; none where they are too many. Each block that is looked at gets its least
 /// value as bound.
+// Apart, as `scan_blocks` is.
+#[inline(never)]
 fn fill_by_blocks(
     rows: &Rows,
     _made: &Snapshot<Rows>,

@@ -102,8 +102,8 @@ impl Blocks {
         self.persons.is_empty() && self.bounds.is_empty()
     }
 
-    /// The best arc of a person who has blocks, by which his list is made anew, where one is wanted. `place` is where he stands among
-    /// the persons of the shard.
+    /// The best arc of a person who has blocks; they make the list of a very long row anew, where one is wanted. `place` is where he
+    /// stands among the persons of the shard.
     pub(crate) fn scan(
         &mut self,
         rows: &Rows,

@@ -138,8 +138,8 @@ impl Candidates {
         self.lists.is_empty() && blocks.is_empty()
     }
 
-    /// The best arc of a person, by his list where that tells it, and else by his blocks where he has some, which then make his list
-    /// anew. `place` is where they stand, if anywhere.
+    /// The best arc of a person, by his list where that tells it, and else by his blocks where he has some, which make the list of
+    /// a very long row anew. `place` is where they stand, if anywhere.
     #[inline]
     pub(crate) fn scan(
         &mut self,

@@ -7,8 +7,8 @@
 //! A long row is looked at from the two arcs on that decided the person's last bid. Beside a shard its caller may keep
 //! [`Candidates`], lists by which most bids look at a few arcs alone; the bids are the same
 //! ([`PersonShard::next_bid_by`]). What a list says of its row is defined in `specs/Candidates.antt`; where it doesn't tell the bid of a
-//! row of more than 256 arcs, the row is looked at by blocks, each with a bound (`specs/Blocks.antt`), and the list is made anew
-//! by them.
+//! row of more than 256 arcs, the row is looked at by blocks, each with a bound (`specs/Blocks.antt`), and above 640 arcs the list is
+//! made anew by them.
 #![tactic(auto)]
 
 mod amount;

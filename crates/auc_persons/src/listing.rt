@@ -1,4 +1,4 @@
-//! A list of candidates of a long row, made by its blocks.
+//! A list of candidates of a very long row, made by its blocks.
 //!
 //! The blocks have decided the bid, so the second of the whole row is known, and a block whose bound is not below that of the new list
 //! has no arc for it.
@@ -11,7 +11,7 @@ ghost use Rattle.auc_persons.specs.Blocks.{Above, AreRight};
 ghost use Rattle.auc_persons.specs.Candidates.{Gathered, Keeps, KeepsListed};
 ghost use Rattle.auc_persons.specs.Scan.{copy_in, endless, IsScan, IsValue};
 
-use crate::bound::{BLOCK, Blocked, Bound};
+use crate::bound::{BLOCK, Blocked, Bound, VERY_LONG};
 use crate::bounded::{lesser, scan_blocks};
 use crate::least::least_of;
 use crate::scan::scale_of;
@@ -106,7 +106,7 @@ fn fill_by_blocks(
     true
 }
 
-/// Makes the list of a person with a long row anew, where one is wanted, so that it reaches above the second of his row.
+/// Makes the list of a person with a very long row anew, where one is wanted, so that it reaches above the second of his row.
 fn list_anew(
     rows: &Rows,
     made: &Snapshot<Rows>,
@@ -129,6 +129,9 @@ fn list_anew(
     ensures right { AreRight made.now.value rows.now copies.now bounds.new }
     ensures length { length bounds.new ≡ length bounds.old }
 {
+    if blocked.arcs as usize <= VERY_LONG {
+        return;
+    }
     if second == i64::MAX || !list.is_wanted() {
         return;
     }
@@ -137,7 +140,7 @@ fn list_anew(
     list.adapt(fitted);
 }
 
-/// The best arc of a person with a long row, by his blocks; and his list is made anew by them, where one is wanted.
+/// The best arc of a person with a long row, by his blocks; and where the row is very long and a list is wanted, they make it anew.
 pub(crate) fn scan_and_list(
     rows: &Rows,
     made: &Snapshot<Rows>,

@@ -11,7 +11,7 @@ ghost use Rattle.auc_letters.specs.Price.{IsPrice};
 ghost use Rattle.auc_persons.specs.Candidates.{Decides, Gathered, Keeps, Listed, no_list};
 ghost use Rattle.auc_persons.specs.Scan.{copy_in, IsScan, IsValue, endless};
 
-use crate::bound::LONG;
+use crate::bound::VERY_LONG;
 use crate::rising::scan_short;
 use crate::scan::Scan;
 use crate::search::{Hint, scan_from, value_here};
@@ -307,8 +307,8 @@ impl Shortlist {
     }
 
     /// Makes a list anew, and finds the best arc by it; nothing where no list is made, or it doesn't decide. `second` bounds that of
-    /// the row: the second of the list's arcs, where they have one, and else the greatest number. The blocks of a longer row make its
-    /// list themselves.
+    /// the row: the second of the list's arcs, where they have one, and else the greatest number. The blocks of a very long
+    /// row make its list themselves.
     fn scan_anew(&mut self, scale: i64, row: &[RowArc], copies: &[i64], second: i64) -> Option<Scan>
         requires scale_low { pos 1 ≤ℤ scale }
         requires scale_high { scale ≤ℤ pos 10001 }
@@ -320,7 +320,7 @@ impl Shortlist {
         ensures keeps { Keeps (value scale (copy_in copies.now)) row.now self.new.arcs self.new.bound }
         ensures person { self.new.person ≡ self.old.person }
     {
-        if row.len() > LONG || !self.is_wanted() {
+        if row.len() > VERY_LONG || !self.is_wanted() {
             return None;
         }
         if second < i64::MAX {

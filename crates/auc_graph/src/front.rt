@@ -28,9 +28,11 @@ fn digit_of(byte: u8) -> u32
 pub(crate) enum Separators {
     /// A space or a line feed: nearly all files have no others, and to ask for these alone is quickest.
     Usual,
+    /// Each byte that may stand between two tokens.
     All,
 }
 
+/// Whether a byte is one of these separators.
 #[inline(always)]
 #[tactic(auto, unfolding(crate::specs::Tokens::is_separator))]
 fn is_among(separators: Separators, byte: u8) -> bool

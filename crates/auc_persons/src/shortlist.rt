@@ -4,7 +4,7 @@
 //! Copies of prices never fall, so a bound of an arc's value stays one. How the bound is found, and when a list is made or
 //! left alone, is of no importance to what is bid.
 
-ghost use Rattle.std.specs.Prelude.{true, false, ◌≡◌, ◌<◌, ◌≤◌, ◌^◌, ◌<ℤ◌, ◌≤ℤ◌, [], ◌∷◌, ◌++◌, pos, neg_ℤ, All, IsTrue, IfSome, IfNone, length, take};
+ghost use Rattle.std.specs.Prelude.{true, false, ◌≡◌, ◌+◌, ◌<◌, ◌≤◌, ◌^◌, ◌<ℤ◌, ◌≤ℤ◌, [], ◌∷◌, ◌++◌, pos, neg_ℤ, All, IsTrue, IfSome, IfNone, length, take};
 ghost use Rattle.auc_graph.specs.Bid.{value};
 ghost use Rattle.auc_graph.specs.Table.{IsRow};
 ghost use Rattle.auc_letters.specs.Price.{IsPrice};
@@ -162,6 +162,38 @@ impl Shortlist {
         self.bound = bound;
     }
 
+    /// Takes the arc at a place of a row where it is below a bound, where it has those before; no arc at all where they are too many.
+    #[inline(always)]
+    fn take_at(
+        &mut self,
+        scale: i64,
+        row: &[RowArc],
+        copies: &[i64],
+        bound: i64,
+        place: usize,
+    ) -> bool
+        requires scale_low { pos 1 ≤ℤ scale }
+        requires scale_high { scale ≤ℤ pos 10001 }
+        requires row { IsRow (length copies.now) row.now }
+        requires copies { All IsPrice copies.now }
+        requires within { place < length row.now }
+        requires gathered { Gathered (value scale (copy_in copies.now)) (take place row.now) self.old.arcs bound }
+        ensures taken { result ≡ true → Gathered (value scale (copy_in copies.now)) (take (place + 1) row.now) self.new.arcs bound }
+        ensures none { result ≡ false → self.new.arcs ≡ [] }
+        ensures bound { self.new.bound ≡ self.old.bound }
+        ensures person { self.new.person ≡ self.old.person }
+    {
+        let arc = row[place];
+        if value_here(scale, arc, copies) < bound {
+            if self.is_full() {
+                self.clear();
+                return false;
+            }
+            self.push(arc);
+        }
+        true
+    }
+
     /// Takes the arcs below a bound from one place of a row to another, where it has those before; no arc at all where they are
     /// too many.
     // Apart: few blocks come to it, and the pass over the blocks has its registers for itself.
@@ -187,16 +219,20 @@ impl Shortlist {
         ensures bound { self.new.bound ≡ self.old.bound }
         ensures person { self.new.person ≡ self.old.person }
     {
-        for place in from..to {
-            let arc = row[place];
-            let value = value_here(scale, arc, copies);
-            if value < bound {
-                if self.is_full() {
-                    self.clear();
-                    return false;
-                }
-                self.push(arc);
+        let pairs = (to - from) / 2;
+        // Two arcs a turn: most come to no more than a test, and a turn by itself costs nearly as much.
+        for pair in 0..pairs {
+            let place = from + 2 * pair;
+            if !self.take_at(scale, row, copies, bound, place) {
+                return false;
             }
+            if !self.take_at(scale, row, copies, bound, place + 1) {
+                return false;
+            }
+        }
+        let place = from + 2 * pairs;
+        if place < to {
+            return self.take_at(scale, row, copies, bound, place);
         }
         true
     }

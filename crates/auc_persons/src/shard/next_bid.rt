@@ -69,6 +69,16 @@ impl PersonShard {
         Some(search.scan)
     }
 
+    /// Where the list of a person stands among those of the shard.
+    #[inline]
+    fn place_of(&self, person: u32) -> u32 {
+        // With one shard, which is the usual case of the serial solver, no division.
+        if self.of == 1 {
+            return person;
+        }
+        person / self.of
+    }
+
     /// The best arc of a person, where his list of candidates tells it.
     #[inline]
     fn listed_for(&self, rows: &Rows, person: u32, candidates: &mut Candidates) -> Option<Scan>
@@ -78,7 +88,7 @@ impl PersonShard {
         ensures some { IfSome result (λ f. IsScan (value (pos (length rows.now.rows + 1)) (copy_in self.now.copies)) (row_of rows.now person) f) }
         ensures kept { Kept rows.now self.now.copies candidates.new }
     {
-        let place = person / self.of;
+        let place = self.place_of(person);
         candidates.scan(rows, person, place, self.copies.as_slice())
     }
 
@@ -143,6 +153,53 @@ impl PersonShard {
         self.bid_with(rows, eps, person, found)
     }
 
+    /// The same bid as [`Self::bid_by_row`] makes.
+    // The memory that a call answers in is set to zero where the function that makes the call begins: so this call, which is
+    // seldom made, has a function by itself, or each round would pay for it.
+    #[inline(always)]
+    fn bid_by_row_seldom(&mut self, rows: &Rows, eps: i64, person: u32) -> Bidding
+        requires rows { IsMadeFor rows.now self.old }
+        requires eps { IsEps eps }
+        requires some { self.old.idle ≢ [] }
+        requires first { person ≡ first_idle self.old }
+        requires known { person < length self.old.states }
+        requires left { self.old.bids ≢ 0 }
+        ensures exact { NextBid rows.now eps self.old result self.new }
+        ensures rise { Rising self.old.copies self.new.copies }
+        ensures shape { SameShape self.old self.new }
+    {
+        retold(self.bid_by_row(rows, eps, person))
+    }
+
+    /// The bid of the person who has been free longest, by his list of candidates where that tells it.
+    // Apart, so that a round in which nobody is free makes no call.
+    #[inline(never)]
+    fn bid_by_list(
+        &mut self,
+        rows: &Rows,
+        eps: i64,
+        person: u32,
+        candidates: &mut Candidates,
+    ) -> Bidding
+        requires rows { IsMadeFor rows.now self.old }
+        requires eps { IsEps eps }
+        requires some { self.old.idle ≢ [] }
+        requires first { person ≡ first_idle self.old }
+        requires known { person < length self.old.states }
+        requires left { self.old.bids ≢ 0 }
+        requires kept { Kept rows.now self.old.copies candidates.old }
+        ensures exact { NextBid rows.now eps self.old result self.new }
+        ensures rise { Rising self.old.copies self.new.copies }
+        ensures shape { SameShape self.old self.new }
+        ensures kept { Kept rows.now self.new.copies candidates.new }
+    {
+        let found = self.listed_for(rows, person, candidates);
+        if found.is_some() {
+            return self.bid_with(rows, eps, person, found);
+        }
+        self.bid_by_row(rows, eps, person)
+    }
+
     /// The bid of the person who has been free longest; he waits from now on. Idle where nobody is free.
     ///
     /// Stop tells why he can't bid, and nothing is changed then: Bids where the shard has used up its bids, else Stuck where
@@ -169,7 +226,7 @@ impl PersonShard {
         if found.is_some() {
             return self.bid_with(rows, eps, person, found);
         }
-        retold(self.bid_by_row(rows, eps, person))
+        self.bid_by_row_seldom(rows, eps, person)
     }
 
     /// The same bid as [`Self::next_bid`] makes, by lists of candidates that are kept beside the shard.
@@ -179,7 +236,7 @@ impl PersonShard {
     ///
     /// Takes a pass over a short list for most bids, and else as long as [`Self::next_bid`], where a row of more than 256 arcs is looked
     /// at in part; no memory.
-    #[inline]
+    #[inline(always)]
     pub fn next_bid_by(&mut self, rows: &Rows, eps: i64, candidates: &mut Candidates) -> Bidding
         requires rows { IsMadeFor rows.now self.old }
         requires eps { IsEps eps }
@@ -195,11 +252,7 @@ impl PersonShard {
         if self.left() == 0 {
             return Bidding::Stop { why: Why::Bids };
         }
-        let found = self.listed_for(rows, person, candidates);
-        if found.is_some() {
-            return self.bid_with(rows, eps, person, found);
-        }
-        self.bid_by_row(rows, eps, person)
+        self.bid_by_list(rows, eps, person, candidates)
     }
 
     /// The person that has been free longest.

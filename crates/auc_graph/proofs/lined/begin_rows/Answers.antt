@@ -5,6 +5,7 @@ use Rattle.auc_graph.proofs.lined.begin_rows.Goals as goal
 
 pub loop-offsets-preserved : goal.loop-offsets-preserved
 loop-offsets-preserved c = record {
-  few = omega (arith, ap length c.in_ok-push.ensures.items, length-append c.loop-offsets.offsets.items (c.args.at ∷ []));
-  same = λ j. ap (λ xs. get_or xs j c.args.at) c.in_ok-push.ensures.items ∙ begun c.loop-offsets.offsets.items c.args.at j ∙ c.loop-offsets.invariant.same j;
+  few = omega (arith, ap length c.push_reserved.ensures.items, length-append c.loop-offsets.offsets.items (c.args.at ∷ []));
+  same = λ j. ap (λ xs. get_or xs j c.args.at) c.push_reserved.ensures.items ∙ begun c.loop-offsets.offsets.items c.args.at j ∙ c.loop-offsets.invariant.same j;
+  room = c.push_reserved.ensures.capacity ∙ c.loop-offsets.invariant.room;
 }

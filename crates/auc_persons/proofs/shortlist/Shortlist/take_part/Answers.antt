@@ -1,47 +1,41 @@
-use Rattle.std.proofs.Common.{◌≡◌, ◌<◌, get_or, length, w64, arith, rules}
+use Rattle.std.proofs.Common.{◌≡◌, ◌+◌, ◌*◌, ◌/◌, ◌-◌, ◌∙◌, w64, arith, refl}
 use Rattle.std.specs.Prelude.{FitsSigned}
-use Rattle.std.proofs.lemmas.Int.{ints, to_z-of_z}
-use Rattle.auc_graph.specs.Bid.{value}
-use Rattle.auc_persons.specs.Scan.{copy_in}
-use Rattle.auc_persons.proofs.Found.{no_arc}
-use Rattle.auc_persons.proofs.Shortlists.{row_one, row_out}
+use Rattle.std.proofs.lemmas.Int.{to_z-of_z}
 use Rattle.auc_persons.proofs.shortlist.Shortlist.take_part.Goals as goal
-use Rattle.auc_persons.proofs.shortlist.Shortlist.take_part.Goals.{then-value-bound+else-is_full, else-value-bound}
 
-pub loop-place-preserved : goal.loop-place-preserved
-loop-place-preserved c =
+pub loop-pair-preserved : goal.loop-pair-preserved
+loop-pair-preserved c =
     let f1 : FitsSigned w64 c.args.scale = c.ranges.scale in
-    let f2 : FitsSigned w64 c.value_here-value.result = search rules in
     let f5 : FitsSigned w64 c.args.bound = c.ranges.bound in
-    let val = value c.args.scale (copy_in c.args.copies.now) in
-    let row = c.args.row.now in
-    let i = c.loop-place.place in
-    let lt : i < length row = omega (arith, c.loop-place-test.true, c.requires.within) in
-    let inv = simp to_z-of_z at c.loop-place.invariant in
-    let is : c.value_here-value.result ≡ val (get_or row i no_arc) = simp to_z-of_z at c.value_here-value.ensures.is in
-    elim c.if-value-bound.branch [
-      | then-value-bound+else-is_full w ↦ (
-          rw (w.self-is, w.push.ensures) (simp to_z-of_z (record {
-            gathered = row_one val row c.loop-place.self.arcs c.args.bound i c.requires.row.rising lt inv.gathered;
-            order = omega (arith, c.loop-place-test.true);
-            bound = inv.bound;
-            person = inv.person;
-          }))
-          )
-      | else-value-bound w ↦ (
-          rw w.self-is (simp to_z-of_z (record {
-            gathered = row_out val row c.loop-place.self.arcs c.args.bound i c.requires.row.rising lt inv.gathered (omega (arith, ints, is));
-            order = omega (arith, c.loop-place-test.true);
-            bound = inv.bound;
-            person = inv.person;
-          }))
-          )
-    ]
+    let inv = simp to_z-of_z at c.loop-pair.invariant in
+    let one = simp to_z-of_z at c.if-not-take_at.ensures in
+    let two = simp to_z-of_z at c.if-not-take_at-2.ensures in
+    let step : c.args.from + 2 * c.loop-pair.pair + 1 + 1 ≡ c.args.from + 2 * (c.loop-pair.pair + 1) = omega arith in
+    simp to_z-of_z (record {
+      gathered = rw step at two.taken refl;
+      order = omega (arith, c.loop-pair-test.true);
+      bound = two.bound ∙ one.bound ∙ inv.bound;
+      person = two.person ∙ one.person ∙ inv.person;
+    })
+
+pub take_at-requires-then-place-to-clause-gathered : goal.take_at-requires-then-place-to-clause-gathered
+take_at-requires-then-place-to-clause-gathered c =
+    let all : c.loop-pair.pair ≡ (c.args.to - c.args.from) / 2 = omega (arith, c.loop-pair-test.false, c.loop-pair.auto.pair-end) in
+    rw all at c.loop-pair.invariant.gathered
+
+pub returns-then-place-to-clause-taken : goal.returns-then-place-to-clause-taken
+returns-then-place-to-clause-taken c took =
+    let f1 : FitsSigned w64 c.args.scale = c.ranges.scale in
+    let f5 : FitsSigned w64 c.args.bound = c.ranges.bound in
+    let last = simp to_z-of_z at c.take_at-then-place-to.ensures.taken in
+    let at : c.args.from + 2 * ((c.args.to - c.args.from) / 2) + 1 ≡ c.args.to = omega (arith, c.if-place-to.true) in
+    rw at at last took
 
 pub returns-clause-taken : goal.returns-clause-taken
 returns-clause-taken c _ =
     let f1 : FitsSigned w64 c.args.scale = c.ranges.scale in
     let f5 : FitsSigned w64 c.args.bound = c.ranges.bound in
-    let inv = simp to_z-of_z at c.loop-place.invariant in
-    let at : c.loop-place.place ≡ c.args.to = omega (arith, c.loop-place-test.false, inv.order) in
+    let inv = simp to_z-of_z at c.loop-pair.invariant in
+    let all : c.loop-pair.pair ≡ (c.args.to - c.args.from) / 2 = omega (arith, c.loop-pair-test.false, c.loop-pair.auto.pair-end) in
+    let at : c.args.from + 2 * c.loop-pair.pair ≡ c.args.to = omega (arith, all, c.if-place-to.false, inv.order) in
     rw at at inv.gathered

@@ -177,7 +177,12 @@ impl Shortlist {
         }
         if second < i64::MAX {
             self.remake(scale, row, copies, second);
-            return self.decided(scale, row, copies);
+            let found = self.decided(scale, row, copies);
+            // To make a list takes fewer steps than to find the best arc without one. So it was of use where it decides this bid.
+            if found.is_some() {
+                self.praise();
+            }
+            return found;
         }
         let whole = scan_from(scale, row, copies, Hint::NONE)?.scan;
         if whole.second < i64::MAX {

@@ -11,9 +11,9 @@ use crate::search::value_here;
 use crate::shortlist::Shortlist;
 use auc_graph::RowArc;
 
-/// With fewer arcs the next list is to hold more, and with more than the second number fewer.
+/// With fewer arcs the next list is to hold more.
 const FEW: u32 = 6;
-
+/// With more arcs the next list is to hold fewer.
 const MANY: u32 = 9;
 /// How far above the second a bound lies at most.
 const MOST_DELTA: i64 = 1 << 60;

@@ -178,7 +178,8 @@ impl Shortlist {
         if second < i64::MAX {
             self.remake(scale, row, copies, second);
             let found = self.decided(scale, row, copies);
-            // To make a list takes fewer steps than to find the best arc without one. So it was of use where it decides this bid.
+            // To make a list takes fewer steps than a pass that finds the best arc, and about as many as blocks take. So it was of
+            // use where it decides this bid.
             if found.is_some() {
                 self.praise();
             }

@@ -68,14 +68,14 @@ impl<'a> World<'a> {
         persons.next_bid(rows, eps)
     }
 
-    /// Asks the only shard of the persons for its next bid, where that is found at once and no lists of candidates are kept.
+    /// Asks the only shard of the persons for its next bid, where the rows are known to lead to rising objects, so that it is found at once.
     #[inline(always)]
     fn bid_at_once(&mut self) -> Option<Out>
         requires { self.old.shards ≡ 1 }
         ensures bid { BidsAtOnce self.old.table self.old.eps (persons_at self.old 0) result (persons_at self.new 0) }
         ensures rest { self.new ≡ record self.old { persons = slice_set self.old.persons 0 (persons_at self.new 0) } }
     {
-        if !self.candidates.is_empty() {
+        if !self.rising {
             return None;
         }
         let rows = self.rows;

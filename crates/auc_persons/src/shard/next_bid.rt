@@ -5,6 +5,7 @@ ghost use Rattle.auc_graph.specs.Bid.{value};
 ghost use Rattle.auc_graph.specs.Table.{row_of};
 ghost use Rattle.auc_letters.specs.Price.{IsEps};
 ghost use Rattle.auc_persons.specs.Candidates.{Kept};
+ghost use Rattle.auc_persons.specs.Rising.{AreRising};
 ghost use Rattle.auc_persons.specs.Scan.{copy_in, IsScan};
 ghost use Rattle.auc_persons.specs.Persons.{Bids, BidsAtOnce, IsMadeFor, NextBid, Rising, SameShape, bid_letter, first_idle};
 
@@ -13,14 +14,11 @@ use crate::bidding::Bidding;
 use crate::candidates::Candidates;
 use crate::rising::scan_rising;
 use crate::scan::{Scan, scale_of, scan_of};
-use crate::search::scan_from;
+use crate::search::{SHORT, scan_from};
 use crate::shard::PersonShard;
+use crate::sorted::scan_sorted;
 use auc_graph::Rows;
 use auc_letters::{Letter, MOST_PRICE, Out, To, Why, shard_of};
-
-/// Rows up to so many arcs are looked at from nothing. With some 30 arcs two remembered arcs were of no use but cost a tenth
-/// more instructions, and in a price war they are old at each bid.
-const SHORT: usize = 40;
 
 impl PersonShard {
     /// The best arc of a person, whose row is short and leads to rising objects.
@@ -35,6 +33,18 @@ impl PersonShard {
             return None;
         }
         scan_rising(scale_of(rows.persons()), row, self.copies.as_slice())
+    }
+
+    /// The best arc of a person, where rows lead to rising objects.
+    #[inline(always)]
+    fn best_sorted(&self, rows: &Rows, person: u32) -> Option<Scan>
+        requires rows { IsMadeFor rows.now self.now }
+        requires rising { AreRising rows.now }
+        requires person { person < length self.now.states }
+        ensures { IfSome result (λ f. IsScan (value (pos (length rows.now.rows + 1)) (copy_in self.now.copies)) (row_of rows.now person) f) }
+    {
+        let row = rows.row(person);
+        scan_sorted(scale_of(rows.persons()), row, self.copies.as_slice())
     }
 
     /// The best arc of a person, in one pass over his row; nothing where he has none.
@@ -141,25 +151,6 @@ impl PersonShard {
         self.bid_with(rows, eps, person, found)
     }
 
-    /// What [`Self::next_bid`] answers, by a pass over the row.
-    // Apart, since a bid is nearly always found at once where no lists are kept.
-    #[inline(never)]
-    fn next_bid_by_row(&mut self, rows: &Rows, eps: i64) -> Bidding
-        requires rows { IsMadeFor rows.now self.old }
-        requires eps { IsEps eps }
-        ensures exact { NextBid rows.now eps self.old result self.new }
-        ensures rise { Rising self.old.copies self.new.copies }
-        ensures shape { SameShape self.old self.new }
-    {
-        let Some(person) = self.first() else {
-            return Bidding::Idle;
-        };
-        if self.left() == 0 {
-            return Bidding::Stop { why: Why::Bids };
-        }
-        self.bid_by_row(rows, eps, person)
-    }
-
     /// The bid of the person who has been free longest, by his list of candidates where that tells it.
     // Apart, so that a round in which nobody is free makes no call.
     #[inline(never)]
@@ -205,21 +196,29 @@ impl PersonShard {
         ensures rise { Rising self.old.copies self.new.copies }
         ensures shape { SameShape self.old self.new }
     {
-        if let Some(out) = self.next_bid_at_once(rows, eps) {
-            return Bidding::Out { out };
+        let Some(person) = self.first() else {
+            return Bidding::Idle;
+        };
+        if self.left() == 0 {
+            return Bidding::Stop { why: Why::Bids };
         }
-        self.next_bid_by_row(rows, eps)
+        let found = self.best_at_once(rows, person);
+        if found.is_some() {
+            return self.bid_with(rows, eps, person, found);
+        }
+        self.bid_by_row(rows, eps, person)
     }
 
-    /// The bid that [`Self::next_bid`] makes, where it is found at once: the person has a short row that leads to rising objects.
+    /// The bid that [`Self::next_bid`] makes, of rows that lead to rising objects ([`rows_rise`](crate::rows_rise)): so a caller may keep the
+    /// way of most bids short, and all others out of it.
     ///
-    /// None says nothing of the bid and has changed nothing; [`Self::next_bid`] then tells. So a caller may keep the way of most bids
-    /// short, and the others out of it.
+    /// None says nothing of the bid and has changed nothing; [`Self::next_bid`] then tells.
     ///
     /// Takes one pass over the person's row, and no memory.
     #[inline(always)]
     pub fn next_bid_at_once(&mut self, rows: &Rows, eps: i64) -> Option<Out>
         requires rows { IsMadeFor rows.now self.old }
+        requires rising { AreRising rows.now }
         requires eps { IsEps eps }
         ensures exact { BidsAtOnce rows.now eps self.old result self.new }
         ensures rise { Rising self.old.copies self.new.copies }
@@ -229,7 +228,7 @@ impl PersonShard {
         if self.left() == 0 {
             return None;
         }
-        let found = self.best_at_once(rows, person)?;
+        let found = self.best_sorted(rows, person)?;
         match self.bid_with(rows, eps, person, Some(found)) {
             Bidding::Out { out } => Some(out),
             Bidding::Idle | Bidding::Stop { .. } => None,

@@ -12,4 +12,5 @@ invariant_of-self c =
     let next = simp to_z-of_z at c.next_bid_at_once.ensures.exact in (
       at_once_keeps _ c.self.invariant.0 0 c.index_mut-persons.result.now _ _ (grind (arith, common_steps)) (grind (arith, common_steps)) next c.next_bid_at_once.ensures.shape,
       kept_set c.self.inside.rows.now c.self.inside.persons.items c.self.inside.candidates.items 0 c.index_mut-persons.result.now c.next_bid_at_once.new.self (grind (arith, common_steps)) (grind (arith, common_steps)) c.next_bid_at_once.ensures.rise c.self.invariant.1,
+      c.self.invariant.2,
     )

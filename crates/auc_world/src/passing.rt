@@ -261,8 +261,8 @@ impl<'a> World<'a> {
         self.take_and_post(0)
     }
 
-    /// Does what [`World::sell`] says, whatever the only shard of the persons has to send. Where no lists are kept it is seldom needed, so it stays
-    /// out of the round.
+    /// Does what [`World::sell`] says, whatever the only shard of the persons has to send. Where rows rise it is seldom needed, so it stays out of
+    /// the round.
     #[inline(never)]
     fn sell_any(&mut self) -> Sold
         requires one { self.old.shards ≡ 1 }

@@ -1,11 +1,10 @@
 //! Bidding: a shard of the persons asks its person that has been free longest for a bid.
 
-ghost use Rattle.std.specs.Prelude.{◌≡◌, ◌<◌, ◌↔◌, true, [], ◌∷◌, slice_set, IsTrue, IfSome, IfNone};
+ghost use Rattle.std.specs.Prelude.{◌≡◌, ◌<◌, ◌↔◌, true, [], ◌∷◌, slice_set, IsTrue};
 ghost use Rattle.auc_model.specs.Bidding.{BidTurn};
 ghost use Rattle.auc_model.specs.declared.turn.Turn.{Turn};
-ghost use Rattle.auc_persons.specs.Persons.{BidsAtOnce, NextBid};
+ghost use Rattle.auc_persons.specs.Persons.{NextBid};
 ghost use Rattle.auc_world.specs.Bidding.{Asks};
-ghost use Rattle.auc_world.specs.declared.bidding.Asked.{Asked};
 ghost use Rattle.auc_world.specs.Parts.{AreParts, MayAskForBid, SamePhase, persons_at, phase, seen};
 ghost use Rattle.auc_world.specs.Rounds.{Plays};
 
@@ -66,59 +65,6 @@ impl<'a> World<'a> {
             return retold(persons.next_bid_by(rows, eps, candidates));
         }
         persons.next_bid(rows, eps)
-    }
-
-    /// Asks the only shard of the persons for its next bid, where the rows are known to lead to rising objects, so that it is found at once.
-    #[inline(always)]
-    fn bid_at_once(&mut self) -> Option<Out>
-        requires { self.old.shards ≡ 1 }
-        ensures bid { BidsAtOnce self.old.table self.old.eps (persons_at self.old 0) result (persons_at self.new 0) }
-        ensures rest { self.new ≡ record self.old { persons = slice_set self.old.persons 0 (persons_at self.new 0) } }
-    {
-        if !self.rising {
-            return None;
-        }
-        let rows = self.rows;
-        let eps = self.eps;
-        let persons = &mut self.persons[0];
-        persons.next_bid_at_once(rows, eps)
-    }
-
-    /// The next bid of the only shard of the persons, where it may bid, and the bid is found at once. None has changed nothing, and
-    /// says nothing.
-    #[inline(always)]
-    pub(crate) fn ask_at_once(&mut self) -> Option<Out>
-        requires { self.old.shards ≡ 1 }
-        ensures some { IfSome result (λ out. Asks self.old 0 (Asked.Sends out) self.new) }
-        ensures none { IfNone result (self.new ≡ self.old) }
-        ensures phase { SamePhase self.old self.new }
-    {
-        if !self.may_bid(0) {
-            return None;
-        }
-        match self.bid_at_once() {
-            Some(out) => Some(out),
-            None => None,
-        }
-    }
-
-    /// Whether the only shard of the persons may bid, and nobody of it is free: were it asked, it would have nothing to send.
-    #[inline(always)]
-    pub(crate) fn nobody_bids(&self) -> bool
-        requires { self.now.shards ≡ 1 }
-        ensures idle { IsTrue result → Asks self.now 0 Asked.Idle self.now }
-    {
-        self.may_bid(0) && self.nobody_is_free()
-    }
-
-    /// Whether nobody of the only shard of the persons is free.
-    #[inline(always)]
-    fn nobody_is_free(&self) -> bool
-        requires { self.now.shards ≡ 1 }
-        ensures { IsTrue result ↔ ((persons_at self.now 0).idle ≡ []) }
-    {
-        let persons = &self.persons[0];
-        persons.is_idle()
     }
 
     /// A shard of the persons has made a Stop.

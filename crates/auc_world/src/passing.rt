@@ -261,10 +261,9 @@ impl<'a> World<'a> {
         self.take_and_post(0)
     }
 
-    /// Does what [`World::sell`] says, whatever the only shard of the persons has to send. Where rows rise it is seldom needed, so it stays out of
-    /// the round.
-    #[inline(never)]
-    fn sell_any(&mut self) -> Sold
+    /// The only shard of the persons bids and posts, and the only one of the objects takes a bid and posts its answers.
+    #[inline(always)]
+    pub(crate) fn sell(&mut self) -> Sold
         requires one { self.old.shards ≡ 1 }
         ensures sells { Sells self.old result self.new }
         ensures phase { SamePhase self.old self.new }
@@ -278,22 +277,5 @@ impl<'a> World<'a> {
             Asked::Idle => Sold::if_moved(self.answer_waiting()),
             Asked::Sends { out } => self.trade(out),
         }
-    }
-
-    /// The only shard of the persons bids and posts, and the only one of the objects takes a bid and posts its answers.
-    // In most rounds nobody is free, or a bid is found at once.
-    #[inline(always)]
-    pub(crate) fn sell(&mut self) -> Sold
-        requires one { self.old.shards ≡ 1 }
-        ensures sells { Sells self.old result self.new }
-        ensures phase { SamePhase self.old self.new }
-    {
-        if self.nobody_bids() {
-            return Sold::if_moved(self.answer_waiting());
-        }
-        if let Some(out) = self.ask_at_once() {
-            return self.trade(out);
-        }
-        self.sell_any()
     }
 }

@@ -1,6 +1,14 @@
--- A pass over a row whose objects rise.
-use Rattle.std.specs.Prelude.{◌≡◌, ℕ, ℤ, ◌≤ℤ◌, ◌<ℤ◌}
+-- Rows whose objects rise, and a pass over one.
+use Rattle.std.specs.Prelude.{◌≡◌, ◌<◌, ℕ, ℤ, ◌≤ℤ◌, ◌<ℤ◌, List, length, AllPairs}
+use Rattle.auc_graph.specs.declared.rows.RowArc.{RowArc}
+use Rattle.auc_graph.specs.Table.{Table, row_of}
 use Rattle.auc_persons.specs.declared.rising.Least.{Least}
+
+abbrev pub IsRisingRow : List RowArc → Type 0
+IsRisingRow row = AllPairs (λ a b. a.object < b.object) row
+
+abbrev pub AreRising : Table → Type 0
+AreRising t = (i : ℕ) → i < length t.rows → IsRisingRow (row_of t i)
 
 -- one value more, by cases
 pub record Lowered (l : Least) (v : ℤ) (place : ℕ) (r : Least) : Type 0 where

@@ -24,8 +24,10 @@ mod scan;
 mod search;
 mod shard;
 mod shortlist;
+mod sorted;
 
 pub use auc_letters::PersonState;
 pub use bidding::{Bidding, PersonFault};
 pub use candidates::{Candidates, lists_stay_right};
 pub use shard::PersonShard;
+pub use sorted::rows_rise;

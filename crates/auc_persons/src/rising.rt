@@ -18,16 +18,16 @@ use auc_graph::RowArc;
 /// The least value so far, the least one of the other arcs (the greatest number where there is none), and where the best arc
 /// stands in the row.
 #[derive(Clone, Copy)]
-struct Least {
-    value: i64,
-    second: i64,
-    place: usize,
+pub(crate) struct Least {
+    pub value: i64,
+    pub second: i64,
+    pub place: usize,
 }
 
 impl Least {
     /// With one value more, of the arc that stands here in the row.
     #[inline]
-    fn with(self, value: i64, place: usize) -> Least
+    pub(crate) fn with(self, value: i64, place: usize) -> Least
         ensures { Lowered self value place result }
     {
         let is_less = value < self.value;

@@ -13,6 +13,10 @@ ghost use Rattle.auc_persons.specs.Search.{IsFound, IsLimit, PlaceJudged, Taken}
 use crate::scan::{Scan, value_of};
 use auc_graph::RowArc;
 
+/// Rows up to so many arcs are looked at from nothing. With some 30 arcs two remembered arcs were of no use but cost a tenth
+/// more instructions, and in a price war they are old at each bid.
+pub(crate) const SHORT: usize = 40;
+
 /// The places in a person's row of the two arcs that decided his last bid. Any two places are right.
 #[derive(Clone, Copy, Debug, PartialEq, Eq)]
 pub(crate) struct Hint {

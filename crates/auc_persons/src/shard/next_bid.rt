@@ -1,38 +1,24 @@
 //! What a shard of the persons bids next.
 
-ghost use Rattle.std.specs.Prelude.{◌≡◌, ◌≢◌, ◌<◌, ◌≤◌, ◌+◌, [], pos, ◌≤ℤ◌, length, IfSome, IfNone};
+ghost use Rattle.std.specs.Prelude.{◌≡◌, ◌≢◌, ◌<◌, ◌≤◌, ◌+◌, [], pos, ◌≤ℤ◌, length, IfSome, IfNone, IsTrue, ◌↔◌};
 ghost use Rattle.auc_graph.specs.Bid.{value};
 ghost use Rattle.auc_graph.specs.Table.{row_of};
 ghost use Rattle.auc_letters.specs.Price.{IsEps};
 ghost use Rattle.auc_persons.specs.Candidates.{Kept};
+ghost use Rattle.auc_persons.specs.Rising.{AreRising};
 ghost use Rattle.auc_persons.specs.Scan.{copy_in, IsScan};
-ghost use Rattle.auc_persons.specs.Persons.{Bids, IsMadeFor, NextBid, Rising, SameShape, bid_letter, first_idle};
+ghost use Rattle.auc_persons.specs.Persons.{Bids, BidsAtOnce, IsMadeFor, NextBid, Rising, SameShape, bid_letter, first_idle};
 
 use crate::amount::{Bid, bid_of};
 use crate::bidding::Bidding;
 use crate::candidates::Candidates;
 use crate::rising::scan_rising;
 use crate::scan::{Scan, scale_of, scan_of};
-use crate::search::scan_from;
+use crate::search::{SHORT, scan_from};
 use crate::shard::PersonShard;
+use crate::sorted::scan_sorted;
 use auc_graph::Rows;
 use auc_letters::{Letter, MOST_PRICE, Out, To, Why, shard_of};
-
-/// Rows up to so many arcs are looked at from nothing. With some 30 arcs two remembered arcs were of no use but cost a tenth
-/// more instructions, and in a price war they are old at each bid.
-const SHORT: usize = 40;
-
-/// The same. What a call has answered in memory is told anew, so that a bid that was made in line stays in registers.
-#[inline(always)]
-fn retold(bidding: Bidding) -> Bidding
-    ensures { result ≡ bidding }
-{
-    match bidding {
-        Bidding::Idle => Bidding::Idle,
-        Bidding::Stop { why } => Bidding::Stop { why },
-        Bidding::Out { out } => Bidding::Out { out },
-    }
-}
 
 impl PersonShard {
     /// The best arc of a person, whose row is short and leads to rising objects.
@@ -47,6 +33,18 @@ impl PersonShard {
             return None;
         }
         scan_rising(scale_of(rows.persons()), row, self.copies.as_slice())
+    }
+
+    /// The best arc of a person, where rows lead to rising objects.
+    #[inline(always)]
+    fn best_sorted(&self, rows: &Rows, person: u32) -> Option<Scan>
+        requires rows { IsMadeFor rows.now self.now }
+        requires rising { AreRising rows.now }
+        requires person { person < length self.now.states }
+        ensures { IfSome result (λ f. IsScan (value (pos (length rows.now.rows + 1)) (copy_in self.now.copies)) (row_of rows.now person) f) }
+    {
+        let row = rows.row(person);
+        scan_sorted(scale_of(rows.persons()), row, self.copies.as_slice())
     }
 
     /// The best arc of a person, in one pass over his row; nothing where he has none.
@@ -153,24 +151,6 @@ impl PersonShard {
         self.bid_with(rows, eps, person, found)
     }
 
-    /// The same bid as [`Self::bid_by_row`] makes.
-    // The memory that a call answers in is set to zero where the function that makes the call begins: so this call, which is
-    // seldom made, has a function by itself, or each round would pay for it.
-    #[inline(always)]
-    fn bid_by_row_seldom(&mut self, rows: &Rows, eps: i64, person: u32) -> Bidding
-        requires rows { IsMadeFor rows.now self.old }
-        requires eps { IsEps eps }
-        requires some { self.old.idle ≢ [] }
-        requires first { person ≡ first_idle self.old }
-        requires known { person < length self.old.states }
-        requires left { self.old.bids ≢ 0 }
-        ensures exact { NextBid rows.now eps self.old result self.new }
-        ensures rise { Rising self.old.copies self.new.copies }
-        ensures shape { SameShape self.old self.new }
-    {
-        retold(self.bid_by_row(rows, eps, person))
-    }
-
     /// The bid of the person who has been free longest, by his list of candidates where that tells it.
     // Apart, so that a round in which nobody is free makes no call.
     #[inline(never)]
@@ -226,7 +206,41 @@ impl PersonShard {
         if found.is_some() {
             return self.bid_with(rows, eps, person, found);
         }
-        self.bid_by_row_seldom(rows, eps, person)
+        self.bid_by_row(rows, eps, person)
+    }
+
+    /// The bid that [`Self::next_bid`] makes, of rows that lead to rising objects ([`rows_rise`](crate::rows_rise)): so a caller may keep the
+    /// way of most bids short, and all others out of it.
+    ///
+    /// None says nothing of the bid and has changed nothing; [`Self::next_bid`] then tells.
+    ///
+    /// Takes one pass over the person's row, and no memory.
+    #[inline(always)]
+    pub fn next_bid_at_once(&mut self, rows: &Rows, eps: i64) -> Option<Out>
+        requires rows { IsMadeFor rows.now self.old }
+        requires rising { AreRising rows.now }
+        requires eps { IsEps eps }
+        ensures exact { BidsAtOnce rows.now eps self.old result self.new }
+        ensures rise { Rising self.old.copies self.new.copies }
+        ensures shape { SameShape self.old self.new }
+    {
+        let person = self.first()?;
+        if self.left() == 0 {
+            return None;
+        }
+        let found = self.best_sorted(rows, person)?;
+        match self.bid_with(rows, eps, person, Some(found)) {
+            Bidding::Out { out } => Some(out),
+            Bidding::Idle | Bidding::Stop { .. } => None,
+        }
+    }
+
+    /// Whether nobody of the shard is free. O(1).
+    #[inline]
+    pub fn is_idle(&self) -> bool
+        ensures { IsTrue result ↔ (self.now.idle ≡ []) }
+    {
+        self.idle.is_empty()
     }
 
     /// The same bid as [`Self::next_bid`] makes, by lists of candidates that are kept beside the shard.

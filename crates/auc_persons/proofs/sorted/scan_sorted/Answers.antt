@@ -1,0 +1,33 @@
+use Rattle.std.proofs.Common.{◌<◌, length, w64, rules}
+use Rattle.std.specs.Prelude.{FitsSigned}
+use Rattle.std.proofs.lemmas.Int.{to_z-of_z}
+use Rattle.auc_graph.specs.Bid.{value}
+use Rattle.auc_persons.specs.Scan.{copy_in}
+use Rattle.auc_persons.proofs.RisingRows.{sorts_first, sorts_more, sorts_whole}
+use Rattle.auc_persons.proofs.sorted.scan_sorted.Goals as goal
+
+pub loop-place-init : goal.loop-place-init
+loop-place-init c =
+    let f1 : FitsSigned w64 c.args.scale = c.ranges.scale in
+    let f2 : FitsSigned w64 c.value_here.result = search rules in
+    let is = simp to_z-of_z at c.value_here.ensures.is in
+    let some : 0 < length c.args.row.now = search rules in
+    simp to_z-of_z (sorts_first (value c.args.scale (copy_in c.args.copies.now)) c.args.row.now c.value_here.result c.requires.rising some is c.value_here.ensures.range)
+
+pub loop-place-preserved : goal.loop-place-preserved
+loop-place-preserved c =
+    let f1 : FitsSigned w64 c.args.scale = c.ranges.scale in
+    let f2 : FitsSigned w64 c.value_here-in-loop-place.result = search rules in
+    let inv = simp to_z-of_z at c.loop-place.invariant in
+    let is = simp to_z-of_z at c.value_here-in-loop-place.ensures.is in
+    let low = simp to_z-of_z at c.with-least.ensures in
+    simp to_z-of_z (sorts_more (value c.args.scale (copy_in c.args.copies.now)) c.args.row.now c.loop-place.least c.with-least.result c.loop-place.place c.value_here-in-loop-place.result
+    c.requires.rising inv c.loop-place-test.true is c.value_here-in-loop-place.ensures.range low)
+
+pub returns : goal.returns
+returns c =
+    let f1 : FitsSigned w64 c.args.scale = c.ranges.scale in
+    let f2 : FitsSigned w64 c.loop-place.least.value = search rules in
+    let f3 : FitsSigned w64 c.loop-place.least.second = search rules in
+    let inv = simp to_z-of_z at c.loop-place.invariant in
+    simp to_z-of_z (sorts_whole (value c.args.scale (copy_in c.args.copies.now)) c.args.row.now c.loop-place.least c.loop-place.place c.loop-place-test.false inv)

@@ -20,7 +20,7 @@ use Rattle.std.proofs.lemmas.List.Elements.{All-weaker, All-drop, All-push}
 use Rattle.auc_letters.specs.declared.state.PersonState.{PersonState}
 use Rattle.auc_persons.specs.declared.bidding.Bidding.{Bidding}
 use Rattle.auc_persons.specs.declared.bidding.PersonFault.{PersonFault}
-use Rattle.auc_persons.specs.Persons.{Persons, SameShape as SamePersons, Owns as OwnsPerson, NextBid, OnLetter, Answered, free_after}
+use Rattle.auc_persons.specs.Persons.{Persons, SameShape as SamePersons, Owns as OwnsPerson, BidsAtOnce, NextBid, OnLetter, Answered, free_after}
 use Rattle.auc_model.specs.declared.turn.MailName.{MailName}
 use Rattle.auc_world.specs.declared.mails.Mails.{Mails}
 use Rattle.auc_world.specs.Mails.{boxes_in, named, with_named}
@@ -52,6 +52,10 @@ pub next_bid_own : (t : Table) (eps : ℤ) (x y : Persons) (r : Bidding) → Nex
 next_bid_own t eps x y Bidding.Idle h same own = unchanged_own x y h.1 own
 next_bid_own t eps x y (Bidding.Stop why) h same own = unchanged_own x y h.2 own
 next_bid_own t eps x y (Bidding.Out o) h same own = own_idle y _ (ap (λ (z : Persons). z.idle) h.2.5) (All-drop (OwnsPerson y) 1 x.idle (own_shape x y same x.idle own))
+
+at_once_own : (t : Table) (eps : ℤ) (x y : Persons) (o : Option Out) → BidsAtOnce t eps x o y → SamePersons x y → All (OwnsPerson x) x.idle → All (OwnsPerson y) y.idle
+at_once_own t eps x y (Some o) h same own = next_bid_own t eps x y (Bidding.Out o) h same own
+at_once_own t eps x y None h same own = unchanged_own x y h own
 
 freed_own : (x y : Persons) (i j : ℕ) (p : ℤ) (wanted : PersonState) (r : Result (Unit {0}) PersonFault) → Answered x i j p wanted (free_after x i j p) r y → SamePersons x y → All (OwnsPerson x) x.idle → All (OwnsPerson y) y.idle
 freed_own x y i j p wanted (Ok u) h same own =
@@ -148,6 +152,11 @@ module _ (p : Parts) (are : AreParts p) where
   next_bid_keeps s x new r known e next same =
       let is : IsPersonShard p.table p.shards s x = rw e (are.each_persons s known) in
       keeps_persons s new known (persons_shape p.table p.shards s x new same (next_bid_own p.table p.eps x new r next same is.idle_own) is)
+
+  pub at_once_keeps : (s : ℕ) (x new : Persons) (o : Option Out) → s < p.shards → x ≡ persons_at p s → BidsAtOnce p.table p.eps x o new → SamePersons x new → AreParts (record p { persons = set p.persons s new })
+  at_once_keeps s x new o known e next same =
+      let is : IsPersonShard p.table p.shards s x = rw e (are.each_persons s known) in
+      keeps_persons s new known (persons_shape p.table p.shards s x new same (at_once_own p.table p.eps x new o next same is.idle_own) is)
 
   pub hearing_keeps : (s : ℕ) (x new : Persons) (l : Letter) (r : Result (Unit {0}) PersonFault) → s < p.shards → x ≡ persons_at p s → OnLetter x l r new → SamePersons x new → AreParts (record p { persons = set p.persons s new })
   hearing_keeps s x new l r known e hears same =

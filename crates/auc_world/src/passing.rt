@@ -10,7 +10,7 @@ ghost use Rattle.auc_world.specs.Parts.{Reaches, SamePhase, outbox_at, phase, se
 ghost use Rattle.auc_world.specs.Rounds.{Plays};
 ghost use Rattle.auc_world.specs.Passing.{BidPasses, FirstPasses, Hands, PassesBy, Sells, Trades, sold_if, sold_moves};
 
-use crate::bidding::Asked;
+use crate::bidding::Order;
 use crate::outbox::copy_of;
 use crate::rounds::{either, has_moved};
 use crate::world::World;
@@ -69,6 +69,23 @@ fn to_only_box(out: Out) -> Out
         letter,
         to,
         reserve,
+    }
+}
+
+/// A bid, as a letter to the only shard of the objects.
+#[inline(always)]
+fn bid_to_only(person: u32, arc: u32, object: u32, amount: i64) -> Out
+    ensures { result ≡ record { letter = Letter.Bid person arc object amount; to = To.Object 0; reserve = 0 } }
+{
+    Out {
+        letter: Letter::Bid {
+            person,
+            arc,
+            object,
+            amount,
+        },
+        to: To::Object { shard: 0 },
+        reserve: 0,
     }
 }
 
@@ -262,20 +279,30 @@ impl<'a> World<'a> {
     }
 
     /// The only shard of the persons bids and posts, and the only one of the objects takes a bid and posts its answers.
+    // One place trades, so that all of a trade stands in the round.
     #[inline(always)]
     pub(crate) fn sell(&mut self) -> Sold
         requires one { self.old.shards ≡ 1 }
         ensures sells { Sells self.old result self.new }
         ensures phase { SamePhase self.old self.new }
     {
-        match self.ask(0) {
-            Asked::Barred => {
+        match self.ask_only() {
+            Order::Barred => {
                 let posted = has_moved(self.person_post(0));
                 let taken = self.take_and_post(0);
                 Sold::if_moved(either(posted, taken))
             }
-            Asked::Idle => Sold::if_moved(self.answer_waiting()),
-            Asked::Sends { out } => self.trade(out),
+            Order::Idle => Sold::if_moved(self.answer_waiting()),
+            Order::Bid {
+                person,
+                arc,
+                object,
+                amount,
+            } => self.trade(bid_to_only(person, arc, object, amount)),
+            Order::Other { out } => {
+                self.sell_by_mail(out);
+                Sold::Moved
+            }
         }
     }
 }

@@ -1,6 +1,7 @@
 //! The serial solver: epsilon scaling over phases, each a world of its own that is played in whole rounds.
 
-ghost use Rattle.std.specs.Prelude.{◌≡◌, IfOk, List, ℤ, Option, Some, None};
+ghost use Rattle.std.specs.Prelude.{◌≡◌, IfOk, IsTrue, List, ℤ, Option, Some, None};
+ghost use Rattle.auc_persons.specs.Rising.{AreRising};
 ghost use Rattle.auc_graph.specs.Table.{IsTableOf};
 ghost use Rattle.auc_cert.specs.Start.{AreStart};
 ghost use Rattle.auc_letters.specs.Price.{IsEps};
@@ -21,7 +22,7 @@ use crate::world::World;
 use auc_cert::Reason;
 use auc_graph::{ArcList, Rows};
 use auc_model::End;
-use auc_persons::Candidates;
+use auc_persons::{Candidates, rows_rise};
 use std::alloc::{AllocError, Global};
 use std::mem;
 
@@ -36,7 +37,8 @@ pub(crate) enum Outcome {
     Broken(Guard),
 }
 
-/// Plays one phase in whole rounds, by lists of candidates that outlast it where all is sold.
+/// Plays one phase in whole rounds, by lists of candidates that outlast it where all is sold. `rising` says that the rows lead to rising
+/// objects.
 fn play_phase(
     alloc: Global,
     rows: &Rows,
@@ -44,17 +46,19 @@ fn play_phase(
     prices: &[i64],
     eps: i64,
     candidates: &mut Vec<Candidates>,
+    rising: bool,
 ) -> Result<Outcome, AllocError>
     requires limits { AreLimits limits.now }
     requires prices { ArePrices rows.now prices.now }
     requires eps { IsEps eps }
     requires arcs { NobodyStuck rows.now }
     requires kept { MayKeep rows.now limits.now.shards prices.now candidates.old.items }
+    requires rising { IsTrue rising → AreRising rows.now }
     ensures comes { IfOk result (ComesOf rows.now limits.now prices.now eps) }
     ensures kept { IfOk result (StayKept rows.now limits.now.shards candidates.new.items) }
 {
     let lists = mem::replace(candidates, Vec::new(alloc));
-    let mut world = World::make_with(alloc, rows, limits, prices, eps, lists)?;
+    let mut world = World::make_with(alloc, rows, limits, prices, eps, lists, rising)?;
     match world.run() {
         Some(End::All) => {
             let gathered = world.gather(alloc)?;
@@ -98,8 +102,17 @@ fn solve_rows(
     let mut prices = prices;
     let mut eps = eps;
     let mut candidates = new_candidates(alloc, limits.shards, rows)?;
+    let rising = rows_rise(rows);
     loop {
-        let played = play_phase(alloc, rows, limits, prices.as_slice(), eps, &mut candidates)?;
+        let played = play_phase(
+            alloc,
+            rows,
+            limits,
+            prices.as_slice(),
+            eps,
+            &mut candidates,
+            rising,
+        )?;
         let gathered = match played {
             Outcome::Sold(gathered) => gathered,
             Outcome::Stopped { reason, gathered } => {

@@ -9,6 +9,7 @@ ghost use Rattle.auc_model.specs.Start.{Lawful, Starts, UsualNodes};
 ghost use Rattle.auc_model.specs.World.{phase_of};
 ghost use Rattle.auc_world.specs.Hub.{ending};
 ghost use Rattle.auc_world.specs.Mails.{TakesOne, boxes_in, named, with_named};
+ghost use Rattle.auc_persons.specs.Rising.{AreRising};
 ghost use Rattle.auc_world.specs.Lists.{AreKept, MayKeep};
 ghost use Rattle.auc_world.specs.Making.{AreLimits, ArePrices, IsMade};
 ghost use Rattle.auc_world.specs.Parts.{AreParts, OwnsObject, phase, seen};
@@ -42,9 +43,13 @@ pub struct World<'a> {
     // By shard of the persons, for the first of them or for none; of no importance to what any turn does, so no contract of a
     // turn speaks of it.
     pub(crate) candidates: Vec<Candidates>,
+    // Whether the rows are known to lead to rising objects; of no importance to any turn, too.
+    pub(crate) rising: bool,
 }
 
 impl<'a> Model for World<'a> {
+    ghost use Rattle.std.specs.Prelude.{IsTrue};
+    ghost use Rattle.auc_persons.specs.Rising.{AreRising};
     ghost use Rattle.auc_world.specs.Lists.{AreKept};
     ghost use Rattle.auc_world.specs.Parts.{Parts, AreParts};
 
@@ -52,7 +57,7 @@ impl<'a> Model for World<'a> {
 
     ghost view = { λ w. record { table = w.rows.now; shards = w.shards; eps = w.eps; persons = w.persons.items; objects = w.objects.items; outboxes = w.outboxes.items; stopped = w.stopped.items; mails = w.mails; hub = w.hub } };
 
-    ghost invariant = { λ w. AreParts (record { table = w.rows.now; shards = w.shards; eps = w.eps; persons = w.persons.items; objects = w.objects.items; outboxes = w.outboxes.items; stopped = w.stopped.items; mails = w.mails; hub = w.hub }) × AreKept w.rows.now w.persons.items w.candidates.items };
+    ghost invariant = { λ w. AreParts (record { table = w.rows.now; shards = w.shards; eps = w.eps; persons = w.persons.items; objects = w.objects.items; outboxes = w.outboxes.items; stopped = w.stopped.items; mails = w.mails; hub = w.hub }) × AreKept w.rows.now w.persons.items w.candidates.items × (IsTrue w.rising → AreRising w.rows.now) };
 }
 
 impl<'a> World<'a> {
@@ -86,12 +91,12 @@ impl<'a> World<'a> {
         ensures prices { IfOk result (λ w. (j : ℕ) → (seen w).price j ≡ slice_index_or prices.now j (pos 0)) }
         ensures copies { IfOk result (λ w. (s j : ℕ) → s < limits.now.shards → (seen w).copy s j ≡ slice_index_or prices.now j (pos 0)) }
     {
-        let world = World::assemble(alloc, rows, limits, prices, eps, Vec::new(alloc))?;
+        let world = World::assemble(alloc, rows, limits, prices, eps, Vec::new(alloc), false)?;
         Ok(world)
     }
 
     /// The same world, whose shards of the persons bid by these lists of candidates, by shard: those of the worlds before, of
-    /// lower prices, or new ones.
+    /// lower prices, or new ones. `rising` says that the rows lead to rising objects.
     pub(crate) fn make_with(
         alloc: Global,
         rows: &'a Rows,
@@ -99,18 +104,20 @@ impl<'a> World<'a> {
         prices: &[i64],
         eps: i64,
         candidates: Vec<Candidates>,
+        rising: bool,
     ) -> Result<World<'a>, AllocError>
         requires limits { AreLimits limits.now }
         requires prices { ArePrices rows.now prices.now }
         requires eps { IsEps eps }
         requires kept { MayKeep rows.now limits.now.shards prices.now candidates.items }
+        requires rising { IsTrue rising → AreRising rows.now }
         ensures made { IfOk result (IsMade rows.now limits.now prices.now eps) }
         ensures phase { IfOk result (λ w. phase w ≡ phase_of rows.now limits.now.shards eps) }
         ensures table { IsTable rows.now }
         ensures lawful { IfOk result (λ w. Lawful (phase w)) }
         ensures starts { IfOk result (λ w. Starts (phase w) (seen w)) }
     {
-        let world = World::assemble(alloc, rows, limits, prices, eps, candidates)?;
+        let world = World::assemble(alloc, rows, limits, prices, eps, candidates, rising)?;
         Ok(world)
     }
 
@@ -131,11 +138,13 @@ impl<'a> World<'a> {
         prices: &[i64],
         eps: i64,
         candidates: Vec<Candidates>,
+        rising: bool,
     ) -> Result<World<'a>, AllocError>
         requires limits { AreLimits limits.now }
         requires prices { ArePrices rows.now prices.now }
         requires eps { IsEps eps }
         requires kept { MayKeep rows.now limits.now.shards prices.now candidates.items }
+        requires rising { IsTrue rising → AreRising rows.now }
         ensures made { IfOk result (IsMade rows.now limits.now prices.now eps) }
         ensures table { IsTable rows.now }
     {
@@ -166,6 +175,7 @@ impl<'a> World<'a> {
             stopped: vec![in alloc; false; shards as usize]?,
             mails,
             candidates,
+            rising,
         })
     }
 

@@ -1,4 +1,4 @@
-use Rattle.std.proofs.Common.{pos, ◌≡◌, ◌∙◌, ◌∷◌, [], List, ℤ, rules, subst, sym, to_z, w64}
+use Rattle.std.proofs.Common.{◌∙◌, ◌∷◌, [], List, ℤ, rules, subst, sym, to_z, w64}
 use Rattle.std.specs.Prelude.{FitsSigned, Option}
 use Rattle.std.proofs.lemmas.Int.{to_z-of_z}
 use Rattle.auc_world.specs.Answers.{IsAnswer, IsBracketAnswer, IsOptimalAnswer}

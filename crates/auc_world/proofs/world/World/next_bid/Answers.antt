@@ -16,6 +16,7 @@ invariant_of-self c =
     let next = simp to_z-of_z at c.next_bid_by.ensures.exact in (
       next_bid_keeps _ c.self.invariant.0 c.args.shard c.index_mut-persons.result.now _ _ (grind (arith, common_steps)) (grind (arith, common_steps)) next c.next_bid_by.ensures.shape,
       kept_both c.self.inside.rows.now c.self.inside.persons.items c.self.inside.candidates.items c.args.shard c.next_bid_by.new.self c.next_bid_by.new.candidates (grind (arith, common_steps)) (grind (arith, common_steps)) c.next_bid_by.ensures.kept c.self.invariant.1,
+      c.self.invariant.2,
     )
 
 pub invariant_of-self-2 : goal.invariant_of-self-2
@@ -24,4 +25,5 @@ invariant_of-self-2 c =
     let next = simp to_z-of_z at c.next_bid.ensures.exact in (
       next_bid_keeps _ c.self.invariant.0 c.args.shard c.index_mut-persons.result.now _ _ (grind (arith, common_steps)) (grind (arith, common_steps)) next c.next_bid.ensures.shape,
       kept_set c.self.inside.rows.now c.self.inside.persons.items c.self.inside.candidates.items c.args.shard c.index_mut-persons.result.now c.next_bid.new.self (grind (arith, common_steps)) (grind (arith, common_steps)) c.next_bid.ensures.rise c.self.invariant.1,
+      c.self.invariant.2,
     )

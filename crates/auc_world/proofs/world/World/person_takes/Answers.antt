@@ -1,5 +1,3 @@
-use Rattle.std.proofs.Common.{arith, ◌<◌}
-use Rattle.std.proofs.lemmas.Grind.{common_steps}
 use Rattle.auc_world.proofs.HearingLaws.{letter_faulty, letter_heard}
 use Rattle.auc_world.proofs.world.World.person_takes.Goals as goal
 

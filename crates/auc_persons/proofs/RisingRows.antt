@@ -1,5 +1,5 @@
 -- A pass over a row whose objects rise.
-use Rattle.std.proofs.Common.{◌≡◌, ◌≢◌, ℕ, ◌+◌, ◌<◌, ◌≤◌, inl, inr, List, [], ◌∷◌, ◌++◌, length, take, get_or, arith}
+use Rattle.std.proofs.Common.{◌≡◌, ◌≢◌, ℕ, ◌+◌, ◌<◌, ◌≤◌, inl, inr, List, [], ◌∷◌, ◌++◌, length, take, get_or, arith, refl}
 use Rattle.std.specs.Prelude.{ℤ, ◌≤ℤ◌, All}
 use Rattle.std.proofs.lemmas.Int.{ints, by_lt_z}
 use Rattle.std.proofs.lemmas.List.{take_all, take_more}
@@ -70,42 +70,44 @@ rises_whole val row l last i le h = row_whole val row i (scan_at row l) le h.fou
 -- ---- a row that is known to rise
 
 -- what holds after some arcs of it: all others lead to higher objects
-pub record Sorts (val : RowArc → ℤ) (row : List RowArc) (i : ℕ) (l : Least) : Type 0 where
+pub record Sorts (val : RowArc → ℤ) (row : List RowArc) (l : Least) (i : ℕ) : Type 0 where
   pub last : ℕ
   pub rises : Rises val row (take i row) l last
   pub ahead : (k : ℕ) → i ≤ k → k < length row → last < (get_or row k no_arc).object
 
-pub sorts_first : (val : RowArc → ℤ) (row : List RowArc) (v : ℤ) → IsRisingRow row → 0 < length row → v ≡ val (get_or row 0 no_arc) → IsValue v → Sorts val row 1 (record { value = v; second = endless; place = 0 })
+pub sorts_first : (val : RowArc → ℤ) (row : List RowArc) (v : ℤ) → IsRisingRow row → 0 < length row → v ≡ val (get_or row 0 no_arc) → IsValue v → Sorts val row (record { value = v; second = endless; place = 0 }) 1
 sorts_first val row v pairs lt is ok = record {
   last = (get_or row 0 no_arc).object;
   rises = rises_first val row v lt is ok;
   ahead = λ k le within. pairs 0 k no_arc (omega (arith, le)) within;
 }
 
-pub sorts_more : (val : RowArc → ℤ) (row : List RowArc) (l r : Least) (i : ℕ) (v : ℤ) → IsRisingRow row → Sorts val row i l → i < length row → v ≡ val (get_or row i no_arc) → IsValue v → Lowered l v i r → Sorts val row (i + 1) r
+pub sorts_more : (val : RowArc → ℤ) (row : List RowArc) (l r : Least) (i : ℕ) (v : ℤ) → IsRisingRow row → Sorts val row l i → i < length row → v ≡ val (get_or row i no_arc) → IsValue v → Lowered l v i r → Sorts val row r (i + 1)
 sorts_more val row l r i v pairs h lt is ok low = record {
   last = (get_or row i no_arc).object;
   rises = rises_more val row l r h.last i v h.rises lt (h.ahead i (omega arith) lt) is ok low;
   ahead = λ k le within. pairs i k no_arc (omega (arith, le)) within;
 }
 
-pub sorts_whole : (val : RowArc → ℤ) (row : List RowArc) (l : Least) (i : ℕ) → length row ≤ i → Sorts val row i l → IsScan val row (scan_at row l)
+pub sorts_whole : (val : RowArc → ℤ) (row : List RowArc) (l : Least) (i : ℕ) → length row ≤ i → Sorts val row l i → IsScan val row (scan_at row l)
 sorts_whole val row l i le h = rises_whole val row l h.last i le h.rises
 
 -- ---- whether a row rises
 
--- what holds after some arcs, as long as it does
-pub record Climbs (seen : List RowArc) (last : ℕ) : Type 0 where
-  pub pairs : IsRisingRow seen
-  pub below : All (λ b. b.object ≤ last) seen
+-- what holds after some arcs, as long as it does; the last of them leads to this object
+pub record Climbs (row : List RowArc) (i last : ℕ) : Type 0 where
+  pub pairs : IsRisingRow (take i row)
+  pub below : All (λ b. b.object ≤ last) (take i row)
+  pub top : (k : ℕ) × (k < i) × (last ≡ (get_or row k no_arc).object)
 
-pub climbs_first : (row : List RowArc) → 0 < length row → Climbs (take 1 row) (get_or row 0 no_arc).object
+pub climbs_first : (row : List RowArc) → 0 < length row → Climbs row 1 (get_or row 0 no_arc).object
 climbs_first row lt = record {
   pairs = rw (take_more row 0 no_arc lt) (λ i j d less within. absurd (omega (arith, less, within)));
   below = All-more (λ b. b.object ≤ (get_or row 0 no_arc).object) row 0 no_arc lt (All-nil (λ b. b.object ≤ (get_or row 0 no_arc).object)) (omega arith);
+  top = (0, omega arith, refl);
 }
 
-pub climbs_more : (row : List RowArc) (last i : ℕ) → Climbs (take i row) last → i < length row → last < (get_or row i no_arc).object → Climbs (take (i + 1) row) (get_or row i no_arc).object
+pub climbs_more : (row : List RowArc) (last i : ℕ) → Climbs row i last → i < length row → last < (get_or row i no_arc).object → Climbs row (i + 1) (get_or row i no_arc).object
 climbs_more row last i h lt above =
     let lower = All-weaker (λ b. b.object ≤ last) (λ b. b.object ≤ (get_or row i no_arc).object) (λ b le. omega (arith, le, above)) (take i row) h.below in
     let pairs = all_pairs_push (λ (a b : RowArc). a.object < b.object) (take i row) (get_or row i no_arc) h.pairs
@@ -113,7 +115,15 @@ climbs_more row last i h lt above =
     record {
       pairs = rw (take_more row i no_arc lt) pairs;
       below = All-more (λ b. b.object ≤ (get_or row i no_arc).object) row i no_arc lt lower (omega arith);
+      top = (i, omega arith, refl);
     }
 
-pub climbs_whole : (row : List RowArc) (last i : ℕ) → length row ≤ i → Climbs (take i row) last → IsRisingRow row
+pub climbs_whole : (row : List RowArc) (last i : ℕ) → length row ≤ i → Climbs row i last → IsRisingRow row
 climbs_whole row last i le h = rw (take_all i row le) at h.pairs
+
+-- an arc that leads no higher ends it
+pub falls : (row : List RowArc) (last i : ℕ) → Climbs row i last → i < length row → (get_or row i no_arc).object ≤ last → IsRisingRow row → ⊥
+falls row last i h within le rising =
+    let before = rising h.top.0 i no_arc h.top.1 within in
+    let same = h.top.2 in
+    omega (arith, before, same, le)

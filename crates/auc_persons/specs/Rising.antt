@@ -1,5 +1,5 @@
 -- Rows whose objects rise, and a pass over one.
-use Rattle.std.specs.Prelude.{◌≡◌, ◌<◌, ℕ, ℤ, ◌≤ℤ◌, ◌<ℤ◌, List, length, AllPairs}
+use Rattle.std.specs.Prelude.{◌≡◌, ◌<◌, ◌≤◌, ℕ, ℤ, ◌≤ℤ◌, ◌<ℤ◌, List, length, AllPairs}
 use Rattle.auc_graph.specs.declared.rows.RowArc.{RowArc}
 use Rattle.auc_graph.specs.Table.{Table, row_of}
 use Rattle.auc_persons.specs.declared.rising.Least.{Least}
@@ -9,6 +9,10 @@ IsRisingRow row = AllPairs (λ a b. a.object < b.object) row
 
 abbrev pub AreRising : Table → Type 0
 AreRising t = (i : ℕ) → i < length t.rows → IsRisingRow (row_of t i)
+
+-- no row has more than 40 arcs
+abbrev pub AreShort : Table → Type 0
+AreShort t = (i : ℕ) → i < length t.rows → length (row_of t i) ≤ 40
 
 -- one value more, by cases
 pub record Lowered (l : Least) (v : ℤ) (place : ℕ) (r : Least) : Type 0 where

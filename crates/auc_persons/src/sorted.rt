@@ -1,10 +1,10 @@
 //! Rows whose objects are known to rise: whether they do is looked at once, and a pass for a bid then tests nothing but its end.
 
-ghost use Rattle.std.specs.Prelude.{◌≡◌, ◌<◌, ◌≤ℤ◌, pos, All, length, IfSome, IsTrue};
+ghost use Rattle.std.specs.Prelude.{◌≡◌, ◌<◌, ◌↔◌, ◌≤ℤ◌, pos, All, length, IfSome, IfNone, IsTrue, []};
 ghost use Rattle.auc_graph.specs.Bid.{value};
 ghost use Rattle.auc_graph.specs.Table.{IsRow};
 ghost use Rattle.auc_letters.specs.Price.{IsPrice};
-ghost use Rattle.auc_persons.specs.Rising.{AreRising, IsRisingRow};
+ghost use Rattle.auc_persons.specs.Rising.{AreRising, AreShort, IsRisingRow};
 ghost use Rattle.auc_persons.specs.Scan.{copy_in, IsScan};
 
 use crate::rising::Least;
@@ -14,7 +14,7 @@ use auc_graph::{RowArc, Rows};
 
 /// Whether the objects of a row rise.
 fn is_rising(row: &[RowArc]) -> bool
-    ensures { IsTrue result → IsRisingRow row.now }
+    ensures { IsTrue result ↔ IsRisingRow row.now }
 {
     if row.is_empty() {
         return true;
@@ -35,7 +35,7 @@ fn is_rising(row: &[RowArc]) -> bool
 ///
 /// Takes one pass over the rows, up to the first that is none, and no memory.
 pub fn rows_rise(rows: &Rows) -> bool
-    ensures { IsTrue result → AreRising rows.now }
+    ensures { IsTrue result ↔ (AreShort rows.now × AreRising rows.now) }
 {
     for person in 0..rows.persons() {
         let row = rows.row(person);
@@ -54,7 +54,8 @@ pub(crate) fn scan_sorted(scale: i64, row: &[RowArc], copies: &[i64]) -> Option<
     requires row { IsRow (length copies.now) row.now }
     requires copies { All IsPrice copies.now }
     requires rising { IsRisingRow row.now }
-    ensures { IfSome result (IsScan (value scale (copy_in copies.now)) row.now) }
+    ensures some { IfSome result (IsScan (value scale (copy_in copies.now)) row.now) }
+    ensures none { IfNone result (row.now ≡ []) }
 {
     if row.is_empty() {
         return None;

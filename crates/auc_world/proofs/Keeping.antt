@@ -55,7 +55,11 @@ next_bid_own t eps x y (Bidding.Out o) h same own = own_idle y _ (ap (λ (z : Pe
 
 at_once_own : (t : Table) (eps : ℤ) (x y : Persons) (o : Option Out) → BidsAtOnce t eps x o y → SamePersons x y → All (OwnsPerson x) x.idle → All (OwnsPerson y) y.idle
 at_once_own t eps x y (Some o) h same own = next_bid_own t eps x y (Bidding.Out o) h same own
-at_once_own t eps x y None h same own = unchanged_own x y h own
+at_once_own t eps x y None h same own = unchanged_own x y h.0 own
+
+pub bids_at_once : (t : Table) (eps : ℤ) (x y : Persons) (o : Option Out) → BidsAtOnce t eps x o y → IfSome o (λ out. NextBid t eps x (Bidding.Out out) y)
+bids_at_once t eps x y (Some o) h = h
+bids_at_once t eps x y None h = tt
 
 freed_own : (x y : Persons) (i j : ℕ) (p : ℤ) (wanted : PersonState) (r : Result (Unit {0}) PersonFault) → Answered x i j p wanted (free_after x i j p) r y → SamePersons x y → All (OwnsPerson x) x.idle → All (OwnsPerson y) y.idle
 freed_own x y i j p wanted (Ok u) h same own =

@@ -3,7 +3,8 @@
 ghost use Rattle.std.specs.Prelude.{◌≡◌, ◌<◌, ◌↔◌, true, [], ◌∷◌, slice_set, IsTrue, IfSome, IfNone};
 ghost use Rattle.auc_model.specs.Bidding.{BidTurn};
 ghost use Rattle.auc_model.specs.declared.turn.Turn.{Turn};
-ghost use Rattle.auc_persons.specs.Persons.{BidsAtOnce, NextBid};
+ghost use Rattle.auc_persons.specs.Persons.{NextBid};
+ghost use Rattle.auc_persons.specs.declared.bidding.Bidding.{Bidding};
 ghost use Rattle.auc_world.specs.Bidding.{Asks, asked_of};
 ghost use Rattle.auc_world.specs.declared.bidding.Asked.{Asked};
 ghost use Rattle.auc_world.specs.Parts.{AreParts, MayAskForBid, SamePhase, persons_at, phase, seen};
@@ -132,7 +133,8 @@ impl<'a> World<'a> {
     #[inline(always)]
     fn bid_at_once(&mut self) -> Option<Out>
         requires { self.old.shards ≡ 1 }
-        ensures bid { BidsAtOnce self.old.table self.old.eps (persons_at self.old 0) result (persons_at self.new 0) }
+        ensures some { IfSome result (λ out. NextBid self.old.table self.old.eps (persons_at self.old 0) (Bidding.Out out) (persons_at self.new 0)) }
+        ensures none { IfNone result (self.new ≡ self.old) }
         ensures rest { self.new ≡ record self.old { persons = slice_set self.old.persons 0 (persons_at self.new 0) } }
     {
         if !self.rising {

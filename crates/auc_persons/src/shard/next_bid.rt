@@ -35,13 +35,14 @@ impl PersonShard {
         scan_rising(scale_of(rows.persons()), row, self.copies.as_slice())
     }
 
-    /// The best arc of a person, where rows lead to rising objects.
+    /// The best arc of a person, where rows lead to rising objects; nothing where he has none.
     #[inline(always)]
     fn best_sorted(&self, rows: &Rows, person: u32) -> Option<Scan>
         requires rows { IsMadeFor rows.now self.now }
         requires rising { AreRising rows.now }
         requires person { person < length self.now.states }
-        ensures { IfSome result (λ f. IsScan (value (pos (length rows.now.rows + 1)) (copy_in self.now.copies)) (row_of rows.now person) f) }
+        ensures some { IfSome result (λ f. IsScan (value (pos (length rows.now.rows + 1)) (copy_in self.now.copies)) (row_of rows.now person) f) }
+        ensures none { IfNone result (row_of rows.now person ≡ []) }
     {
         let row = rows.row(person);
         scan_sorted(scale_of(rows.persons()), row, self.copies.as_slice())
@@ -212,7 +213,7 @@ impl PersonShard {
     /// The bid that [`Self::next_bid`] makes, of rows that lead to rising objects ([`rows_rise`](crate::rows_rise)): so a caller may keep the
     /// way of most bids short, and all others out of it.
     ///
-    /// None says nothing of the bid and has changed nothing; [`Self::next_bid`] then tells.
+    /// None where nobody is free or he can't bid, and nothing is changed then; [`Self::next_bid`] tells which.
     ///
     /// Takes one pass over the person's row, and no memory.
     #[inline(always)]

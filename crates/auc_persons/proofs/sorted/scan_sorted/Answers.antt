@@ -24,8 +24,8 @@ loop-place-preserved c =
     simp to_z-of_z (sorts_more (value c.args.scale (copy_in c.args.copies.now)) c.args.row.now c.loop-place.least c.with-least.result c.loop-place.place c.value_here-in-loop-place.result
     c.requires.rising inv c.loop-place-test.true is c.value_here-in-loop-place.ensures.range low)
 
-pub returns : goal.returns
-returns c =
+pub returns-clause-some : goal.returns-clause-some
+returns-clause-some c =
     let f1 : FitsSigned w64 c.args.scale = c.ranges.scale in
     let f2 : FitsSigned w64 c.loop-place.least.value = search rules in
     let f3 : FitsSigned w64 c.loop-place.least.second = search rules in

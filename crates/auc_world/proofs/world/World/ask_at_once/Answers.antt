@@ -7,5 +7,5 @@ use Rattle.auc_world.proofs.world.World.ask_at_once.Goals as goal
 pub returns-in-Some-clause-some : goal.returns-in-Some-clause-some
 returns-in-Some-clause-some c =
     let may : MayAskForBid c.args.self.now 0 = grind (arith, common_steps) in
-    let known = bid_known c.args.self.now 0 c.may_bid.ensures.sound may c.bid_at_once.new.self c.in-Some.out c.in-Some.ensures.bid c.bid_at_once.ensures.rest in
-    (asks_bid c.args.self.now 0 c.may_bid.ensures.sound may c.bid_at_once.new.self c.in-Some.out c.in-Some.ensures.bid c.bid_at_once.ensures.rest, known.0, known.1, known.2)
+    let known = bid_known c.args.self.now 0 c.may_bid.ensures.sound may c.bid_at_once.new.self c.in-Some.out c.in-Some.ensures.some c.bid_at_once.ensures.rest in
+    (asks_bid c.args.self.now 0 c.may_bid.ensures.sound may c.bid_at_once.new.self c.in-Some.out c.in-Some.ensures.some c.bid_at_once.ensures.rest, known.0, known.1, known.2)

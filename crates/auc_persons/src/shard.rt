@@ -136,7 +136,7 @@ impl PersonShard {
     }
 
     /// The next person bids, and waits from now on.
-    #[inline(always)]
+    #[inline]
     fn wait_for(&mut self, object: u32)
         requires some { 0 < length self.old.idle }
         requires bids { 0 < self.old.bids }
@@ -159,7 +159,7 @@ impl PersonShard {
     }
 
     /// A person is free, and the last of those who are.
-    #[inline(always)]
+    #[inline]
     fn free(&mut self, person: u32)
         requires person { person < length self.old.states }
         requires busy { state_of self.old person ≢ PersonState.Free }

@@ -95,19 +95,19 @@ sorts_whole val row l i le h = rises_whole val row l h.last i le h.rises
 -- ---- whether a row rises
 
 -- what holds after some arcs, as long as it does; the last of them leads to this object
-pub record Climbs (row : List RowArc) (i last : ℕ) : Type 0 where
+pub record Climbs (row : List RowArc) (last i : ℕ) : Type 0 where
   pub pairs : IsRisingRow (take i row)
   pub below : All (λ b. b.object ≤ last) (take i row)
   pub top : (k : ℕ) × (k < i) × (last ≡ (get_or row k no_arc).object)
 
-pub climbs_first : (row : List RowArc) → 0 < length row → Climbs row 1 (get_or row 0 no_arc).object
+pub climbs_first : (row : List RowArc) → 0 < length row → Climbs row (get_or row 0 no_arc).object 1
 climbs_first row lt = record {
   pairs = rw (take_more row 0 no_arc lt) (λ i j d less within. absurd (omega (arith, less, within)));
   below = All-more (λ b. b.object ≤ (get_or row 0 no_arc).object) row 0 no_arc lt (All-nil (λ b. b.object ≤ (get_or row 0 no_arc).object)) (omega arith);
   top = (0, omega arith, refl);
 }
 
-pub climbs_more : (row : List RowArc) (last i : ℕ) → Climbs row i last → i < length row → last < (get_or row i no_arc).object → Climbs row (i + 1) (get_or row i no_arc).object
+pub climbs_more : (row : List RowArc) (last i : ℕ) → Climbs row last i → i < length row → last < (get_or row i no_arc).object → Climbs row (get_or row i no_arc).object (i + 1)
 climbs_more row last i h lt above =
     let lower = All-weaker (λ b. b.object ≤ last) (λ b. b.object ≤ (get_or row i no_arc).object) (λ b le. omega (arith, le, above)) (take i row) h.below in
     let pairs = all_pairs_push (λ (a b : RowArc). a.object < b.object) (take i row) (get_or row i no_arc) h.pairs
@@ -118,11 +118,11 @@ climbs_more row last i h lt above =
       top = (i, omega arith, refl);
     }
 
-pub climbs_whole : (row : List RowArc) (last i : ℕ) → length row ≤ i → Climbs row i last → IsRisingRow row
+pub climbs_whole : (row : List RowArc) (last i : ℕ) → length row ≤ i → Climbs row last i → IsRisingRow row
 climbs_whole row last i le h = rw (take_all i row le) at h.pairs
 
 -- an arc that leads no higher ends it
-pub falls : (row : List RowArc) (last i : ℕ) → Climbs row i last → i < length row → (get_or row i no_arc).object ≤ last → IsRisingRow row → ⊥
+pub falls : (row : List RowArc) (last i : ℕ) → Climbs row last i → i < length row → (get_or row i no_arc).object ≤ last → IsRisingRow row → ⊥
 falls row last i h within le rising =
     let before = rising h.top.0 i no_arc h.top.1 within in
     let same = h.top.2 in

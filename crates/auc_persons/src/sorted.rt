@@ -30,7 +30,7 @@ fn is_rising(row: &[RowArc]) -> bool
     true
 }
 
-/// Whether all rows are short ones that lead to rising objects, as those of a sorted file do: then
+/// Whether no row has more than 40 arcs and all lead to rising objects, as those of a sorted file do: then
 /// [`PersonShard::next_bid_at_once`](crate::PersonShard::next_bid_at_once) can make their bids.
 ///
 /// Takes one pass over the rows, up to the first that is none, and no memory.

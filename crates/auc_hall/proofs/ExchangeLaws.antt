@@ -9,11 +9,14 @@ use Rattle.auc_hall.specs.declared.search.Reached.{Reached}
 use Rattle.auc_hall.specs.Partial.{pick}
 use Rattle.auc_hall.specs.Matched.{holder_of, IsPlaced, IsMatched}
 use Rattle.auc_hall.specs.Search.{HasArc, IsTrail, Starts}
+use Rattle.auc_hall.specs.Completion.{IsUntaken, IsExchange}
+use Rattle.auc_hall.specs.Completion.IsExchange.{takes_free, takes_over}
 use Rattle.auc_hall.proofs.Options.{read_set, read_unset, is_within, other_place, same_read}
-use Rattle.auc_hall.proofs.MatchedLaws.{moved, placed, kept_set}
+use Rattle.auc_hall.proofs.MatchedLaws.{moved, placed, kept_set, untaken}
 
--- What the exchange keeps: all is a partial assignment at each step, and the arc at hand leads to a free object.
-pub record IsUnderWay (t : Table) (queue : List Reached) (before choice : List (Option RowArc)) (holder : List (Option ℕ)) (at : ℕ) (arc : RowArc) : Type 0 where
+-- What the exchange keeps: all is a partial assignment at each step, the arc at hand leads to a free object, and an exchange that goes on from it is one
+-- from the object at which it began.
+pub record IsUnderWay (t : Table) (queue : List Reached) (before choice : List (Option RowArc)) (holder : List (Option ℕ)) (began at : ℕ) (arc : RowArc) : Type 0 where
   pub matched : IsMatched t choice holder
   pub has : HasArc t queue at arc
   pub free : holder_of holder arc.object ≡ None
@@ -21,9 +24,10 @@ pub record IsUnderWay (t : Table) (queue : List Reached) (before choice : List (
   pub held : (m : ℕ) (e : Reached) → slice_get queue m ≡ Some e → 0 < m → m ≤ at → holder_of holder e.arc.object ≡ Some e.person
   pub first : (e : Reached) → slice_get queue 0 ≡ Some e → pick choice e.person ≡ None
   pub kept : (i : ℕ) → IsPlaced before i → IsPlaced choice i
+  pub going : (after : List (Option RowArc)) → IsExchange t after choice arc.object → IsExchange t after before began
 
 pub under_way : (t : Table) (queue : List Reached) (choice : List (Option RowArc)) (holder : List (Option ℕ)) (at : ℕ) (arc : RowArc) → IsMatched t choice holder → IsTrail t holder queue → Starts queue choice → HasArc t queue at arc → holder_of holder arc.object ≡ None → arc.object < length holder
-    → IsUnderWay t queue choice choice holder at arc
+    → IsUnderWay t queue choice choice holder arc.object at arc
 under_way t queue choice holder at arc m trail s has free room =
     record {
       matched = m;
@@ -35,11 +39,12 @@ under_way t queue choice holder at arc m trail s has free room =
           let same : s.by ≡ e = same_Some s.by e (sym s.there ∙ h) in
           ap (λ (r : Reached). pick choice r.person) (sym same) ∙ s.free;
       kept = λ i x. x;
+      going = λ after x. x;
     }
 
-pub goes_on : (t : Table) (queue : List Reached) (before choice : List (Option RowArc)) (holder first_holder : List (Option ℕ)) (at : ℕ) (arc : RowArc) (e : Reached) → IsUnderWay t queue before choice holder at arc → IsTrail t first_holder queue → 0 < at → slice_get queue at ≡ Some e
-    → IsUnderWay t queue before (set choice e.person (Some arc)) (set (set holder arc.object (Some e.person)) e.arc.object None) e.parent e.arc
-goes_on t queue before choice holder first_holder at arc e w trail up h =
+pub goes_on : (t : Table) (queue : List Reached) (before choice : List (Option RowArc)) (holder first_holder : List (Option ℕ)) (began at : ℕ) (arc : RowArc) (e : Reached) → IsUnderWay t queue before choice holder began at arc → IsTrail t first_holder queue → 0 < at → slice_get queue at ≡ Some e
+    → IsUnderWay t queue before (set choice e.person (Some arc)) (set (set holder arc.object (Some e.person)) e.arc.object None) began e.parent e.arc
+goes_on t queue before choice holder first_holder began at arc e w trail up h =
     let same : w.has.by ≡ e = same_Some w.has.by e (sym w.has.there ∙ h) in
     let his : Contains (row_of t e.person) arc = subst (λ (r : Reached). Contains (row_of t r.person) arc) same w.has.own in
     let has = w.held at e h up (omega arith) in
@@ -58,17 +63,19 @@ goes_on t queue before choice holder first_holder at arc e w trail up h =
           ∙ read_unset holder arc.object f.arc.object (Some e.person) (other_place holder arc.object f.arc.object f.person w.free by) ∙ by;
       first = λ f hf. read_unset choice e.person f.person (Some arc) (trail.apart 0 at f e hf h up) ∙ w.first f hf;
       kept = λ i x. kept_set choice e.person arc p_in i (w.kept i x);
+      going = λ after x. w.going after (takes_over choice arc.object e.person arc b.0 (untaken t choice holder arc.object w.matched w.free) his refl b.1 (subst (λ (j : ℕ). IsExchange t after (set choice e.person (Some arc)) j) (sym b.2) x));
     }
 
 -- what the exchange has made in the end
-pub record IsExchanged (t : Table) (queue : List Reached) (before choice : List (Option RowArc)) (holder : List (Option ℕ)) : Type 0 where
+pub record IsExchanged (t : Table) (queue : List Reached) (before choice : List (Option RowArc)) (holder : List (Option ℕ)) (began : ℕ) : Type 0 where
   pub matched : IsMatched t choice holder
   pub first : (e : Reached) → slice_get queue 0 ≡ Some e → IsPlaced choice e.person
   pub kept : (i : ℕ) → IsPlaced before i → IsPlaced choice i
+  pub exchange : IsExchange t choice before began
 
-pub ends : (t : Table) (queue : List Reached) (before choice : List (Option RowArc)) (holder first_holder : List (Option ℕ)) (at : ℕ) (arc : RowArc) (e : Reached) → IsUnderWay t queue before choice holder at arc → IsTrail t first_holder queue → at ≡ 0 → slice_get queue 0 ≡ Some e
-    → IsExchanged t queue before (set choice e.person (Some arc)) (set holder arc.object (Some e.person))
-ends t queue before choice holder first_holder at arc e w trail zero_at h =
+pub ends : (t : Table) (queue : List Reached) (before choice : List (Option RowArc)) (holder first_holder : List (Option ℕ)) (began at : ℕ) (arc : RowArc) (e : Reached) → IsUnderWay t queue before choice holder began at arc → IsTrail t first_holder queue → at ≡ 0 → slice_get queue 0 ≡ Some e
+    → IsExchanged t queue before (set choice e.person (Some arc)) (set holder arc.object (Some e.person)) began
+ends t queue before choice holder first_holder began at arc e w trail zero_at h =
     let same : w.has.by ≡ e = same_Some w.has.by e (sym w.has.there ∙ ap (λ (n : ℕ). slice_get queue n) zero_at ∙ h) in
     let his : Contains (row_of t e.person) arc = subst (λ (r : Reached). Contains (row_of t r.person) arc) same w.has.own in
     let p_in : e.person < length choice = omega (arith, trail.within 0 e h, w.matched.persons) in
@@ -78,4 +85,5 @@ ends t queue before choice holder first_holder at arc e w trail zero_at h =
           let f_e : e ≡ f = same_Some e f (sym h ∙ hf) in
           (arc, read_set choice e.person f.person (Some arc) (ap (λ (r : Reached). r.person) (sym f_e)) p_in);
       kept = λ i x. kept_set choice e.person arc p_in i (w.kept i x);
+      exchange = w.going (set choice e.person (Some arc)) (takes_free choice arc.object e.person arc (untaken t choice holder arc.object w.matched w.free) his refl (w.first e h) refl);
     }

@@ -6,6 +6,7 @@ use Rattle.std.proofs.lemmas.Option.{none-some, same_Some}
 use Rattle.auc_graph.specs.declared.rows.RowArc.{RowArc}
 use Rattle.auc_graph.specs.Table.{Table, row_of}
 use Rattle.auc_hall.specs.Matched.{holder_of, IsPlaced, AreTied, IsMatched}
+use Rattle.auc_hall.specs.Completion.{IsUntaken}
 use Rattle.auc_hall.proofs.Options.{read_set, read_unset, is_within, other_place, same_read}
 
 -- The person p takes a, which is free, and gives up the object j.
@@ -108,3 +109,7 @@ kept_set choice p a p_in i x = elim (cases_eq i p) [
   | inl e ↦ (a, read_set choice p i (Some a) e p_in)
   | inr n ↦ (x.0, read_unset choice p i (Some a) n ∙ x.1)
 ]
+
+-- an object without a holder is in nobody's hand
+pub untaken : (t : Table) (choice : List (Option RowArc)) (holder : List (Option ℕ)) (j : ℕ) → IsMatched t choice holder → holder_of holder j ≡ None → IsUntaken choice j
+untaken t choice holder j m free i b h e = none-some i (sym free ∙ ap (λ (k : ℕ). get_or holder k None) (sym e) ∙ m.tied.taken i b h)

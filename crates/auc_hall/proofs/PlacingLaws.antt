@@ -11,6 +11,7 @@ use Rattle.auc_graph.specs.declared.rows.RowArc.{RowArc}
 use Rattle.auc_graph.specs.Table.{Table, row_of}
 use Rattle.auc_hall.specs.Partial.{pick, MayPlace}
 use Rattle.auc_hall.specs.Matched.{holder_of, IsMatched}
+use Rattle.auc_hall.proofs.MatchedLaws.{untaken}
 
 pub found_in : (row : List RowArc) (test : RowArc → Bool) (a : RowArc) → Some a ≡ find test row → Contains row a
 found_in row test a h =
@@ -34,7 +35,7 @@ may_place t choice holder person n a m none his is free = record {
   his = his;
   numbered = is;
   unplaced = none;
-  untaken = λ i b h e. none-some i (sym free ∙ ap (λ (j : ℕ). get_or holder j None) (sym e) ∙ m.tied.taken i b h);
+  untaken = untaken t choice holder a.object m free;
 }
 
 pub not_placed_twice : (t : Table) (choice : List (Option RowArc)) (person n : ℕ) (x a : RowArc) → pick choice person ≡ Some x → MayPlace t choice person n a → ⊥

@@ -7,3 +7,4 @@ pub mod Partial
 pub mod Matched
 pub mod Search
 pub mod Listing
+pub mod Completion

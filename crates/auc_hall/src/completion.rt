@@ -6,6 +6,7 @@ ghost use Rattle.auc_hall.specs.Partial.{IsFor};
 ghost use Rattle.auc_hall.specs.Matching.{IsMatching};
 ghost use Rattle.auc_hall.specs.Matched.{IsMatched};
 ghost use Rattle.auc_hall.specs.Listing.{chosen};
+ghost use Rattle.auc_hall.specs.Completion.{HasGrown};
 
 use crate::exchange::exchange;
 use crate::hall_set::hall_set;
@@ -46,7 +47,8 @@ fn complete_parts(
     requires none { (j : ℕ) → slice_index_or seen.old j false ≡ false }
     requires few { length seen.old < 2 ^ 32 }
     requires looked { length looked.old ≡ length rows.now.rows }
-    ensures { IfOk result (IsMatching rows.now) }
+    ensures matching { IfOk result (IsMatching rows.now) }
+    ensures grown { IfOk result (HasGrown rows.now choice.old) }
 {
     let mut queue = Vec::with_capacity(alloc, rows.persons() as usize)?;
     for person in 0..rows.persons() {
@@ -82,7 +84,9 @@ fn complete_parts(
 /// Only where memory was refused.
 pub fn complete(alloc: Global, rows: &Rows, partial: Partial) -> Result<Matching, AllocError>
     requires { IsFor rows.now partial }
-    ensures { IfOk result (IsMatching rows.now) }
+    ensures matching { IfOk result (IsMatching rows.now) }
+    // A full assignment keeps the arcs that there were, but for the exchanges that place the others.
+    ensures grown { IfOk result (HasGrown rows.now partial.choice) }
 {
     let (mut choice, mut holder) = partial.into_parts();
     let mut seen = vec![in alloc; false; rows.objects() as usize]?;

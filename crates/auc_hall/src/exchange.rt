@@ -4,6 +4,7 @@ ghost use Rattle.std.specs.Prelude.{◌≡◌, ◌<◌, ℕ, length, Some, None,
 ghost use Rattle.auc_hall.specs.declared.search.Reached.{Reached};
 ghost use Rattle.auc_hall.specs.Matched.{IsPlaced, IsMatched};
 ghost use Rattle.auc_hall.specs.Search.{IsTrail, Starts, LeadsOut};
+ghost use Rattle.auc_hall.specs.Completion.{IsExchange};
 
 use crate::search::{PathEnd, Reached};
 use auc_graph::{RowArc, Rows};
@@ -23,6 +24,7 @@ pub(crate) fn exchange(
     requires out { LeadsOut _rows.now holder.old queue.now found.at found.arc }
     ensures matched { IsMatched _rows.now choice.new holder.new }
     ensures first { (e : Reached) → slice_get queue.now 0 ≡ Some e → IsPlaced choice.new e.person }
+    ensures exchange { IsExchange _rows.now choice.new choice.old found.arc.object }
     ensures kept { (i : ℕ) → IsPlaced choice.old i → IsPlaced choice.new i }
 {
     let mut at = found.at;

@@ -1,7 +1,7 @@
 //! The answer of a search without an end: the persons whom it reached, and the objects that it saw.
 
 ghost use Rattle.std.specs.Prelude.{◌≡◌, ◌<◌, ◌^◌, length, IfOk};
-ghost use Rattle.auc_hall.specs.Matching.{IsMatching};
+ghost use Rattle.auc_hall.specs.Matching.{IsHall, IsMatching};
 ghost use Rattle.auc_hall.specs.Search.{IsSearch, AreWalked};
 ghost use Rattle.auc_hall.specs.Listing.{places, AreReached, ArePersons};
 
@@ -49,7 +49,8 @@ pub(crate) fn hall_set(
     requires search { IsSearch rows.now _choice.now _holder.now queue.now seen.now }
     requires walked { AreWalked rows.now queue.now seen.now (length queue.now) }
     requires few { length seen.now < 2 ^ 32 }
-    ensures { IfOk result (IsMatching rows.now) }
+    ensures matching { IfOk result (IsMatching rows.now) }
+    ensures hall { IfOk result IsHall }
 {
     let flags = reached_flags(alloc, queue, rows.persons() as usize)?;
     let persons = places_of(alloc, flags.as_slice())?;

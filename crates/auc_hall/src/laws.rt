@@ -1,13 +1,15 @@
 //! What a completion says of the problem whose rows it was made for, as contracts of functions without a body.
 
-ghost use Rattle.std.specs.Prelude.{ℕ, List};
+ghost use Rattle.std.specs.Prelude.{◌≡◌, ℕ, List, Option};
 ghost use Rattle.auc_graph.specs.declared.arc.Arc.{Arc};
 ghost use Rattle.auc_graph.specs.Problem.{Problem};
 ghost use Rattle.auc_graph.specs.Assignment.{IsAssignment};
 ghost use Rattle.auc_graph.specs.HallSet.{IsHallSet};
 ghost use Rattle.auc_graph.specs.Table.{Table, IsTableOf};
+ghost use Rattle.auc_graph.specs.declared.rows.RowArc.{RowArc};
 ghost use Rattle.auc_hall.specs.declared.matching.Matching.{Matching};
 ghost use Rattle.auc_hall.specs.Matching.{IsMatching, IsMatchingOf};
+ghost use Rattle.auc_hall.specs.Completion.{AreAllPlaced, IsGrown};
 
 /// What holds of the rows of a problem holds of its arcs: a full assignment of the rows is one of the problem, and
 /// persons who know too few objects by their rows know too few by the arcs of the problem.
@@ -18,4 +20,9 @@ pub fn matchings_hold_of_the_problem()
 /// Where some persons together know fewer objects than they number, there is no assignment.
 pub fn hall_sets_leave_no_assignment()
     ensures { (p : Problem) (persons objects : List ℕ) → IsHallSet p persons objects → (choice : List Arc) → IsAssignment p choice → ⊥ }
+{}
+
+/// A completion leaves a full assignment as it is.
+pub fn full_assignments_stay()
+    ensures { (t : Table) (choice after : List (Option RowArc)) → AreAllPlaced t choice → IsGrown t after choice → after ≡ choice }
 {}

@@ -16,6 +16,8 @@ mod partial;
 mod search;
 
 pub use completion::complete;
-pub use laws::{hall_sets_leave_no_assignment, matchings_hold_of_the_problem};
+pub use laws::{
+    full_assignments_stay, hall_sets_leave_no_assignment, matchings_hold_of_the_problem,
+};
 pub use matching::Matching;
 pub use partial::Partial;

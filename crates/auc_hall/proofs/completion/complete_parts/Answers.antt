@@ -1,7 +1,9 @@
-use Rattle.std.proofs.Common.{get_or, None, false, arith, sym, inl, inr, subst, ◌∙◌}
+use Rattle.std.proofs.Common.{get_or, None, false, arith, refl, sym, inl, inr, subst, ◌∙◌}
 use Rattle.std.proofs.lemmas.Bool.{cases_eq, both_ways}
 use Rattle.auc_hall.specs.Matched.{IsPlaced}
 use Rattle.auc_hall.specs.Listing.{chosen}
+use Rattle.auc_hall.specs.Completion.IsGrown.{stays}
+use Rattle.auc_hall.proofs.CompletionLaws.{grown_by, hall_answers}
 use Rattle.auc_hall.proofs.AnswerLaws.{is_assignment, done_more, walked_same}
 use Rattle.auc_hall.proofs.Options.{some_of}
 use Rattle.auc_hall.proofs.completion.complete_parts.Goals as goal
@@ -16,6 +18,7 @@ loop-person-preserved-then-is_some c =
       ];
       seen = c.loop-person.invariant.seen;
       marks = c.loop-person.invariant.marks;
+      grown = c.loop-person.invariant.grown;
       looked = c.loop-person.invariant.looked;
     }
 
@@ -31,11 +34,23 @@ loop-person-preserved c =
       done = done_more c.loop-person.choice c.exchange.new.choice c.search.new.queue.items c.loop-person.person c.loop-person.invariant.done c.exchange.ensures.kept s.by s.there c.in_ok-search.ensures.first (λ e h. c.exchange.ensures.first e (rw c.as_slice-in-Some.ensures.value h));
       seen = c.in_ok-search.ensures.search.marks.size;
       marks = c.in_ok-search.ensures.search.marks.behind;
+      grown = λ after x. c.loop-person.invariant.grown after (grown_by c.exchange.ensures.exchange x);
       looked = c.search.ensures.looked ∙ c.loop-person.invariant.looked;
     }
 
-pub returns : goal.returns
-returns c = (chosen c.loop-person.choice, is_assignment c.args.rows.now c.loop-person.choice c.loop-person.holder c.loop-person.invariant.matched (λ i lt. c.loop-person.invariant.done i (omega arith)), c.new.ensures ∙ c.in_ok-numbers_of.ensures)
+pub returns-clause-matching : goal.returns-clause-matching
+returns-clause-matching c = (chosen c.loop-person.choice, is_assignment c.args.rows.now c.loop-person.choice c.loop-person.holder c.loop-person.invariant.matched (λ i lt. c.loop-person.invariant.done i (omega arith)), c.new.ensures ∙ c.in_ok-numbers_of.ensures)
+
+pub returns-in-None-clause-grown : goal.returns-in-None-clause-grown
+returns-in-None-clause-grown c = hall_answers c.args.rows.now c.args.choice.now c.hall_set.result c.hall_set.ensures.hall
+
+pub returns-clause-grown : goal.returns-clause-grown
+returns-clause-grown c = record {
+  after = c.loop-person.choice;
+  grown = c.loop-person.invariant.grown c.loop-person.choice (stays c.loop-person.choice refl);
+  all = λ i lt. c.loop-person.invariant.done i (omega arith);
+  numbers = c.new.ensures ∙ c.in_ok-numbers_of.ensures;
+}
 
 pub search-requires-clause-marks : goal.search-requires-clause-marks
 search-requires-clause-marks c = c.loop-person.invariant.marks
@@ -46,5 +61,6 @@ loop-person-init c = record {
   done = λ i lt. absurd (omega arith);
   seen = c.requires.seen;
   marks = λ j h. absurd (both_ways (get_or c.args.seen.now j false) (c.requires.none j) h);
+  grown = λ after x. x;
   looked = c.requires.looked;
 }

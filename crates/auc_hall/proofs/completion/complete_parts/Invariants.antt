@@ -1,6 +1,8 @@
-use Rattle.std.proofs.Common.{◌≡◌, ◌<◌, ℕ, length}
+use Rattle.std.proofs.Common.{◌≡◌, ◌<◌, ℕ, List, Option, length}
+use Rattle.auc_graph.specs.declared.rows.RowArc.{RowArc}
 use Rattle.auc_hall.specs.Matched.{IsPlaced, IsMatched}
 use Rattle.auc_hall.specs.Search.{WasSeen, Reaches}
+use Rattle.auc_hall.specs.Completion.{IsGrown}
 use Rattle.auc_hall.proofs.completion.complete_parts.Given as goal
 
 abbrev pub invariant-loop-person : goal.invariant-loop-person
@@ -9,5 +11,6 @@ invariant-loop-person l = record {
   done : (i : ℕ) → i < l.person → IsPlaced l.choice i;
   seen : length l.seen ≡ l.rows.objects;
   marks : (j : ℕ) → WasSeen l.seen j → Reaches l.queue.items j;
+  grown : (after : List (Option RowArc)) → IsGrown l.rows after l.choice → IsGrown l.rows after l.fn.choice;
   looked : length l.looked ≡ length l.rows.rows;
 }

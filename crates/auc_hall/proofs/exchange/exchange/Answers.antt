@@ -22,25 +22,31 @@ loop-at-smaller c =
 pub loop-at-preserved : goal.loop-at-preserved
 loop-at-preserved c =
     let h = entry c.args.queue.now c.loop-at.at (in_queue c.args._rows.now c.args.queue.now c.loop-at.at c.loop-at.arc c.loop-at.invariant.has) in
-    goes_on c.args._rows.now c.args.queue.now c.args.choice.now c.loop-at.choice c.loop-at.holder c.args.holder.now c.loop-at.at c.loop-at.arc (get_or c.args.queue.now c.loop-at.at blank) c.loop-at.invariant c.requires.trail c.loop-at-test.true h
+    goes_on c.args._rows.now c.args.queue.now c.args.choice.now c.loop-at.choice c.loop-at.holder c.args.holder.now c.args.found.arc.object c.loop-at.at c.loop-at.arc (get_or c.args.queue.now c.loop-at.at blank) c.loop-at.invariant c.requires.trail c.loop-at-test.true h
 
 pub returns-clause-matched : goal.returns-clause-matched
 returns-clause-matched c =
     let lt = in_queue c.args._rows.now c.args.queue.now c.loop-at.at c.loop-at.arc c.loop-at.invariant.has in
     let h = entry c.args.queue.now 0 (omega (arith, lt)) in
-    (ends c.args._rows.now c.args.queue.now c.args.choice.now c.loop-at.choice c.loop-at.holder c.args.holder.now c.loop-at.at c.loop-at.arc (get_or c.args.queue.now 0 blank) c.loop-at.invariant c.requires.trail (omega arith) h).matched
+    (ends c.args._rows.now c.args.queue.now c.args.choice.now c.loop-at.choice c.loop-at.holder c.args.holder.now c.args.found.arc.object c.loop-at.at c.loop-at.arc (get_or c.args.queue.now 0 blank) c.loop-at.invariant c.requires.trail (omega arith) h).matched
 
 pub returns-clause-first : goal.returns-clause-first
 returns-clause-first c =
     let lt = in_queue c.args._rows.now c.args.queue.now c.loop-at.at c.loop-at.arc c.loop-at.invariant.has in
     let h = entry c.args.queue.now 0 (omega (arith, lt)) in
-    (ends c.args._rows.now c.args.queue.now c.args.choice.now c.loop-at.choice c.loop-at.holder c.args.holder.now c.loop-at.at c.loop-at.arc (get_or c.args.queue.now 0 blank) c.loop-at.invariant c.requires.trail (omega arith) h).first
+    (ends c.args._rows.now c.args.queue.now c.args.choice.now c.loop-at.choice c.loop-at.holder c.args.holder.now c.args.found.arc.object c.loop-at.at c.loop-at.arc (get_or c.args.queue.now 0 blank) c.loop-at.invariant c.requires.trail (omega arith) h).first
 
 pub returns-clause-kept : goal.returns-clause-kept
 returns-clause-kept c =
     let lt = in_queue c.args._rows.now c.args.queue.now c.loop-at.at c.loop-at.arc c.loop-at.invariant.has in
     let h = entry c.args.queue.now 0 (omega (arith, lt)) in
-    (ends c.args._rows.now c.args.queue.now c.args.choice.now c.loop-at.choice c.loop-at.holder c.args.holder.now c.loop-at.at c.loop-at.arc (get_or c.args.queue.now 0 blank) c.loop-at.invariant c.requires.trail (omega arith) h).kept
+    (ends c.args._rows.now c.args.queue.now c.args.choice.now c.loop-at.choice c.loop-at.holder c.args.holder.now c.args.found.arc.object c.loop-at.at c.loop-at.arc (get_or c.args.queue.now 0 blank) c.loop-at.invariant c.requires.trail (omega arith) h).kept
+
+pub returns-clause-exchange : goal.returns-clause-exchange
+returns-clause-exchange c =
+    let lt = in_queue c.args._rows.now c.args.queue.now c.loop-at.at c.loop-at.arc c.loop-at.invariant.has in
+    let h = entry c.args.queue.now 0 (omega (arith, lt)) in
+    (ends c.args._rows.now c.args.queue.now c.args.choice.now c.loop-at.choice c.loop-at.holder c.args.holder.now c.args.found.arc.object c.loop-at.at c.loop-at.arc (get_or c.args.queue.now 0 blank) c.loop-at.invariant c.requires.trail (omega arith) h).exchange
 
 pub loop-at-init : goal.loop-at-init
 loop-at-init c = under_way c.args._rows.now c.args.queue.now c.args.choice.now c.args.holder.now c.args.found.at c.args.found.arc c.requires.matched c.requires.trail c.requires.starts c.requires.out.has c.requires.out.free c.requires.out.room

@@ -6,8 +6,8 @@ use Rattle.auc_hall.proofs.hall_set.hall_set.Goals as goal
 pub reached_flags-requires : goal.reached_flags-requires
 reached_flags-requires c = persons_of c.args.rows.now c.args._holder.now c.args.queue.now c.persons.result c.requires.search.trail c.persons.ensures.persons
 
-pub returns : goal.returns
-returns c =
+pub returns-clause-matching : goal.returns-clause-matching
+returns-clause-matching c =
     let flags = subst (λ (n : ℕ). AreReached c.args.queue.now n c.in_ok-flags.flags.items) c.persons.ensures.persons c.in_ok-flags.ensures in
     let h = is_hall_set c.args.rows.now c.args._choice.now c.args._holder.now c.args.queue.now c.args.seen.now c.in_ok-flags.flags.items c.requires.search c.requires.walked flags in
     let persons = c.new.ensures ∙ c.in_ok-persons.ensures ∙ ap (places 0) c.as_slice.ensures.value in

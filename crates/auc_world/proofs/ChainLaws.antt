@@ -224,7 +224,7 @@ module _ (p : Problem) (t : Table) (limits : Limits) (start : Option (List ℤ))
     pub stopped_is_of_run : (answer : Answer) → IsBracketAnswer p reason gathered.holders.items gathered.prices.items answer → IsOfRun p limits start answer
     stopped_is_of_run (Answer.Optimal cert) h = absurd h
     stopped_is_of_run (Answer.Infeasible cert) h = tt
-    stopped_is_of_run (Answer.Bracket cert) h = (s, ends_in, record { reason = reason; stopped = stopped; prices = gathered.prices.items; each = left.sales.prices_are ∙ its.objects; true_prices = left.sales.price_is; by = h.1 })
+    stopped_is_of_run (Answer.Bracket cert) h = (s, ends_in, record { reason = reason; stopped = stopped; prices = gathered.prices.items; each = left.sales.prices_are ∙ its.objects; true_prices = left.sales.price_is; by = h.1; holders = gathered.holders.items; holders_are = left.sales.holder_is; grown = h.3 })
     stopped_is_of_run (Answer.Broken guard) h = absurd (h.1 placeable (bound_is_cost has))
 
 -- ---- the same of what the code answers

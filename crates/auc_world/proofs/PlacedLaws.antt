@@ -12,7 +12,7 @@ use Rattle.auc_graph.specs.Table.{IsTableOf, Table, row_of}
 use Rattle.auc_hall.specs.Partial.{IsNotPlaced, MayPlace, pick}
 use Rattle.auc_hall.proofs.ProblemLaws.{in_row, row_is, stands_for}
 use Rattle.auc_letters.specs.declared.state.Held.{Held}
-use Rattle.auc_world.specs.Claims.{ArePlaceable, HoldsAt, holder_at}
+use Rattle.auc_world.specs.Claims.{AreHoldersArcs, ArePlaceable, HasAsHolder, HoldsAt, holder_at}
 use Rattle.auc_world.proofs.FoundLaws.{at_or_before, is_there}
 
 pub nobody_there : (o : Option Held) → ((h : Held) → o ≡ Some h → ⊥) → o ≡ None
@@ -29,14 +29,12 @@ holder_below p j h arc is right =
 -- a person's arc comes of one of the first `count` holders
 pub record IsPlacedBy (holders : List (Option Held)) (count person : ℕ) (a : RowArc) : Type 0 where
   pub before : a.object < count
-  pub held : Held
-  pub holds : holder_at holders a.object ≡ Some held
-  pub who : held.person ≡ person
+  pub has : HasAsHolder holders person a
 
 -- the first `count` holders have their arcs
 pub record ArePlaced (p : Problem) (holders : List (Option Held)) (count : ℕ) (choice : List (Option RowArc)) : Type 0 where
   pub only : (i : ℕ) (a : RowArc) → pick choice i ≡ Some a → IsPlacedBy holders count i a
-  pub all : (j : ℕ) (h : Held) → j < count → holder_at holders j ≡ Some h → (a : RowArc) × (pick choice h.person ≡ Some a)
+  pub all : (j : ℕ) (h : Held) → j < count → holder_at holders j ≡ Some h → (a : RowArc) × (pick choice h.person ≡ Some a) × (a.object ≡ j)
   pub each : (j : ℕ) (h : Held) → j < count → holder_at holders j ≡ Some h → (a : Arc) × HoldsAt p j h a
   pub once : (j k : ℕ) (a b : Held) → j < count → k < count → holder_at holders j ≡ Some a → holder_at holders k ≡ Some b → a.person ≡ b.person → j ≡ k
 
@@ -50,7 +48,7 @@ placed_none p holders choice none = record {
 
 module _ (p : Problem) (holders : List (Option Held)) (count : ℕ) (choice : List (Option RowArc)) (are : ArePlaced p holders count choice) where
   later : (i : ℕ) (a : RowArc) → IsPlacedBy holders count i a → IsPlacedBy holders (count + 1) i a
-  later i a x = let l = x.before in record { before = omega (arith, l); held = x.held; holds = x.holds; who = x.who }
+  later i a x = let l = x.before in record { before = omega (arith, l); has = x.has }
 
   pub placed_nothing : holder_at holders count ≡ None → ArePlaced p holders (count + 1) choice
   placed_nothing none = record {
@@ -67,6 +65,12 @@ module _ (p : Problem) (holders : List (Option Held)) (count : ℕ) (choice : Li
   placed_all past = record {
     each = λ j h e. are.each j h (let l = is_there holders j h e in omega (arith, l, past)) e;
     once = λ j k a b e f s. are.once j k a b (let l = is_there holders j a e in omega (arith, l, past)) (let l = is_there holders k b f in omega (arith, l, past)) e f s;
+  }
+
+  pub placed_holders : length holders ≤ count → AreHoldersArcs holders choice
+  placed_holders past = record {
+    only = λ i a e. (are.only i a e).has;
+    all = λ j h e. are.all j h (let l = is_there holders j h e in omega (arith, l, past)) e;
   }
 
   module _ (t : Table) (its : IsTableOf p t) (h : Held) (here : holder_at holders count ≡ Some h) (arc : Arc) (right : HoldsAt p count h arc) (below : h.person < p.persons) where
@@ -96,7 +100,7 @@ module _ (p : Problem) (holders : List (Option Held)) (count : ℕ) (choice : Li
             | inl at ↦ (
                 let same : a ≡ b = same_Some _ _ (sym at_same ∙ (ap (pick placed) (sym at) ∙ e)) in
                 let l = leads in
-                subst (IsPlacedBy holders (count + 1) i) same (record { before = omega (arith, l); held = h; holds = ap (holder_at holders) leads ∙ here; who = sym at })
+                subst (IsPlacedBy holders (count + 1) i) same (record { before = omega (arith, l); has = record { held = h; holds = ap (holder_at holders) leads ∙ here; who = sym at; by = sym may.numbered } })
                 )
             | inr other ↦ later i b (are.only i b (sym (at_other i other) ∙ e))
           ]
@@ -111,14 +115,14 @@ module _ (p : Problem) (holders : List (Option Held)) (count : ℕ) (choice : Li
       person_here : (j : ℕ) (g : Held) → holder_at holders j ≡ Some g → j ≡ count → g.person ≡ h.person
       person_here j g e at = ap (λ (x : Held). x.person) (held_here j g e at)
 
-      all_more : (j : ℕ) (g : Held) → j < count + 1 → holder_at holders j ≡ Some g → (b : RowArc) × (pick placed g.person ≡ Some b)
+      all_more : (j : ℕ) (g : Held) → j < count + 1 → holder_at holders j ≡ Some g → (b : RowArc) × (pick placed g.person ≡ Some b) × (b.object ≡ j)
       all_more j g lt e =
           elim (cases_eq j count) [
-            | inl at ↦ (a, ap (pick placed) (person_here j g e at) ∙ at_same)
+            | inl at ↦ (a, ap (pick placed) (person_here j g e at) ∙ at_same, leads ∙ sym at)
             | inr ne ↦ (
                 let l = at_or_before count j lt ne in
                 let old = are.all j g l e in
-                (old.0, at_other g.person (nobody j g l e) ∙ old.1)
+                (old.0, at_other g.person (nobody j g l e) ∙ old.1, old.2)
                 )
           ]
 
@@ -151,7 +155,7 @@ module _ (p : Problem) (holders : List (Option Held)) (count : ℕ) (choice : Li
     holds_two : (b : RowArc) → pick choice h.person ≡ Some b → ArePlaceable p holders → ⊥
     holds_two b e can =
         let old = are.only h.person b e in
-        let at = can.once b.object count old.held h old.holds here old.who in
+        let at = can.once b.object count old.has.held h old.has.holds here old.has.who in
         let l = old.before in
         absurd (omega (arith, at, l))
 

@@ -13,7 +13,7 @@ use Rattle.auc_cert.specs.Claim.{IsAllowed, fault_of}
 use Rattle.auc_cert.specs.Spelled.{IsSpelled}
 use Rattle.auc_world.specs.declared.answer.Answer.{Answer}
 use Rattle.auc_world.specs.declared.answer.Guard.{Guard}
-use Rattle.auc_world.specs.Claims.{ArePlaceable, BoundFits, IsBracketBy, IsChoiceOf, claim_of}
+use Rattle.auc_world.specs.Claims.{ArePlaceable, BoundFits, GrowsFrom, IsBracketBy, IsChoiceOf, claim_of, picks_of}
 
 -- the certificate has a text, the checker finds no fault in it, and so what it says of the problem is true
 pub record IsCertified (p : Problem) (cert : CertParts) : Type 0 where
@@ -84,13 +84,13 @@ IsOptimalAnswer p holders prices (Answer.Infeasible cert) = ⊥
 IsOptimalAnswer p holders prices (Answer.Bracket cert) = ⊥
 IsOptimalAnswer p holders prices (Answer.Broken guard) = (guard ≡ Guard.Check) × ((choice : List Arc) → IsChoiceOf p holders choice → IsCertified p (claim_of choice prices) → ⊥)
 
--- The answer to holders and prices that a limit has left: an assignment, and the bound that these prices give; or that there is none; or
+-- The answer to holders and prices that a limit has left: an assignment that has grown from the holders' arcs, and the bound that these prices give; or that there is none; or
 -- the guard of the checker, just where a holder's arc isn't one of his to his object, or somebody holds two, or the bound is too great or
 -- too small for 64 bits.
 abbrev pub IsBracketAnswer : Problem → Reason → List (Option Held) → List ℤ → Answer → Type 0
 IsBracketAnswer p reason holders prices (Answer.Optimal cert) = ⊥
 IsBracketAnswer p reason holders prices (Answer.Infeasible cert) = IsHallCertificate p cert
-IsBracketAnswer p reason holders prices (Answer.Bracket cert) = ArePlaceable p holders × IsBracketBy p reason prices cert × IsCertified p cert
+IsBracketAnswer p reason holders prices (Answer.Bracket cert) = ArePlaceable p holders × IsBracketBy p reason prices cert × IsCertified p cert × GrowsFrom p holders (picks_of cert)
 IsBracketAnswer p reason holders prices (Answer.Broken guard) = (guard ≡ Guard.Check) × (ArePlaceable p holders → BoundFits p prices → ⊥)
 
 -- and where some persons know too few objects

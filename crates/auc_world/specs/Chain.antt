@@ -1,5 +1,5 @@
 -- The phases of a run, each from what the one before has left, and what an answer says of the last one.
-use Rattle.std.specs.Prelude.{ℤ, pos, ◌≡◌, List, [], ◌∷◌, Option, Some, None, All, length, replicate}
+use Rattle.std.specs.Prelude.{ℕ, ℤ, pos, ◌≡◌, List, [], ◌∷◌, Option, Some, None, All, length, replicate}
 use Rattle.auc_graph.specs.declared.arc.Arc.{Arc}
 use Rattle.auc_graph.specs.Assignment.{IsAssignment}
 use Rattle.auc_graph.specs.Problem.{Problem}
@@ -12,7 +12,8 @@ use Rattle.auc_model.specs.declared.turn.End.{End}
 use Rattle.auc_world.specs.declared.answer.Answer.{Answer}
 use Rattle.auc_world.specs.declared.limits.Limits.{Limits}
 use Rattle.auc_world.specs.Answers.{why_of}
-use Rattle.auc_world.specs.Claims.{IsBracketBy, claim_of}
+use Rattle.auc_letters.specs.declared.state.Held.{Held}
+use Rattle.auc_world.specs.Claims.{GrowsFrom, IsBracketBy, claim_of, holder_at, picks_of}
 use Rattle.auc_world.specs.Eps.{first_eps, next_eps}
 use Rattle.auc_world.specs.Phases.{IsPlayed, Stage}
 
@@ -57,7 +58,7 @@ pub record IsClaimOf (p : Problem) (w : World) (cert : CertParts) : Type 0 where
   pub true_prices : ArePricesOf w prices
   pub is : cert ≡ claim_of choice prices
 
--- an assignment and the bound that the world's true prices give, for the reason for which it was stopped
+-- an assignment that has grown from the arcs of the world's holders, and the bound that its true prices give, for the reason for which it was stopped
 pub record IsBracketOf (p : Problem) (w : World) (cert : CertParts) : Type 0 where
   pub reason : Reason
   pub stopped : w.end ≡ Some (End.Stopped (why_of reason))
@@ -65,6 +66,9 @@ pub record IsBracketOf (p : Problem) (w : World) (cert : CertParts) : Type 0 whe
   pub each : length prices ≡ p.objects
   pub true_prices : ArePricesOf w prices
   pub by : IsBracketBy p reason prices cert
+  pub holders : List (Option Held)
+  pub holders_are : (j : ℕ) → holder_at holders j ≡ w.holder j
+  pub grown : GrowsFrom p holders (picks_of cert)
 
 -- What an answer says of its run: a least cost is claimed of the last world, at eps 1, in which every person has an object; and a bracket stands
 -- only where a limit has stopped the last world, by whose prices it is.

@@ -1,11 +1,15 @@
 -- The claim that holders and prices make.
-use Rattle.std.specs.Prelude.{ℕ, ℤ, pos, ◌≡◌, List, map, Option, Some, None, All, Contains, FitsSigned, slice_get, slice_index_or}
+use Rattle.std.specs.Prelude.{ℕ, ℤ, pos, ◌≡◌, List, [], map, Option, Some, None, All, Contains, FitsSigned, slice_get, slice_index_or}
 use Rattle.std.specs.Int.{w64}
 use Rattle.std.specs.List.{range_with_len}
 use Rattle.auc_graph.specs.declared.arc.Arc.{Arc}
 use Rattle.auc_graph.specs.Assignment.{IsAssignment, person_of, total_cost}
 use Rattle.auc_graph.specs.Dual.{IsLower, dual, price_at, scale_of}
+use Rattle.auc_graph.specs.declared.rows.RowArc.{RowArc}
 use Rattle.auc_graph.specs.Problem.{Problem}
+use Rattle.auc_graph.specs.Table.{IsTableOf, Table}
+use Rattle.auc_hall.specs.Completion.{IsGrownTo}
+use Rattle.auc_hall.specs.Partial.{pick}
 use Rattle.auc_letters.specs.declared.state.Held.{Held}
 use Rattle.auc_cert.specs.declared.reason.Reason.{Reason}
 use Rattle.auc_cert.specs.declared.cert.CertParts.{CertParts}
@@ -72,3 +76,31 @@ pub record IsBracketBy (p : Problem) (reason : Reason) (prices : List ℤ) (cert
   pub lower : ℤ
   pub bound : IsLower (scale_of p) (dual p prices) lower
   pub is : cert ≡ CertParts.Bracket reason lower (total_cost choice) (map pick_of choice) prices
+
+-- a person has an object by the arc with which he holds it
+pub record HasAsHolder (holders : List (Option Held)) (person : ℕ) (arc : RowArc) : Type 0 where
+  pub held : Held
+  pub holds : holder_at holders arc.object ≡ Some held
+  pub who : held.person ≡ person
+  pub by : held.arc ≡ arc.arc
+
+-- the choice is the holders' arcs: none left out, and no other
+pub record AreHoldersArcs (holders : List (Option Held)) (choice : List (Option RowArc)) : Type 0 where
+  pub only : (i : ℕ) (a : RowArc) → pick choice i ≡ Some a → HasAsHolder holders i a
+  pub all : (j : ℕ) (h : Held) → holder_at holders j ≡ Some h → (a : RowArc) × (pick choice h.person ≡ Some a) × (a.object ≡ j)
+
+-- the picks that a certificate makes
+abbrev pub picks_of : CertParts → List Pick
+picks_of (CertParts.Optimal cost choice prices) = choice
+picks_of (CertParts.Infeasible persons objects) = []
+picks_of (CertParts.Bracket reason lower cost choice prices) = choice
+
+-- the picks are by arcs that have grown from the holders' arcs until each person had one
+pub record GrowsFrom (p : Problem) (holders : List (Option Held)) (picks : List Pick) : Type 0 where
+  pub table : Table
+  pub of : IsTableOf p table
+  pub placed : List (Option RowArc)
+  pub held : AreHoldersArcs holders placed
+  pub numbers : List ℕ
+  pub grown : IsGrownTo table placed numbers
+  pub are : picks ≡ map (pick_at p.arcs) numbers

@@ -7,7 +7,7 @@ ghost use Rattle.auc_graph.specs.Table.{IsTableOf};
 ghost use Rattle.auc_cert.specs.Claim.{chosen};
 ghost use Rattle.auc_hall.specs.OfProblem.{IsHallSetOf};
 ghost use Rattle.auc_world.specs.Answers.{IsBracketAnswer, IsCertified, IsInfeasibleAnswer, IsOptimalAnswer, stop_of};
-ghost use Rattle.auc_world.specs.Claims.{BoundFits, IsBracketBy};
+ghost use Rattle.auc_world.specs.Claims.{BoundFits, IsBracketBy, picks_of};
 
 use crate::answer::{Answer, Guard};
 use crate::gathering::Gathered;
@@ -94,6 +94,7 @@ fn bracket_parts(
     requires each { length prices.items ≡ problem.now.objects }
     requires within { All IsPrice prices.items }
     ensures some { IfOk result (λ o. IfSome o (IsBracketBy problem.now reason prices.items)) }
+    ensures picks { IfOk result (λ o. IfSome o (λ cert. picks_of cert ≡ picks.items)) }
     ensures none { IfOk result (λ o. IfNone o (BoundFits problem.now prices.items → ⊥)) }
 {
     let scale = problem.persons() + 1;

@@ -58,6 +58,14 @@ impl<'a> World<'a> {
         ensures slack { (j : ℕ) (h : Held) → (seen self.now).holder j ≡ Some h → (a : RowArc) × Contains ((phase self.now).row h.person) a × (a.object ≡ j) × (a.arc ≡ h.arc) × SlackRight (phase self.now) (seen self.now).price h.person a }
         ensures counted { (seen self.now).count ≤ (phase self.now).persons }
     {}
+
+    /// Where the hub has counted as many as there are persons, each person holds an object, and the holders' arcs are an
+    /// assignment of the problem, at any eps. A law, which does nothing.
+    pub fn counted_holders_are_assigned(&self)
+        requires { Reached (phase self.now) (seen self.now) }
+        ensures everyone { (seen self.now).count ≡ (phase self.now).persons → (i : ℕ) → i < (phase self.now).persons → (j : ℕ) × (h : Held) × ((seen self.now).holder j ≡ Some h) × (h.person ≡ i) }
+        ensures assigned { (p : Problem) → IsTableOf p self.now.table → (seen self.now).count ≡ (phase self.now).persons → (choice : List Arc) × IsAssignment p choice × All (IsHeldArc p (seen self.now)) choice }
+    {}
 }
 
 /// Where the hub has counted as many as there are persons, the holders' arcs are an assignment; and at eps 1 the checker finds

@@ -95,6 +95,7 @@ pub fn picks_of_matching(
 ) -> Result<Vec<Pick>, AllocError>
     requires { IsFullOf problem.now numbers.now }
     ensures assignment { IfOk result (λ picks. IsAssignment problem.now (chosen 0 picks.items)) }
+    ensures numbered { IfOk result (λ picks. picks.items ≡ map (pick_at problem.now.arcs) numbers.now) }
     ensures each { IfOk result (λ picks. length picks.items ≡ problem.now.persons) }
     ensures problem { IsProblem problem.now }
 {

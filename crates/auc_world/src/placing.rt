@@ -5,7 +5,7 @@ ghost use Rattle.auc_graph.specs.declared.arc.Arc.{Arc};
 ghost use Rattle.auc_graph.specs.Problem.{IsProblem};
 ghost use Rattle.auc_graph.specs.Table.{IsTableOf};
 ghost use Rattle.auc_hall.specs.Partial.{IsFor};
-ghost use Rattle.auc_world.specs.Claims.{ArePlaceable, HoldsAt};
+ghost use Rattle.auc_world.specs.Claims.{AreHoldersArcs, ArePlaceable, HoldsAt};
 
 use auc_graph::{ArcList, Rows};
 use auc_hall::Partial;
@@ -38,6 +38,7 @@ pub(crate) fn place_holders(
     requires rows { IsTableOf problem.now rows.now }
     requires holders { length holders.now ≡ problem.now.objects }
     ensures placed { IfOk result (λ o. IfSome o (λ partial. IsFor rows.now partial × ArePlaceable problem.now holders.now)) }
+    ensures holders { IfOk result (λ o. IfSome o (λ partial. AreHoldersArcs holders.now partial.choice)) }
     ensures unplaced { IfOk result (λ o. IfNone o (ArePlaceable problem.now holders.now → ⊥)) }
 {
     let mut partial = Partial::new(alloc, rows)?;

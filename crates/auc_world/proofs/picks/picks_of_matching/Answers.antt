@@ -12,3 +12,6 @@ returns-clause-assignment c = full_found c.args.problem.now c.args.numbers.now c
 
 pub returns-clause-each : goal.returns-clause-each
 returns-clause-each c = as_many c.args.problem.now c.args.numbers.now c.in_ok-picks.picks.items c.requires (c.in_ok-picks.ensures ∙ ap (λ (arcs : List Arc). map (pick_at arcs) c.args.numbers.now) c.arcs.ensures.arcs)
+
+pub returns-clause-numbered : goal.returns-clause-numbered
+returns-clause-numbered c = c.in_ok-picks.ensures ∙ ap (λ (arcs : List Arc). map (pick_at arcs) c.args.numbers.now) c.arcs.ensures.arcs

@@ -1,6 +1,6 @@
 use Rattle.std.proofs.Common.{arith, sym, subst, ℕ, ◌<◌, ◌+◌}
 use Rattle.auc_hall.proofs.ProblemLaws.{length-rows}
-use Rattle.auc_world.proofs.PlacedLaws.{ArePlaced, holder_below, nobody_there, not_placed, placed_all, placed_more, placed_nothing}
+use Rattle.auc_world.proofs.PlacedLaws.{ArePlaced, holder_below, nobody_there, not_placed, placed_all, placed_holders, placed_more, placed_nothing}
 use Rattle.auc_world.proofs.placing.place_holders.Goals as goal
 
 pub loop-object-preserved-in_default : goal.loop-object-preserved-in_default
@@ -33,3 +33,6 @@ loop-object-preserved c =
 
 pub returns-clause-placed : goal.returns-clause-placed
 returns-clause-placed c = let inv = c.loop-object.invariant in (inv.made, placed_all c.args.problem.now c.args.holders.now c.loop-object.object c.loop-object.partial.choice inv.placed (let past = c.loop-object-test.false in let many = c.requires.holders in let objects = c.objects-object-end.ensures.objects in omega (arith, past, many, objects)))
+
+pub returns-clause-holders : goal.returns-clause-holders
+returns-clause-holders c = let inv = c.loop-object.invariant in placed_holders c.args.problem.now c.args.holders.now c.loop-object.object c.loop-object.partial.choice inv.placed (let past = c.loop-object-test.false in let many = c.requires.holders in let objects = c.objects-object-end.ensures.objects in omega (arith, past, many, objects))

@@ -9,11 +9,31 @@ class Infeasible(ValueError):
     """
 
     def __init__(self, rows, columns, by_columns=False):
-        some, few = (columns, rows) if by_columns else (rows, columns)
-        names = ("columns", "rows") if by_columns else ("rows", "columns")
-        super().__init__(f"no full assignment exists: {len(some)} {names[0]} have entries in only {len(few)} {names[1]}")
+        # What an exception is made of anew, as where one process tells it to another, are its arguments.
+        super().__init__(rows, columns, by_columns)
         self.rows, self.columns, self.by_columns = rows, columns, by_columns
+
+    def __str__(self):
+        some, few = (self.columns, self.rows) if self.by_columns else (self.rows, self.columns)
+        names = ("columns", "rows") if self.by_columns else ("rows", "columns")
+        return f"no full assignment exists: {len(some)} {names[0]} have entries in only {len(few)} {names[1]}"
 
 
 class Refused(ValueError):
     """A solution doesn't hold of a problem: the message says why."""
+
+
+class Unsettled(RuntimeError):
+    """A limit ended the search before the least cost (or the most) was found.
+
+    `solution` is what the search came to: a full assignment, its cost, and the bound that none is better than. It is no ValueError: those who
+    take that for a problem without an assignment would be wrong here.
+    """
+
+    def __init__(self, solution):
+        super().__init__(solution)
+        self.solution = solution
+
+    def __str__(self):
+        cost, bound = self.solution.cost, self.solution.bound
+        return f"the bids didn't suffice: an assignment of cost {cost} was found, and none is better than {bound}; more bids= may settle it"

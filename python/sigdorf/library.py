@@ -24,6 +24,7 @@ START_FAULTS = {
     2: "a start has a price for each column",
     3: "the price {place} of the start is not from 0 to 2^60",
 }
+OTHER_SIZE = "the solution is not of the size of the problem"
 CLAIM_FAULTS = {
     1: "entry number {place} of the solution is no entry of its row",
     2: "a number of the solution is out of range",
@@ -65,6 +66,11 @@ def _load():
 _library = _load()
 
 
+def _own(numbers, kind):
+    """Numbers as C takes them: one after another, of this type, and in memory that no other thread writes meanwhile."""
+    return numpy.array(numbers, kind, order="C")
+
+
 def _passed(*arrays):
     """Pointers and lengths, as C takes them."""
     return [word for array in arrays for word in (array.ctypes.data, len(array))]
@@ -81,7 +87,11 @@ def _refuse(status, found):
 
 
 def solve_arcs(persons, objects, arcs, start, bids):
-    """The status, places of arcs or persons, prices, objects, and what was found."""
+    """The status, places of arcs or persons, prices, objects, and what was found.
+
+    arcs: an array of ARC that nobody else writes; start: whole numbers, none or a price of each object, in units of costs times persons + 1.
+    """
+    start = _own(start, numpy.int64)
     choice, hall_objects = numpy.zeros(persons, numpy.uint32), numpy.zeros(persons, numpy.uint32)
     prices, found = numpy.zeros(objects, numpy.int64), Found()
     status = _library.sigdorf_solve(persons, objects, *_passed(arcs, start), bids, *_passed(choice, prices, hall_objects), ctypes.byref(found))
@@ -91,12 +101,12 @@ def solve_arcs(persons, objects, arcs, start, bids):
 
 
 def check_arcs(persons, objects, arcs, choice, prices, cost):
-    """Raises Refused where the claim doesn't pass."""
-    found = Found()
+    """Raises Refused where the claim doesn't pass: the place of an arc of each person, a price of each object, and a cost."""
+    choice, prices, found = _own(choice, numpy.uint32), _own(prices, numpy.int64), Found()
     status = _library.sigdorf_check(persons, objects, *_passed(arcs, choice, prices), cost, ctypes.byref(found))
     if status == INVALID:
         raise Refused(CLAIM_FAULTS[found.kind].format(place=found.place))
     if status == SIZES:
-        raise Refused("the solution is not of the size of the problem")
+        raise Refused(OTHER_SIZE)
     if status != OPTIMAL:
         _refuse(status, found)

@@ -13,7 +13,11 @@ def add_options(words):
     words.add_argument("file", metavar="FILE", help="a table with names: person, object and cost in three columns, or a row for each person and a column for each object")
     words.add_argument("--decimals", type=number_of_decimals, default=0, metavar="D", help="how many decimals of the costs are kept, 0 to 9; left out, 0")
     words.add_argument("--maximise", action="store_true", help="look for the greatest total, not for the least")
-    words.add_argument("--form", choices=["pairs", "matrix"], help="the form of the table, where it isn't to be found out")
+    form = words.add_mutually_exclusive_group()
+    form.add_argument("--form", choices=["pairs", "matrix"], help="the form of the table, where it isn't to be found out; --pairs and --matrix say the same")
+    form.add_argument("--pairs", dest="form", action="store_const", const="pairs", help="each row is a person, an object and a cost")
+    form.add_argument("--matrix", dest="form", action="store_const", const="matrix", help="the first row names the objects, and the first column the persons")
+    words.add_argument("--no-header", action="store_true", help="the first row has no names: of pairs it is one, and a matrix is costs alone, whose rows and columns are numbered")
     words.add_argument("--separator", choices=list(SEPARATORS), help="what parts the columns, where it isn't to be found out")
 
 
@@ -26,7 +30,7 @@ def number_of_decimals(word):
 def converted(words):
     """The text of the arc file, and the names, of the table that the words name."""
     table = read_table(words.file, SEPARATORS.get(words.separator))
-    problem = problem_of(table, words.form, words.decimals, words.maximise)
+    problem = problem_of(table, words.form, not words.no_header, words.decimals, words.maximise)
     arcs, dummy_objects = arc_file_of(words.file, problem)
     names = Names(
         table=os.path.basename(words.file),

@@ -1,8 +1,9 @@
 """Problems with names: who may take what at which cost, from the rows of a table to the text of an arc file."""
 from typing import NamedTuple
 
-from .amounts import NotAnAmount, mark_of, units_of
+from .amounts import NotAnAmount, TooManyDecimals, mark_of, units_of, way_out
 from .faults import Fault
+from .forms import form_of, looks_like_number
 
 MOST_PERSONS = 10_000
 MOST_OBJECTS = 20_000
@@ -57,6 +58,11 @@ class Costs:
     def __init__(self, table, decimals, maximise):
         self.table, self.decimals, self.sign = table, decimals, -1 if maximise else 1
         self.marks = ".," if table.separator == ";" else "."
+        self.rows, self.columns = [], slice(0)
+
+    def stand_in(self, rows, columns):
+        """Says where all the costs are, since advice on one that is at fault has to suit the others too."""
+        self.rows, self.columns = rows, columns
 
     def of(self, row, place):
         text = row.cells[place]
@@ -64,47 +70,36 @@ class Costs:
             units = units_of(text, self.decimals, self.marks)
         except NotAnAmount as why:
             shown = text if len(text) <= 40 else text[:37] + ".."
-            raise self.table.fault(row, place, f"`{shown}` {why}") from None
+            raise self.table.fault(row, place, f"`{shown}` {why}{self.advice(why)}") from None
         # The first amount with decimals tells for all others whether they stand behind a point or a comma.
         self.marks = mark_of(text) or self.marks
         return self.sign * units
+
+    def advice(self, fault):
+        if not isinstance(fault, TooManyDecimals):
+            return ""
+        return way_out((cell for row in self.rows for cell in row.cells[self.columns]), self.marks)
 
     def mark(self):
         """What parts decimals off in this table."""
         return self.marks if len(self.marks) == 1 else ","
 
 
-def problem_of(table, form, decimals, maximise):
+def problem_of(table, form, has_header, decimals, maximise):
     """The problem of a table. The form is `pairs`, `matrix`, or None, where the table tells it."""
     costs = Costs(table, decimals, maximise)
-    if (form or form_of(table)) == "pairs":
-        return problem_of_pairs(table, costs)
-    return problem_of_matrix(table, costs)
+    if (form or form_of(table, has_header)) == "pairs":
+        return problem_of_pairs(table, has_header, costs)
+    return problem_of_matrix(table, costs) if has_header else problem_of_costs(table, costs)
 
 
-def form_of(table):
-    """Whether a table lists pairs, or has a row for each person and a column for each object. Three columns where both may be meant are a fault."""
-    first, rest = table.rows[0], table.rows[1:]
-    second = [row.cells[1] for row in rest if len(row.cells) > 1]
-    if len(first.cells) != 3 or not first.cells[0] or "" in second:
-        return "matrix"
-    persons = [row.cells[0] for row in table.rows]
-    has_names = not any(map(looks_like_number, second)) or looks_like_number(first.cells[2]) > looks_like_number(first.cells[1])
-    if has_names or len(set(persons)) < len(persons):
-        return "pairs"
-    raise Fault(f"{table.file}, line {first.line}: person, object and cost in three columns, or a row for each person: say --form pairs or --form matrix")
-
-
-def looks_like_number(cell):
-    return cell[:1].isdigit() or cell[:1] in tuple("+-.,\u2212")
-
-
-def problem_of_pairs(table, costs):
-    """Three columns: person, object, cost. A first row whose third cell doesn't begin as a number does has their titles."""
+def problem_of_pairs(table, has_header, costs):
+    """Three columns: person, object, cost. A first row whose third cell doesn't begin as a number does has their titles, unless no header is said to be there."""
     rows, titles = table.rows, TITLES
     look_at_lengths(table, 3)
-    if not looks_like_number(rows[0].cells[2]):
+    if has_header and not looks_like_number(rows[0].cells[2]):
         titles, rows = titles_of(table), rows[1:]
+    costs.stand_in(rows, slice(2, 3))
     persons, objects, arcs, lines = Numbers(table, MOST_PERSONS), Numbers(table, MOST_OBJECTS), [], {}
     for row in rows:
         if not row.cells[2]:
@@ -133,6 +128,7 @@ def problem_of_matrix(table, costs):
     first, rest = table.rows[0], table.rows[1:]
     look_at_lengths(table, len(first.cells))
     persons, objects, arcs = Numbers(table, MOST_PERSONS), Numbers(table, MOST_OBJECTS), []
+    costs.stand_in(rest, slice(1, None))
     for place in range(1, len(first.cells)):
         objects.new(first, place)
     for row in rest:
@@ -141,6 +137,21 @@ def problem_of_matrix(table, costs):
     if not rest:
         raise Fault(f"{table.file}, line {first.line}: there is no person, since no row follows the names of the objects")
     return Problem([first.cells[0] or TITLES[0], *TITLES[1:]], costs.mark(), list(persons.numbers), list(objects.numbers), arcs)
+
+
+def problem_of_costs(table, costs):
+    """Costs alone: a row for each person and a column for each object, whose names are the numbers of these, from 1 on."""
+    first = table.rows[0]
+    look_at_lengths(table, len(first.cells))
+    if table.gaps:
+        raise Fault(f"{table.file}, line {table.gaps[0]}: the row is empty, and a person is a row here; leave it out, or give it a cost")
+    for word, count, most in (("row", len(table.rows), MOST_PERSONS), ("column", len(first.cells), MOST_OBJECTS)):
+        if count > most:
+            raise Fault(f"{table.file}: {count:,} {word}s are more than the {most:,} that a problem may have")
+    costs.stand_in(table.rows, slice(None))
+    arcs = [Arc(person, place + 1, costs.of(row, place)) for person, row in enumerate(table.rows, 1) for place, cell in enumerate(row.cells) if cell]
+    numbers = [str(number) for number in range(1, max(len(table.rows), len(first.cells)) + 1)]
+    return Problem(TITLES, costs.mark(), numbers[: len(table.rows)], numbers[: len(first.cells)], arcs)
 
 
 def look_at_lengths(table, length):

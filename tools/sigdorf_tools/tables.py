@@ -19,9 +19,12 @@ class Row(NamedTuple):
 
 
 class Table(NamedTuple):
+    """A table without its empty rows, and the lines of those of them that have cells."""
+
     file: str
     separator: str
     rows: list
+    gaps: list
 
     def fault(self, row, place, sentence):
         """The fault of the cell at a place, from 0 on, of a row."""
@@ -32,10 +35,11 @@ def read_table(file, separator=None):
     """The table of a file, without its empty rows. A separator that isn't given is found."""
     text = text_of(file)
     separator = separator or separator_of(text)
-    rows = [row for row in rows_of(file, text, separator) if any(row.cells)]
+    all_rows = list(rows_of(file, text, separator))
+    rows = [row for row in all_rows if any(row.cells)]
     if not rows:
         raise Fault(f"{file}: the table is empty")
-    table = Table(file, separator, rows)
+    table = Table(file, separator, rows, [row.line for row in all_rows if len(row.cells) > 1 and not any(row.cells)])
     if max(len(row.cells) for row in rows) == 1:
         raise Fault(f"{file}, line {rows[0].line}: no table, since no comma, semicolon or tab parts its columns")
     look_for_control_characters(table)

@@ -1,4 +1,6 @@
 """from_csv: which tables are read, and which faults are told."""
+import re
+
 from calls import ToolTest
 
 
@@ -44,7 +46,47 @@ class Tables(ToolTest):
     def test_form_by_word(self):
         table = "fitter,7,8\n1,4,5\n2,6,7\n"
         self.assertEqual(self.convert(table, "--form", "matrix"), "2\n1 1 4\n1 2 5\n2 1 6\n2 2 7\n")
+        self.assertEqual(self.convert(table, "--matrix"), self.convert(table, "--form", "matrix"))
         self.assertEqual(self.convert(table, "--form", "pairs"), "3\n1 1 8\n2 2 5\n3 3 7\n")
+        self.assertEqual(self.convert(table, "--pairs"), self.convert(table, "--form", "pairs"))
+
+
+class Headers(ToolTest):
+    """A first row that is all numbers says neither that it is names nor that it is costs."""
+
+    NONE = ["12,2\n1,3\n", "1,2,3\n4,5,6\n7,8,9\n", "1,1,40\n1,2,65\n2,1,35\n", "40;65,5;30;1\n1;2;3;4\n", "1e3,2,5,7\n1,2,3,4\n", "12 \u20ac,3,4,5\n1,2,3,4\n", "40,,30,20\n1,2,3,4\n",
+            "inf,2,3,4\n1,2,3,4\n", "-,1,2,3\n1,2,3,4\n", "1,2\n"]
+
+    def test_numbers_alone(self):
+        for number, table in enumerate(self.NONE):
+            self.write(f"{number}.csv", table)
+        calls = [(tool, f"{number}.csv") for number in range(len(self.NONE)) for tool in ("tools/from_csv", "plan")]
+        for (_, file), answer in zip(calls, self.answers(calls)):
+            table = self.NONE[int(file.removesuffix(".csv"))]
+            with self.subTest(table):
+                self.assert_fault(answer, file, "line 1", "all numbers", "header on top", "--matrix", "--no-header")
+                self.assertEqual("--pairs" in answer[2], table.count(",", 0, table.find("\n")) == 2)
+
+    def test_as_said(self):
+        square = "1,2,3\n4,5,6\n7,8,9\n"
+        costs = "3\n1 1 1\n1 2 2\n1 3 3\n2 1 4\n2 2 5\n2 3 6\n3 1 7\n3 2 8\n3 3 9\n"
+        for table, words, arcs in [
+            (square, ["--pairs"], "3\n1 1 3\n2 2 6\n3 3 9\n"),
+            (square, ["--matrix"], "2\n1 1 5\n1 2 6\n2 1 8\n2 2 9\n"),
+            (square, ["--matrix", "--no-header"], costs),
+            (square, ["--pairs", "--no-header"], "3\n1 1 3\n2 2 6\n3 3 9\n"),
+            (",a,b,c\na," + square.replace("\n", "\nb,", 1).replace("6\n", "6\nc,"), [], costs),
+            ("12,2\n1,3\n", ["--no-header"], "2\n1 1 12\n1 2 2\n2 1 1\n2 2 3\n"),
+            ("12,2\n1,3\n", ["--matrix"], "1\n1 1 3\n"),
+            ("12,\n,3\n\n", ["--no-header"], "2\n1 1 12\n2 2 3\n"),
+            (",7,8\n1,4,5\n2,6,7\n", [], "2\n1 1 4\n1 2 5\n2 1 6\n2 2 7\n"),
+            ("Ada,pump,40\nAda,roof,65\nBen,pump,35\n", ["--no-header"], "2\n1 1 40\n1 2 65\n2 1 35\n"),
+        ]:
+            with self.subTest(table=table, words=words):
+                self.assertEqual(self.convert(table, *words), arcs)
+
+    def test_names_of_costs_alone(self):
+        self.assertEqual(self.plan("12,2\n1,3\n", "auction 1\noptimal 2 3\nassign 1 2 2\nassign 2 1 1\nprice 1 0\nprice 2 0\n", "--no-header"), (0, "person,object,cost\n1,2,2\n2,1,1\ntotal,,3\n", ""))
 
 
 class Amounts(ToolTest):
@@ -64,6 +106,38 @@ class Amounts(ToolTest):
     def test_greatest_costs(self):
         self.assertEqual(self.convert("a,x,1000000000\nb,y,-1000000000.0\n"), "2\n1 1 1000000000\n2 2 -1000000000\n")
         self.assertEqual(self.convert("a,x,1\nb,y,-1\n", "--decimals", "9"), "2\n1 1 1000000000\n2 2 -1000000000\n")
+
+
+class Decimals(ToolTest):
+    """What is advised where decimals aren't kept isn't refused next."""
+
+    TOO_MANY = {
+        "a,x,40\na,y,7.28\n": "--decimals 2 keeps them",
+        "a,x,40\na,y,7.2\nb,y,7.284\n": "--decimals 3 keeps them",
+        "a,x,1\na,y,0.123456789\n": "--decimals 9 keeps them",
+        "a,x,0.12345678901234\n": "round the costs in the table to 9 decimals and say --decimals 9, since no cost can have more",
+        "a,x,40.12345678901234\n": "round the costs in the table to 7 decimals and say --decimals 7, since costs as great as these can't have more",
+        "a,x,0.12345\na,y,99999999.5\n": "round the costs in the table to 1 decimal and say --decimals 1",
+        "a,x,1000000000\na,y,0.5\n": "round the costs in the table to whole numbers and say --decimals 0",
+        "a,x,0.5\na,y,1000000001\n": "`0.5` has more decimals than the 0 that are kept; round it in the table",
+        "a,x,9.9999999999\n": "round the costs in the table to 8 decimals",
+        ",x,y,z\na,1,2.345,x\nb,3,4,5\n": "--decimals 3 keeps them",
+    }
+
+    def test_advice(self):
+        for number, table in enumerate(self.TOO_MANY):
+            self.write(f"{number}.csv", table)
+        calls = [("tools/from_csv", f"{number}.csv") for number in range(len(self.TOO_MANY))]
+        for (table, wanted), answer in zip(self.TOO_MANY.items(), self.answers(calls)):
+            with self.subTest(table):
+                self.assert_fault(answer, "more decimals", wanted)
+                keeps = re.search("--decimals ([0-9]+) keeps", answer[2])
+                if keeps and ",x\n" not in table:
+                    self.convert(table, "--decimals", keeps[1])
+
+    def test_costs_alone(self):
+        self.write("table.csv", "0.25,3\n2,0.125\n")
+        self.assert_fault(self.call("tools/from_csv", "table.csv", "--no-header"), "line 1, column 1", "--decimals 3 keeps them")
 
 
 class UnequalNumbers(ToolTest):
@@ -109,9 +183,15 @@ class Faults(ToolTest):
         "very long": ("a,x,1\nb,y," + "9" * 100000 + "\n", [], "line 2, column 3", "out of range"),
         "longer than a cell": ("a,x,1\nb,y," + "9" * 1000000 + "\n", [], "line 2", "longer than"),
         "open quote": ('a,x,1\n"b,y,2\n', [], "line 2", "quote"),
-        "two forms": ("p,x,y\na,4,5\nb,6,7\n", [], "--form"),
-        "two forms of numbers": ("p,1,2\na,4,5\nb,6,7\n", [], "--form"),
-        "two forms of numbers and a word": ("p,x,y\na,4,5\nb,n/a,7\n", [], "--form"),
+        "two forms": ("p,x,y\na,4,5\nb,6,7\n", [], "--pairs or --matrix"),
+        "two forms of numbers": ("p,1,2\na,4,5\nb,6,7\n", [], "--pairs or --matrix"),
+        "two forms of numbers and a word": ("p,x,y\na,4,5\nb,n/a,7\n", [], "--pairs or --matrix"),
+        "empty row where rows are persons": ("1,2\n,\n3,4\n", ["--no-header"], "line 2", "empty"),
+        "name where all is costs": ("Ada,2,3,4\nBen,4,5,6\n", ["--no-header"], "line 1, column 1", "`Ada` is no number"),
+        "two forms of costs": ("1,2,3\n4,5,6\n", ["--no-header"], "line 1", "--pairs or --matrix"),
+        "titles that are said not to be": ("a,b,c\nx,y,3\n", ["--no-header"], "line 1, column 3", "no number"),
+        "too many rows of costs": ("1,2\n" * 10_001, ["--no-header"], "10,001 rows", "10,000"),
+        "too many columns of costs": (",".join(["1"] * 20_001), ["--no-header"], "20,001 columns", "20,000"),
         "too many persons": ("".join(f"a{n},x,{n}\n" for n in range(10_001)), [], "line 10001, column 1", "10,000"),
         "too many objects": ("".join(f"a,x{n},{n}\n" for n in range(20_001)), [], "line 20001, column 2", "20,000"),
         "too many dummies": ("".join(f"a{n},x,{n}\n" for n in range(9_000)), [], "arcs"),
@@ -133,7 +213,7 @@ class Faults(ToolTest):
         self.assert_fault(self.call("tools/from_csv", "table.csv", "--arcs", "nosuch/table.arcs"), "nosuch/table.arcs")
 
     def test_words(self):
-        for words in ([], ["table.csv", "--decimals", "10"], ["table.csv", "--decimals", "x"], ["table.csv", "--form", "circle"]):
+        for words in ([], ["table.csv", "--decimals", "10"], ["table.csv", "--decimals", "x"], ["table.csv", "--form", "circle"], ["table.csv", "--pairs", "--matrix"]):
             status, output, said = self.call("tools/from_csv", *words)
             self.assertEqual((status, output), (2, ""))
             self.assertNotIn("Traceback", said)

@@ -1,7 +1,7 @@
 """Matrices of a caller, dense or sparse, as lists of entries."""
 import numpy
 
-from .arguments import MOST_ENTRIES, MOST_OBJECTS, array_of, attempt, sides_of, truth
+from .arguments import MOST_ENTRIES, MOST_OBJECTS, array_of, attempt, sides_of, truth, whole_numbers
 from .library import LIST_FAULTS
 from .problem import look_at_sides
 
@@ -20,20 +20,31 @@ def entries_of(matrix, maximize):
 
 
 def _stored(matrix):
+    """The entries of a sparse matrix, whose parts are looked at as those of any caller; an entry that is stored twice is the sum, as SciPy has it."""
     if attempt(lambda given: given.format in FORMATS, matrix) is not True:
         raise ValueError(f"a sparse matrix must be of a format that stores its entries alone: {', '.join(FORMATS)}")
     shape = sides_of(attempt(lambda given: given.shape, matrix))
     look_at_sides(shape)
-    parts = attempt(_parts_of, matrix)
+    entries = attempt(lambda given: given.tocoo(copy=False), matrix)
+    parts = attempt(lambda given: (given.row, given.col, given.data), entries)
     if parts is None:
         raise ValueError("the sparse matrix has faults in it, so that its entries can't be listed")
-    return *parts, shape
+    rows, columns = (whole_numbers(part, f"{name} indices of the matrix", 0, side - 1) for part, name, side in zip(parts, ("row", "column"), shape))
+    costs = array_of(parts[2], "the matrix", MOST_ENTRIES)
+    if costs.ndim != 1 or costs.dtype.kind not in "biuf" or not len(rows) == len(columns) == len(costs):
+        raise ValueError("the sparse matrix must have a number for each of its entries")
+    return *_summed(rows, columns, costs), shape
 
 
-def _parts_of(matrix):
-    entries = matrix.tocoo(copy=True)
-    entries.sum_duplicates()
-    return entries.row, entries.col, entries.data
+def _summed(rows, columns, costs):
+    """The entries by rows and columns, with one of each pair: the sum, in the type of the costs."""
+    order = numpy.lexsort((columns, rows))
+    rows, columns, costs = rows[order], columns[order], costs[order]
+    firsts = numpy.flatnonzero((numpy.diff(rows, prepend=-1) != 0) | (numpy.diff(columns, prepend=-1) != 0))
+    if len(firsts) == len(rows):
+        return rows, columns, costs
+    with numpy.errstate(all="ignore"):
+        return rows[firsts], columns[firsts], numpy.add.reduceat(costs, firsts, dtype=costs.dtype)
 
 
 def _not_infinite(matrix, maximize):

@@ -5,6 +5,7 @@ import fractions
 import pickle
 import types
 
+from guises import Broken
 from limited import Limited, numpy, scipy, sigdorf
 
 LISTS = ([0, 0, 1, 1], [0, 1, 0, 1], [1, 2, 1, 4])
@@ -34,22 +35,6 @@ def no_numbers():
 def anew(value):
     """The value, or where it is a generator one that nobody has read."""
     return (number for number in range(4)) if isinstance(value, types.GeneratorType) else value
-
-
-class Broken:
-    """What raises something of its own wherever it is looked at."""
-
-    def __len__(self):
-        raise KeyError("length")
-
-    def __array__(self, *_, **__):
-        raise KeyError("array")
-
-    def __index__(self):
-        raise KeyError("index")
-
-    def __getattr__(self, name):
-        raise KeyError(name)
 
 
 class Lists(Limited):

@@ -2,6 +2,7 @@
 import numpy
 
 from .arguments import MOST_ENTRIES, MOST_OBJECTS, array_of, attempt, sides_of, truth, whole_numbers
+from .costs import whole_costs
 from .library import LIST_FAULTS
 from .problem import look_at_sides
 
@@ -20,7 +21,7 @@ def entries_of(matrix, maximize):
 
 
 def _stored(matrix):
-    """The entries of a sparse matrix, whose parts are looked at as those of any caller; an entry that is stored twice is the sum, as SciPy has it."""
+    """The entries of a sparse matrix, whose parts are looked at as those of any caller. One that is stored twice is the sum."""
     if attempt(lambda given: given.format in FORMATS, matrix) is not True:
         raise ValueError(f"a sparse matrix must be of a format that stores its entries alone: {', '.join(FORMATS)}")
     shape = sides_of(attempt(lambda given: given.shape, matrix))
@@ -37,13 +38,16 @@ def _stored(matrix):
 
 
 def _summed(rows, columns, costs):
-    """The entries by rows and columns, with one of each pair: the sum, in the type of the costs."""
+    """The entries by rows and columns, with one of each pair: the sum, which a type of few bits might not hold."""
     order = numpy.lexsort((columns, rows))
     rows, columns, costs = rows[order], columns[order], costs[order]
     firsts = numpy.flatnonzero((numpy.diff(rows, prepend=-1) != 0) | (numpy.diff(columns, prepend=-1) != 0))
     if len(firsts) == len(rows):
         return rows, columns, costs
+    if costs.dtype.kind in "iu":
+        costs = whole_costs(costs, 0, False)
     with numpy.errstate(all="ignore"):
+        costs = costs if costs.dtype.kind != "f" else costs.astype(numpy.result_type(costs.dtype, numpy.float64))
         return rows[firsts], columns[firsts], numpy.add.reduceat(costs, firsts, dtype=costs.dtype)
 
 
@@ -52,11 +56,15 @@ def _not_infinite(matrix, maximize):
     if matrix.ndim != 2 or matrix.dtype.kind not in "biuf":
         raise ValueError("the matrix must have two dimensions, and numbers in them")
     look_at_sides(matrix.shape)
+    is_entry = None
     if matrix.dtype.kind == "f":
         with numpy.errstate(all="ignore"):
-            rows, columns = numpy.nonzero(matrix != (-numpy.inf if maximize else numpy.inf))
-        return rows, columns, matrix[rows, columns], matrix.shape
-    if matrix.size > MOST_ENTRIES:
+            is_entry = matrix != (-numpy.inf if maximize else numpy.inf)
+    # Lists of entries take far more memory than a matrix may.
+    if (matrix.size if is_entry is None else numpy.count_nonzero(is_entry)) > MOST_ENTRIES:
         raise ValueError(LIST_FAULTS[3])
-    rows, columns = numpy.indices(matrix.shape).reshape(2, -1)
-    return rows, columns, matrix.ravel(), matrix.shape
+    if is_entry is None:
+        rows, columns = numpy.indices(matrix.shape).reshape(2, -1)
+        return rows, columns, matrix.ravel(), matrix.shape
+    rows, columns = numpy.nonzero(is_entry)
+    return rows, columns, matrix[rows, columns], matrix.shape

@@ -25,6 +25,8 @@ BLOCK = 5_000
 SECONDS = 20
 # So many bytes of addresses a process may have: no argument, however absurd its shape, is a reason to take more.
 MEMORY = 4 * 2**30
+# After so many processes that ended by a signal no other one is started.
+MOST_ENDED = 20
 
 
 def main():
@@ -49,7 +51,7 @@ def made_elsewhere(words):
     """Makes all calls by processes, one after another, and counts those that passed and failed. A signal is the failure of the call that it ended."""
     outcomes, failed, first = collections.Counter(), 0, words.first
     end = words.first + words.count
-    while first < end:
+    while first < end and failed < MOST_ENDED:
         with tempfile.NamedTemporaryFile() as place:
             place.write(bytes(8))
             place.flush()

@@ -151,6 +151,9 @@ class Guises(Limited):
         dense = numpy.array([[1, 2], [1, 4]])
         for name in ("coo", "csc", "csr", "dok", "lil"):
             self.assertEqual(sigdorf.linear_sum_assignment(scipy.sparse.csr_matrix(dense).asformat(name))[1].tolist(), [1, 0])
+        for kind, costs in [("i1", [100, 100, 100, 1]), ("f2", [2048, 1, 2048, 1]), ("u4", [10**9, 0, 5, 1])]:
+            twice = scipy.sparse.coo_matrix((numpy.array(costs, kind), ([0, 0, 0, 0], [0, 0, 1, 1])), (1, 2))
+            self.assertEqual(sigdorf.linear_sum_assignment(twice)[1].tolist(), [1 if costs[0] + costs[1] > costs[2] + costs[3] else 0])
         broken = scipy.sparse.csr_matrix(dense)
         broken.indices[0] = 77
         for value in [scipy.sparse.bsr_matrix(dense), scipy.sparse.dia_matrix(dense), broken, scipy.sparse.coo_matrix((2**31 - 1, 2**31 - 1)), scipy.sparse.csr_matrix(dense.astype(complex))]:

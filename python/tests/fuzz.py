@@ -76,7 +76,7 @@ def make_calls(words):
     import calls
 
     faulthandler.enable()
-    resource.setrlimit(resource.RLIMIT_AS, (MEMORY, MEMORY))
+    resource.setrlimit(resource.RLIMIT_AS, (MEMORY, resource.getrlimit(resource.RLIMIT_AS)[1]))
     make, outcomes = getattr(calls, words.kind), collections.Counter()
     signal.signal(signal.SIGALRM, stop)
     with open(words.place, "r+b") as file, mmap.mmap(file.fileno(), 8) as place:

@@ -1,5 +1,5 @@
 -- The tokens of a text that grows.
-use Rattle.std.proofs.Common.{◌≡◌, ℕ, ◌+◌, ◌<◌, ◌≤◌, Bool, true, false, List, [], ◌∷◌, ◌++◌, length, refl, sym, ap, ◌∙◌, arith, append_assoc, inl, inr}
+use Rattle.std.proofs.Common.{◌≡◌, ℕ, ◌+◌, ◌<◌, ◌≤◌, Bool, true, false, List, [], ◌∷◌, ◌++◌, length, ◌⊎◌, refl, sym, ap, subst, ◌∙◌, arith, append_assoc, inl, inr}
 use Rattle.std.specs.List.{slice_split, onto_first, filter}
 use Rattle.std.proofs.lemmas.Bool.{cases_Bool}
 use Rattle.std.proofs.lemmas.List.{append-nil, length-append}
@@ -93,3 +93,32 @@ apart_first = λ more. ap (λ (t : List (List ℕ)). t ++ tokens more) (sym noth
 pub few_tokens : (text : List ℕ) → length (tokens text) ≤ length text + 1
 unfolding tokens
 few_tokens text = omega (arith, length-filter is_nonempty (slice_split is_separator text), count_by-le-length is_nonempty (slice_split is_separator text), length-slice_split is_separator text, count_by-le-length is_separator text)
+
+-- ---- a text has at least the tokens of its beginning
+
+one_on : (seen : List ℕ) (b : ℕ) → IsApart seen ⊎ IsInside seen → IsApart (seen ++ b ∷ []) ⊎ IsInside (seen ++ b ∷ [])
+one_on seen b ends = elim (cases_Bool (is_separator b)) [
+  | inl parts ↦ inl (apart_behind seen b parts)
+  | inr stays ↦ elim ends [ inl apart ↦ inr (inside_begun seen b apart stays) | inr inside ↦ inr (inside_more seen b inside stays) ]
+]
+
+one_grows : (seen : List ℕ) (b : ℕ) → IsApart seen ⊎ IsInside seen → length (tokens seen) ≤ length (tokens (seen ++ b ∷ []))
+one_grows seen b ends = elim (cases_Bool (is_separator b)) [
+  | inl parts ↦ omega (arith, ap length (same_behind seen b parts))
+  | inr stays ↦ elim ends [ inl apart ↦ omega (arith, one_more seen b apart stays) | inr inside ↦ omega (arith, as_many seen b inside stays) ]
+]
+
+-- each text ends inside a token or apart from what follows
+ends_on : (seen more : List ℕ) → IsApart seen ⊎ IsInside seen → IsApart (seen ++ more) ⊎ IsInside (seen ++ more)
+ends_on seen [] ends = subst (λ (t : List ℕ). IsApart t ⊎ IsInside t) (sym (append-nil seen)) ends
+ends_on seen (b ∷ more) ends =
+    let next : IsApart (seen ++ b ∷ []) ⊎ IsInside (seen ++ b ∷ []) = one_on seen b ends in
+    subst (λ (t : List ℕ). IsApart t ⊎ IsInside t) (append_assoc seen (b ∷ []) more) (ends_on (seen ++ b ∷ []) more next)
+
+grows : (seen more : List ℕ) → IsApart seen ⊎ IsInside seen → length (tokens seen) ≤ length (tokens (seen ++ more))
+grows seen [] ends = omega (arith, ap (λ (t : List ℕ). length (tokens t)) (append-nil seen))
+grows seen (b ∷ more) ends =
+    omega (arith, one_grows seen b ends, grows (seen ++ b ∷ []) more (one_on seen b ends), ap (λ (t : List ℕ). length (tokens t)) (append_assoc seen (b ∷ []) more))
+
+pub begins_with : (front rest : List ℕ) → length (tokens front) ≤ length (tokens (front ++ rest))
+begins_with front rest = grows front rest (ends_on [] front (inl apart_first))

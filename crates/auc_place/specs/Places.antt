@@ -42,3 +42,7 @@ pub record IsPlaceOf (text : List ℕ) (number : ℕ) (place : Place) : Type 0 w
 abbrev pub IsFound : List ℕ → ℕ → Option Place → Type 0
 IsFound text number (Some place) = IsPlaceOf text number place
 IsFound text number None = length (tokens text) ≤ number
+
+-- the token of this number, if there is one, doesn't begin among the first bytes, so many
+abbrev pub BeginsBehind : List ℕ → ℕ → ℕ → Type 0
+BeginsBehind text number count = length (tokens (take count text)) ≤ number

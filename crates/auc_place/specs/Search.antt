@@ -49,5 +49,11 @@ pub record IsBegun (number : ℕ) (seen : List ℕ) (place : Place) : Type 0 whe
 
 abbrev pub IsFinding : ℕ → List ℕ → Finding → Type 0
 IsFinding number seen (Before cursor) = IsCursor seen cursor × (length (tokens seen) ≤ number)
-IsFinding number seen (Within place) = IsBegun number seen place
+IsFinding number seen (Within place) = IsBegun number seen place × (place.whole ≡ true)
 IsFinding number seen (Behind place) = (more : List ℕ) → IsPlaceOf (seen ++ more) number place
+
+-- the place of the token is not known yet
+abbrev pub IsOpen : Finding → Type 0
+IsOpen (Before cursor) = ⊤
+IsOpen (Within place) = ⊤
+IsOpen (Behind place) = ⊥

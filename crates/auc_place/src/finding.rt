@@ -2,7 +2,7 @@
 
 ghost use Rattle.std.specs.Prelude.{◌≡◌, ◌<◌, ◌+◌, ◌^◌, ◌++◌, ◌∷◌, [], List, ℕ, length};
 ghost use Rattle.auc_place.specs.Places.{IsFound};
-ghost use Rattle.auc_place.specs.Search.{IsCursor, IsFinding};
+ghost use Rattle.auc_place.specs.Search.{IsCursor, IsFinding, IsOpen};
 
 use crate::cursor::{Cursor, is_separator_byte};
 use crate::place::Place;
@@ -12,9 +12,9 @@ use crate::place::Place;
 pub enum Finding {
     /// The token doesn't begin there.
     Before(Cursor),
-    /// The token begins there, and perhaps goes on.
+    /// The token begins there, has shown all its bytes so far, and perhaps goes on.
     Within(Place),
-    /// The token has ended.
+    /// The token has ended, or is longer than what is shown of it: its place stays.
     Behind(Place),
 }
 
@@ -37,9 +37,13 @@ fn gone_on(place: Place, byte: u8) -> Finding
     ensures { (number : ℕ) (seen : List ℕ) → IsFinding number seen (Finding.Within place) → IsFinding number (seen ++ byte ∷ []) result }
 {
     if is_separator_byte(byte) {
-        Finding::Behind(place)
+        return Finding::Behind(place);
+    }
+    let longer = place.with(byte);
+    if longer.whole {
+        Finding::Within(longer)
     } else {
-        Finding::Within(place.with(byte))
+        Finding::Behind(longer)
     }
 }
 
@@ -58,7 +62,8 @@ fn next(finding: Finding, number: u64, byte: u8) -> Finding
 impl Finding {
     /// At the beginning of a text.
     pub(crate) fn new() -> Finding
-        ensures { (number : ℕ) → IsFinding number [] result }
+        ensures is { (number : ℕ) → IsFinding number [] result }
+        ensures undecided { IsOpen result }
     {
         Finding::Before(Cursor::new())
     }

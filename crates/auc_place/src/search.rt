@@ -1,7 +1,8 @@
 //! The search for a token in what a reader has.
 
-ghost use Rattle.std.specs.Prelude.{◌≡◌, ◌≤◌, Err, IfOk, IfSome, length};
-ghost use Rattle.auc_place.specs.Places.{IsFound};
+ghost use Rattle.std.specs.Prelude.{◌≡◌, ◌≤◌, ◌-◌, Err, IfOk, IfSome, length};
+ghost use Rattle.auc_place.specs.declared.place.TheConstants.{MOST_SHOWN};
+ghost use Rattle.auc_place.specs.Places.{BeginsBehind, IsFound};
 
 use crate::finding::Finding;
 use crate::place::Place;
@@ -17,18 +18,18 @@ pub enum SearchFault {
     /// A read failed, or was interrupted.
     #[error("a read failed")]
     Failed,
-    /// As many reads as are allowed reached neither the token's end nor the text's.
+    /// As many reads as are allowed reached neither the token nor the text's end.
     #[error("too many reads")]
     TooManyReads,
 }
 
 /// The place of the token of this number, from 0 on, in the text that a reader has, or none where the text has no such token. `limit` is
-/// the most calls of `read`. The reader is read up to the piece in which the token ends.
+/// the most calls of `read`. The reader is read up to the piece in which the token ends, or is known to be longer than what is shown of it.
 ///
 /// # Errors
 ///
 /// [`SearchFault::Failed`] at the first read that fails, also by an interrupt: no read is tried again. [`SearchFault::TooManyReads`] where
-/// `limit` reads gave bytes each, and the token has not ended in them.
+/// `limit` reads gave bytes each, and the place of the token was not known behind them.
 ///
 /// Takes O(bytes read) time, 64 kB on the stack, and no memory.
 pub fn find_token<R: Read>(
@@ -40,6 +41,8 @@ pub fn find_token<R: Read>(
     ensures found { IfOk result (λ place. IfSome (R.remaining reader.old) (λ text. IsFound text number place)) }
     // Each read gave at least one byte.
     ensures many { result ≡ Err SearchFault.TooManyReads → IfSome (R.remaining reader.old) (λ text. limit ≤ length text) }
+    // The token didn't begin among these bytes, but perhaps among the last of them, as many as a place shows.
+    ensures far { result ≡ Err SearchFault.TooManyReads → IfSome (R.remaining reader.old) (λ text. BeginsBehind text number (limit - MOST_SHOWN)) }
 {
     let mut finding = Finding::new();
     let mut piece = [0u8; PIECE];

@@ -9,19 +9,21 @@ returns-then-next-number c = λ seen few found.
     let many : c.args.cursor.tokens ≡ length (tokens seen) = old.has.many in
     let grown : c.args.cursor.tokens < c.behind-next.result.tokens = omega (arith, many, found.1) in
     let begins = c.behind-next.ensures.begins grown in
-    let apart : IsApart seen = subst (λ b. EndsSo b seen) begins.0 old.has.ends in
-    record {
-      before = seen;
-      token = c.args.byte ∷ [];
-      parts = refl;
-      apart = apart;
-      numbered = omega (arith, many, found.1, begins.2);
-      some = omega arith;
-      plain = (begins.1, tt);
-      line = c.begun.ensures.line ∙ old.line;
-      column = c.begun.ensures.column ∙ old.column;
-      shown = c.begun.ensures.shows;
-    }
+    let apart : IsApart seen = subst (λ b. EndsSo b seen) begins.0 old.has.ends in (
+      record {
+        before = seen;
+        token = c.args.byte ∷ [];
+        parts = refl;
+        apart = apart;
+        numbered = omega (arith, many, found.1, begins.2);
+        some = omega arith;
+        plain = (begins.1, tt);
+        line = c.begun.ensures.line ∙ old.line;
+        column = c.begun.ensures.column ∙ old.column;
+        shown = c.begun.ensures.shows;
+      },
+      c.begun.ensures.shows.whole,
+    )
 
 pub returns-else-next-number : goal.returns-else-next-number
 returns-else-next-number c = λ seen few found.

@@ -3,13 +3,14 @@ use Rattle.std.proofs.KnownBytes.{Consumes-nil, Consumes-trans, Consumes-whole}
 use Rattle.std.proofs.lemmas.List.{append-nil, length-replicate}
 use Rattle.auc_place.specs.Places.{IsFound}
 use Rattle.auc_place.specs.Search.{IsFinding}
-use Rattle.auc_place.proofs.PlaceLaws.{found_early}
+use Rattle.auc_place.proofs.PlaceLaws.{found_early, given_up, is_open}
 use Rattle.auc_place.proofs.search.find_token.Goals as goal
 
 pub loop-done-init : goal.loop-done-init
 loop-done-init g c = record {
   long = length-replicate {A = ℕ} 65536 0;
-  told = ([], Consumes-nil (g.R.Read.remaining c.args.reader.now), omega arith, omega arith, c.new-finding.ensures c.args.number);
+  known = c.new-finding.ensures.undecided;
+  told = ([], Consumes-nil (g.R.Read.remaining c.args.reader.now), omega arith, omega arith, c.new-finding.ensures.is c.args.number);
 }
 
 -- behind the last read there is nothing more
@@ -47,6 +48,7 @@ loop-done-preserved g c =
     let len : length (told.0 ++ take c.in-Ok.count c.read.new.buf) ≡ length told.0 + c.in-Ok.count = length-append told.0 (take c.in-Ok.count c.read.new.buf) ∙ ap (λ n. length told.0 + n) got_long in
     record {
       long = buf_long;
+      known = is_open c.behind-finding.result c.in_default.not-Behind;
       told = (
         told.0 ++ take c.in-Ok.count c.read.new.buf,
         Consumes-trans (g.R.Read.remaining c.args.reader.now) (g.R.Read.remaining c.loop-done.reader) (g.R.Read.remaining c.read.new.self) told.0 (take c.in-Ok.count c.read.new.buf) told.1 c.in-Ok.ensures.bytes.0,
@@ -55,3 +57,8 @@ loop-done-preserved g c =
         c.behind-finding.ensures told.0 (omega (arith, told.3, got_long, few, buf_long, below, c.ranges.limit)) told.4,
       );
     }
+
+pub returns-clause-far : goal.returns-clause-far
+returns-clause-far g c = λ many.
+    let told = c.loop-done.invariant.told in
+    given_up c.args.number c.args.limit c.loop-done.finding (g.R.Read.remaining c.args.reader.now) (g.R.Read.remaining c.loop-done.reader) told.0 told.1 (omega (arith, told.2, c.loop-done-test.false)) c.loop-done.invariant.known told.4

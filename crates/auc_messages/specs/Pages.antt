@@ -14,7 +14,7 @@ unfoldable pub is_help_command : List ℕ → Bool
 is_help_command given = is_word (codes "help") given
 
 unfoldable pub is_version : List ℕ → Bool
-is_version given = is_word (codes "--version") given
+is_version given = is_word (codes "--version") given || is_word (codes "-V") given
 
 unfoldable pub is_command : List ℕ → Bool
 is_command given = is_word (codes "solve") given || is_word (codes "check") given || is_word (codes "hall") given || is_word (codes "mail") given

@@ -7,6 +7,7 @@ use Rattle.auc_messages.specs.declared.remark.Remark.{Remark}
 use Rattle.auc_messages.specs.declared.spot.Spot.TheVariants.{All}
 use Rattle.auc_messages.specs.declared.spot.Subject.{Subject}
 use Rattle.auc_messages.specs.declared.spot.Subject.TheVariants.{First, Neither}
+use Rattle.auc_messages.specs.Phrases.{phrase_for}
 use Rattle.auc_messages.specs.Spots.{spot_of, subject_of}
 
 -- the refusal that is told: none where the answer was not written, since that is told then
@@ -24,3 +25,7 @@ IsRemarkOn job status None remark = (remark.subject ≡ subject_of_status status
 
 abbrev pub IsRemark : Job → Ending → Remark → Type 0
 IsRemark job ending remark = IsRemarkOn job ending.status (told_refusal ending) remark
+
+-- its words are those of the refusal, and without one those of the status
+abbrev pub HasWords : Ending → Remark → Type 0
+HasWords ending remark = remark.phrase.now ≡ phrase_for ending.status (told_refusal ending)

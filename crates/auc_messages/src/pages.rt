@@ -24,7 +24,7 @@ fn is_help(word: &[u8]) -> bool
 fn is_version(word: &[u8]) -> bool
     ensures { result ≡ is_version word.now }
 {
-    word == b"--version".as_slice()
+    word == b"--version".as_slice() || word == b"-V".as_slice()
 }
 
 #[tactic(auto, unfolding(crate::specs::Pages::is_command))]

@@ -1,7 +1,8 @@
 //! What is said of each refusal, and of each status without one: what was wrong or wanted, and what to do. A place stands before it, and the
 //! quoted token.
 
-ghost use Rattle.std.specs.Prelude.{IsTrue};
+ghost use Rattle.std.specs.Prelude.{◌≡◌, IsTrue};
+ghost use Rattle.auc_messages.specs.Phrases.{out_of_memory, phrase_of_certificate, phrase_of_claim, phrase_of_input, phrase_of_problem, phrase_of_refusal, phrase_of_script, phrase_of_start, phrase_of_status, read_failed, too_many_reads};
 ghost use Rattle.auc_messages.specs.Sentences.{is_phrase};
 
 use auc_cert::{CertRefused, CertTextError, StartError};
@@ -9,27 +10,35 @@ use auc_graph::ReadError;
 use auc_run::status::{BRACKET, BROKEN, INFEASIBLE, NO_MEMORY, REFUSED, UNWRITTEN, USAGE};
 use auc_run::{ReadFault, Refusal, ScriptError};
 
+#[tactic(auto, unfolding(crate::specs::Phrases::out_of_memory))]
 fn out_of_memory() -> &'static [u8]
-    ensures { IsTrue (is_phrase result.now) }
+    ensures words { result.now ≡ out_of_memory }
+    ensures phrase { IsTrue (is_phrase result.now) }
 {
     b"memory ran out; end other programs, or take a smaller input"
 }
 
+#[tactic(auto, unfolding(crate::specs::Phrases::read_failed))]
 fn read_failed() -> &'static [u8]
-    ensures { IsTrue (is_phrase result.now) }
+    ensures words { result.now ≡ read_failed }
+    ensures phrase { IsTrue (is_phrase result.now) }
 {
-    b"it can't be read to its end; name a file, and no folder"
+    b"it can't be read to its end: it is a folder, closed, or gives no bytes when asked; name a file"
 }
 
+#[tactic(auto, unfolding(crate::specs::Phrases::too_many_reads))]
 fn too_many_reads() -> &'static [u8]
-    ensures { IsTrue (is_phrase result.now) }
+    ensures words { result.now ≡ too_many_reads }
+    ensures phrase { IsTrue (is_phrase result.now) }
 {
     b"it doesn't end within 1073741824 reads; name a file, or an input that ends"
 }
 
 /// Of a problem.
+#[tactic(auto, unfolding(crate::specs::Phrases::phrase_of_problem))]
 fn of_problem(error: ReadError) -> &'static [u8]
-    ensures { IsTrue (is_phrase result.now) }
+    ensures words { result.now ≡ phrase_of_problem error }
+    ensures phrase { IsTrue (is_phrase result.now) }
 {
     match error {
         ReadError::Empty => {
@@ -65,8 +74,10 @@ fn of_problem(error: ReadError) -> &'static [u8]
 }
 
 /// Of an input that is read whole.
+#[tactic(auto, unfolding(crate::specs::Phrases::phrase_of_input))]
 fn of_input(fault: ReadFault) -> &'static [u8]
-    ensures { IsTrue (is_phrase result.now) }
+    ensures words { result.now ≡ phrase_of_input fault }
+    ensures phrase { IsTrue (is_phrase result.now) }
 {
     match fault {
         ReadFault::Failed => read_failed(),
@@ -76,8 +87,10 @@ fn of_input(fault: ReadFault) -> &'static [u8]
 }
 
 /// Of a certificate's text.
+#[tactic(auto, unfolding(crate::specs::Phrases::phrase_of_certificate))]
 fn of_certificate(error: CertTextError) -> &'static [u8]
-    ensures { IsTrue (is_phrase result.now) }
+    ensures words { result.now ≡ phrase_of_certificate error }
+    ensures phrase { IsTrue (is_phrase result.now) }
 {
     match error {
         CertTextError::Line { .. } => {
@@ -88,8 +101,10 @@ fn of_certificate(error: CertTextError) -> &'static [u8]
 }
 
 /// Of a certificate's claim.
+#[tactic(auto, unfolding(crate::specs::Phrases::phrase_of_claim))]
 fn of_claim(error: CertRefused) -> &'static [u8]
-    ensures { IsTrue (is_phrase result.now) }
+    ensures words { result.now ≡ phrase_of_claim error }
+    ensures phrase { IsTrue (is_phrase result.now) }
 {
     match error {
         CertRefused::WrongSize => {
@@ -118,8 +133,10 @@ fn of_claim(error: CertRefused) -> &'static [u8]
 }
 
 /// Of a certificate that a solve is to start from.
+#[tactic(auto, unfolding(crate::specs::Phrases::phrase_of_start))]
 fn of_start(error: StartError) -> &'static [u8]
-    ensures { IsTrue (is_phrase result.now) }
+    ensures words { result.now ≡ phrase_of_start error }
+    ensures phrase { IsTrue (is_phrase result.now) }
 {
     match error {
         StartError::NotSquare => {
@@ -139,8 +156,10 @@ fn of_start(error: StartError) -> &'static [u8]
 }
 
 /// Of a script.
+#[tactic(auto, unfolding(crate::specs::Phrases::phrase_of_script))]
 fn of_script(error: ScriptError) -> &'static [u8]
-    ensures { IsTrue (is_phrase result.now) }
+    ensures words { result.now ≡ phrase_of_script error }
+    ensures phrase { IsTrue (is_phrase result.now) }
 {
     match error {
         ScriptError::Word { .. } => {
@@ -159,8 +178,10 @@ fn of_script(error: ScriptError) -> &'static [u8]
 }
 
 /// Of a refusal.
+#[tactic(auto, unfolding(crate::specs::Phrases::phrase_of_refusal))]
 pub(crate) fn of_refusal(refusal: Refusal) -> &'static [u8]
-    ensures { IsTrue (is_phrase result.now) }
+    ensures words { result.now ≡ phrase_of_refusal refusal }
+    ensures phrase { IsTrue (is_phrase result.now) }
 {
     match refusal {
         Refusal::NotRead(fault) => of_input(fault),
@@ -177,8 +198,10 @@ pub(crate) fn of_refusal(refusal: Refusal) -> &'static [u8]
 }
 
 /// Of a status, where nothing was refused.
+#[tactic(auto, unfolding(crate::specs::Phrases::phrase_of_status))]
 pub(crate) fn of_status(status: u8) -> &'static [u8]
-    ensures { IsTrue (is_phrase result.now) }
+    ensures words { result.now ≡ phrase_of_status status }
+    ensures phrase { IsTrue (is_phrase result.now) }
 {
     match status {
         INFEASIBLE => {

@@ -2,7 +2,8 @@
 
 ghost use Rattle.std.specs.Prelude.{◌≡◌, ◌≢◌, ℕ, IfSome, IsSome, IsTrue, Some, None};
 ghost use Rattle.auc_run.specs.declared.command.Job.{Job};
-ghost use Rattle.auc_messages.specs.Remarks.{IsRemark, IsRemarkOn, subject_of_status, told_refusal};
+ghost use Rattle.auc_messages.specs.Phrases.{phrase_of_refusal, phrase_of_status};
+ghost use Rattle.auc_messages.specs.Remarks.{HasWords, IsRemark, IsRemarkOn, subject_of_status, told_refusal};
 ghost use Rattle.auc_messages.specs.Sentences.{is_phrase};
 
 use crate::phrases::{of_refusal, of_status};
@@ -24,6 +25,7 @@ pub struct Remark {
 /// What is to be said of a refusal.
 fn remark_of_refusal(job: &Job, refusal: Refusal) -> Remark
     ensures is { (status : ℕ) → IsRemarkOn job.now status (Some refusal) result }
+    ensures words { result.phrase.now ≡ phrase_of_refusal refusal }
     ensures phrase { IsTrue (is_phrase result.phrase.now) }
 {
     Remark {
@@ -47,6 +49,7 @@ fn subject_of_status(status: u8) -> Subject
 /// What is to be said of a status.
 fn remark_of_status(status: u8) -> Remark
     ensures is { (job : Job) → IsRemarkOn job status None result }
+    ensures words { result.phrase.now ≡ phrase_of_status status }
     ensures phrase { IsTrue (is_phrase result.phrase.now) }
 {
     Remark {
@@ -73,7 +76,9 @@ pub fn remark_of(job: &Job, ending: Ending) -> Option<Remark>
     ensures told { ending.status ≢ 0 → IsSome result }
     // It is about the input that was refused, and the spot in it; where the answer was not written, it is about that alone.
     ensures is { IfSome result (IsRemark job.now ending) }
-    // It says something, on one line.
+    // Its words are those of the refusal that is told, and where none is, of the status.
+    ensures words { IfSome result (HasWords ending) }
+    // They say something, on one line.
     ensures phrase { IfSome result (λ remark. IsTrue (is_phrase remark.phrase.now)) }
 {
     if ending.status == OPTIMAL {

@@ -2,6 +2,7 @@
 use Rattle.std.specs.Prelude.{ℕ, ◌+◌, Bool, true, false, not, ◌&&◌, ◌==◌, nat_le, if◌then◌else◌, List, [], ◌∷◌, ◌++◌, map, codes, Option, Some, None}
 use Rattle.std.specs.Fmt.{decimal}
 use Rattle.auc_place.specs.declared.place.Place.{Place}
+use Rattle.auc_messages.specs.Names.{front_of}
 use Rattle.auc_messages.specs.declared.spot.Spot.{Spot}
 use Rattle.auc_messages.specs.declared.spot.Spot.TheVariants.{All, Token, Line, Person, Object}
 
@@ -26,11 +27,11 @@ quote_end false = codes "...\""
 
 -- a sentence about the whole input of this name
 abbrev pub sentence_of_all : List ℕ → List ℕ → List ℕ
-sentence_of_all name phrase = codes "auction: " ++ name ++ codes ": " ++ phrase ++ codes "\n"
+sentence_of_all name phrase = front_of name ++ (codes ": " ++ phrase ++ codes "\n")
 
 -- a sentence about what has this number, from 0 on, in the input of this name
 abbrev pub sentence_numbered : List ℕ → List ℕ → ℕ → List ℕ → List ℕ
-sentence_numbered name what number phrase = codes "auction: " ++ name ++ what ++ decimal (number + 1) ++ codes ": " ++ phrase ++ codes "\n"
+sentence_numbered name what number phrase = front_of name ++ (what ++ decimal (number + 1) ++ codes ": " ++ phrase ++ codes "\n")
 
 -- a sentence about a spot of the input of this name
 abbrev pub sentence_on : List ℕ → Spot → List ℕ → List ℕ
@@ -42,7 +43,7 @@ sentence_on name (Object object) phrase = sentence_numbered name (codes ", objec
 
 -- where a token stands, and its first bytes in quotation marks
 abbrev pub place_words : List ℕ → Place → List ℕ
-place_words name place = codes "auction: " ++ name ++ codes ", line " ++ decimal place.line ++ codes ", column " ++ decimal place.column ++ codes ", \""
+place_words name place = front_of name ++ (codes ", line " ++ decimal place.line ++ codes ", column " ++ decimal place.column ++ codes ", \"")
 
 abbrev pub quoted_end : Bool → List ℕ → List ℕ
 quoted_end whole phrase = quote_end whole ++ codes ": " ++ phrase ++ codes "\n"

@@ -2,6 +2,7 @@
 //! place in it, what stands there, what was wanted, and what to do. And which words ask for a page about the program in place of a job.
 #![tactic(auto)]
 
+mod naming;
 mod pages;
 mod phrases;
 mod remark;
@@ -9,6 +10,7 @@ mod shown;
 mod spot;
 mod writing;
 
+pub use naming::write_name;
 pub use pages::{Page, page_of};
 pub use remark::{Remark, remark_of};
 pub use spot::{Spot, Subject};

@@ -5,6 +5,7 @@ ghost use Rattle.std.specs.Option.{option_map};
 ghost use Rattle.auc_cert.specs.Writing.{Writes};
 ghost use Rattle.auc_messages.specs.Sentences.{place_words, quote_end, quoted_end, sentence, sentence_alone, sentence_at, sentence_numbered, sentence_of_all, sentence_on, shown_byte};
 
+use crate::naming::write_front;
 use crate::remark::Remark;
 use crate::shown::shown;
 use crate::spot::Spot;
@@ -20,12 +21,11 @@ fn quote_end(whole: bool) -> &'static [u8]
 }
 
 /// Writes where a token stands in the input of this name.
-fn write_place<W: Write>(writer: &mut W, name: &[u8], place: &Place) -> Result<(), WriteFault>
+fn write_place<W: Write>(writer: &mut W, name: &str, place: &Place) -> Result<(), WriteFault>
     ensures { Writes result (W.contents writer.old) (W.contents writer.new) (place_words name.now place.now) }
 {
+    write_front(writer, name)?;
     let parts = [
-        Part::Words(b"auction: "),
-        Part::Words(name),
         Part::Words(b", line "),
         Part::Count(place.line),
         Part::Words(b", column "),
@@ -60,7 +60,7 @@ fn write_quoted<W: Write>(writer: &mut W, place: &Place, phrase: &[u8]) -> Resul
 /// Writes a sentence about a token at its place in the input of this name.
 fn write_at<W: Write>(
     writer: &mut W,
-    name: &[u8],
+    name: &str,
     place: &Place,
     phrase: &[u8],
 ) -> Result<(), WriteFault>
@@ -73,16 +73,15 @@ fn write_at<W: Write>(
 /// Writes a sentence about what has this number, from 0 on, in the input of this name.
 fn write_numbered<'x, W: Write>(
     writer: &mut W,
-    name: &'x [u8],
+    name: &'x str,
     what: &'x [u8],
     number: u64,
     phrase: &'x [u8],
 ) -> Result<(), WriteFault>
     ensures { Writes result (W.contents writer.old) (W.contents writer.new) (sentence_numbered name.now what.now number phrase.now) }
 {
+    write_front(writer, name)?;
     let parts = [
-        Part::Words(b"auction: "),
-        Part::Words(name),
         Part::Words(what),
         Part::Place(number),
         Part::Words(b": "),
@@ -95,25 +94,20 @@ fn write_numbered<'x, W: Write>(
 /// Writes a sentence about the whole input of this name.
 fn write_all<'x, W: Write>(
     writer: &mut W,
-    name: &'x [u8],
+    name: &'x str,
     phrase: &'x [u8],
 ) -> Result<(), WriteFault>
     ensures { Writes result (W.contents writer.old) (W.contents writer.new) (sentence_of_all name.now phrase.now) }
 {
-    let parts = [
-        Part::Words(b"auction: "),
-        Part::Words(name),
-        Part::Words(b": "),
-        Part::Words(phrase),
-        Part::LineEnd,
-    ];
+    write_front(writer, name)?;
+    let parts = [Part::Words(b": "), Part::Words(phrase), Part::LineEnd];
     write_parts(writer, &parts)
 }
 
 /// Writes a sentence about a spot of the input of this name.
 fn write_on<'x, W: Write>(
     writer: &mut W,
-    name: &'x [u8],
+    name: &'x str,
     spot: Spot,
     phrase: &'x [u8],
 ) -> Result<(), WriteFault>
@@ -157,8 +151,8 @@ pub fn write_remark<W: Write>(
     match name {
         None => write_alone(writer, remark.phrase),
         Some(name) => match place {
-            None => write_on(writer, name.as_bytes(), remark.spot, remark.phrase),
-            Some(place) => write_at(writer, name.as_bytes(), place, remark.phrase),
+            None => write_on(writer, name, remark.spot, remark.phrase),
+            Some(place) => write_at(writer, name, place, remark.phrase),
         },
     }
 }

@@ -12,8 +12,7 @@ mod words;
 mod words_error;
 
 use asked::Words;
-use auc_graph::MOST_READS;
-use auc_messages::{Page, Spot, Subject, page_of, remark_of, write_remark};
+use auc_messages::{Page, Spot, Subject, page_of, remark_of, write_name, write_remark};
 use auc_place::{Place, find_token};
 use auc_run::status::{NO_MEMORY, OPTIMAL, REFUSED, UNWRITTEN, USAGE};
 use auc_run::{Ending, FreeGate, Job, perform};
@@ -26,6 +25,13 @@ use std::sync::Wait;
 use std::thread::Threads;
 use words::read_words;
 use words_error::WordsError;
+
+/// The most reads that look for the place of a token, 65,536 bytes each: in the first 64 MiB of a file. A token that stands behind them is
+/// told by its number, so that the answer isn't long past when the sentence comes.
+const MOST_PLACE_READS: u32 = 1_024;
+
+/// Linux's number of the error of a read where a descriptor is not open, or not for reading.
+const NOT_OPEN: i32 = 9;
 
 /// How a job ended; or the status alone, where standard error has been told why already.
 type Ended = Result<Ending, u8>;
@@ -67,26 +73,28 @@ fn answer<R: Print + Eprint + AllocGlobal + Threads + Wait + Sync, A: Read, B: R
 }
 
 /// Opens a file, or tells on standard error why not.
-fn open<R: Files + Eprint>(rt: &R, name: &str) -> Option<R::File> {
+fn open<R: Files + Eprint, E: Write>(rt: &R, errors: &mut E, name: &str) -> Option<R::File> {
     match File::open(rt, name) {
         Ok(file) => Some(file),
         Err(error) => {
-            let _ = eprintln!(rt; "auction: {name}: {error}");
+            let _ = errors.write_all(b"auction: ");
+            let _ = write_name(errors, name);
+            let _ = eprintln!(rt; ": {error}");
             None
         }
     }
 }
 
 /// Opens the second file, and does the job.
-fn with_second<R: Files + Input + Print + Eprint + AllocGlobal + Threads + Wait + Sync, A: Read>(
-    rt: &R,
-    words: &Words,
-    first: &mut A,
-) -> Ended
+fn with_second<
+    R: Files + Input + Print + Eprint + AllocGlobal + Threads + Wait + Sync,
+    E: Write,
+    A: Read,
+>(rt: &R, errors: &mut E, words: &Words, first: &mut A) -> Ended
     requires { IsInRange words.now.job }
 {
     match &words.second {
-        Some(name) => match open(rt, name.as_str()) {
+        Some(name) => match open(rt, errors, name.as_str()) {
             Some(mut second) => answer(rt, &words.job, first, &mut second),
             None => Err(REFUSED),
         },
@@ -94,8 +102,8 @@ fn with_second<R: Files + Input + Print + Eprint + AllocGlobal + Threads + Wait 
     }
 }
 
-/// Where the token stands that the end of the job is about, looked up in the first file; none where there is no such token, or the file can't be
-/// read a second time, as a pipe.
+/// Where the token stands that the end of the job is about, looked up in the first file; none where there is no such token, it stands too far
+/// behind, or the file can't be read a second time, as a pipe.
 fn place_in<F: Read + Seek>(file: &mut F, job: &Job, ended: &Ended) -> Option<Place> {
     let Ok(ending) = ended else {
         return None;
@@ -107,7 +115,7 @@ fn place_in<F: Read + Seek>(file: &mut F, job: &Job, ended: &Ended) -> Option<Pl
     if file.seek(SeekFrom::Start(0)).is_err() {
         return None;
     }
-    match find_token(file, number, MOST_READS) {
+    match find_token(file, number, MOST_PLACE_READS) {
         Ok(place) => place,
         Err(_) => None,
     }
@@ -138,6 +146,19 @@ fn conclude<E: Write>(errors: &mut E, words: &Words, ended: Ended, place: &Optio
     ending.status
 }
 
+/// Whether the job reads standard input: a problem or a script without a name, and a certificate to be checked.
+fn reads_standard_input(words: &Words) -> bool {
+    words.first.is_none() || words.second.is_none() && matches!(&words.job, Job::Check { .. })
+}
+
+/// Whether standard input is open. Where it isn't, the first file that is opened gets its descriptor, and would be read in its place.
+fn is_standard_input_open<R: Input>(rt: &R) -> bool {
+    match rt.reader().read(&mut []) {
+        Ok(_) => true,
+        Err(error) => error.raw_os_error() != Some(NOT_OPEN),
+    }
+}
+
 /// Opens the first file, then the second, before anything is read, and does the job.
 fn with_files<R: Files + Input + Print + Eprint + AllocGlobal + Threads + Wait + Sync, E: Write>(
     rt: &R,
@@ -147,16 +168,16 @@ fn with_files<R: Files + Input + Print + Eprint + AllocGlobal + Threads + Wait +
     requires { IsInRange words.now.job }
 {
     match &words.first {
-        Some(name) => match open(rt, name.as_str()) {
+        Some(name) => match open(rt, errors, name.as_str()) {
             Some(mut first) => {
-                let ended = with_second(rt, words, &mut first);
+                let ended = with_second(rt, errors, words, &mut first);
                 let place = place_in(&mut first, &words.job, &ended);
                 conclude(errors, words, ended, &place)
             }
             None => REFUSED,
         },
         None => {
-            let ended = with_second(rt, words, &mut rt.reader());
+            let ended = with_second(rt, errors, words, &mut rt.reader());
             conclude(errors, words, ended, &None)
         }
     }
@@ -206,6 +227,12 @@ fn run<R: Env + Files + Input + Print + Eprint + AllocGlobal + Threads + Wait + 
         return show(rt, page);
     }
     match read_words(rt.alloc(), given.as_slice()) {
+        Ok(words) if reads_standard_input(&words) && !is_standard_input_open(rt) => {
+            let _ = eprintln!(rt;
+                "auction: standard input is closed, or not open for reading; name a file"
+            );
+            REFUSED
+        }
         Ok(words) => with_files(rt, errors, &words),
         Err(error) => refuse(rt, error),
     }

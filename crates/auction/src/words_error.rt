@@ -14,7 +14,7 @@ pub enum WordsError {
        auction check FILE [CERT] [--objects M]
        auction hall [FILE] [--objects M]
        auction mail [SCRIPT]
-       auction help | --help | -h | COMMAND --help | COMMAND -h | --version
+       auction help | --help | -h | COMMAND --help | COMMAND -h | --version | -V
 
 solve finds a least-cost assignment of the problem FILE, with prices that show it, or persons who together know too few objects.
 Without FILE the problem is read from standard input.

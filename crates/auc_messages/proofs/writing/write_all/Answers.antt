@@ -1,0 +1,18 @@
+use Rattle.std.proofs.Common.{◌++◌, ◌+◌}
+use Rattle.std.specs.Prelude.{codes}
+use Rattle.auc_cert.proofs.WriteLaws.{begins_front, behind, cut}
+use Rattle.auc_messages.specs.Names.{front_of}
+use Rattle.auc_messages.proofs.writing.write_all.Goals as goal
+
+pub returns-in_err-write_front : goal.returns-in_err-write_front
+returns-in_err-write_front g c =
+    let front = front_of c.args.name.now in
+    let rest = codes ": " ++ c.args.phrase.now ++ codes "\n" in
+    cut c.from_residual.result (g.W.Write.contents c.args.writer.now) (g.W.Write.contents c.write_front.new.writer) (front ++ rest) c.from_residual.ensures.0
+    (begins_front (g.W.Write.contents c.args.writer.now) (g.W.Write.contents c.write_front.new.writer) front rest c.in_err-write_front.ensures)
+
+pub returns : goal.returns
+returns g c =
+    let front = front_of c.args.name.now in
+    let rest = codes ": " ++ c.args.phrase.now ++ codes "\n" in
+    behind c.write_parts.result (g.W.Write.contents c.args.writer.now) (g.W.Write.contents c.write_front.new.writer) (g.W.Write.contents c.write_parts.new.writer) front rest c.in_ok-write_front.ensures c.write_parts.ensures

@@ -1,4 +1,4 @@
-use Rattle.std.proofs.Common.{◌++◌, ◌+◌}
+use Rattle.std.proofs.Common.{◌++◌}
 use Rattle.std.specs.Prelude.{codes}
 use Rattle.auc_cert.proofs.WriteLaws.{begins_front, behind, cut}
 use Rattle.auc_messages.specs.Names.{front_of}

@@ -27,8 +27,8 @@ pub mod status;
 mod valid;
 
 pub use auc_threads::{
-    FreeGate, Gate, Mails, PhaseEnd, RunError, Solved, Trails, WorkerSeats, phase_threads,
-    solve_threads,
+    FreeGate, Gate, Ledgers, Mails, PhaseEnd, RunError, Solved, Trails, WorkerSeats, phase_threads,
+    solve_threads, solve_threads_from,
 };
 pub use auc_world::USUAL_BIDS;
 pub use command::{Job, MOST_BIDS, perform, run_command, run_plain};

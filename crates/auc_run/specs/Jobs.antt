@@ -5,14 +5,13 @@ use Rattle.auc_run.specs.declared.command.Job.TheVariants.{Solve, Check, Hall, M
 use Rattle.auc_run.specs.declared.command.SolveNumbers.{SolveNumbers}
 
 -- The numbers of a solve: the threads of each kind of shard, the bids, the lines of a trail, and the objects, where 0 stands for as many as
--- persons; without threads there is no trail.
+-- persons. Without threads there is no trail, whatever number is given for one.
 pub record AreSolverNumbers (workers bids audit objects : ℕ) : Type 0 where
   pub most_workers : workers ≤ 16
   pub some_bids : 1 ≤ bids
   pub most_bids : bids ≤ 1000000000000
   pub most_audit : audit ≤ 1000000
   pub most_objects : objects ≤ 20000
-  pub alone : workers ≡ 0 → audit ≡ 0
 
 -- a job's numbers are in range
 abbrev pub IsInRange : Job → Type 0

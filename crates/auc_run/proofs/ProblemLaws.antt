@@ -1,9 +1,9 @@
 -- A problem that a reader's text reads as.
 use Rattle.std.proofs.Common.{◌≡◌, ◌≤◌, ℕ, List, [], length, Option, Some, None, Result, Ok, Err, refl, sym, subst, ap, ◌∙◌, arith}
-use Rattle.std.specs.Prelude.{IsErrAnd}
+use Rattle.std.specs.Prelude.{IfSome, IsErrAnd, replicate}
 use Rattle.std.specs.Io.KnownBytes.{Consumes, IsAtEnd}
 use Rattle.std.proofs.KnownBytes.{Consumes-whole}
-use Rattle.std.proofs.lemmas.List.{length-append}
+use Rattle.std.proofs.lemmas.List.{length-append, length-replicate}
 use Rattle.auc_graph.specs.declared.limits.TheConstants.{MOST_ARCS, MOST_READS}
 use Rattle.auc_graph.specs.declared.read_error.ReadError.{ReadError}
 use Rattle.auc_graph.specs.declared.read_error.ReadError.TheVariants.{Empty, BadNumber, CountRange, TooManyArcs, PersonRange, ObjectRange, CostRange, Cut, NoMemory, ReadFault, TooManyReads, TooFewObjects}
@@ -11,9 +11,11 @@ use Rattle.auc_graph.specs.declared.reading.ReadLimits.{ReadLimits}
 use Rattle.auc_graph.specs.Problem.{Problem}
 use Rattle.auc_graph.specs.Reading.{reading}
 use Rattle.auc_graph.specs.Pieces.{IsRead}
+use Rattle.auc_run.specs.declared.input.ReadFault.{ReadFault as InputFault}
+use Rattle.auc_run.specs.declared.input.ReadFault.TheVariants.{Failed, TooManyReads as TooManyInputReads, NoMemory as NoMemoryToRead}
 use Rattle.auc_run.specs.declared.refusal.Refusal.{Refusal}
 use Rattle.auc_run.specs.declared.refusal.Refusal.TheVariants.{NoProblem}
-use Rattle.auc_run.specs.Problems.{AreKnown, IsProblemIn, ReadsAsProblem}
+use Rattle.auc_run.specs.Problems.{AreKnown, BearOutInput, IsProblemIn, ReadsAsProblem}
 
 -- the known bytes, or none
 abbrev pub known : Option (List ℕ) → List ℕ
@@ -54,3 +56,15 @@ module _ (limits : ReadLimits) (old new : Option (List ℕ)) (text : List ℕ) (
 pub refused_in : (objects : ℕ) (reader : Option (List ℕ)) (r : Result Problem Refusal) (e : ReadError) → IsErrAnd r (λ x. x ≡ NoProblem e) → (file : List ℕ) × AreKnown reader file × ReadsAsProblem objects file (Err e) → IsProblemIn objects reader r
 refused_in objects reader (Ok x) e p h = absurd p
 refused_in objects reader (Err x) e p h = subst (λ (y : Refusal). IsProblemIn objects reader (Err y)) (sym p) h
+
+-- ---- an input that is read whole
+
+so_many : (n : ℕ) → (bytes : List ℕ) × (n ≤ length bytes)
+so_many n = (replicate n 0, omega (arith, length-replicate {A = ℕ} n 0))
+
+-- the bytes of an input that was not read to its end
+pub unread : (a : Option (List ℕ)) (fault : InputFault) → (fault ≡ TooManyInputReads → IfSome a (λ bytes. MOST_READS ≤ length bytes)) → (bytes : List ℕ) × AreKnown a bytes × BearOutInput bytes fault
+unread a Failed many = (known a, are_known a, tt)
+unread a NoMemoryToRead many = (known a, are_known a, tt)
+unread None TooManyInputReads many = let some = so_many MOST_READS in (some.0, tt, some.1)
+unread (Some xs) TooManyInputReads many = (xs, refl, many refl)

@@ -1,6 +1,7 @@
 -- A solve that starts from an old certificate: what is answered at each exit.
-use Rattle.std.proofs.Common.{◌≡◌, ◌≢◌, ◌≤◌, ℕ, zero, suc, arith, Bool, true, false, List, ℤ, Option, Some, Result, Ok, Err, refl, sym, subst}
-use Rattle.std.specs.Prelude.{IsErrAnd}
+use Rattle.std.proofs.Common.{◌≡◌, ◌≢◌, ◌≤◌, ℕ, zero, suc, arith, true, false, List, length, ℤ, Option, Some, Result, Ok, Err, refl, sym, subst}
+use Rattle.std.specs.Prelude.{IfSome, IsErrAnd}
+use Rattle.auc_graph.specs.declared.limits.TheConstants.{MOST_READS}
 use Rattle.auc_graph.specs.Problem.{Problem}
 use Rattle.auc_cert.specs.declared.cert.CertParts.{CertParts}
 use Rattle.auc_cert.specs.declared.start_error.StartError.{StartError}
@@ -8,6 +9,7 @@ use Rattle.auc_cert.specs.declared.start_error.StartError.TheVariants.{NotSquare
 use Rattle.auc_cert.specs.Start.{start_of}
 use Rattle.auc_world.specs.declared.answer.Answer.{Answer}
 use Rattle.auc_run.specs.declared.input.ReadFault.{ReadFault}
+use Rattle.auc_run.specs.declared.input.ReadFault.TheVariants.{TooManyReads}
 use Rattle.auc_run.specs.declared.refusal.Refusal.{Refusal}
 use Rattle.auc_run.specs.declared.refusal.Refusal.TheVariants.{NotRead, NoProblem, NoCertificate, Invalid, NoStart, NoScript, NoMemory as NoMemoryForJob, NoThreads}
 use Rattle.auc_run.specs.declared.start.Started.{Started}
@@ -15,9 +17,9 @@ use Rattle.auc_run.specs.Problems.{AreKnown, IsProblemIn, IsProblemOf}
 use Rattle.auc_threads.specs.declared.phase.PhaseEnd.{PhaseEnd}
 use Rattle.auc_threads.specs.Solved.{IsSolvedBy, IsThreadAnswer}
 use Rattle.auc_run.specs.Solutions.{IsSolvedByThreadsIn, IsSolvedIn, thread_limits_of}
-use Rattle.auc_run.specs.Starts.{AnswersFrom, BearOutFrom, BearOutNoStart, BearOutStartError, IsSolvedFromIn, IsSolvingIn, IsStartIn, IsStartOf, MayLackThreads}
+use Rattle.auc_run.specs.Starts.{AnswersFrom, BearOutFrom, BearOutNoStart, BearOutStartError, IsSolvedFromIn, IsSolvingIn, IsStartIn, MayLackThreads}
 use Rattle.auc_run.specs.Verdicts.{IsClaimOf}
-use Rattle.auc_run.proofs.ProblemLaws.{known, are_known}
+use Rattle.auc_run.proofs.ProblemLaws.{known, are_known, unread}
 
 -- ---- reading
 
@@ -41,8 +43,9 @@ pub problem_refused : (objects : ℕ) (a b : Option (List ℕ)) (r : Result Star
 problem_refused objects a b r e h other p = not_started objects a b r e p (no_problem objects a b e h other)
 
 -- the problem was read, and the certificate was not
-pub input_fails : (objects : ℕ) (a b : Option (List ℕ)) (r : Result Started Refusal) (problem : Problem) (e : ReadFault) → IsProblemIn objects a (Ok problem) → IsErrAnd r (λ x. x ≡ NotRead e) → IsStartIn objects a b r
-input_fails objects a b r problem e h p = not_started objects a b r (NotRead e) p (h.0, known b, h.1, are_known b, (problem, h.2))
+pub input_fails : (objects : ℕ) (a b : Option (List ℕ)) (r : Result Started Refusal) (problem : Problem) (e : ReadFault) → IsProblemIn objects a (Ok problem) → (e ≡ TooManyReads → IfSome b (λ bytes. MOST_READS ≤ length bytes))
+    → IsErrAnd r (λ x. x ≡ NotRead e) → IsStartIn objects a b r
+input_fails objects a b r problem e h many p = let cert = unread b e many in not_started objects a b r (NotRead e) p (h.0, cert.0, h.1, cert.1, (problem, h.2, cert.2))
 
 -- both were read, and the prices can't start a solve
 no_prices : (objects : ℕ) (file cert : List ℕ) (p : Problem) (claim : CertParts) (e : StartError) → IsProblemOf objects file p → IsClaimOf cert claim → (e ≢ NoMemoryToStart → Err e ≡ start_of p claim) → BearOutStartError objects file cert e

@@ -1,14 +1,16 @@
 -- Verdicts at the exits of a check.
-use Rattle.std.proofs.Common.{◌≡◌, ◌≢◌, ℕ, List, Option, Result, Ok, Err, refl, sym, subst}
-use Rattle.std.specs.Prelude.{IsErrAnd}
+use Rattle.std.proofs.Common.{◌≡◌, ◌≢◌, ◌≤◌, ℕ, List, length, Option, Result, Ok, Err, refl, sym, subst}
+use Rattle.std.specs.Prelude.{IfSome, IsErrAnd}
+use Rattle.auc_graph.specs.declared.limits.TheConstants.{MOST_READS}
 use Rattle.auc_graph.specs.Problem.{Problem}
 use Rattle.auc_run.specs.declared.input.ReadFault.{ReadFault}
+use Rattle.auc_run.specs.declared.input.ReadFault.TheVariants.{TooManyReads}
 use Rattle.auc_run.specs.declared.refusal.Refusal.{Refusal}
 use Rattle.auc_run.specs.declared.refusal.Refusal.TheVariants.{NotRead, NoProblem, NoCertificate, Invalid, NoStart, NoScript, NoMemory as NoMemoryForJob, NoThreads}
 use Rattle.auc_run.specs.declared.valid.Valid.{Valid}
 use Rattle.auc_run.specs.Verdicts.{IsVerdict}
 use Rattle.auc_run.specs.Problems.{IsProblemIn}
-use Rattle.auc_run.proofs.ProblemLaws.{known, are_known}
+use Rattle.auc_run.proofs.ProblemLaws.{known, are_known, unread}
 
 -- a verdict that is an error
 turned : (objects : ℕ) (a b : Option (List ℕ)) (r : Result Valid Refusal) (e : Refusal) → IsErrAnd r (λ x. x ≡ e) → IsVerdict objects a b (Err e) → IsVerdict objects a b r
@@ -16,8 +18,9 @@ turned objects a b (Ok z) e p v = absurd p
 turned objects a b (Err x) e p v = subst (λ (y : Refusal). IsVerdict objects a b (Err y)) (sym p) v
 
 -- the problem was read, and the certificate was not
-pub input_fails : (objects : ℕ) (a b : Option (List ℕ)) (r : Result Valid Refusal) (problem : Problem) (e : ReadFault) → IsProblemIn objects a (Ok problem) → IsErrAnd r (λ x. x ≡ NotRead e) → IsVerdict objects a b r
-input_fails objects a b r problem e h p = turned objects a b r (NotRead e) p (h.0, known b, h.1, are_known b, (problem, h.2))
+pub input_fails : (objects : ℕ) (a b : Option (List ℕ)) (r : Result Valid Refusal) (problem : Problem) (e : ReadFault) → IsProblemIn objects a (Ok problem) → (e ≡ TooManyReads → IfSome b (λ bytes. MOST_READS ≤ length bytes))
+    → IsErrAnd r (λ x. x ≡ NotRead e) → IsVerdict objects a b r
+input_fails objects a b r problem e h many p = let cert = unread b e many in turned objects a b r (NotRead e) p (h.0, cert.0, h.1, cert.1, (problem, h.2, cert.2))
 
 -- no problem was read, and the certificate was left unread
 not_read : (objects : ℕ) (a b : Option (List ℕ)) (e : Refusal) → IsProblemIn objects a (Err e) → e ≢ NoMemoryForJob → IsVerdict objects a b (Err e)

@@ -5,6 +5,8 @@ use Rattle.auc_graph.specs.declared.read_error.ReadError.{ReadError}
 use Rattle.auc_graph.specs.declared.read_error.ReadError.TheVariants.{NoMemory, ReadFault, TooManyReads}
 use Rattle.auc_graph.specs.Problem.{Problem}
 use Rattle.auc_graph.specs.Reading.{reading}
+use Rattle.auc_run.specs.declared.input.ReadFault.{ReadFault as InputFault}
+use Rattle.auc_run.specs.declared.input.ReadFault.TheVariants.{Failed, TooManyReads as TooManyInputReads, NoMemory as NoMemoryToRead}
 use Rattle.auc_run.specs.declared.refusal.Refusal.{Refusal}
 use Rattle.auc_run.specs.declared.refusal.Refusal.TheVariants.{NotRead, NoProblem, NoCertificate, Invalid, NoStart, NoScript, NoMemory as NoMemoryForJob, NoThreads}
 
@@ -23,6 +25,13 @@ IsProblemOf objects file p = ReadsAsProblem objects file (Ok p)
 -- the bytes are these, where they are known
 abbrev pub AreKnown : Option (List ℕ) → List ℕ → Type 0
 AreKnown known bytes = IfSome known (λ xs. bytes ≡ xs)
+
+-- The bytes of an input that is read whole bear out why it was not read to its end: too many reads have each taken a byte. Of a read that failed, and of
+-- want of memory, nothing is known.
+abbrev pub BearOutInput : List ℕ → InputFault → Type 0
+BearOutInput bytes Failed = ⊤
+BearOutInput bytes TooManyInputReads = MOST_READS ≤ length bytes
+BearOutInput bytes NoMemoryToRead = ⊤
 
 -- The bytes of a problem bear out the refusal of a job that has no other input. Of want of memory behind the reading nothing is known.
 abbrev pub BearOutRefusal : ℕ → List ℕ → Refusal → Type 0

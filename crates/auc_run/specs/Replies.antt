@@ -1,5 +1,5 @@
 -- The replies of a mail's calls: which are right for a script, and the lines that the program writes for them.
-use Rattle.std.specs.Prelude.{◌≡◌, ℕ, ◌+◌, true, false, List, ◌++◌, length, codes, Option, Result, Ok, Err, ℤ, ⊤}
+use Rattle.std.specs.Prelude.{◌≡◌, ℕ, ◌+◌, true, false, List, ◌++◌, length, codes, Option, Result, Ok, Err, ℤ}
 use Rattle.std.specs.List.{flat_map, zip}
 use Rattle.std.specs.Fmt.{decimal, signed_decimal}
 use Rattle.auc_mail.specs.Mail.{Mail, empty_mail}
@@ -14,7 +14,7 @@ use Rattle.auc_run.specs.declared.refusal.Refusal.TheVariants.{NotRead, NoProble
 use Rattle.auc_run.specs.declared.script.Script.{Script}
 use Rattle.auc_run.specs.Lines.{counted}
 use Rattle.auc_run.specs.Script.{ReadsAsScript}
-use Rattle.auc_run.specs.Problems.{AreKnown}
+use Rattle.auc_run.specs.Problems.{AreKnown, BearOutInput}
 
 -- senders are written from 1 on
 abbrev pub reply_line : Reply ℤ → List ℕ
@@ -40,11 +40,11 @@ pub record AreRepliesTo (s : Script) (replies : List (Reply ℤ)) : Type 0 where
   pub in_order : HandsOutInOrder (zip s.calls replies)
   pub closed : NothingBehindClose (zip s.calls replies)
 
--- The bytes of a script bear the replies out, or the refusal. Of a read that failed, of too many reads and of want of memory nothing is known.
+-- The bytes of a script bear the replies out, or the refusal. Of a read that failed and of want of memory nothing is known.
 abbrev pub BearOutReplies : List ℕ → Result (List (Reply ℤ)) Refusal → Type 0
 BearOutReplies file (Ok replies) = (s : Script) × ReadsAsScript file (Ok s) × AreRepliesTo s replies
 BearOutReplies file (Err (NoScript error)) = ReadsAsScript file (Err error)
-BearOutReplies file (Err (NotRead fault)) = ⊤
+BearOutReplies file (Err (NotRead fault)) = BearOutInput file fault
 BearOutReplies file (Err (NoProblem error)) = ⊥
 BearOutReplies file (Err (NoCertificate error)) = ⊥
 BearOutReplies file (Err (Invalid error)) = ⊥

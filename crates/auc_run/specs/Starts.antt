@@ -15,7 +15,7 @@ use Rattle.auc_threads.specs.Solved.{IsSolvedBy, IsThreadAnswer}
 use Rattle.auc_run.specs.declared.refusal.Refusal.{Refusal}
 use Rattle.auc_run.specs.declared.refusal.Refusal.TheVariants.{NotRead, NoProblem, NoCertificate, Invalid, NoStart, NoScript, NoMemory as NoMemoryForJob, NoThreads}
 use Rattle.auc_run.specs.declared.start.Started.{Started}
-use Rattle.auc_run.specs.Problems.{AreKnown, IsProblemOf, ReadsAsProblem}
+use Rattle.auc_run.specs.Problems.{AreKnown, BearOutInput, IsProblemOf, ReadsAsProblem}
 use Rattle.auc_run.specs.Solutions.{BearOutSolve, limits_of, thread_limits_of}
 use Rattle.auc_run.specs.Verdicts.{IsClaimOf}
 
@@ -44,7 +44,7 @@ BearOutStartError objects file cert NoMemoryToStart = ⊤
 -- The two files bear out that there is no start: the problem is judged first, then the certificate, then its prices.
 abbrev pub BearOutNoStart : ℕ → List ℕ → List ℕ → Refusal → Type 0
 BearOutNoStart objects file cert (NoProblem error) = ReadsAsProblem objects file (Err error)
-BearOutNoStart objects file cert (NotRead fault) = (p : Problem) × IsProblemOf objects file p
+BearOutNoStart objects file cert (NotRead fault) = (p : Problem) × IsProblemOf objects file p × BearOutInput cert fault
 BearOutNoStart objects file cert (NoCertificate (Line k)) = (p : Problem) × IsProblemOf objects file p × IsFirstBadLine cert k
 BearOutNoStart objects file cert (NoCertificate NoMemoryForText) = ⊤
 BearOutNoStart objects file cert (NoStart error) = BearOutStartError objects file cert error

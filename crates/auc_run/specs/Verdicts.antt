@@ -14,7 +14,7 @@ use Rattle.auc_cert.specs.Claim.{fault_of, IsAllowed, IsVerdict as IsVerdictOn}
 use Rattle.auc_run.specs.declared.refusal.Refusal.{Refusal}
 use Rattle.auc_run.specs.declared.refusal.Refusal.TheVariants.{NotRead, NoProblem, NoCertificate, Invalid, NoStart, NoScript, NoMemory as NoMemoryForJob, NoThreads}
 use Rattle.auc_run.specs.declared.valid.Valid.{Valid}
-use Rattle.auc_run.specs.Problems.{AreKnown, IsProblemOf, ReadsAsProblem}
+use Rattle.auc_run.specs.Problems.{AreKnown, BearOutInput, IsProblemOf, ReadsAsProblem}
 
 -- the claim that a certificate spells
 pub record IsClaimOf (cert : List ℕ) (c : CertParts) : Type 0 where
@@ -44,14 +44,15 @@ Judges p c (Err (NoScript error)) = ⊥
 Judges p c (Err NoMemoryForJob) = ⊥
 Judges p c (Err NoThreads) = ⊥
 
--- The bytes of a problem and of a certificate bear a verdict out. Where the certificate could not be read, or memory ran out, nothing is known of it.
+-- The bytes of a problem and of a certificate bear a verdict out. Where a read of the certificate failed, or memory ran out, nothing is known of it; too many reads have each
+-- taken a byte of it.
 abbrev pub BearOut : ℕ → List ℕ → List ℕ → Result Valid Refusal → Type 0
 BearOut objects file cert (Ok valid) = (p : Problem) × (c : CertParts) × IsProblemOf objects file p × IsClaimOf cert c × Judges p c (Ok valid)
 BearOut objects file cert (Err (Invalid error)) = (p : Problem) × (c : CertParts) × IsProblemOf objects file p × IsClaimOf cert c × Judges p c (Err (Invalid error))
 BearOut objects file cert (Err (NoCertificate (Line k))) = (p : Problem) × IsProblemOf objects file p × IsFirstBadLine cert k
 BearOut objects file cert (Err (NoCertificate NoMemoryForText)) = ⊤
 BearOut objects file cert (Err (NoProblem error)) = ReadsAsProblem objects file (Err error)
-BearOut objects file cert (Err (NotRead fault)) = (p : Problem) × IsProblemOf objects file p
+BearOut objects file cert (Err (NotRead fault)) = (p : Problem) × IsProblemOf objects file p × BearOutInput cert fault
 BearOut objects file cert (Err (NoStart error)) = ⊥
 BearOut objects file cert (Err (NoScript error)) = ⊥
 BearOut objects file cert (Err NoMemoryForJob) = ⊥

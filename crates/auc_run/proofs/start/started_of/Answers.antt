@@ -8,7 +8,7 @@ returns-in_err-problem-clause-started g c =
 
 pub returns-in_err-bytes-clause-started : goal.returns-in_err-bytes-clause-started
 returns-in_err-bytes-clause-started g c =
-    input_fails c.args.objects (g.R.Read.remaining c.args.reader.now) (g.Q.Read.remaining c.args.second.now) c.from_residual-in_err-bytes.result c.in_ok-problem.problem c.in_err-bytes.field-0.0 c.in_ok-problem.ensures.problem c.from_residual-in_err-bytes.ensures.1
+    input_fails c.args.objects (g.R.Read.remaining c.args.reader.now) (g.Q.Read.remaining c.args.second.now) c.from_residual-in_err-bytes.result c.in_ok-problem.problem c.in_err-bytes.field-0.0 c.in_ok-problem.ensures.problem (λ e. c.in_err-bytes.ensures.many cc) c.from_residual-in_err-bytes.ensures.1
 
 pub returns-in_err-prices-clause-started : goal.returns-in_err-prices-clause-started
 returns-in_err-prices-clause-started g c =

@@ -44,6 +44,21 @@ fn out_of_range_steps(rt: &HostRuntime) -> Result<Vec<Step>, Fail> {
     Ok(steps)
 }
 
+/// Whether how the world stands is told before and behind each run of these marks, and is the same.
+fn stands_as_before(told: &str, marks: &str) -> bool {
+    let mut before = None;
+    for part in told.split(marks) {
+        if let Some(before) = before {
+            match part.strip_prefix('[') {
+                Some(behind) if behind.starts_with(before) => {}
+                _ => return false,
+            }
+        }
+        before = part.rsplit('[').next();
+    }
+    true
+}
+
 #[test]
 fn out_of_range(rt: HostRuntime) -> Result<(), Fail> {
     let steps = out_of_range_steps(&rt)?;
@@ -51,8 +66,18 @@ fn out_of_range(rt: HostRuntime) -> Result<(), Fail> {
     // None of them moved anything, nor changed how the world stands; the two turns behind a round are answered as they may.
     let none = ".............................";
     assert_eq!(rt; told.as_str().matches(none).count(), 6);
+    assert!(rt; stands_as_before(told.as_str(), none), "{told}");
     assert!(rt; told.as_str().ends_with("[2:7 1:5 Some(All)]"));
     Ok(())
+}
+
+/// A world that stands otherwise behind the marks than before is found out.
+#[test]
+fn changes_are_seen(rt: HostRuntime) {
+    assert!(rt; stands_as_before("[-:0 None]..[-:0 None]m[1:4 None]..[1:4 None]", ".."));
+    assert!(rt; !stands_as_before("[-:0 None]..[-:1 None]m[1:4 None]..[1:4 None]", ".."));
+    assert!(rt; !stands_as_before("[-:0 None]..[-:0 None]m[1:4 None]..[-:4 None]", ".."));
+    assert!(rt; !stands_as_before("[-:0 None]..m[-:0 None]", ".."));
 }
 
 /// Where nothing waits, nothing is taken or posted; behind the end it is so again, and nobody is free to bid.

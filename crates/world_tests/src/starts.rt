@@ -83,10 +83,11 @@ fn no_start(rt: HostRuntime) -> Result<(), Fail> {
     let hall = "auction 1\ninfeasible 2 1\nperson 1\nperson 2\nobject 1\n";
     let too_high = format!(in rt.alloc(); "{OF_ONE}1152921504606846977\n")?;
     let one = format!(in rt.alloc(); "{OF_ONE}1\n")?;
-    let more = ReadLimits {
-        objects: 3,
+    let two = ReadLimits {
+        objects: 2,
         ..ReadLimits::usual()
     };
+    let more = ReadLimits { objects: 3, ..two };
     for (problem, cert, limits, expected) in [
         (
             ONE,
@@ -107,6 +108,12 @@ fn no_start(rt: HostRuntime) -> Result<(), Fail> {
             StartError::OtherSize,
         ),
         (TWO, hall, ReadLimits::usual(), StartError::NoPrices),
+        (
+            "1\n1 1 5\n1 2 3",
+            "auction 2\noptimal 1 2 3\nassign 1 2 3\nprice 1 0\nprice 2 5\n",
+            two,
+            StartError::NotSquare,
+        ),
         (TWO, hall, more, StartError::NotSquare),
         (TWO, OF_TWO_BY_ONE, more, StartError::NotSquare),
     ] {

@@ -29,7 +29,12 @@ fn two_persons_with_any_shards(rt: HostRuntime) -> Result<(), Fail> {
             solved.text.as_slice(),
             b"auction 1\noptimal 2 3\nassign 1 2 2\nassign 2 1 1\nprice 1 7\nprice 2 5\n".as_slice()
         );
-        assert!(rt; solved.phases.iter().all(|phase| phase.trails.is_some()));
+        assert_eq!(rt; solved.phases.len(), 1);
+        for phase in solved.phases.iter() {
+            assert_eq!(rt; phase.end, Some(End::All));
+            assert_eq!(rt; phase.gathered.prices.as_slice(), [7i64, 5].as_slice());
+            assert!(rt; phase.trails.is_some());
+        }
     }
     Ok(())
 }

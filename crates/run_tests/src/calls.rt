@@ -71,6 +71,9 @@ fn too_many_arcs(rt: HostRuntime) {
 fn reads_to_the_end(rt: HostRuntime) -> Result<(), Fail> {
     let all = read_all(rt.alloc(), &mut Slow { rest: b"abc" }, 4)?;
     assert_eq!(rt; all.as_slice(), b"abc".as_slice());
+    // Reads are counted, and not the bytes that they gave.
+    let at_once = read_all(rt.alloc(), &mut b"abc".as_slice(), 2)?;
+    assert_eq!(rt; at_once.as_slice(), b"abc".as_slice());
     Ok(())
 }
 
@@ -78,6 +81,8 @@ fn reads_to_the_end(rt: HostRuntime) -> Result<(), Fail> {
 fn too_many_reads(rt: HostRuntime) {
     let read = read_all(rt.alloc(), &mut Slow { rest: b"abc" }, 3);
     assert_eq!(rt; read.err(), Some(ReadFault::TooManyReads));
+    let at_once = read_all(rt.alloc(), &mut b"abc".as_slice(), 1);
+    assert_eq!(rt; at_once.err(), Some(ReadFault::TooManyReads));
 }
 
 /// No failed read is tried again.

@@ -45,6 +45,37 @@ fn counted_reads(rt: HostRuntime) {
     );
 }
 
+/// What keeps a text of 7 bytes from being read, in pieces of so many bytes by so many reads.
+fn fault_in_pieces(rt: &HostRuntime, most: usize, reads: u16) -> Option<ReadError> {
+    read(rt.alloc(), b"1 1 1 5", most, 100, reads).err()
+}
+
+/// Reads are counted, and not the bytes that they gave.
+#[test]
+fn counted_reads_of_several_bytes(rt: HostRuntime) {
+    for (most, enough, too_few) in [(2, 5, 4), (3, 4, 3), (6, 3, 2), (7, 2, 1), (100, 2, 1)] {
+        assert_eq!(rt; fault_in_pieces(&rt, most, enough), None, "{most}");
+        let fault = fault_in_pieces(&rt, most, too_few);
+        assert_eq!(rt; fault, Some(ReadError::TooManyReads), "{most}");
+    }
+}
+
+/// Tokens and arcs are counted, and not the bytes before them.
+#[test]
+fn counted_tokens(rt: HostRuntime) {
+    for (text, fault) in [
+        ("12 11 x", ReadError::BadNumber { token: 2 }),
+        (
+            " \n12  11 12 -7. 1\t3 .5",
+            ReadError::BadNumber { token: 6 },
+        ),
+        ("12 11 12", ReadError::Cut { tokens: 3 }),
+        ("12 11 12 7 13 1 1", ReadError::PersonRange { arc: 1 }),
+    ] {
+        assert_eq!(rt; fault_of(&rt, text, 100, 100), Some(fault), "{text}");
+    }
+}
+
 /// A fault of the text waits for the end; a read that fails is not tried again, and wins over it.
 #[test]
 fn failed_reads(rt: HostRuntime) {

@@ -6,11 +6,11 @@ use crate::marks::refuse_all;
 use crate::problems::{THREE, problem_of};
 use crate::solvers::limits_of;
 use auc_book::{MailState, TrailFull};
-use auc_cert::{Cert, CertParts, Pick, Picks, Prices, write_cert};
-use auc_graph::{Number, Rows, Token, number_of, token_at};
+use auc_cert::{Cert, CertParts, Pick, Picks, Prices, write_cert, write_whole};
+use auc_graph::{Number, ReadLimits, Rows, Token, number_of, token_at};
 use auc_hall::Partial;
-use auc_letters::Letter;
-use auc_mail::{MailPool, Taken};
+use auc_letters::{Held, Letter, Out, PersonState, To, shard_of};
+use auc_mail::{Call, MailPool, Taken};
 use auc_nodes::NodePool;
 use auc_objects::ObjectShard;
 use auc_persons::PersonShard;
@@ -29,7 +29,15 @@ fn tokens_and_rows(rt: HostRuntime) -> Result<(), Fail> {
     let spread = rows.cost_spread();
     let eps = first_eps(&rows);
     let placed = rows.persons() == 3 && partial.place(&rows, 0, 1);
+    let listed = problem.arcs().len();
+    let mut are_whole = true;
+    for person in 0..rows.persons() {
+        are_whole = are_whole && rows.row(person).len() == 3;
+    }
+    let usual = ReadLimits::usual();
     drop(mark);
+    assert_eq!(rt; (listed, are_whole), (9, true));
+    assert_eq!(rt; (usual.arcs, usual.reads), (33_554_432, 1_073_741_824));
     assert_eq!(rt; token, Some(Token { start: 1, end: 2 }));
     assert_eq!(rt; number, Number::Value(-7));
     assert_eq!(rt; spread, 5);
@@ -49,15 +57,25 @@ fn pools_and_mails(rt: HostRuntime) -> Result<(), Fail> {
         pool.push_back(1, 7),
     );
     pool.append(1, 0);
+    let front = (pool.front(0), pool.len(0), pool.len(1));
     let popped = pool.pop_front(0);
     pool.clear(0);
+    let fits = (
+        mail.fits(&Call::Take { at: 0 }),
+        mail.fits(&Call::Close { at: 1 }),
+    );
     let posted = mail.post(1, 0, 5, 0);
+    let waiting = (mail.waiting(0), mail.posted(0, 1), mail.taken(0, 1));
     let closed = mail.close(0);
     let taken = (mail.take(0), mail.take(0));
+    let left = (mail.waiting(0), mail.posted(0, 1), mail.taken(0, 1));
     drop(mark);
     assert_eq!(rt; pushed, (Ok(()), Ok(()), Err(7)));
+    assert_eq!(rt; front, (Some(5), 2, 0));
     assert_eq!(rt; (popped, pool.free()), (Some(5), 2));
+    assert_eq!(rt; fits, (true, false));
     assert_eq!(rt; (posted, closed), (Ok(1), true));
+    assert_eq!(rt; (waiting, left), ((1, 1, 0), (0, 1, 1)));
     let letter = Taken::Letter {
         sender: 1,
         number: 1,
@@ -96,14 +114,26 @@ fn shards(rt: HostRuntime) -> Result<(), Fail> {
     let mut persons = PersonShard::make(rt.alloc(), 0, 1, 1, 3, [0i64, 0, 0].as_slice(), 9)?;
     let mark = refuse_all(rt.alloc())?;
     let answers = objects.on_bid(0, 0, 1, 4, 1);
-    let heard = persons.on_letter(Letter::Price {
+    let price = Letter::Price {
         object: 1,
         price: 4,
-    });
+    };
+    let heard = persons.on_letter(price);
+    let holder = objects.holder(1);
+    let told = objects.tell(1, 0);
+    let (copy, state) = (persons.copy(1), persons.state(0));
+    let shard = shard_of(5, 2);
     drop(mark);
     assert_eq!(rt; answers.len(), 2);
     assert!(rt; heard.is_ok());
-    assert_eq!(rt; persons.copy(1), 4);
+    assert_eq!(rt; (copy, state), (4, PersonState::Free));
+    assert_eq!(rt; (holder, shard), (Some(Held { person: 0, arc: 0 }), 1));
+    let out = Out {
+        to: To::Person { shard: 0 },
+        letter: price,
+        reserve: 6,
+    };
+    assert_eq!(rt; told, out);
     Ok(())
 }
 
@@ -161,5 +191,17 @@ fn certificates(rt: HostRuntime) -> Result<(), Fail> {
         text.as_slice(),
         b"auction 1\noptimal 1 -7\nassign 1 1 -7\nprice 1 1\n".as_slice()
     );
+    Ok(())
+}
+
+/// Bytes go to a writer that has its room before.
+#[test]
+fn written_bytes(rt: HostRuntime) -> Result<(), Fail> {
+    let mut text = Vec::with_capacity(rt.alloc(), 64)?;
+    let mark = refuse_all(rt.alloc())?;
+    let written = write_whole(&mut text, b"optimal 1 -7\n");
+    drop(mark);
+    assert_eq!(rt; written, Ok(()));
+    assert_eq!(rt; text.as_slice(), b"optimal 1 -7\n".as_slice());
     Ok(())
 }

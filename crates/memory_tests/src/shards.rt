@@ -1,4 +1,4 @@
-//! Shards of both kinds.
+//! Shards of both kinds. Where memory was refused, the same call makes the shard with memory.
 
 use crate::marks::refuse_one;
 use auc_letters::PersonState;
@@ -8,24 +8,31 @@ use std::test::*;
 
 #[test]
 fn persons(rt: HostRuntime) -> Result<(), Fail> {
+    let prices = [0i64, 0, 7];
     let mark = refuse_one(rt.alloc())?;
-    let shard = PersonShard::make(rt.alloc(), 0, 1, 1, 3, [0i64, 0, 0].as_slice(), 9);
+    let made = PersonShard::make(rt.alloc(), 0, 1, 1, 3, prices.as_slice(), 9);
     drop(mark);
-    if let Ok(shard) = shard {
-        assert_eq!(rt; shard.copy(2), 0);
-        assert_eq!(rt; shard.state(2), PersonState::Free);
-    }
+    let shard = match made {
+        Ok(shard) => shard,
+        Err(_) => PersonShard::make(rt.alloc(), 0, 1, 1, 3, prices.as_slice(), 9)?,
+    };
+    assert_eq!(rt; (shard.copy(1), shard.copy(2)), (0, 7));
+    assert_eq!(rt; shard.state(0), PersonState::Free);
+    assert_eq!(rt; shard.state(2), PersonState::Free);
     Ok(())
 }
 
 #[test]
 fn objects(rt: HostRuntime) -> Result<(), Fail> {
+    let prices = [0i64, 0, 7];
     let mark = refuse_one(rt.alloc())?;
-    let shard = ObjectShard::make(rt.alloc(), 0, 1, 1, 3, [0i64, 0, 7].as_slice());
+    let made = ObjectShard::make(rt.alloc(), 0, 1, 1, 3, prices.as_slice());
     drop(mark);
-    if let Ok(shard) = shard {
-        assert_eq!(rt; shard.price(2), 7);
-        assert_eq!(rt; shard.holder(2), None);
-    }
+    let shard = match made {
+        Ok(shard) => shard,
+        Err(_) => ObjectShard::make(rt.alloc(), 0, 1, 1, 3, prices.as_slice())?,
+    };
+    assert_eq!(rt; (shard.price(1), shard.price(2)), (0, 7));
+    assert_eq!(rt; (shard.holder(0), shard.holder(2)), (None, None));
     Ok(())
 }

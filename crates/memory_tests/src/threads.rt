@@ -2,29 +2,36 @@
 
 use crate::marks::refuse_one;
 use crate::problems::{THREE, problem_of};
-use crate::solvers::{limits_of, text_of};
+use crate::solvers::{OLD, limits_of, text_of};
+use auc_cert::{read_cert, start_prices};
 use auc_graph::Rows;
-use auc_threads::{FreeGate, RunError, phase_threads, solve_threads};
+use auc_threads::{FreeGate, RunError, Solved, phase_threads, solve_threads, solve_threads_from};
 use auc_world::End;
 use std::alloc::Global;
 use std::sync::Wait;
 use std::test::*;
 use std::thread::Threads;
 
-/// Whether a solve in threads gives a least-cost assignment, or none for want of memory or of a thread.
+/// Whether a least-cost assignment is told.
+fn is_least(alloc: Global, solved: &Solved) -> Result<bool, Fail> {
+    let text = text_of(alloc, &solved.answer)?;
+    Ok(text.as_slice().starts_with(b"auction 1\noptimal 3 5\n"))
+}
+
+/// Whether a solve in threads gives a least-cost assignment: at once, or again for want of memory or of a thread.
 fn solves<R: Threads + Wait + Sync>(rt: &R, alloc: Global, audit: u32) -> Result<bool, Fail> {
     let problem = problem_of(alloc, THREE)?;
     let limits = limits_of(2, audit)?;
     let mark = refuse_one(alloc)?;
     let solved = solve_threads(rt, alloc, &problem, &limits, &FreeGate);
     drop(mark);
-    match solved {
-        Ok(solved) => {
-            let text = text_of(alloc, &solved.answer)?;
-            Ok(text.as_slice().starts_with(b"auction 1\noptimal 3 5\n"))
+    let solved = match solved {
+        Ok(solved) => solved,
+        Err(RunError::NoMemory | RunError::Spawn) => {
+            solve_threads(rt, alloc, &problem, &limits, &FreeGate)?
         }
-        Err(error) => Ok(error == RunError::NoMemory || error == RunError::Spawn),
-    }
+    };
+    is_least(alloc, &solved)
 }
 
 #[test]
@@ -34,25 +41,46 @@ fn solving(rt: HostRuntime) -> Result<(), Fail> {
     Ok(())
 }
 
+/// Whether a solve from the prices of a certificate gives a least-cost assignment.
+fn solves_from<R: Threads + Wait + Sync>(rt: &R, alloc: Global, audit: u32) -> Result<bool, Fail> {
+    let problem = problem_of(alloc, THREE)?;
+    let limits = limits_of(2, audit)?;
+    let start = start_prices(alloc, &problem, &read_cert(alloc, OLD.as_bytes())?)?;
+    let mark = refuse_one(alloc)?;
+    let solved = solve_threads_from(rt, alloc, &problem, &limits, start.as_slice(), &FreeGate);
+    drop(mark);
+    let solved = match solved {
+        Ok(solved) => solved,
+        Err(RunError::NoMemory | RunError::Spawn) => {
+            solve_threads_from(rt, alloc, &problem, &limits, start.as_slice(), &FreeGate)?
+        }
+    };
+    is_least(alloc, &solved)
+}
+
+#[test]
+fn solving_from_a_start(rt: HostRuntime) -> Result<(), Fail> {
+    assert!(rt; solves_from(&rt, rt.alloc(), 0)?);
+    assert!(rt; solves_from(&rt, rt.alloc(), 1000)?);
+    Ok(())
+}
+
 #[test]
 fn a_phase(rt: HostRuntime) -> Result<(), Fail> {
     let rows = Rows::build(rt.alloc(), &problem_of(rt.alloc(), THREE)?)?;
     let limits = limits_of(2, 1000)?;
     let prices = vec![in rt.alloc(); 0; rows.objects() as usize]?;
+    let prices = prices.as_slice();
     let mark = refuse_one(rt.alloc())?;
-    let ended = phase_threads(
-        &rt,
-        rt.alloc(),
-        &rows,
-        &limits,
-        prices.as_slice(),
-        1,
-        &FreeGate,
-    );
+    let ended = phase_threads(&rt, rt.alloc(), &rows, &limits, prices, 1, &FreeGate);
     drop(mark);
-    match ended {
-        Ok(ended) => assert_eq!(rt; ended.end, Some(End::All)),
-        Err(error) => assert!(rt; error == RunError::NoMemory || error == RunError::Spawn),
-    }
+    let ended = match ended {
+        Ok(ended) => ended,
+        Err(RunError::NoMemory | RunError::Spawn) => {
+            phase_threads(&rt, rt.alloc(), &rows, &limits, prices, 1, &FreeGate)?
+        }
+    };
+    assert_eq!(rt; ended.end, Some(End::All));
+    assert!(rt; ended.trails.is_some());
     Ok(())
 }

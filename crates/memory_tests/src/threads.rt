@@ -1,14 +1,22 @@
-//! Phases and solves in threads: want of memory, or a thread that can't be started.
+//! Phases and solves in threads, and their mails: want of memory, or a thread that can't be started.
+
+ghost use Rattle.std.specs.Prelude.{◌≡◌};
+ghost use Rattle.auc_threads.specs.Naming.{AreThreadLimits, IsNamed, IsUnopened, hub_nodes, objects_nodes, persons_nodes, workers_of};
 
 use crate::marks::refuse_one;
 use crate::problems::{THREE, problem_of};
 use crate::solvers::{OLD, limits_of, text_of};
+use auc_book::MailBrand;
 use auc_cert::{read_cert, start_prices};
 use auc_graph::Rows;
-use auc_threads::{FreeGate, RunError, Solved, phase_threads, solve_threads, solve_threads_from};
-use auc_world::End;
+use auc_threads::{
+    FreeGate, Ledgers, Mails, RunError, Solved, phase_threads, solve_threads, solve_threads_from,
+};
+use auc_world::{End, Limits};
 use std::alloc::Global;
+use std::marker::Brand;
 use std::sync::Wait;
+use std::sync::ledger::Blank;
 use std::test::*;
 use std::thread::Threads;
 
@@ -82,5 +90,47 @@ fn a_phase(rt: HostRuntime) -> Result<(), Fail> {
     };
     assert_eq!(rt; ended.end, Some(End::All));
     assert!(rt; ended.trails.is_some());
+    Ok(())
+}
+
+/// How many workers have a seat at the three mails of a phase of two persons.
+fn seated<O: MailBrand, P: MailBrand, H: MailBrand>(
+    alloc: Global,
+    limits: &Limits,
+    ledgers: Ledgers,
+) -> Result<usize, RunError>
+    requires limits { AreThreadLimits limits.now }
+    requires objects_ledger { IsUnopened ledgers.objects.name O.name ledgers.objects.parts O.parts (workers_of limits.now.shards) }
+    requires persons_ledger { IsUnopened ledgers.persons.name P.name ledgers.persons.parts P.parts (workers_of limits.now.shards) }
+    requires hub_ledger { IsUnopened ledgers.hub.name H.name ledgers.hub.parts H.parts (workers_of limits.now.shards) }
+    requires objects_name { IsNamed O.boxes O.workers O.nodes O.most O.room limits.now.shards (objects_nodes limits.now 2) limits.now }
+    requires persons_name { IsNamed P.boxes P.workers P.nodes P.most P.room limits.now.shards (persons_nodes limits.now 2) limits.now }
+    requires hub_name { IsNamed H.boxes H.workers H.nodes H.most H.room 1 (hub_nodes limits.now 2) limits.now }
+{
+    let (_mails, seats) = Mails::<O, P, H>::make(alloc, 2, limits, ledgers)?;
+    Ok(seats.len())
+}
+
+/// The mails of one shard of each kind, whose three workers have a part of each ledger. Where memory was refused, they are made anew.
+#[test]
+fn three_mails(rt: HostRuntime) -> Result<(), Fail> {
+    let limits = limits_of(1, 7)?;
+    let mark = refuse_one(rt.alloc())?;
+    let ledgers = Ledgers {
+        objects: Blank::new(3),
+        persons: Blank::new(3),
+        hub: Blank::new(3),
+    };
+    let mut workers = seated::<Brand, Brand, Brand>(rt.alloc(), &limits, ledgers);
+    drop(mark);
+    if workers == Err(RunError::NoMemory) {
+        let ledgers = Ledgers {
+            objects: Blank::new(3),
+            persons: Blank::new(3),
+            hub: Blank::new(3),
+        };
+        workers = seated::<Brand, Brand, Brand>(rt.alloc(), &limits, ledgers);
+    }
+    assert_eq!(rt; workers, Ok(3));
     Ok(())
 }

@@ -57,31 +57,52 @@ fn pools_and_mails(rt: HostRuntime) -> Result<(), Fail> {
         pool.push_back(1, 7),
     );
     pool.append(1, 0);
-    let front = (pool.front(0), pool.len(0), pool.len(1));
     let popped = pool.pop_front(0);
     pool.clear(0);
-    let fits = (
-        mail.fits(&Call::Take { at: 0 }),
-        mail.fits(&Call::Close { at: 1 }),
-    );
     let posted = mail.post(1, 0, 5, 0);
-    let waiting = (mail.waiting(0), mail.posted(0, 1), mail.taken(0, 1));
     let closed = mail.close(0);
     let taken = (mail.take(0), mail.take(0));
-    let left = (mail.waiting(0), mail.posted(0, 1), mail.taken(0, 1));
     drop(mark);
     assert_eq!(rt; pushed, (Ok(()), Ok(()), Err(7)));
-    assert_eq!(rt; front, (Some(5), 2, 0));
     assert_eq!(rt; (popped, pool.free()), (Some(5), 2));
-    assert_eq!(rt; fits, (true, false));
     assert_eq!(rt; (posted, closed), (Ok(1), true));
-    assert_eq!(rt; (waiting, left), ((1, 1, 0), (0, 1, 1)));
     let letter = Taken::Letter {
         sender: 1,
         number: 1,
         item: 5,
     };
     assert_eq!(rt; taken, (letter, Taken::Over));
+    Ok(())
+}
+
+/// What is read of a pool.
+#[test]
+fn looks_at_a_pool(rt: HostRuntime) -> Result<(), Fail> {
+    let mut pool = NodePool::make(rt.alloc(), 2, 2, 0i64)?;
+    let mark = refuse_all(rt.alloc())?;
+    let pushed = pool.push_back(1, 6);
+    let fronts = (pool.front(0), pool.front(1));
+    let lens = (pool.len(0), pool.len(1));
+    drop(mark);
+    assert_eq!(rt; pushed, Ok(()));
+    assert_eq!(rt; (fronts, lens), ((None, Some(6)), (0, 1)));
+    Ok(())
+}
+
+/// What is read of a mail.
+#[test]
+fn looks_at_a_mail(rt: HostRuntime) -> Result<(), Fail> {
+    let mut mail = MailPool::make(rt.alloc(), 1, 2, 2, 9, 0i64)?;
+    let mark = refuse_all(rt.alloc())?;
+    let fits = (
+        mail.fits(&Call::Take { at: 0 }),
+        mail.fits(&Call::Close { at: 1 }),
+    );
+    let posted = mail.post(1, 0, 5, 0);
+    let counts = (mail.waiting(0), mail.posted(0, 1), mail.taken(0, 1));
+    drop(mark);
+    assert_eq!(rt; (fits, posted), ((true, false), Ok(1)));
+    assert_eq!(rt; counts, (1, 1, 0));
     Ok(())
 }
 

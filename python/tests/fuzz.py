@@ -4,7 +4,7 @@
     fuzz.py calls COUNT [--seed N] [--library PATH]      arguments in any guise, and at fault: a call answers or raises what its page says
     fuzz.py answers COUNT [--seed N] [--library PATH]    small problems: the cost is the least of all assignments, and SciPy's where it is there
 
-Call number K of a seed is the same each time: --first K --count 1 makes it again. The last line is `N passed, M failed`.
+Call number K of a seed is the same each time: `calls 1 --first K` makes it again. The last line is `N passed, M failed`.
 """
 import argparse
 import collections

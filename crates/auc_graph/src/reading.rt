@@ -1,6 +1,6 @@
 //! Reading of the problem: from a text, or from a reader.
 
-ghost use Rattle.std.specs.Prelude.{◌≡◌, ◌≤◌, List, ℕ};
+ghost use Rattle.std.specs.Prelude.{◌≡◌, ◌≤◌, ◌<◌, List, ℕ, length};
 ghost use Rattle.std.specs.Io.KnownBytes.{Consumes};
 ghost use Rattle.auc_graph.specs.Memory.{AnswersUnless};
 ghost use Rattle.auc_graph.specs.Reading.{reading};
@@ -12,6 +12,7 @@ use crate::pieces::{is_want_of_memory, known_behind, problem_behind, stage_behin
 use crate::read_error::ReadError;
 use crate::stage::Stage;
 use crate::tokens::from_place;
+use crate::unfinished::MOST_KEPT;
 use std::alloc::Global;
 use std::io::Read;
 
@@ -83,7 +84,8 @@ pub fn read_arcs(alloc: Global, bytes: &[u8], limits: ReadLimits) -> Result<ArcL
 /// [`ReadError::TooManyReads`] where so many reads gave bytes each. [`ReadError::NoMemory`] at once, where memory was refused. Each
 /// of these stands whatever fault of the text was seen before. Else the answer is that of [`read_arcs`] on the whole text.
 ///
-/// Takes O(length) time, 16 bytes of memory an arc and 64 kB on the stack.
+/// Takes O(length) time, 16 bytes of memory an arc, and 64 kB for a piece of the text, which are asked for before the first read: none of
+/// them lie on the stack.
 pub fn read_arcs_from<R: Read>(
     alloc: Global,
     reader: &mut R,
@@ -95,10 +97,26 @@ pub fn read_arcs_from<R: Read>(
     // A text was taken, all that the reader had unless it says otherwise; the answer is that of the whole text.
     ensures { (text : List ℕ) × Consumes (R.remaining reader.old) (R.remaining reader.new) text × IsRead limits (R.remaining reader.new) text result }
 {
+    let mut piece = vec![in alloc; 0u8; PIECE]?;
+    read_by_pieces(alloc, reader, limits, piece.as_mut_slice())
+}
+
+/// The same, through this room for a piece. A function of its own, so that the room comes from memory and not from the stack.
+fn read_by_pieces<R: Read>(
+    alloc: Global,
+    reader: &mut R,
+    limits: ReadLimits,
+    piece: &mut [u8],
+) -> Result<ArcList, ReadError>
+    requires arcs { limits.arcs ≤ MOST_ARCS }
+    requires objects { limits.objects ≤ MOST_OBJECTS }
+    // What is kept of an unfinished token leaves room for a byte more.
+    requires room { MOST_KEPT < length piece.old }
+    ensures { (text : List ℕ) × Consumes (R.remaining reader.old) (R.remaining reader.new) text × IsRead limits (R.remaining reader.new) text result }
+{
     let mut arcs = Vec::new(alloc);
     let wanted = limits.objects;
     let mut known = Ok(Stage::AtCount { wanted });
-    let mut piece = [0u8; PIECE];
     let mut kept = 0;
     for _done in 0..limits.reads {
         let Ok(count) = reader.read(&mut piece[kept..]) else {
@@ -108,7 +126,7 @@ pub fn read_arcs_from<R: Read>(
             let stage = known?;
             return problem_behind(limits.arcs, stage, arcs, &piece[..kept]);
         }
-        (known, kept) = known_behind(limits.arcs, known, &mut arcs, &mut piece, kept + count);
+        (known, kept) = known_behind(limits.arcs, known, &mut arcs, piece, kept + count);
         if is_want_of_memory(&known) {
             return Err(ReadError::NoMemory);
         }

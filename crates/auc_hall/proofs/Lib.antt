@@ -6,7 +6,7 @@ mod PlacingLaws
 mod QueueLaws
 mod FlagLaws
 mod ExchangeLaws
-pub mod CompletionLaws
+mod CompletionLaws
 mod SearchLaws
 mod AnswerLaws
 pub mod ProblemLaws

@@ -9,8 +9,8 @@ use crate::place::Place;
 use std::io::Read;
 use thiserror::Error;
 
-/// The most bytes that are taken of a reader at a time.
-const PIECE: usize = 65_536;
+/// The most bytes that are taken of a reader at a time. They lie on the stack, since a search takes no memory, so they are few.
+const PIECE: usize = 4_096;
 
 /// Why a search was given up.
 #[derive(Clone, Copy, Debug, PartialEq, Eq, Error)]
@@ -31,7 +31,7 @@ pub enum SearchFault {
 /// [`SearchFault::Failed`] at the first read that fails, also by an interrupt: no read is tried again. [`SearchFault::TooManyReads`] where
 /// `limit` reads gave bytes each, and the place of the token was not known behind them.
 ///
-/// Takes O(bytes read) time, 64 kB on the stack, and no memory.
+/// Takes O(bytes read) time, 4 kB on the stack, and no memory.
 pub fn find_token<R: Read>(
     reader: &mut R,
     number: u64,

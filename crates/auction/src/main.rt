@@ -26,9 +26,9 @@ use std::thread::Threads;
 use words::read_words;
 use words_error::WordsError;
 
-/// The most reads that look for the place of a token, 65,536 bytes each: in the first 64 MiB of a file. A token that stands behind them is
+/// The most reads that look for the place of a token, 4,096 bytes each: in the first 64 MiB of a file. A token that stands behind them is
 /// told by its number, so that the answer isn't long past when the sentence comes.
-const MOST_PLACE_READS: u32 = 1_024;
+const MOST_PLACE_READS: u32 = 16_384;
 
 /// Linux's number of the error of a read where a descriptor is not open, or not for reading.
 const NOT_OPEN: i32 = 9;

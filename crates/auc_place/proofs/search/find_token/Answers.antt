@@ -1,6 +1,7 @@
 use Rattle.std.proofs.Common.{◌≡◌, ◌≤◌, ◌+◌, ◌++◌, ℕ, List, [], length, take, sym, ap, subst, ◌∙◌, arith, length-append}
 use Rattle.std.proofs.KnownBytes.{Consumes-nil, Consumes-trans, Consumes-whole}
 use Rattle.std.proofs.lemmas.List.{append-nil, length-replicate}
+use Rattle.auc_place.specs.declared.search.TheConstants.{PIECE}
 use Rattle.auc_place.specs.Places.{IsFound}
 use Rattle.auc_place.specs.Search.{IsFinding}
 use Rattle.auc_place.proofs.PlaceLaws.{found_early, given_up, is_open}
@@ -8,7 +9,7 @@ use Rattle.auc_place.proofs.search.find_token.Goals as goal
 
 pub loop-done-init : goal.loop-done-init
 loop-done-init g c = record {
-  long = length-replicate {A = ℕ} 65536 0;
+  long = length-replicate {A = ℕ} PIECE 0;
   known = c.new-finding.ensures.undecided;
   told = ([], Consumes-nil (g.R.Read.remaining c.args.reader.now), omega arith, omega arith, c.new-finding.ensures.is c.args.number);
 }
@@ -17,7 +18,7 @@ loop-done-init g c = record {
 pub returns-in-Ok-eq0-clause-found : goal.returns-in-Ok-eq0-clause-found
 returns-in-Ok-eq0-clause-found g c =
     let told = c.loop-done.invariant.told in
-    let buf_long : length c.read.new.buf ≡ 65536 = c.read.auto.buf ∙ c.loop-done.invariant.long in
+    let buf_long : length c.read.new.buf ≡ PIECE = c.read.auto.buf ∙ c.loop-done.invariant.long in
     let seen : told.0 ++ take c.in-Ok-eq0.field-0 c.read.new.buf ≡ told.0 = ap (λ n. told.0 ++ take n c.read.new.buf) c.in-Ok-eq0.field-0-test ∙ append-nil told.0 in
     Consumes-whole (g.R.Read.remaining c.args.reader.now) (g.R.Read.remaining c.read.new.self) (told.0 ++ take c.in-Ok-eq0.field-0 c.read.new.buf) (λ text. IsFound text c.args.number c.at_end.result)
     (Consumes-trans (g.R.Read.remaining c.args.reader.now) (g.R.Read.remaining c.loop-done.reader) (g.R.Read.remaining c.read.new.self) told.0 (take c.in-Ok-eq0.field-0 c.read.new.buf) told.1 c.in-Ok-eq0.ensures.bytes.0)
@@ -29,7 +30,7 @@ returns-in-Behind-clause-found g c =
     let told = c.loop-done.invariant.told in
     let got = take c.in-Ok.count c.read.new.buf in
     let few : c.in-Ok.count ≤ length c.read.new.buf = c.in-Ok.ensures.bound.0 in
-    let buf_long : length c.read.new.buf ≡ 65536 = c.read.auto.buf ∙ c.loop-done.invariant.long in
+    let buf_long : length c.read.new.buf ≡ PIECE = c.read.auto.buf ∙ c.loop-done.invariant.long in
     let got_long : length (take c.in-Ok.count c.read.new.buf) ≡ c.in-Ok.count = sym c.in-Ok.ensures.bound.1 in
     let below = c.loop-done-test.true in
     let found = c.behind-finding.ensures told.0 (omega (arith, told.3, got_long, few, buf_long, below, c.ranges.limit)) told.4 in
@@ -41,7 +42,7 @@ pub loop-done-preserved : goal.loop-done-preserved
 loop-done-preserved g c =
     let told = c.loop-done.invariant.told in
     let few : c.in-Ok.count ≤ length c.read.new.buf = c.in-Ok.ensures.bound.0 in
-    let buf_long : length c.read.new.buf ≡ 65536 = c.read.auto.buf ∙ c.loop-done.invariant.long in
+    let buf_long : length c.read.new.buf ≡ PIECE = c.read.auto.buf ∙ c.loop-done.invariant.long in
     let got_long : length (take c.in-Ok.count c.read.new.buf) ≡ c.in-Ok.count = sym c.in-Ok.ensures.bound.1 in
     let some = c.in-Ok.count-test.1 in
     let below = c.loop-done-test.true in

@@ -9,7 +9,7 @@ use Rattle.auc_cert.specs.declared.reason.Reason.{Reason}
 use Rattle.auc_cert.specs.declared.cert.CertParts.{CertParts}
 use Rattle.auc_cert.specs.Claim.{IsAllowed, chosen, fault_of}
 use Rattle.auc_cert.specs.Spelled.{IsSpelled, most_persons}
-use Rattle.auc_world.specs.Answers.{IsCertified, IsHallCertificate}
+use Rattle.auc_answers.specs.Answers.{IsCertified, IsHallCertificate}
 use Rattle.auc_call.specs.Shown.{IsHallAt}
 use Rattle.auc_call.proofs.PlaceLaws.{few}
 

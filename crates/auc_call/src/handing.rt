@@ -1,7 +1,7 @@
 //! A certificate, written into the caller's memory.
 
 ghost use Rattle.std.specs.Prelude.{◌≡◌, ◌≤◌, length, take, List, ℕ};
-ghost use Rattle.auc_world.specs.Answers.{IsLeastCertificate, IsHallCertificate, IsBracketCertificate};
+ghost use Rattle.auc_answers.specs.Answers.{IsBracketCertificate, IsHallCertificate, IsLeastCertificate};
 ghost use Rattle.auc_call.specs.Memory.{memory};
 ghost use Rattle.auc_call.specs.Running.{IsWritten};
 ghost use Rattle.auc_call.specs.Solving.{IsSolved};

@@ -2,9 +2,9 @@
 
 ghost use Rattle.std.specs.Prelude.{◌≡◌, ◌≢◌, [], IfOk};
 ghost use Rattle.auc_graph.specs.Listing.{problem_from};
-ghost use Rattle.auc_world.specs.Answers.{IsAnswer};
 ghost use Rattle.auc_call.specs.Memory.{AreSizes, memory};
 ghost use Rattle.auc_cert.specs.Start.{AreStart};
+ghost use Rattle.auc_answers.specs.Answers.{IsAnswer};
 ghost use Rattle.auc_world.specs.Chain.{IsOfRun};
 ghost use Rattle.auc_call.specs.Running.{IsAnswerWritten, IsOfRunFrom, limits_of, start_in};
 ghost use Rattle.auc_call.specs.Solving.{IsSolved, Solves};

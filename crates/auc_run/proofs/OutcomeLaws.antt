@@ -2,7 +2,7 @@
 use Rattle.std.proofs.Common.{◌≡◌, ℕ, Bool, List, Option, Result, Ok, Err, ℤ, refl, sym, subst}
 use Rattle.std.specs.Prelude.{IsErrAnd}
 use Rattle.auc_mail.specs.declared.call.Reply.{Reply}
-use Rattle.auc_world.specs.declared.answer.Answer.{Answer}
+use Rattle.auc_answers.specs.declared.answer.Answer.{Answer}
 use Rattle.auc_run.specs.declared.command.Job.{Job}
 use Rattle.auc_run.specs.declared.command.Job.TheVariants.{Solve, Check, Hall, Mail}
 use Rattle.auc_run.specs.declared.found.Found.{Found}

@@ -7,7 +7,7 @@ use Rattle.auc_cert.specs.declared.cert.CertParts.{CertParts}
 use Rattle.auc_cert.specs.declared.start_error.StartError.{StartError}
 use Rattle.auc_cert.specs.declared.start_error.StartError.TheVariants.{NotSquare, NoPrices, OtherSize, TooHigh, NoMemory as NoMemoryToStart}
 use Rattle.auc_cert.specs.Start.{start_of}
-use Rattle.auc_world.specs.declared.answer.Answer.{Answer}
+use Rattle.auc_answers.specs.declared.answer.Answer.{Answer}
 use Rattle.auc_run.specs.declared.input.ReadFault.{ReadFault}
 use Rattle.auc_run.specs.declared.input.ReadFault.TheVariants.{TooManyReads}
 use Rattle.auc_run.specs.declared.refusal.Refusal.{Refusal}

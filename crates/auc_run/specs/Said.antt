@@ -3,7 +3,7 @@ use Rattle.std.specs.Prelude.{◌≡◌, ◌≢◌, ℕ, List, Option, Result, O
 use Rattle.std.specs.Io.KnownBytes.{Appends}
 use Rattle.auc_cert.specs.Writing.{Begins}
 use Rattle.auc_mail.specs.declared.call.Reply.{Reply}
-use Rattle.auc_world.specs.declared.answer.Answer.{Answer}
+use Rattle.auc_answers.specs.declared.answer.Answer.{Answer}
 use Rattle.auc_run.specs.declared.command.Job.{Job}
 use Rattle.auc_run.specs.declared.command.Job.TheVariants.{Solve, Check, Hall, Mail}
 use Rattle.auc_run.specs.declared.ending.Ending.{Ending}

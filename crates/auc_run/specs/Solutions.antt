@@ -2,12 +2,12 @@
 use Rattle.std.specs.Prelude.{ℕ, zero, suc, List, codes, Option, None, Result, Ok, Err, ⊤}
 use Rattle.auc_graph.specs.Problem.{Problem}
 use Rattle.auc_cert.specs.Text.{text}
-use Rattle.auc_world.specs.declared.answer.Answer.{Answer}
-use Rattle.auc_world.specs.declared.answer.Answer.TheVariants.{Optimal, Infeasible, Bracket, Broken}
-use Rattle.auc_world.specs.declared.answer.Guard.{Guard}
-use Rattle.auc_world.specs.declared.answer.Guard.TheVariants.{Fell, Stray, Stuck, Stall, Check, Settle}
-use Rattle.auc_world.specs.declared.limits.Limits.{Limits}
-use Rattle.auc_world.specs.Answers.{IsAnswer}
+use Rattle.auc_answers.specs.declared.answer.Answer.{Answer}
+use Rattle.auc_answers.specs.declared.answer.Answer.TheVariants.{Bracket, Broken, Infeasible, Optimal}
+use Rattle.auc_answers.specs.declared.answer.Guard.{Guard}
+use Rattle.auc_answers.specs.declared.answer.Guard.TheVariants.{Check, Fell, Settle, Stall, Stray, Stuck}
+use Rattle.auc_answers.specs.declared.limits.Limits.{Limits}
+use Rattle.auc_answers.specs.Answers.{IsAnswer}
 use Rattle.auc_world.specs.Chain.{IsOfRun}
 use Rattle.auc_threads.specs.declared.phase.PhaseEnd.{PhaseEnd}
 use Rattle.auc_threads.specs.Solved.{IsSolvedBy, IsThreadAnswer}

@@ -7,8 +7,8 @@ use Rattle.auc_cert.specs.declared.start_error.StartError.TheVariants.{NotSquare
 use Rattle.auc_cert.specs.declared.text_error.CertTextError.TheVariants.{Line, NoMemory as NoMemoryForText}
 use Rattle.auc_cert.specs.CertReading.{IsFirstBadLine}
 use Rattle.auc_cert.specs.Start.{start_of}
-use Rattle.auc_world.specs.declared.answer.Answer.{Answer}
-use Rattle.auc_world.specs.Answers.{IsAnswer}
+use Rattle.auc_answers.specs.declared.answer.Answer.{Answer}
+use Rattle.auc_answers.specs.Answers.{IsAnswer}
 use Rattle.auc_world.specs.Chain.{IsOfRun}
 use Rattle.auc_threads.specs.declared.phase.PhaseEnd.{PhaseEnd}
 use Rattle.auc_threads.specs.Solved.{IsSolvedBy, IsThreadAnswer}

@@ -5,8 +5,8 @@ use Rattle.auc_graph.specs.Table.{Table}
 use Rattle.auc_letters.specs.declared.out.Out.{Out}
 use Rattle.auc_persons.specs.declared.bidding.Bidding.{Bidding}
 use Rattle.auc_persons.specs.Persons.{NextBid, Persons, SameShape, bid_letter, first_idle}
-use Rattle.auc_world.specs.Parts.{IsPersonShard}
-use Rattle.auc_world.proofs.Keeping.{next_bid_own, persons_shape}
+use Rattle.auc_answers.specs.Shards.{IsPersonShard}
+use Rattle.auc_answers.proofs.ShardLaws.{next_bid_own, persons_shape}
 use Rattle.auc_threads.specs.Taking.{GoesWithin}
 
 pub asked_is : (t : Table) (eps : ℤ) (shards number : ℕ) (s n : Persons) (r : Bidding) → IsPersonShard t shards number s → NextBid t eps s r n → SameShape s n → IsPersonShard t shards number n

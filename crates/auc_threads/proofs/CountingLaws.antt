@@ -4,7 +4,7 @@ use Rattle.std.specs.Prelude.{None}
 use Rattle.std.proofs.lemmas.List.Sums.{sum_by-append}
 use Rattle.auc_letters.specs.declared.letter.Letter.{Letter}
 use Rattle.auc_book.specs.Seat.{Account}
-use Rattle.auc_world.specs.Hub.{Counting}
+use Rattle.auc_answers.specs.Hub.{Counting}
 use Rattle.auc_threads.specs.declared.hub.Heard.{Heard}
 use Rattle.auc_threads.specs.Taking.{TookMore}
 use Rattle.auc_threads.specs.Counting.{Counted, Counts, CountsOn, firsts_in, is_first}

@@ -15,15 +15,15 @@ use Rattle.auc_book.specs.declared.line.TrailLine.{TrailLine}
 use Rattle.auc_book.specs.Seat.{Account, new_account}
 use Rattle.auc_book.specs.Settling.{Agrees, IsSettled}
 use Rattle.auc_book.specs.Trail.{lines_of}
-use Rattle.auc_world.specs.Making.{new_objects}
+use Rattle.auc_answers.specs.Shards.{new_objects}
+use Rattle.auc_answers.specs.declared.limits.Limits.{Limits}
+use Rattle.auc_answers.proofs.NewShards.{replicate_default}
 use Rattle.auc_threads.specs.Placed.{Placed}
 use Rattle.auc_threads.specs.Gathering.{Gathers, IsOwnShard}
 use Rattle.auc_threads.specs.Phase.{IsRun, IsToldBy, price_in, taken_by, unsold}
 use Rattle.auc_threads.specs.Naming.{IsNamed, hub_nodes, objects_nodes, persons_nodes, workers_of}
 use Rattle.auc_threads.specs.declared.phase.PhaseEnd.{PhaseEnd}
 use Rattle.auc_threads.specs.declared.settling.Trails.{Trails}
-use Rattle.auc_world.specs.declared.limits.Limits.{Limits}
-use Rattle.auc_world.proofs.Made.{replicate_default}
 use Rattle.auc_model.specs.declared.turn.End.{End}
 use Rattle.auc_letters.specs.Award.{Sale, award_all, bids_on}
 use Rattle.auc_threads.specs.Starts.{IsObjectResult, IsPersonResult}

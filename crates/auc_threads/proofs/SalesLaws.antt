@@ -11,9 +11,8 @@ use Rattle.auc_letters.specs.Award.{Sale, answers, award, award_all, bid_on, bid
 use Rattle.auc_objects.specs.Objects.{Objects, Owns, SameShape, sale_of}
 use Rattle.auc_book.specs.Seat.{Account}
 use Rattle.auc_model.specs.Mails.{box_of}
-use Rattle.auc_world.specs.Mails.{boxes_in, name_of}
-use Rattle.auc_world.specs.Parts.{Reaches}
-use Rattle.auc_world.proofs.Keeping.{answers_reach}
+use Rattle.auc_answers.specs.Boxes.{Reaches, boxes_in, name_of}
+use Rattle.auc_answers.proofs.ShardLaws.{answers_reach}
 use Rattle.auc_threads.specs.Taking.{GoesWithin, TookMore}
 use Rattle.auc_threads.specs.Sales.{IsDuty, Sells}
 use Rattle.auc_threads.proofs.TakingLaws.{took_then}

@@ -10,15 +10,14 @@ use Rattle.auc_cert.specs.Claim.{pick_of}
 use Rattle.auc_cert.specs.declared.cert.CertParts.{CertParts}
 use Rattle.auc_letters.specs.declared.letter.Why.{Why}
 use Rattle.auc_model.specs.declared.turn.End.{End}
-use Rattle.auc_world.specs.declared.answer.Answer.{Answer}
-use Rattle.auc_world.specs.declared.answer.Guard.{Guard}
-use Rattle.auc_world.specs.declared.gathering.Gathered.{Gathered}
-use Rattle.auc_world.specs.declared.limits.Limits.{Limits}
-use Rattle.auc_world.specs.Answers.{HasAssignment, IsHallCertificate, IsInfeasibleAnswer}
-use Rattle.auc_world.specs.Chain.{Begins}
-use Rattle.auc_world.specs.Eps.{next_eps}
-use Rattle.auc_world.specs.Making.{ArePrices}
-use Rattle.auc_world.specs.Phases.{NobodyStuck}
+use Rattle.auc_answers.specs.declared.answer.Answer.{Answer}
+use Rattle.auc_answers.specs.declared.answer.Guard.{Guard}
+use Rattle.auc_answers.specs.declared.gathered.Gathered.{Gathered}
+use Rattle.auc_answers.specs.declared.limits.Limits.{Limits}
+use Rattle.auc_answers.specs.Answers.{HasAssignment, IsHallCertificate, IsInfeasibleAnswer}
+use Rattle.auc_answers.specs.Begins.{ArePrices, Begins}
+use Rattle.auc_answers.specs.Eps.{next_eps}
+use Rattle.auc_answers.specs.Prepared.{NobodyStuck}
 use Rattle.auc_threads.specs.declared.phase.PhaseEnd.{PhaseEnd}
 use Rattle.auc_threads.specs.declared.verdict.Verdict.{Verdict}
 use Rattle.auc_threads.specs.Phase.{IsPhase}

@@ -3,7 +3,7 @@ use Rattle.std.specs.Prelude.{ℕ, ◌+◌, ◌≡◌, ◌≢◌, ◌<◌, ◌�
 use Rattle.auc_letters.specs.declared.letter.Letter.{Letter}
 use Rattle.auc_letters.specs.declared.letter.Why.{Why}
 use Rattle.auc_book.specs.Seat.{Account}
-use Rattle.auc_world.specs.Hub.{Counting}
+use Rattle.auc_answers.specs.Hub.{Counting}
 use Rattle.auc_threads.specs.declared.hub.Heard.{Heard}
 use Rattle.auc_threads.specs.Taking.{TookMore}
 

@@ -9,9 +9,9 @@ use Rattle.auc_mail.specs.Run.{Run}
 use Rattle.auc_book.specs.declared.line.TrailLine.{TrailLine}
 use Rattle.auc_book.specs.Trail.{events_of, lines_of}
 use Rattle.auc_model.specs.declared.turn.End.{End}
-use Rattle.auc_world.specs.declared.gathering.Gathered.{Gathered}
-use Rattle.auc_world.specs.declared.limits.Limits.{Limits}
-use Rattle.auc_world.specs.Making.{ArePrices}
+use Rattle.auc_answers.specs.declared.gathered.Gathered.{Gathered}
+use Rattle.auc_answers.specs.declared.limits.Limits.{Limits}
+use Rattle.auc_answers.specs.Begins.{ArePrices}
 use Rattle.auc_threads.specs.declared.phase.PhaseEnd.{PhaseEnd}
 use Rattle.auc_threads.specs.declared.settling.Trails.{Trails}
 use Rattle.auc_threads.specs.Taking.{letters_in}

@@ -2,12 +2,12 @@
 use Rattle.std.specs.Prelude.{ℤ, ◌≡◌, ◌≢◌, List, [], ◌∷◌, Option, Some, None}
 use Rattle.auc_graph.specs.Problem.{Problem}
 use Rattle.auc_graph.specs.Table.{IsTableOf, Table}
-use Rattle.auc_world.specs.declared.answer.Answer.{Answer}
-use Rattle.auc_world.specs.declared.answer.Guard.{Guard}
-use Rattle.auc_world.specs.declared.limits.Limits.{Limits}
-use Rattle.auc_world.specs.Answers.{HasAssignment, IsBracketCertificate, IsHallCertificate, IsInfeasibleAnswer, IsLeastCertificate}
-use Rattle.auc_world.specs.Chain.{Begins}
-use Rattle.auc_world.specs.Eps.{next_eps}
+use Rattle.auc_answers.specs.declared.answer.Answer.{Answer}
+use Rattle.auc_answers.specs.declared.answer.Guard.{Guard}
+use Rattle.auc_answers.specs.declared.limits.Limits.{Limits}
+use Rattle.auc_answers.specs.Answers.{HasAssignment, IsBracketCertificate, IsHallCertificate, IsInfeasibleAnswer, IsLeastCertificate}
+use Rattle.auc_answers.specs.Begins.{Begins}
+use Rattle.auc_answers.specs.Eps.{next_eps}
 use Rattle.auc_threads.specs.declared.phase.PhaseEnd.{PhaseEnd}
 use Rattle.auc_threads.specs.declared.verdict.Verdict.{Verdict}
 use Rattle.auc_threads.specs.Phase.{IsPhase}

@@ -3,11 +3,11 @@ use Rattle.std.specs.Prelude.{◌==◌, ◌||◌, ◌≡◌, Bool, true, false, 
 use Rattle.auc_cert.specs.declared.reason.Reason.{Reason}
 use Rattle.auc_graph.specs.Problem.{Problem}
 use Rattle.auc_model.specs.declared.turn.End.{End}
-use Rattle.auc_world.specs.declared.answer.Answer.{Answer}
-use Rattle.auc_world.specs.declared.answer.Guard.{Guard}
-use Rattle.auc_world.specs.declared.gathering.Gathered.{Gathered}
-use Rattle.auc_world.specs.declared.limits.Limits.{Limits}
-use Rattle.auc_world.specs.Answers.{IsBracketAnswer, IsOptimalAnswer, stop_of}
+use Rattle.auc_answers.specs.declared.answer.Answer.{Answer}
+use Rattle.auc_answers.specs.declared.answer.Guard.{Guard}
+use Rattle.auc_answers.specs.declared.gathered.Gathered.{Gathered}
+use Rattle.auc_answers.specs.declared.limits.Limits.{Limits}
+use Rattle.auc_answers.specs.Answers.{IsBracketAnswer, IsOptimalAnswer, stop_of}
 use Rattle.auc_threads.specs.declared.phase.PhaseEnd.{PhaseEnd}
 use Rattle.auc_threads.specs.declared.settling.Trails.{Trails}
 use Rattle.auc_threads.specs.declared.verdict.Verdict.{Verdict}

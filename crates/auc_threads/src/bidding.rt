@@ -4,7 +4,7 @@ ghost use Rattle.std.specs.Prelude.{◌≡◌, ◌≢◌, ◌<◌, [], All};
 ghost use Rattle.auc_letters.specs.declared.letter.Why.{Why};
 ghost use Rattle.auc_letters.specs.Price.{IsEps};
 ghost use Rattle.auc_persons.specs.Candidates.{Kept};
-ghost use Rattle.auc_world.specs.Parts.{IsPersonShard};
+ghost use Rattle.auc_answers.specs.Shards.{IsPersonShard};
 ghost use Rattle.auc_threads.specs.Taking.{GoesWithin, TookMore};
 ghost use Rattle.auc_threads.specs.Hearing.{SomebodyStuck};
 

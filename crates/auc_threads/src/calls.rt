@@ -7,10 +7,10 @@ ghost use Rattle.auc_threads.specs.Taking.{GoesWithin, TookMore, letter_of};
 
 use crate::gate::Gate;
 use crate::taking::{post, post_held, take_held, try_take};
+use auc_answers::reason_to_stop;
 use auc_book::{CallRefused, HeldMail, MailBrand, Seat, SharedMail, TrailFull};
 use auc_letters::{Letter, Out, To, Why};
 use auc_mail::{PostRefused, Taken};
-use auc_world::posting::reason_to_stop;
 use std::sync::Wait;
 
 /// How many bids are posted, or taken, under one lock, at most. With more of them the bids would be made at older prices.

@@ -10,9 +10,10 @@ ghost use Rattle.auc_threads.specs.Placed.{Placed};
 use crate::object_worker::ObjectWork;
 use crate::person_worker::PersonWork;
 use crate::running::Works;
+use auc_answers::Gathered;
 use auc_book::MailBrand;
 use auc_letters::{Why, shard_of};
-use auc_world::{End, Gathered};
+use auc_model::End;
 use std::alloc::{AllocError, Global};
 
 /// The holders and prices of all objects, each from its own shard.

@@ -2,19 +2,19 @@
 
 ghost use Rattle.std.specs.Prelude.{◌≡◌, ◌≢◌, ◌<◌, [], ◌∷◌};
 ghost use Rattle.auc_letters.specs.declared.letter.Why.{Why};
-ghost use Rattle.auc_world.specs.Parts.{IsPersonShard};
+ghost use Rattle.auc_answers.specs.Shards.{IsPersonShard};
 ghost use Rattle.auc_threads.specs.Taking.{letter_of};
 ghost use Rattle.auc_threads.specs.Hearing.{Hears, HearsOf};
 
 use crate::calls::{Calls, Step};
 use crate::gate::Gate;
 use crate::taking::take;
+use auc_answers::reason_for;
 use auc_book::{MailBrand, Seat, SharedMail, TrailFull};
 use auc_graph::Rows;
 use auc_letters::{Letter, Why};
 use auc_mail::Taken;
 use auc_persons::PersonShard;
-use auc_world::hearing::reason_for;
 use std::sync::Wait;
 
 /// Hears a letter.

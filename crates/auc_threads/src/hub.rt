@@ -8,11 +8,11 @@ ghost use Rattle.auc_threads.specs.Taking.{TookMore, letter_of};
 use crate::gate::FreeGate;
 use crate::mails::{Mails, WorkerSeats};
 use crate::taking::{close, take};
+use auc_answers::Hub;
 use auc_book::{MailBrand, TrailFull};
 use auc_letters::{Letter, Why};
 use auc_mail::Taken;
-use auc_world::End;
-use auc_world::hub::Hub;
+use auc_model::End;
 use std::sync::Wait;
 
 /// What the hub makes of what it heard.

@@ -11,10 +11,10 @@ ghost use Rattle.auc_threads.specs.Placed.{Placed};
 ghost use Rattle.auc_threads.specs.Starts.{AreNewSeats};
 
 use crate::error::RunError;
+use auc_answers::{Limits, nodes_or};
 use auc_book::{MailBrand, Seat, SharedMail};
 use auc_letters::Letter;
 use auc_mail::MailError;
-use auc_world::{Limits, nodes_or};
 use std::alloc::{AllocError, Global};
 use std::sync::ledger::Blank;
 

@@ -4,11 +4,10 @@ ghost use Rattle.std.specs.Prelude.{◌≡◌, ◌<ℤ◌, ◌↔◌, [], ◌∷
 ghost use Rattle.auc_graph.specs.Table.{IsTableOf};
 ghost use Rattle.auc_cert.specs.Start.{AreStart};
 ghost use Rattle.auc_letters.specs.Price.{IsEps};
-ghost use Rattle.auc_world.specs.Answers.{HasAssignment};
-ghost use Rattle.auc_world.specs.Chain.{Begins};
-ghost use Rattle.auc_world.specs.Eps.{next_eps};
-ghost use Rattle.auc_world.specs.Making.{ArePrices};
-ghost use Rattle.auc_world.specs.Phases.{NobodyStuck};
+ghost use Rattle.auc_answers.specs.Answers.{HasAssignment};
+ghost use Rattle.auc_answers.specs.Begins.{ArePrices, Begins};
+ghost use Rattle.auc_answers.specs.Eps.{next_eps};
+ghost use Rattle.auc_answers.specs.Prepared.{NobodyStuck};
 ghost use Rattle.auc_threads.specs.Naming.{AreThreadLimits};
 ghost use Rattle.auc_threads.specs.Solved.{IsInfeasible, IsSolvedBy, IsThreadAnswer};
 
@@ -16,9 +15,9 @@ use crate::error::RunError;
 use crate::gate::Gate;
 use crate::phase::{PhaseEnd, phase_threads};
 use crate::verdict::{Verdict, decide, verdict_of};
+use auc_answers::{Answer, LAST_EPS, Limits, Prepared, first_eps, next_eps, prepare};
 use auc_graph::{ArcList, Rows};
 use auc_hall::hall_sets_leave_no_assignment;
-use auc_world::{Answer, LAST_EPS, Limits, Prepared, first_eps, next_eps, prepare};
 use std::alloc::{AllocError, Global};
 use std::sync::Wait;
 use std::thread::Threads;

@@ -3,14 +3,15 @@
 ghost use Rattle.std.specs.Prelude.{◌≡◌, ◌≢◌, length, All, IfOk, Some};
 ghost use Rattle.auc_graph.specs.Table.{IsTableOf};
 ghost use Rattle.auc_letters.specs.Price.{IsPrice};
-ghost use Rattle.auc_world.specs.Making.{ArePrices};
+ghost use Rattle.auc_answers.specs.Begins.{ArePrices};
 ghost use Rattle.auc_threads.specs.Verdict.{Decides, verdict_of};
 
 use crate::phase::PhaseEnd;
+use auc_answers::finish::{bracket, optimal, stop_of};
+use auc_answers::{Answer, Gathered, Guard, Limits};
 use auc_cert::Reason;
 use auc_graph::{ArcList, Rows};
-use auc_world::finish::{bracket, optimal, stop_of};
-use auc_world::{Answer, End, Gathered, Guard, Limits};
+use auc_model::End;
 use std::alloc::{AllocError, Global};
 
 /// What a phase comes to for the run.

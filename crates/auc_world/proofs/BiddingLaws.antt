@@ -14,7 +14,9 @@ use Rattle.auc_model.specs.Mails.{PersonShard, with_outbox}
 use Rattle.auc_model.specs.World.{World}
 use Rattle.auc_model.specs.declared.turn.TurnReply.{TurnReply}
 use Rattle.auc_model.proofs.Tables.{first_and_rest}
-use Rattle.auc_world.specs.Parts.{AreParts, IsPersonShard, MayAskForBid, Parts, Reaches, no_persons, outbox_at, persons_at, phase, seen}
+use Rattle.auc_answers.specs.Shards.{IsPersonShard, no_persons}
+use Rattle.auc_answers.specs.Boxes.{Reaches}
+use Rattle.auc_world.specs.Parts.{AreParts, MayAskForBid, Parts, outbox_at, persons_at, phase, seen}
 use Rattle.auc_world.proofs.Seen.{outbox_seen, seen_bid, seen_outbox, seen_stop}
 
 -- the shard is as it was, and so are all parts

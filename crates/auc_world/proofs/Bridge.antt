@@ -17,7 +17,8 @@ use Rattle.auc_letters.specs.declared.state.Held.{Held}
 use Rattle.auc_hall.proofs.ProblemLaws.{length-rows}
 use Rattle.auc_model.proofs.Reached.{kept_reached}
 use Rattle.auc_model.proofs.Theorems.{of_every_schedule}
-use Rattle.auc_world.proofs.FoundLaws.{person_at}
+use Rattle.auc_answers.proofs.FoundLaws.{person_at}
+use Rattle.auc_answers.specs.Answers.{IsCertified}
 use Rattle.auc_graph.specs.Table.{IsTable, IsTableOf, Table}
 use Rattle.auc_letters.specs.Price.{IsPrice}
 use Rattle.auc_model.specs.Chosen.{ArePricesOf, IsHeldArc}
@@ -25,7 +26,6 @@ use Rattle.auc_model.specs.Schedule.{Reached}
 use Rattle.auc_model.specs.World.{World, phase_of}
 use Rattle.auc_model.proofs.Chosen.{holders_are_assignment}
 use Rattle.auc_model.proofs.CountedSlack.{held_slack_right}
-use Rattle.auc_world.specs.Answers.{IsCertified}
 
 -- prices of letters are prices
 pub in_range : (prices : List ℤ) → All IsPrice prices → All IsPriceText prices

@@ -15,9 +15,19 @@ use Rattle.std.proofs.lemmas.Bool.{cases_lt}
 use Rattle.std.proofs.lemmas.Bool.Decides.{nat_tests}
 use Rattle.auc_model.proofs.Unheld.{unheld_schedule}
 use Rattle.auc_objects.specs.Objects.{Objects, price_of}
-use Rattle.auc_world.specs.Making.{AreLimits, IsMade}
+use Rattle.auc_answers.specs.Limits.{AreLimits}
+use Rattle.auc_answers.proofs.NewShards.{replicate_default}
+use Rattle.auc_answers.specs.declared.answer.Answer.{Answer}
+use Rattle.auc_answers.specs.declared.gathered.Gathered.{Gathered}
+use Rattle.auc_answers.specs.declared.limits.Limits.{Limits}
+use Rattle.auc_answers.specs.Answers.{HasAssignment, IsAnswer, IsBracketAnswer, IsCertified, IsOptimalAnswer, why_of}
+use Rattle.auc_answers.specs.Begins.{Begins}
+use Rattle.auc_answers.specs.Claims.{ArePlaceable, BoundFits, HasNoPriceUnheld, HoldsAt, IsChoiceOf, NobodyHoldsTwo, claim_of, holder_at}
+use Rattle.auc_answers.specs.Eps.{first_eps, next_eps}
+use Rattle.auc_answers.proofs.BracketLaws.{bound_fits, holders_price_few}
+use Rattle.auc_answers.proofs.FoundLaws.{one_choice, person_at}
+use Rattle.auc_world.specs.Making.{IsMade}
 use Rattle.auc_world.specs.Parts.{Parts, seen}
-use Rattle.auc_world.proofs.Made.{replicate_default}
 use Rattle.auc_world.proofs.RoundLaws.{rounds_schedule}
 use Rattle.auc_graph.specs.Table.{IsTable, IsTableOf, Table}
 use Rattle.auc_letters.specs.Price.{IsEps}
@@ -29,21 +39,13 @@ use Rattle.auc_model.specs.declared.turn.End.{End}
 use Rattle.auc_model.proofs.Ends.{all_schedule}
 use Rattle.auc_model.proofs.Reached.{kept_reached}
 use Rattle.auc_model.proofs.Theorems.{holders_slack, of_every_schedule}
-use Rattle.auc_world.specs.declared.answer.Answer.{Answer}
-use Rattle.auc_world.specs.declared.gathering.Gathered.{Gathered}
-use Rattle.auc_world.specs.declared.limits.Limits.{Limits}
-use Rattle.auc_world.specs.Answers.{HasAssignment, IsAnswer, IsBracketAnswer, IsCertified, IsOptimalAnswer, why_of}
-use Rattle.auc_world.specs.Chain.{Begins, Chain, EndsIn, Follows, IsClaimOf, IsOfRun}
-use Rattle.auc_world.specs.Claims.{ArePlaceable, BoundFits, HasNoPriceUnheld, HoldsAt, IsChoiceOf, NobodyHoldsTwo, claim_of, holder_at}
-use Rattle.auc_world.specs.Eps.{first_eps, next_eps}
+use Rattle.auc_world.specs.Chain.{Chain, EndsIn, Follows, IsClaimOf, IsOfRun}
 use Rattle.auc_world.specs.Phases.{IsPlayed, Leaves, Stage}
 use Rattle.auc_hall.proofs.ProblemLaws.{length-rows, row_is, stands_for}
 use Rattle.auc_graph.specs.Row.{row}
 use Rattle.auc_graph.specs.declared.rows.RowArc.{RowArc}
 use Rattle.auc_cert.specs.declared.reason.Reason.{Reason}
-use Rattle.auc_world.proofs.BracketLaws.{bound_fits, holders_price_few}
 use Rattle.auc_world.proofs.Bridge.{counted_are_certified, in_range}
-use Rattle.auc_world.proofs.FoundLaws.{one_choice, person_at}
 use Rattle.auc_cert.specs.Claim.{pick_of}
 use Rattle.std.specs.List.{slice_get}
 

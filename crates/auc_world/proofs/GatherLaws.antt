@@ -3,8 +3,9 @@ use Rattle.std.proofs.Common.{ℕ, ℤ, pos, ◌+◌, ◌%◌, ◌<◌, ◌≤�
 use Rattle.std.proofs.lemmas.Bool.{cases_lt}
 use Rattle.std.proofs.lemmas.List.{get_or_append_left, get_or_past, get_or_push, length-append}
 use Rattle.auc_letters.specs.declared.state.Held.{Held}
+use Rattle.auc_answers.specs.Shards.{no_objects}
 use Rattle.auc_world.specs.Gathering.{AreSales}
-use Rattle.auc_world.specs.Parts.{AreParts, Parts, no_objects, seen}
+use Rattle.auc_world.specs.Parts.{AreParts, Parts, seen}
 
 pub one_more : {X : Type 0} (xs ys : List X) (d a : X) (n : ℕ) (f : ℕ → X) → ys ≡ xs ++ a ∷ [] → length xs ≡ n → a ≡ f n → ((j : ℕ) → j < n → get_or xs j d ≡ f j) → (j : ℕ) → j < n + 1 → get_or ys j d ≡ f j
 one_more xs ys d a n f is len here before j l =

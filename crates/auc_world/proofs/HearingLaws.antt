@@ -11,10 +11,11 @@ use Rattle.auc_model.specs.Hearing.{Falls, FitsAnswer, FitsLetter, PersonTakeTur
 use Rattle.auc_model.specs.World.{ended}
 use Rattle.auc_model.specs.declared.turn.End.{End}
 use Rattle.auc_model.specs.declared.turn.TurnReply.{TurnReply}
-use Rattle.auc_world.specs.Hearing.{reason_for}
-use Rattle.auc_world.specs.Hub.{ending}
+use Rattle.auc_answers.specs.Reasons.{reason_for}
+use Rattle.auc_answers.specs.Hub.{ending}
+use Rattle.auc_answers.specs.Shards.{IsPersonShard, no_persons}
 use Rattle.auc_world.specs.Mails.{TakesOne}
-use Rattle.auc_world.specs.Parts.{AreParts, IsPersonShard, Parts, no_persons, persons_at, phase, seen}
+use Rattle.auc_world.specs.Parts.{AreParts, Parts, persons_at, phase, seen}
 use Rattle.auc_world.proofs.BiddingLaws.{same_persons}
 use Rattle.auc_world.proofs.Seen.{own_number, seen_freed, seen_held, seen_price}
 

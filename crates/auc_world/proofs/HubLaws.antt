@@ -10,7 +10,7 @@ use Rattle.auc_model.specs.Hub.{HubCloseTurn, HubTakeTurn, closes, counted, hub_
 use Rattle.auc_model.specs.Mails.{mail_named}
 use Rattle.auc_model.specs.declared.turn.MailName.{MailName}
 use Rattle.auc_model.specs.declared.turn.TurnReply.{TurnReply}
-use Rattle.auc_world.specs.Hub.{Counting, counting, hearing}
+use Rattle.auc_answers.specs.Hub.{Counting, counting, hearing}
 use Rattle.auc_world.specs.Mails.{TakesOne, named, with_named}
 use Rattle.auc_world.specs.Parts.{IsOpenBox, Parts, phase, seen}
 

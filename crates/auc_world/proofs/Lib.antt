@@ -1,5 +1,4 @@
 -- Hall sets' certificates, what steps keep of a shard, what a new shard is, and what a matching and new prices are to a phase are for the crates above too; the rest is this crate's own.
-mod WorkedEps
 pub mod Keeping
 mod Seen
 mod EmptyBoxes
@@ -13,13 +12,8 @@ mod TurnByTurn
 mod RoundLaws
 mod PlayLaws
 mod PassingLaws
-pub mod HallCertificates
 mod GatherLaws
-mod FoundLaws
-mod MatchingPicks
-mod PlacedLaws
 pub mod PhaseLaws
 mod Bridge
-mod BracketLaws
 mod ChainLaws
 pub mod ListLaws

@@ -12,11 +12,12 @@ use Rattle.auc_model.proofs.Theorems.{of_every_schedule}
 use Rattle.auc_persons.specs.Candidates.{KeepsListed, Kept, Listed}
 use Rattle.auc_persons.specs.Persons.{Persons, Rising}
 use Rattle.auc_persons.proofs.Shortlists.{kept_rises}
-use Rattle.auc_world.specs.declared.limits.Limits.{Limits}
+use Rattle.auc_answers.specs.declared.limits.Limits.{Limits}
+use Rattle.auc_answers.specs.Shards.{no_persons}
 use Rattle.auc_world.specs.Gathering.{IsGathered}
 use Rattle.auc_world.specs.Lists.{AreKept, MayKeep}
 use Rattle.auc_world.specs.Making.{IsMade}
-use Rattle.auc_world.specs.Parts.{AreParts, Parts, no_persons, phase, seen}
+use Rattle.auc_world.specs.Parts.{AreParts, Parts, phase, seen}
 
 pub none_may : (t : Table) (shards : ℕ) (prices : List ℤ) → MayKeep t shards prices []
 none_may t shards prices = record { few = omega arith; each = All-nil (Kept t prices) }

@@ -1,13 +1,10 @@
 -- A new world is one that a phase begins with.
-use Rattle.std.proofs.Common.{ℕ, ◌+◌, ◌*◌, ◌%◌, ◌<◌, ◌≤◌, ◌≡◌, Bool, true, false, List, [], length, get_or, replicate, refl, ap, sym, ◌∙◌, subst, inl, inr, arith}
-use Rattle.std.specs.Prelude.{ℤ, pos, All, None, ◌==◌, nat_lt, if◌then◌else◌}
+use Rattle.std.proofs.Common.{ℕ, ◌+◌, ◌*◌, ◌%◌, ◌<◌, ◌≤◌, ◌≡◌, Bool, true, false, List, [], length, get_or, refl, ap, sym, ◌∙◌, subst, inl, inr, arith}
+use Rattle.std.specs.Prelude.{ℤ, pos, All, None, nat_lt, if◌then◌else◌}
 use Rattle.std.proofs.lemmas.Bool.{cases_lt, ne_eqb}
-use Rattle.std.proofs.lemmas.Bool.Decides.{nat_tests}
 use Rattle.std.proofs.lemmas.Int.{ints}
-use Rattle.std.proofs.lemmas.List.{get_or-replicate, get_or_past, length-replicate}
-use Rattle.std.specs.List.{range_with_len}
-use Rattle.std.proofs.lemmas.List.FromFn.{get_or-range_with_len, length-range_with_len}
-use Rattle.std.proofs.lemmas.List.Elements.{All-get_or, All-weaker, All-filter, filter_passes}
+use Rattle.std.proofs.lemmas.List.{get_or_past, length-replicate}
+use Rattle.std.proofs.lemmas.List.Elements.{All-get_or}
 use Rattle.auc_graph.specs.Table.{IsTable, Table}
 use Rattle.auc_letters.specs.declared.letter.Letter.{Letter}
 use Rattle.auc_letters.specs.declared.out.Out.{Out}
@@ -15,29 +12,18 @@ use Rattle.auc_letters.specs.declared.state.PersonState.{PersonState}
 use Rattle.auc_letters.specs.Price.{IsEps, IsPrice}
 use Rattle.auc_mail.specs.Mail.{Mail, empty_mail}
 use Rattle.auc_objects.specs.Objects.{Objects, holder_of, price_of}
-use Rattle.auc_letters.specs.Persons.{persons_of}
-use Rattle.auc_persons.specs.Persons.{Owns, Persons, copy_of, state_of}
+use Rattle.auc_persons.specs.Persons.{Persons, copy_of, state_of}
 use Rattle.auc_model.specs.Start.{Lawful, Starts, UsualNodes, free_in, occurs}
 use Rattle.auc_model.specs.World.{phase_of}
 use Rattle.auc_model.proofs.Tables.{occurs_persons, table_lawful}
-use Rattle.auc_world.specs.declared.limits.Limits.{Limits}
-use Rattle.auc_world.specs.Making.{AreLimits, ArePrices, IsMade, new_persons, nodes_or}
-use Rattle.auc_world.specs.Parts.{AreParts, IsMail, IsObjectShard, IsPersonShard, Parts, Reaches, no_objects, no_persons, phase, seen}
-
--- the persons of a shard are its own
-below : (n : ℕ) → All (λ i. i < n) (range_with_len 0 n)
-below n k d l =
-    let few : k < n = rw length-range_with_len at l in
-    rw (get_or-range_with_len 0 n k d few) (omega arith)
-
-own_are : (shard of persons : ℕ) → All (λ i. (i < persons) × (i % of ≡ shard)) (persons_of shard of persons)
-own_are shard of persons k d l =
-    let inside = All-filter (λ i. (i % of) == shard) (λ i. i < persons) (range_with_len 0 persons) (below persons) k d l in
-    let passes = filter_passes (λ i. (i % of) == shard) (range_with_len 0 persons) k d l in
-    (inside, eqb-true (get_or (persons_of shard of persons) k d % of) shard passes)
-  where
-    eqb-true : (a b : ℕ) → (a == b) ≡ true → a ≡ b
-    eqb-true a b e = grind (arith, nat_tests)
+use Rattle.auc_answers.specs.declared.limits.Limits.{Limits}
+use Rattle.auc_answers.specs.Limits.{AreLimits, nodes_or}
+use Rattle.auc_answers.specs.Begins.{ArePrices}
+use Rattle.auc_answers.specs.Shards.{IsObjectShard, IsPersonShard, no_objects, no_persons}
+use Rattle.auc_answers.specs.Boxes.{Reaches}
+use Rattle.auc_answers.proofs.NewShards.{new_persons_are, replicate_default}
+use Rattle.auc_world.specs.Making.{IsMade}
+use Rattle.auc_world.specs.Parts.{AreParts, IsMail, Parts, phase, seen}
 
 empty_at : (xs : List (List Out)) → All (λ x. x ≡ []) xs → (x : ℕ) → get_or xs x [] ≡ []
 empty_at xs all x = elim (cases_lt x (length xs)) [ inl l ↦ all x [] l | inr n ↦ get_or_past xs x [] n ]
@@ -49,9 +35,6 @@ empty_or false os e = refl
 
 reach_none : (n : ℕ) (xs : List Out) → xs ≡ [] → All (Reaches n) xs
 reach_none n xs e = rw e (λ k d l. absurd (omega arith))
-
-pub replicate_default : {X : Type 0} (n i : ℕ) (a : X) → get_or (replicate n a) i a ≡ a
-replicate_default n i a = elim (cases_lt i n) [ inl l ↦ get_or-replicate n i a a l | inr past ↦ get_or_past (replicate n a) i a (rw length-replicate past) ]
 
 price_at : (prices : List ℤ) → All IsPrice prices → (j : ℕ) → IsPrice (get_or prices j (pos 0))
 price_at prices all j =
@@ -68,15 +51,6 @@ new_mail_is n m boxes nodes most e = record {
 
 new_mail_new : (m : Mail Letter) (boxes count nodes most : ℕ) → m ≡ empty_mail boxes count nodes most → m ≡ empty_mail boxes count m.nodes m.most
 new_mail_new m boxes count nodes most e = subst (λ (x : Mail Letter). x ≡ empty_mail boxes count x.nodes x.most) (sym e) refl
-
-pub new_persons_are : (t : Table) (shards bids : ℕ) (prices : List ℤ) (s : ℕ) → length prices ≡ t.objects → IsPersonShard t shards s (new_persons shards (length t.rows) bids prices s)
-new_persons_are t shards bids prices s each = record {
-  number = refl;
-  of = refl;
-  object_shards = refl;
-  fits = record { persons = sym (length-replicate (length t.rows) PersonState.Free); objects = sym each };
-  idle_own = All-weaker (λ i. (i < length t.rows) × (i % shards ≡ s)) (Owns (new_persons shards (length t.rows) bids prices s)) (λ i h. record { known = rw length-replicate h.0; own = h.1 }) (persons_of s shards (length t.rows)) (own_are s shards (length t.rows));
-}
 
 module _ (t : Table) (limits : Limits) (prices : List ℤ) (eps : ℤ) (p : Parts) (made : IsMade t limits prices eps p) (table : IsTable t) (ok : AreLimits limits) (are : ArePrices t prices) (eps_is : IsEps eps) where
   at_shard : (s : ℕ) → s < p.shards → s < limits.shards

@@ -23,11 +23,12 @@ use Rattle.auc_model.specs.declared.turn.Turn.{Turn}
 use Rattle.auc_model.specs.declared.turn.TurnReply.{TurnReply}
 use Rattle.auc_objects.specs.declared.answers.Answers.{Answers}
 use Rattle.auc_objects.specs.Answers.{letters_of}
+use Rattle.auc_answers.specs.Boxes.{Reaches, name_of}
 use Rattle.auc_world.specs.declared.mails.Mails.{Mails}
 use Rattle.auc_world.specs.declared.selling.Dealt.{Dealt}
 use Rattle.auc_world.specs.declared.passing.Sold.{Sold}
-use Rattle.auc_world.specs.Mails.{name_of, named, with_named}
-use Rattle.auc_world.specs.Parts.{AreParts, MayAnswer, Parts, Reaches, SamePhase, outbox_at, phase, seen}
+use Rattle.auc_world.specs.Mails.{named, with_named}
+use Rattle.auc_world.specs.Parts.{AreParts, MayAnswer, Parts, SamePhase, outbox_at, phase, seen}
 use Rattle.auc_world.specs.Passing.{BidPasses, Counts, FirstPasses, Hands, Judges, Leads, PassesBy, Sells, TakesFrom, Trades, sold_if, sold_moves, with_hub}
 use Rattle.auc_world.specs.Posting.{Leaves, MailsAlone}
 use Rattle.auc_world.specs.Rounds.{Plays, has_moved, round_of}

@@ -1,20 +1,10 @@
 -- What a phase comes to: of all stops only those by a limit, and never a stall.
-use Rattle.std.proofs.Common.{ℕ, ℤ, pos, ◌<◌, ◌≡◌, List, Option, Some, None, get_or, sym, subst, ap, ◌∙◌, arith, Contains}
+use Rattle.std.proofs.Common.{ℕ, ℤ, pos, ◌<◌, ◌≡◌, List, Option, Some, None, sym, subst, ap, ◌∙◌, arith}
 use Rattle.auc_cert.specs.declared.reason.Reason.{Reason}
 use Rattle.std.specs.Prelude.{Ok, Err, All, ◌<ℤ◌, replicate, unsigned_abs}
 use Rattle.std.proofs.lemmas.Int.{ints}
 use Rattle.std.proofs.lemmas.List.{get_or-replicate, length-replicate}
-use Rattle.std.specs.List.{slice_get}
-use Rattle.std.proofs.lemmas.Option.{slice_get-get_or}
-use Rattle.auc_hall.proofs.Membership.{nothing}
-use Rattle.auc_graph.specs.declared.rows.RowArc.{RowArc}
-use Rattle.auc_graph.specs.Problem.{Problem}
-use Rattle.auc_graph.specs.Table.{IsTable, IsTableOf, Table}
-use Rattle.auc_hall.specs.Assignment.{IsRowAssignment}
-use Rattle.auc_hall.specs.Matching.{IsMatching}
-use Rattle.auc_hall.specs.declared.matching.Matching.{Matching}
-use Rattle.auc_hall.specs.declared.matching.Matching.TheVariants.{Full}
-use Rattle.auc_hall.proofs.ProblemLaws.{full_of}
+use Rattle.auc_graph.specs.Table.{IsTable, Table}
 use Rattle.auc_letters.specs.declared.letter.Why.{Why}
 use Rattle.auc_model.specs.Bidding.{SomeoneStuck}
 use Rattle.auc_model.specs.Start.{Lawful, Starts}
@@ -26,16 +16,17 @@ use Rattle.auc_model.proofs.Reached.{reached_on, reached_start}
 use Rattle.auc_model.proofs.Rests.{rests_ended}
 use Rattle.auc_model.proofs.Theorems.{of_every_schedule, stuck_only}
 use Rattle.auc_letters.specs.Price.{IsEps, IsPrice}
-use Rattle.auc_world.specs.declared.answer.Answer.{Answer}
-use Rattle.auc_world.specs.declared.answer.Guard.{Guard}
-use Rattle.auc_world.specs.declared.gathering.Gathered.{Gathered}
-use Rattle.auc_world.specs.declared.limits.Limits.{Limits}
+use Rattle.auc_answers.specs.declared.answer.Guard.{Guard}
+use Rattle.auc_answers.specs.declared.gathered.Gathered.{Gathered}
+use Rattle.auc_answers.specs.declared.limits.Limits.{Limits}
+use Rattle.auc_answers.specs.Answers.{stop_of, why_of}
+use Rattle.auc_answers.specs.Begins.{ArePrices}
+use Rattle.auc_answers.specs.Prepared.{NobodyStuck}
 use Rattle.auc_world.specs.declared.solving.Outcome.{Outcome}
 use Rattle.auc_world.specs.Gathering.{AreSales, IsGathered}
-use Rattle.auc_world.specs.Answers.{HasAssignment, IsAnswer, IsInfeasibleAnswer, stop_of, why_of}
-use Rattle.auc_world.specs.Making.{ArePrices, IsMade}
+use Rattle.auc_world.specs.Making.{IsMade}
 use Rattle.auc_world.specs.Parts.{Parts, phase, seen}
-use Rattle.auc_world.specs.Phases.{ComesOf, IsPlayed, Leaves, NobodyStuck, Stage}
+use Rattle.auc_world.specs.Phases.{ComesOf, IsPlayed, Leaves, Stage}
 use Rattle.auc_world.specs.Rounds.{Rounds}
 use Rattle.auc_world.proofs.RoundLaws.{rounds_schedule}
 
@@ -63,25 +54,6 @@ never_guarded g v Why.Mail guard r arcs e s = cc
 never_guarded g v Why.Stuck guard r arcs e s = arcs (stuck_only g v r e)
 never_guarded g v Why.Fell guard r arcs e s = (of_every_schedule g v r).0.0 e
 never_guarded g v Why.Stray guard r arcs e s = (of_every_schedule g v r).0.1 e
-
--- ---- a full assignment
-
-pub has_assignment : (p : Problem) (t : Table) (m : Matching) (numbers : List ℕ) → IsTableOf p t → IsMatching t m → m ≡ Full numbers → HasAssignment p
-has_assignment p t m numbers of h is =
-    let full = full_of p t numbers of (subst (IsMatching t) is h) in
-    (full.0, full.1)
-
-a_row_arc : RowArc
-a_row_arc = record { cost = pos 0; object = 0; arc = 0 }
-
-chosen_there : (t : Table) (choice : List RowArc) → IsRowAssignment t choice → NobodyStuck t
-chosen_there t choice is i l none =
-    let arc = get_or choice i a_row_arc in
-    let there : slice_get choice i ≡ Some arc = slice_get-get_or choice i a_row_arc (omega (arith, l, is.persons)) in
-    nothing arc (subst (λ (row : List RowArc). Contains row arc) none (is.own i arc there))
-
-pub all_have_arcs : (t : Table) (m : Matching) (numbers : List ℕ) → IsMatching t m → m ≡ Full numbers → NobodyStuck t
-all_have_arcs t m numbers h is = let full = subst (IsMatching t) is h in chosen_there t full.0 full.1
 
 -- ---- what a played phase comes to, of the parts of its worlds
 
@@ -143,11 +115,3 @@ later_prices t limits s gathered h = record { each = h.sales.prices_are; within 
 
 pub less_eps : (eps next : ℤ) → IsEps next → next <ℤ eps → unsigned_abs next < unsigned_abs eps
 less_eps eps next is l = let low = is.low in omega (arith, ints, low, l)
-
--- ---- answers
-
-pub infeasible_is : (p : Problem) (a : Answer) → IsInfeasibleAnswer p a → IsAnswer p a
-infeasible_is p (Answer.Optimal cert) h = absurd h
-infeasible_is p (Answer.Infeasible cert) h = h
-infeasible_is p (Answer.Bracket cert) h = absurd h
-infeasible_is p (Answer.Broken guard) h = absurd h

@@ -19,8 +19,9 @@ use Rattle.auc_model.specs.World.{Phase, World, ended}
 use Rattle.auc_model.specs.declared.turn.End.{End}
 use Rattle.auc_model.specs.declared.turn.TurnReply.{TurnReply}
 use Rattle.auc_model.proofs.Places.{put_at}
-use Rattle.auc_world.specs.Hub.{ending}
-use Rattle.auc_world.specs.Mails.{name_of, named, with_named}
+use Rattle.auc_answers.specs.Hub.{ending}
+use Rattle.auc_answers.specs.Boxes.{name_of}
+use Rattle.auc_world.specs.Mails.{named, with_named}
 use Rattle.auc_world.specs.Parts.{AreParts, Parts, SamePhase, outbox_at, phase, seen}
 use Rattle.auc_world.specs.Posting.{Leaves, MailsAlone, Stays}
 use Rattle.auc_world.proofs.Seen.{outbox_seen, seen_outbox}

@@ -15,9 +15,11 @@ use Rattle.auc_model.specs.Put.{put}
 use Rattle.auc_model.specs.World.{World}
 use Rattle.auc_model.specs.declared.turn.End.{End}
 use Rattle.auc_model.specs.declared.turn.TurnReply.{TurnReply}
-use Rattle.auc_world.specs.Hub.{ending}
+use Rattle.auc_answers.specs.Hub.{ending}
+use Rattle.auc_answers.specs.Shards.{IsObjectShard, no_objects}
+use Rattle.auc_answers.specs.Boxes.{Reaches}
 use Rattle.auc_world.specs.Mails.{TakesOne}
-use Rattle.auc_world.specs.Parts.{AreParts, IsObjectShard, MayAnswer, OwnsObject, Parts, Reaches, no_objects, objects_at, outbox_at, phase, seen}
+use Rattle.auc_world.specs.Parts.{AreParts, MayAnswer, OwnsObject, Parts, objects_at, outbox_at, phase, seen}
 use Rattle.auc_world.proofs.Seen.{seen_outbox, seen_sold}
 
 -- a letter that is no bid of the shard's fits it in no way

@@ -5,9 +5,10 @@ use Rattle.auc_model.specs.Mails.{Shard, with_outbox}
 use Rattle.auc_model.specs.declared.turn.TurnReply.{TurnReply}
 use Rattle.auc_letters.specs.declared.letter.Letter.{Letter}
 use Rattle.auc_letters.specs.declared.out.To.{To}
+use Rattle.auc_answers.specs.Boxes.{Reaches}
 use Rattle.auc_world.specs.declared.bidding.Asked.{Asked}
 use Rattle.auc_world.specs.declared.bidding.Order.{Order}
-use Rattle.auc_world.specs.Parts.{Parts, Reaches, outbox_at, phase, seen}
+use Rattle.auc_world.specs.Parts.{Parts, outbox_at, phase, seen}
 
 -- From p, the shard s is asked, and n is left. Were the letter in its outbox, it would have taken its turn.
 abbrev pub Asks : Parts → ℕ → Asked → Parts → Type 0

@@ -1,5 +1,5 @@
 -- The phases of a run, each from what the one before has left, and what an answer says of the last one.
-use Rattle.std.specs.Prelude.{ℕ, ℤ, pos, ◌≡◌, List, [], ◌∷◌, Option, Some, None, All, length, replicate}
+use Rattle.std.specs.Prelude.{ℕ, ℤ, pos, ◌≡◌, List, [], ◌∷◌, Option, Some, All, length}
 use Rattle.auc_graph.specs.declared.arc.Arc.{Arc}
 use Rattle.auc_graph.specs.Assignment.{IsAssignment}
 use Rattle.auc_graph.specs.Problem.{Problem}
@@ -9,12 +9,13 @@ use Rattle.auc_cert.specs.declared.cert.CertParts.{CertParts}
 use Rattle.auc_model.specs.Chosen.{ArePricesOf, IsHeldArc}
 use Rattle.auc_model.specs.World.{World}
 use Rattle.auc_model.specs.declared.turn.End.{End}
-use Rattle.auc_world.specs.declared.answer.Answer.{Answer}
-use Rattle.auc_world.specs.declared.limits.Limits.{Limits}
-use Rattle.auc_world.specs.Answers.{why_of}
 use Rattle.auc_letters.specs.declared.state.Held.{Held}
-use Rattle.auc_world.specs.Claims.{GrowsFrom, IsBracketBy, claim_of, holder_at, picks_of}
-use Rattle.auc_world.specs.Eps.{first_eps, next_eps}
+use Rattle.auc_answers.specs.declared.answer.Answer.{Answer}
+use Rattle.auc_answers.specs.declared.limits.Limits.{Limits}
+use Rattle.auc_answers.specs.Answers.{why_of}
+use Rattle.auc_answers.specs.Claims.{GrowsFrom, IsBracketBy, claim_of, holder_at, picks_of}
+use Rattle.auc_answers.specs.Eps.{next_eps}
+use Rattle.auc_answers.specs.Begins.{Begins}
 use Rattle.auc_world.specs.Phases.{IsPlayed, Stage}
 
 -- a phase at this eps and these prices comes behind r: every person had an object there, the eps is the next one, and the prices are those
@@ -24,16 +25,6 @@ pub record Follows (t : Table) (r : Stage) (eps : ℤ) (prices : List ℤ) : Typ
   pub next : next_eps r.eps ≡ Some eps
   pub each : length prices ≡ t.objects
   pub kept : ArePricesOf r.world prices
-
--- The eps and the prices of the first phase of a run: the first eps and prices of 0; or from start prices these and eps 1, so that it is the
--- only phase, and there are as many objects as persons.
-abbrev pub Begins : Table → Option (List ℤ) → ℤ → List ℤ → Type 0
-Begins t None eps prices = (eps ≡ first_eps t) × (prices ≡ replicate t.objects (pos 0))
-Begins t (Some start) eps prices = (eps ≡ pos 1) × (prices ≡ start) × (t.objects ≡ length t.rows)
-
--- a run may begin so
-abbrev pub MayBegin : Table → ℤ → List ℤ → Type 0
-MayBegin t eps prices = (start : Option (List ℤ)) × Begins t start eps prices
 
 -- The phases of a run, the last one first, each next one behind the one before. Where there is no start, it is from nothing.
 abbrev pub Chain : Table → Limits → Option (List ℤ) → List Stage → Type 0

@@ -1,17 +1,12 @@
-pub mod Eps
 pub mod Parts
 pub mod Making
 pub mod Gathering
 pub mod Rounds
-pub mod Claims
-pub mod Answers
 pub mod Phases
 pub mod Chain
 pub mod Mails
-pub mod Hub
 pub mod Posting
 pub mod Bidding
-pub mod Hearing
 pub mod Selling
 pub mod Passing
 pub mod Lists

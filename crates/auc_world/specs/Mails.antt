@@ -2,22 +2,9 @@
 use Rattle.std.specs.Prelude.{ℕ}
 use Rattle.auc_mail.specs.Mail.{Mail}
 use Rattle.auc_letters.specs.declared.letter.Letter.{Letter}
-use Rattle.auc_letters.specs.declared.out.To.{To}
 use Rattle.auc_model.specs.declared.turn.MailName.{MailName}
 use Rattle.auc_model.specs.Mails.{Takes}
 use Rattle.auc_world.specs.declared.mails.Mails.{Mails}
-
--- the mail that a letter goes into, by name
-abbrev pub name_of : To → MailName
-name_of (To.Person s) = MailName.Persons
-name_of (To.Object q) = MailName.Objects
-name_of To.Hub = MailName.Hub
-
--- how many boxes the mail has, where there are so many shards of each kind
-abbrev pub boxes_in : ℕ → MailName → ℕ
-boxes_in shards MailName.Objects = shards
-boxes_in shards MailName.Persons = shards
-boxes_in shards MailName.Hub = 1
 
 -- the mail of that name
 abbrev pub named : Mails → MailName → Mail Letter

@@ -1,26 +1,11 @@
 -- The parts of a new world.
-use Rattle.std.specs.Prelude.{ℕ, ◌+◌, ◌*◌, ◌<◌, ◌≤◌, ◌≡◌, ◌==◌, if◌then◌else◌, ℤ, false, List, [], None, length, All, replicate, slice_index_or}
+use Rattle.std.specs.Prelude.{ℕ, ◌+◌, ◌*◌, ◌<◌, ◌≡◌, ℤ, false, List, [], None, length, All, replicate, slice_index_or}
 use Rattle.auc_graph.specs.Table.{Table}
 use Rattle.auc_mail.specs.Mail.{empty_mail}
-use Rattle.auc_letters.specs.declared.state.PersonState.{PersonState}
-use Rattle.auc_letters.specs.Price.{IsPrice}
-use Rattle.auc_letters.specs.Persons.{persons_of}
-use Rattle.auc_persons.specs.Persons.{Persons}
-use Rattle.auc_objects.specs.Objects.{Objects}
-use Rattle.auc_world.specs.declared.limits.Limits.{Limits}
-use Rattle.auc_world.specs.Parts.{Parts, no_objects, no_persons}
-
--- a new shard of the persons: all are free, and the copies are the prices
-abbrev pub new_persons : ℕ → ℕ → ℕ → List ℤ → ℕ → Persons
-new_persons shards persons bids prices s = record { shard = s; of = shards; object_shards = shards; bids = bids; copies = prices; states = replicate persons PersonState.Free; idle = persons_of s shards persons }
-
--- a new shard of the objects: nobody holds any
-abbrev pub new_objects : ℕ → ℕ → List ℤ → ℕ → Objects
-new_objects shards persons prices q = record { shard = q; of = shards; person_shards = shards; persons = persons; prices = prices; holders = replicate (length prices) None }
-
--- the number of letters that may wait, where 0 stands for the usual one
-abbrev pub nodes_or : ℕ → ℕ → ℕ
-nodes_or nodes usual = if nodes == 0 then usual else nodes
+use Rattle.auc_answers.specs.declared.limits.Limits.{Limits}
+use Rattle.auc_answers.specs.Shards.{new_objects, new_persons, no_objects, no_persons}
+use Rattle.auc_answers.specs.Limits.{nodes_or}
+use Rattle.auc_world.specs.Parts.{Parts}
 
 -- the parts of a new world
 pub record IsMade (t : Table) (limits : Limits) (prices : List ℤ) (eps : ℤ) (p : Parts) : Type 0 where
@@ -39,14 +24,3 @@ pub record IsMade (t : Table) (limits : Limits) (prices : List ℤ) (eps : ℤ) 
   pub hub_mail : p.mails.hub ≡ empty_mail 1 (2 * limits.shards + 1) (nodes_or limits.nodes (length t.rows + 2 * limits.shards)) limits.posts
   pub count : p.hub.count ≡ 0
   pub end : p.hub.end ≡ None
-
--- limits in range
-pub record AreLimits (limits : Limits) : Type 0 where
-  pub some : 1 ≤ limits.shards
-  pub few : limits.shards ≤ 16
-  pub nodes : limits.nodes ≤ 16777216
-
--- one price for each object, in range
-pub record ArePrices (t : Table) (prices : List ℤ) : Type 0 where
-  pub each : length prices ≡ t.objects
-  pub within : All IsPrice prices

@@ -5,13 +5,14 @@ use Rattle.auc_mail.specs.Mail.{Mail, HasBox, IsOpen}
 use Rattle.auc_letters.specs.declared.letter.Letter.{Letter}
 use Rattle.auc_letters.specs.declared.out.Out.{Out}
 use Rattle.auc_letters.specs.Price.{IsEps}
-use Rattle.auc_persons.specs.Persons.{IsMadeFor, Persons, Owns, copy_of, state_of}
+use Rattle.auc_persons.specs.Persons.{Persons, copy_of, state_of}
 use Rattle.auc_objects.specs.Objects.{Objects, price_of, holder_of}
 use Rattle.auc_model.specs.World.{Phase, World, phase_of}
-use Rattle.auc_model.specs.Mails.{Shard, box_of}
+use Rattle.auc_model.specs.Mails.{Shard}
+use Rattle.auc_answers.specs.Hub.{Counting}
+use Rattle.auc_answers.specs.Boxes.{Reaches}
+use Rattle.auc_answers.specs.Shards.{IsObjectShard, IsPersonShard, no_objects, no_persons}
 use Rattle.auc_world.specs.declared.mails.Mails.{Mails}
-use Rattle.auc_world.specs.Hub.{Counting}
-use Rattle.auc_world.specs.Mails.{boxes_in, name_of}
 
 -- The rows of the problem, how many shards there are of each kind, and eps; the shards; the outboxes of the shards of the
 -- persons, and behind them those of the shards of the objects; which shards of the persons have made a Stop; the three mails;
@@ -26,13 +27,6 @@ pub record Parts : Type 0 where
   pub stopped : List Bool
   pub mails : Mails
   pub hub : Counting
-
--- what is read where there is no such shard
-abbrev pub no_persons : Persons
-no_persons = record { shard = 0; of = 0; object_shards = 0; bids = 0; copies = []; states = []; idle = [] }
-
-abbrev pub no_objects : Objects
-no_objects = record { shard = 0; of = 0; person_shards = 0; persons = 0; prices = []; holders = [] }
 
 -- the shards
 abbrev pub persons_at : Parts → ℕ → Persons
@@ -75,27 +69,6 @@ seen p = record {
   count = p.hub.count;
   end = p.hub.end;
 }
-
--- a shard of the persons of this world
-pub record IsPersonShard (table : Table) (shards s : ℕ) (x : Persons) : Type 0 where
-  pub number : x.shard ≡ s
-  pub of : x.of ≡ shards
-  pub object_shards : x.object_shards ≡ shards
-  pub fits : IsMadeFor table x
-  pub idle_own : All (Owns x) x.idle
-
--- a shard of the objects of this world
-pub record IsObjectShard (table : Table) (shards q : ℕ) (x : Objects) : Type 0 where
-  pub number : x.shard ≡ q
-  pub of : x.of ≡ shards
-  pub person_shards : x.person_shards ≡ shards
-  pub persons : x.persons ≡ length table.rows
-  pub objects : length x.prices ≡ table.objects
-  pub holders : length x.holders ≡ table.objects
-
--- the letter goes to a box that is there
-abbrev pub Reaches : ℕ → Out → Type 0
-Reaches shards o = box_of o.to < boxes_in shards (name_of o.to)
 
 -- a mail of this world, with so many boxes
 pub record IsMail (shards : ℕ) (m : Mail Letter) (boxes : ℕ) : Type 0 where

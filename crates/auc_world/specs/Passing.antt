@@ -15,9 +15,10 @@ use Rattle.auc_model.specs.World.{Phase, World}
 use Rattle.auc_model.specs.declared.turn.Turn.{Turn}
 use Rattle.auc_model.specs.declared.turn.TurnReply.{TurnReply}
 use Rattle.auc_objects.specs.declared.answers.Answers.{Answers}
+use Rattle.auc_answers.specs.Boxes.{name_of}
 use Rattle.auc_world.specs.declared.passing.Sold.{Sold}
 use Rattle.auc_world.specs.declared.selling.Dealt.{Dealt}
-use Rattle.auc_world.specs.Mails.{TakesOne, name_of, named, with_named}
+use Rattle.auc_world.specs.Mails.{TakesOne, named, with_named}
 use Rattle.auc_world.specs.Parts.{AreParts, MayAnswer, Parts, phase, seen}
 use Rattle.auc_world.specs.Rounds.{Plays, has_moved}
 use Rattle.auc_world.specs.Selling.{Deals}

@@ -1,29 +1,18 @@
 -- A phase of a run, and what it comes to.
-use Rattle.std.specs.Prelude.{ℕ, ℤ, ◌≡◌, ◌≢◌, ◌<◌, [], List, Some, None, length, All}
-use Rattle.auc_graph.specs.Problem.{Problem}
-use Rattle.auc_graph.specs.Table.{IsTableOf, Table, row_of}
+use Rattle.std.specs.Prelude.{ℕ, ℤ, ◌≡◌, ◌≢◌, List, Some, None, All}
+use Rattle.auc_graph.specs.Table.{Table}
 use Rattle.auc_letters.specs.Price.{IsPrice}
 use Rattle.auc_model.specs.declared.turn.End.{End}
 use Rattle.auc_model.specs.Schedule.{Reached}
 use Rattle.auc_model.specs.World.{World, phase_of}
-use Rattle.auc_world.specs.declared.gathering.Gathered.{Gathered}
-use Rattle.auc_world.specs.declared.limits.Limits.{Limits}
+use Rattle.auc_answers.specs.declared.gathered.Gathered.{Gathered}
+use Rattle.auc_answers.specs.declared.limits.Limits.{Limits}
+use Rattle.auc_answers.specs.Answers.{why_of}
 use Rattle.auc_world.specs.declared.solving.Outcome.{Outcome}
-use Rattle.auc_world.specs.declared.preparing.Prepared.{Prepared}
-use Rattle.auc_world.specs.Answers.{HasAssignment, IsInfeasibleAnswer, why_of}
 use Rattle.auc_world.specs.Gathering.{AreSales}
 use Rattle.auc_world.specs.Making.{IsMade}
 use Rattle.auc_world.specs.Parts.{Parts, seen}
 use Rattle.auc_world.specs.Rounds.{Rounds}
-
--- each person has an arc
-abbrev pub NobodyStuck : Table → Type 0
-NobodyStuck t = (i : ℕ) → i < length t.rows → row_of t i ≢ []
-
--- these are the rows of a problem that has an assignment, or it has none, and this is the answer
-abbrev pub IsPrepared : Problem → Prepared → Type 0
-IsPrepared p (Prepared.Rows t) = IsTableOf p t × NobodyStuck t × HasAssignment p
-IsPrepared p (Prepared.Answered answer) = IsInfeasibleAnswer p answer
 
 -- one phase: its eps, the prices that it begins with, and the world that its last round led to
 pub record Stage : Type 0 where

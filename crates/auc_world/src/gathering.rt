@@ -5,15 +5,8 @@ ghost use Rattle.auc_letters.specs.Price.{IsPrice};
 ghost use Rattle.auc_world.specs.Gathering.{IsGathered};
 
 use crate::world::World;
-use auc_letters::Held;
+use auc_answers::Gathered;
 use std::alloc::{AllocError, Global};
-
-/// Who holds each object, and its price in scaled costs, both indexed by object.
-#[derive(Debug, Drop)]
-pub struct Gathered {
-    pub holders: Vec<Option<Held>>,
-    pub prices: Vec<i64>,
-}
 
 impl<'a> World<'a> {
     /// Who holds each object, if anybody does, and the true prices, as they stand. Takes O(objects) time and memory.

@@ -3,24 +3,13 @@
 ghost use Rattle.std.specs.Prelude.{◌≡◌, ◌<◌, slice_set};
 ghost use Rattle.auc_model.specs.Hearing.{PersonTakeTurn};
 ghost use Rattle.auc_persons.specs.Persons.{OnLetter};
-ghost use Rattle.auc_world.specs.Hearing.{reason_for};
 ghost use Rattle.auc_world.specs.Parts.{SamePhase, persons_at, phase, seen};
 
 use crate::world::World;
-use auc_letters::{Letter, Why};
+use auc_answers::reason_for;
+use auc_letters::Letter;
 use auc_model::{End, MailName, TurnReply};
 use auc_persons::PersonFault;
-
-/// Why a phase ends where a shard of the persons finds a fault in a letter.
-#[inline]
-pub fn reason_for(fault: PersonFault) -> Why
-    ensures { result ≡ reason_for fault }
-{
-    match fault {
-        PersonFault::Stray => Why::Stray,
-        PersonFault::Fell => Why::Fell,
-    }
-}
 
 impl<'a> World<'a> {
     /// A shard of the persons hears a letter.

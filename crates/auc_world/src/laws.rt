@@ -27,7 +27,7 @@ ghost use Rattle.auc_model.specs.Slack.{SlackRight};
 ghost use Rattle.auc_model.specs.Start.{UsualNodes};
 ghost use Rattle.auc_model.specs.World.{World as Model, phase_of};
 ghost use Rattle.auc_model.specs.declared.turn.End.{End};
-ghost use Rattle.auc_world.specs.Answers.{IsCertified};
+ghost use Rattle.auc_answers.specs.Answers.{IsCertified};
 ghost use Rattle.auc_world.specs.Parts.{phase, seen};
 
 use crate::world::World;

@@ -7,7 +7,8 @@ ghost use Rattle.auc_mail.specs.Step.{Fits, Step, reply_to_post};
 ghost use Rattle.auc_mail.specs.declared.call.Call.{Call};
 ghost use Rattle.auc_mail.specs.declared.call.Reply.{Reply};
 ghost use Rattle.auc_model.specs.Mails.{TakesNone, box_of};
-ghost use Rattle.auc_world.specs.Mails.{TakesOne, name_of, named, with_named};
+ghost use Rattle.auc_answers.specs.Boxes.{name_of};
+ghost use Rattle.auc_world.specs.Mails.{TakesOne, named, with_named};
 
 use auc_letters::{Letter, Out, To};
 use auc_mail::{MailPool, PostRefused, Taken};

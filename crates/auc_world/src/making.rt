@@ -3,9 +3,9 @@
 ghost use Rattle.std.specs.Prelude.{ℕ, ℤ, List, ◌≡◌, ◌<◌, ◌≤◌, ◌+◌, ◌*◌, [], length, All, slice_index_or, IfOk};
 ghost use Rattle.auc_graph.specs.Table.{IsTable};
 ghost use Rattle.auc_letters.specs.Price.{IsPrice};
+ghost use Rattle.auc_answers.specs.Shards.{new_objects, new_persons, no_objects, no_persons};
+ghost use Rattle.auc_answers.specs.Limits.{nodes_or};
 ghost use Rattle.auc_world.specs.Lists.{MayKeep};
-ghost use Rattle.auc_world.specs.Making.{new_persons, new_objects, nodes_or};
-ghost use Rattle.auc_world.specs.Parts.{no_persons, no_objects};
 
 use crate::outbox::Outbox;
 use auc_graph::Rows;
@@ -86,11 +86,4 @@ pub(crate) fn new_outboxes(alloc: Global, count: u32) -> Result<Vec<Outbox>, All
         made.push(Outbox::new())?;
     }
     Ok(made)
-}
-
-/// How many letters may wait, where 0 stands for the usual number.
-pub fn nodes_or(nodes: u32, usual: u32) -> u32
-    ensures { result ≡ nodes_or nodes usual }
-{
-    if nodes == 0 { usual } else { nodes }
 }

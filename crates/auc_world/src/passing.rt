@@ -6,7 +6,8 @@ ghost use Rattle.std.specs.Prelude.{◌≡◌, ◌<◌, ◌+◌, ◌*◌, true, 
 ghost use Rattle.auc_objects.specs.Answers.{letters_of};
 ghost use Rattle.auc_model.specs.Mails.{Shard, with_outbox};
 ghost use Rattle.auc_model.specs.declared.turn.Turn.{Turn};
-ghost use Rattle.auc_world.specs.Parts.{Reaches, SamePhase, outbox_at, phase, seen};
+ghost use Rattle.auc_answers.specs.Boxes.{Reaches};
+ghost use Rattle.auc_world.specs.Parts.{SamePhase, outbox_at, phase, seen};
 ghost use Rattle.auc_world.specs.Rounds.{Plays};
 ghost use Rattle.auc_world.specs.Passing.{BidPasses, FirstPasses, Hands, PassesBy, Sells, Trades, sold_if, sold_moves};
 

@@ -7,34 +7,17 @@ ghost use Rattle.auc_mail.specs.declared.call.PostRefused.{PostRefused};
 ghost use Rattle.auc_model.specs.Mails.{Shard, box_of, number, with_outbox};
 ghost use Rattle.auc_model.specs.Posting.{PostTurn, is_price, reason};
 ghost use Rattle.auc_model.specs.declared.turn.TurnReply.{TurnReply};
-ghost use Rattle.auc_world.specs.Mails.{name_of, named, with_named};
-ghost use Rattle.auc_world.specs.Parts.{AreParts, Reaches, SamePhase, outbox_at, phase, seen, sender_of};
+ghost use Rattle.auc_answers.specs.Boxes.{Reaches, name_of};
+ghost use Rattle.auc_world.specs.Mails.{named, with_named};
+ghost use Rattle.auc_world.specs.Parts.{AreParts, SamePhase, outbox_at, phase, seen, sender_of};
 ghost use Rattle.auc_world.specs.Posting.{Leaves, MailsAlone, Stays};
 
 use crate::world::World;
 use arrayvec::ArrayVec;
+use auc_answers::reason_to_stop;
 use auc_letters::{Letter, Out, Why};
 use auc_mail::PostRefused;
 use auc_model::{End, TurnReply};
-
-/// Why a shard stops where its letter was refused: `Posts` where the lane has had all its posts, `Mail` where the mail is full.
-/// It doesn't stop where the box is closed, or where the letter is a price, which may be dropped.
-///
-/// Whoever plays a phase in another way than [`World`] can ask it, too.
-#[inline]
-pub fn reason_to_stop(refused: PostRefused, letter: Letter) -> Option<Why>
-    ensures some { IfSome result (λ y. (refused ≢ PostRefused.Closed) × (is_price letter ≡ false) × (y ≡ reason refused)) }
-    ensures none { IfNone result ((refused ≡ PostRefused.Closed) ⊎ ((refused ≢ PostRefused.Closed) × (is_price letter ≡ true))) }
-{
-    if let Letter::Price { .. } = letter {
-        return None;
-    }
-    match refused {
-        PostRefused::Closed => None,
-        PostRefused::Spent => Some(Why::Posts),
-        PostRefused::Full => Some(Why::Mail),
-    }
-}
 
 impl<'a> World<'a> {
     /// The first letter in the outbox of a sender.

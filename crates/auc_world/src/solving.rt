@@ -5,20 +5,20 @@ ghost use Rattle.auc_persons.specs.Rising.{AreRising};
 ghost use Rattle.auc_graph.specs.Table.{IsTableOf};
 ghost use Rattle.auc_cert.specs.Start.{AreStart};
 ghost use Rattle.auc_letters.specs.Price.{IsEps};
-ghost use Rattle.auc_world.specs.Answers.{HasAssignment, IsAnswer};
-ghost use Rattle.auc_world.specs.Chain.{Begins, IsOfRun, MayBegin};
+ghost use Rattle.auc_answers.specs.Answers.{HasAssignment, IsAnswer};
+ghost use Rattle.auc_answers.specs.Begins.{ArePrices, Begins, MayBegin};
+ghost use Rattle.auc_answers.specs.Limits.{AreLimits};
+ghost use Rattle.auc_answers.specs.Prepared.{NobodyStuck};
+ghost use Rattle.auc_world.specs.Chain.{IsOfRun};
 ghost use Rattle.auc_world.specs.Lists.{MayKeep, StayKept};
-ghost use Rattle.auc_world.specs.Making.{AreLimits, ArePrices};
-ghost use Rattle.auc_world.specs.Phases.{ComesOf, NobodyStuck};
+ghost use Rattle.auc_world.specs.Phases.{ComesOf};
 
-use crate::answer::{Answer, Guard};
-use crate::eps::{LAST_EPS, first_eps, next_eps};
-use crate::finish::{bracket, optimal, stop_of};
-use crate::gathering::Gathered;
-use crate::limits::Limits;
 use crate::making::new_candidates;
-use crate::preparing::{Prepared, prepare};
 use crate::world::World;
+use auc_answers::finish::{bracket, optimal, stop_of};
+use auc_answers::{
+    Answer, Gathered, Guard, LAST_EPS, Limits, Prepared, first_eps, next_eps, prepare,
+};
 use auc_cert::Reason;
 use auc_graph::{ArcList, Rows};
 use auc_model::End;

@@ -7,18 +7,20 @@ ghost use Rattle.auc_model.specs.Mails.{TakesNone};
 ghost use Rattle.auc_model.specs.Schedule.{Reached};
 ghost use Rattle.auc_model.specs.Start.{Lawful, Starts, UsualNodes};
 ghost use Rattle.auc_model.specs.World.{phase_of};
-ghost use Rattle.auc_world.specs.Hub.{ending};
-ghost use Rattle.auc_world.specs.Mails.{TakesOne, boxes_in, named, with_named};
+ghost use Rattle.auc_answers.specs.Hub.{ending};
+ghost use Rattle.auc_answers.specs.Boxes.{boxes_in};
+ghost use Rattle.auc_answers.specs.Limits.{AreLimits};
+ghost use Rattle.auc_answers.specs.Begins.{ArePrices};
+ghost use Rattle.auc_world.specs.Mails.{TakesOne, named, with_named};
 ghost use Rattle.auc_persons.specs.Rising.{AreRising};
 ghost use Rattle.auc_world.specs.Lists.{AreKept, MayKeep};
-ghost use Rattle.auc_world.specs.Making.{AreLimits, ArePrices, IsMade};
+ghost use Rattle.auc_world.specs.Making.{IsMade};
 ghost use Rattle.auc_world.specs.Parts.{AreParts, OwnsObject, phase, seen};
 
-use crate::hub::Hub;
-use crate::limits::Limits;
 use crate::mails::{Mails, new_mail};
-use crate::making::{new_object_shards, new_outboxes, new_person_shards, nodes_or};
+use crate::making::{new_object_shards, new_outboxes, new_person_shards};
 use crate::outbox::Outbox;
+use auc_answers::{Hub, Limits, nodes_or};
 use auc_graph::Rows;
 use auc_letters::{Held, Letter, shard_of};
 use auc_model::{End, MailName};
@@ -51,7 +53,7 @@ impl<'a> Model for World<'a> {
     ghost use Rattle.std.specs.Prelude.{IsTrue};
     ghost use Rattle.auc_persons.specs.Rising.{AreRising};
     ghost use Rattle.auc_world.specs.Lists.{AreKept};
-    ghost use Rattle.auc_world.specs.Parts.{Parts, AreParts};
+    ghost use Rattle.auc_world.specs.Parts.{AreParts, Parts};
 
     ghost Value = { Parts };
 

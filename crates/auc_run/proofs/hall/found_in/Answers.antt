@@ -1,7 +1,7 @@
 use Rattle.std.proofs.Common.{sym, subst}
 use Rattle.auc_hall.specs.OfProblem.{IsFullOf}
 use Rattle.auc_run.proofs.CompletionLaws.{full_is}
-use Rattle.auc_world.proofs.HallCertificates.{hall_is, are_named, is_hall_certificate}
+use Rattle.auc_answers.proofs.HallCertificates.{are_named, hall_is, is_hall_certificate}
 use Rattle.auc_run.proofs.hall.found_in.Goals as goal
 
 pub certificate_of-requires : goal.certificate_of-requires

@@ -1,6 +1,6 @@
 use Rattle.std.proofs.Common.{◌≡◌, All}
 use Rattle.auc_persons.specs.Candidates.{Kept}
-use Rattle.auc_world.specs.Parts.{IsPersonShard}
+use Rattle.auc_answers.specs.Shards.{IsPersonShard}
 use Rattle.auc_threads.specs.Taking.{GoesWithin}
 use Rattle.auc_threads.proofs.bidding.ask_all.Given as goal
 

@@ -1,4 +1,4 @@
-use Rattle.auc_world.specs.Parts.{IsPersonShard}
+use Rattle.auc_answers.specs.Shards.{IsPersonShard}
 use Rattle.auc_threads.specs.Hearing.{Hears}
 use Rattle.auc_threads.proofs.hearing.hear_each.Given as goal
 

@@ -2,7 +2,7 @@ use Rattle.std.proofs.Common.{rules, arith, ◌≡◌, ◌<◌, refl, w64}
 use Rattle.std.specs.Prelude.{FitsSigned}
 use Rattle.std.specs.Vec.Iter.{into_iter_items}
 use Rattle.auc_persons.specs.Candidates.{Kept}
-use Rattle.auc_world.specs.Parts.{IsPersonShard}
+use Rattle.auc_answers.specs.Shards.{IsPersonShard}
 use Rattle.auc_letters.specs.Price.{IsEps}
 use Rattle.auc_threads.proofs.PlacedLaws.{placed_more, placed_uncons}
 use Rattle.auc_threads.proofs.StartsLaws.{person_promised, person_shard}

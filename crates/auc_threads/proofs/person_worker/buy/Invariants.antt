@@ -1,6 +1,6 @@
 use Rattle.std.proofs.Common.{◌≡◌, []}
 use Rattle.auc_persons.specs.Candidates.{Kept}
-use Rattle.auc_world.specs.Parts.{IsPersonShard}
+use Rattle.auc_answers.specs.Shards.{IsPersonShard}
 use Rattle.auc_threads.specs.Taking.{TookMore}
 use Rattle.auc_threads.specs.Hearing.{Hears}
 use Rattle.auc_threads.proofs.person_worker.buy.Given as goal

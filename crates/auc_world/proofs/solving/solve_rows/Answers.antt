@@ -1,7 +1,7 @@
 use Rattle.std.proofs.Common.{◌∙◌, ◌∷◌, [], List, ℤ, rules, subst, sym, to_z, w64}
 use Rattle.std.specs.Prelude.{FitsSigned, Option}
 use Rattle.std.proofs.lemmas.Int.{to_z-of_z}
-use Rattle.auc_world.specs.Answers.{IsAnswer, IsBracketAnswer, IsOptimalAnswer}
+use Rattle.auc_answers.specs.Answers.{IsAnswer, IsBracketAnswer, IsOptimalAnswer}
 use Rattle.auc_world.specs.Chain.{IsOfRun}
 use Rattle.auc_world.specs.Phases.{Stage}
 use Rattle.auc_world.proofs.Bridge.{in_range}

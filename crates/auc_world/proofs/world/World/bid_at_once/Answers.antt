@@ -2,8 +2,9 @@ use Rattle.std.proofs.Common.{◌≡◌, ◌<◌, arith, get_or-set_same, length
 use Rattle.std.specs.Prelude.{FitsSigned}
 use Rattle.std.proofs.lemmas.Grind.{common_steps}
 use Rattle.std.proofs.lemmas.Int.{to_z-of_z}
+use Rattle.auc_answers.proofs.ShardLaws.{bids_at_once}
 use Rattle.auc_world.specs.Parts.{persons_at}
-use Rattle.auc_world.proofs.Keeping.{at_once_keeps, bids_at_once}
+use Rattle.auc_world.proofs.Keeping.{at_once_keeps}
 use Rattle.auc_world.proofs.ListLaws.{kept_set}
 use Rattle.auc_world.proofs.world.World.bid_at_once.Goals as goal
 

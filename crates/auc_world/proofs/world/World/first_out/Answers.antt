@@ -1,7 +1,8 @@
 use Rattle.std.proofs.Common.{arith, ◌≡◌}
 use Rattle.std.specs.Prelude.{All}
 use Rattle.std.proofs.lemmas.Grind.{common_steps}
-use Rattle.auc_world.specs.Parts.{Reaches, outbox_at}
+use Rattle.auc_answers.specs.Boxes.{Reaches}
+use Rattle.auc_world.specs.Parts.{outbox_at}
 use Rattle.auc_world.proofs.Keeping.{first_reaches}
 use Rattle.auc_world.proofs.world.World.first_out.Goals as goal
 

@@ -5,8 +5,9 @@ use Rattle.auc_letters.specs.declared.out.Out.{Out}
 use Rattle.auc_model.specs.Bidding.{BidTurn}
 use Rattle.auc_model.specs.Mails.{Shard, with_outbox}
 use Rattle.auc_model.specs.declared.turn.TurnReply.{TurnReply}
+use Rattle.auc_answers.specs.Boxes.{Reaches}
 use Rattle.auc_world.specs.declared.passing.Sold.{Sold}
-use Rattle.auc_world.specs.Parts.{Reaches, phase, seen}
+use Rattle.auc_world.specs.Parts.{phase, seen}
 use Rattle.auc_world.proofs.PassingLaws.{sold_barred, sold_idle, sold_out}
 use Rattle.auc_world.proofs.world.World.sell.Goals as goal
 

@@ -1,0 +1,183 @@
+//! How a run ends: what its last phase claims, or the guard that a stop stands for. Every claim passes the checker first.
+
+ghost use Rattle.std.specs.Prelude.{◌≡◌, length, All, IfOk, IfSome, IfNone};
+ghost use Rattle.auc_graph.specs.Assignment.{IsAssignment};
+ghost use Rattle.auc_graph.specs.Price.{IsPrice};
+ghost use Rattle.auc_graph.specs.Table.{IsTableOf};
+ghost use Rattle.auc_cert.specs.Claim.{chosen};
+ghost use Rattle.auc_hall.specs.OfProblem.{IsHallSetOf};
+ghost use Rattle.auc_answers.specs.Answers.{IsBracketAnswer, IsCertified, IsInfeasibleAnswer, IsOptimalAnswer, stop_of};
+ghost use Rattle.auc_answers.specs.Claims.{BoundFits, IsBracketBy, picks_of};
+
+use crate::answer::{Answer, Guard};
+use crate::gathered::Gathered;
+use crate::picks::{picks_of_holders, picks_of_matching};
+use crate::placing::place_holders;
+use auc_cert::{Cert, CertParts, CertRefused, Pick, Picks, Prices, Reason, check, cost_of};
+use auc_graph::{ArcList, Indices, Rows, dual_bound, lower_of};
+use auc_hall::{Matching, complete};
+use auc_letters::Why;
+use std::alloc::{AllocError, Global};
+
+/// What a stop stands for: the limit that ended the phase, or a guard that was hit.
+///
+/// # Errors
+///
+/// The guard.
+pub fn stop_of(why: Why) -> Result<Reason, Guard>
+    ensures { result ≡ stop_of why }
+{
+    match why {
+        Why::Bids => Ok(Reason::Bids),
+        Why::Ceiling => Ok(Reason::Ceiling),
+        Why::Posts => Ok(Reason::Posts),
+        Why::Trail => Ok(Reason::Trail),
+        Why::Mail => Ok(Reason::Mail),
+        Why::Fell => Err(Guard::Fell),
+        Why::Stray => Err(Guard::Stray),
+        Why::Stuck => Err(Guard::Stuck),
+    }
+}
+
+/// The certificate of these parts, where it has a text and the checker lets it pass.
+fn certified(alloc: Global, problem: &ArcList, parts: CertParts) -> Result<Option<Cert>, AllocError>
+    ensures some { IfOk result (λ o. IfSome o (λ c. (c ≡ parts) × IsCertified problem.now c)) }
+    ensures none { IfOk result (λ o. IfNone o (IsCertified problem.now parts → ⊥)) }
+{
+    let Ok(cert) = Cert::make(parts) else {
+        return Ok(None);
+    };
+    match check(alloc, problem, &cert) {
+        Ok(()) => Ok(Some(cert)),
+        Err(CertRefused::NoMemory) => Err(AllocError),
+        Err(_) => Ok(None),
+    }
+}
+
+/// The answer of a last phase that has sold an object to each person: its holders' arcs, what they cost together, and its prices,
+/// where the checker lets them pass, or else the guard `Check`. Takes O(arcs + persons) time and O(persons) memory.
+///
+/// # Errors
+///
+/// Only where memory was refused.
+pub fn optimal(alloc: Global, problem: &ArcList, gathered: Gathered) -> Result<Answer, AllocError>
+    ensures { IfOk result (IsOptimalAnswer problem.now gathered.holders.items gathered.prices.items) }
+{
+    let Gathered { holders, prices } = gathered;
+    let Some(picks) = picks_of_holders(alloc, problem, holders.as_slice())? else {
+        return Ok(Answer::Broken(Guard::Check));
+    };
+    let Ok(cost) = i64::try_from(cost_of(picks.as_slice())) else {
+        return Ok(Answer::Broken(Guard::Check));
+    };
+    let parts = CertParts::Optimal {
+        cost,
+        choice: Picks::new(picks),
+        prices: Prices::new(prices),
+    };
+    match certified(alloc, problem, parts)? {
+        Some(cert) => Ok(Answer::Optimal(cert)),
+        None => Ok(Answer::Broken(Guard::Check)),
+    }
+}
+
+/// What a bracket claims: these picks, what they cost together, and the bound that the prices give. None where that has more than 64
+/// bits, as it may where there are more objects than persons, and too many of them have a price.
+fn bracket_parts(
+    alloc: Global,
+    problem: &ArcList,
+    reason: Reason,
+    picks: Vec<Pick>,
+    prices: Vec<i64>,
+) -> Result<Option<CertParts>, AllocError>
+    requires assignment { IsAssignment problem.now (chosen 0 picks.items) }
+    requires each { length prices.items ≡ problem.now.objects }
+    requires within { All IsPrice prices.items }
+    ensures some { IfOk result (λ o. IfSome o (IsBracketBy problem.now reason prices.items)) }
+    ensures picks { IfOk result (λ o. IfSome o (λ cert. picks_of cert ≡ picks.items)) }
+    ensures none { IfOk result (λ o. IfNone o (BoundFits problem.now prices.items → ⊥)) }
+{
+    let scale = problem.persons() + 1;
+    let bound = dual_bound(alloc, problem, prices.as_slice())?;
+    let Ok(lower) = i64::try_from(lower_of(scale, bound)) else {
+        return Ok(None);
+    };
+    let Ok(cost) = i64::try_from(cost_of(picks.as_slice())) else {
+        unreachable!("the costs of so few picks are a cost together");
+    };
+    Ok(Some(CertParts::Bracket {
+        reason,
+        lower,
+        cost,
+        choice: Picks::new(picks),
+        prices: Prices::new(prices),
+    }))
+}
+
+/// The answer of a phase that a limit has stopped: an assignment that the search completes from the holders' arcs, and the bound on the
+/// cost of all that the prices give, where the checker lets it pass; or that there is no assignment. The guard `Check` where a
+/// holder's arc isn't one of his to his object, or somebody holds two, or the bound has more than 64 bits.
+///
+/// `rows` are those of the problem; `gathered.prices` are in scaled costs, from 0 to 2^61, and both lists are indexed by object.
+///
+/// Takes the time of the search, see [`complete`], beside O(arcs + persons), and O(persons) memory.
+///
+/// # Errors
+///
+/// Only where memory was refused.
+pub fn bracket(
+    alloc: Global,
+    problem: &ArcList,
+    rows: &Rows,
+    reason: Reason,
+    gathered: Gathered,
+) -> Result<Answer, AllocError>
+    requires rows { IsTableOf problem.now rows.now }
+    requires holders { length gathered.holders.items ≡ problem.now.objects }
+    requires prices { length gathered.prices.items ≡ problem.now.objects }
+    requires within { All IsPrice gathered.prices.items }
+    ensures { IfOk result (IsBracketAnswer problem.now reason gathered.holders.items gathered.prices.items) }
+{
+    let Gathered { holders, prices } = gathered;
+    let Some(partial) = place_holders(alloc, problem, rows, holders.as_slice())? else {
+        return Ok(Answer::Broken(Guard::Check));
+    };
+    let numbers = match complete(alloc, rows, partial)? {
+        Matching::Full(numbers) => numbers,
+        Matching::Hall { persons, objects } => {
+            return infeasible(alloc, problem, persons, objects);
+        }
+    };
+    let picks = picks_of_matching(alloc, problem, numbers.as_slice())?;
+    let Some(parts) = bracket_parts(alloc, problem, reason, picks, prices)? else {
+        return Ok(Answer::Broken(Guard::Check));
+    };
+    match certified(alloc, problem, parts)? {
+        Some(cert) => Ok(Answer::Bracket(cert)),
+        None => Ok(Answer::Broken(Guard::Check)),
+    }
+}
+
+/// The answer where persons were found who together know fewer objects than they number. Takes O(arcs + persons) time and
+/// O(persons) memory.
+///
+/// # Errors
+///
+/// Only where memory was refused.
+pub fn infeasible(
+    alloc: Global,
+    problem: &ArcList,
+    persons: Indices,
+    objects: Indices,
+) -> Result<Answer, AllocError>
+    requires { IsHallSetOf problem.now persons objects }
+    ensures { IfOk result (IsInfeasibleAnswer problem.now) }
+{
+    // Read here, so that the proof knows what every problem keeps.
+    let _ = problem.arcs();
+    let parts = CertParts::Infeasible { persons, objects };
+    match certified(alloc, problem, parts)? {
+        Some(cert) => Ok(Answer::Infeasible(cert)),
+        None => Ok(Answer::Broken(Guard::Check)),
+    }
+}

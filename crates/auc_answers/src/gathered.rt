@@ -1,0 +1,10 @@
+//! What a phase leaves.
+
+use auc_letters::Held;
+
+/// Who holds each object, and its price in scaled costs, both indexed by object.
+#[derive(Debug, Drop)]
+pub struct Gathered {
+    pub holders: Vec<Option<Held>>,
+    pub prices: Vec<i64>,
+}

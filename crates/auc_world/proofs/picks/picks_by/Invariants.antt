@@ -1,6 +1,0 @@
-use Rattle.std.proofs.Common.{◌≡◌, take, map}
-use Rattle.auc_world.specs.Claims.{pick_at}
-use Rattle.auc_world.proofs.picks.picks_by.Given as goal
-
-abbrev pub invariant-loop-number : goal.invariant-loop-number
-invariant-loop-number l = l.picks.items ≡ map (pick_at l.arcs) (take l.number-index l.numbers)

@@ -1,18 +1,23 @@
 //! Worlds, and the solver without threads.
 
 ghost use Rattle.std.specs.Prelude.{◌≡◌, IfOk};
+ghost use Rattle.auc_answers.specs.Begins.{ArePrices};
 ghost use Rattle.auc_threads.specs.Naming.{AreThreadLimits};
 
 use crate::marks::refuse_one;
 use crate::problems::{LONG, ONE_OBJECT, THREE, problem_of};
 use auc_book::MOST_ROOM;
-use auc_cert::write_cert;
+use auc_cert::{read_cert, start_prices, write_cert};
 use auc_graph::Rows;
 use auc_letters::MOST_SHARDS;
 use auc_mail::MOST_NODES;
-use auc_world::{Answer, Limits, World, solve_serial};
-use std::alloc::Global;
+use auc_world::{Answer, Limits, World, solve_serial, solve_serial_from};
+use std::alloc::{AllocError, Global};
 use std::test::*;
+
+/// A certificate of another problem of three persons, whose prices start a solve.
+pub const OLD: &str =
+    "auction 1\noptimal 3 6\nassign 1 1 4\nassign 2 2 0\nassign 3 3 2\nprice 1 0\nprice 2 7\nprice 3 0\n";
 
 /// The usual limits, with so many shards of each kind and places in each trail.
 pub fn limits_of(shards: u32, audit: u32) -> Result<Limits, Fail>
@@ -69,28 +74,55 @@ fn without_threads(rt: HostRuntime) -> Result<(), Fail> {
     Ok(())
 }
 
-/// A certificate of another problem of three persons, whose prices start a solve.
-pub const OLD: &str =
-    "auction 1\noptimal 3 6\nassign 1 1 4\nassign 2 2 0\nassign 3 3 2\nprice 1 0\nprice 2 7\nprice 3 0\n";
+/// Whether a solve from the prices of a certificate gives the answer that it gives with ample memory: at once, or again where memory was refused.
+fn solves_from(alloc: Global) -> Result<bool, Fail> {
+    let problem = problem_of(alloc, THREE)?;
+    let limits = limits_of(1, 0)?;
+    let start = start_prices(alloc, &problem, &read_cert(alloc, OLD.as_bytes())?)?;
+    let start = start.as_slice();
+    let ample = text_of(alloc, &solve_serial_from(alloc, &problem, &limits, start)?)?;
+    let mark = refuse_one(alloc)?;
+    let solved = solve_serial_from(alloc, &problem, &limits, start);
+    drop(mark);
+    let answer = match solved {
+        Ok(answer) => answer,
+        Err(_) => solve_serial_from(alloc, &problem, &limits, start)?,
+    };
+    Ok(text_of(alloc, &answer)?.as_slice() == ample.as_slice())
+}
 
-/// How a new world stands, and what is gathered of it, where there was memory for that. A world that there was none for isn't made again.
+#[test]
+fn without_threads_from_a_start(rt: HostRuntime) -> Result<(), Fail> {
+    assert!(rt; solves_from(rt.alloc())?);
+    Ok(())
+}
+
+/// Whether a new world goes on and has the prices that it was made with. Where memory is refused once it is made, the same world is gathered again.
+fn gathers(alloc: Global, rows: &Rows, limits: &Limits, prices: &[i64]) -> Result<bool, AllocError>
+    requires limits { AreThreadLimits limits.now }
+    requires prices { ArePrices rows.now prices.now }
+{
+    let world = World::make(alloc, rows, limits, prices, 1)?;
+    let gathered = match world.gather(alloc) {
+        Ok(gathered) => gathered,
+        Err(_) => world.gather(alloc)?,
+    };
+    Ok(world.end().is_none() && gathered.prices.as_slice() == prices)
+}
+
+/// A world, and what is gathered of it. Where there was no memory to make it, another one is made.
 #[test]
 fn worlds(rt: HostRuntime) -> Result<(), Fail> {
     let rows = Rows::build(rt.alloc(), &problem_of(rt.alloc(), THREE)?)?;
     let limits = limits_of(2, 0)?;
     let prices = vec![in rt.alloc(); 0; rows.objects() as usize]?;
+    let prices = prices.as_slice();
     let mark = refuse_one(rt.alloc())?;
-    let world = World::make(rt.alloc(), &rows, &limits, prices.as_slice(), 1);
-    let gathered = match &world {
-        Ok(world) => world.gather(rt.alloc()).ok(),
-        Err(_) => None,
-    };
+    let mut stands = gathers(rt.alloc(), &rows, &limits, prices);
     drop(mark);
-    if let Ok(world) = &world {
-        assert_eq!(rt; world.end(), None);
+    if stands.is_err() {
+        stands = gathers(rt.alloc(), &rows, &limits, prices);
     }
-    if let Some(gathered) = gathered {
-        assert_eq!(rt; gathered.prices.as_slice(), [0i64, 0, 0].as_slice());
-    }
+    assert_eq!(rt; stands, Ok(true));
     Ok(())
 }

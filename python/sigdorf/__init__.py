@@ -14,6 +14,7 @@ from .faults import Infeasible, Refused, Unsettled
 from .library import USUAL_BIDS
 from .solution import Solution
 
+__version__ = "1.0"
 __all__ = [
     "Infeasible",
     "Refused",

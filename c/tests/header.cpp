@@ -1,0 +1,24 @@
+// The header as C++: the crew of the README, solved and checked, so that the names are linked as C's. The last line is `N passed, M failed`.
+#include "sigdorf.h"
+#include <cstdint>
+#include <cstdio>
+#include <cstring>
+#include <vector>
+
+int main() {
+    const std::vector<sigdorf_arc> arcs = {{40, 0, 0}, {65, 0, 1}, {30, 0, 2}, {35, 1, 0}, {20, 1, 2}, {50, 1, 3},
+                                           {45, 2, 1}, {60, 2, 3}, {55, 3, 0}, {70, 3, 1}, {40, 3, 3}};
+    const std::int64_t no_start = 0;
+    std::vector<std::uint32_t> choice(4), hall(4);
+    std::vector<std::int64_t> prices(4);
+    sigdorf_found found = sigdorf_found();
+    int failed = sigdorf_solve(4, 0, arcs.data(), arcs.size(), &no_start, 0, SIGDORF_USUAL_BIDS, choice.data(), choice.size(), prices.data(),
+                               prices.size(), hall.data(), hall.size(), &found) != SIGDORF_OPTIMAL;
+    failed += found.cost != 145;
+    failed += sigdorf_check(4, 0, arcs.data(), arcs.size(), choice.data(), choice.size(), prices.data(), prices.size(), 145, &found) != SIGDORF_OPTIMAL;
+    char version[16];
+    std::snprintf(version, sizeof version, "%d.%d", SIGDORF_VERSION_MAJOR, SIGDORF_VERSION_MINOR);
+    failed += std::strcmp(version, SIGDORF_VERSION) != 0;
+    std::printf("%d passed, %d failed\n", 4 - failed, failed);
+    return failed != 0;
+}

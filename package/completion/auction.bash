@@ -1,0 +1,28 @@
+# Completion of `auction` for bash: commands, options and file names. Installed as bash-completion/completions/auction.
+_auction() {
+    local word=${COMP_WORDS[COMP_CWORD]} before=${COMP_WORDS[COMP_CWORD - 1]} command=${COMP_WORDS[1]} options=
+    COMPREPLY=()
+    if ((COMP_CWORD == 1)); then
+        mapfile -t COMPREPLY < <(compgen -W "solve check hall mail help --help --version" -- "$word")
+        return
+    fi
+    case $before in
+    # A number stands here, and nobody but the user knows which.
+    --workers | --bids | --audit | --objects) return ;;
+    --from) ;;
+    *)
+        case $command in
+        solve) options="--workers --bids --audit --objects --from --help" ;;
+        check | hall) options="--objects --help" ;;
+        mail) options="--help" ;;
+        esac
+        ;;
+    esac
+    if [[ $word == -* && -n $options ]]; then
+        mapfile -t COMPREPLY < <(compgen -W "$options" -- "$word")
+    else
+        compopt -o filenames 2>/dev/null
+        mapfile -t COMPREPLY < <(compgen -f -- "$word")
+    fi
+}
+complete -F _auction auction

@@ -1,0 +1,63 @@
+"""What the tests of packages share: a folder each, calls in it, and the packages, made once."""
+import functools
+import os
+import pathlib
+import shutil
+import subprocess
+import tempfile
+import unittest
+
+ROOT = pathlib.Path(__file__).resolve().parents[2]
+VERSION = (ROOT / "VERSION").read_text().strip()
+SECONDS = 300
+
+
+def wants(*programs):
+    """Skips a test where the machine lacks one of these programs."""
+    missing = [name for name in programs if shutil.which(name) is None]
+    return unittest.skipIf(missing, f"{', '.join(missing)} isn't there")
+
+
+def wants_program():
+    return unittest.skipUnless(os.access(os.environ["AUCTION"], os.X_OK), "the program isn't built")
+
+
+def wants_library():
+    return unittest.skipUnless(pathlib.Path(os.environ["LIBRARY"], f"libsigdorf.so.{VERSION}").exists(), "the library isn't built")
+
+
+def run(*command, **more):
+    """Status, and standard output and error together."""
+    environment = os.environ | more.pop("environment", {})
+    done = subprocess.run(list(map(str, command)), env=environment, stdin=subprocess.DEVNULL, stdout=subprocess.PIPE, stderr=subprocess.STDOUT, timeout=SECONDS, **more)
+    return done.returncode, done.stdout.decode("utf-8", "replace")
+
+
+@functools.cache
+def packages():
+    """The archive and the .deb, which is None where dpkg-deb isn't there. They stay until the tests end."""
+    kept = tempfile.TemporaryDirectory(prefix="sigdorf-packages-")
+    packages.kept = kept
+    status, told = run(ROOT / "package" / "build", "--into", kept.name)
+    if status:
+        raise AssertionError(told)
+    made = sorted(pathlib.Path(kept.name).iterdir())
+    return tuple(next((path for path in made if path.name.endswith(end)), None) for end in (".tar.gz", ".deb"))
+
+
+class PackageTest(unittest.TestCase):
+    maxDiff = None
+
+    def setUp(self):
+        folder = tempfile.TemporaryDirectory(prefix="sigdorf-test-")
+        self.addCleanup(folder.cleanup)
+        self.folder = pathlib.Path(folder.name)
+
+    def done(self, *command, **more):
+        """What a command writes that has to end well."""
+        status, told = run(*command, **more)
+        self.assertEqual(status, 0, told)
+        return told
+
+    def files_below(self, folder):
+        return sorted(str(path.relative_to(folder)) for path in folder.rglob("*"))

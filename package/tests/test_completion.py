@@ -1,0 +1,84 @@
+"""Completion: what bash offers, and that both shells know just the commands and options of the usage."""
+import os
+import re
+
+from calls import ROOT, PackageTest, wants, wants_program
+
+COMPLETION = ROOT / "package" / "completion"
+COMMANDS = ["solve", "check", "hall", "mail"]
+
+
+def usage():
+    """The lines of the usage, by command, as the program's source has them."""
+    text = (ROOT / "crates/auction/src/words_error.rt").read_text()
+    return {name: re.search(rf"auction {name}\b.*", text)[0] for name in COMMANDS}
+
+
+def options_of(command):
+    return sorted(re.findall(r"--[a-z]+", usage()[command]))
+
+
+# A second zsh on a terminal of its own; behind the line and Tab, Ctrl-A puts a command before it and Ctrl-E a mark behind it that print the line.
+TYPING = r"""
+zmodload zsh/zpty
+zpty shell zsh -f -i
+zpty -w shell "fpath=($PWD \$fpath); autoload -Uz compinit; compinit -u -D; PS1=; unset zle_bracketed_paste; print REA''DY"
+zpty -r shell seen '*READY*'
+zpty -w -n shell "$1"$'\t\x01print -r -- "<\x05>"\n'
+zpty -r shell seen '*<*>*<*>*'
+print -r -- $seen
+zpty -d shell
+"""
+
+
+@wants("bash")
+class Bash(PackageTest):
+    def offered(self, *words):
+        """What is offered for the last word."""
+        script = f'. "{COMPLETION}/auction.bash"; COMP_WORDS=("$@"); COMP_CWORD=$(($# - 1)); _auction; printf "%s\\n" "${{COMPREPLY[@]}}"'
+        return sorted(filter(None, self.done("bash", "-c", script, "bash", "auction", *words, cwd=self.folder).splitlines()))
+
+    def test_commands(self):
+        self.assertEqual(self.offered(""), sorted([*COMMANDS, "help", "--help", "--version"]))
+        self.assertEqual(self.offered("s"), ["solve"])
+        self.assertEqual(self.offered("--v"), ["--version"])
+
+    def test_options(self):
+        for command in COMMANDS:
+            self.assertEqual(self.offered(command, "-"), sorted([*options_of(command), "--help"]), command)
+        self.assertEqual(self.offered("solve", "crew.arcs", "--w"), ["--workers"])
+
+    def test_files(self):
+        (self.folder / "crew.arcs").touch()
+        (self.folder / "crew.certificate").touch()
+        self.assertEqual(self.offered("check", "crew.a"), ["crew.arcs"])
+        self.assertEqual(self.offered("solve", "--from", "crew.c"), ["crew.certificate"])
+
+    def test_numbers(self):
+        for option in ("--workers", "--bids", "--audit", "--objects"):
+            self.assertEqual(self.offered("solve", option, ""), [], option)
+
+
+class Zsh(PackageTest):
+    def parts(self):
+        """The text of each command's branch."""
+        text = (COMPLETION / "auction.zsh").read_text()
+        shared = re.search(r"objects=\((.*)\)", text)[1]
+        for command in COMMANDS:
+            branch = re.search(rf"^    {command}\)(.*?);;", text, re.M | re.S)[1]
+            yield command, branch.replace("$objects", shared)
+
+    def test_options(self):
+        for command, branch in self.parts():
+            self.assertEqual(sorted(set(re.findall(r"--[a-z]+", branch))), sorted([*options_of(command), "--help"]), command)
+
+    @wants("zsh")
+    def test_offers(self):
+        os.symlink(COMPLETION / "auction.zsh", self.folder / "_auction")
+        for typed, line in [("auction s", "auction solve "), ("auction solve --w", "auction solve --workers "), ("auction hall --o", "auction hall --objects "), ("auction --v", "auction --version ")]:
+            self.assertEqual(self.completed(typed), line.rstrip(), typed)
+
+    def completed(self, typed):
+        """What a line becomes that is typed, with a Tab behind it, into a zsh that has the file among its functions."""
+        told = self.done("zsh", "-f", "-c", TYPING, "zsh", typed, cwd=self.folder)
+        return re.sub(r"\x1b\[[0-9;?]*[A-Za-z]", "", re.findall(r"<([^<>\n]*)>", told)[-1]).strip()

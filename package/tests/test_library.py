@@ -1,0 +1,60 @@
+"""The library as it is installed: its name for the loader, and that pkg-config and CMake find it wherever the folder stands."""
+import os
+
+from calls import ROOT, VERSION, PackageTest, run, wants, wants_library, wants_program
+
+CMAKE = """cmake_minimum_required(VERSION 3.13)
+project(crew C)
+find_package(Sigdorf {wanted} REQUIRED)
+foreach(kind sigdorf archive)
+  add_executable(crew_${{kind}} crew.c)
+  target_link_libraries(crew_${{kind}} PRIVATE Sigdorf::${{kind}})
+endforeach()
+"""
+
+
+@wants_program()
+@wants_library()
+class Library(PackageTest):
+    def setUp(self):
+        super().setUp()
+        self.prefix = self.folder / "moved here"
+        self.done(ROOT / "install", self.folder / "prefix")
+        os.rename(self.folder / "prefix", self.prefix)
+        (self.folder / "crew.c").write_text((ROOT / "examples/crew.c").read_text())
+
+    def assert_runs(self, program, **environment):
+        self.assertTrue(self.done(program, environment=environment).startswith("145 minutes\n"))
+
+    @wants("readelf")
+    def test_soname(self):
+        library = self.prefix / "lib/libsigdorf.so"
+        self.assertIn(f"[libsigdorf.so.{VERSION.partition('.')[0]}]", self.done("readelf", "-d", library))
+        shown = [line.split()[-1] for line in self.done("readelf", "--dyn-syms", "-W", library).splitlines() if " GLOBAL DEFAULT " in line and " UND " not in line]
+        self.assertEqual(sorted(shown), ["sigdorf_check", "sigdorf_check_hall", "sigdorf_solve"])
+
+    @wants("cc", "pkg-config")
+    def test_pkg_config(self):
+        environment = {"PKG_CONFIG_PATH": str(self.prefix / "lib/pkgconfig")}
+        self.assertEqual(self.done("pkg-config", "--modversion", "sigdorf", environment=environment).strip(), VERSION)
+        command = 'eval "cc -o crew crew.c $(pkg-config --cflags --libs sigdorf)"'
+        self.done("sh", "-c", command, cwd=self.folder, environment=environment)
+        self.assert_runs(self.folder / "crew", LD_LIBRARY_PATH=str(self.prefix / "lib"))
+
+    def configure(self, wanted):
+        (self.folder / "CMakeLists.txt").write_text(CMAKE.format(wanted=wanted))
+        return run("cmake", "-S", self.folder, "-B", self.folder / "made", f"-DCMAKE_PREFIX_PATH={self.prefix}")
+
+    @wants("cc", "cmake", "make")
+    def test_cmake(self):
+        status, told = self.configure(VERSION)
+        self.assertEqual(status, 0, told)
+        self.done("cmake", "--build", self.folder / "made")
+        for kind in ("sigdorf", "archive"):
+            self.assert_runs(self.folder / "made" / f"crew_{kind}")
+
+    @wants("cc", "cmake", "make")
+    def test_cmake_refuses_other_versions(self):
+        major, minor = map(int, VERSION.split("."))
+        for other in (f"{major + 1}.0", f"{major}.{minor + 1}"):
+            self.assertNotEqual(self.configure(other)[0], 0, other)

@@ -64,15 +64,29 @@ def stanzas_of(packages):
             yield stanza.strip() + "\n"
 
 
+def alternatives():
+    """Each link that update-alternatives keeps on this machine, with its name and what it leads to: no package lists them."""
+    for path in pathlib.Path("/", DATABASE, "alternatives").iterdir():
+        mode, link, *slaves = path.read_text(errors="replace").split("\n\n")[0].splitlines()
+        for name, place in [(path.name, link), *zip(slaves[0::2], slaves[1::2])]:
+            kept = pathlib.Path("/etc/alternatives", name)
+            if kept.is_symlink():
+                yield name, place, os.readlink(kept)
+
+
 class CleanRoot:
     def __init__(self, names):
         if shutil.which("dpkg-query") is None:
             raise CannotBeMade("dpkg isn't there, by which the packages of a root are known")
         self.kept = tempfile.TemporaryDirectory(prefix="sigdorf-root-")
         self.path = pathlib.Path(self.kept.name)
-        packages = closure([*BASE, *names])
-        self.lay_out(packages)
-        self.tell_dpkg(set(packages))
+        try:
+            packages = closure([*BASE, *names])
+            self.lay_out(packages)
+            self.link_alternatives()
+            self.tell_dpkg(set(packages))
+        except (OSError, subprocess.CalledProcessError) as fault:
+            raise CannotBeMade(str(fault)) from None
         self.change = self.way_in()
 
     def lay_out(self, packages):
@@ -90,6 +104,14 @@ class CleanRoot:
         except OSError:
             (self.path / "dev/null").touch()
         os.chmod(self.path / "dev/null", 0o666)
+
+    def link_alternatives(self):
+        (self.path / "etc/alternatives").mkdir(parents=True, exist_ok=True)
+        for name, link, target in alternatives():
+            place = self.path / link.lstrip("/")
+            if (self.path / target.lstrip("/")).exists() and place.parent.is_dir() and not os.path.lexists(place):
+                os.symlink(target, self.path / "etc/alternatives" / name)
+                os.symlink(f"/etc/alternatives/{name}", place)
 
     def tell_dpkg(self, packages):
         database = self.path / DATABASE

@@ -1,0 +1,97 @@
+-- What the last phase leaves is an answer.
+use Rattle.std.proofs.Common.{ℕ, ℤ, pos, ◌≢◌, ◌<◌, refl, arith, List, length, map, Contains, Option, sym, subst}
+use Rattle.std.specs.Prelude.{All, IfOk, Result, Ok, Err}
+use Rattle.std.proofs.lemmas.List.Elements.{All-weaker}
+use Rattle.auc_cert.specs.declared.reason.Reason.{Reason}
+use Rattle.auc_cert.specs.Claim.{pick_of}
+use Rattle.auc_cert.proofs.ClaimLaws.{faultless_is_allowed}
+use Rattle.auc_cert.proofs.Converse.{assignment_spelled, slack_right_faultless}
+use Rattle.auc_graph.specs.Assignment.{total_cost}
+use Rattle.auc_graph.specs.declared.arc.Arc.{Arc}
+use Rattle.auc_graph.specs.Price.{IsPrice as IsPriceText}
+use Rattle.auc_graph.specs.Problem.{IsProblem, Problem}
+use Rattle.auc_graph.specs.Table.{IsTableOf, Table, row_of}
+use Rattle.auc_letters.specs.Price.{IsPrice}
+use Rattle.auc_letters.specs.declared.state.Held.{Held}
+use Rattle.auc_answers.specs.declared.answer.Answer.{Answer}
+use Rattle.auc_answers.specs.Answers.{HasAssignment, IsAnswer, IsBracketAnswer, IsCertified, IsOptimalAnswer}
+use Rattle.auc_answers.specs.Claims.{BoundFits, claim_of}
+use Rattle.auc_answers.proofs.BracketLaws.{bound_fits, holders_price_few}
+use Rattle.auc_direct.specs.declared.arc.ShortArc.{ShortArc}
+use Rattle.auc_direct.specs.declared.ending.Ending.{Ending}
+use Rattle.auc_direct.specs.declared.market.TheConstants.{NOBODY}
+use Rattle.auc_direct.specs.Endings.{IsLimit, IsLimited, IsLimitedBy, IsOutcome}
+use Rattle.auc_direct.specs.Held.{AreHeld}
+use Rattle.auc_direct.specs.Market.{HaveObjects, Stands, holder_at, own_at}
+use Rattle.auc_direct.specs.Rows.{AreShorts, AreShortsOf, Shorts, short}
+use Rattle.auc_direct.proofs.Choices as choices
+use Rattle.auc_direct.proofs.MarketLaws.{holder_has, owner_below}
+
+in_range : (prices : List ℤ) → All IsPrice prices → All IsPriceText prices
+in_range prices = All-weaker IsPrice IsPriceText (λ z h. record { low = h.low; high = h.high }) prices
+
+module _ (p : Problem) (t : Table) (r : Shorts) (prices : List ℤ) (holders : List ℕ) (owns : List ShortArc) (held : List (Option Held)) (is : IsProblem p) (its : IsTableOf p t) (same : AreShortsOf t r) (sound : AreShorts r) (are : AreHeld t holders owns held) where
+  -- ---- each person has an object
+
+  module _ (stands : Stands r (pos 1) prices holders owns) (all : HaveObjects (length r.rows) owns) where
+    abbrev choice : List Arc
+    choice = choices.arcs p t r (pos 1) prices holders owns held its same sound stands are all
+
+    certified : IsCertified p (claim_of choice prices)
+    certified =
+        let given = choices.assigned p t r (pos 1) prices holders owns held its same sound stands are all in
+        let many = choices.many_prices p t r (pos 1) prices holders owns held its same sound stands are in
+        let spelled = assignment_spelled p choice prices is given many (in_range prices stands.within) in
+        let faultless = slack_right_faultless p choice given prices many (total_cost choice) refl (choices.slack_all p t r (pos 1) prices holders owns held its same sound stands are all) (choices.no_price_left p t r (pos 1) prices holders owns held its same sound stands are all is) in
+        record { spelled = spelled; faultless = faultless; allowed = faultless_is_allowed p (claim_of choice prices) is spelled faultless }
+
+    pub sold_is_answer : (answer : Answer) → IsOptimalAnswer p held prices answer → IsAnswer p answer
+    sold_is_answer (Answer.Optimal cert) h = record { cost = total_cost h.0; choice = map pick_of h.0; prices = prices; is = h.2; certified = h.3 }
+    sold_is_answer (Answer.Infeasible cert) h = absurd h
+    sold_is_answer (Answer.Bracket cert) h = absurd h
+    sold_is_answer (Answer.Broken guard) h = absurd (h.1 choice (choices.is_choice p t r (pos 1) prices holders owns held its same sound stands are all) certified)
+
+  -- ---- a limit has stopped the phase
+
+  module _ (eps : ℤ) (reason : Reason) (stands : Stands r eps prices holders owns) (has : HasAssignment p) where
+    fits : BoundFits p prices
+    fits =
+        let many = choices.many_prices p t r eps prices holders owns held its same sound stands are in
+        bound_fits p reason prices is many (in_range prices stands.within) (holders_price_few p held prices is (choices.placeable p t r eps prices holders owns held its same sound stands are) many (choices.spare p t r eps prices holders owns held its same sound stands are)) has
+
+    pub stopped_is_answer : (answer : Answer) → IsBracketAnswer p reason held prices answer → IsAnswer p answer
+    stopped_is_answer (Answer.Optimal cert) h = absurd h
+    stopped_is_answer (Answer.Infeasible cert) h = h
+    stopped_is_answer (Answer.Bracket cert) h = let by = h.1 in record { reason = reason; lower = by.lower; cost = total_cost by.choice; choice = map pick_of by.choice; prices = prices; is = by.is; certified = h.2 }
+    stopped_is_answer (Answer.Broken guard) h = absurd (h.1 (choices.placeable p t r eps prices holders owns held its same sound stands are) fits)
+
+-- ---- a bracket is answered only where a limit has stopped a phase
+
+pub sold_is_limited : (p : Problem) (bids : ℕ) (held : List (Option Held)) (prices : List ℤ) (answer : Answer) → IsOptimalAnswer p held prices answer → IsLimited p bids answer
+sold_is_limited p bids held prices (Answer.Optimal cert) h = tt
+sold_is_limited p bids held prices (Answer.Infeasible cert) h = tt
+sold_is_limited p bids held prices (Answer.Bracket cert) h = absurd h
+sold_is_limited p bids held prices (Answer.Broken guard) h = tt
+
+pub stopped_is_limited : (p : Problem) (t : Table) (r : Shorts) (bids : ℕ) (reason : Reason) (held : List (Option Held)) (prices : List ℤ) → IsTableOf p t → AreShortsOf t r → IsLimit r bids reason prices → (answer : Answer) → IsBracketAnswer p reason held prices answer → IsLimited p bids answer
+stopped_is_limited p t r bids reason held prices its same limit (Answer.Optimal cert) h = tt
+stopped_is_limited p t r bids reason held prices its same limit (Answer.Infeasible cert) h = tt
+stopped_is_limited p t r bids reason held prices its same limit (Answer.Bracket cert) h = subst (IsLimitedBy p bids) (sym h.1.is) (t, r, its, same, limit)
+stopped_is_limited p t r bids reason held prices its same limit (Answer.Broken guard) h = tt
+
+-- ---- what all phases come to
+
+pub of_answers : {E : Type 0} (P Q : Answer → Type 0) (r : Result Answer E) → ((a : Answer) → P a → Q a) → IfOk r P → IfOk r Q
+of_answers P Q (Ok a) f h = f a h
+of_answers P Q (Err e) f h = tt
+
+pub outcome_stands : (r : Shorts) (bids : ℕ) (ending : Ending) (prices : List ℤ) (holders : List ℕ) (owns : List ShortArc) → IsOutcome r bids ending prices holders owns → (eps : ℤ) × Stands r eps prices holders owns
+outcome_stands r bids Ending.Sold prices holders owns h = (pos 1, h.0)
+outcome_stands r bids (Ending.Stopped reason) prices holders owns h = (h.0, h.1)
+
+pub own_listed : (t : Table) (r : Shorts) (eps : ℤ) (prices : List ℤ) (holders : List ℕ) (owns : List ShortArc) → AreShortsOf t r → AreShorts r → Stands r eps prices holders owns → (j : ℕ) → holder_at holders j ≢ NOBODY → Contains (map short (row_of t (holder_at holders j))) (own_at owns (holder_at holders j))
+own_listed t r eps prices holders owns same sound stands j some =
+    let i = holder_at holders j in
+    let has = holder_has r eps prices holders owns sound stands j some in
+    let lt : i < length t.rows = (let l = owner_below r eps prices holders owns sound stands i has in let e = same.persons in omega (arith, l, e)) in
+    subst (λ (xs : List ShortArc). Contains xs (own_at owns i)) (same.rows i lt) (stands.slack i has).listed

@@ -1,0 +1,9 @@
+mod ScanLaws
+mod BidLaws
+mod MarketLaws
+mod Bounds
+mod RowLaws
+mod Opening
+mod HeldLaws
+mod Choices
+mod Answering

@@ -1,0 +1,263 @@
+-- An award keeps what holds between two bids.
+use Rattle.std.proofs.Common.{ℕ, ℤ, pos, zero, suc, ◌<◌, ◌≤◌, ◌^◌, ◌≡◌, ◌≢◌, arith, List, [], ◌∷◌, length, get_or, set, inl, inr, ap, sym, subst, ◌∙◌}
+use Rattle.std.specs.Prelude.{All, ◌+ℤ◌, ◌≤ℤ◌}
+use Rattle.std.proofs.lemmas.Bool.{cases_eq, cases_lt}
+use Rattle.std.proofs.lemmas.Int.{ints}
+use Rattle.std.proofs.lemmas.List.{get_or_past, get_or-set_same, get_or-set_other, length-set}
+use Rattle.std.proofs.lemmas.List.Elements.{All-contains, All-set}
+use Rattle.auc_graph.specs.Assignment.{total}
+use Rattle.auc_graph.specs.Dual.{price_at}
+use Rattle.auc_graph.specs.declared.limits.TheConstants.{MOST_PERSONS}
+use Rattle.auc_letters.specs.Price.{IsEps, IsPrice}
+use Rattle.auc_direct.specs.declared.arc.ShortArc.{ShortArc}
+use Rattle.auc_direct.specs.declared.market.TheConstants.{NOBODY}
+use Rattle.auc_direct.specs.Bid.{IsRaise}
+use Rattle.auc_direct.specs.Market.{AreSpare, HaveAllBut, HaveObjects, IsAwarded, IsSlack, Stands, holder_at, no_own, own_at, scale_in}
+use Rattle.auc_direct.specs.Rows.{AreShorts, IsShort, Shorts, shorts_of}
+use Rattle.auc_direct.proofs.BidLaws.{risen}
+
+-- ---- sums of prices
+
+total_set : (prices : List ℤ) (j : ℕ) (amount : ℤ) → j < length prices → (total (set prices j amount) +ℤ price_at prices j) ≡ (total prices +ℤ amount)
+total_set [] j amount lt = absurd (omega (arith, lt))
+total_set (z ∷ zs) zero amount lt = omega (arith, ints)
+total_set (z ∷ zs) (suc j) amount lt = let e = total_set zs j amount (omega (arith, lt)) in omega (arith, ints, e)
+
+pub total_low : (prices : List ℤ) → All IsPrice prices → pos 0 ≤ℤ total prices
+total_low [] all = omega (arith, ints)
+total_low (z ∷ zs) all = let first = (all 0 (pos 0) (omega arith)).low in let e = total_low zs (λ k d l. all (suc k) d (omega (arith, l))) in omega (arith, ints, first, e)
+
+-- ---- who holds, and who has
+
+module _ (r : Shorts) (eps : ℤ) (prices : List ℤ) (holders : List ℕ) (owns : List ShortArc) (sound : AreShorts r) (stands : Stands r eps prices holders owns) where
+  -- who has an object is a person
+  pub owner_below : (i : ℕ) → (own_at owns i).object ≢ NOBODY → i < length r.rows
+  owner_below i some =
+      elim (cases_lt i (length r.rows)) [
+        | inl l ↦ l
+        | inr past ↦ absurd (some (ap (λ (s : ShortArc). s.object) (get_or_past owns i no_own (let e = stands.owns_are in omega (arith, past, e)))))
+      ]
+
+  -- what is held is an object
+  pub held_below : (j : ℕ) → holder_at holders j ≢ NOBODY → j < r.objects
+  held_below j some =
+      elim (cases_lt j r.objects) [
+        | inl l ↦ l
+        | inr past ↦ absurd (some (get_or_past holders j NOBODY (let e = stands.holders_are in omega (arith, past, e))))
+      ]
+
+  pub not_nobody : (j : ℕ) → j < r.objects → j ≢ NOBODY
+  not_nobody j l e = let m = sound.most_objects in omega (arith, l, e, m)
+
+  -- who holds an object has it
+  pub holder_has : (j : ℕ) → holder_at holders j ≢ NOBODY → (own_at owns (holder_at holders j)).object ≢ NOBODY
+  holder_has j some e = not_nobody j (held_below j some) (sym (stands.held j some) ∙ e)
+
+  pub holder_below : (j : ℕ) → holder_at holders j ≢ NOBODY → holder_at holders j < length r.rows
+  holder_below j some = owner_below (holder_at holders j) (holder_has j some)
+
+  pub own_below : (i : ℕ) → (own_at owns i).object ≢ NOBODY → (own_at owns i).object < r.objects
+  own_below i some = held_below (own_at owns i).object (λ e. (let h = stands.holds i some in let l = owner_below i some in let m = sound.most in omega (arith, h, l, m, e)))
+
+-- ---- slackness at prices that have risen
+
+pub slack_rises : (r : Shorts) (eps : ℤ) (prices new : List ℤ) (i : ℕ) (s : ShortArc) → ((k : ℕ) → price_at prices k ≤ℤ price_at new k) → price_at new s.object ≡ price_at prices s.object → IsSlack r eps prices i s → IsSlack r eps new i s
+slack_rises r eps prices new i s rise same h = record {
+  listed = h.listed;
+  least = λ k d lt. (let b = get_or (shorts_of r i) k d in let o = h.least k d lt in let up = rise b.object in omega (arith, ints, o, up, same));
+}
+
+-- ---- an award
+
+module _ (r : Shorts) (eps : ℤ) (prices : List ℤ) (holders : List ℕ) (owns : List ShortArc) (i : ℕ) (s : ShortArc) (amount : ℤ) (sound : AreShorts r) (is_eps : IsEps eps) (stands : Stands r eps prices holders owns) (known : i < length r.rows) (none : (own_at owns i).object ≡ NOBODY)
+    (raise : IsRaise (scale_in r) eps prices (shorts_of r i) s amount) where
+  abbrev j : ℕ
+  j = s.object
+
+  pub object_in : j < r.objects
+  object_in = (All-contains (IsShort r.objects) (shorts_of r i) s (sound.each i) raise.listed).object
+
+  pub price_in : j < length prices
+  price_in = let e = stands.prices_are in let l = object_in in omega (arith, e, l)
+
+  pub holder_in : j < length holders
+  holder_in = let e = stands.holders_are in let l = object_in in omega (arith, e, l)
+
+  pub own_in : i < length owns
+  own_in = let e = stands.owns_are in omega (arith, e, known)
+
+  abbrev new : List ℤ
+  new = set prices j amount
+
+  abbrev sold : List ℕ
+  sold = set holders j i
+
+  abbrev d : ℕ
+  d = holder_at holders j
+
+  abbrev had : List ShortArc
+  had = set owns i s
+
+  abbrev left : List ShortArc
+  left = set had d no_own
+
+  up : price_at prices j ≤ℤ amount
+  up = let m = raise.more in let l = is_eps.low in omega (arith, ints, m, l)
+
+  pub total_more : (total prices +ℤ pos 1) ≤ℤ total new
+  total_more = let e = total_set prices j amount price_in in let m = raise.more in let l = is_eps.low in omega (arith, ints, e, m, l)
+
+  rise : (k : ℕ) → price_at prices k ≤ℤ price_at new k
+  rise = risen prices j amount price_in up
+
+  price_here : price_at new j ≡ amount
+  price_here = get_or-set_same prices j amount (pos 0) price_in
+
+  price_off : (k : ℕ) → k ≢ j → price_at new k ≡ price_at prices k
+  price_off k ne = get_or-set_other prices j k amount (pos 0) ne
+
+  holder_here : holder_at sold j ≡ i
+  holder_here = get_or-set_same holders j i NOBODY holder_in
+
+  holder_off : (k : ℕ) → k ≢ j → holder_at sold k ≡ holder_at holders k
+  holder_off k ne = get_or-set_other holders j k i NOBODY ne
+
+  -- the bidder isn't the one who is displaced
+  apart : i ≢ d
+  apart e =
+      elim (cases_eq d NOBODY) [
+        | inl nobody ↦ (let m = sound.most in omega (arith, e, nobody, known, m))
+        | inr some ↦ holder_has r eps prices holders owns sound stands j some (ap (λ (k : ℕ). (own_at owns k).object) (sym e) ∙ none)
+      ]
+
+  own_new : own_at left i ≡ s
+  own_new = get_or-set_other had d i no_own no_own apart ∙ get_or-set_same owns i s no_own own_in
+
+  own_off : (k : ℕ) → k ≢ i → k ≢ d → own_at left k ≡ own_at owns k
+  own_off k ni nd = get_or-set_other had d k no_own no_own nd ∙ get_or-set_other owns i k s no_own ni
+
+  own_gone : own_at left d ≡ no_own
+  own_gone =
+      elim (cases_lt d (length had)) [
+        | inl l ↦ get_or-set_same had d no_own no_own l
+        | inr past ↦ get_or_past left d no_own (let e = length-set had d no_own in omega (arith, past, e))
+      ]
+
+  pub new_has : (own_at left i).object ≢ NOBODY
+  new_has e = not_nobody r eps prices holders owns sound stands j object_in (sym (ap (λ (x : ShortArc). x.object) own_new) ∙ e)
+
+  pub gone : (own_at left d).object ≡ NOBODY
+  gone = ap (λ (x : ShortArc). x.object) own_gone
+
+  -- everybody else has what he had
+  pub others_have : (k : ℕ) → k ≢ i → k ≢ d → (own_at owns k).object ≢ NOBODY → (own_at left k).object ≢ NOBODY
+  others_have k ni nd some e = some (sym (ap (λ (x : ShortArc). x.object) (own_off k ni nd)) ∙ e)
+
+  slack_new : IsSlack r eps new i s
+  slack_new = record { listed = raise.listed; least = raise.slack }
+
+  -- who has an object behind it, and isn't the bidder, had it before, and it isn't that of the bid
+  had_before : (k : ℕ) → k ≢ i → (own_at left k).object ≢ NOBODY → ((own_at left k) ≡ (own_at owns k)) × ((own_at owns k).object ≢ NOBODY) × ((own_at owns k).object ≢ j)
+  had_before k ni some =
+      let nd : k ≢ d = λ e. some (ap (λ (m : ℕ). (own_at left m).object) e ∙ gone) in
+      let same = own_off k ni nd in
+      let was : (own_at owns k).object ≢ NOBODY = λ e. some (ap (λ (x : ShortArc). x.object) same ∙ e) in
+      (same, was, λ e. nd (sym (stands.holds k was) ∙ ap (holder_at holders) e))
+
+  holds_new : (k : ℕ) → (own_at left k).object ≢ NOBODY → holder_at sold (own_at left k).object ≡ k
+  holds_new k some =
+      elim (cases_eq k i) [
+        | inl e ↦ (ap (λ (m : ℕ). holder_at sold (own_at left m).object) e ∙ ap (λ (x : ShortArc). holder_at sold x.object) own_new ∙ holder_here ∙ sym e)
+        | inr ne ↦ (let b = had_before k ne some in ap (λ (x : ShortArc). holder_at sold x.object) b.0 ∙ holder_off (own_at owns k).object b.2 ∙ stands.holds k b.1)
+      ]
+
+  slack_after : (k : ℕ) → (own_at left k).object ≢ NOBODY → IsSlack r eps new k (own_at left k)
+  slack_after k some =
+      elim (cases_eq k i) [
+        | inl e ↦ subst (λ (m : ℕ). IsSlack r eps new m (own_at left m)) (sym e) (subst (IsSlack r eps new i) (sym own_new) slack_new)
+        | inr ne ↦ (let b = had_before k ne some in subst (IsSlack r eps new k) (sym b.0) (slack_rises r eps prices new k (own_at owns k) rise (price_off (own_at owns k).object b.2) (stands.slack k b.1)))
+      ]
+
+  held_new : (k : ℕ) → holder_at sold k ≢ NOBODY → (own_at left (holder_at sold k)).object ≡ k
+  held_new k some =
+      elim (cases_eq k j) [
+        | inl e ↦ (ap (λ (m : ℕ). (own_at left m).object) (ap (holder_at sold) e ∙ holder_here) ∙ ap (λ (x : ShortArc). x.object) own_new ∙ sym e)
+        | inr ne ↦ (
+            let same = holder_off k ne in
+            let was : holder_at holders k ≢ NOBODY = λ z. some (same ∙ z) in
+            let has = stands.held k was in
+            let ni : holder_at holders k ≢ i = λ z. holder_has r eps prices holders owns sound stands k was (ap (λ (m : ℕ). (own_at owns m).object) z ∙ none) in
+            let nd : holder_at holders k ≢ d = λ z. (
+            elim (cases_eq d NOBODY) [
+              | inl nobody ↦ was (z ∙ nobody)
+              | inr held ↦ ne (sym has ∙ ap (λ (m : ℕ). (own_at owns m).object) z ∙ stands.held j held)
+            ]
+            ) in
+            ap (λ (m : ℕ). (own_at left m).object) same ∙ ap (λ (x : ShortArc). x.object) (own_off (holder_at holders k) ni nd) ∙ has
+            )
+      ]
+
+  spare_by : AreSpare r prices holders → AreSpare r new sold
+  spare_by (inl square) = inl square
+  spare_by (inr unheld) = inr (λ k nobody. elim (cases_eq k j) [
+    | inl e ↦ absurd (let h = ap (holder_at sold) e ∙ holder_here in let m = sound.most in omega (arith, nobody, h, known, m))
+    | inr ne ↦ price_off k ne ∙ unheld k (sym (holder_off k ne) ∙ nobody)
+  ])
+
+  module _ (high : amount ≤ℤ pos (2 ^ 61)) where
+    zero_low : pos 0 ≤ℤ amount
+    zero_low = let u = up in let l = (stands.within j (pos 0) price_in).low in omega (arith, ints, u, l)
+
+    pub stands_after : Stands r eps new sold left
+    stands_after = record {
+      prices_are = length-set prices j amount ∙ stands.prices_are;
+      holders_are = length-set holders j i ∙ stands.holders_are;
+      owns_are = length-set had d no_own ∙ (length-set owns i s ∙ stands.owns_are);
+      within = All-set IsPrice prices j amount (record { low = zero_low; high = high }) stands.within;
+      spare = spare_by stands.spare;
+      held = held_new;
+      holds = holds_new;
+      slack = slack_after;
+    }
+
+  pub displaced_below : d ≢ NOBODY → d < length r.rows
+  displaced_below some = holder_below r eps prices holders owns sound stands j some
+
+  -- all but the bidder had objects; now all but the displaced one
+  pub all_but : (n : ℕ) → HaveAllBut n owns i → HaveAllBut n left d
+  all_but n h = record {
+    none = gone;
+    others = λ k l nd. elim (cases_eq k i) [
+      | inl e ↦ subst (λ (m : ℕ). (own_at left m).object ≢ NOBODY) (sym e) new_has
+      | inr ni ↦ others_have k ni nd (h.others k l ni)
+    ];
+  }
+
+-- nobody is displaced
+pub all_have : (n : ℕ) (owns : List ShortArc) (d : ℕ) → d ≡ NOBODY → n ≤ MOST_PERSONS → HaveAllBut n owns d → HaveObjects n owns
+all_have n owns d nobody few h i l = h.others i l (λ e. omega (arith, l, e, nobody, few))
+
+-- a bid at prices and by a row that are these
+pub raise_by : (r : Shorts) (scale eps : ℤ) (i : ℕ) (prices these : List ℤ) (row : List ShortArc) (s : ShortArc) (amount : ℤ) → scale ≡ scale_in r → these ≡ prices → row ≡ shorts_of r i → IsRaise scale eps these row s amount → IsRaise (scale_in r) eps prices (shorts_of r i) s amount
+raise_by r scale eps i prices these row s amount e f g h =
+    subst (λ (z : ℤ). IsRaise z eps prices (shorts_of r i) s amount) e
+    (subst (λ (ps : List ℤ). IsRaise scale eps ps (shorts_of r i) s amount) f
+    (subst (λ (xs : List ShortArc). IsRaise scale eps these xs s amount) g h))
+
+-- what holds of lists holds of those that are the same
+pub stands_by : (r : Shorts) (eps : ℤ) (prices these : List ℤ) (holders they : List ℕ) (owns those : List ShortArc) → these ≡ prices → they ≡ holders → those ≡ owns → Stands r eps prices holders owns → Stands r eps these they those
+stands_by r eps prices these holders they owns those e f g h =
+    subst (λ (ps : List ℤ). Stands r eps ps they those) (sym e)
+    (subst (λ (hs : List ℕ). Stands r eps prices hs those) (sym f)
+    (subst (λ (os : List ShortArc). Stands r eps prices holders os) (sym g) h))
+
+pub awarded : (r : Shorts) (eps : ℤ) (person : ℕ) (prices new : List ℤ) (holders sold : List ℕ) (owns left : List ShortArc) (d : ℕ) (s : ShortArc) (amount : ℤ) → AreShorts r → IsEps eps → Stands r eps prices holders owns → person < length r.rows → (own_at owns person).object ≡ NOBODY
+    → IsRaise (scale_in r) eps prices (shorts_of r person) s amount → amount ≤ℤ pos (2 ^ 61) → new ≡ set prices s.object amount → sold ≡ set holders s.object person → left ≡ set (set owns person s) (holder_at holders s.object) no_own → d ≡ holder_at holders s.object
+    → IsAwarded r eps person prices new sold owns left d
+awarded r eps person prices new holders sold owns left d s amount sound is_eps stands known none raise high e f g h =
+    record {
+      stands = stands_by r eps (set prices s.object amount) new (set holders s.object person) sold (set (set owns person s) (holder_at holders s.object) no_own) left e f g (stands_after r eps prices holders owns person s amount sound is_eps stands known none raise high);
+      more = rw e (total_more r eps prices holders owns person s amount sound is_eps stands known none raise);
+      but = λ n b. subst (λ (os : List ShortArc). HaveAllBut n os d) (sym g) (subst (HaveAllBut n (set (set owns person s) (holder_at holders s.object) no_own)) (sym h) (all_but r eps prices holders owns person s amount sound is_eps stands known none raise n b));
+      below = λ some. (let l = displaced_below r eps prices holders owns person s amount sound is_eps stands known none raise (λ z. some (h ∙ z)) in omega (arith, l, h));
+    }

@@ -1,0 +1,82 @@
+-- What a phase begins with.
+use Rattle.std.proofs.Common.{ℕ, ℤ, pos, ◌<◌, ◌≤◌, ◌≡◌, arith, List, length, get_or, replicate, inl, inr, ap, sym, subst, ◌∙◌}
+use Rattle.std.specs.Prelude.{All, ◌⊎◌, ◌<ℤ◌, unsigned_abs}
+use Rattle.std.proofs.lemmas.Int.{ints}
+use Rattle.std.proofs.lemmas.List.{get_or-replicate, get_or_default, length-replicate, same_lists}
+use Rattle.std.proofs.lemmas.List.Elements.{All-replicate, All-weaker}
+use Rattle.auc_cert.specs.Start.{AreStart, IsStartPrice}
+use Rattle.auc_graph.specs.Dual.{price_at}
+use Rattle.auc_graph.specs.Problem.{Problem}
+use Rattle.auc_graph.specs.Table.{IsTableOf, Table}
+use Rattle.auc_hall.proofs.ProblemLaws.{length-rows}
+use Rattle.auc_letters.specs.Price.{IsEps, IsPrice}
+use Rattle.auc_answers.proofs.NewShards.{replicate_default}
+use Rattle.auc_direct.specs.declared.arc.ShortArc.{ShortArc}
+use Rattle.auc_direct.specs.declared.market.TheConstants.{NOBODY}
+use Rattle.auc_direct.specs.Endings.{IsStart}
+use Rattle.auc_direct.specs.Market.{AreSpare, Stands, holder_at, no_own, own_at}
+use Rattle.auc_direct.specs.Rows.{AreShortsOf, Shorts}
+
+-- a list of so many times the same
+pub all_same : {X : Type 0} (a : X) (xs ys : List X) (n : ℕ) → length xs ≡ length ys → length xs ≤ n → ((k : ℕ) → k < n → get_or xs k a ≡ a) → xs ≡ replicate (length ys) a
+all_same a xs ys n len enough same =
+    same_lists xs (replicate (length ys) a) (len ∙ sym (length-replicate (length ys) a))
+    (λ k d lt. get_or_default xs k d a lt ∙ same k (omega (arith, lt, enough)) ∙ sym (get_or-replicate (length ys) k a d (omega (arith, lt, len))))
+
+pub stands_opened : (r : Shorts) (eps : ℤ) (prices : List ℤ) (holders : List ℕ) (owns : List ShortArc) (n m : ℕ) → IsStart r eps prices → n ≡ r.objects → m ≡ length r.rows → holders ≡ replicate n NOBODY → owns ≡ replicate m no_own → Stands r eps prices holders owns
+stands_opened r eps prices holders owns n m start objects persons nobody none = record {
+  prices_are = start.each;
+  holders_are = ap length nobody ∙ length-replicate n NOBODY ∙ objects;
+  owns_are = ap length none ∙ length-replicate m no_own ∙ persons;
+  within = start.within;
+  spare = spare start.spare;
+  held = λ j some. absurd (some (unheld j));
+  holds = λ i some. absurd (some (unowned i));
+  slack = λ i some. absurd (some (unowned i));
+}
+  where
+    unheld : (j : ℕ) → holder_at holders j ≡ NOBODY
+    unheld j = ap (λ (hs : List ℕ). holder_at hs j) nobody ∙ replicate_default n j NOBODY
+
+    unowned : (i : ℕ) → (own_at owns i).object ≡ NOBODY
+    unowned i = ap (λ (os : List ShortArc). (own_at os i).object) none ∙ ap (λ (s : ShortArc). s.object) (replicate_default m i no_own)
+
+    spare : (r.objects ≡ length r.rows) ⊎ ((eps ≡ pos 1) × ((j : ℕ) → price_at prices j ≡ pos 0)) → AreSpare r prices holders
+    spare (inl square) = inl square
+    spare (inr zeros) = inr (λ j free. zeros.1 j)
+
+-- the next phase begins with the prices that the one before has left, where there are as many objects as persons
+pub start_next : (r : Shorts) (eps next : ℤ) (prices new : List ℤ) (holders : List ℕ) (owns : List ShortArc) → IsEps next → next <ℤ eps → IsStart r eps prices → Stands r eps new holders owns → IsStart r next new
+start_next r eps next prices new holders owns is_eps less start stands = record { each = stands.prices_are; within = stands.within; spare = by start.spare }
+  where
+    by : (r.objects ≡ length r.rows) ⊎ ((eps ≡ pos 1) × ((j : ℕ) → price_at prices j ≡ pos 0)) → (r.objects ≡ length r.rows) ⊎ ((next ≡ pos 1) × ((j : ℕ) → price_at new j ≡ pos 0))
+    by (inl square) = inl square
+    by (inr one) = absurd (let e = one.0 in let l = is_eps.low in omega (arith, ints, e, l, less))
+
+pub less_eps : (eps next : ℤ) → IsEps next → next <ℤ eps → unsigned_abs next < unsigned_abs eps
+less_eps eps next is l = let low = is.low in omega (arith, ints, low, l)
+
+-- ---- what a run begins with
+
+zero_price : IsPrice (pos 0)
+zero_price = record { low = omega (arith, ints); high = omega (arith, ints) }
+
+-- no price at all
+pub start_none : (r : Shorts) (eps : ℤ) (n : ℕ) (prices : List ℤ) → n ≡ r.objects → prices ≡ replicate n (pos 0) → (r.objects ≡ length r.rows) ⊎ (eps ≡ pos 1) → IsStart r eps prices
+start_none r eps n prices many zeros start = record {
+  each = ap length zeros ∙ length-replicate n (pos 0) ∙ many;
+  within = subst (All IsPrice) (sym zeros) (All-replicate IsPrice n (pos 0) zero_price);
+  spare = by start;
+}
+  where
+    by : (r.objects ≡ length r.rows) ⊎ (eps ≡ pos 1) → (r.objects ≡ length r.rows) ⊎ ((eps ≡ pos 1) × ((j : ℕ) → price_at prices j ≡ pos 0))
+    by (inl square) = inl square
+    by (inr one) = inr (one, λ j. ap (λ (ps : List ℤ). price_at ps j) zeros ∙ replicate_default n j (pos 0))
+
+-- start prices, where there are as many objects as persons
+pub start_at : (p : Problem) (t : Table) (r : Shorts) (eps : ℤ) (start prices : List ℤ) → IsTableOf p t → AreShortsOf t r → AreStart p start → prices ≡ start → IsStart r eps prices
+start_at p t r eps start prices its same is e = record {
+  each = ap length e ∙ (is.each ∙ (let a = its.objects in let b = same.objects in omega (arith, a, b)));
+  within = subst (All IsPrice) (sym e) (All-weaker IsStartPrice IsPrice (λ z h. record { low = h.low; high = (let u = h.high in omega (arith, ints, u)) }) start is.within);
+  spare = inl (let a = its.objects in let b = same.objects in let c = same.persons in let d = length-rows p t its in let s = is.square in omega (arith, a, b, c, d, s));
+}

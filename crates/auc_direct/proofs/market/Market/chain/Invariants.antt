@@ -1,0 +1,16 @@
+use Rattle.std.proofs.Common.{pos, ◌+◌, ◌<◌, length}
+use Rattle.std.specs.Prelude.{◌+ℤ◌, ◌≤ℤ◌}
+use Rattle.auc_graph.specs.Assignment.{total}
+use Rattle.auc_direct.specs.Market.{HaveAllBut, Stands}
+use Rattle.auc_direct.proofs.market.Market.chain.Given as goal
+
+abbrev pub invariant-loop-left : goal.invariant-loop-left
+invariant-loop-left l = record {
+  stands : Stands l.rows l.eps l.self.prices.items l.self.holders.items l.self.owns.items;
+  known : l.person < length l.rows.rows;
+  but : HaveAllBut (l.first + 1) l.self.owns.items l.person;
+  raised : (total l.fn.self.prices.items +ℤ pos l.fn.left) ≤ℤ (total l.self.prices.items +ℤ pos l.left);
+}
+
+abbrev pub decreases-loop-left : goal.decreases-loop-left
+decreases-loop-left l = l.left

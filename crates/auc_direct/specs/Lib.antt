@@ -1,0 +1,6 @@
+pub mod Rows
+pub mod Scan
+pub mod Bid
+pub mod Market
+pub mod Endings
+pub mod Held

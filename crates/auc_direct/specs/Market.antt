@@ -1,0 +1,82 @@
+-- The state of a phase: the prices, who holds each object, and by which arc each person holds his.
+use Rattle.std.specs.Prelude.{ℕ, ℤ, pos, ◌≡◌, ◌≢◌, ◌⊎◌, ◌+◌, ◌<◌, ◌^◌, ◌+ℤ◌, ◌≤ℤ◌, ◌<ℤ◌, List, length, All, Contains, slice_index_or}
+use Rattle.auc_graph.specs.Assignment.{total}
+use Rattle.auc_graph.specs.Dual.{price_at}
+use Rattle.auc_letters.specs.Price.{IsPrice}
+use Rattle.auc_direct.specs.declared.arc.ShortArc.{ShortArc}
+use Rattle.auc_direct.specs.declared.market.TheConstants.{NOBODY}
+use Rattle.auc_direct.specs.Bid.{IsRaise}
+use Rattle.auc_direct.specs.Rows.{Shorts, shorts_of}
+use Rattle.auc_direct.specs.Scan.{short_value}
+
+-- who holds an object
+abbrev pub holder_at : List ℕ → ℕ → ℕ
+holder_at holders j = slice_index_or holders j NOBODY
+
+-- what stands for the arc of a person who holds no object
+abbrev pub no_own : ShortArc
+no_own = record { object = NOBODY; cost = pos 0 }
+
+-- the arc by which a person holds his object
+abbrev pub own_at : List ShortArc → ℕ → ShortArc
+own_at owns i = slice_index_or owns i no_own
+
+-- by what costs are multiplied: one more than the persons
+abbrev pub scale_in : Shorts → ℤ
+scale_in r = pos (length r.rows + 1)
+
+-- an arc of a person, and no other one of his is better by more than eps
+pub record IsSlack (r : Shorts) (eps : ℤ) (prices : List ℤ) (i : ℕ) (s : ShortArc) : Type 0 where
+  pub listed : Contains (shorts_of r i) s
+  pub least : All (λ b. short_value (scale_in r) prices s ≤ℤ (short_value (scale_in r) prices b +ℤ eps)) (shorts_of r i)
+
+-- there are as many objects as persons, or one that nobody holds has no price
+abbrev pub AreSpare : Shorts → List ℤ → List ℕ → Type 0
+AreSpare r prices holders = (r.objects ≡ length r.rows) ⊎ ((j : ℕ) → holder_at holders j ≡ NOBODY → price_at prices j ≡ pos 0)
+
+-- What holds between two bids: each object's holder has it, and each person who has one is its holder.
+pub record Stands (r : Shorts) (eps : ℤ) (prices : List ℤ) (holders : List ℕ) (owns : List ShortArc) : Type 0 where
+  pub prices_are : length prices ≡ r.objects
+  pub holders_are : length holders ≡ r.objects
+  pub owns_are : length owns ≡ length r.rows
+  pub within : All IsPrice prices
+  pub spare : AreSpare r prices holders
+  pub held : (j : ℕ) → holder_at holders j ≢ NOBODY → (own_at owns (holder_at holders j)).object ≡ j
+  pub holds : (i : ℕ) → (own_at owns i).object ≢ NOBODY → holder_at holders (own_at owns i).object ≡ i
+  pub slack : (i : ℕ) → (own_at owns i).object ≢ NOBODY → IsSlack r eps prices i (own_at owns i)
+
+-- each of the first n persons has an object
+abbrev pub HaveObjects : ℕ → List ShortArc → Type 0
+HaveObjects n owns = (i : ℕ) → i < n → (own_at owns i).object ≢ NOBODY
+
+-- each of the first n persons but one, who has none
+pub record HaveAllBut (n : ℕ) (owns : List ShortArc) (person : ℕ) : Type 0 where
+  pub none : (own_at owns person).object ≡ NOBODY
+  pub others : (i : ℕ) → i < n → i ≢ person → (own_at owns i).object ≢ NOBODY
+
+-- each person has an arc
+abbrev pub EachHasArc : Shorts → Type 0
+EachHasArc r = (i : ℕ) → i < length r.rows → 0 < length (shorts_of r i)
+
+-- at these prices and this eps somebody would bid more than the greatest price
+pub record IsAbove (r : Shorts) (eps : ℤ) (prices : List ℤ) : Type 0 where
+  pub person : ℕ
+  pub known : person < length r.rows
+  pub arc : ShortArc
+  pub amount : ℤ
+  pub raise : IsRaise (scale_in r) eps prices (shorts_of r person) arc amount
+  pub above : pos (2 ^ 61) <ℤ amount
+
+-- What a bid that was awarded comes to: the bidder has an object, and who has held it has none.
+pub record IsAwarded (r : Shorts) (eps : ℤ) (person : ℕ) (prices new : List ℤ) (sold : List ℕ) (owns left : List ShortArc) (displaced : ℕ) : Type 0 where
+  pub stands : Stands r eps new sold left
+  pub more : (total prices +ℤ pos 1) ≤ℤ total new
+  pub but : (n : ℕ) → HaveAllBut n owns person → HaveAllBut n left displaced
+  pub below : displaced ≢ NOBODY → displaced < length r.rows
+
+-- and one that would be too high: nothing has changed
+pub record IsTooHigh (r : Shorts) (eps : ℤ) (prices new : List ℤ) (holders sold : List ℕ) (owns left : List ShortArc) : Type 0 where
+  pub prices_are : new ≡ prices
+  pub holders_are : sold ≡ holders
+  pub owns_are : left ≡ owns
+  pub above : IsAbove r eps prices

@@ -1,0 +1,40 @@
+//! Eps by phases, in scaled costs.
+
+ghost use Rattle.std.specs.Prelude.{◌≡◌, ◌⊎◌, pos, ◌<ℤ◌, length, IfSome, IfNone};
+ghost use Rattle.auc_letters.specs.Price.{IsEps};
+ghost use Rattle.auc_direct.specs.Rows.{AreShorts};
+
+use crate::rows::ShortRows;
+
+/// The last eps: prices within 1 of slackness in scaled costs show that a cost is least.
+pub(crate) const LAST_EPS: i64 = 1;
+
+/// By what eps is divided from phase to phase.
+const STEP: i64 = 8;
+
+/// An eighth of the scaled spread of the costs, and at least 1. Where there are more objects than persons it is 1, so that there is one phase: a later one would
+/// leave prices to objects that nobody holds.
+pub(crate) fn first_eps(rows: &ShortRows) -> i64
+    ensures range { IsEps result }
+    ensures start { (rows.now.objects ≡ length rows.now.rows) ⊎ (result ≡ pos 1) }
+{
+    if rows.persons() < rows.objects() {
+        return LAST_EPS;
+    }
+    let eighth = rows.scale() * rows.spread() / STEP;
+    if eighth < LAST_EPS { LAST_EPS } else { eighth }
+}
+
+/// An eighth of the last eps, and at least 1; none behind 1.
+pub(crate) fn next_eps(eps: i64) -> Option<i64>
+    requires { IsEps eps }
+    ensures range { IfSome result IsEps }
+    ensures less { IfSome result (λ next. next <ℤ eps) }
+    ensures last { IfNone result (eps ≡ pos 1) }
+{
+    if eps <= LAST_EPS {
+        return None;
+    }
+    let eighth = eps / STEP;
+    Some(if eighth < LAST_EPS { LAST_EPS } else { eighth })
+}

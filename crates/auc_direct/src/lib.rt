@@ -1,0 +1,18 @@
+//! The auction in one hand: prices, holders and arcs stand in flat vectors, and a bid is an award at once.
+//!
+//! [`solve_direct`] answers as `auc_world::solve_serial` does, with no shards, letters or mails: by certificates in which the checker finds no fault.
+#![tactic(auto)]
+
+mod arc;
+mod bid;
+mod ending;
+mod eps;
+mod gathering;
+mod market;
+mod phase;
+mod phases;
+mod rows;
+mod scan;
+mod solving;
+
+pub use solving::{DirectLimits, solve_direct, solve_direct_from};

@@ -1,0 +1,80 @@
+//! The state of a phase: the prices, who holds each object, and by which arc each person holds his.
+
+ghost use Rattle.std.specs.Prelude.{◌≡◌, ◌≢◌, ◌<◌, pos, length, replicate, set, IfOk};
+ghost use Rattle.auc_direct.specs.Market.{holder_at, no_own};
+
+use crate::arc::ShortArc;
+use crate::bid::Bid;
+use std::alloc::{AllocError, Global};
+
+/// Stands for the holder of an object that nobody holds, and for the object of a person who holds none.
+pub(crate) const NOBODY: u32 = 4_294_967_295;
+
+/// Stands for the arc of a person who holds no object.
+const NO_OWN: ShortArc = ShortArc {
+    object: NOBODY,
+    cost: 0,
+};
+
+/// Prices in scaled costs and holders, both indexed by object, and the arcs by which persons hold, indexed by person.
+#[derive(Drop)]
+pub(crate) struct Market {
+    pub(crate) prices: Vec<i64>,
+    pub(crate) holders: Vec<u32>,
+    pub(crate) owns: Vec<ShortArc>,
+}
+
+impl Market {
+    /// At these prices nobody holds anything.
+    pub(crate) fn new(alloc: Global, persons: u32, prices: Vec<i64>) -> Result<Market, AllocError>
+        ensures prices { IfOk result (λ m. m.prices.items ≡ prices.items) }
+        ensures holders { IfOk result (λ m. m.holders.items ≡ replicate (length prices.items) NOBODY) }
+        ensures owns { IfOk result (λ m. m.owns.items ≡ replicate persons no_own) }
+    {
+        let holders = vec![in alloc; NOBODY; prices.len()]?;
+        let owns = vec![in alloc; NO_OWN; persons as usize]?;
+        Ok(Market {
+            prices,
+            holders,
+            owns,
+        })
+    }
+
+    /// Nobody holds anything any more, and the prices stay.
+    pub(crate) fn open(&mut self)
+        ensures prices { self.new.prices.items ≡ self.old.prices.items }
+        ensures holders { self.new.holders.items ≡ replicate (length self.old.holders.items) NOBODY }
+        ensures owns { self.new.owns.items ≡ replicate (length self.old.owns.items) no_own }
+    {
+        for object in 0..self.holders.len() {
+            self.holders[object] = NOBODY;
+        }
+        for person in 0..self.owns.len() {
+            self.owns[person] = NO_OWN;
+        }
+    }
+
+    /// The object of a bid is the bidder's, the amount is its price, and who has held it has none; gives him.
+    #[inline(always)]
+    pub(crate) fn award(&mut self, person: u32, bid: Bid) -> u32
+        requires price { bid.arc.object < length self.old.prices.items }
+        requires holder { bid.arc.object < length self.old.holders.items }
+        requires person { person < length self.old.owns.items }
+        requires earlier { holder_at self.old.holders.items bid.arc.object ≢ NOBODY → holder_at self.old.holders.items bid.arc.object < length self.old.owns.items }
+        requires few { length self.old.owns.items < NOBODY }
+        ensures prices { self.new.prices.items ≡ set self.old.prices.items bid.arc.object bid.amount }
+        ensures holders { self.new.holders.items ≡ set self.old.holders.items bid.arc.object person }
+        ensures owns { self.new.owns.items ≡ set (set self.old.owns.items person bid.arc) (holder_at self.old.holders.items bid.arc.object) no_own }
+        ensures earlier { result ≡ holder_at self.old.holders.items bid.arc.object }
+    {
+        let object = bid.arc.object as usize;
+        let earlier = self.holders[object];
+        self.prices[object] = bid.amount;
+        self.holders[object] = person;
+        self.owns[person as usize] = bid.arc;
+        if earlier != NOBODY {
+            self.owns[earlier as usize] = NO_OWN;
+        }
+        earlier
+    }
+}

@@ -1,0 +1,91 @@
+//! A person's best arc, in one pass over his row that has no branch by the values.
+
+ghost use Rattle.std.specs.Prelude.{◌≡◌, ◌<◌, ◌+◌, ◌^◌, pos, neg_ℤ, ◌+ℤ◌, ◌*ℤ◌, ◌≤ℤ◌, All, length};
+ghost use Rattle.auc_letters.specs.Price.{IsPrice};
+ghost use Rattle.auc_direct.specs.Rows.{IsShort};
+ghost use Rattle.auc_direct.specs.Scan.{IsFound, IsValue, Lowered, short_value};
+
+use crate::arc::ShortArc;
+
+/// What a pass has found: the least value, the least one of the other arcs (the greatest number where there is none), and where the arc of the least
+/// value stands in the row.
+#[derive(Clone, Copy)]
+pub(crate) struct Found {
+    pub(crate) value: i64,
+    pub(crate) second: i64,
+    pub(crate) place: usize,
+}
+
+impl Found {
+    /// With one value more, of the arc that stands here in the row.
+    #[inline(always)]
+    fn with(self, value: i64, place: usize) -> Found
+        ensures { Lowered self value place result }
+    {
+        let is_less = value < self.value;
+        // Each number is chosen apart, so that LLVM makes selects of them; by one branch for all three it would make a branch.
+        let second = if is_less {
+            self.value
+        } else if value < self.second {
+            value
+        } else {
+            self.second
+        };
+        let place = if is_less { place } else { self.place };
+        let value = if is_less { value } else { self.value };
+        Found {
+            value,
+            second,
+            place,
+        }
+    }
+}
+
+/// The value of a cost at a price.
+#[inline(always)]
+fn value_at(scale: i64, cost: i32, price: i64) -> i64
+    requires scale_low { pos 1 ≤ℤ scale }
+    requires scale_high { scale ≤ℤ pos 10001 }
+    requires cost_low { neg_ℤ (pos (10 ^ 9)) ≤ℤ cost }
+    requires cost_high { cost ≤ℤ pos (10 ^ 9) }
+    requires price { IsPrice price }
+    ensures is { result ≡ (scale *ℤ cost) +ℤ price }
+    ensures low { neg_ℤ (pos (2 ^ 44)) ≤ℤ result }
+    ensures high { result ≤ℤ pos (2 ^ 61 + 2 ^ 44) }
+{
+    scale * i64::from(cost) + price
+}
+
+/// What an arc is worth at these prices: its scaled cost and the price of its object.
+#[inline(always)]
+pub(crate) fn value_of(scale: i64, arc: ShortArc, prices: &[i64]) -> i64
+    requires scale_low { pos 1 ≤ℤ scale }
+    requires scale_high { scale ≤ℤ pos 10001 }
+    requires arc { IsShort (length prices.now) arc }
+    requires prices { All IsPrice prices.now }
+    ensures is { result ≡ short_value scale prices.now arc }
+    ensures range { IsValue result }
+{
+    value_at(scale, arc.cost, prices[arc.object as usize])
+}
+
+/// The best arc of a row. Two arcs to one object count as any two do.
+#[inline(always)]
+pub(crate) fn scan(scale: i64, row: &[ShortArc], prices: &[i64]) -> Found
+    requires scale_low { pos 1 ≤ℤ scale }
+    requires scale_high { scale ≤ℤ pos 10001 }
+    requires some { 0 < length row.now }
+    requires row { All (IsShort (length prices.now)) row.now }
+    requires prices { All IsPrice prices.now }
+    ensures { IsFound (short_value scale prices.now) row.now (length row.now) result }
+{
+    let mut found = Found {
+        value: value_of(scale, row[0], prices),
+        second: i64::MAX,
+        place: 0,
+    };
+    for place in 1..row.len() {
+        found = found.with(value_of(scale, row[place], prices), place);
+    }
+    found
+}

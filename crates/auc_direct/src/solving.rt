@@ -1,0 +1,145 @@
+//! The solver in one hand.
+
+ghost use Rattle.std.specs.Prelude.{IfOk};
+ghost use Rattle.auc_cert.specs.Start.{AreStart};
+ghost use Rattle.auc_graph.specs.Table.{IsTableOf};
+ghost use Rattle.auc_letters.specs.Price.{IsEps};
+ghost use Rattle.auc_answers.specs.Answers.{HasAssignment, IsAnswer};
+ghost use Rattle.auc_answers.specs.Prepared.{NobodyStuck};
+ghost use Rattle.auc_direct.specs.Endings.{IsLimited, IsOutcome, IsStart};
+ghost use Rattle.auc_direct.specs.Rows.{AreShorts, AreShortsOf};
+
+use crate::ending::Ending;
+use crate::eps::{LAST_EPS, first_eps};
+use crate::gathering::gather;
+use crate::phases::{Outcome, play_all};
+use crate::rows::ShortRows;
+use auc_answers::finish::{bracket, optimal};
+use auc_answers::{Answer, Prepared, prepare};
+use auc_graph::{ArcList, Rows};
+use std::alloc::{AllocError, Global};
+
+/// How much the solver may use.
+#[derive(Clone, Copy, Debug, PartialEq, Eq)]
+pub struct DirectLimits {
+    /// How many bids a phase may make; any number.
+    pub bids: u64,
+}
+
+/// The answer of what all phases come to.
+fn answer_of(
+    alloc: Global,
+    problem: &ArcList,
+    rows: &Rows,
+    _shorts: &ShortRows,
+    _bids: u64,
+    outcome: Outcome,
+) -> Result<Answer, AllocError>
+    requires rows { IsTableOf problem.now rows.now }
+    requires shorts { AreShortsOf rows.now _shorts.now }
+    requires sound { AreShorts _shorts.now }
+    requires assignment { HasAssignment problem.now }
+    requires outcome { IsOutcome _shorts.now _bids outcome.ending outcome.market.prices.items outcome.market.holders.items outcome.market.owns.items }
+    ensures is { IfOk result (IsAnswer problem.now) }
+    ensures limit { IfOk result (IsLimited problem.now _bids) }
+{
+    // Read here, so that the proof knows what every problem keeps.
+    let _ = problem.arcs();
+    let Outcome { ending, market } = outcome;
+    let gathered = gather(alloc, rows, market)?;
+    match ending {
+        Ending::Sold => optimal(alloc, problem, gathered),
+        Ending::Stopped(reason) => bracket(alloc, problem, rows, reason, gathered),
+    }
+}
+
+/// Solves a problem that has an assignment, in phases from this eps and these prices on.
+fn solve_rows(
+    alloc: Global,
+    problem: &ArcList,
+    rows: &Rows,
+    shorts: &ShortRows,
+    bids: u64,
+    eps: i64,
+    prices: Vec<i64>,
+) -> Result<Answer, AllocError>
+    requires rows { IsTableOf problem.now rows.now }
+    requires shorts { AreShortsOf rows.now shorts.now }
+    requires arcs { NobodyStuck rows.now }
+    requires assignment { HasAssignment problem.now }
+    requires eps { IsEps eps }
+    requires start { IsStart shorts.now eps prices.items }
+    ensures is { IfOk result (IsAnswer problem.now) }
+    ensures limit { IfOk result (IsLimited problem.now bids) }
+{
+    // Read here, so that the proof knows what all rows keep.
+    let _ = shorts.persons();
+    let outcome = play_all(alloc, shorts, bids, eps, prices)?;
+    answer_of(alloc, problem, rows, shorts, bids, outcome)
+}
+
+/// Solves a problem: an arc for each person, no object twice, of the least cost together; or persons who together know fewer objects than they number; or, where
+/// a phase would take more than so many bids or a price above 2^61, an assignment and a bound on what any costs. Each claim has passed the checker. `Broken`
+/// is never answered.
+///
+/// The answer is right as that of `auc_world::solve_serial` is, but of several least assignments it may be another one.
+///
+/// Takes the time of the search for an assignment of any cost ([`auc_hall::complete`]), of the bids, each O(arcs of the person), and of one check; and 20 bytes of
+/// memory an arc beside the problem's own. The method is the auction with epsilon scaling (Bertsekas, 1979; Bertsekas and Eckstein, 1988), where whoever is
+/// displaced bids next.
+///
+/// # Errors
+///
+/// Only where memory was refused.
+pub fn solve_direct(
+    alloc: Global,
+    problem: &ArcList,
+    limits: &DirectLimits,
+) -> Result<Answer, AllocError>
+    ensures is { IfOk result (IsAnswer problem.now) }
+    ensures limit { IfOk result (IsLimited problem.now limits.now.bids) }
+{
+    match prepare(alloc, problem)? {
+        Prepared::Answered(answer) => Ok(answer),
+        Prepared::Rows(rows) => {
+            let shorts = ShortRows::build(alloc, &rows, problem.arcs().len())?;
+            let prices = vec![in alloc; 0; shorts.objects() as usize]?;
+            let eps = first_eps(&shorts);
+            solve_rows(alloc, problem, &rows, &shorts, limits.bids, eps, prices)
+        }
+    }
+}
+
+/// Solves a problem as [`solve_direct`] does, but from start prices, in one phase at the last eps: those of an old certificate
+/// ([`auc_cert::start_prices`]), say. They are scaled costs, indexed by object, from 0 to 2^60, and as many as the persons.
+///
+/// # Errors
+///
+/// Only where memory was refused.
+pub fn solve_direct_from(
+    alloc: Global,
+    problem: &ArcList,
+    limits: &DirectLimits,
+    start: &[i64],
+) -> Result<Answer, AllocError>
+    requires start { AreStart problem.now start.now }
+    ensures is { IfOk result (IsAnswer problem.now) }
+    ensures limit { IfOk result (IsLimited problem.now limits.now.bids) }
+{
+    match prepare(alloc, problem)? {
+        Prepared::Answered(answer) => Ok(answer),
+        Prepared::Rows(rows) => {
+            let shorts = ShortRows::build(alloc, &rows, problem.arcs().len())?;
+            let prices = start.to_vec(alloc)?;
+            solve_rows(
+                alloc,
+                problem,
+                &rows,
+                &shorts,
+                limits.bids,
+                LAST_EPS,
+                prices,
+            )
+        }
+    }
+}

@@ -1,0 +1,95 @@
+//! Random problems: what is claimed is what the solver by letters claims.
+
+ghost use Rattle.std.specs.Prelude.{IfOk};
+ghost use Rattle.auc_answers.specs.Limits.{AreLimits};
+
+use crate::texts::{AMPLE, answered, text_of};
+use auc_answers::Limits;
+use auc_graph::{Arc, ArcList};
+use auc_letters::MOST_SHARDS;
+use auc_mail::MOST_NODES;
+use auc_world::solve_serial;
+use std::test::*;
+
+/// Numbers that look random, always the same ones.
+#[derive(Drop)]
+struct Dice {
+    state: u64,
+}
+
+impl Dice {
+    /// The next number below another one, which isn't 0.
+    fn below(&mut self, most: u32) -> u32 {
+        self.state = self
+            .state
+            .wrapping_mul(6_364_136_223_846_793_005)
+            .wrapping_add(1_442_695_040_888_963_407);
+        ((self.state >> 33) as u32).checked_rem(most).unwrap_or(0)
+    }
+}
+
+/// A problem of up to 8 persons and so many more objects, whose costs lie below a number.
+fn problem_of(rt: &HostRuntime, dice: &mut Dice, more: u32, costs: u32) -> Result<ArcList, Fail> {
+    let persons = 1 + dice.below(8) % 8;
+    let objects = persons + more % 4;
+    let mut arcs = Vec::new(rt.alloc());
+    for person in 0..persons {
+        for object in 0..objects {
+            if dice.below(3) > 0 {
+                arcs.push(Arc {
+                    cost: i64::from(dice.below(costs)) - 50,
+                    person,
+                    object,
+                })?;
+            }
+        }
+    }
+    ArcList::from_arcs(persons, objects, arcs).map_err(|_| Fail::new("no problem"))
+}
+
+/// The second line of a text: what it claims, how many, and the cost.
+fn claim_of(text: &[u8]) -> &[u8] {
+    let mut lines = text.split(|byte| *byte == b'\n');
+    let _ = lines.next();
+    lines.next().unwrap_or(text)
+}
+
+/// Limits that are in range.
+fn usual() -> Result<Limits, Fail>
+    ensures { IfOk result AreLimits }
+{
+    let limits = Limits::usual(1);
+    if limits.shards == 0 || limits.shards > MOST_SHARDS || limits.nodes > MOST_NODES {
+        return Err(Fail::new("limits out of range"));
+    }
+    Ok(limits)
+}
+
+/// Whether both solvers make the same claim of so many problems.
+fn are_alike(rt: &HostRuntime, more: u32, costs: u32) -> Result<bool, Fail> {
+    let mut dice = Dice { state: 7 };
+    let limits = usual()?;
+    for _ in 0..100 {
+        let problem = problem_of(rt, &mut dice, more, costs)?;
+        let direct = answered(rt, &problem, &AMPLE)?;
+        let serial = text_of(rt, &problem, solve_serial(rt.alloc(), &problem, &limits)?)?;
+        if claim_of(direct.as_slice()) != claim_of(serial.as_slice()) {
+            return Ok(false);
+        }
+    }
+    Ok(true)
+}
+
+#[test]
+fn square(rt: HostRuntime) -> Result<(), Fail> {
+    assert!(rt; are_alike(&rt, 0, 100)?);
+    assert!(rt; are_alike(&rt, 0, 4)?);
+    Ok(())
+}
+
+#[test]
+fn more_objects(rt: HostRuntime) -> Result<(), Fail> {
+    assert!(rt; are_alike(&rt, 1, 100)?);
+    assert!(rt; are_alike(&rt, 3, 4)?);
+    Ok(())
+}

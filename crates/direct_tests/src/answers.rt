@@ -1,0 +1,77 @@
+//! What is answered where there is one least assignment, or none, up to the prices.
+
+use crate::texts::{AMPLE, answered, problem_of};
+use std::test::*;
+
+/// A problem, its number of objects (0: as many as persons), and its certificate up to the prices.
+const CLAIMS: [(&str, u32, &str); 10] = [
+    (
+        "1\n1 1 -7\n",
+        0,
+        "auction 1\noptimal 1 -7\nassign 1 1 -7\nprice 1 ",
+    ),
+    (
+        "2\n1 1 1\n1 2 2\n2 1 1\n2 2 3\n",
+        0,
+        "auction 1\noptimal 2 3\nassign 1 2 2\nassign 2 1 1\nprice 1 ",
+    ),
+    // The cheaper of two arcs between the same two.
+    (
+        "1 1 1 4 1 1 2",
+        0,
+        "auction 1\noptimal 1 2\nassign 1 1 2\nprice 1 ",
+    ),
+    (
+        "3\n1 1 4 1 2 1 1 3 3\n2 1 2 2 2 0 2 3 5\n3 1 3 3 2 2 3 3 2\n",
+        0,
+        "auction 1\noptimal 3 5\nassign 1 2 1\nassign 2 1 2\nassign 3 3 2\nprice 1 ",
+    ),
+    // Rows that aren't in the order of the persons, nor of the objects.
+    (
+        "3\n3 3 2 1 3 3 2 2 0\n1 1 4 3 2 2 1 2 1\n2 3 5 3 1 3 2 1 2\n",
+        0,
+        "auction 1\noptimal 3 5\nassign 1 2 1\nassign 2 1 2\nassign 3 3 2\nprice 1 ",
+    ),
+    // Costs at their ends.
+    (
+        "2\n1 1 1000000000 1 2 -1000000000 2 1 -1000000000 2 2 999999999\n",
+        0,
+        "auction 1\noptimal 2 -2000000000\nassign 1 2 -1000000000\nassign 2 1 -1000000000\nprice 1 ",
+    ),
+    (
+        "2\n1 1 5\n2 1 7\n",
+        0,
+        "auction 1\ninfeasible 2 1\nperson 1\nperson 2\nobject 1\n",
+    ),
+    ("2\n1 1 1\n", 0, "auction 1\ninfeasible 1 0\nperson 2\n"),
+    // More objects than persons: what is left over has no price.
+    (
+        "2\n1 1 5 1 2 1\n2 2 2 2 3 9\n",
+        4,
+        "auction 2\noptimal 2 4 7\nassign 1 1 5\nassign 2 2 2\nprice 1 ",
+    ),
+    (
+        "2\n1 1 5\n2 1 7\n",
+        3,
+        "auction 1\ninfeasible 2 1\nperson 1\nperson 2\nobject 1\n",
+    ),
+];
+
+#[test]
+fn claims(rt: HostRuntime) -> Result<(), Fail> {
+    for (text, objects, claim) in CLAIMS {
+        let problem = problem_of(&rt, text, objects)?;
+        let told = answered(&rt, &problem, &AMPLE)?;
+        assert!(rt; told.as_slice().starts_with(claim.as_bytes()));
+    }
+    Ok(())
+}
+
+/// More objects than persons: what nobody takes has no price.
+#[test]
+fn left_over(rt: HostRuntime) -> Result<(), Fail> {
+    let problem = problem_of(&rt, "2\n1 1 5 1 2 1\n2 2 2 2 3 9\n", 4)?;
+    let told = answered(&rt, &problem, &AMPLE)?;
+    assert!(rt; told.as_slice().ends_with(b"\nprice 3 0\nprice 4 0\n"));
+    Ok(())
+}

@@ -1,0 +1,13 @@
+//! Worked examples of the solver in one hand: tests of `auc_direct` by its public calls alone.
+#![tactic(auto)]
+
+#[cfg(test)]
+mod alike;
+#[cfg(test)]
+mod answers;
+#[cfg(test)]
+mod limits;
+#[cfg(test)]
+mod starts;
+#[cfg(test)]
+mod texts;

@@ -1,0 +1,43 @@
+//! Problems and answers as texts.
+
+use auc_answers::Answer;
+use auc_cert::{check, write_cert};
+use auc_direct::{DirectLimits, solve_direct};
+use auc_graph::{ArcList, ReadLimits, read_arcs};
+use std::test::*;
+
+/// As many bids as any problem of these tests needs.
+pub const AMPLE: DirectLimits = DirectLimits { bids: 1_000_000 };
+
+/// The problem that a text reads as, of so many objects, or as many as persons where that is 0.
+pub fn problem_of(rt: &HostRuntime, text: &str, objects: u32) -> Result<ArcList, Fail> {
+    let limits = ReadLimits {
+        objects,
+        ..ReadLimits::usual()
+    };
+    Ok(read_arcs(rt.alloc(), text.as_bytes(), limits)?)
+}
+
+/// The text of an answer, which has to be one, and in which the checker has to find no fault.
+pub fn text_of(rt: &HostRuntime, problem: &ArcList, answer: Answer) -> Result<Vec<u8>, Fail> {
+    let cert = match answer {
+        Answer::Optimal(cert) => cert,
+        Answer::Infeasible(cert) => cert,
+        Answer::Bracket(cert) => cert,
+        Answer::Broken(guard) => return Err(Fail::new(format_args!("{guard:?}"))),
+    };
+    check(rt.alloc(), problem, &cert)?;
+    let mut out = Vec::new(rt.alloc());
+    write_cert(&mut out, &cert)?;
+    Ok(out)
+}
+
+/// What the solver answers.
+pub fn answered(
+    rt: &HostRuntime,
+    problem: &ArcList,
+    limits: &DirectLimits,
+) -> Result<Vec<u8>, Fail> {
+    let answer = solve_direct(rt.alloc(), problem, limits)?;
+    text_of(rt, problem, answer)
+}

@@ -25,6 +25,8 @@ def names_in(relations):
 @functools.cache
 def known():
     """Of each package on this machine what it depends on, by its name and by each name that it provides."""
+    if shutil.which("dpkg-query") is None:
+        raise CannotBeMade("dpkg isn't there, by which the packages of a root are known")
     shown = subprocess.run(["dpkg-query", "--show", "--showformat", "${db:Status-Abbrev}\t${Package}\t${Pre-Depends}\t${Depends}\t${Provides}\n"], check=True, capture_output=True, text=True).stdout
     found = {}
     for line in shown.splitlines():
@@ -76,8 +78,6 @@ def alternatives():
 
 class CleanRoot:
     def __init__(self, names):
-        if shutil.which("dpkg-query") is None:
-            raise CannotBeMade("dpkg isn't there, by which the packages of a root are known")
         self.kept = tempfile.TemporaryDirectory(prefix="sigdorf-root-")
         self.path = pathlib.Path(self.kept.name)
         try:

@@ -253,5 +253,3 @@ whole val row f h all = record {
 }
 
 -- what stands for no arc
-abbrev pub no_arc : RowArc
-no_arc = record { cost = pos 0; object = 0; arc = 0 }

@@ -15,7 +15,8 @@ use Rattle.auc_persons.specs.Blocks.{Above}
 use Rattle.auc_persons.specs.Scan.{IsValue, copy_in}
 use Rattle.auc_persons.specs.Search.{Covers, IsFound, IsLimit}
 use Rattle.auc_persons.proofs.Bounds.{product_below, value_high, value_low}
-use Rattle.auc_persons.proofs.Found.{above_limit, no_arc}
+use Rattle.auc_persons.specs.Priced.{no_arc}
+use Rattle.auc_persons.proofs.Found.{above_limit}
 
 -- ---- arc by arc
 

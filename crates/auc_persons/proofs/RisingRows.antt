@@ -10,7 +10,7 @@ use Rattle.auc_persons.specs.declared.rising.Least.{Least}
 use Rattle.auc_persons.specs.declared.scan.Scan.{Scan}
 use Rattle.auc_persons.specs.Rising.{IsRisingRow, Lowered}
 use Rattle.auc_persons.specs.Scan.{endless, IsScan, IsValue, Loses}
-use Rattle.auc_persons.proofs.Found.{no_arc}
+use Rattle.auc_persons.specs.Priced.{no_arc}
 use Rattle.auc_persons.proofs.Scans.{first, other_loses, other_next, other_wins, row_whole}
 
 -- what is found, with the arc itself

@@ -4,7 +4,7 @@ use Rattle.std.specs.Prelude.{All, AllPairs, Contains}
 use Rattle.std.proofs.lemmas.Bool.{cases_lt}
 use Rattle.std.proofs.lemmas.List.{get_or_default, same_lists}
 use Rattle.auc_graph.specs.declared.rows.RowArc.{RowArc}
-use Rattle.auc_persons.proofs.Found.{no_arc}
+use Rattle.auc_persons.specs.Priced.{no_arc}
 
 abbrev pub Rises : List RowArc → Type 0
 Rises row = AllPairs (λ a b. a.arc < b.arc) row

@@ -8,6 +8,7 @@ use Rattle.std.proofs.Common.{get_or, ◌+◌, take, length, add-one}
 use Rattle.std.proofs.lemmas.List.Elements.{All-nil, All-push, All-weaker, Contains-push, Contains-append_left}
 use Rattle.auc_graph.specs.declared.rows.RowArc.{RowArc}
 use Rattle.auc_persons.specs.declared.scan.Scan.{Scan}
+use Rattle.auc_persons.specs.Priced.{no_arc}
 use Rattle.auc_persons.specs.Scan.{endless, Reached, IsValue, IsScan, Beats, Loses, Judged, Joined, Chosen, Passed}
 
 grow : (P Q : RowArc → Type 0) (row : List RowArc) (a : RowArc) → ((b : RowArc) → P b → Q b) → All P row → Q a → All Q (row ++ a ∷ [])
@@ -175,15 +176,13 @@ later row i d f a order lt at (k, below, is) =
     let o : (get_or row k f).arc < (get_or row i f).arc = order k i f k_lt lt in
     omega (arith, o, ap (λ (x : RowArc). x.arc) e, ap (λ (x : RowArc). x.arc) at')
 
-pub row_step : (val : RowArc → ℤ) (row rest : List RowArc) (i : ℕ) (d first a : RowArc) (f r : Scan) (v : ℤ) → row ≡ first ∷ rest → i < length rest → get_or rest i d ≡ a
-    → AllPairs (λ x y. x.arc < y.arc) row → IsScan val (take (i + 1) row) f → v ≡ val a → IsValue v → Joined f a v r → IsScan val (take (i + 1 + 1) row) r
-row_step val row rest i d first a f r v e lt at order s is ok j =
-    let len : i + 1 < length row = omega (arith, ap length e) in
-    let at' : get_or row (i + 1) d ≡ a = ap (λ xs. get_or xs (i + 1) d) e ∙ rw add-one at in
-    rw (take_more row (i + 1) d len, at') (joins val (take (i + 1) row) f r a v s is ok (later row (i + 1) d f.best a order len at' s.listed) j)
+pub row_step : (val : RowArc → ℤ) (row : List RowArc) (i : ℕ) (f r : Scan) (v : ℤ) → i < length row → AllPairs (λ x y. x.arc < y.arc) row → IsScan val (take i row) f
+    → v ≡ val (get_or row i no_arc) → IsValue v → Joined f (get_or row i no_arc) v r → IsScan val (take (i + 1) row) r
+row_step val row i f r v lt order s is ok j =
+    rw (take_more row i no_arc lt) (joins val (take i row) f r (get_or row i no_arc) v s is ok (later row i no_arc f.best (get_or row i no_arc) order lt refl s.listed) j)
 
-pub row_first : (val : RowArc → ℤ) (row rest : List RowArc) (a : RowArc) (v : ℤ) → row ≡ a ∷ rest → v ≡ val a → IsValue v → IsScan val (take 1 row) (record { value = v; second = endless; best = a })
-row_first val row rest a v e is ok = rw e (first val a v is ok)
+pub row_first : (val : RowArc → ℤ) (row : List RowArc) (v : ℤ) → 0 < length row → v ≡ val (get_or row 0 no_arc) → IsValue v → IsScan val (take 1 row) (record { value = v; second = endless; best = get_or row 0 no_arc })
+row_first val row v lt is ok = rw (take_more row 0 no_arc lt) (first val (get_or row 0 no_arc) v is ok)
 
 pub row_whole : (val : RowArc → ℤ) (row : List RowArc) (i : ℕ) (f : Scan) → length row ≤ i → IsScan val (take i row) f → IsScan val row f
 row_whole val row i f le s = rw (take_all i row le) at s

@@ -13,7 +13,7 @@ use Rattle.auc_persons.specs.declared.scan.Scan.{Scan}
 use Rattle.auc_persons.specs.Candidates.{Decides, Gathered, Keeps, KeepsListed, Kept, Listed, no_list}
 use Rattle.auc_persons.specs.Persons.{Rising}
 use Rattle.auc_persons.specs.Scan.{copy_in, IsScan, Reached}
-use Rattle.auc_persons.proofs.Found.{no_arc}
+use Rattle.auc_persons.specs.Priced.{no_arc}
 
 -- ---- what a list decides
 

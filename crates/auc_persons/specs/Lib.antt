@@ -1,5 +1,6 @@
 pub mod Rising
 pub mod Scan
+pub mod Priced
 pub mod Search
 pub mod Candidates
 pub mod Blocks

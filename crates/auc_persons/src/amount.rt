@@ -1,11 +1,12 @@
 //! The amount of a bid.
 
-ghost use Rattle.std.specs.Prelude.{◌≡◌, ◌*◌, ◌^◌, pos, ◌+ℤ◌, ◌-ℤ◌, ◌*ℤ◌, ◌≤ℤ◌, All, length};
-ghost use Rattle.auc_graph.specs.Bid.{IsBid, value};
-ghost use Rattle.auc_graph.specs.Table.{IsRow};
+ghost use Rattle.std.specs.Prelude.{◌≡◌, ◌*◌, ◌^◌, pos, ◌+ℤ◌, ◌-ℤ◌, ◌*ℤ◌, ◌≤ℤ◌};
+ghost use Rattle.auc_graph.specs.Bid.{IsBid};
 ghost use Rattle.auc_letters.specs.Price.{IsPrice, IsEps};
 ghost use Rattle.auc_persons.specs.Scan.{copy_in, IsScan, IsValue};
+ghost use Rattle.auc_persons.specs.Priced.{value_in};
 
+use crate::priced_row::PricedRow;
 use crate::scan::Scan;
 use auc_graph::RowArc;
 
@@ -54,35 +55,23 @@ pub(crate) struct Bid {
     pub(crate) arc: RowArc,
 }
 
-/// What is bid on the best arc of a row that a pass over it has found, at these copies of the prices, indexed by object.
-///
-/// `scale` is one more than the persons, `spread` that of the costs of the file; `eps` and `copies` are in scaled costs.
+/// What is bid on the best arc of a row that a pass over it has found. `spread` is that of the costs of the file; `eps` is in scaled
+/// costs.
 ///
 /// Takes O(1) time and no memory. The method is the bid of the auction algorithm (Bertsekas, 1979).
-pub(crate) fn bid_of(
-    scale: i64,
-    spread: i64,
-    eps: i64,
-    _row: &[RowArc],
-    copies: &[i64],
-    found: Scan,
-) -> Bid
-    requires scale_low { pos 1 ≤ℤ scale }
-    requires scale_high { scale ≤ℤ pos 10001 }
+pub(crate) fn bid_of(row: PricedRow, spread: i64, eps: i64, found: Scan) -> Bid
     requires spread_low { pos 0 ≤ℤ spread }
     requires spread_high { spread ≤ℤ pos (2 * 10 ^ 9) }
     requires eps { IsEps eps }
-    requires row { IsRow (length copies.now) _row.now }
-    requires copies { All IsPrice copies.now }
-    requires found { IsScan (value scale (copy_in copies.now)) _row.now found }
-    ensures { IsBid scale spread eps (copy_in copies.now) _row.now result.arc result.amount }
+    requires found { IsScan (value_in row) row.arcs.now found }
+    ensures { IsBid row.entry.scale spread eps (copy_in row.entry.copies.now) row.entry.arcs.now result.arc result.amount }
 {
     let arc = found.best;
-    let price = copies[arc.object as usize];
+    let price = row.copies[arc.object as usize];
     if found.second < i64::MAX {
         let amount = next_amount(price, found.second, found.value, eps);
         return Bid { amount, arc };
     }
-    let amount = only_amount(price, scaled(scale, spread), eps);
+    let amount = only_amount(price, scaled(row.scale, spread), eps);
     Bid { amount, arc }
 }

@@ -8,8 +8,9 @@ ghost use Rattle.auc_persons.specs.Blocks.{or_none};
 ghost use Rattle.auc_persons.specs.Candidates.{Kept};
 ghost use Rattle.auc_persons.specs.Scan.{copy_in, IsScan};
 
-use crate::bound::{BLOCK, Blocked, Bound, LONG};
+use crate::bound::{BLOCK, Blocked, Bound};
 use crate::listing::scan_and_list;
+use crate::method::LONG;
 use crate::scan::Scan;
 use crate::search::Hint;
 use crate::shortlist::Shortlist;

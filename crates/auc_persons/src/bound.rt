@@ -6,11 +6,6 @@ use crate::search::Hint;
 
 /// How many arcs a block has; the last one of a row may have fewer.
 pub(crate) const BLOCK: usize = 16;
-/// Rows up to so many arcs have no blocks.
-pub(crate) const LONG: usize = 256;
-/// For a row of up to so many arcs a pass over all of it makes a list: its branches are guessed well, which is worth more there than
-/// the arcs that blocks leave out.
-pub(crate) const VERY_LONG: usize = 640;
 /// No block.
 const NOWHERE: u32 = 4294967295;
 

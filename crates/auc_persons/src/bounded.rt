@@ -1,50 +1,39 @@
 //! A person's best arc, in a pass over his row that leaves blocks out whose bound is too high.
 
-ghost use Rattle.std.specs.Prelude.{◌≡◌, ◌<◌, ◌≤◌, ◌+◌, ◌*◌, pos, ◌≤ℤ◌, All, length, slice_index_or, IfSome, ℕ};
+ghost use Rattle.std.specs.Prelude.{◌≡◌, ◌<◌, ◌≤◌, ◌+◌, ◌*◌, pos, All, length, slice_index_or, IfSome, ℕ};
 ghost use Rattle.std.specs.List.{AllWithin};
 ghost use Rattle.auc_graph.specs.Bid.{value};
-ghost use Rattle.auc_graph.specs.Table.{IsRow, row_of};
+ghost use Rattle.auc_graph.specs.Table.{row_of};
 ghost use Rattle.auc_graph.specs.declared.rows.RowArc.{RowArc};
 ghost use Rattle.auc_letters.specs.Price.{IsPrice};
 ghost use Rattle.auc_persons.specs.Blocks.{Above, AreRight};
 ghost use Rattle.auc_persons.specs.Scan.{copy_in, IsScan};
 ghost use Rattle.auc_persons.specs.Search.{Covers, IsFound, IsLimit};
+ghost use Rattle.auc_persons.specs.Priced.{value_in};
 
 use crate::bound::{BLOCK, Blocked, Bound};
 use crate::least::least_of;
-use crate::scan::scale_of;
-use crate::search::{Search, begun, value_here};
-use auc_graph::{RowArc, Rows};
+use crate::priced_row::PricedRow;
+use crate::search::{Search, begun};
+use auc_graph::Rows;
 use std::snapshot::Snapshot;
 
 /// A search with the arcs of a row from one place to another.
 #[inline]
-fn with_part(
-    scale: i64,
-    row: &[RowArc],
-    copies: &[i64],
-    begun: Search,
-    from: usize,
-    to: usize,
-) -> Search
-    requires scale_low { pos 1 ≤ℤ scale }
-    requires scale_high { scale ≤ℤ pos 10001 }
-    requires row { IsRow (length copies.now) row.now }
-    requires copies { All IsPrice copies.now }
-    requires within { to ≤ length row.now }
-    requires found { IsFound (value scale (copy_in copies.now)) row.now begun.scan }
+fn with_part(row: PricedRow, begun: Search, from: usize, to: usize) -> Search
+    requires within { to ≤ length row.arcs.now }
+    requires found { IsFound (value_in row) row.arcs.now begun.scan }
     requires limit { IsLimit begun.scan begun.limit }
-    ensures found { IsFound (value scale (copy_in copies.now)) row.now result.scan }
+    ensures found { IsFound (value_in row.entry) row.entry.arcs.now result.scan }
     ensures limit { IsLimit result.scan result.limit }
-    ensures kept { (b : RowArc) → Covers (value scale (copy_in copies.now)) begun.scan b → Covers (value scale (copy_in copies.now)) result.scan b }
-    ensures covered { AllWithin (Covers (value scale (copy_in copies.now)) result.scan) row.now from to }
+    ensures kept { (b : RowArc) → Covers (value_in row.entry) begun.scan b → Covers (value_in row.entry) result.scan b }
+    ensures covered { AllWithin (Covers (value_in row.entry) result.scan) row.entry.arcs.now from to }
 {
     let mut search = begun;
     for place in from..to {
-        let arc = row[place];
-        let value = value_here(scale, arc, copies);
+        let value = row.value(place);
         if value <= search.limit {
-            search = search.with(arc, value, place as u32);
+            search = search.with(row.arcs[place], value, place as u32);
         }
     }
     search
@@ -62,32 +51,21 @@ pub(crate) fn lesser(one: usize, other: usize) -> usize
 
 /// A search with the arcs of a block, none of which is below this value. Most blocks change nothing, and are left out by one test.
 #[inline]
-fn with_block(
-    scale: i64,
-    row: &[RowArc],
-    copies: &[i64],
-    begun: Search,
-    from: usize,
-    least: i64,
-) -> Search
-    requires scale_low { pos 1 ≤ℤ scale }
-    requires scale_high { scale ≤ℤ pos 10001 }
-    requires row { IsRow (length copies.now) row.now }
-    requires copies { All IsPrice copies.now }
-    requires within { from ≤ length row.now }
-    requires found { IsFound (value scale (copy_in copies.now)) row.now begun.scan }
+fn with_block(row: PricedRow, begun: Search, from: usize, least: i64) -> Search
+    requires within { from ≤ length row.arcs.now }
+    requires found { IsFound (value_in row) row.arcs.now begun.scan }
     requires limit { IsLimit begun.scan begun.limit }
-    requires least { Above (value scale (copy_in copies.now)) row.now from (from + 16) least }
-    ensures found { IsFound (value scale (copy_in copies.now)) row.now result.scan }
+    requires least { Above (value_in row) row.arcs.now from (from + 16) least }
+    ensures found { IsFound (value_in row.entry) row.entry.arcs.now result.scan }
     ensures limit { IsLimit result.scan result.limit }
-    ensures kept { (b : RowArc) → Covers (value scale (copy_in copies.now)) begun.scan b → Covers (value scale (copy_in copies.now)) result.scan b }
-    ensures covered { (k : ℕ) (d : RowArc) → from ≤ k → k < from + 16 → k < length row.now → Covers (value scale (copy_in copies.now)) result.scan (slice_index_or row.now k d) }
+    ensures kept { (b : RowArc) → Covers (value_in row.entry) begun.scan b → Covers (value_in row.entry) result.scan b }
+    ensures covered { (k : ℕ) (d : RowArc) → from ≤ k → k < from + 16 → k < length row.entry.arcs.now → Covers (value_in row.entry) result.scan (slice_index_or row.entry.arcs.now k d) }
 {
     if least > begun.limit {
         return begun;
     }
-    let to = from + lesser(BLOCK, row.len() - from);
-    with_part(scale, row, copies, begun, from, to)
+    let to = from + lesser(BLOCK, row.arcs.len() - from);
+    with_part(row, begun, from, to)
 }
 
 /// The best arc of a person with a long row, in one pass over his blocks that begins with the two remembered arcs. Each block that is
@@ -112,25 +90,24 @@ pub(crate) fn scan_blocks(
     ensures length { length bounds.new ≡ length bounds.old }
 {
     let person = blocked.person;
-    let row = rows.row(person);
-    let scale = scale_of(rows.persons());
-    let count = (row.len() - 1) / BLOCK + 1;
+    let row = PricedRow::of(rows, person, copies);
+    let count = (row.arcs.len() - 1) / BLOCK + 1;
     if blocked.start > bounds.len() || count > bounds.len() - blocked.start {
         return None;
     }
-    let mut search = begun(scale, row, copies, blocked.hint)?;
+    let mut search = begun(row, blocked.hint)?;
     for block in 0..count {
         let number = block as u32;
         let at = blocked.start + block;
         if !bounds[at].is_above(search.limit, person, number) {
             let from = block * BLOCK;
-            let least = least_of(scale, row, copies, from);
+            let least = least_of(row, from);
             bounds[at] = Bound {
                 least,
                 person,
                 block: number,
             };
-            search = with_block(scale, row, copies, search, from, least);
+            search = with_block(row, search, from, least);
         }
     }
     Some(search)

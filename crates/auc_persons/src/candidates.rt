@@ -10,14 +10,14 @@ ghost use Rattle.auc_letters.specs.Price.{IsPrice};
 
 use crate::amount::scaled;
 use crate::blocks::Blocks;
+use crate::method::SHORT;
+use crate::priced_row::PricedRow;
 use crate::scan::{Scan, scale_of};
 use crate::shortlist::Shortlist;
 use auc_graph::Rows;
 use std::alloc::{AllocError, Global};
 use std::marker::Model;
 
-/// Rows up to so many arcs have no list: two remembered arcs serve them.
-pub(crate) const MIDDLE: usize = 40;
 /// How many arcs a list is to hold.
 const WANTED: i64 = 7;
 
@@ -43,7 +43,7 @@ impl Model for Candidates {
 /// Whether some row is so long that lists serve it. O(persons).
 fn has_long_row(rows: &Rows) -> bool {
     for person in 0..rows.persons() {
-        if rows.row(person).len() > MIDDLE {
+        if rows.row(person).len() > SHORT {
             return true;
         }
     }
@@ -79,16 +79,15 @@ fn scan_list(
     if place >= lists.len() {
         return None;
     }
-    let row = rows.row(person);
-    if row.len() <= MIDDLE {
+    let row = PricedRow::of(rows, person, copies);
+    if row.arcs.len() <= SHORT {
         return None;
     }
-    let scale = scale_of(rows.persons());
     let list = &mut lists[place];
     if list.person() != person {
         return None;
     }
-    list.scan(scale, row, copies)
+    list.scan(row)
 }
 
 impl Candidates {

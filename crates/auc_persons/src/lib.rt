@@ -19,6 +19,8 @@ mod bounded;
 mod candidates;
 mod least;
 mod listing;
+mod method;
+mod priced_row;
 mod rising;
 mod scan;
 mod search;

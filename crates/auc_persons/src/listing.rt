@@ -5,42 +5,32 @@
 
 ghost use Rattle.std.specs.Prelude.{true, false, ◌≡◌, ◌<◌, ◌≤◌, ◌+◌, ◌^◌, [], pos, neg_ℤ, ◌<ℤ◌, ◌≤ℤ◌, All, IfSome, length, take};
 ghost use Rattle.auc_graph.specs.Bid.{value};
-ghost use Rattle.auc_graph.specs.Table.{IsRow, row_of};
+ghost use Rattle.auc_graph.specs.Table.{row_of};
 ghost use Rattle.auc_letters.specs.Price.{IsPrice};
 ghost use Rattle.auc_persons.specs.Blocks.{Above, AreRight};
 ghost use Rattle.auc_persons.specs.Candidates.{Gathered, Keeps, KeepsListed};
 ghost use Rattle.auc_persons.specs.Scan.{copy_in, endless, IsScan, IsValue};
+ghost use Rattle.auc_persons.specs.Priced.{value_in};
 
-use crate::bound::{BLOCK, Blocked, Bound, VERY_LONG};
+use crate::bound::{BLOCK, Blocked, Bound};
 use crate::bounded::{lesser, scan_blocks};
 use crate::least::least_of;
-use crate::scan::scale_of;
+use crate::method::VERY_LONG;
+use crate::priced_row::PricedRow;
 use crate::search::Search;
 use crate::shortlist::Shortlist;
-use auc_graph::{RowArc, Rows};
+use auc_graph::Rows;
 use std::snapshot::Snapshot;
 
 impl Shortlist {
     /// Takes the arcs below a bound of the block that begins here, none of whose arcs is below `least`; no arc at all where they are
     /// too many.
     #[inline]
-    fn take_block(
-        &mut self,
-        scale: i64,
-        row: &[RowArc],
-        copies: &[i64],
-        bound: i64,
-        from: usize,
-        least: i64,
-    ) -> bool
-        requires scale_low { pos 1 ≤ℤ scale }
-        requires scale_high { scale ≤ℤ pos 10001 }
-        requires row { IsRow (length copies.now) row.now }
-        requires copies { All IsPrice copies.now }
-        requires within { from ≤ length row.now }
-        requires least { Above (value scale (copy_in copies.now)) row.now from (from + 16) least }
-        requires gathered { Gathered (value scale (copy_in copies.now)) (take from row.now) self.old.arcs bound }
-        ensures taken { result ≡ true → Gathered (value scale (copy_in copies.now)) (take (from + 16) row.now) self.new.arcs bound }
+    fn take_block(&mut self, row: PricedRow, bound: i64, from: usize, least: i64) -> bool
+        requires within { from ≤ length row.arcs.now }
+        requires least { Above (value_in row) row.arcs.now from (from + 16) least }
+        requires gathered { Gathered (value_in row) (take from row.arcs.now) self.old.arcs bound }
+        ensures taken { result ≡ true → Gathered (value_in row.entry) (take (from + 16) row.entry.arcs.now) self.new.arcs bound }
         ensures none { result ≡ false → self.new.arcs ≡ [] }
         ensures bound { self.new.bound ≡ self.old.bound }
         ensures person { self.new.person ≡ self.old.person }
@@ -48,8 +38,8 @@ impl Shortlist {
         if least >= bound {
             return true;
         }
-        let to = from + lesser(BLOCK, row.len() - from);
-        self.take_part(scale, row, copies, bound, from, to)
+        let to = from + lesser(BLOCK, row.arcs.len() - from);
+        self.take_part(row, bound, from, to)
     }
 }
 
@@ -80,9 +70,8 @@ fn fill_by_blocks(
     ensures length { length bounds.new ≡ length bounds.old }
 {
     let person = blocked.person;
-    let row = rows.row(person);
-    let scale = scale_of(rows.persons());
-    let count = (row.len() - 1) / BLOCK + 1;
+    let row = PricedRow::of(rows, person, copies);
+    let count = (row.arcs.len() - 1) / BLOCK + 1;
     list.begin(bound);
     if blocked.start > bounds.len() || count > bounds.len() - blocked.start {
         return false;
@@ -92,13 +81,13 @@ fn fill_by_blocks(
         let at = blocked.start + block;
         if !bounds[at].is_above(bound - 1, person, number) {
             let from = block * BLOCK;
-            let least = least_of(scale, row, copies, from);
+            let least = least_of(row, from);
             bounds[at] = Bound {
                 least,
                 person,
                 block: number,
             };
-            if !list.take_block(scale, row, copies, bound, from, least) {
+            if !list.take_block(row, bound, from, least) {
                 return false;
             }
         }

@@ -4,16 +4,13 @@
 //! alone no guess is wrong. Where objects rise, as in a file that is sorted, the first of equal arcs is the one to the lowest
 //! object, and no two arcs lead to the same: so the values alone decide.
 
-ghost use Rattle.std.specs.Prelude.{◌≡◌, ◌≤◌, ◌^◌, ◌≤ℤ◌, pos, All, length, IfSome, IfNone, []};
-ghost use Rattle.auc_graph.specs.Bid.{value};
-ghost use Rattle.auc_graph.specs.Table.{IsRow};
-ghost use Rattle.auc_letters.specs.Price.{IsPrice};
+ghost use Rattle.std.specs.Prelude.{◌≡◌, IfSome, IfNone, []};
 ghost use Rattle.auc_persons.specs.Rising.{Lowered};
-ghost use Rattle.auc_persons.specs.Scan.{copy_in, IsScan};
+ghost use Rattle.auc_persons.specs.Scan.{IsScan};
+ghost use Rattle.auc_persons.specs.Priced.{value_in};
 
+use crate::priced_row::PricedRow;
 use crate::scan::{Scan, scan_of};
-use crate::search::value_here;
-use auc_graph::RowArc;
 
 /// The least value so far, the least one of the other arcs (the greatest number where there is none), and where the best arc
 /// stands in the row.
@@ -51,50 +48,41 @@ impl Least {
 
 /// The best arc of a row whose objects rise; nothing where they don't, or there is no arc.
 #[inline]
-pub(crate) fn scan_rising(scale: i64, row: &[RowArc], copies: &[i64]) -> Option<Scan>
-    requires scale_low { pos 1 ≤ℤ scale }
-    requires scale_high { scale ≤ℤ pos 10001 }
-    requires row { IsRow (length copies.now) row.now }
-    requires copies { All IsPrice copies.now }
-    ensures { IfSome result (IsScan (value scale (copy_in copies.now)) row.now) }
+pub(crate) fn scan_rising(row: PricedRow) -> Option<Scan>
+    ensures { IfSome result (IsScan (value_in row.entry) row.entry.arcs.now) }
 {
-    if row.is_empty() {
+    if row.arcs.is_empty() {
         return None;
     }
-    let first = row[0];
-    let mut last = first.object;
+    let mut last = row.arcs[0].object;
     let mut least = Least {
-        value: value_here(scale, first, copies),
+        value: row.value(0),
         second: i64::MAX,
         place: 0,
     };
-    for place in 1..row.len() {
-        let arc = row[place];
-        if arc.object <= last {
+    for place in 1..row.arcs.len() {
+        let object = row.arcs[place].object;
+        if object <= last {
             return None;
         }
-        last = arc.object;
-        least = least.with(value_here(scale, arc, copies), place);
+        last = object;
+        least = least.with(row.value(place), place);
     }
     Some(Scan {
         value: least.value,
         second: least.second,
-        best: row[least.place],
+        best: row.arcs[least.place],
     })
 }
 
 /// The best arc of a short row, in one pass, or in two where objects don't rise in it; nothing where the row has no arc.
 #[inline]
-pub(crate) fn scan_short(scale: i64, row: &[RowArc], copies: &[i64]) -> Option<Scan>
-    requires scale_low { pos 1 ≤ℤ scale }
-    requires scale_high { scale ≤ℤ pos 10001 }
-    requires row { IsRow (length copies.now) row.now }
-    requires copies { All IsPrice copies.now }
-    ensures some { IfSome result (IsScan (value scale (copy_in copies.now)) row.now) }
-    ensures none { IfNone result (row.now ≡ []) }
+pub(crate) fn scan_short(row: PricedRow) -> Option<Scan>
+    ensures some { IfSome result (IsScan (value_in row.entry) row.entry.arcs.now) }
+    ensures none { IfNone result (row.entry.arcs.now ≡ []) }
 {
-    if let Some(scan) = scan_rising(scale, row, copies) {
+    if let Some(scan) = scan_rising(row) {
         return Some(scan);
     }
-    scan_of(scale, row, copies)
+    scan_of(row)
 }

@@ -1,11 +1,11 @@
 //! A person's best arc, in one pass over his row.
 
-ghost use Rattle.std.specs.Prelude.{◌≡◌, ◌≢◌, ◌≤◌, ◌+◌, ◌*◌, ◌^◌, pos, neg_ℤ, ◌+ℤ◌, ◌*ℤ◌, ◌≤ℤ◌, All, length, IfSome, IfNone, []};
-ghost use Rattle.auc_graph.specs.Bid.{value};
-ghost use Rattle.auc_graph.specs.Table.{IsRow};
+ghost use Rattle.std.specs.Prelude.{◌≡◌, ◌≢◌, ◌≤◌, ◌+◌, ◌*◌, ◌^◌, pos, neg_ℤ, ◌+ℤ◌, ◌*ℤ◌, ◌≤ℤ◌, IfSome, IfNone, []};
 ghost use Rattle.auc_letters.specs.Price.{IsPrice};
-ghost use Rattle.auc_persons.specs.Scan.{copy_in, Chosen, Judged, Joined, Passed, IsScan, IsValue};
+ghost use Rattle.auc_persons.specs.Scan.{Chosen, Judged, Joined, Passed, IsScan, IsValue};
+ghost use Rattle.auc_persons.specs.Priced.{value_in};
 
+use crate::priced_row::PricedRow;
 use auc_graph::{MOST_PERSONS, RowArc};
 
 /// The best arc so far, its value, and the least value of arcs to other objects (the greatest number where there is none).
@@ -112,23 +112,20 @@ pub(crate) fn value_of(scale: i64, cost: i32, price: i64) -> i64
 }
 
 /// The best arc of a row, in one pass.
-pub(crate) fn scan_of(scale: i64, row: &[RowArc], copies: &[i64]) -> Option<Scan>
-    requires scale_low { pos 1 ≤ℤ scale }
-    requires scale_high { scale ≤ℤ pos 10001 }
-    requires row { IsRow (length copies.now) row.now }
-    requires copies { All IsPrice copies.now }
-    ensures some { IfSome result (λ s. IsScan (value scale (copy_in copies.now)) row.now s) }
-    ensures none { IfNone result (row.now ≡ []) }
+pub(crate) fn scan_of(row: PricedRow) -> Option<Scan>
+    ensures some { IfSome result (IsScan (value_in row.entry) row.entry.arcs.now) }
+    ensures none { IfNone result (row.entry.arcs.now ≡ []) }
 {
-    let (first, rest) = row.split_first()?;
+    if row.arcs.is_empty() {
+        return None;
+    }
     let mut scan = Scan {
-        value: value_of(scale, first.cost, copies[first.object as usize]),
+        value: row.value(0),
         second: i64::MAX,
-        best: *first,
+        best: row.arcs[0],
     };
-    for arc in rest {
-        let value = value_of(scale, arc.cost, copies[arc.object as usize]);
-        scan = scan.with(*arc, value);
+    for place in 1..row.arcs.len() {
+        scan = scan.with(row.arcs[place], row.value(place));
     }
     Some(scan)
 }

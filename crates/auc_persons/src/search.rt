@@ -3,19 +3,14 @@
 //! From two good arcs on, nearly every arc of a long row fails one test, and the processor guesses that it does. Which two
 //! arcs they are is of no importance to what is found.
 
-ghost use Rattle.std.specs.Prelude.{◌≡◌, ◌<◌, ◌^◌, ◌≤ℤ◌, pos, neg_ℤ, All, length, IfSome, IfNone, []};
-ghost use Rattle.auc_graph.specs.Bid.{value};
-ghost use Rattle.auc_graph.specs.Table.{IsRow, IsRowArc};
-ghost use Rattle.auc_letters.specs.Price.{IsPrice};
-ghost use Rattle.auc_persons.specs.Scan.{copy_in, IsScan, IsValue};
+ghost use Rattle.std.specs.Prelude.{◌≡◌, ◌<◌, ◌^◌, ◌≤ℤ◌, pos, neg_ℤ, length, IfSome, IfNone, []};
+ghost use Rattle.auc_persons.specs.Scan.{IsScan, IsValue};
 ghost use Rattle.auc_persons.specs.Search.{IsFound, IsLimit, PlaceJudged, Taken};
+ghost use Rattle.auc_persons.specs.Priced.{value_in};
 
-use crate::scan::{Scan, value_of};
+use crate::priced_row::PricedRow;
+use crate::scan::Scan;
 use auc_graph::RowArc;
-
-/// Rows up to so many arcs are looked at from nothing. With some 30 arcs two remembered arcs were of no use but cost a tenth
-/// more instructions, and in a price war they are old at each bid.
-pub(crate) const SHORT: usize = 40;
 
 /// The places in a person's row of the two arcs that decided his last bid. Any two places are right.
 #[derive(Clone, Copy, Debug, PartialEq, Eq)]
@@ -36,19 +31,6 @@ pub(crate) struct Search {
     // An arc of a value above this changes nothing.
     pub limit: i64,
     pub hint: Hint,
-}
-
-/// The value of an arc at the copies of the prices.
-#[inline]
-pub(crate) fn value_here(scale: i64, arc: RowArc, copies: &[i64]) -> i64
-    requires scale_low { pos 1 ≤ℤ scale }
-    requires scale_high { scale ≤ℤ pos 10001 }
-    requires arc { IsRowArc (length copies.now) arc }
-    requires copies { All IsPrice copies.now }
-    ensures is { result ≡ value scale (copy_in copies.now) arc }
-    ensures range { IsValue result }
-{
-    value_of(scale, arc.cost, copies[arc.object as usize])
 }
 
 impl Scan {
@@ -147,11 +129,11 @@ impl Search {
 
 /// A place of a row: this one, or the first where the row is shorter.
 #[inline]
-fn within(place: u32, row: &[RowArc]) -> u32
-    requires { 0 < length row.now }
-    ensures { result < length row.now }
+fn within(place: u32, row: PricedRow) -> u32
+    requires { 0 < length row.arcs.now }
+    ensures { result < length row.entry.arcs.now }
 {
-    if (place as usize) < row.len() {
+    if (place as usize) < row.arcs.len() {
         place
     } else {
         0
@@ -160,46 +142,35 @@ fn within(place: u32, row: &[RowArc]) -> u32
 
 /// What the two remembered arcs alone decide; nothing where the row has no arc.
 #[inline]
-pub(crate) fn begun(scale: i64, row: &[RowArc], copies: &[i64], hint: Hint) -> Option<Search>
-    requires scale_low { pos 1 ≤ℤ scale }
-    requires scale_high { scale ≤ℤ pos 10001 }
-    requires row { IsRow (length copies.now) row.now }
-    requires copies { All IsPrice copies.now }
-    ensures found { IfSome result (λ s. IsFound (value scale (copy_in copies.now)) row.now s.scan) }
+pub(crate) fn begun(row: PricedRow, hint: Hint) -> Option<Search>
+    ensures found { IfSome result (λ s. IsFound (value_in row.entry) row.entry.arcs.now s.scan) }
     ensures limit { IfSome result (λ s. IsLimit s.scan s.limit) }
-    ensures none { IfNone result (row.now ≡ []) }
+    ensures none { IfNone result (row.entry.arcs.now ≡ []) }
 {
-    if row.is_empty() {
+    if row.arcs.is_empty() {
         return None;
     }
     let best = within(hint.best, row);
     let next = within(hint.next, row);
-    let one = row[best as usize];
-    let other = row[next as usize];
     let alone = Scan {
-        value: value_here(scale, one, copies),
+        value: row.value(best as usize),
         second: i64::MAX,
-        best: one,
+        best: row.arcs[best as usize],
     };
-    let value = value_here(scale, other, copies);
-    Some(Search::by(alone, best, best).with(other, value, next))
+    let value = row.value(next as usize);
+    Some(Search::by(alone, best, best).with(row.arcs[next as usize], value, next))
 }
 
 /// The best arc of a row, in one pass that begins with the two remembered arcs; nothing where the row has no arc.
-pub(crate) fn scan_from(scale: i64, row: &[RowArc], copies: &[i64], hint: Hint) -> Option<Search>
-    requires scale_low { pos 1 ≤ℤ scale }
-    requires scale_high { scale ≤ℤ pos 10001 }
-    requires row { IsRow (length copies.now) row.now }
-    requires copies { All IsPrice copies.now }
-    ensures some { IfSome result (λ s. IsScan (value scale (copy_in copies.now)) row.now s.scan) }
-    ensures none { IfNone result (row.now ≡ []) }
+pub(crate) fn scan_from(row: PricedRow, hint: Hint) -> Option<Search>
+    ensures some { IfSome result (λ s. IsScan (value_in row.entry) row.entry.arcs.now s.scan) }
+    ensures none { IfNone result (row.entry.arcs.now ≡ []) }
 {
-    let mut search = begun(scale, row, copies, hint)?;
-    for place in 0..row.len() {
-        let arc = row[place];
-        let value = value_here(scale, arc, copies);
+    let mut search = begun(row, hint)?;
+    for place in 0..row.arcs.len() {
+        let value = row.value(place);
         if value <= search.limit {
-            search = search.with(arc, value, place as u32);
+            search = search.with(row.arcs[place], value, place as u32);
         }
     }
     Some(search)

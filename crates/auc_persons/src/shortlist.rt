@@ -4,16 +4,15 @@
 //! Copies of prices never fall, so a bound of an arc's value stays one. How the bound is found, and when a list is made or
 //! left alone, is of no importance to what is bid; it stands in `shortlist/making.rt`.
 
-ghost use Rattle.std.specs.Prelude.{false, ◌≡◌, ◌<◌, ◌≤◌, ◌^◌, ◌<ℤ◌, ◌≤ℤ◌, [], ◌∷◌, ◌++◌, pos, All, IsTrue, IfSome, length, take};
-ghost use Rattle.auc_graph.specs.Bid.{value};
-ghost use Rattle.auc_graph.specs.Table.{IsRow};
-ghost use Rattle.auc_letters.specs.Price.{IsPrice};
+ghost use Rattle.std.specs.Prelude.{false, ◌≡◌, ◌<◌, ◌≤◌, ◌^◌, ◌<ℤ◌, ◌≤ℤ◌, [], ◌∷◌, ◌++◌, pos, IsTrue, IfSome, length, take};
 ghost use Rattle.auc_persons.specs.Candidates.{Decides, Keeps, Listed, no_list};
-ghost use Rattle.auc_persons.specs.Scan.{copy_in, IsScan, IsValue, endless};
+ghost use Rattle.auc_persons.specs.Scan.{IsScan, IsValue, endless};
+ghost use Rattle.auc_persons.specs.Priced.{value_in};
 
 mod making;
 
-use crate::bound::VERY_LONG;
+use crate::method::VERY_LONG;
+use crate::priced_row::PricedRow;
 use crate::rising::scan_short;
 use crate::scan::Scan;
 use crate::search::{Hint, scan_from};
@@ -132,52 +131,44 @@ impl Shortlist {
     /// What a pass over the list finds, which is what one over the row would find where it decides; nothing where the list has no
     /// arc.
     #[inline]
-    fn listed(&self, scale: i64, _row: &[RowArc], copies: &[i64]) -> Option<Scan>
-        requires scale_low { pos 1 ≤ℤ scale }
-        requires scale_high { scale ≤ℤ pos 10001 }
-        requires row { IsRow (length copies.now) _row.now }
-        requires copies { All IsPrice copies.now }
-        requires keeps { Keeps (value scale (copy_in copies.now)) _row.now self.now.arcs self.now.bound }
-        ensures found { IfSome result (λ f. Decides self.now.bound f → IsScan (value scale (copy_in copies.now)) _row.now f) }
+    fn listed(&self, row: PricedRow) -> Option<Scan>
+        requires keeps { Keeps (value_in row) row.arcs.now self.now.arcs self.now.bound }
+        ensures found { IfSome result (λ f. Decides self.now.bound f → IsScan (value_in row.entry) row.entry.arcs.now f) }
         ensures second { IfSome result (λ f. f.second <ℤ endless → IsValue f.second) }
     {
-        scan_short(scale, self.arcs(), copies)
+        scan_short(PricedRow {
+            scale: row.scale,
+            arcs: self.arcs(),
+            copies: row.copies,
+        })
     }
 
     /// What a pass over the list finds, where that decides.
     #[inline]
-    fn decided(&self, scale: i64, _row: &[RowArc], copies: &[i64]) -> Option<Scan>
-        requires scale_low { pos 1 ≤ℤ scale }
-        requires scale_high { scale ≤ℤ pos 10001 }
-        requires row { IsRow (length copies.now) _row.now }
-        requires copies { All IsPrice copies.now }
-        requires keeps { Keeps (value scale (copy_in copies.now)) _row.now self.now.arcs self.now.bound }
-        ensures { IfSome result (IsScan (value scale (copy_in copies.now)) _row.now) }
+    fn decided(&self, row: PricedRow) -> Option<Scan>
+        requires keeps { Keeps (value_in row) row.arcs.now self.now.arcs self.now.bound }
+        ensures { IfSome result (IsScan (value_in row.entry) row.entry.arcs.now) }
     {
-        let scan = self.listed(scale, _row, copies)?;
+        let scan = self.listed(row)?;
         if self.decides(scan) { Some(scan) } else { None }
     }
 
     /// Makes a list anew, and finds the best arc by it; nothing where no list is made, or it doesn't decide. `second` bounds that of
     /// the row: the second of the list's arcs, where they have one, and else the greatest number. The blocks of a very long
     /// row make its list themselves.
-    fn scan_anew(&mut self, scale: i64, row: &[RowArc], copies: &[i64], second: i64) -> Option<Scan>
-        requires scale_low { pos 1 ≤ℤ scale }
-        requires scale_high { scale ≤ℤ pos 10001 }
-        requires row { IsRow (length copies.now) row.now }
-        requires copies { All IsPrice copies.now }
-        requires keeps { Keeps (value scale (copy_in copies.now)) row.now self.old.arcs self.old.bound }
+    fn scan_anew(&mut self, row: PricedRow, second: i64) -> Option<Scan>
+        requires keeps { Keeps (value_in row) row.arcs.now self.old.arcs self.old.bound }
         requires second { second <ℤ endless → IsValue second }
-        ensures found { IfSome result (IsScan (value scale (copy_in copies.now)) row.now) }
-        ensures keeps { Keeps (value scale (copy_in copies.now)) row.now self.new.arcs self.new.bound }
+        ensures found { IfSome result (IsScan (value_in row.entry) row.entry.arcs.now) }
+        ensures keeps { Keeps (value_in row.entry) row.entry.arcs.now self.new.arcs self.new.bound }
         ensures person { self.new.person ≡ self.old.person }
     {
-        if row.len() > VERY_LONG || !self.is_wanted() {
+        if row.arcs.len() > VERY_LONG || !self.is_wanted() {
             return None;
         }
         if second < i64::MAX {
-            self.remake(scale, row, copies, second);
-            let found = self.decided(scale, row, copies);
+            self.remake(row, second);
+            let found = self.decided(row);
             // To make a list takes fewer steps than a pass that finds the best arc, and about as many as blocks take. So it was of
             // use where it decides this bid.
             if found.is_some() {
@@ -185,32 +176,28 @@ impl Shortlist {
             }
             return found;
         }
-        let whole = scan_from(scale, row, copies, Hint::NONE)?.scan;
+        let whole = scan_from(row, Hint::NONE)?.scan;
         if whole.second < i64::MAX {
-            self.remake(scale, row, copies, whole.second);
+            self.remake(row, whole.second);
         }
         Some(whole)
     }
 
     /// The best arc of the row, where a list tells it.
     #[inline]
-    pub(crate) fn scan(&mut self, scale: i64, row: &[RowArc], copies: &[i64]) -> Option<Scan>
-        requires scale_low { pos 1 ≤ℤ scale }
-        requires scale_high { scale ≤ℤ pos 10001 }
-        requires row { IsRow (length copies.now) row.now }
-        requires copies { All IsPrice copies.now }
-        requires keeps { Keeps (value scale (copy_in copies.now)) row.now self.old.arcs self.old.bound }
-        ensures found { IfSome result (IsScan (value scale (copy_in copies.now)) row.now) }
-        ensures keeps { Keeps (value scale (copy_in copies.now)) row.now self.new.arcs self.new.bound }
+    pub(crate) fn scan(&mut self, row: PricedRow) -> Option<Scan>
+        requires keeps { Keeps (value_in row) row.arcs.now self.old.arcs self.old.bound }
+        ensures found { IfSome result (IsScan (value_in row.entry) row.entry.arcs.now) }
+        ensures keeps { Keeps (value_in row.entry) row.entry.arcs.now self.new.arcs self.new.bound }
         ensures person { self.new.person ≡ self.old.person }
     {
-        let Some(scan) = self.listed(scale, row, copies) else {
-            return self.scan_anew(scale, row, copies, i64::MAX);
+        let Some(scan) = self.listed(row) else {
+            return self.scan_anew(row, i64::MAX);
         };
         if self.decides(scan) {
             self.praise();
             return Some(scan);
         }
-        self.scan_anew(scale, row, copies, scan.second)
+        self.scan_anew(row, scan.second)
     }
 }

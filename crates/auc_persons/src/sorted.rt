@@ -1,15 +1,14 @@
 //! Rows whose objects are known to rise: whether they do is looked at once, and a pass for a bid then tests nothing but its end.
 
-ghost use Rattle.std.specs.Prelude.{◌≡◌, ◌<◌, ◌↔◌, ◌≤ℤ◌, pos, All, length, IfSome, IfNone, IsTrue, []};
-ghost use Rattle.auc_graph.specs.Bid.{value};
-ghost use Rattle.auc_graph.specs.Table.{IsRow};
-ghost use Rattle.auc_letters.specs.Price.{IsPrice};
+ghost use Rattle.std.specs.Prelude.{◌≡◌, ◌<◌, ◌↔◌, IfSome, IfNone, IsTrue, []};
 ghost use Rattle.auc_persons.specs.Rising.{AreRising, AreShort, IsRisingRow};
-ghost use Rattle.auc_persons.specs.Scan.{copy_in, IsScan};
+ghost use Rattle.auc_persons.specs.Scan.{IsScan};
+ghost use Rattle.auc_persons.specs.Priced.{value_in};
 
+use crate::method::SHORT;
+use crate::priced_row::PricedRow;
 use crate::rising::Least;
 use crate::scan::Scan;
-use crate::search::{SHORT, value_here};
 use auc_graph::{RowArc, Rows};
 
 /// Whether the objects of a row rise.
@@ -48,29 +47,25 @@ pub fn rows_rise(rows: &Rows) -> bool
 
 /// The best arc of a row whose objects rise; nothing where there is no arc.
 #[inline(always)]
-pub(crate) fn scan_sorted(scale: i64, row: &[RowArc], copies: &[i64]) -> Option<Scan>
-    requires scale_low { pos 1 ≤ℤ scale }
-    requires scale_high { scale ≤ℤ pos 10001 }
-    requires row { IsRow (length copies.now) row.now }
-    requires copies { All IsPrice copies.now }
-    requires rising { IsRisingRow row.now }
-    ensures some { IfSome result (IsScan (value scale (copy_in copies.now)) row.now) }
-    ensures none { IfNone result (row.now ≡ []) }
+pub(crate) fn scan_sorted(row: PricedRow) -> Option<Scan>
+    requires rising { IsRisingRow row.arcs.now }
+    ensures some { IfSome result (IsScan (value_in row.entry) row.entry.arcs.now) }
+    ensures none { IfNone result (row.entry.arcs.now ≡ []) }
 {
-    if row.is_empty() {
+    if row.arcs.is_empty() {
         return None;
     }
     let mut least = Least {
-        value: value_here(scale, row[0], copies),
+        value: row.value(0),
         second: i64::MAX,
         place: 0,
     };
-    for place in 1..row.len() {
-        least = least.with(value_here(scale, row[place], copies), place);
+    for place in 1..row.arcs.len() {
+        least = least.with(row.value(place), place);
     }
     Some(Scan {
         value: least.value,
         second: least.second,
-        best: row[least.place],
+        best: row.arcs[least.place],
     })
 }

@@ -1,6 +1,6 @@
 //! What a shard of the persons bids next.
 
-ghost use Rattle.std.specs.Prelude.{◌≡◌, ◌≢◌, ◌<◌, ◌≤◌, ◌+◌, [], pos, ◌≤ℤ◌, length, IfSome, IfNone, IsTrue, ◌↔◌};
+ghost use Rattle.std.specs.Prelude.{◌≡◌, ◌≢◌, ◌<◌, ◌+◌, [], pos, length, IfSome, IfNone, IsTrue, ◌↔◌};
 ghost use Rattle.auc_graph.specs.Bid.{value};
 ghost use Rattle.auc_graph.specs.Table.{row_of};
 ghost use Rattle.auc_letters.specs.Price.{IsEps};
@@ -12,9 +12,11 @@ ghost use Rattle.auc_persons.specs.Persons.{Bids, BidsAtOnce, IsMadeFor, NextBid
 use crate::amount::{Bid, bid_of};
 use crate::bidding::Bidding;
 use crate::candidates::Candidates;
+use crate::method::SHORT;
+use crate::priced_row::PricedRow;
 use crate::rising::scan_rising;
-use crate::scan::{Scan, scale_of, scan_of};
-use crate::search::{SHORT, scan_from};
+use crate::scan::{Scan, scan_of};
+use crate::search::scan_from;
 use crate::shard::PersonShard;
 use crate::sorted::scan_sorted;
 use auc_graph::Rows;
@@ -28,11 +30,11 @@ impl PersonShard {
         requires person { person < length self.now.states }
         ensures { IfSome result (λ f. IsScan (value (pos (length rows.now.rows + 1)) (copy_in self.now.copies)) (row_of rows.now person) f) }
     {
-        let row = rows.row(person);
-        if row.len() > SHORT {
+        let row = PricedRow::of(rows, person, self.copies.as_slice());
+        if row.arcs.len() > SHORT {
             return None;
         }
-        scan_rising(scale_of(rows.persons()), row, self.copies.as_slice())
+        scan_rising(row)
     }
 
     /// The best arc of a person, where rows lead to rising objects; nothing where he has none.
@@ -44,8 +46,7 @@ impl PersonShard {
         ensures some { IfSome result (λ f. IsScan (value (pos (length rows.now.rows + 1)) (copy_in self.now.copies)) (row_of rows.now person) f) }
         ensures none { IfNone result (row_of rows.now person ≡ []) }
     {
-        let row = rows.row(person);
-        scan_sorted(scale_of(rows.persons()), row, self.copies.as_slice())
+        scan_sorted(PricedRow::of(rows, person, self.copies.as_slice()))
     }
 
     /// The best arc of a person, in one pass over his row; nothing where he has none.
@@ -57,13 +58,11 @@ impl PersonShard {
         ensures none { IfNone result (row_of rows.now person ≡ []) }
         ensures same { self.new ≡ self.old }
     {
-        let row = rows.row(person);
-        let scale = scale_of(rows.persons());
-        let copies = self.copies.as_slice();
-        if row.len() <= SHORT {
-            return scan_of(scale, row, copies);
+        let row = PricedRow::of(rows, person, self.copies.as_slice());
+        if row.arcs.len() <= SHORT {
+            return scan_of(row);
         }
-        let search = scan_from(scale, row, copies, self.hints[person as usize])?;
+        let search = scan_from(row, self.hints[person as usize])?;
         self.hints[person as usize] = search.hint;
         Some(search.scan)
     }
@@ -100,10 +99,8 @@ impl PersonShard {
         requires found { IsScan (value (pos (length rows.now.rows + 1)) (copy_in self.now.copies)) (row_of rows.now person) found }
         ensures { Bids rows.now eps self.now person result.arc result.amount }
     {
-        let copies = self.copies.as_slice();
-        let scale = scale_of(rows.persons());
-        let spread = rows.cost_spread();
-        bid_of(scale, spread, eps, rows.row(person), copies, found)
+        let row = PricedRow::of(rows, person, self.copies.as_slice());
+        bid_of(row, rows.cost_spread(), eps, found)
     }
 
     /// The bid of the person who has been free longest, whose best arc is found, where he has one.

@@ -1,15 +1,12 @@
 //! How a list is made: which arcs it takes, how far it reaches, and when none is made for a while.
 
-ghost use Rattle.std.specs.Prelude.{true, false, ◌≡◌, ◌+◌, ◌<◌, ◌≤◌, ◌^◌, ◌<ℤ◌, ◌≤ℤ◌, [], pos, neg_ℤ, All, length, take};
-ghost use Rattle.auc_graph.specs.Bid.{value};
-ghost use Rattle.auc_graph.specs.Table.{IsRow};
-ghost use Rattle.auc_letters.specs.Price.{IsPrice};
+ghost use Rattle.std.specs.Prelude.{true, false, ◌≡◌, ◌+◌, ◌<◌, ◌≤◌, ◌^◌, ◌<ℤ◌, ◌≤ℤ◌, [], pos, neg_ℤ, length, take};
 ghost use Rattle.auc_persons.specs.Candidates.{Gathered, Keeps};
-ghost use Rattle.auc_persons.specs.Scan.{copy_in, IsValue};
+ghost use Rattle.auc_persons.specs.Scan.{IsValue};
+ghost use Rattle.auc_persons.specs.Priced.{value_in};
 
-use crate::search::value_here;
+use crate::priced_row::PricedRow;
 use crate::shortlist::Shortlist;
-use auc_graph::RowArc;
 
 /// With fewer arcs the next list is to hold more.
 const FEW: u32 = 6;
@@ -59,32 +56,20 @@ impl Shortlist {
 
     /// Takes the arc at a place of a row where it is below a bound, where it has those before; no arc at all where they are too many.
     #[inline(always)]
-    fn take_at(
-        &mut self,
-        scale: i64,
-        row: &[RowArc],
-        copies: &[i64],
-        bound: i64,
-        place: usize,
-    ) -> bool
-        requires scale_low { pos 1 ≤ℤ scale }
-        requires scale_high { scale ≤ℤ pos 10001 }
-        requires row { IsRow (length copies.now) row.now }
-        requires copies { All IsPrice copies.now }
-        requires within { place < length row.now }
-        requires gathered { Gathered (value scale (copy_in copies.now)) (take place row.now) self.old.arcs bound }
-        ensures taken { result ≡ true → Gathered (value scale (copy_in copies.now)) (take (place + 1) row.now) self.new.arcs bound }
+    fn take_at(&mut self, row: PricedRow, bound: i64, place: usize) -> bool
+        requires within { place < length row.arcs.now }
+        requires gathered { Gathered (value_in row) (take place row.arcs.now) self.old.arcs bound }
+        ensures taken { result ≡ true → Gathered (value_in row.entry) (take (place + 1) row.entry.arcs.now) self.new.arcs bound }
         ensures none { result ≡ false → self.new.arcs ≡ [] }
         ensures bound { self.new.bound ≡ self.old.bound }
         ensures person { self.new.person ≡ self.old.person }
     {
-        let arc = row[place];
-        if value_here(scale, arc, copies) < bound {
+        if row.value(place) < bound {
             if self.is_full() {
                 self.clear();
                 return false;
             }
-            self.push(arc);
+            self.push(row.arcs[place]);
         }
         true
     }
@@ -93,23 +78,11 @@ impl Shortlist {
     /// too many.
     // Apart: few blocks come to it, and the pass over the blocks has its registers for itself.
     #[inline(never)]
-    pub(crate) fn take_part(
-        &mut self,
-        scale: i64,
-        row: &[RowArc],
-        copies: &[i64],
-        bound: i64,
-        from: usize,
-        to: usize,
-    ) -> bool
-        requires scale_low { pos 1 ≤ℤ scale }
-        requires scale_high { scale ≤ℤ pos 10001 }
-        requires row { IsRow (length copies.now) row.now }
-        requires copies { All IsPrice copies.now }
+    pub(crate) fn take_part(&mut self, row: PricedRow, bound: i64, from: usize, to: usize) -> bool
         requires order { from ≤ to }
-        requires within { to ≤ length row.now }
-        requires gathered { Gathered (value scale (copy_in copies.now)) (take from row.now) self.old.arcs bound }
-        ensures taken { result ≡ true → Gathered (value scale (copy_in copies.now)) (take to row.now) self.new.arcs bound }
+        requires within { to ≤ length row.arcs.now }
+        requires gathered { Gathered (value_in row) (take from row.arcs.now) self.old.arcs bound }
+        ensures taken { result ≡ true → Gathered (value_in row.entry) (take to row.entry.arcs.now) self.new.arcs bound }
         ensures none { result ≡ false → self.new.arcs ≡ [] }
         ensures bound { self.new.bound ≡ self.old.bound }
         ensures person { self.new.person ≡ self.old.person }
@@ -118,32 +91,28 @@ impl Shortlist {
         // Two arcs a turn: most come to no more than a test, and a turn by itself costs half as much as that.
         for pair in 0..pairs {
             let place = from + 2 * pair;
-            if !self.take_at(scale, row, copies, bound, place) {
+            if !self.take_at(row, bound, place) {
                 return false;
             }
-            if !self.take_at(scale, row, copies, bound, place + 1) {
+            if !self.take_at(row, bound, place + 1) {
                 return false;
             }
         }
         let place = from + 2 * pairs;
         if place < to {
-            return self.take_at(scale, row, copies, bound, place);
+            return self.take_at(row, bound, place);
         }
         true
     }
 
     /// Takes the arcs of a row below a bound; none where they are too many.
-    fn fill(&mut self, scale: i64, row: &[RowArc], copies: &[i64], bound: i64) -> bool
-        requires scale_low { pos 1 ≤ℤ scale }
-        requires scale_high { scale ≤ℤ pos 10001 }
-        requires row { IsRow (length copies.now) row.now }
-        requires copies { All IsPrice copies.now }
+    fn fill(&mut self, row: PricedRow, bound: i64) -> bool
         requires bound { bound ≤ℤ pos (2 ^ 62) }
-        ensures keeps { Keeps (value scale (copy_in copies.now)) row.now self.new.arcs self.new.bound }
+        ensures keeps { Keeps (value_in row.entry) row.entry.arcs.now self.new.arcs self.new.bound }
         ensures person { self.new.person ≡ self.old.person }
     {
         self.begin(bound);
-        self.take_part(scale, row, copies, bound, 0, row.len())
+        self.take_part(row, bound, 0, row.arcs.len())
     }
 
     /// Sets how far above the second the next bound is to lie, by how many arcs this one has taken.
@@ -171,17 +140,13 @@ impl Shortlist {
     }
 
     /// Makes a list that reaches above this second.
-    pub(crate) fn remake(&mut self, scale: i64, row: &[RowArc], copies: &[i64], second: i64)
-        requires scale_low { pos 1 ≤ℤ scale }
-        requires scale_high { scale ≤ℤ pos 10001 }
-        requires row { IsRow (length copies.now) row.now }
-        requires copies { All IsPrice copies.now }
+    pub(crate) fn remake(&mut self, row: PricedRow, second: i64)
         requires second { IsValue second }
-        ensures keeps { Keeps (value scale (copy_in copies.now)) row.now self.new.arcs self.new.bound }
+        ensures keeps { Keeps (value_in row.entry) row.entry.arcs.now self.new.arcs self.new.bound }
         ensures person { self.new.person ≡ self.old.person }
     {
         let bound = self.bound_above(second);
-        let fitted = self.fill(scale, row, copies, bound);
+        let fitted = self.fill(row, bound);
         self.adapt(fitted);
     }
 

@@ -20,27 +20,24 @@ no_bound = record { least = pos 0; person = 0; block = 0 }
 
 pub with_block-search-requires-clause-found : goal.with_block-search-requires-clause-found
 with_block-search-requires-clause-found c =
-    let f1 : FitsSigned w64 c.scale_of-scale.result = search rules in
-    let scale : c.scale_of-scale.result ≡ pos (length c.args.rows.now.rows + 1) = c.scale_of-scale.ensures.is ∙ ap (λ n. pos (n + 1)) c.persons.ensures.persons in
-    simp to_z-of_z (rw (scale, c.row-row.ensures.row) c.loop-block.invariant.found)
+    let scale : c.of-row.result.scale ≡ pos (length c.args.rows.now.rows + 1) = c.of-row.ensures.scale in
+    rw (scale, c.of-row.ensures.copies, c.of-row.ensures.arcs) c.loop-block.invariant.found
 
 pub with_block-search-requires-clause-least : goal.with_block-search-requires-clause-least
 with_block-search-requires-clause-least c =
-    let f1 : FitsSigned w64 c.scale_of-scale.result = search rules in
     let f2 : FitsSigned w64 c.least_of-least.result = search rules in
-    simp to_z-of_z (simp to_z-of_z at c.least_of-least.ensures)
+    simp to_z-of_z c.least_of-least.ensures
 
 pub returns-clause-some : goal.returns-clause-some
 returns-clause-some c =
     let t = c.args.rows.now in
     let row = row_of t c.args.blocked.person in
     let inv = c.loop-block.invariant in
-    let len = ap length c.row-row.ensures.row in
+    let len = ap length c.of-row.ensures.arcs in
     whole (value (pos (length t.rows + 1)) (copy_in c.args.copies.now)) row c.loop-block.search.scan inv.found (λ k d lt. inv.covered k d (omega (arith, c.loop-block-test.false, len, lt)) lt)
 
 pub loop-block-preserved : goal.loop-block-preserved
 loop-block-preserved c =
-    let f1 : FitsSigned w64 c.scale_of-scale.result = search rules in
     let t = c.args.rows.now in
     let made = c.args._made.now.value in
     let copies = c.args.copies.now in
@@ -49,9 +46,9 @@ loop-block-preserved c =
     let val = value (pos (length t.rows + 1)) (copy_in copies) in
     let block = c.loop-block.block in
     let inv = c.loop-block.invariant in
-    let len = ap length c.row-row.ensures.row in
-    let scale : c.scale_of-scale.result ≡ pos (length t.rows + 1) = c.scale_of-scale.ensures.is ∙ ap (λ n. pos (n + 1)) c.persons.ensures.persons in
-    let sound = rw (c.row-row.ensures.row, c.requires.objects) at c.row-row.ensures.sound in
+    let len = ap length c.of-row.ensures.arcs in
+    let scale : c.of-row.result.scale ≡ pos (length t.rows + 1) = c.of-row.ensures.scale in
+    let sound = rw (c.of-row.ensures.arcs, c.of-row.ensures.copies) at c.of-row.result.is_row in
     let rises : Rises row = sound.rising in
     let within : 16 * block ≤ length row = omega (arith, c.loop-block-test.true, len, c.requires.long) in
     let few : block < 4294967295 = omega (arith, within, sound.few) in
@@ -62,10 +59,10 @@ loop-block-preserved c =
       | then-not-is_above w ↦ (
           let one = w.with_block-search in
           let f2 : FitsSigned w64 w.least_of-least.result = search rules in
-          let found = rw (scale, c.row-row.ensures.row) at (simp to_z-of_z at one.ensures.found) in
-          let kept = rw scale at (simp to_z-of_z at one.ensures.kept) in
-          let covered = rw (scale, c.row-row.ensures.row) at (simp to_z-of_z at one.ensures.covered) in
-          let least = rw (scale, c.row-row.ensures.row) at (simp to_z-of_z at w.least_of-least.ensures) in
+          let found = rw (scale, c.of-row.ensures.copies, c.of-row.ensures.arcs) at one.ensures.found in
+          let kept = rw (scale, c.of-row.ensures.copies) at one.ensures.kept in
+          let covered = rw (scale, c.of-row.ensures.copies, c.of-row.ensures.arcs) at one.ensures.covered in
+          let least = rw (scale, c.of-row.ensures.copies, c.of-row.ensures.arcs) at w.least_of-least.ensures in
           let new : Bound = record { least = w.least_of-least.result; person = person; block = block } in
           let right : P new = bound_is made t copies new few c.requires.same within rises (λ k d low lt below. least k d (omega (arith, low)) (omega (arith, lt)) below) in
           rw (simp to_z-of_z at w.bounds-is, w.search-is) (record {
@@ -84,7 +81,7 @@ loop-block-preserved c =
           rw (w.bounds-is, w.search-is) (record {
             found = inv.found;
             limit = inv.limit;
-            covered = λ k d lt below. covered_block val row c.loop-block.search.scan block k d (λ before. inv.covered k d before below) (λ low high. covered_above (pos (length t.rows + 1)) copies row c.loop-block.search.scan c.loop-block.search.limit b.least k d (rw (← scale) c.scale_of-scale.ensures.low) (rw (← scale) c.scale_of-scale.ensures.high) sound c.requires.copies inv.found inv.limit e.0 (says k d low high below) below) lt;
+            covered = λ k d lt below. covered_block val row c.loop-block.search.scan block k d (λ before. inv.covered k d before below) (λ low high. covered_above (pos (length t.rows + 1)) copies row c.loop-block.search.scan c.loop-block.search.limit b.least k d (rw (← scale) c.of-row.result.scale_low) (rw (← scale) c.of-row.result.scale_high) sound c.requires.copies inv.found inv.limit e.0 (says k d low high below) below) lt;
             right = inv.right;
             length = inv.length;
           })

@@ -7,24 +7,20 @@ use Rattle.auc_persons.proofs.bounded.with_block.Goals as goal
 -- none of the arcs is at the limit or below
 pub returns-then-least-begun-clause-covered : goal.returns-then-least-begun-clause-covered
 returns-then-least-begun-clause-covered c =
-    let f1 : FitsSigned w64 c.args.scale = c.ranges.scale in
     let f2 : FitsSigned w64 c.args.least = c.ranges.least in
     let f3 : FitsSigned w64 c.args.begun.limit = search rules in
     let r = c.requires in
-    λ k d low high below. covered_above c.args.scale c.args.copies.now c.args.row.now c.args.begun.scan c.args.begun.limit c.args.least k d r.scale_low r.scale_high r.row r.copies r.found r.limit (omega (arith, ints, c.if-least-begun.true)) (r.least k d low high below) below
+    λ k d low high below. covered_above c.args.row.scale c.args.row.copies.now c.args.row.arcs.now c.args.begun.scan c.args.begun.limit c.args.least k d c.args.row.scale_low c.args.row.scale_high c.args.row.is_row c.args.row.are_prices r.found r.limit (omega (arith, ints, c.if-least-begun.true)) (r.least k d low high below) below
 
 pub returns-clause-covered : goal.returns-clause-covered
 returns-clause-covered c =
-    let f1 : FitsSigned w64 c.args.scale = c.ranges.scale in
-    let all = simp to_z-of_z at c.with_part.ensures.covered in
+    let all = c.with_part.ensures.covered in
     λ k d low high below. all k d low (omega (arith, low, c.lesser.ensures.least (k - c.args.from) (omega (arith, low, high)) (omega (arith, low, below))))
 
 pub returns-clause-found : goal.returns-clause-found
 returns-clause-found c =
-    let f1 : FitsSigned w64 c.args.scale = c.ranges.scale in
-    simp to_z-of_z at c.with_part.ensures.found
+    c.with_part.ensures.found
 
 pub returns-clause-kept : goal.returns-clause-kept
 returns-clause-kept c =
-    let f1 : FitsSigned w64 c.args.scale = c.ranges.scale in
-    simp to_z-of_z at c.with_part.ensures.kept
+    c.with_part.ensures.kept

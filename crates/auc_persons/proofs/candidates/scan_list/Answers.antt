@@ -12,19 +12,17 @@ returns-then-person-clause-kept c =
     let lt : c.args.place < length c.args.lists.now = omega (arith, c.if-place-lists.false) in
     All-set P c.args.lists.now c.args.place (get_or c.args.lists.now c.args.place c.index-lists-place.result) (All-get_or P c.args.lists.now c.args.place c.index-lists-place.result lt c.requires.kept) c.requires.kept
 
-pub scan-requires-clause-keeps : goal.scan-requires-clause-keeps
-scan-requires-clause-keeps c =
-    let f1 : FitsSigned w64 c.scale_of-scale.result = search rules in
+pub scan-requires : goal.scan-requires
+scan-requires c =
     let P = KeepsListed c.args.rows.now c.args.copies.now in
     let lt : c.args.place < length c.args.lists.now = omega (arith, c.if-place-lists.false) in
     let here = All-get_or P c.args.lists.now c.args.place c.index-lists-place.result lt c.requires.kept in
-    let scale = c.scale_of-scale.ensures.is ∙ ap (λ n. pos (n + 1)) c.persons.ensures.persons in
-    simp to_z-of_z (keeps_at c.args.rows.now c.args.copies.now (get_or c.args.lists.now c.args.place c.index-lists-place.result) c.args.person c.scale_of-scale.result c.row-row.result.now here (omega (arith, c.person.ensures)) scale c.row-row.ensures.row)
+    let scale = c.of-row.ensures.scale in
+    record { keeps = rw c.of-row.ensures.copies (keeps_at c.args.rows.now c.args.copies.now (get_or c.args.lists.now c.args.place c.index-lists-place.result) c.args.person c.of-row.result.scale c.of-row.result.arcs.now here (omega (arith, c.person.ensures)) scale c.of-row.ensures.arcs) }
 
 pub returns-clause-kept : goal.returns-clause-kept
 returns-clause-kept c =
-    let f1 : FitsSigned w64 c.scale_of-scale.result = search rules in
     let P = KeepsListed c.args.rows.now c.args.copies.now in
-    let scale = c.scale_of-scale.ensures.is ∙ ap (λ n. pos (n + 1)) c.persons.ensures.persons in
-    let keeps = simp to_z-of_z at c.scan.ensures.keeps in
-    All-set P c.args.lists.now c.args.place c.scan.new.self (keeps_back c.args.rows.now c.args.copies.now c.scan.new.self c.args.person c.scale_of-scale.result c.row-row.result.now keeps (omega (arith, c.person.ensures, c.scan.ensures.person)) scale c.row-row.ensures.row) c.requires.kept
+    let scale = c.of-row.ensures.scale in
+    let keeps = rw c.of-row.ensures.copies at (c.scan.ensures.keeps) in
+    All-set P c.args.lists.now c.args.place c.scan.new.self (keeps_back c.args.rows.now c.args.copies.now c.scan.new.self c.args.person c.of-row.result.scale c.of-row.result.arcs.now keeps (omega (arith, c.person.ensures, c.scan.ensures.person)) scale c.of-row.ensures.arcs) c.requires.kept

@@ -9,7 +9,7 @@ use Rattle.auc_persons.specs.Blocks.{of_bound}
 use Rattle.auc_persons.specs.Candidates.{KeepsListed}
 use Rattle.auc_persons.specs.Scan.{copy_in}
 use Rattle.auc_persons.proofs.BlockBounds.{bound_is, bound_says}
-use Rattle.auc_persons.proofs.Found.{no_arc}
+use Rattle.auc_persons.specs.Priced.{no_arc}
 use Rattle.auc_persons.proofs.SameRows.{Rises}
 use Rattle.auc_persons.proofs.Shortlists.{gathered_keeps, gathered_to}
 use Rattle.auc_persons.proofs.listing.fill_by_blocks.Goals as goal
@@ -20,16 +20,14 @@ no_bound = record { least = pos 0; person = 0; block = 0 }
 
 pub take_block-requires-clause-gathered : goal.take_block-requires-clause-gathered
 take_block-requires-clause-gathered c =
-    let f1 : FitsSigned w64 c.scale_of-scale.result = search rules in
     let f5 : FitsSigned w64 c.args.bound = c.ranges.bound in
-    let scale : c.scale_of-scale.result ≡ pos (length c.args.rows.now.rows + 1) = c.scale_of-scale.ensures.is ∙ ap (λ n. pos (n + 1)) c.persons.ensures.persons in
+    let scale : c.of-row.result.scale ≡ pos (length c.args.rows.now.rows + 1) = c.of-row.ensures.scale in
     let at : c.loop-block.block * 16 ≡ 16 * c.loop-block.block = omega arith in
     let inv = simp to_z-of_z at c.loop-block.invariant in
-    simp to_z-of_z (rw (scale, c.row-row.ensures.row, at) inv.gathered)
+    simp to_z-of_z (rw (scale, c.of-row.ensures.copies, c.of-row.ensures.arcs, at) inv.gathered)
 
 pub returns-then-not-take_block-clause-right : goal.returns-then-not-take_block-clause-right
 returns-then-not-take_block-clause-right c =
-    let f1 : FitsSigned w64 c.scale_of-scale.result = search rules in
     let f2 : FitsSigned w64 c.least_of-least.result = search rules in
     let t = c.args.rows.now in
     let made = c.args._made.now.value in
@@ -38,11 +36,11 @@ returns-then-not-take_block-clause-right c =
     let row = row_of t person in
     let block = c.loop-block.block in
     let inv = c.loop-block.invariant in
-    let len = ap length c.row-row.ensures.row in
-    let scale : c.scale_of-scale.result ≡ pos (length t.rows + 1) = c.scale_of-scale.ensures.is ∙ ap (λ n. pos (n + 1)) c.persons.ensures.persons in
-    let sound = rw (c.row-row.ensures.row, c.requires.objects) at c.row-row.ensures.sound in
+    let len = ap length c.of-row.ensures.arcs in
+    let scale : c.of-row.result.scale ≡ pos (length t.rows + 1) = c.of-row.ensures.scale in
+    let sound = rw (c.of-row.ensures.arcs, c.of-row.ensures.copies) at c.of-row.result.is_row in
     let within : 16 * block ≤ length row = omega (arith, c.loop-block-test.true, len, c.requires.long) in
-    let least = rw (scale, c.row-row.ensures.row) at (simp to_z-of_z at c.least_of-least.ensures) in
+    let least = rw (scale, c.of-row.ensures.copies, c.of-row.ensures.arcs) at c.least_of-least.ensures in
     let P : Bound → Type 0 = λ b. KeepsListed t copies (of_bound made b) in
     let new : Bound = record { least = c.least_of-least.result; person = person; block = block } in
     let right : P new = bound_is made t copies new (omega (arith, within, sound.few)) c.requires.same within sound.rising (λ k d low lt below. least k d (omega (arith, low)) (omega (arith, lt)) below) in
@@ -54,13 +52,12 @@ returns-clause-keeps c =
     let t = c.args.rows.now in
     let row = row_of t c.args.blocked.person in
     let inv = simp to_z-of_z at c.loop-block.invariant in
-    let len = ap length c.row-row.ensures.row in
+    let len = ap length c.of-row.ensures.arcs in
     let b = inv.bound in
     rw b (gathered_keeps (value (pos (length t.rows + 1)) (copy_in c.args.copies.now)) row c.loop-block.list.arcs c.args.bound (16 * c.loop-block.block) (omega (arith, c.loop-block-test.false, len)) inv.gathered)
 
 pub loop-block-preserved : goal.loop-block-preserved
 loop-block-preserved c =
-    let f1 : FitsSigned w64 c.scale_of-scale.result = search rules in
     let f5 : FitsSigned w64 c.args.bound = c.ranges.bound in
     let f6 : FitsSigned w64 (c.args.bound -ℤ pos 1) = omega (arith, ints, c.requires.low, c.requires.high) in
     let t = c.args.rows.now in
@@ -71,9 +68,9 @@ loop-block-preserved c =
     let val = value (pos (length t.rows + 1)) (copy_in copies) in
     let block = c.loop-block.block in
     let inv = simp to_z-of_z at c.loop-block.invariant in
-    let len = ap length c.row-row.ensures.row in
-    let scale : c.scale_of-scale.result ≡ pos (length t.rows + 1) = c.scale_of-scale.ensures.is ∙ ap (λ n. pos (n + 1)) c.persons.ensures.persons in
-    let sound = rw (c.row-row.ensures.row, c.requires.objects) at c.row-row.ensures.sound in
+    let len = ap length c.of-row.ensures.arcs in
+    let scale : c.of-row.result.scale ≡ pos (length t.rows + 1) = c.of-row.ensures.scale in
+    let sound = rw (c.of-row.ensures.arcs, c.of-row.ensures.copies) at c.of-row.result.is_row in
     let rises : Rises row = sound.rising in
     let within : 16 * block ≤ length row = omega (arith, c.loop-block-test.true, len, c.requires.long) in
     let few : block < 4294967295 = omega (arith, within, sound.few) in
@@ -83,11 +80,11 @@ loop-block-preserved c =
     elim c.if-not-is_above.branch [
       | then-not-is_above+else-not-take_block w ↦ (
           let f2 : FitsSigned w64 w.least_of-least.result = search rules in
-          let least = rw (scale, c.row-row.ensures.row) at (simp to_z-of_z at w.least_of-least.ensures) in
+          let least = rw (scale, c.of-row.ensures.copies, c.of-row.ensures.arcs) at w.least_of-least.ensures in
           let new : Bound = record { least = w.least_of-least.result; person = person; block = block } in
           let right : P new = bound_is made t copies new few c.requires.same within rises (λ k d low lt below. least k d (omega (arith, low)) (omega (arith, lt)) below) in
           let took = w.if-not-take_block.ensures in
-          let taken = rw (scale, c.row-row.ensures.row) at (simp to_z-of_z at (took.taken refl)) in
+          let taken = rw (scale, c.of-row.ensures.copies, c.of-row.ensures.arcs) at (simp to_z-of_z at (took.taken refl)) in
           let next : block * 16 + 16 ≡ 16 * (block + 1) = omega arith in
           rw (simp to_z-of_z at w.bounds-is, w.list-is) (simp to_z-of_z (record {
             gathered = rw next at taken;

@@ -1,7 +1,7 @@
-use Rattle.std.proofs.Common.{◌+◌, take}
-use Rattle.auc_graph.specs.Bid.{value}
-use Rattle.auc_persons.specs.Scan.{IsScan, copy_in}
+use Rattle.std.proofs.Common.{take}
+use Rattle.auc_persons.specs.Priced.{value_in}
+use Rattle.auc_persons.specs.Scan.{IsScan}
 use Rattle.auc_persons.proofs.scan.scan_of.Given as goal
 
-abbrev pub invariant-loop-arc : goal.invariant-loop-arc
-invariant-loop-arc l = IsScan (value l.scale (copy_in l.copies)) (take (l.arc-index + 1) l.row) l.scan
+abbrev pub invariant-loop-place : goal.invariant-loop-place
+invariant-loop-place l = IsScan (value_in l.row) (take l.place l.row.arcs.now) l.scan

@@ -5,7 +5,6 @@ use Rattle.auc_persons.proofs.shortlist.Shortlist.take_part.Goals as goal
 
 pub loop-pair-preserved : goal.loop-pair-preserved
 loop-pair-preserved c =
-    let f1 : FitsSigned w64 c.args.scale = c.ranges.scale in
     let f5 : FitsSigned w64 c.args.bound = c.ranges.bound in
     let inv = simp to_z-of_z at c.loop-pair.invariant in
     let one = simp to_z-of_z at c.if-not-take_at.ensures in
@@ -25,7 +24,6 @@ take_at-requires-then-place-to-clause-gathered c =
 
 pub returns-then-place-to-clause-taken : goal.returns-then-place-to-clause-taken
 returns-then-place-to-clause-taken c took =
-    let f1 : FitsSigned w64 c.args.scale = c.ranges.scale in
     let f5 : FitsSigned w64 c.args.bound = c.ranges.bound in
     let last = simp to_z-of_z at c.take_at-then-place-to.ensures.taken in
     let at : c.args.from + 2 * ((c.args.to - c.args.from) / 2) + 1 ≡ c.args.to = omega (arith, c.if-place-to.true) in
@@ -33,7 +31,6 @@ returns-then-place-to-clause-taken c took =
 
 pub returns-clause-taken : goal.returns-clause-taken
 returns-clause-taken c _ =
-    let f1 : FitsSigned w64 c.args.scale = c.ranges.scale in
     let f5 : FitsSigned w64 c.args.bound = c.ranges.bound in
     let inv = simp to_z-of_z at c.loop-pair.invariant in
     let all : c.loop-pair.pair ≡ (c.args.to - c.args.from) / 2 = omega (arith, c.loop-pair-test.false, c.loop-pair.auto.pair-end) in

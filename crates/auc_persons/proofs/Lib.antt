@@ -5,6 +5,9 @@ pub mod Parts
 pub mod KeptBlocks
 pub mod BlockBounds
 pub mod SameRows
+pub mod SortedScans
+pub mod SortingLaws
+pub mod ShortRows
 pub mod Shortlists
 pub mod Amounts
 pub mod Bounds

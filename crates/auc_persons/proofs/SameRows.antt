@@ -1,5 +1,5 @@
--- Two rows that rise, one of which has the other's arcs, and as many of them, are one row.
-use Rattle.std.proofs.Common.{◌≡◌, ℕ, ◌+◌, ◌-◌, ◌<◌, ◌≤◌, ◌⊎◌, inl, inr, List, length, get_or, ap, sym, ◌∙◌, arith, zero, suc}
+-- Two rows that rise, one of which has the other's arcs, and as many of them, are one row; so are two that have each other's arcs.
+use Rattle.std.proofs.Common.{◌≡◌, ℕ, ◌+◌, ◌-◌, ◌<◌, ◌≤◌, ◌⊎◌, inl, inr, List, length, get_or, ap, sym, ◌∙◌, arith, refl, zero, suc}
 use Rattle.std.specs.Prelude.{All, AllPairs, Contains}
 use Rattle.std.proofs.lemmas.Bool.{cases_lt}
 use Rattle.std.proofs.lemmas.List.{get_or_default, same_lists}
@@ -26,7 +26,7 @@ order row p q rises p_lt q_lt lt = by (cases_lt p q) (cases_lt q p)
 found : (row other : List RowArc) (i : ℕ) → All (Contains row) other → i < length other → (q : ℕ) × (q < length row) × (get_or row q no_arc ≡ get_or other i no_arc)
 found row other i members lt = let m = members i no_arc lt in (m.0, m.1, get_or_default row m.0 no_arc (get_or other i no_arc) m.1 ∙ m.2)
 
-module _ (row other : List RowArc) (rises : Rises row) (also : Rises other) (members : All (Contains row) other) (same : length other ≡ length row) where
+module _ (row other : List RowArc) (rises : Rises row) (also : Rises other) (members : All (Contains row) other) where
   -- of two arcs of the other row, the earlier one stands earlier in this row too
   in_order : (i j p q : ℕ) → i < j → j < length other → p < length row → q < length row → get_or row p no_arc ≡ get_or other i no_arc → get_or row q no_arc ≡ get_or other j no_arc → p < q
   in_order i j p q lt j_lt p_lt q_lt p_is q_is =
@@ -43,22 +43,41 @@ module _ (row other : List RowArc) (rises : Rises row) (also : Rises other) (mem
       let before = in_order i (suc i) f.0 p (omega arith) lt f.1 there f.2 is in
       omega (arith, le, before)
 
+  -- so there are no more of them
+  pub no_longer : length other ≤ length row
+  no_longer = by (length other) refl
+    where
+      by : (n : ℕ) → n ≡ length other → length other ≤ length row
+      by zero e = omega (arith, e)
+      by (suc n) e =
+          let f = found row other n members (omega (arith, e)) in
+          let le = no_earlier n f.0 (omega (arith, e)) f.1 f.2 in
+          let lt = f.1 in
+          omega (arith, e, le, lt)
+
+module _ (row other : List RowArc) (rises : Rises row) (also : Rises other) (members : All (Contains row) other) (same : length other ≡ length row) where
   no_later : (left i p : ℕ) → i + left + 1 ≡ length other → p < length row → get_or row p no_arc ≡ get_or other i no_arc → p ≤ i
   no_later zero i p e there is = omega (arith, e, there, same)
   no_later (suc left) i p e there is =
       let lt : suc i < length other = omega (arith, e) in
       let f = found row other (suc i) members lt in
       let le = no_later left (suc i) f.0 (omega (arith, e)) f.1 f.2 in
-      let before = in_order i (suc i) p f.0 (omega arith) lt there f.1 is f.2 in
+      let before = in_order row other rises also members i (suc i) p f.0 (omega arith) lt there f.1 is f.2 in
       omega (arith, le, before)
 
   at : (i : ℕ) (d : RowArc) → i < length other → get_or other i d ≡ get_or row i d
   at i d lt =
       let f = found row other i members lt in
-      let low = no_earlier i f.0 lt f.1 f.2 in
+      let low = no_earlier row other rises also members i f.0 lt f.1 f.2 in
       let high = no_later (length other - i - 1) i f.0 (omega (arith, lt)) f.1 f.2 in
       let e : f.0 ≡ i = omega (arith, low, high) in
       get_or_default other i d no_arc lt ∙ sym f.2 ∙ ap (λ n. get_or row n no_arc) e ∙ get_or_default row i no_arc d (omega (arith, lt, same))
 
   pub same_row : other ≡ row
   same_row = same_lists other row same at
+
+pub same_by_members : (row other : List RowArc) → Rises row → Rises other → All (Contains row) other → All (Contains other) row → other ≡ row
+same_by_members row other rises also members back =
+    let few = no_longer row other rises also members in
+    let many = no_longer other row also rises back in
+    same_row row other rises also members (omega (arith, few, many))

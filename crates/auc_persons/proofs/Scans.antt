@@ -4,7 +4,7 @@ use Rattle.std.specs.Prelude.{Bool, true, false, ℤ, ◌≤ℤ◌, ◌<ℤ◌, 
 use Rattle.std.proofs.lemmas.Int.{ints, by_lt_z}
 use Rattle.std.proofs.lemmas.Bool.{cases_eq, cases_lt}
 use Rattle.std.proofs.lemmas.List.{get_or-take, get_or_default, take_more, length-take, take_all}
-use Rattle.std.proofs.Common.{get_or, ◌+◌, take, length, add-one}
+use Rattle.std.proofs.Common.{get_or, ◌+◌, take, length}
 use Rattle.std.proofs.lemmas.List.Elements.{All-nil, All-push, All-weaker, Contains-push, Contains-append_left}
 use Rattle.auc_graph.specs.declared.rows.RowArc.{RowArc}
 use Rattle.auc_persons.specs.declared.scan.Scan.{Scan}

@@ -94,7 +94,7 @@ gathered_out val seen arcs bound a g out = record {
 }
 
 -- all that were seen come before
-all_before : (row : List RowArc) (i : ℕ) → AllPairs (λ x y. x.arc < y.arc) row → i < length row → All (λ x. x.arc < (get_or row i no_arc).arc) (take i row)
+pub all_before : (row : List RowArc) (i : ℕ) → AllPairs (λ x y. x.arc < y.arc) row → i < length row → All (λ x. x.arc < (get_or row i no_arc).arc) (take i row)
 all_before row i order lt = All-from_get_or (λ x. x.arc < (get_or row i no_arc).arc) (take i row) no_arc (λ k below.
     let k_lt : k < i = omega (arith, length-take i row, below) in
     rw (get_or-take i row k no_arc k_lt) (order k i no_arc k_lt lt))

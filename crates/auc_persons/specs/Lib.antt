@@ -4,4 +4,5 @@ pub mod Priced
 pub mod Search
 pub mod Candidates
 pub mod Blocks
+pub mod Short
 pub mod Persons

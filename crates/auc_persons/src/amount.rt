@@ -49,7 +49,7 @@ pub(crate) fn scaled(scale: i64, spread: i64) -> i64
 }
 
 /// What is bid: an amount, in scaled costs, and the arc that it is bid by.
-#[derive(Clone, Copy, Debug, PartialEq, Eq)]
+#[derive(Clone, Copy)]
 pub(crate) struct Bid {
     pub(crate) amount: i64,
     pub(crate) arc: RowArc,

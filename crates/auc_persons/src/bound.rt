@@ -10,7 +10,7 @@ pub(crate) const BLOCK: usize = 16;
 const NOWHERE: u32 = 4294967295;
 
 /// A value that no arc of a block is below: a person's block of this number.
-#[derive(Clone, Copy, Debug, PartialEq, Eq)]
+#[derive(Clone, Copy)]
 pub(crate) struct Bound {
     pub least: i64,
     pub person: u32,
@@ -35,7 +35,7 @@ impl Bound {
 }
 
 /// A person, how many arcs he has, where the bounds of his blocks begin, and the arcs that decided his last bid.
-#[derive(Clone, Copy, Debug, PartialEq, Eq)]
+#[derive(Clone, Copy)]
 pub(crate) struct Blocked {
     pub person: u32,
     pub arcs: u32,

@@ -3,6 +3,7 @@
 ghost use Rattle.std.specs.Prelude.{◌≡◌, ◌<◌, ◌+◌, ◌↔◌, [], List, ℤ, pos, length, All, IfOk, IfSome, IsTrue};
 ghost use Rattle.auc_graph.specs.Bid.{value};
 ghost use Rattle.auc_graph.specs.Table.{Table, row_of};
+ghost use Rattle.auc_persons.specs.Blocks.{or_none};
 ghost use Rattle.auc_persons.specs.Candidates.{Kept, Listed};
 ghost use Rattle.auc_persons.specs.Persons.{Rising};
 ghost use Rattle.auc_persons.specs.Scan.{copy_in, IsScan};
@@ -13,6 +14,7 @@ use crate::blocks::Blocks;
 use crate::method::SHORT;
 use crate::priced_row::PricedRow;
 use crate::scan::{Scan, scale_of};
+use crate::short::ShortRows;
 use crate::shortlist::Shortlist;
 use auc_graph::Rows;
 use std::alloc::{AllocError, Global};
@@ -28,6 +30,8 @@ pub struct Candidates {
     lists: Vec<Shortlist>,
     // Where some row is long enough for blocks.
     blocks: Option<Blocks>,
+    // What is known of the short rows.
+    short: Option<ShortRows>,
 }
 
 impl Model for Candidates {
@@ -37,7 +41,7 @@ impl Model for Candidates {
 
     ghost Value = { List Listed };
 
-    ghost view = { λ c. c.lists.items ++ or_none c.blocks };
+    ghost view = { λ c. c.lists.items ++ (or_none c.blocks ++ or_none c.short) };
 }
 
 /// Whether some row is so long that lists serve it. O(persons).
@@ -90,6 +94,64 @@ fn scan_list(
     list.scan(row)
 }
 
+/// Empty lists for the persons of shard number `shard` of `of`; none where no row is long.
+fn lists_of(alloc: Global, rows: &Rows, shard: u32, of: u32) -> Result<Vec<Shortlist>, AllocError>
+    requires { shard < of }
+    ensures kept { IfOk result (λ v. (copies : List ℤ) → Kept rows.now copies v.items) }
+{
+    if !has_long_row(rows) {
+        return Ok(Vec::new(alloc));
+    }
+    let persons = rows.persons();
+    let mut lists = Vec::with_capacity(alloc, (persons / of) as usize + 1)?;
+    for person in 0..persons {
+        if person % of == shard {
+            lists.push(Shortlist::new(person, first_delta(rows, person)))?;
+        }
+    }
+    Ok(lists)
+}
+
+/// Whether there are no blocks.
+fn has_no_blocks(blocks: &Option<Blocks>) -> bool
+    ensures { IsTrue result ↔ (or_none blocks.now ≡ []) }
+{
+    match blocks {
+        Some(blocks) => blocks.is_empty(),
+        None => true,
+    }
+}
+
+/// Whether nothing is known of short rows.
+fn knows_nothing(short: &Option<ShortRows>) -> bool
+    ensures { IsTrue result ↔ (or_none short.now ≡ []) }
+{
+    match short {
+        Some(short) => short.is_empty(),
+        None => true,
+    }
+}
+
+/// The best arc of a person whose row is short and known.
+#[inline(always)]
+fn scan_short_row(
+    short: &Option<ShortRows>,
+    rows: &Rows,
+    person: u32,
+    copies: &[i64],
+) -> Option<Scan>
+    requires person { person < length rows.now.rows }
+    requires objects { rows.now.objects ≡ length copies.now }
+    requires copies { All IsPrice copies.now }
+    requires kept { Kept rows.now copies.now (or_none short.now) }
+    ensures { IfSome result (IsScan (value (pos (length rows.now.rows + 1)) (copy_in copies.now)) (row_of rows.now person)) }
+{
+    match short {
+        Some(short) => short.best(rows, person, copies),
+        None => None,
+    }
+}
+
 impl Candidates {
     /// No lists. Takes no memory.
     pub fn none(alloc: Global) -> Candidates
@@ -98,6 +160,7 @@ impl Candidates {
         Candidates {
             lists: Vec::new(alloc),
             blocks: None,
+            short: None,
         }
     }
 
@@ -113,28 +176,27 @@ impl Candidates {
         requires { shard < of }
         ensures kept { IfOk result (λ c. (copies : List ℤ) → Kept rows.now copies c) }
     {
-        if !has_long_row(rows) {
-            return Ok(Candidates::none(alloc));
-        }
-        let persons = rows.persons();
-        let mut lists = Vec::with_capacity(alloc, (persons / of) as usize + 1)?;
-        for person in 0..persons {
-            if person % of == shard {
-                lists.push(Shortlist::new(person, first_delta(rows, person)))?;
-            }
-        }
+        let lists = lists_of(alloc, rows, shard, of)?;
         let blocks = Blocks::make(alloc, rows, shard, of)?;
-        Ok(Candidates { lists, blocks })
+        let short = ShortRows::make(alloc, rows, shard, of)?;
+        Ok(Candidates {
+            lists,
+            blocks,
+            short: Some(short),
+        })
     }
 
     /// Whether there are no lists. O(1).
     pub fn is_empty(&self) -> bool
         ensures { IsTrue result ↔ (self.now ≡ []) }
     {
-        let Some(blocks) = &self.blocks else {
-            return self.lists.is_empty();
-        };
-        self.lists.is_empty() && blocks.is_empty()
+        if !self.lists.is_empty() {
+            return false;
+        }
+        if !has_no_blocks(&self.blocks) {
+            return false;
+        }
+        knows_nothing(&self.short)
     }
 
     /// The best arc of a person, by his list where that tells it, and else by his blocks where he has some, which make the list of
@@ -154,6 +216,9 @@ impl Candidates {
         ensures some { IfSome result (λ f. IsScan (value (pos (length rows.now.rows + 1)) (copy_in copies.now)) (row_of rows.now person) f) }
         ensures kept { Kept rows.now copies.now self.new }
     {
+        if let Some(scan) = scan_short_row(&self.short, rows, person, copies) {
+            return Some(scan);
+        }
         let lists = self.lists.as_mut_slice();
         if let Some(scan) = scan_list(lists, rows, person, place, copies) {
             return Some(scan);

@@ -25,8 +25,11 @@ mod rising;
 mod scan;
 mod search;
 mod shard;
+mod short;
 mod shortlist;
 mod sorted;
+mod sorted_row;
+mod sorting;
 
 pub use auc_letters::PersonState;
 pub use bidding::{Bidding, PersonFault};

@@ -9,7 +9,7 @@ use crate::priced_row::PricedRow;
 use auc_graph::{MOST_PERSONS, RowArc};
 
 /// The best arc so far, its value, and the least value of arcs to other objects (the greatest number where there is none).
-#[derive(Clone, Copy, Debug, PartialEq, Eq)]
+#[derive(Clone, Copy)]
 pub(crate) struct Scan {
     pub value: i64,
     pub second: i64,

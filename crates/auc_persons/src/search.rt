@@ -13,7 +13,7 @@ use crate::scan::Scan;
 use auc_graph::RowArc;
 
 /// The places in a person's row of the two arcs that decided his last bid. Any two places are right.
-#[derive(Clone, Copy, Debug, PartialEq, Eq)]
+#[derive(Clone, Copy)]
 pub(crate) struct Hint {
     pub best: u32,
     pub next: u32,
@@ -25,7 +25,7 @@ impl Hint {
 }
 
 /// What is found so far, and where in the row the two arcs stand that decide it.
-#[derive(Clone, Copy, Debug, PartialEq, Eq)]
+#[derive(Clone, Copy)]
 pub(crate) struct Search {
     pub scan: Scan,
     // An arc of a value above this changes nothing.

@@ -1,6 +1,6 @@
 //! What a shard of the persons bids next.
 
-ghost use Rattle.std.specs.Prelude.{◌≡◌, ◌≢◌, ◌<◌, ◌+◌, [], pos, length, IfSome, IfNone, IsTrue, ◌↔◌};
+ghost use Rattle.std.specs.Prelude.{◌≡◌, ◌≢◌, ◌⊎◌, ◌<◌, ◌+◌, [], pos, length, IfSome, IfNone, IsTrue, ◌↔◌};
 ghost use Rattle.auc_graph.specs.Bid.{value};
 ghost use Rattle.auc_graph.specs.Table.{row_of};
 ghost use Rattle.auc_letters.specs.Price.{IsEps};
@@ -18,7 +18,7 @@ use crate::rising::scan_rising;
 use crate::scan::{Scan, scan_of};
 use crate::search::scan_from;
 use crate::shard::PersonShard;
-use crate::sorted::scan_sorted;
+use crate::sorted_row::SortedRow;
 use auc_graph::Rows;
 use auc_letters::{Letter, MOST_PRICE, Out, To, Why, shard_of};
 
@@ -37,16 +37,20 @@ impl PersonShard {
         scan_rising(row)
     }
 
-    /// The best arc of a person, where rows lead to rising objects; nothing where he has none.
+    /// The best arc of a person, where short rows lead to rising objects; nothing where he has none, or his row isn't short.
     #[inline(always)]
     fn best_sorted(&self, rows: &Rows, person: u32) -> Option<Scan>
         requires rows { IsMadeFor rows.now self.now }
         requires rising { AreRising rows.now }
         requires person { person < length self.now.states }
         ensures some { IfSome result (λ f. IsScan (value (pos (length rows.now.rows + 1)) (copy_in self.now.copies)) (row_of rows.now person) f) }
-        ensures none { IfNone result (row_of rows.now person ≡ []) }
+        ensures none { IfNone result ((row_of rows.now person ≡ []) ⊎ (40 < length (row_of rows.now person))) }
     {
-        scan_sorted(PricedRow::of(rows, person, self.copies.as_slice()))
+        let row = PricedRow::of(rows, person, self.copies.as_slice());
+        if row.arcs.len() > SHORT {
+            return None;
+        }
+        SortedRow::of(row).best()
     }
 
     /// The best arc of a person, in one pass over his row; nothing where he has none.
@@ -207,10 +211,10 @@ impl PersonShard {
         self.bid_by_row(rows, eps, person)
     }
 
-    /// The bid that [`Self::next_bid`] makes, of rows that lead to rising objects ([`rows_rise`](crate::rows_rise)): so a caller may keep the
-    /// way of most bids short, and all others out of it.
+    /// The bid that [`Self::next_bid`] makes, of a row of at most 40 arcs where all such rows lead to rising objects
+    /// ([`rows_rise`](crate::rows_rise)): so a caller may keep the way of most bids short, and all others out of it.
     ///
-    /// None where nobody is free or he can't bid, and nothing is changed then; [`Self::next_bid`] tells which.
+    /// None where nobody is free, or he can't bid, or his row is longer, and nothing is changed then; [`Self::next_bid`] tells which.
     ///
     /// Takes one pass over the person's row, and no memory.
     #[inline(always)]

@@ -1,6 +1,6 @@
 use Rattle.std.proofs.Common.{◌-◌, w64, arith, rules}
 use Rattle.std.specs.Prelude.{FitsSigned}
-use Rattle.std.proofs.lemmas.Int.{ints, to_z-of_z}
+use Rattle.std.proofs.lemmas.Int.{ints}
 use Rattle.auc_persons.proofs.Parts.{covered_above}
 use Rattle.auc_persons.proofs.bounded.with_block.Goals as goal
 

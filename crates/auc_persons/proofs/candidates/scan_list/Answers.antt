@@ -1,6 +1,4 @@
-use Rattle.std.proofs.Common.{get_or, ◌<◌, ◌+◌, length, pos, ap, ◌∙◌, w64, arith, rules}
-use Rattle.std.specs.Prelude.{FitsSigned}
-use Rattle.std.proofs.lemmas.Int.{to_z-of_z}
+use Rattle.std.proofs.Common.{get_or, ◌<◌, length, arith}
 use Rattle.std.proofs.lemmas.List.Elements.{All-get_or, All-set}
 use Rattle.auc_persons.specs.Candidates.{KeepsListed}
 use Rattle.auc_persons.proofs.Shortlists.{keeps_at, keeps_back}

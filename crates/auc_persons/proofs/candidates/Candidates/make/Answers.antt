@@ -1,21 +1,12 @@
-use Rattle.std.proofs.lemmas.List.Elements.{All-append, All-push}
+use Rattle.std.specs.Prelude.{Some}
+use Rattle.std.proofs.lemmas.List.Elements.{All-append}
 use Rattle.auc_persons.specs.Blocks.{or_none}
-use Rattle.auc_persons.specs.Candidates.{KeepsListed, no_list}
-use Rattle.auc_persons.proofs.Shortlists.{keeps_new}
+use Rattle.auc_persons.specs.Candidates.{KeepsListed}
 use Rattle.auc_persons.proofs.candidates.Candidates.make.Goals as goal
-use Rattle.auc_persons.proofs.candidates.Candidates.make.Goals.{then-person-of+in_ok-push, else-person-of}
-
-pub loop-person-preserved : goal.loop-person-preserved
-loop-person-preserved c = λ copies.
-    elim c.if-person-of.branch [
-      | then-person-of+in_ok-push w ↦ (
-          let new = w.new.ensures in
-          rw (w.lists-is, w.in_ok-push.ensures.items, new) (All-push (KeepsListed c.args.rows.now copies) c.loop-person.lists.items (no_list c.loop-person.person) (c.loop-person.invariant copies) (keeps_new c.args.rows.now copies c.loop-person.person))
-          )
-      | else-person-of w ↦ rw w.lists-is (c.loop-person.invariant copies)
-    ]
 
 pub returns : goal.returns
 returns c = record {
-  kept = λ copies. All-append (KeepsListed c.args.rows.now copies) c.loop-person.lists.items (or_none c.in_ok-blocks.blocks) (c.loop-person.invariant copies) (c.in_ok-blocks.ensures.kept copies);
+  kept = λ copies. (
+      let P = KeepsListed c.args.rows.now copies in
+      All-append P c.in_ok-lists.lists.items _ (c.in_ok-lists.ensures.kept copies) (All-append P (or_none c.in_ok-blocks.blocks) (or_none (Some c.in_ok-short.short)) (c.in_ok-blocks.ensures.kept copies) (c.in_ok-short.ensures.kept copies)));
 }

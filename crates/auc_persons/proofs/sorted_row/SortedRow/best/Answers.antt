@@ -1,16 +1,17 @@
 use Rattle.std.proofs.Common.{◌<◌, length, w64, rules}
 use Rattle.std.specs.Prelude.{FitsSigned}
 use Rattle.std.proofs.lemmas.Int.{to_z-of_z}
-use Rattle.auc_persons.specs.Priced.{value_in}
+use Rattle.auc_graph.specs.Bid.{value}
+use Rattle.auc_persons.specs.Scan.{copy_in}
 use Rattle.auc_persons.proofs.RisingRows.{sorts_first, sorts_more, sorts_whole}
-use Rattle.auc_persons.proofs.sorted.scan_sorted.Goals as goal
+use Rattle.auc_persons.proofs.sorted_row.SortedRow.best.Goals as goal
 
 pub loop-place-init : goal.loop-place-init
 loop-place-init c =
     let f2 : FitsSigned w64 c.value.result = search rules in
     let is = c.value.ensures.is in
-    let some : 0 < length c.args.row.arcs.now = search rules in
-    simp to_z-of_z (sorts_first (value_in c.args.row) c.args.row.arcs.now c.value.result c.requires.rising some is c.value.ensures.range)
+    let some : 0 < length c.args.self.arcs.now = search rules in
+    simp to_z-of_z (sorts_first (value c.args.self.scale (copy_in c.args.self.copies.now)) c.args.self.arcs.now c.value.result c.args.self.rising some is c.value.ensures.range)
 
 pub loop-place-preserved : goal.loop-place-preserved
 loop-place-preserved c =
@@ -18,12 +19,12 @@ loop-place-preserved c =
     let inv = c.loop-place.invariant in
     let is = c.value-in-loop-place.ensures.is in
     let low = simp to_z-of_z at c.with-least.ensures in
-    sorts_more (value_in c.args.row) c.args.row.arcs.now c.loop-place.least c.with-least.result c.loop-place.place c.value-in-loop-place.result
-    c.requires.rising inv c.loop-place-test.true is c.value-in-loop-place.ensures.range low
+    sorts_more (value c.args.self.scale (copy_in c.args.self.copies.now)) c.args.self.arcs.now c.loop-place.least c.with-least.result c.loop-place.place c.value-in-loop-place.result
+    c.args.self.rising inv c.loop-place-test.true is c.value-in-loop-place.ensures.range low
 
 pub returns-clause-some : goal.returns-clause-some
 returns-clause-some c =
     let f2 : FitsSigned w64 c.loop-place.least.value = search rules in
     let f3 : FitsSigned w64 c.loop-place.least.second = search rules in
     let inv = c.loop-place.invariant in
-    simp to_z-of_z (sorts_whole (value_in c.args.row) c.args.row.arcs.now c.loop-place.least c.loop-place.place c.loop-place-test.false inv)
+    simp to_z-of_z (sorts_whole (value c.args.self.scale (copy_in c.args.self.copies.now)) c.args.self.arcs.now c.loop-place.least c.loop-place.place c.loop-place-test.false inv)

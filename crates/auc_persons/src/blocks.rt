@@ -10,7 +10,7 @@ ghost use Rattle.auc_persons.specs.Scan.{copy_in, IsScan};
 
 use crate::bound::{BLOCK, Blocked, Bound};
 use crate::listing::scan_and_list;
-use crate::method::LONG;
+use crate::method::{LONG, has_row_above};
 use crate::scan::Scan;
 use crate::search::Hint;
 use crate::shortlist::Shortlist;
@@ -50,16 +50,6 @@ fn blocks_of(arcs: usize) -> usize
     (arcs - 1) / BLOCK + 1
 }
 
-/// Whether some row is so long that it has blocks. O(persons).
-fn has_blocks(rows: &Rows) -> bool {
-    for person in 0..rows.persons() {
-        if rows.row(person).len() > LONG {
-            return true;
-        }
-    }
-    false
-}
-
 impl Blocks {
     /// Blocks for the persons of shard number `shard` of `of`, with no bounds yet; none where no row is long.
     pub(crate) fn make(
@@ -71,7 +61,7 @@ impl Blocks {
         requires { shard < of }
         ensures kept { IfOk result (λ b. (copies : List ℤ) → Kept rows.now copies (or_none b)) }
     {
-        if !has_blocks(rows) {
+        if !has_row_above(rows, LONG) {
             return Ok(None);
         }
         let mut persons = Vec::with_capacity(alloc, (rows.persons() / of) as usize + 1)?;

@@ -11,7 +11,7 @@ ghost use Rattle.auc_letters.specs.Price.{IsPrice};
 
 use crate::amount::scaled;
 use crate::blocks::Blocks;
-use crate::method::SHORT;
+use crate::method::{SHORT, has_row_above};
 use crate::priced_row::PricedRow;
 use crate::scan::{Scan, scale_of};
 use crate::short::ShortRows;
@@ -23,15 +23,15 @@ use std::marker::Model;
 /// How many arcs a list is to hold.
 const WANTED: i64 = 7;
 
-/// Lists of candidates, one for each person of a shard, by which most bids look at a few arcs alone, and bounds of blocks for rows of more than 256 arcs
-/// ([`crate::PersonShard::next_bid_by`]). They are of the rows that they were made for, and stay right as long as no copy falls.
+/// What a shard's bids are found by ([`crate::PersonShard::next_bid_by`]): lists of candidates, one for each person, by which most bids of rows
+/// of more than 40 arcs look at a few arcs alone, and bounds of blocks for rows of more than 256; and of shorter rows that they rise, or copies that
+/// do. All are of the rows that they were made for, and stay right as long as no copy of a price falls.
 #[derive(Drop)]
 pub struct Candidates {
     lists: Vec<Shortlist>,
     // Where some row is long enough for blocks.
     blocks: Option<Blocks>,
-    // What is known of the short rows.
-    short: Option<ShortRows>,
+    short: ShortRows,
 }
 
 impl Model for Candidates {
@@ -41,17 +41,7 @@ impl Model for Candidates {
 
     ghost Value = { List Listed };
 
-    ghost view = { λ c. c.lists.items ++ (or_none c.blocks ++ or_none c.short) };
-}
-
-/// Whether some row is so long that lists serve it. O(persons).
-fn has_long_row(rows: &Rows) -> bool {
-    for person in 0..rows.persons() {
-        if rows.row(person).len() > SHORT {
-            return true;
-        }
-    }
-    false
+    ghost view = { λ c. c.lists.items ++ (or_none c.blocks ++ c.short) };
 }
 
 /// How far above the second the first bound of a person is to lie.
@@ -99,7 +89,7 @@ fn lists_of(alloc: Global, rows: &Rows, shard: u32, of: u32) -> Result<Vec<Short
     requires { shard < of }
     ensures kept { IfOk result (λ v. (copies : List ℤ) → Kept rows.now copies v.items) }
 {
-    if !has_long_row(rows) {
+    if !has_row_above(rows, SHORT) {
         return Ok(Vec::new(alloc));
     }
     let persons = rows.persons();
@@ -122,52 +112,12 @@ fn has_no_blocks(blocks: &Option<Blocks>) -> bool
     }
 }
 
-/// Whether nothing is known of short rows.
-fn knows_nothing(short: &Option<ShortRows>) -> bool
-    ensures { IsTrue result ↔ (or_none short.now ≡ []) }
-{
-    match short {
-        Some(short) => short.is_empty(),
-        None => true,
-    }
-}
-
-/// The best arc of a person whose row is short and known.
-#[inline(always)]
-fn scan_short_row(
-    short: &Option<ShortRows>,
-    rows: &Rows,
-    person: u32,
-    copies: &[i64],
-) -> Option<Scan>
-    requires person { person < length rows.now.rows }
-    requires objects { rows.now.objects ≡ length copies.now }
-    requires copies { All IsPrice copies.now }
-    requires kept { Kept rows.now copies.now (or_none short.now) }
-    ensures { IfSome result (IsScan (value (pos (length rows.now.rows + 1)) (copy_in copies.now)) (row_of rows.now person)) }
-{
-    match short {
-        Some(short) => short.best(rows, person, copies),
-        None => None,
-    }
-}
-
 impl Candidates {
-    /// No lists. Takes no memory.
-    pub fn none(alloc: Global) -> Candidates
-        ensures { result ≡ [] }
-    {
-        Candidates {
-            lists: Vec::new(alloc),
-            blocks: None,
-            short: None,
-        }
-    }
-
-    /// Empty lists for the persons of shard number `shard` of `of`; none where no row is long.
+    /// Empty lists for the persons of shard number `shard` of `of`, none where no row has more than 40 arcs; and what is known of shorter rows.
     ///
-    /// Takes O(persons + arcs / 16) time, and 216 bytes of memory for each person of the shard. Where some row has more than 256 arcs,
-    /// it takes 24 bytes more for each person, and 16 for each 16 arcs of such a row.
+    /// Takes O(persons + arcs) time, and where some row has more than 40 arcs, 216 bytes of memory for each person of the shard. Where some row
+    /// has more than 256 arcs, it takes 24 bytes more for each person, and 16 for each 16 arcs of such a row. Where some row of at most 40 arcs
+    /// doesn't rise, it takes 16 bytes for each person, 12 for each arc of the shard's rows of that length, and O(arcs of the row) time for each of these.
     ///
     /// # Errors
     ///
@@ -182,11 +132,11 @@ impl Candidates {
         Ok(Candidates {
             lists,
             blocks,
-            short: Some(short),
+            short,
         })
     }
 
-    /// Whether there are no lists. O(1).
+    /// Whether there is nothing: no list, no block, and no row known. O(1).
     pub fn is_empty(&self) -> bool
         ensures { IsTrue result ↔ (self.now ≡ []) }
     {
@@ -196,11 +146,11 @@ impl Candidates {
         if !has_no_blocks(&self.blocks) {
             return false;
         }
-        knows_nothing(&self.short)
+        self.short.is_empty()
     }
 
-    /// The best arc of a person, by his list where that tells it, and else by his blocks where he has some, which make the list of
-    /// a very long row anew. `place` is where they stand, if anywhere.
+    /// The best arc of a person: of a short row by what is known of it; else by his list where that tells it, and else by his blocks where he
+    /// has some, which make the list of a very long row anew. `place` is where these stand, if anywhere.
     #[inline]
     pub(crate) fn scan(
         &mut self,
@@ -216,7 +166,7 @@ impl Candidates {
         ensures some { IfSome result (λ f. IsScan (value (pos (length rows.now.rows + 1)) (copy_in copies.now)) (row_of rows.now person) f) }
         ensures kept { Kept rows.now copies.now self.new }
     {
-        if let Some(scan) = scan_short_row(&self.short, rows, person, copies) {
+        if let Some(scan) = self.short.best(rows, person, copies) {
             return Some(scan);
         }
         let lists = self.lists.as_mut_slice();

@@ -1,9 +1,11 @@
 //! How long the rows are that each way to look a row over is for. Which way a bid takes is told by the length of its own row, and by whether
 //! the objects of that row rise; all ways find the same arc.
 
-/// A row of up to so many arcs is looked at from nothing: where its objects rise in one pass with no branch by values (`sorted`), else with selects
-/// (`scan`). With some 30 arcs a list, or two remembered arcs, took a tenth more instructions (`uniform 32`, `plane 32`: 1.11 and 1.12), and in a
-/// price war they are old at each bid (`levels 32`: 1.16).
+use auc_graph::Rows;
+
+/// A row of up to so many arcs is looked at from nothing, in one pass with no branch by values (`sorted_row`), of a copy of the row (`short`) where
+/// not all such rows rise; where there is no copy, with selects (`scan`). With some 30 arcs a list, or two remembered arcs, took a tenth more
+/// instructions (`uniform 32`, `plane 32`: 1.11 and 1.12), and in a price war they are old at each bid (`levels 32`: 1.16).
 pub(crate) const SHORT: usize = 40;
 
 /// A longer row has a list of candidates (`shortlist`), and where that doesn't tell the bid, the pass begins with two remembered arcs (`search`). At 128
@@ -15,3 +17,13 @@ pub(crate) const LONG: usize = 256;
 /// Of a row of more than so many arcs the blocks make the list (`listing`): at 1,000 arcs in 0.95 of the time of a pass over all of it (`share 20` of
 /// 5,000 persons), at 2,000 in 0.86 (dense). At 300 arcs they take 1.37 of it (`share 20` of 1,500), since such a pass is guessed well.
 pub(crate) const VERY_LONG: usize = 640;
+
+/// Whether some row has more than so many arcs. O(persons).
+pub(crate) fn has_row_above(rows: &Rows, arcs: usize) -> bool {
+    for person in 0..rows.persons() {
+        if rows.row(person).len() > arcs {
+            return true;
+        }
+    }
+    false
+}

@@ -14,8 +14,8 @@ use crate::bidding::Bidding;
 use crate::candidates::Candidates;
 use crate::method::SHORT;
 use crate::priced_row::PricedRow;
-use crate::rising::scan_rising;
-use crate::scan::{Scan, scan_of};
+use crate::rising::scan_short;
+use crate::scan::Scan;
 use crate::search::scan_from;
 use crate::shard::PersonShard;
 use crate::sorted_row::SortedRow;
@@ -23,20 +23,6 @@ use auc_graph::Rows;
 use auc_letters::{Letter, MOST_PRICE, Out, To, Why, shard_of};
 
 impl PersonShard {
-    /// The best arc of a person, whose row is short and leads to rising objects.
-    #[inline(always)]
-    fn best_at_once(&self, rows: &Rows, person: u32) -> Option<Scan>
-        requires rows { IsMadeFor rows.now self.now }
-        requires person { person < length self.now.states }
-        ensures { IfSome result (λ f. IsScan (value (pos (length rows.now.rows + 1)) (copy_in self.now.copies)) (row_of rows.now person) f) }
-    {
-        let row = PricedRow::of(rows, person, self.copies.as_slice());
-        if row.arcs.len() > SHORT {
-            return None;
-        }
-        scan_rising(row)
-    }
-
     /// The best arc of a person, where short rows lead to rising objects; nothing where he has none, or his row isn't short.
     #[inline(always)]
     fn best_sorted(&self, rows: &Rows, person: u32) -> Option<Scan>
@@ -64,7 +50,7 @@ impl PersonShard {
     {
         let row = PricedRow::of(rows, person, self.copies.as_slice());
         if row.arcs.len() <= SHORT {
-            return scan_of(row);
+            return scan_short(row);
         }
         let search = scan_from(row, self.hints[person as usize])?;
         self.hints[person as usize] = search.hint;
@@ -203,10 +189,6 @@ impl PersonShard {
         };
         if self.left() == 0 {
             return Bidding::Stop { why: Why::Bids };
-        }
-        let found = self.best_at_once(rows, person);
-        if found.is_some() {
-            return self.bid_with(rows, eps, person, found);
         }
         self.bid_by_row(rows, eps, person)
     }

@@ -9,7 +9,7 @@ pub returns-then-not-is_empty : goal.returns-then-not-is_empty
 returns-then-not-is_empty c = (
   λ t. absurd (grind (rules, t)),
   λ none. (
-      let empty = nil_front c.self.inside.lists.items (or_none c.self.inside.blocks ++ or_none c.self.inside.short) (c.self.view_is ∙ none) in
+      let empty = nil_front c.self.inside.lists.items (or_none c.self.inside.blocks ++ c.self.inside.short) (c.self.view_is ∙ none) in
       let len : vec_len c.self.inside.lists ≡ 0 = omega (arith, ap length empty) in
       let yes = c.is_empty.ensures ∙ ap (λ (n : ℕ). n == 0) len in
       absurd (grind (rules, c.if-not-is_empty.true, yes))),

@@ -10,39 +10,39 @@ use Rattle.auc_persons.proofs.candidates.Candidates.scan.Goals as goal
 pub scan_list-requires-clause-kept : goal.scan_list-requires-clause-kept
 scan_list-requires-clause-kept c =
     let P = KeepsListed c.args.rows.now c.args.copies.now in
-    let kept = All-same P (c.self.inside.lists.items ++ (or_none c.self.inside.blocks ++ or_none c.self.inside.short)) c.args.self.now c.self.view_is c.requires.kept in
-    rw c.as_mut_slice-lists.ensures.value (front P c.self.inside.lists.items (or_none c.self.inside.blocks ++ or_none c.self.inside.short) kept)
+    let kept = All-same P (c.self.inside.lists.items ++ (or_none c.self.inside.blocks ++ c.self.inside.short)) c.args.self.now c.self.view_is c.requires.kept in
+    rw c.as_mut_slice-lists.ensures.value (front P c.self.inside.lists.items (or_none c.self.inside.blocks ++ c.self.inside.short) kept)
 
 pub returns-in-Some-scan_list-clause-kept : goal.returns-in-Some-scan_list-clause-kept
 returns-in-Some-scan_list-clause-kept c =
     let P = KeepsListed c.args.rows.now c.args.copies.now in
-    let kept = All-same P (c.self.inside.lists.items ++ (or_none c.self.inside.blocks ++ or_none c.self.inside.short)) c.args.self.now c.self.view_is c.requires.kept in
+    let kept = All-same P (c.self.inside.lists.items ++ (or_none c.self.inside.blocks ++ c.self.inside.short)) c.args.self.now c.self.view_is c.requires.kept in
     let len : length c.scan_list.new.lists ≡ c.self.inside.lists.len = omega (arith, c.scan_list.ensures.length, c.as_mut_slice-lists.ensures.len, ap length c.as_mut_slice-lists.ensures.value) in
-    rw (with_items_is c.self.inside.lists c.scan_list.new.lists len) (All-append P c.scan_list.new.lists (or_none c.self.inside.blocks ++ or_none c.self.inside.short) c.scan_list.ensures.kept (behind P c.self.inside.lists.items (or_none c.self.inside.blocks ++ or_none c.self.inside.short) kept))
+    rw (with_items_is c.self.inside.lists c.scan_list.new.lists len) (All-append P c.scan_list.new.lists (or_none c.self.inside.blocks ++ c.self.inside.short) c.scan_list.ensures.kept (behind P c.self.inside.lists.items (or_none c.self.inside.blocks ++ c.self.inside.short) kept))
 
 pub returns-in_default-blocks-clause-kept : goal.returns-in_default-blocks-clause-kept
 returns-in_default-blocks-clause-kept c =
     let P = KeepsListed c.args.rows.now c.args.copies.now in
-    let kept = All-same P (c.self.inside.lists.items ++ (or_none c.self.inside.blocks ++ or_none c.self.inside.short)) c.args.self.now c.self.view_is c.requires.kept in
+    let kept = All-same P (c.self.inside.lists.items ++ (or_none c.self.inside.blocks ++ c.self.inside.short)) c.args.self.now c.self.view_is c.requires.kept in
     let len : length c.scan_list.new.lists ≡ c.self.inside.lists.len = omega (arith, c.scan_list.ensures.length, c.as_mut_slice-lists.ensures.len, ap length c.as_mut_slice-lists.ensures.value) in
-    rw (with_items_is c.self.inside.lists c.scan_list.new.lists len) (All-append P c.scan_list.new.lists (or_none c.self.inside.blocks ++ or_none c.self.inside.short) c.scan_list.ensures.kept (behind P c.self.inside.lists.items (or_none c.self.inside.blocks ++ or_none c.self.inside.short) kept))
+    rw (with_items_is c.self.inside.lists c.scan_list.new.lists len) (All-append P c.scan_list.new.lists (or_none c.self.inside.blocks ++ c.self.inside.short) c.scan_list.ensures.kept (behind P c.self.inside.lists.items (or_none c.self.inside.blocks ++ c.self.inside.short) kept))
 
 pub scan-requires-clause-kept : goal.scan-requires-clause-kept
 scan-requires-clause-kept c =
     let P = KeepsListed c.args.rows.now c.args.copies.now in
-    let kept = All-same P (c.self.inside.lists.items ++ (or_none c.self.inside.blocks ++ or_none c.self.inside.short)) c.args.self.now c.self.view_is c.requires.kept in
-    rw c.in-Some-blocks.is at (front P (or_none c.self.inside.blocks) (or_none c.self.inside.short) (behind P c.self.inside.lists.items (or_none c.self.inside.blocks ++ or_none c.self.inside.short) kept))
+    let kept = All-same P (c.self.inside.lists.items ++ (or_none c.self.inside.blocks ++ c.self.inside.short)) c.args.self.now c.self.view_is c.requires.kept in
+    rw c.in-Some-blocks.is at (front P (or_none c.self.inside.blocks) c.self.inside.short (behind P c.self.inside.lists.items (or_none c.self.inside.blocks ++ c.self.inside.short) kept))
 
 pub returns-clause-kept : goal.returns-clause-kept
 returns-clause-kept c =
     let P = KeepsListed c.args.rows.now c.args.copies.now in
-    let kept = All-same P (c.self.inside.lists.items ++ (or_none c.self.inside.blocks ++ or_none c.self.inside.short)) c.args.self.now c.self.view_is c.requires.kept in
-    let short = behind P (or_none c.self.inside.blocks) (or_none c.self.inside.short) (behind P c.self.inside.lists.items (or_none c.self.inside.blocks ++ or_none c.self.inside.short) kept) in
+    let kept = All-same P (c.self.inside.lists.items ++ (or_none c.self.inside.blocks ++ c.self.inside.short)) c.args.self.now c.self.view_is c.requires.kept in
+    let short = behind P (or_none c.self.inside.blocks) c.self.inside.short (behind P c.self.inside.lists.items (or_none c.self.inside.blocks ++ c.self.inside.short) kept) in
     let len : length c.scan.new.lists ≡ c.self.inside.lists.len = omega (arith, c.scan.ensures.length, c.scan_list.ensures.length, c.as_mut_slice-lists.ensures.len, ap length c.as_mut_slice-lists.ensures.value) in
-    rw (with_items_is c.self.inside.lists c.scan.new.lists len) (All-append P c.scan.new.lists (or_none (Some c.scan.new.self) ++ or_none c.self.inside.short) c.scan.ensures.lists (All-append P (or_none (Some c.scan.new.self)) (or_none c.self.inside.short) c.scan.ensures.kept short))
+    rw (with_items_is c.self.inside.lists c.scan.new.lists len) (All-append P c.scan.new.lists (or_none (Some c.scan.new.self) ++ c.self.inside.short) c.scan.ensures.lists (All-append P (or_none (Some c.scan.new.self)) c.self.inside.short c.scan.ensures.kept short))
 
-pub scan_short_row-requires-clause-kept : goal.scan_short_row-requires-clause-kept
-scan_short_row-requires-clause-kept c =
+pub best-requires-clause-kept : goal.best-requires-clause-kept
+best-requires-clause-kept c =
     let P = KeepsListed c.args.rows.now c.args.copies.now in
-    let kept = All-same P (c.self.inside.lists.items ++ (or_none c.self.inside.blocks ++ or_none c.self.inside.short)) c.args.self.now c.self.view_is c.requires.kept in
-    behind P (or_none c.self.inside.blocks) (or_none c.self.inside.short) (behind P c.self.inside.lists.items (or_none c.self.inside.blocks ++ or_none c.self.inside.short) kept)
+    let kept = All-same P (c.self.inside.lists.items ++ (or_none c.self.inside.blocks ++ c.self.inside.short)) c.args.self.now c.self.view_is c.requires.kept in
+    behind P (or_none c.self.inside.blocks) c.self.inside.short (behind P c.self.inside.lists.items (or_none c.self.inside.blocks ++ c.self.inside.short) kept)

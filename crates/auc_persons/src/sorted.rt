@@ -7,7 +7,7 @@ use crate::method::SHORT;
 use auc_graph::{RowArc, Rows};
 
 /// Whether the objects of a row rise.
-fn is_rising(row: &[RowArc]) -> bool
+pub(crate) fn is_rising(row: &[RowArc]) -> bool
     ensures { IsTrue result ↔ IsRisingRow row.now }
 {
     if row.is_empty() {

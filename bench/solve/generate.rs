@@ -2,6 +2,9 @@
 //!
 //!     generate share PERSONS PERCENT MOST SEED FILE      so many in a hundred of all pairs, and the planted ones
 //!     generate uniform PERSONS DEGREE MOST SEED FILE     objects drawn from all
+//!     generate shuffled PERSONS DEGREE MOST SEED FILE    the same, and the arcs of a person stand in any order
+//!     generate mixed PERSONS LEAST GREATEST MOST SEED FILE    from LEAST to GREATEST objects of a person
+//!     generate lone PERSONS DEGREE LONG MOST SEED FILE   DEGREE objects of each person, and LONG of one
 //!     generate plane PERSONS NEAREST SEED FILE           the nearest of points in a square
 //!     generate few PERSONS CHEAP DEGREE SEED FILE        a price war: all persons want the same few cheap objects
 //!     generate levels PERSONS DEGREE MOST SEED FILE      a price war: each arc costs 1 or MOST
@@ -9,10 +12,11 @@
 //!
 //! There are as many objects as persons. No person knows an object twice, and the planted arcs have costs like the others: they
 //! see to it that there is a full assignment, and say nothing of a least one. The arcs stand in the order of the persons, and
-//! those of a person in the order of the objects, as in the sparse files of the OR-Library.
+//! those of a person, but of shuffled, in the order of the objects, as in the sparse files of the OR-Library.
 //!
-//! Of share and uniform, costs are drawn from 1 to MOST; of levels, a coin falls for each arc. Of uniform and levels, each
-//! person knows DEGREE objects, the planted one among them.
+//! Of share, uniform, shuffled, mixed and lone, costs are drawn from 1 to MOST; of levels, a coin falls for each arc. Of uniform, shuffled
+//! and levels, each person knows DEGREE objects, the planted one among them. Of mixed, the number of his objects is drawn; of lone, the
+//! person in the middle has LONG.
 //!
 //! Of plane, persons and objects are points of a square with sides of `SIDE`, drawn one by one; the cost of an arc is the
 //! distance, rounded. A person knows the NEAREST objects and the planted one. That one may be anywhere, so its arc is
@@ -27,7 +31,7 @@
 use std::fs::File;
 use std::io::{BufWriter, Result, Write};
 
-const USAGE: &str = "usage: generate share|uniform|plane|few|levels|products PERSONS [NUMBER] [NUMBER] SEED FILE";
+const USAGE: &str = "usage: generate share|uniform|shuffled|mixed|lone|plane|few|levels|products PERSONS [NUMBER].. SEED FILE";
 const MOST_PERSONS: usize = 10_000;
 const MOST_COST: usize = 1_000_000_000;
 const MOST_ARCS: usize = 33_554_432;
@@ -98,12 +102,14 @@ fn share(persons: usize, percent: usize, most: usize, random: &mut Random) -> Ro
     planted.into_iter().map(|object| row_of(object)).collect()
 }
 
-/// So many objects for each person, the planted one among them, in rising order; the cost of each arc is drawn.
-fn drawn(persons: usize, degree: usize, random: &mut Random, cost: impl Fn(&mut Random) -> usize) -> Rows {
-    assert!((1..=persons).contains(&degree), "DEGREE goes from 1 to PERSONS");
+/// So many objects for each person, by person, the planted one among them, in rising order; the cost of each arc is drawn.
+fn drawn(degrees: &[usize], random: &mut Random, cost: impl Fn(&mut Random) -> usize) -> Rows {
+    let persons = degrees.len();
+    assert!(degrees.iter().all(|degree| (1..=persons).contains(degree)), "a person knows 1 to PERSONS objects");
     let planted = random.order(persons);
     let mut known_to = vec![usize::MAX; persons];
     let mut row_of = |person: usize, planted: usize| {
+        let degree = degrees[person];
         let mut objects = vec![planted];
         known_to[planted] = person;
         while objects.len() < degree {
@@ -121,12 +127,36 @@ fn drawn(persons: usize, degree: usize, random: &mut Random, cost: impl Fn(&mut 
 
 fn uniform(persons: usize, degree: usize, most: usize, random: &mut Random) -> Rows {
     require_cost(most);
-    drawn(persons, degree, random, |random| random.between(1, most))
+    drawn(&vec![degree; persons], random, |random| random.between(1, most))
+}
+
+fn shuffled(persons: usize, degree: usize, most: usize, random: &mut Random) -> Rows {
+    let mut rows = uniform(persons, degree, most, random);
+    for row in &mut rows {
+        for last in (1..row.len()).rev() {
+            row.swap(last, random.below(last + 1));
+        }
+    }
+    rows
+}
+
+fn mixed(persons: usize, least: usize, greatest: usize, most: usize, random: &mut Random) -> Rows {
+    require_cost(most);
+    assert!(least <= greatest, "LEAST is at most GREATEST");
+    let degrees: Vec<usize> = (0..persons).map(|_| random.between(least, greatest)).collect();
+    drawn(&degrees, random, |random| random.between(1, most))
+}
+
+fn lone(persons: usize, degree: usize, long: usize, most: usize, random: &mut Random) -> Rows {
+    require_cost(most);
+    let mut degrees = vec![degree; persons];
+    degrees[persons / 2] = long;
+    drawn(&degrees, random, |random| random.between(1, most))
 }
 
 fn levels(persons: usize, degree: usize, most: usize, random: &mut Random) -> Rows {
     require_cost(most);
-    drawn(persons, degree, random, |random| if random.below(2) == 0 { 1 } else { most })
+    drawn(&vec![degree; persons], random, |random| if random.below(2) == 0 { 1 } else { most })
 }
 
 fn distance((x, y): (usize, usize), (u, v): (usize, usize)) -> usize {
@@ -199,6 +229,9 @@ fn main() -> Result<()> {
     let rows = match (shape.as_str(), &numbers[..]) {
         ("share", &[persons, percent, most]) => share(persons, percent, most, &mut random),
         ("uniform", &[persons, degree, most]) => uniform(persons, degree, most, &mut random),
+        ("shuffled", &[persons, degree, most]) => shuffled(persons, degree, most, &mut random),
+        ("mixed", &[persons, least, greatest, most]) => mixed(persons, least, greatest, most, &mut random),
+        ("lone", &[persons, degree, long, most]) => lone(persons, degree, long, most, &mut random),
         ("plane", &[persons, nearest]) => plane(persons, nearest, &mut random),
         ("few", &[persons, cheap, degree]) => few(persons, cheap, degree, &mut random),
         ("levels", &[persons, degree, most]) => levels(persons, degree, most, &mut random),

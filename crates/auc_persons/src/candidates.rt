@@ -29,9 +29,9 @@ const WANTED: i64 = 7;
 #[derive(Drop)]
 pub struct Candidates {
     lists: Vec<Shortlist>,
+    short: ShortRows,
     // Where some row is long enough for blocks.
     blocks: Option<Blocks>,
-    short: ShortRows,
 }
 
 impl Model for Candidates {
@@ -131,8 +131,8 @@ impl Candidates {
         let short = ShortRows::make(alloc, rows, shard, of)?;
         Ok(Candidates {
             lists,
-            blocks,
             short,
+            blocks,
         })
     }
 

@@ -4,9 +4,10 @@
 //! answers: pure code, with no mail, no lock and no thread. The bid is that of `auc_graph` (`specs/Bid.antt`); what each
 //! call leaves of the shard is defined in `specs/Persons.antt`.
 //!
-//! A long row is looked at from the two arcs on that decided the person's last bid. Beside a shard its caller may keep
-//! [`Candidates`], lists by which most bids look at a few arcs alone; the bids are the same
-//! ([`PersonShard::next_bid_by`]). What a list says of its row is defined in `specs/Candidates.antt`; where it doesn't tell the bid of a
+//! Which way a row is looked over is told by its own length and order alone (`method.rt`). A row of at most 40 arcs is passed once; a
+//! longer one is looked at from the two arcs on that decided the person's last bid. Beside a shard its caller may keep
+//! [`Candidates`], by which the bids are the same and found sooner ([`PersonShard::next_bid_by`]): short rows in rising order of their objects
+//! (`specs/Short.antt`), and lists of a few arcs of longer ones. What a list says of its row is defined in `specs/Candidates.antt`; where it doesn't tell the bid of a
 //! row of more than 256 arcs, the row is looked at by blocks, each with a bound (`specs/Blocks.antt`), and above 640 arcs the list is
 //! made anew by them.
 #![tactic(auto)]

@@ -7,3 +7,10 @@ mod Opening
 mod HeldLaws
 mod Choices
 mod Answering
+mod Seats
+mod Hops
+mod Labels
+mod Moves
+mod Slackness
+mod Walks
+mod PathLaws

@@ -2,10 +2,11 @@
 use Rattle.std.proofs.Common.{ℕ, ◌+◌, ◌-◌, ◌<◌, ◌≤◌, ◌≡◌, refl, arith, inl, inr, List, [], ◌∷◌, ◌++◌, length, get_or, map, take, drop, ap, sym, ◌∙◌}
 use Rattle.std.specs.Prelude.{All, slice_range}
 use Rattle.std.proofs.lemmas.Bool.{cases_eq, cases_lt}
-use Rattle.std.proofs.lemmas.List.{drop-append-le, get_or_append_left, get_or_default, get_or_past, length-append, length-drop, take-append-le, take_all}
+use Rattle.std.proofs.lemmas.List.{drop-append-le, get_or_append_left, get_or_default, get_or_past, length-append, length-drop, length-map, take-append-le, take_all}
 use Rattle.std.proofs.lemmas.List.Elements.{All-get_or, All-map}
 use Rattle.std.proofs.lemmas.List.FromFn.{get_or-map-range_with_len, length-map-range_with_len}
 use Rattle.std.proofs.Math.Seq.{drop-append_seam, get_or-append_seam}
+use Rattle.auc_graph.specs.declared.limits.TheConstants.{MOST_ARCS}
 use Rattle.auc_graph.specs.Table.{IsRow, IsTable, Table, row_of}
 use Rattle.auc_graph.specs.declared.rows.RowArc.{RowArc}
 use Rattle.auc_direct.specs.declared.arc.ShortArc.{ShortArc}
@@ -154,6 +155,13 @@ module _ (t : Table) (starts : List ℕ) (arcs : List ShortArc) (table : IsTable
         | inr past ↦ rw (get_or_past (parts (starts ++ length arcs ∷ []) arcs (length t.rows)) i [] (let m = many_rows in omega (arith, past, m))) (λ k d lt. absurd (omega (arith, lt)))
       ]
 
+  few_short : (i : ℕ) → length (shorts_of those i) ≤ MOST_ARCS
+  few_short i =
+      elim (cases_lt i (length t.rows)) [
+        | inl l ↦ rw (same_rows t starts arcs h i l) (let f = (All-get_or (IsRow t.objects) t.rows i [] l table.each).few in let m = length-map (row_of t i) short in omega (arith, f, m))
+        | inr past ↦ rw (get_or_past (parts (starts ++ length arcs ∷ []) arcs (length t.rows)) i [] (let m = many_rows in omega (arith, past, m))) (omega arith)
+      ]
+
   pub are_shorts : AreShorts those
   are_shorts = record {
     some = (let m = many_rows in let s = table.some in omega (arith, m, s));
@@ -163,6 +171,7 @@ module _ (t : Table) (starts : List ℕ) (arcs : List ShortArc) (table : IsTable
     low = table.low;
     high = table.high;
     each = each_short;
+    few = few_short;
   }
 
   pub are_its : AreShortsOf t those

@@ -1,5 +1,5 @@
 -- What a chain of bids, a phase and a run come to.
-use Rattle.std.specs.Prelude.{ℕ, ℤ, pos, ◌≡◌, ◌⊎◌, ◌≤ℤ◌, List, length, All}
+use Rattle.std.specs.Prelude.{ℕ, ℤ, pos, ◌≡◌, ◌≢◌, ◌⊎◌, ◌≤ℤ◌, List, length, All}
 use Rattle.auc_cert.specs.declared.cert.CertParts.{CertParts}
 use Rattle.auc_cert.specs.declared.reason.Reason.{Reason}
 use Rattle.auc_graph.specs.Assignment.{total}
@@ -11,7 +11,9 @@ use Rattle.auc_answers.specs.declared.answer.Answer.{Answer}
 use Rattle.auc_direct.specs.declared.arc.ShortArc.{ShortArc}
 use Rattle.auc_direct.specs.declared.ending.Chain.{Chain}
 use Rattle.auc_direct.specs.declared.ending.Ending.{Ending}
-use Rattle.auc_direct.specs.Market.{HaveObjects, IsAbove, Stands}
+use Rattle.auc_direct.specs.declared.ending.PathStep.{PathStep}
+use Rattle.auc_direct.specs.declared.market.TheConstants.{NOBODY}
+use Rattle.auc_direct.specs.Market.{HaveObjects, IsAbove, Stands, own_at}
 use Rattle.auc_direct.specs.Rows.{AreShortsOf, Shorts}
 
 -- Why a phase may be stopped: the prices add up to no less than the bids that it may take, each of which has raised one; or somebody
@@ -55,3 +57,8 @@ IsLimited p bids (Answer.Optimal cert) = Unit {0}
 IsLimited p bids (Answer.Infeasible cert) = Unit {0}
 IsLimited p bids (Answer.Bracket cert) = IsLimitedBy p bids cert
 IsLimited p bids (Answer.Broken guard) = Unit {0}
+
+-- A path leaves what stands between two bids, and the person has an object; or nothing has changed.
+abbrev pub IsPathStep : Shorts → ℤ → ℕ → PathStep → List ℤ → List ℕ → List ShortArc → List ℤ → List ℕ → List ShortArc → Type 0
+IsPathStep r eps start PathStep.Placed prices holders owns new sold left = Stands r eps new sold left × (total prices ≤ℤ total new) × ((own_at left start).object ≢ NOBODY) × ((i : ℕ) → (own_at owns i).object ≢ NOBODY → (own_at left i).object ≢ NOBODY)
+IsPathStep r eps start PathStep.Stayed prices holders owns new sold left = (new ≡ prices) × (sold ≡ holders) × (left ≡ owns)

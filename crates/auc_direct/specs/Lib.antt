@@ -4,3 +4,4 @@ pub mod Bid
 pub mod Market
 pub mod Endings
 pub mod Held
+pub mod Path

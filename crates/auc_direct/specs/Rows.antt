@@ -2,7 +2,7 @@
 use Rattle.std.specs.Prelude.{ℕ, ℤ, pos, ◌≡◌, ◌<◌, ◌≤◌, ◌+◌, ◌*◌, ◌^◌, neg_ℤ, ◌≤ℤ◌, List, [], length, map, All, Contains, slice_index, slice_index_or, slice_range}
 use Rattle.std.specs.List.{range_with_len}
 use Rattle.auc_graph.specs.declared.arc.Arc.{Arc}
-use Rattle.auc_graph.specs.declared.limits.TheConstants.{MOST_COST, MOST_OBJECTS, MOST_PERSONS}
+use Rattle.auc_graph.specs.declared.limits.TheConstants.{MOST_ARCS, MOST_COST, MOST_OBJECTS, MOST_PERSONS}
 use Rattle.auc_graph.specs.declared.rows.RowArc.{RowArc}
 use Rattle.auc_graph.specs.Problem.{Problem}
 use Rattle.auc_graph.specs.Table.{Table, row_of}
@@ -55,6 +55,7 @@ pub record AreShorts (r : Shorts) : Type 0 where
   pub low : pos 0 ≤ℤ r.spread
   pub high : r.spread ≤ℤ pos (2 * 10 ^ 9)
   pub each : (i : ℕ) → All (IsShort r.objects) (shorts_of r i)
+  pub few : (i : ℕ) → length (shorts_of r i) ≤ MOST_ARCS
 
 -- the same rows
 pub record AreShortsOf (t : Table) (r : Shorts) : Type 0 where

@@ -21,3 +21,12 @@ pub(crate) enum Ending {
     /// A limit has stopped it.
     Stopped(Reason),
 }
+
+/// What became of a search for a path.
+#[derive(Clone, Copy, Debug, PartialEq, Eq)]
+pub(crate) enum PathStep {
+    /// The free person has an object, and nobody else is free for it.
+    Placed,
+    /// Nothing has changed.
+    Stayed,
+}

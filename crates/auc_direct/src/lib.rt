@@ -8,11 +8,17 @@ mod bid;
 mod ending;
 mod eps;
 mod gathering;
+mod hop;
+mod label;
 mod market;
+mod path;
 mod phase;
 mod phases;
 mod rows;
 mod scan;
+mod search;
 mod solving;
+mod walk;
+mod wipe;
 
 pub use solving::{DirectLimits, solve_direct, solve_direct_from};

@@ -1,17 +1,21 @@
-//! A phase: the persons who have no object bid in order, and whoever is displaced bids next.
+//! A phase: the persons who have no object bid in order, and whoever is displaced bids next; where that goes far, he goes by a path.
 
-ghost use Rattle.std.specs.Prelude.{◌≡◌, ◌+◌, ◌<◌, pos, ◌+ℤ◌, ◌≤ℤ◌, length, IfSome, IfNone};
+ghost use Rattle.std.specs.Prelude.{◌≡◌, ◌+◌, ◌<◌, pos, ◌+ℤ◌, ◌≤ℤ◌, length, IfOk, IfSome, IfNone, OnOk};
+ghost use Rattle.std.specs.BinaryHeap.{heap_items};
 ghost use Rattle.auc_graph.specs.Assignment.{total};
 ghost use Rattle.auc_letters.specs.Price.{IsEps};
 ghost use Rattle.auc_direct.specs.Endings.{IsChain, IsEnding};
 ghost use Rattle.auc_direct.specs.Market.{EachHasArc, HaveAllBut, IsAwarded, IsTooHigh, Stands, own_at, scale_in};
+ghost use Rattle.auc_direct.specs.Path.{IsClean};
 
 use crate::bid::bid_of;
-use crate::ending::{Chain, Ending};
+use crate::ending::{Chain, Ending, PathStep};
 use crate::market::{Market, NOBODY};
 use crate::rows::ShortRows;
+use crate::search::Search;
 use auc_cert::Reason;
 use auc_letters::MOST_PRICE;
+use std::alloc::AllocError;
 
 impl Market {
     /// A person bids, and has the object; gives who has held it. None where the bid would be above the greatest price.
@@ -41,52 +45,81 @@ impl Market {
         Some(self.award(person, bid))
     }
 
-    /// A person bids, then whom he displaces, and so on, until nobody is displaced. `left` is how many bids the phase may still make.
-    fn chain(&mut self, rows: &ShortRows, eps: i64, first: u32, left: &mut u64) -> Chain
+    /// A person bids, then whom he displaces, and so on, until nobody is displaced. `left` is how many bids the phase may still make. Behind each `patience` bids the one
+    /// who is displaced looks for a path, which is no bid.
+    fn chain(
+        &mut self,
+        rows: &ShortRows,
+        eps: i64,
+        first: u32,
+        left: &mut u64,
+        patience: u64,
+        search: &mut Search,
+    ) -> Result<Chain, AllocError>
         requires first { first < length rows.now.rows }
         requires arcs { EachHasArc rows.now }
         requires eps { IsEps eps }
         requires stands { Stands rows.now eps self.old.prices.items self.old.holders.items self.old.owns.items }
         requires but { HaveAllBut (first + 1) self.old.owns.items first }
-        ensures stands { Stands rows.now eps self.new.prices.items self.new.holders.items self.new.owns.items }
-        ensures chain { IsChain rows.now eps (first + 1) left.new result self.new.prices.items self.new.owns.items }
-        ensures raised { (total self.old.prices.items +ℤ pos left.old) ≤ℤ (total self.new.prices.items +ℤ pos left.new) }
+        requires clean { IsClean rows.now.objects search.old.labels.items search.old.line.items (heap_items search.old.heap) }
+        ensures stands { OnOk result (Stands rows.now eps self.new.prices.items self.new.holders.items self.new.owns.items) }
+        ensures chain { IfOk result (λ c. IsChain rows.now eps (first + 1) left.new c self.new.prices.items self.new.owns.items) }
+        ensures raised { OnOk result ((total self.old.prices.items +ℤ pos left.old) ≤ℤ (total self.new.prices.items +ℤ pos left.new)) }
+        ensures clean { OnOk result (IsClean rows.now.objects search.new.labels.items search.new.line.items (heap_items search.new.heap)) }
     {
         let scale = rows.scale();
         let spread = rows.spread();
         let mut person = first;
+        let mut bids: u64 = 0;
         while *left > 0 {
             let Some(displaced) = self.step(rows, scale, spread, eps, person) else {
-                return Chain::Ceiling;
+                return Ok(Chain::Ceiling);
             };
             *left -= 1;
             if displaced == NOBODY {
-                return Chain::Placed;
+                return Ok(Chain::Placed);
             }
             person = displaced;
+            bids = bids.saturating_add(1);
+            if bids < patience {
+                continue;
+            }
+            match self.path(rows, eps, person, search)? {
+                PathStep::Placed => return Ok(Chain::Placed),
+                PathStep::Stayed => bids = 0,
+            }
         }
-        Chain::Bids
+        Ok(Chain::Bids)
     }
 
     /// Plays a phase in which nobody holds anything yet, of at most so many bids.
-    pub(crate) fn play(&mut self, rows: &ShortRows, eps: i64, bids: u64) -> Ending
+    pub(crate) fn play(
+        &mut self,
+        rows: &ShortRows,
+        eps: i64,
+        bids: u64,
+        patience: u64,
+        search: &mut Search,
+    ) -> Result<Ending, AllocError>
         requires arcs { EachHasArc rows.now }
         requires eps { IsEps eps }
         requires stands { Stands rows.now eps self.old.prices.items self.old.holders.items self.old.owns.items }
-        ensures stands { Stands rows.now eps self.new.prices.items self.new.holders.items self.new.owns.items }
-        ensures ending { IsEnding rows.now eps bids result self.new.prices.items self.new.owns.items }
+        requires clean { IsClean rows.now.objects search.old.labels.items search.old.line.items (heap_items search.old.heap) }
+        ensures stands { OnOk result (Stands rows.now eps self.new.prices.items self.new.holders.items self.new.owns.items) }
+        ensures ending { IfOk result (λ e. IsEnding rows.now eps bids e self.new.prices.items self.new.owns.items) }
+        ensures clean { OnOk result (IsClean rows.now.objects search.new.labels.items search.new.line.items (heap_items search.new.heap)) }
     {
         let mut left = bids;
         for first in 0..rows.persons() {
             if self.owns[first as usize].object != NOBODY {
                 continue;
             }
-            match self.chain(rows, eps, first, &mut left) {
+            match self.chain(rows, eps, first, &mut left, patience, search)? {
                 Chain::Placed => {}
-                Chain::Bids => return Ending::Stopped(Reason::Bids),
-                Chain::Ceiling => return Ending::Stopped(Reason::Ceiling),
+                Chain::Bids => return Ok(Ending::Stopped(Reason::Bids)),
+                Chain::Ceiling => return Ok(Ending::Stopped(Reason::Ceiling)),
             }
         }
-        Ending::Sold
+        Ok(Ending::Sold)
     }
 }

@@ -6,10 +6,17 @@ ghost use Rattle.auc_direct.specs.Endings.{IsOutcome, IsStart};
 ghost use Rattle.auc_direct.specs.Market.{EachHasArc};
 
 use crate::ending::Ending;
-use crate::eps::next_eps;
+use crate::eps::{LAST_EPS, next_eps};
 use crate::market::Market;
 use crate::rows::ShortRows;
+use crate::search::Search;
 use std::alloc::{AllocError, Global};
+
+/// Behind how many bids of a chain a path is looked for in a run of one phase, at the last eps, where a bid raises a price by little.
+const SOON: u64 = 16;
+
+/// The same in a run of more phases, where few chains are so long: those of a price war.
+const LATE: u64 = 10_000;
 
 /// How the last phase has ended, and what it leaves.
 #[derive(Drop)]
@@ -32,11 +39,13 @@ pub(crate) fn play_all(
     requires start { IsStart rows.now eps prices.items }
     ensures { IfOk result (λ o. IsOutcome rows.now bids o.ending o.market.prices.items o.market.holders.items o.market.owns.items) }
 {
+    let patience = if eps == LAST_EPS { SOON } else { LATE };
+    let mut search = Search::new(alloc, rows)?;
     let mut market = Market::new(alloc, rows.persons(), prices)?;
     let mut eps = eps;
     loop {
         market.open();
-        let ending = market.play(rows, eps, bids);
+        let ending = market.play(rows, eps, bids, patience, &mut search)?;
         if ending != Ending::Sold {
             return Ok(Outcome { ending, market });
         }

@@ -84,9 +84,9 @@ fn solve_rows(
 ///
 /// The answer is right as that of `auc_world::solve_serial` is, but of several least assignments it may be another one.
 ///
-/// Takes the time of the search for an assignment of any cost ([`auc_hall::complete`]), of the bids, each O(arcs of the person), and of one check; and 20 bytes of
-/// memory an arc beside the problem's own. The method is the auction with epsilon scaling (Bertsekas, 1979; Bertsekas and Eckstein, 1988), where whoever is
-/// displaced bids next.
+/// Takes the time of the search for an assignment of any cost ([`auc_hall::complete`]), of the bids, each O(arcs of the person), of the paths, each at most
+/// O(arcs * log arcs), and of one check; and 20 bytes of memory an arc and some 60 an object beside the problem's own. The method is the auction with epsilon scaling
+/// (Bertsekas, 1979; Bertsekas and Eckstein, 1988), where whoever is displaced bids next, and successive shortest paths (Edmonds and Karp, 1972) where that goes far.
 ///
 /// # Errors
 ///

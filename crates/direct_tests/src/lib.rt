@@ -8,6 +8,8 @@ mod answers;
 #[cfg(test)]
 mod limits;
 #[cfg(test)]
+mod paths;
+#[cfg(test)]
 mod starts;
 #[cfg(test)]
 mod texts;

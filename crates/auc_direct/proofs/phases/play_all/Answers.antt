@@ -1,11 +1,29 @@
-use Rattle.std.proofs.Common.{length, sym, subst, to_z, w64}
+use Rattle.std.proofs.Common.{length, rules, sym, subst, to_z, w64}
+use Rattle.std.specs.Prelude.{FitsSigned}
+use Rattle.std.proofs.lemmas.Int.{to_z-of_z}
 use Rattle.auc_direct.specs.Endings.{IsStart}
-use Rattle.auc_direct.proofs.Opening.{stands_opened}
+use Rattle.auc_direct.proofs.Opening.{stands_opened, start_next}
 use Rattle.auc_direct.proofs.phases.play_all.Goals as goal
 
-pub play-ending-requires-clause-stands : goal.play-ending-requires-clause-stands
-play-ending-requires-clause-stands c =
-    let inv = c.loop-ending.invariant in
-    let eps = to_z w64 c.loop-ending.eps-bits in
+pub play-requires-clause-stands : goal.play-requires-clause-stands
+play-requires-clause-stands c =
+    let inv = c.loop-market.invariant in
+    let eps = to_z w64 c.loop-market.eps-bits in
     let start : IsStart c.args.rows.now eps c.open.new.self.prices.items = subst (IsStart c.args.rows.now eps) (sym c.open.ensures.prices) inv.start in
-    stands_opened c.args.rows.now eps c.open.new.self.prices.items c.open.new.self.holders.items c.open.new.self.owns.items (length c.loop-ending.market.holders.items) (length c.loop-ending.market.owns.items) start inv.holders inv.owns c.open.ensures.holders c.open.ensures.owns
+    stands_opened c.args.rows.now eps c.open.new.self.prices.items c.open.new.self.holders.items c.open.new.self.owns.items (length c.loop-market.market.holders.items) (length c.loop-market.market.owns.items) start inv.holders inv.owns c.open.ensures.holders c.open.ensures.owns
+
+pub loop-market-preserved : goal.loop-market-preserved
+loop-market-preserved c =
+    let f : FitsSigned w64 c.in-Some.next = search rules in
+    let inv = c.loop-market.invariant in
+    let eps = to_z w64 c.loop-market.eps-bits in
+    let after = c.in_ok-ending.ensures in
+    let range = c.in-Some.ensures.range in
+    let less = c.in-Some.ensures.less in
+    simp to_z-of_z (record {
+      eps_is = range;
+      start = start_next c.args.rows.now eps c.in-Some.next c.loop-market.market.prices.items c.play.new.self.prices.items c.play.new.self.holders.items c.play.new.self.owns.items range less inv.start after.stands;
+      holders = after.stands.holders_are;
+      clean = after.clean;
+      owns = after.stands.owns_are;
+    })

@@ -1,7 +1,9 @@
 use Rattle.std.proofs.Common.{pos, ◌+◌, ◌<◌, length}
 use Rattle.std.specs.Prelude.{◌+ℤ◌, ◌≤ℤ◌}
 use Rattle.auc_graph.specs.Assignment.{total}
+use Rattle.std.specs.BinaryHeap.{heap_items}
 use Rattle.auc_direct.specs.Market.{HaveAllBut, Stands}
+use Rattle.auc_direct.specs.Path.{IsClean}
 use Rattle.auc_direct.proofs.market.Market.chain.Given as goal
 
 abbrev pub invariant-loop-left : goal.invariant-loop-left
@@ -9,6 +11,7 @@ invariant-loop-left l = record {
   stands : Stands l.rows l.eps l.self.prices.items l.self.holders.items l.self.owns.items;
   known : l.person < length l.rows.rows;
   but : HaveAllBut (l.first + 1) l.self.owns.items l.person;
+  clean : IsClean l.rows.objects l.search.labels.items l.search.line.items (heap_items l.search.heap);
   raised : (total l.fn.self.prices.items +ℤ pos l.fn.left) ≤ℤ (total l.self.prices.items +ℤ pos l.left);
 }
 

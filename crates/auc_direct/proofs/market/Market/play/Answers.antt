@@ -8,4 +8,4 @@ pub loop-first-init : goal.loop-first-init
 loop-first-init c =
     let f1 : FitsSigned w64 c.args.eps = c.ranges.eps in
     let low = total_low c.args.self.now.prices.items c.requires.stands.within in
-    simp to_z-of_z (record { stands = c.requires.stands; have = λ i l. absurd (omega (arith, l)); raised = omega (arith, ints, low) })
+    simp to_z-of_z (record { stands = c.requires.stands; have = λ i l. absurd (omega (arith, l)); clean = c.requires.clean; raised = omega (arith, ints, low) })

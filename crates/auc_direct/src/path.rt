@@ -1,0 +1,77 @@
+//! The step of a phase in which a free person goes by a cheapest path to an object that nobody holds.
+
+ghost use Rattle.std.specs.Prelude.{◌≡◌, ◌<◌, length, IfOk, OnOk};
+ghost use Rattle.std.specs.BinaryHeap.{heap_items};
+ghost use Rattle.auc_letters.specs.Price.{IsEps};
+ghost use Rattle.auc_direct.specs.declared.market.TheConstants.{NOBODY};
+ghost use Rattle.auc_direct.specs.Endings.{IsPathStep};
+ghost use Rattle.auc_direct.specs.Market.{EachHasArc, Stands, own_at};
+ghost use Rattle.auc_direct.specs.Path.{IsClean};
+ghost use Rattle.auc_direct.specs.Rows.{AreShorts};
+
+use crate::ending::PathStep;
+use crate::market::Market;
+use crate::rows::ShortRows;
+use crate::search::Search;
+use crate::walk::{fits, hand_over, raise};
+use std::alloc::AllocError;
+
+impl Market {
+    /// A free person goes by a cheapest path: he has an object behind it, and so has each whom it moves. Nothing changes where no object
+    /// that nobody holds is in reach, or a price would pass the greatest.
+    pub(crate) fn path(
+        &mut self,
+        rows: &ShortRows,
+        eps: i64,
+        start: u32,
+        search: &mut Search,
+    ) -> Result<PathStep, AllocError>
+        requires start { start < length rows.now.rows }
+        requires arcs { EachHasArc rows.now }
+        requires eps { IsEps eps }
+        requires sound { AreShorts rows.now }
+        requires stands { Stands rows.now eps self.old.prices.items self.old.holders.items self.old.owns.items }
+        requires none { (own_at self.old.owns.items start).object ≡ NOBODY }
+        requires clean { IsClean rows.now.objects search.old.labels.items search.old.line.items (heap_items search.old.heap) }
+        ensures step { IfOk result (λ s. IsPathStep rows.now eps start s self.old.prices.items self.old.holders.items self.old.owns.items self.new.prices.items self.new.holders.items self.new.owns.items) }
+        ensures clean { OnOk result (IsClean rows.now.objects search.new.labels.items search.new.line.items (heap_items search.new.heap)) }
+    {
+        let found = search.find(
+            rows,
+            eps,
+            self.prices.as_slice(),
+            self.holders.as_slice(),
+            start,
+        )?;
+        let Some(end) = found else {
+            search.clear();
+            return Ok(PathStep::Stayed);
+        };
+        let near = search.labels[end as usize].near;
+        if !fits(
+            self.prices.as_slice(),
+            search.labels.as_slice(),
+            search.line.as_slice(),
+            near,
+        ) {
+            search.clear();
+            return Ok(PathStep::Stayed);
+        }
+        raise(
+            self.prices.as_mut_slice(),
+            search.labels.as_slice(),
+            search.line.as_slice(),
+            near,
+        );
+        hand_over(
+            rows,
+            self.holders.as_mut_slice(),
+            self.owns.as_mut_slice(),
+            search.labels.as_slice(),
+            end,
+            start,
+        );
+        search.clear();
+        Ok(PathStep::Placed)
+    }
+}

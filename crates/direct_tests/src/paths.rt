@@ -1,0 +1,71 @@
+//! Where bids at eps 1 would go on for billions, since many want few objects: paths end that within a few.
+
+use crate::texts::{AMPLE, answered, problem_of, text_of};
+use auc_direct::{DirectLimits, solve_direct_from};
+use auc_graph::{Arc, ArcList};
+use std::test::*;
+
+/// Three persons, of whom each has one of two objects for nothing, and else pays the greatest cost.
+const THREE: &str = "3\n1 1 0 1 2 0 1 3 1000000000\n2 1 0 2 2 0 2 3 1000000000\n3 1 0 3 2 0 3 3 1000000000\n";
+
+/// Far fewer bids than the greatest cost is steps of eps.
+const FEW: DirectLimits = DirectLimits { bids: 1_000 };
+
+/// Each person has each object; the first ones for nothing, and the others for a penalty.
+fn crowd(
+    rt: &HostRuntime,
+    persons: u32,
+    objects: u32,
+    free: u32,
+    penalty: i64,
+) -> Result<ArcList, Fail> {
+    let mut arcs = Vec::new(rt.alloc());
+    for person in 0..persons {
+        for object in 0..objects {
+            let cost = if object < free { 0 } else { penalty };
+            arcs.push(Arc {
+                cost,
+                person,
+                object,
+            })?;
+        }
+    }
+    ArcList::from_arcs(persons, objects, arcs).map_err(|_| Fail::new("no problem"))
+}
+
+/// More objects than persons, and one of them costs the most.
+#[test]
+fn a_penalty_with_objects_to_spare(rt: HostRuntime) -> Result<(), Fail> {
+    let problem = problem_of(&rt, THREE, 4)?;
+    let told = answered(&rt, &problem, &FEW)?;
+    assert!(rt; told.as_slice().starts_with(b"auction 2\noptimal 3 4 1000000000\n"));
+    Ok(())
+}
+
+/// Twenty persons, fifteen free objects, and ten that cost the most.
+#[test]
+fn many_penalties_with_objects_to_spare(rt: HostRuntime) -> Result<(), Fail> {
+    let problem = crowd(&rt, 20, 25, 15, 1_000_000_000)?;
+    let told = answered(&rt, &problem, &FEW)?;
+    assert!(rt; told.as_slice().starts_with(b"auction 2\noptimal 20 25 5000000000\n"));
+    Ok(())
+}
+
+/// From prices of 0 there is one phase, at eps 1.
+#[test]
+fn a_start_without_prices(rt: HostRuntime) -> Result<(), Fail> {
+    let problem = problem_of(&rt, THREE, 0)?;
+    let answer = solve_direct_from(rt.alloc(), &problem, &FEW, &[0, 0, 0])?;
+    let told = text_of(&rt, &problem, answer)?;
+    assert!(rt; told.as_slice().starts_with(b"auction 1\noptimal 3 1000000000\n"));
+    Ok(())
+}
+
+/// A price war in phases of falling eps.
+#[test]
+fn a_war_in_all_phases(rt: HostRuntime) -> Result<(), Fail> {
+    let problem = crowd(&rt, 40, 40, 39, 1_000_000_000)?;
+    let told = answered(&rt, &problem, &AMPLE)?;
+    assert!(rt; told.as_slice().starts_with(b"auction 1\noptimal 40 1000000000\n"));
+    Ok(())
+}

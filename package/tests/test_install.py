@@ -1,6 +1,7 @@
 """install: where it puts things with DESTDIR, what it says that it left out, and that --uninstall takes away just that."""
 import os
 import shutil
+import sys
 
 from calls import ROOT, VERSION, PackageTest, run, wants_library, wants_program
 
@@ -31,6 +32,8 @@ class Install(PackageTest):
     def test_folders_that_were_made_go(self):
         self.install("new place")
         self.install("new place")
+        # What Python keeps beside modules goes with them.
+        self.done(sys.executable, "-m", "compileall", "-q", self.folder / "new place/share/sigdorf")
         self.install("--uninstall", "new place")
         self.assertEqual(self.files_below(self.folder), [])
 

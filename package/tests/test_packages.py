@@ -133,10 +133,14 @@ class InRoot(PackageTest):
             self.run_page("/usr", page, "/usr/bin:/bin")
         self.run_python(examples="/usr/share/doc/sigdorf/examples")
         self.run_c_program()
-        listed = self.in_root("dpkg --listfiles sigdorf").split()
+        self.assert_purged()
+
+    def assert_purged(self):
+        """Nothing is left, also where Python has kept compiled modules."""
+        self.in_root("python3 -m compileall -q /usr/lib/python3/dist-packages/sigdorf")
+        before = {path for path in self.in_root("dpkg --listfiles sigdorf").split() if "sigdorf" in path or "auction" in path}
         self.in_root("dpkg --purge sigdorf")
-        left = [path for path in listed if os.path.lexists(self.root.path / path.lstrip("/")) and not (self.root.path / path.lstrip("/")).is_dir()]
-        self.assertEqual(left, [])
+        self.assertEqual([path for path in sorted(before) if os.path.lexists(self.root.path / path.lstrip("/"))], [])
 
     def run_python(self, examples, **environment):
         if not self.extra():

@@ -8,6 +8,11 @@ MOST_DECIMALS = 9
 
 
 AMOUNT = re.compile(r"([+\-\u2212]?)([0-9]*)(?:([.,])([0-9]*))?")
+# What parts thousands, apart from a point or a comma: blanks and apostrophes.
+THOUSANDS = " '\u2019"
+DELETE_THOUSANDS = str.maketrans("", "", THOUSANDS)
+# An amount whose thousands are parted: by the second group, which is the same between all of them.
+GROUPED = re.compile(rf"([+\-\u2212]?)[0-9]{{1,3}}([.,{THOUSANDS}])[0-9]{{3}}(?:\2[0-9]{{3}})*(?:(?!\2)([.,])[0-9]*)?")
 
 
 class NotAnAmount(ValueError):
@@ -27,6 +32,12 @@ class Parts(NamedTuple):
     fraction: str
 
 
+def ungrouped(text, mark):
+    """An amount without what parts its thousands, where decimals stand behind a mark; another text as it is."""
+    found = GROUPED.fullmatch(text)
+    return text.replace(found[2], "") if found and found[2] != mark and found[3] in (None, mark) else text
+
+
 def parts_of(text):
     """The parts of an amount, or None where the text is none."""
     found = AMOUNT.fullmatch(text)
@@ -35,17 +46,24 @@ def parts_of(text):
     return Parts(found[1], found[2].lstrip("0"), found[3], (found[4] or "").rstrip("0"))
 
 
-def units_of(text, decimals, marks):
-    """How many smallest units an amount is, where a unit of the table has 10^decimals of them. Marks are the signs that may part the decimals off."""
-    parts = parts_of(text)
+def parts_with(text, mark):
+    """The parts of an amount whose decimals stand behind a mark; a text that is none is a fault."""
+    parts = parts_of(ungrouped(text, mark))
     if not parts:
-        raise NotAnAmount("is no number")
-    if parts.mark and parts.mark not in marks:
-        raise NotAnAmount(f"has a {'comma' if parts.mark == ',' else 'point'} in it, and decimals of this table stand behind a {'comma' if ',' in marks else 'point'}")
+        raise NotAnAmount("is no number; write digits alone, or leave the cell empty where the pair isn't allowed")
+    if parts.mark not in (None, mark):
+        found, wanted = ("comma", "point") if parts.mark == "," else ("point", "comma")
+        raise NotAnAmount(f"has a {found} in it, and decimals of this table stand behind a {wanted}; write all of them so, or say --decimal-mark {found}")
+    return parts
+
+
+def units_of(text, decimals, mark):
+    """How many smallest units an amount is, where a unit of the table has 10^decimals of them, and decimals stand behind a mark."""
+    parts = parts_with(text, mark)
     if len(parts.fraction) > decimals:
         raise TooManyDecimals(f"has more decimals than the {decimals} that are kept")
     if not is_in_range(parts, decimals):
-        raise NotAnAmount(f"is out of range: with {decimals} decimals the most is {amount_of(MOST, decimals, '.')}")
+        raise NotAnAmount(f"is out of range: with {decimals} decimals the most is {amount_of(MOST, decimals, '.')}; count in greater units")
     units = int((parts.whole + parts.fraction.ljust(decimals, "0")) or "0")
     return units if parts.sign in ("", "+") else -units
 
@@ -58,18 +76,24 @@ def is_in_range(parts, decimals):
     return int(digits) < MOST or int(digits) == MOST and len(parts.fraction) <= decimals
 
 
-def way_out(texts, marks):
-    """What a planner can do about decimals that aren't kept: the end of a sentence. It holds of all amounts among the texts, so that what it names isn't refused next."""
-    amounts = [parts for parts in map(parts_of, texts) if parts and (not parts.mark or parts.mark in marks)]
-    wanted = max(len(parts.fraction) for parts in amounts)
-    most = max((decimals for decimals in range(MOST_DECIMALS + 1) if all(is_in_range(parts, decimals) for parts in amounts)), default=None)
+def room_for_decimals(amounts):
+    """How many decimals all of the amounts may have, and how many they have; of the first, None where one of them is too great to have any."""
+    wanted = max((len(parts.fraction) for parts in amounts), default=0)
+    return max((decimals for decimals in range(MOST_DECIMALS + 1) if all(is_in_range(parts, decimals) for parts in amounts)), default=None), wanted
+
+
+def way_out(texts, mark, is_found):
+    """What a planner can do about decimals that aren't kept: the end of a sentence. It holds of all amounts among the texts, so that what it names isn't refused next.
+    Where the number of decimals is found in the table, it needn't be said."""
+    parts = [parts_of(ungrouped(text, mark)) for text in texts]
+    most, wanted = room_for_decimals([each for each in parts if each and each.mark in (None, mark)])
     if most is None:
         return "; round it in the table"
     if wanted <= most:
         return f"; --decimals {wanted} keeps them"
     reason = "no cost can have more" if most == MOST_DECIMALS else "costs as great as these can't have more"
     kept = f"{most} decimal{'s' * (most > 1)}" if most else "whole numbers"
-    return f"; round the costs in the table to {kept} and say --decimals {most}, since {reason}"
+    return f"; round the costs in the table to {kept}{'' if is_found else f' and say --decimals {most}'}, since {reason}"
 
 
 def amount_of(units, decimals, mark):
@@ -77,8 +101,3 @@ def amount_of(units, decimals, mark):
     whole, fraction = divmod(abs(units), 10**decimals)
     sign = "-" if units < 0 else ""
     return f"{sign}{whole}{mark}{fraction:0{decimals}d}" if decimals else f"{sign}{whole}"
-
-
-def mark_of(text):
-    """The point or comma of an amount that has one."""
-    return next((character for character in text if character in ".,"), None)

@@ -60,6 +60,15 @@ def read_claim(file, text, arcs, objects, problem):
     for fault in faults:
         _, what, *place = fault.split()
         raise Fault(f"{file}: it isn't true of {problem}, so it may be of another problem: {INVALID[what].format(*place)}")
+    return told(kind, numbers, first, second)
+
+
+def claim_of(certificate):
+    """The claim of a certificate that somebody else has judged."""
+    return told(*check_certificate.read_claim(certificate))
+
+
+def told(kind, numbers, first, second):
     if kind == "infeasible":
         return Claim(kind, [], [], None, None, first, second)
     return Claim(kind, first, second, numbers[0], numbers[-1], [], [])

@@ -3,16 +3,20 @@ import argparse
 import os
 
 from .amounts import MOST_DECIMALS
-from .names import Names
-from .problems import arc_file_of, problem_of
-from .tables import SEPARATORS, read_table
+from .faults import say
+from .marks import MARKS
+from .names import Names, counted
+from .problems import arc_lines, dummies_of, look_at_size, problem_of
+from .tables import read_table
+from .text_tables import SEPARATORS
 
 
 def add_options(words):
     """The words that say how a table is to be read."""
-    words.add_argument("file", metavar="FILE", help="a table with names: person, object and cost in three columns, or a row for each person and a column for each object")
-    words.add_argument("--decimals", type=number_of_decimals, default=0, metavar="D", help="how many decimals of the costs are kept, 0 to 9; left out, 0")
-    words.add_argument("--maximise", action="store_true", help="look for the greatest total, not for the least")
+    words.add_argument("file", metavar="FILE", help="a table with names: person, object and cost in three columns, or a row for each person and a column for each object; `-` is standard input")
+    words.add_argument("--decimals", type=number_of_decimals, metavar="D", help="how many decimals of the costs are kept, 0 to 9; left out, as many as the table has")
+    words.add_argument("--decimal-mark", choices=list(MARKS), help="what stands before decimals, where it isn't to be found out")
+    words.add_argument("--maximise", "--maximize", action="store_true", help="look for the greatest total, not for the least")
     form = words.add_mutually_exclusive_group()
     form.add_argument("--form", choices=["pairs", "matrix"], help="the form of the table, where it isn't to be found out; --pairs and --matrix say the same")
     form.add_argument("--pairs", dest="form", action="store_const", const="pairs", help="each row is a person, an object and a cost")
@@ -27,21 +31,35 @@ def number_of_decimals(word):
     return int(word)
 
 
-def converted(words):
-    """The text of the arc file, and the names, of the table that the words name."""
+def read_problem(words):
+    """The problem of the table that the words name, and the names of both. Decimals that nobody said are told on standard error."""
     table = read_table(words.file, SEPARATORS.get(words.separator))
-    problem = problem_of(table, words.form, not words.no_header, words.decimals, words.maximise)
-    arcs, dummy_objects = arc_file_of(words.file, problem)
+    problem = problem_of(table, words.form, not words.no_header, words.decimals, words.maximise, MARKS.get(words.decimal_mark))
+    look_at_size(table.file, problem)
+    if words.decimals is None and problem.decimals:
+        say(f"{table.file}: the costs have {counted(problem.decimals, 'decimal')}")
     names = Names(
-        table=os.path.basename(words.file),
+        table=os.path.basename(table.file),
         titles=problem.titles,
         separator=table.separator,
         mark=problem.mark,
-        decimals=words.decimals,
+        decimals=problem.decimals,
         maximise=words.maximise,
         persons=problem.persons,
         objects=problem.objects,
-        dummy_objects=dummy_objects,
-        arcs=arcs,
+        dummy_objects=dummies_of(problem),
+        arcs="",
     )
-    return arcs, names
+    return problem, names
+
+
+def converted(words):
+    """The text of the arc file, and the names, of the table that the words name."""
+    problem, names = read_problem(words)
+    arcs = "".join(arc_lines(problem))
+    return arcs, names._replace(arcs=arcs)
+
+
+def stem_of(file):
+    """What the files are called that are made from a table."""
+    return "table" if file == "-" else os.path.splitext(os.path.basename(file))[0]

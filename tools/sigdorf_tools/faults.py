@@ -29,8 +29,13 @@ def run(main):
 
 
 def tell(sentence):
-    print(f"{os.path.basename(sys.argv[0])}: {sentence}", file=sys.stderr)
+    say(sentence)
     return STATUS
+
+
+def say(sentence):
+    """One sentence on standard error, behind the name of the tool."""
+    print(f"{os.path.basename(sys.argv[0])}: {sentence}", file=sys.stderr)
 
 
 def read_bytes(file):

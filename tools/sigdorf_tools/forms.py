@@ -1,8 +1,6 @@
 """The form of a table: whether it lists pairs, or has a row for each person and a column for each object. What may be either is a fault."""
 import re
 
-from .faults import Fault
-
 # What no name is: a number in whatever notation, with a unit or without letters, and what stands for one that isn't there.
 EXPONENT = re.compile(r"(?<=[0-9.,])[eE](?=[+\-\u2212]?[0-9])")
 NO_NUMBERS = re.compile(r"[+\-\u2212]?(inf|infinity|nan)|[\-\u2010-\u2015\u2212]+", re.IGNORECASE)
@@ -14,34 +12,35 @@ def form_of(table, has_header):
         return form_without_header(table)
     look_for_header(table)
     first, rest = table.rows[0], table.rows[1:]
-    second = [row.cells[1] for row in rest if len(row.cells) > 1]
-    if len(first.cells) != 3 or not first.cells[0] or "" in second:
+    if len(first) != 3 or not first[0]:
         return "matrix"
-    persons = [row.cells[0] for row in table.rows]
-    has_names = not any(map(looks_like_number, second)) or looks_like_number(first.cells[2]) > looks_like_number(first.cells[1])
+    second = [cells[1] for cells in rest if len(cells) > 1]
+    if "" in second:
+        return "matrix"
+    persons = [cells[0] for cells in table.rows]
+    has_names = not any(map(looks_like_number, second)) or looks_like_number(first[2]) > looks_like_number(first[1])
     if has_names or len(set(persons)) < len(persons):
         return "pairs"
-    raise Fault(f"{table.file}, line {first.line}: person, object and cost in three columns, or a row for each person: say --pairs or --matrix")
+    raise table.fault_of_row(0, "person, object and cost in three columns, or a row for each person: say --pairs or --matrix")
 
 
 def look_for_header(table):
     """A first row of numbers alone may be names or costs, and nothing in the table tells which. Where its first cell is empty, it is over a column of names."""
     first = table.rows[0]
-    if not first.cells[0] or not all(is_number(cell) for cell in first.cells if cell):
+    if not first[0] or not all(is_number(cell) for cell in first if cell):
         return
-    pairs = ", or --pairs where each row is a person, an object and a cost" if len(first.cells) == 3 else ""
+    pairs = ", or --pairs where each row is a person, an object and a cost" if len(first) == 3 else ""
     words = "say --matrix where it names the objects, --matrix --no-header where the table is costs alone"
-    raise Fault(f"{table.file}, line {first.line}: the first row is all numbers, which may be names or costs: put a header on top, or {words}{pairs}")
+    raise table.fault_of_row(0, f"the first row is all numbers, which may be names or costs: put a header on top, or {words}{pairs}")
 
 
 def form_without_header(table):
     """The form of a table whose first row is like all others: a matrix is costs alone then, so names are those of pairs."""
-    first = table.rows[0]
-    if len(first.cells) != 3:
+    if len(table.rows[0]) != 3:
         return "matrix"
-    if any(cell and not is_number(cell) for row in table.rows for cell in row.cells[:2]):
+    if any(cell and not is_number(cell) for cells in table.rows for cell in cells[:2]):
         return "pairs"
-    raise Fault(f"{table.file}, line {first.line}: person, object and cost in three columns, or costs alone: say --pairs or --matrix")
+    raise table.fault_of_row(0, "person, object and cost in three columns, or costs alone: say --pairs or --matrix")
 
 
 def looks_like_number(cell):

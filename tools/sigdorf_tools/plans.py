@@ -3,24 +3,33 @@ import csv
 import sys
 
 from .claims import read_arcs, read_claim
+from .names import counted
 
 # How many names a sentence holds.
 MOST_LISTED = 5
 
 
 def rows_of_plan(names, claim):
-    """The rows for an answer."""
+    """The rows for an answer: of a plan those of its pairs, of who and what stays free, and of the total."""
     if claim.kind == "infeasible":
         return rows_of_hall_set(names, claim)
-    rows = [names.titles]
-    for number, (thing, cost) in enumerate(claim.picks, 1):
-        # Who takes a dummy stays without an object.
-        if names.object(thing) is not None:
-            rows.append([names.person(number), names.object(thing), names.amount(cost)])
-    rows.append(["total", "", names.amount(claim.cost)])
+    rows = [names.titles, *rows_of_pairs(names, claim), *rows_of_free(names, claim), ["total", "", names.amount(claim.cost)]]
     if claim.kind == "bracket":
         rows.append([sentence_of(names, claim)])
     return rows
+
+
+def rows_of_pairs(names, claim):
+    """A row for each person who has an object: whoever takes a dummy stays without."""
+    picks = zip(names.persons, claim.picks)
+    return [[person, names.object(thing), names.amount(cost)] for person, (thing, cost) in picks if names.object(thing) is not None]
+
+
+def rows_of_free(names, claim):
+    """A row for each person who has no object, and for each object that nobody has."""
+    taken = {thing for thing, _ in claim.picks}
+    persons = [[person, "", ""] for person, (thing, _) in zip(names.persons, claim.picks) if names.object(thing) is None]
+    return persons + [["", name, ""] for number, name in enumerate(names.objects, 1) if number not in taken]
 
 
 def rows_of_hall_set(names, claim):
@@ -71,6 +80,24 @@ def write_plan(names, file, certificate):
     """Writes the plan of a certificate, whose file is named for faults, to standard output, as a table like the one that the names are from."""
     objects = names.number_of_objects()
     arcs = read_arcs(names.table, names.arcs.encode(), objects)
-    claim = read_claim(file, certificate, arcs, objects, names.table)
-    sys.stdout.reconfigure(encoding="utf-8", newline="")
-    csv.writer(sys.stdout, delimiter=names.separator, lineterminator="\n").writerows(rows_of_plan(names, claim))
+    write_rows(names, rows_of_plan(names, read_claim(file, certificate, arcs, objects, names.table)))
+
+
+def write_rows(names, rows, output=None):
+    """Writes rows as a table that is parted as the one that the names are from, to standard output or where it is said."""
+    if output is None:
+        output = sys.stdout
+        output.reconfigure(encoding="utf-8", newline="")
+    csv.writer(output, delimiter=names.separator, lineterminator="\n").writerows(rows)
+
+
+def summary_of(names, claim, judges):
+    """What an answer says, who judged it, in half a sentence."""
+    judged = " and ".join(judges)
+    if claim.kind == "infeasible":
+        return f"there is no plan, proved by {judged}"
+    pairs = sum(names.object(thing) is not None for thing, _ in claim.picks)
+    total = f"{counted(pairs, 'pair')}, total {names.amount(claim.cost)}"
+    if claim.kind == "optimal":
+        return f"{total}, proved {'greatest' if names.maximise else 'least'} by {judged}"
+    return f"{total}, proved at most {names._replace(maximise=False).amount(claim.cost - claim.lower)} from the best by {judged}"

@@ -1,7 +1,7 @@
 """Problems with names: who may take what at which cost, from the rows of a table to the text of an arc file."""
 from typing import NamedTuple
 
-from .amounts import NotAnAmount, TooManyDecimals, mark_of, units_of, way_out
+from .costs import cells_of, read_costs
 from .faults import Fault
 from .forms import form_of, looks_like_number
 
@@ -11,83 +11,39 @@ MOST_ARCS = 33_554_432
 TITLES = ["person", "object", "cost"]
 
 
-class Arc(NamedTuple):
-    """Numbers of a person and an object, from 1 on, and a cost in smallest units, on the scale of the solver: the least is the best."""
+class Arcs(NamedTuple):
+    """The arcs of a person: numbers of objects, from 1 on, and their costs in smallest units, on the scale of the solver, where the least is the best: a text in which line ends part them."""
 
-    person: int
-    object: int
-    cost: int
+    objects: list
+    text: str
+
+    def costs(self):
+        return list(map(int, self.text.split("\n"))) if self.objects else []
+
+    def pairs(self):
+        """Each object with its cost."""
+        return dict(zip(self.objects, self.costs()))
 
 
 class Problem(NamedTuple):
+    """The names of persons and objects, each at the place of its number less 1; for each person the arcs; and how costs are told."""
+
     titles: list
     mark: str
+    decimals: int
     persons: list
     objects: list
     arcs: list
 
-
-class Numbers:
-    """Numbers names from 1 on, in the order in which they come."""
-
-    def __init__(self, table, most):
-        self.table, self.most, self.numbers = table, most, {}
-
-    def of(self, row, place):
-        """The number of the name in a cell; a name that wasn't there before has the next one."""
-        name = row.cells[place]
-        if not name:
-            raise self.table.fault(row, place, "a name is wanted, and the cell is empty")
-        number = self.numbers.setdefault(name, len(self.numbers) + 1)
-        if number > self.most:
-            raise self.table.fault(row, place, f"`{name}` is one name more than the {self.most:,} that a problem may have")
-        return number
-
-    def new(self, row, place):
-        """The number of a name that must not have stood before."""
-        before = len(self.numbers)
-        number = self.of(row, place)
-        if number <= before:
-            raise self.table.fault(row, place, f"the name `{row.cells[place]}` stands there twice")
-        return number
+    def count(self):
+        """How many arcs there are."""
+        return sum(len(arcs.objects) for arcs in self.arcs)
 
 
-class Costs:
-    """Reads the costs of a table."""
-
-    def __init__(self, table, decimals, maximise):
-        self.table, self.decimals, self.sign = table, decimals, -1 if maximise else 1
-        self.marks = ".," if table.separator == ";" else "."
-        self.rows, self.columns = [], slice(0)
-
-    def stand_in(self, rows, columns):
-        """Says where all the costs are, since advice on one that is at fault has to suit the others too."""
-        self.rows, self.columns = rows, columns
-
-    def of(self, row, place):
-        text = row.cells[place]
-        try:
-            units = units_of(text, self.decimals, self.marks)
-        except NotAnAmount as why:
-            shown = text if len(text) <= 40 else text[:37] + ".."
-            raise self.table.fault(row, place, f"`{shown}` {why}{self.advice(why)}") from None
-        # The first amount with decimals tells for all others whether they stand behind a point or a comma.
-        self.marks = mark_of(text) or self.marks
-        return self.sign * units
-
-    def advice(self, fault):
-        if not isinstance(fault, TooManyDecimals):
-            return ""
-        return way_out((cell for row in self.rows for cell in row.cells[self.columns]), self.marks)
-
-    def mark(self):
-        """What parts decimals off in this table."""
-        return self.marks if len(self.marks) == 1 else ","
-
-
-def problem_of(table, form, has_header, decimals, maximise):
-    """The problem of a table. The form is `pairs`, `matrix`, or None, where the table tells it."""
-    costs = Costs(table, decimals, maximise)
+def problem_of(table, form, has_header, decimals=None, maximise=False, mark=None):
+    """The problem of a table. The form is `pairs`, `matrix`, or None, where the table tells it; so are decimals and their mark."""
+    def costs(groups):
+        return read_costs(table, groups, decimals, maximise, mark)
     if (form or form_of(table, has_header)) == "pairs":
         return problem_of_pairs(table, has_header, costs)
     return problem_of_matrix(table, costs) if has_header else problem_of_costs(table, costs)
@@ -95,90 +51,160 @@ def problem_of(table, form, has_header, decimals, maximise):
 
 def problem_of_pairs(table, has_header, costs):
     """Three columns: person, object, cost. A first row whose third cell doesn't begin as a number does has their titles, unless no header is said to be there."""
-    rows, titles = table.rows, TITLES
     look_at_lengths(table, 3)
-    if has_header and not looks_like_number(rows[0].cells[2]):
-        titles, rows = titles_of(table), rows[1:]
-    costs.stand_in(rows, slice(2, 3))
-    persons, objects, arcs, lines = Numbers(table, MOST_PERSONS), Numbers(table, MOST_OBJECTS), [], {}
-    for row in rows:
-        if not row.cells[2]:
-            raise table.fault(row, 2, "a cost is wanted, and the cell is empty; leave out the row of a pair that isn't allowed")
-        arc = Arc(persons.of(row, 0), objects.of(row, 1), costs.of(row, 2))
-        line, cost = lines.setdefault((arc.person, arc.object), (row.line, arc.cost))
-        if cost != arc.cost:
-            raise table.fault(row, 2, f"`{row.cells[0]}` and `{row.cells[1]}` have another cost in line {line}")
-        if line == row.line:
-            arcs.append(arc)
-    return Problem(titles, costs.mark(), list(persons.numbers), list(objects.numbers), arcs)
+    titles, first = TITLES, 0
+    if has_header and not looks_like_number(table.rows[0][2]):
+        titles, first = titles_of(table), 1
+    persons, objects, amounts = zip(*table.rows[first:])
+    look_for_gap(table, amounts, first, 2, "a cost is wanted, and the cell is empty; leave out the row of a pair that isn't allowed")
+    person_names, person_numbers = numbered(table, persons, first, 0, MOST_PERSONS)
+    object_names, object_numbers = numbered(table, objects, first, 1, MOST_OBJECTS)
+    read = costs([cells_of(amounts, lambda place: (first + place, 2))])
+    texts = read.texts[0].split("\n")
+    pairs = [person * MOST_OBJECTS + thing for person, thing in zip(person_numbers, object_numbers)]
+    if len(set(pairs)) < len(pairs):
+        person_numbers, object_numbers, texts = without_doubles(table, first, pairs, person_numbers, object_numbers, texts)
+    rows = [([], []) for _ in person_names]
+    for person, thing, text in zip(person_numbers, object_numbers, texts):
+        row = rows[person - 1]
+        row[0].append(thing)
+        row[1].append(text)
+    return Problem(titles, read.mark, read.decimals, person_names, object_names, [Arcs(things, "\n".join(amounts)) for things, amounts in rows])
+
+
+def without_doubles(table, first, pairs, *columns):
+    """The columns without the pairs that stand there before at the same cost. At another cost it is a fault."""
+    seen, kept = {}, []
+    for place, (pair, *others) in enumerate(zip(pairs, *columns)):
+        before, cost = seen.setdefault(pair, (place, others[-1]))
+        if cost != others[-1]:
+            person, thing, _ = table.rows[first + place]
+            told = f"`{person}` and `{thing}` have another cost in {table.line_word} {table.lines[first + before]}"
+            raise table.fault(first + place, 2, f"{told}; leave out the row that is wrong")
+        if before == place:
+            kept.append(others)
+    return zip(*kept)
+
+
+def numbered(table, names, first, column, most):
+    """The different names of a column, in their order, and for each row the number of its name."""
+    look_for_gap(table, names, first, column, "a name is wanted, and the cell is empty")
+    numbers = dict.fromkeys(names)
+    if len(numbers) > most:
+        name = list(numbers)[most]
+        raise table.fault(first + names.index(name), column, f"`{name}` is one name more than the {most:,} that a problem may have")
+    numbers = {name: number for number, name in enumerate(numbers, 1)}
+    return list(numbers), list(map(numbers.__getitem__, names))
+
+
+def look_for_gap(table, cells, first, column, sentence):
+    """Each cell of a column has to have something in it."""
+    if "" in cells:
+        raise table.fault(first + cells.index(""), column, sentence)
 
 
 def titles_of(table):
     """The titles of three columns. A row of titles that has a name of the rows below is none, but a row whose cost is no number."""
     first, rest = table.rows[0], table.rows[1:]
     if not rest:
-        raise table.fault(first, 2, f"`{first.cells[2]}` is no number, and there is no row below it")
-    if first.cells[0] in (row.cells[0] for row in rest):
-        raise table.fault(first, 2, f"`{first.cells[2]}` is no number, and `{first.cells[0]}` is no title, since it stands below too")
-    return [cell or title for cell, title in zip(first.cells, TITLES)]
+        raise table.fault(0, 2, f"`{first[2]}` is no number, and there is no row below it; put the pairs below the titles")
+    if first[0] in (cells[0] for cells in rest):
+        raise table.fault(0, 2, f"`{first[2]}` is no number, and `{first[0]}` is no title, since it stands below too; write a number, or titles above")
+    return [cell or title for cell, title in zip(first, TITLES)]
 
 
 def problem_of_matrix(table, costs):
     """A column for each object with its name on top, and a row for each person with his name in front. An empty cell is a pair that isn't allowed."""
     first, rest = table.rows[0], table.rows[1:]
-    look_at_lengths(table, len(first.cells))
-    persons, objects, arcs = Numbers(table, MOST_PERSONS), Numbers(table, MOST_OBJECTS), []
-    costs.stand_in(rest, slice(1, None))
-    for place in range(1, len(first.cells)):
-        objects.new(first, place)
-    for row in rest:
-        person = persons.new(row, 0)
-        arcs += [Arc(person, place, costs.of(row, place)) for place in range(1, len(row.cells)) if row.cells[place]]
+    look_at_lengths(table, len(first))
+    look_at_names(table, first[1:], lambda place: (0, place + 1), MOST_OBJECTS)
+    persons = [cells[0] for cells in rest]
+    look_at_names(table, persons, lambda place: (place + 1, 0), MOST_PERSONS)
     if not rest:
-        raise Fault(f"{table.file}, line {first.line}: there is no person, since no row follows the names of the objects")
-    return Problem([first.cells[0] or TITLES[0], *TITLES[1:]], costs.mark(), list(persons.numbers), list(objects.numbers), arcs)
+        raise table.fault_of_row(0, "there is no person, since no row follows the names of the objects; put a row for each person below")
+    titles = [first[0] or TITLES[0], *TITLES[1:]]
+    return problem_of_rows(titles, persons, first[1:], [cells[1:] for cells in rest], costs, lambda row, column: (row + 1, column + 1))
+
+
+def look_at_names(table, names, place_of, most):
+    """Each name has to stand there once."""
+    if "" in names:
+        raise table.fault(*place_of(names.index("")), "a name is wanted, and the cell is empty")
+    if len(names) > most:
+        raise table.fault(*place_of(most), f"`{names[most]}` is one name more than the {most:,} that a problem may have")
+    seen = set()
+    for place, name in enumerate(names if len(set(names)) < len(names) else ()):
+        if name in seen:
+            raise table.fault(*place_of(place), f"the name `{name}` stands there twice; give each one a name of its own")
+        seen.add(name)
+
+
+def problem_of_rows(titles, persons, objects, rows, costs, place_of):
+    """The problem whose costs stand in a row for each person."""
+    whole = list(range(1, len(objects) + 1))
+    numbers, groups = [], []
+    for row, cells in enumerate(rows):
+        taken = whole
+        if "" in cells:
+            taken = [number for number, cell in zip(whole, cells) if cell]
+            cells = list(filter(None, cells))
+        numbers.append(taken)
+        if cells:
+            groups.append(cells_of(cells, lambda place, row=row, taken=taken: place_of(row, taken[place] - 1)))
+    read = costs(groups)
+    texts = iter(read.texts)
+    return Problem(titles, read.mark, read.decimals, persons, objects, [Arcs(taken, next(texts) if taken else "") for taken in numbers])
 
 
 def problem_of_costs(table, costs):
     """Costs alone: a row for each person and a column for each object, whose names are the numbers of these, from 1 on."""
-    first = table.rows[0]
-    look_at_lengths(table, len(first.cells))
+    rows, columns = len(table.rows), len(table.rows[0])
+    look_at_lengths(table, columns)
     if table.gaps:
-        raise Fault(f"{table.file}, line {table.gaps[0]}: the row is empty, and a person is a row here; leave it out, or give it a cost")
-    for word, count, most in (("row", len(table.rows), MOST_PERSONS), ("column", len(first.cells), MOST_OBJECTS)):
+        raise Fault(f"{table.file}, {table.line_word} {table.gaps[0]}: the row is empty, and a person is a row here; leave it out, or give it a cost")
+    for word, count, most in (("row", rows, MOST_PERSONS), ("column", columns, MOST_OBJECTS)):
         if count > most:
-            raise Fault(f"{table.file}: {count:,} {word}s are more than the {most:,} that a problem may have")
-    costs.stand_in(table.rows, slice(None))
-    arcs = [Arc(person, place + 1, costs.of(row, place)) for person, row in enumerate(table.rows, 1) for place, cell in enumerate(row.cells) if cell]
-    numbers = [str(number) for number in range(1, max(len(table.rows), len(first.cells)) + 1)]
-    return Problem(TITLES, costs.mark(), numbers[: len(table.rows)], numbers[: len(first.cells)], arcs)
+            raise Fault(f"{table.file}: {count:,} {word}s are more than the {most:,} that a problem may have; leave some out")
+    numbers = [str(number) for number in range(1, max(rows, columns) + 1)]
+    return problem_of_rows(TITLES, numbers[:rows], numbers[:columns], table.rows, costs, lambda row, column: (row, column))
 
 
 def look_at_lengths(table, length):
     """Each row has to have as many cells as the first one."""
-    for row in table.rows:
-        if len(row.cells) != length:
-            found = f"the row has {len(row.cells)} column{'s' * (len(row.cells) != 1)}, and {length} are wanted"
-            raise table.fault(row, min(len(row.cells), length), found)
+    for row, cells in enumerate(table.rows):
+        if len(cells) != length:
+            found = f"the row has {len(cells)} column{'s' * (len(cells) != 1)}, and {length} are wanted"
+            raise table.fault(row, min(len(cells), length), f"{found}; fill it up, or put a name with a separator in it into double quotes")
 
 
-def dummies_of(persons, objects):
-    """How many dummy objects a problem gets, and their arcs, which cost nothing.
+def dummies_of(problem):
+    """How many dummy objects a problem gets, which cost nothing.
 
     The solver wants no fewer objects than persons, since each person gets one: whoever takes a dummy stays without. What else is here knows of dummies only
     how many there are.
     """
-    count = max(persons - objects, 0)
-    return count, [Arc(person, objects + dummy, 0) for person in range(1, persons + 1) for dummy in range(1, count + 1)]
+    return max(len(problem.persons) - len(problem.objects), 0)
 
 
-def arc_file_of(file, problem):
-    """The text of the arc file of a problem, and how many dummy objects it has."""
+def arc_lines(problem):
+    """The text of the arc file of a problem, in pieces. Each one is made by one step of the library, from a form with a place for each cost."""
     persons, objects = len(problem.persons), len(problem.objects)
-    total = len(problem.arcs) + max(persons - objects, 0) * persons
+    yield f"{persons}\n"
+    # The form of a row serves for all that follow with the same objects.
+    before, form = None, ""
+    for person, arcs in enumerate(problem.arcs, 1):
+        if arcs.objects != before:
+            before, form = arcs.objects, "".join([f"@ {number} %s\n" for number in arcs.objects])
+        if arcs.objects:
+            yield form.replace("@", str(person)) % tuple(arcs.text.split("\n"))
+    dummies = range(objects + 1, objects + dummies_of(problem) + 1)
+    if dummies:
+        form = "".join(f"@ {dummy} 0\n" for dummy in dummies)
+        yield from (form.replace("@", str(person)) for person in range(1, persons + 1))
+
+
+def look_at_size(file, problem):
+    """A problem has to have no more arcs than the solver takes."""
+    total = problem.count() + dummies_of(problem) * len(problem.persons)
     if total > MOST_ARCS:
-        raise Fault(f"{file}: the problem has {total:,} arcs with those of dummies, and may have {MOST_ARCS:,}")
-    dummy_objects, dummies = dummies_of(persons, objects)
-    lines = [f"{persons}\n"]
-    lines += [f"{arc.person} {arc.object} {arc.cost}\n" for arc in problem.arcs + dummies]
-    return "".join(lines), dummy_objects
+        raise Fault(f"{file}: the problem has {total:,} arcs with those of dummies, and may have {MOST_ARCS:,}; leave out pairs that won't be taken")

@@ -1,7 +1,9 @@
 """from_csv: which tables are read, and which faults are told."""
-import re
+import random
+from fractions import Fraction
 
 from calls import ToolTest
+from sigdorf_tools.costs import cells_of, read_costs
 
 
 class Tables(ToolTest):
@@ -109,35 +111,66 @@ class Amounts(ToolTest):
 
 
 class Decimals(ToolTest):
-    """What is advised where decimals aren't kept isn't refused next."""
+    """As many as the table has, or as are said. What is advised where decimals aren't kept isn't refused next."""
 
+    FOUND = {
+        "a,x,40\na,y,7.28\n": ("1\n1 1 4000\n1 2 728\n", "2 decimals"),
+        "a,x,4.00\na,y,.5\nb,x,5.\n": ("2\n1 1 40\n1 2 5\n2 1 50\n", "1 decimal\n"),
+        "a,x,1\na,y,0.123456789\n": ("1\n1 1 1000000000\n1 2 123456789\n", "9 decimals"),
+        "a,x,-0.0\na,y,-0.05\nb,x,-.50\nb,y,0000000000000000000012.25\n": ("2\n1 1 0\n1 2 -5\n2 1 -50\n2 2 1225\n", "2 decimals"),
+        ",x,y\na,1.50,2\nb,3,\n": ("2\n1 1 15\n1 2 20\n2 1 30\n", "1 decimal\n"),
+        "0.25,3\n2,0.125\n": ("2\n1 1 250\n1 2 3000\n2 1 2000\n2 2 125\n", "3 decimals"),
+        "a;x;2,5\na;y;7\n": ("1\n1 1 25\n1 2 70\n", "1 decimal\n"),
+    }
     TOO_MANY = {
-        "a,x,40\na,y,7.28\n": "--decimals 2 keeps them",
-        "a,x,40\na,y,7.2\nb,y,7.284\n": "--decimals 3 keeps them",
-        "a,x,1\na,y,0.123456789\n": "--decimals 9 keeps them",
-        "a,x,0.12345678901234\n": "round the costs in the table to 9 decimals and say --decimals 9, since no cost can have more",
-        "a,x,40.12345678901234\n": "round the costs in the table to 7 decimals and say --decimals 7, since costs as great as these can't have more",
-        "a,x,0.12345\na,y,99999999.5\n": "round the costs in the table to 1 decimal and say --decimals 1",
-        "a,x,1000000000\na,y,0.5\n": "round the costs in the table to whole numbers and say --decimals 0",
+        "a,x,0.12345678901234\n": "more decimals than the 9 that are kept; round the costs in the table to 9 decimals, since no cost can have more",
+        "a,x,40.12345678901234\n": "round the costs in the table to 7 decimals, since costs as great as these can't have more",
+        "a,x,0.12345\na,y,99999999.5\n": "round the costs in the table to 1 decimal, since",
+        "a,x,1000000000\na,y,0.5\n": "round the costs in the table to whole numbers, since",
         "a,x,0.5\na,y,1000000001\n": "`0.5` has more decimals than the 0 that are kept; round it in the table",
         "a,x,9.9999999999\n": "round the costs in the table to 8 decimals",
-        ",x,y,z\na,1,2.345,x\nb,3,4,5\n": "--decimals 3 keeps them",
+    }
+    SAID = {
+        "a,x,40\na,y,7.28\n": "--decimals 2 keeps them",
+        "a,x,40\na,y,7.2\nb,y,7.284\n": "--decimals 3 keeps them",
+        "a,x,40.12345678901234\n": "round the costs in the table to 7 decimals and say --decimals 7",
     }
 
-    def test_advice(self):
-        for number, table in enumerate(self.TOO_MANY):
+    def test_found(self):
+        for number, table in enumerate(self.FOUND):
+            self.write(f"{number}.csv", table)
+        answers = self.answers([("tools/from_csv", f"{number}.csv", *(["--no-header"] if table[:1] == "0" else [])) for number, table in enumerate(self.FOUND)])
+        for number, ((table, (arcs, said)), answer) in enumerate(zip(self.FOUND.items(), answers)):
+            with self.subTest(table):
+                self.assertEqual(answer[0], 0, answer)
+                self.assertIn(said, answer[2])
+                self.assertEqual(self.read(f"{number}.arcs"), arcs)
+
+    def test_too_many(self):
+        for number, table in enumerate([*self.TOO_MANY, *self.SAID]):
             self.write(f"{number}.csv", table)
         calls = [("tools/from_csv", f"{number}.csv") for number in range(len(self.TOO_MANY))]
-        for (table, wanted), answer in zip(self.TOO_MANY.items(), self.answers(calls)):
+        calls += [("tools/from_csv", f"{number + len(calls)}.csv", "--decimals", "1") for number in range(len(self.SAID))]
+        for (table, wanted), answer in zip([*self.TOO_MANY.items(), *self.SAID.items()], self.answers(calls)):
             with self.subTest(table):
                 self.assert_fault(answer, "more decimals", wanted)
-                keeps = re.search("--decimals ([0-9]+) keeps", answer[2])
-                if keeps and ",x\n" not in table:
-                    self.convert(table, "--decimals", keeps[1])
 
-    def test_costs_alone(self):
-        self.write("table.csv", "0.25,3\n2,0.125\n")
-        self.assert_fault(self.call("tools/from_csv", "table.csv", "--no-header"), "line 1, column 1", "--decimals 3 keeps them")
+    def test_in_process(self):
+        """Whatever shapes the costs of a row have, they are what exact fractions say."""
+        draw = random.Random(7)
+        for _ in range(300):
+            decimals, maximise = draw.randrange(4), draw.random() < 0.3
+            texts = [amount(draw, decimals) for _ in range(draw.randrange(1, 9))]
+            read = read_costs(None, [cells_of(texts, None)], decimals, maximise, ".")
+            wanted = [(-1 if maximise else 1) * Fraction(text.replace("\u2212", "-")) * 10**decimals for text in texts]
+            self.assertEqual(read.texts[0].split("\n"), [str(cost) for cost in wanted], texts)
+
+
+def amount(draw, decimals):
+    """An amount with so many decimals at most, apart from zeros."""
+    whole = draw.choice(["0", "00", "7", "12", "0450", "99999"])
+    fraction = "".join(draw.choice("0159") for _ in range(draw.randrange(decimals + 1)))
+    return draw.choice(["", "", "-", "+", "\u2212"]) + whole + draw.choice(["", f".{fraction}", f".{fraction}0"] if fraction else ["", ".0"])
 
 
 class UnequalNumbers(ToolTest):

@@ -25,11 +25,11 @@ class Plans(ToolTest):
 
     def test_more_objects(self):
         certificate = "auction 2\noptimal 1 2 4\nassign 1 1 4\nprice 1 0\nprice 2 0\n"
-        self.assertEqual(self.plan("a,x,4\na,y,5\n", certificate)[1], "person,object,cost\na,x,4\ntotal,,4\n")
+        self.assertEqual(self.plan("a,x,4\na,y,5\n", certificate)[1], "person,object,cost\na,x,4\n,y,\ntotal,,4\n")
 
     def test_dummies_are_left_out(self):
         more_persons = "auction 1\noptimal 2 4\nassign 1 1 4\nassign 2 2 0\nprice 1 0\nprice 2 12\n"
-        self.assertEqual(self.plan("a,x,4\nb,x,5\n", more_persons)[1], "person,object,cost\na,x,4\ntotal,,4\n")
+        self.assertEqual(self.plan("a,x,4\nb,x,5\n", more_persons)[1], "person,object,cost\na,x,4\nb,,\ntotal,,4\n")
 
     def test_hall_set(self):
         certificate = "auction 1\ninfeasible 2 1\nperson 1\nperson 2\nobject 1\n"

@@ -1,0 +1,76 @@
+"""Solves problems by the program `auction`, and has its answers judged: by its proved checker always, and by the second checker where that takes no long time."""
+import subprocess
+import sys
+import tempfile
+from typing import NamedTuple
+
+from .claims import Claim, claim_of, read_arcs, read_claim
+from .faults import Fault
+
+# Statuses of a solve that come with a certificate.
+ANSWERED = (0, 3, 4)
+# Up to so many arcs the second checker judges unasked: it takes some seconds for them.
+MOST_FOR_SECOND = 200_000
+PROVED, SECOND = "the proved checker", "the second one"
+
+
+class Answer(NamedTuple):
+    """A claim that was judged, the certificate that has it, the status of the solve, and who judged it."""
+
+    claim: Claim
+    certificate: bytes
+    status: int
+    judges: list
+
+
+class Solver:
+    """The program, the limits of its search, and whether the second checker is asked whatever the size."""
+
+    def __init__(self, program, bids=None, workers=None, has_second=False):
+        self.program, self.has_second = program, has_second
+        self.limits = [f"--{name}={value}" for name, value in (("bids", bids), ("workers", workers)) if value is not None]
+
+    def answer(self, name, pieces, count, objects, start=None):
+        """The answer for the text of an arc file, which comes in pieces and has so many arcs and objects. Its name is for faults. A search may start from an old certificate, where objects are as
+        many as persons."""
+        with tempfile.NamedTemporaryFile("w", suffix=".arcs", encoding="ascii") as file, tempfile.NamedTemporaryFile("wb", suffix=".certificate") as old:
+            file.writelines(pieces)
+            file.flush()
+            old.write(start or b"")
+            old.flush()
+            more = [f"--objects={objects}"] if objects else []
+            # The checker reads the problem while it is solved, and waits for the answer.
+            with self.started(["check", file.name, *more]) as checker:
+                try:
+                    certificate, status = self.solved(name, file.name, [*self.limits, *more, *([f"--from={old.name}"] if start else [])])
+                except BaseException:
+                    checker.kill()
+                    raise
+                verdict = checker.communicate(certificate)[0].decode("latin-1").strip()
+            if not verdict.startswith("valid"):
+                raise Fault(f"{name}: the answer of {self.program} doesn't hold, as its checker says ({verdict or 'status ' + str(checker.returncode)}); install the program anew")
+            claim, judges = claim_of(certificate), [PROVED]
+            if self.has_second or count <= MOST_FOR_SECOND:
+                with open(file.name, "rb") as problem:
+                    arcs = read_arcs(name, problem.read(), objects)
+                claim = read_claim("the answer of the solver", certificate, arcs, objects or len(arcs), name)
+                judges.append(SECOND)
+        return Answer(claim, certificate, status, judges)
+
+    def started(self, words):
+        try:
+            return subprocess.Popen([self.program, *words], stdin=subprocess.PIPE, stdout=subprocess.PIPE, stderr=subprocess.PIPE)
+        except OSError as error:
+            raise Fault(f"{self.program}: it can't be run: {error.strerror}; name a built program by --program") from None
+
+    def solved(self, name, file, words):
+        """The certificate and the status of a solve. What the program says of the file, which is none of the planner's, is left out: the plan says it by names."""
+        with self.started(["solve", file, *words]) as running:
+            certificate, said = running.communicate()
+        for line in said.splitlines(keepends=True):
+            if not line.startswith(f"auction: {file}".encode()):
+                sys.stderr.write(line.decode("utf-8", "replace"))
+        if running.returncode not in ANSWERED:
+            told = certificate.decode("latin-1").strip() or "its own words stand above"
+            raise Fault(f"{name}: the solver gave no answer, but status {running.returncode} ({told})")
+        return certificate, running.returncode

@@ -1,0 +1,110 @@
+"""Tables as text, as spreadsheets write them for others: CSV with commas, semicolons or tabs, in UTF-8.
+
+Rows come as fast as the library parts them: what is rare, as a quote or white space around a cell, is looked for once in the whole text, and not in each cell.
+"""
+import csv
+import io
+import itertools
+import re
+
+from .faults import Fault
+
+# In the order in which they are preferred where more than one parts the table evenly.
+SEPARATORS = {"tab": "\t", "semicolon": ";", "comma": ","}
+# By how many rows, and by how many characters, the separator is found.
+SAMPLE, SAMPLE_CHARACTERS = 1_000, 400_000
+# What Excel reads above a table: the separator, in a line of its own.
+SEPARATOR_LINE = re.compile(r"sep=([^\r\n]?)(?:\r\n|\r|\n|\Z)", re.IGNORECASE)
+# The bytes of a plain text in ASCII.
+PLAIN_BYTES = bytes(range(32, 127)) + b"\t\r\n"
+
+
+def read_text(file, content, separator):
+    """The separator of a text, its rows of cells, the lines where they begin, and whether all cells are plain."""
+    text = text_of(file, content)
+    told, text, skipped = separator_line_of(file, text)
+    separator = separator or told or separator_of(text)
+    rows, lines = rows_of(file, text, separator, skipped)
+    # A cell with a line end in it makes the lines no range.
+    return separator, rows, lines, isinstance(lines, range) and is_plain(text, separator)
+
+
+def text_of(file, content):
+    """The text of a file in UTF-8, with or without a byte order mark."""
+    if content.startswith((b"\xff\xfe", b"\xfe\xff")):
+        raise Fault(f"{file}: it is UTF-16; save the table as CSV in UTF-8")
+    try:
+        return content.decode("utf-8-sig")
+    except UnicodeDecodeError as error:
+        before = content[: error.start]
+        line, byte = before.count(b"\n") + 1, error.start - (before.rfind(b"\n") + 1) + 1
+        raise Fault(f"{file}, line {line}, byte {byte} of the line: no UTF-8; save the table as CSV in UTF-8") from None
+
+
+def separator_line_of(file, text):
+    """The separator that a first line `sep=;` tells, the text below it, and how many lines are left out so."""
+    found = SEPARATOR_LINE.match(text)
+    if not found:
+        return None, text, 0
+    if found[1] not in SEPARATORS.values():
+        raise Fault(f"{file}, line 1, column 1: `{found[0].strip()}` names no tab, semicolon or comma; part the columns by one of these")
+    return found[1], text[found.end() :], 1
+
+
+def separator_of(text):
+    """The separator that parts the rows evenly, or else the one that parts the first row most. (`csv.Sniffer` takes `a;x;1,5` to be parted by commas.)"""
+    sample = text[:SAMPLE_CHARACTERS]
+    if len(sample) < len(text):
+        # A row that is cut says nothing.
+        sample = sample[: max(sample.rfind("\n"), sample.rfind("\r")) + 1]
+    for separator in SEPARATORS.values():
+        try:
+            lengths = {len(cells) for cells in itertools.islice(reader_of(sample, separator), SAMPLE) if "".join(cells).strip()}
+        except csv.Error:
+            continue
+        if len(lengths) == 1 and max(lengths) > 1:
+            return separator
+    first = text.lstrip("\r\n").split("\n", 1)[0]
+    return max(SEPARATORS.values(), key=first.count)
+
+
+def reader_of(text, separator):
+    return csv.reader(io.StringIO(text, newline=""), delimiter=separator, strict=True)
+
+
+def rows_of(file, text, separator, skipped):
+    """The rows of a text, and the line of each."""
+    if '"' not in text:
+        lines = text.replace("\r\n", "\n").replace("\r", "\n").removesuffix("\n").split("\n")
+        if max(map(len, lines)) <= csv.field_size_limit():
+            return [line.split(separator) for line in lines], range(1 + skipped, len(lines) + 1 + skipped)
+    rows, lines, line = [], [], 1 + skipped
+    reader = reader_of(text, separator)
+    try:
+        for cells in reader:
+            rows.append(cells)
+            lines.append(line)
+            line = reader.line_num + 1 + skipped
+    except csv.Error as error:
+        long = "field larger" in str(error)
+        what = f"a cell is longer than {csv.field_size_limit():,} characters; shorten it" if long else "a quote doesn't end where its cell ends; write a quote inside a cell twice"
+        raise Fault(f"{file}, line {line}, column {column_of_fault(text, separator, line - skipped)}: {what}") from None
+    return rows, range(1 + skipped, line) if reader.line_num == len(rows) else lines
+
+
+def column_of_fault(text, separator, line):
+    """The column of the first cell of a row that the reader can't take; the row begins at a line."""
+    place = next(itertools.islice(re.finditer(r"^|(?<=\r)(?!\n)|(?<=\n)", text), line - 1, None)).end()
+    cell, column = re.compile(rf'(?:"(?:[^"]|"")*+"|[^"\r\n{separator}][^\r\n{separator}]*+|)(?={separator})'), 1
+    while (found := cell.match(text, place)) and len(found[0]) <= csv.field_size_limit():
+        place, column = found.end() + 1, column + 1
+    return column
+
+
+def is_plain(text, separator):
+    """Whether all white space in cells is single blanks between other characters, and no control character is there. Each is looked for by a search for a string."""
+    around = (separator, "\n", "\r", '"', " ")
+    if any(f" {end}" in text or f"{end} " in text for end in around) or text[:1] == " " or text[-1:] == " ":
+        return False
+    foreign = text.encode().translate(None, PLAIN_BYTES).decode()
+    return foreign.isprintable() and (separator == "\t" or "\t" not in text)

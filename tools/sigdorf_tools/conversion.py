@@ -3,6 +3,7 @@ import argparse
 import os
 
 from .amounts import MOST_DECIMALS
+from .columns import picked, titles_said
 from .faults import say
 from .marks import MARKS
 from .names import Names, counted
@@ -13,7 +14,7 @@ from .text_tables import SEPARATORS
 
 def add_options(words):
     """The words that say how a table is to be read."""
-    words.add_argument("file", metavar="FILE", help="a table with names: person, object and cost in three columns, or a row for each person and a column for each object; `-` is standard input")
+    words.add_argument("file", metavar="FILE", help="a table with names: person, object and cost in three columns, or a row for each person and a column for each object; CSV, .xlsx, .ods or .json; `-` is standard input")
     words.add_argument("--decimals", type=number_of_decimals, metavar="D", help="how many decimals of the costs are kept, 0 to 9; left out, as many as the table has")
     words.add_argument("--decimal-mark", choices=list(MARKS), help="what stands before decimals, where it isn't to be found out")
     words.add_argument("--maximise", "--maximize", action="store_true", help="look for the greatest total, not for the least")
@@ -22,6 +23,8 @@ def add_options(words):
     form.add_argument("--pairs", dest="form", action="store_const", const="pairs", help="each row is a person, an object and a cost")
     form.add_argument("--matrix", dest="form", action="store_const", const="matrix", help="the first row names the objects, and the first column the persons")
     words.add_argument("--no-header", action="store_true", help="the first row has no names: of pairs it is one, and a matrix is costs alone, whose rows and columns are numbered")
+    words.add_argument("--columns", metavar="WHO,WHAT,COST", help="the titles of the columns of person, object and cost, where a table of pairs has more columns; with --no-header their numbers")
+    words.add_argument("--sheet", metavar="NAME", help="the sheet of a workbook, where more than one has cells")
     words.add_argument("--separator", choices=list(SEPARATORS), help="what parts the columns, where it isn't to be found out")
 
 
@@ -33,8 +36,11 @@ def number_of_decimals(word):
 
 def read_problem(words):
     """The problem of the table that the words name, and the names of both. Decimals that nobody said are told on standard error."""
-    table = read_table(words.file, SEPARATORS.get(words.separator))
-    problem = problem_of(table, words.form, not words.no_header, words.decimals, words.maximise, MARKS.get(words.decimal_mark))
+    table, has_header = read_table(words.file, SEPARATORS.get(words.separator), words.sheet), not words.no_header
+    form = words.form
+    if words.columns is not None:
+        table, form = picked(table, titles_said(words.columns), [], has_header)[0], "pairs"
+    problem = problem_of(table, form, has_header, words.decimals, words.maximise, MARKS.get(words.decimal_mark))
     look_at_size(table.file, problem)
     if words.decimals is None and problem.decimals:
         say(f"{table.file}: the costs have {counted(problem.decimals, 'decimal')}")

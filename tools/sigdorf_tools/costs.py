@@ -69,7 +69,7 @@ def read_costs(table, groups, decimals=None, maximise=False, mark=None):
 def amounts_with(mark):
     """The shapes of amounts whose decimals stand behind a mark."""
     decimals, parts = re.escape(mark), re.escape(OTHER[mark] + THOUSANDS)
-    return re.compile(rf"[+\-\u2212]?(?:0+(?:{decimals}0*)?|{decimals}0+|0{{1,3}}([{parts}])000(?:\1000)*(?:{decimals}0*)?)")
+    return re.compile(rf"[+\-\u2212]?(?:0+(?:{decimals}0*)?|{decimals}0+|0{{1,3}}([{parts}])000(?:\1(?:000))*(?:{decimals}0*)?)")
 
 
 def mark_of(table, groups, has_decimals):

@@ -13,6 +13,7 @@ def form_of(table, has_header):
     look_for_header(table)
     first, rest = table.rows[0], table.rows[1:]
     if len(first) != 3 or not first[0]:
+        look_for_more_columns(table)
         return "matrix"
     second = [cells[1] for cells in rest if len(cells) > 1]
     if "" in second:
@@ -22,6 +23,14 @@ def form_of(table, has_header):
     if has_names or len(set(persons)) < len(persons):
         return "pairs"
     raise table.fault_of_row(0, "person, object and cost in three columns, or a row for each person: say --pairs or --matrix")
+
+
+def look_for_more_columns(table):
+    """A column without a number, behind the first one, is none of costs: so the table has more columns than a matrix, and which ones are to be taken has to be said."""
+    rest = table.rows[1:]
+    for column, cell in enumerate(rest[0] if rest else [], 0):
+        if column and cell and not is_number(cell) and not looks_like_number(cell) and not any(is_number(cells[column]) for cells in rest if column < len(cells)) and len(rest) > 1:
+            raise table.fault(1, column, f"`{cell}` is no cost, nor is another cell of this column; say --columns with the titles of person, object and cost, or leave the column out")
 
 
 def look_for_header(table):

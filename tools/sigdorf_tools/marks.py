@@ -10,7 +10,7 @@ TO_SHAPE = str.maketrans("123456789", "000000000")
 MARKS = {"point": ".", "comma": ","}
 OTHER = {".": ",", ",": "."}
 SIGN = r"[+\-\u2212]?"
-PARTED = re.compile(rf"{SIGN}0{{1,3}}([.,{THOUSANDS}])000(?:\1000)*(?:(?!\1)([.,])0*)?")
+PARTED = re.compile(rf"{SIGN}0{{1,3}}([.,{THOUSANDS}])000(?:\1(?:000))*(?:(?!\1)([.,])0*)?")
 ONE_MARK = re.compile(rf"{SIGN}0*([.,])0*")
 TWO_MEANINGS = re.compile(rf"{SIGN}0{{1,3}}[.,]000")
 

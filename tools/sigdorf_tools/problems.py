@@ -4,6 +4,7 @@ from typing import NamedTuple
 from .costs import cells_of, read_costs
 from .faults import Fault
 from .forms import form_of, looks_like_number
+from .tables import look_at_lengths
 
 MOST_PERSONS = 10_000
 MOST_OBJECTS = 20_000
@@ -44,7 +45,7 @@ def problem_of(table, form, has_header, decimals=None, maximise=False, mark=None
     """The problem of a table. The form is `pairs`, `matrix`, or None, where the table tells it; so are decimals and their mark."""
     def costs(groups):
         return read_costs(table, groups, decimals, maximise, mark)
-    if (form or form_of(table, has_header)) == "pairs":
+    if table.is_pairs or (form or form_of(table, has_header)) == "pairs":
         return problem_of_pairs(table, has_header, costs)
     return problem_of_matrix(table, costs) if has_header else problem_of_costs(table, costs)
 
@@ -167,14 +168,6 @@ def problem_of_costs(table, costs):
             raise Fault(f"{table.file}: {count:,} {word}s are more than the {most:,} that a problem may have; leave some out")
     numbers = [str(number) for number in range(1, max(rows, columns) + 1)]
     return problem_of_rows(TITLES, numbers[:rows], numbers[:columns], table.rows, costs, lambda row, column: (row, column))
-
-
-def look_at_lengths(table, length):
-    """Each row has to have as many cells as the first one."""
-    for row, cells in enumerate(table.rows):
-        if len(cells) != length:
-            found = f"the row has {len(cells)} column{'s' * (len(cells) != 1)}, and {length} are wanted"
-            raise table.fault(row, min(len(cells), length), f"{found}; fill it up, or put a name with a separator in it into double quotes")
 
 
 def dummies_of(problem):

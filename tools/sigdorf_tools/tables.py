@@ -4,6 +4,8 @@ import unicodedata
 from typing import NamedTuple
 
 from .faults import Fault, read_bytes
+from .json_tables import read_json
+from .sheets import WORKBOOK, read_workbook
 from .text_tables import read_text
 
 # What an old workbook of Excel begins with.
@@ -11,7 +13,8 @@ OLD_WORKBOOK = b"\xd0\xcf\x11\xe0\xa1\xb1\x1a\xe1"
 
 
 class Table(NamedTuple):
-    """The cells of each row that isn't empty, the lines where these rows begin, and the lines of empty rows that have cells. Rows and columns are named by places, from 0 on."""
+    """The cells of each row that isn't empty, the lines where these rows begin, and the lines of empty rows that have cells. Rows and columns are named by places, from 0 on.
+    Of a table whose columns were picked the columns say where these stand in the file. Where it is known to be pairs below their titles, that is said."""
 
     file: str
     separator: str
@@ -19,20 +22,33 @@ class Table(NamedTuple):
     lines: list
     gaps: list
     line_word: str = "line"
+    columns: list | None = None
+    is_pairs: bool = False
 
     def fault(self, row, column, sentence):
+        if self.columns:
+            column = self.columns[column]
         return Fault(f"{self.file}, {self.line_word} {self.lines[row]}, column {column + 1}: {sentence}")
 
     def fault_of_row(self, row, sentence):
         return Fault(f"{self.file}, {self.line_word} {self.lines[row]}: {sentence}")
 
 
-def read_table(file, separator=None):
-    """The table of a file, without its empty rows. A separator that isn't given is found."""
+def read_table(file, separator=None, sheet=None):
+    """The table of a file, without its empty rows. A separator that isn't given is found, and the only sheet of a workbook is taken."""
     content = sys.stdin.buffer.read() if file == "-" else read_bytes(file)
+    is_json = file.lower().endswith(".json") or file == "-" and content.lstrip()[:1] in (b"[", b"{")
     file = name_of(file)
     if content.startswith(OLD_WORKBOOK):
         raise Fault(f"{file}: it is a workbook of an old Excel (.xls); save it as .xlsx, or as CSV in UTF-8")
+    if content.startswith(WORKBOOK):
+        rows, lines = read_workbook(file, content, sheet)
+        return table_of(file, ",", rows, lines, False)
+    if sheet is not None:
+        raise Fault(f"{file}: --sheet is said, and this is no workbook; leave it out")
+    if is_json:
+        (rows, lines, word), is_pairs = read_json(file, content)
+        return table_of(file, ",", rows, lines, False, word)._replace(is_pairs=is_pairs)
     return table_of(file, *read_text(file, content, separator))
 
 
@@ -64,3 +80,11 @@ def look_for_control_characters(table):
         for column, cell in enumerate(cells):
             if not cell.isprintable() and any(unicodedata.category(character) == "Cc" for character in cell):
                 raise table.fault(row, column, "a control character; a name or a number is wanted")
+
+
+def look_at_lengths(table, length):
+    """Each row has to have as many cells as the first one."""
+    for row, cells in enumerate(table.rows):
+        if len(cells) != length:
+            found = f"the row has {len(cells)} column{'s' * (len(cells) != 1)}, and {length} are wanted"
+            raise table.fault(row, min(len(cells), length), f"{found}; fill it up, or put a name with a separator in it into double quotes")

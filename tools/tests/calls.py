@@ -15,6 +15,14 @@ def has_program():
     return unittest.skipUnless("AUCTION" in os.environ, "it needs a built program (--program)")
 
 
+def python_with(*modules):
+    """A Python that has these modules, this one or the system's; None where neither has."""
+    for python in (sys.executable, "/usr/bin/python3"):
+        if os.path.exists(python) and subprocess.run([python, "-c", f"import {', '.join(modules)}"], capture_output=True).returncode == 0:
+            return python
+    return None
+
+
 class ToolTest(unittest.TestCase):
     """A test with a folder that lasts as long as it does."""
 
@@ -31,11 +39,12 @@ class ToolTest(unittest.TestCase):
     def read(self, name):
         return (self.folder / name).read_text(encoding="utf-8")
 
-    def call(self, tool, *words, output=subprocess.PIPE):
-        """Status, standard output and standard error of a tool, which is named from the root of the repository."""
-        # Without site packages, which no tool uses, a call takes half the time.
-        command = [sys.executable, "-S", str(ROOT / tool), *map(str, words)]
-        done = subprocess.run(command, cwd=self.folder, stdout=output, stderr=subprocess.PIPE, timeout=60, stdin=subprocess.DEVNULL)
+    def call(self, tool, *words, output=subprocess.PIPE, python=None, text=None):
+        """Status, standard output and standard error of a tool, which is named from the root of the repository; a text is its standard input."""
+        # Without site packages, which only tables in workbooks want, a call takes half the time.
+        command = [*([python] if python else [sys.executable, "-S"]), str(ROOT / tool), *map(str, words)]
+        source = {"stdin": subprocess.DEVNULL} if text is None else {"input": text if isinstance(text, bytes) else text.encode()}
+        done = subprocess.run(command, cwd=self.folder, stdout=output, stderr=subprocess.PIPE, timeout=120, **source)
         return done.returncode, (done.stdout or b"").decode(), done.stderr.decode()
 
     def answers(self, calls):

@@ -1,0 +1,55 @@
+"""Where a plan goes, and in which form: a table as text, or JSON for programs."""
+import io
+import json
+import os
+import sys
+
+from .faults import Fault
+from .plans import blamed, rows_of_free, rows_of_pairs, sentence_of, write_rows
+
+STATUS_WORDS = {"optimal": "best", "bracket": "stopped", "infeasible": "no plan"}
+
+
+def text_of_rows(names, rows):
+    """Rows as a table that is parted as the one that the names are from."""
+    text = io.StringIO(newline="")
+    write_rows(names, rows, text)
+    return text.getvalue()
+
+
+def json_of(names, claim, judges):
+    """An answer as JSON: amounts are numbers with the decimals of the table, exactly."""
+    names = names._replace(mark=".")
+    told = {"answer": STATUS_WORDS[claim.kind]}
+    if claim.kind == "infeasible":
+        persons, objects = blamed(names, claim)
+        told |= {"sentence": sentence_of(names, claim), "persons": list(map(names.person, persons)), "objects": list(map(names.object, objects))}
+    else:
+        free = rows_of_free(names, claim)
+        told |= {
+            "total": number(names.amount(claim.cost)),
+            "pairs": [dict(person=person, object=thing, cost=number(cost)) for person, thing, cost in rows_of_pairs(names, claim)],
+            "free_persons": [{"person": person} | ({"cost": number(cost)} if cost else {}) for person, _, cost in free if person],
+            "free_objects": [thing for person, thing, _ in free if not person],
+        }
+        if claim.kind == "bracket":
+            told |= {"sentence": sentence_of(names, claim), "bound": number(names.amount(claim.lower))}
+    return json.dumps(told | {"proved_by": judges}, ensure_ascii=False, indent=1) + "\n"
+
+
+def number(text):
+    """The number of an amount; a floating-point number has more digits than a total has, so it is written as it was."""
+    return float(text) if "." in text else int(text)
+
+
+def write_text(text, file, table):
+    """Writes a text to standard output, or into a file, which mustn't be the table that the plan is for."""
+    if file is None:
+        sys.stdout.reconfigure(encoding="utf-8", newline="")
+        sys.stdout.write(text)
+        sys.stdout.flush()
+        return
+    if os.path.exists(file) and os.path.exists(table) and os.path.samefile(file, table):
+        raise Fault(f"{file}: the plan would go over the table that it is made from; name another file behind -o")
+    with open(file, "w", encoding="utf-8", newline="") as opened:
+        opened.write(text)

@@ -1,0 +1,145 @@
+"""Tables in workbooks: .xlsx by openpyxl, and .ods by odfpy, where these are installed. A cell is the text of its value, and not of what a spreadsheet shows for it."""
+import datetime
+import io
+import itertools
+import warnings
+import zipfile
+from decimal import Decimal
+
+from .faults import Fault
+
+WORKBOOK = b"PK\x03\x04"
+ODS_KIND = b"application/vnd.oasis.opendocument.spreadsheet"
+# As many digits as a spreadsheet has of a number; what stands behind them comes of its binary sums.
+DIGITS = 15
+# No table that a plan can be made of has a longer row or column.
+MOST_REPEATED = 20_001
+
+
+def read_workbook(file, content, sheet):
+    """The rows of a workbook's table, and their numbers. Where more than one sheet has cells, one has to be named."""
+    read = sheets_of_ods if kind_of(file, content) == ODS_KIND else sheets_of_xlsx
+    try:
+        sheets = read(file, content)
+    except (Fault, MemoryError):
+        raise
+    except Exception as error:
+        # What a library makes of a spoiled file may be any of its faults.
+        raise Fault(f"{file}: no workbook that can be read ({type(error).__name__}); open it in a spreadsheet and save it anew, or as CSV in UTF-8") from None
+    rows = chosen(file, {name: trimmed(rows) for name, rows in sheets.items()}, sheet)
+    return list(rows.values()), list(rows)
+
+
+def kind_of(file, content):
+    try:
+        with zipfile.ZipFile(io.BytesIO(content)) as archive:
+            return archive.read("mimetype") if "mimetype" in archive.namelist() else None
+    except (zipfile.BadZipFile, OSError, NotImplementedError, RuntimeError, ValueError, EOFError):
+        raise Fault(f"{file}: no workbook that can be read, since it is cut or spoiled; save it anew, or as CSV in UTF-8") from None
+
+
+def chosen(file, sheets, sheet):
+    names = ", ".join(f"`{name}`" for name in sheets)
+    if sheet is not None:
+        if sheet not in sheets:
+            raise Fault(f"{file}: there is no sheet `{sheet}`; say --sheet with one of {names}")
+        return sheets[sheet]
+    filled = [rows for rows in sheets.values() if rows]
+    if len(filled) > 1:
+        raise Fault(f"{file}: more than one sheet has cells; say --sheet with one of {names}")
+    return filled[0] if filled else {}
+
+
+def trimmed(rows):
+    """The rows by their numbers, without empty ones, and all as long as the longest."""
+    rows = {number: cells for number, cells in rows.items() if any(cells)}
+    width = max((place for cells in rows.values() for place, cell in enumerate(cells, 1) if cell), default=0)
+    return {number: (cells + [""] * width)[:width] for number, cells in rows.items()}
+
+
+def text_of_value(value):
+    """The text of a cell's value."""
+    if value is None:
+        return ""
+    if isinstance(value, bool):
+        return str(value).upper()
+    if isinstance(value, float):
+        return format(Decimal(f"{value:.{DIGITS}g}"), "f")
+    if isinstance(value, datetime.datetime) and value.time() == datetime.time():
+        return value.date().isoformat()
+    return str(value)
+
+
+def needed(file, kind, library, package):
+    return Fault(f"{file}: to read {kind} Python needs {library} ({package} of Debian, `pip install {library}` elsewhere); install it, or save the table as CSV in UTF-8")
+
+
+def sheets_of_xlsx(file, content):
+    """The rows of each sheet, by their numbers."""
+    try:
+        import openpyxl
+    except ImportError:
+        raise needed(file, ".xlsx", "openpyxl", "python3-openpyxl") from None
+    with warnings.catch_warnings():
+        warnings.simplefilter("ignore")
+        sheets, formulas = (openpyxl.load_workbook(io.BytesIO(content), read_only=True, data_only=values).worksheets for values in (True, False))
+        return {sheet.title: dict(rows_of_xlsx(file, sheet, formula)) for sheet, formula in zip(sheets, formulas)}
+
+
+def rows_of_xlsx(file, sheet, formulas):
+    # Sheets tell their size, and not all of them tell the truth.
+    sheet.reset_dimensions()
+    formulas.reset_dimensions()
+    written = formulas.iter_rows(values_only=True)
+    for number, (values, formula) in enumerate(itertools.zip_longest(sheet.iter_rows(values_only=True), written, fillvalue=()), 1):
+        for column, (value, text) in enumerate(zip(values, formula), 1):
+            if value is None and isinstance(text, str) and text.startswith("="):
+                raise no_value(file, number, column)
+        yield number, list(map(text_of_value, values))
+
+
+def no_value(file, line, column):
+    return Fault(f"{file}, line {line}, column {column}: a formula whose value isn't in the file; open it in a spreadsheet and save it")
+
+
+def sheets_of_ods(file, content):
+    """The rows of each sheet, by their numbers."""
+    try:
+        from odf.opendocument import load
+        from odf.table import Table, TableRow
+    except ImportError:
+        raise needed(file, ".ods", "odfpy", "python3-odf") from None
+    sheets = {}
+    for table in load(io.BytesIO(content)).spreadsheet.getElementsByType(Table):
+        rows, number = {}, 1
+        for row in table.getElementsByType(TableRow):
+            cells, repeated = list(cells_of_ods(file, row, number)), repeats(row, "numberrowsrepeated")
+            if any(cells):
+                rows |= dict.fromkeys(range(number, number + min(repeated, MOST_REPEATED)), cells)
+            number += repeated
+        sheets[table.getAttribute("name")] = rows
+    return sheets
+
+
+def repeats(element, attribute):
+    return int(element.getAttribute(attribute) or 1)
+
+
+def cells_of_ods(file, row, number):
+    column = 1
+    for cell in row.childNodes:
+        if cell.qname[1] in ("table-cell", "covered-table-cell"):
+            text, repeated = text_of_ods(cell), repeats(cell, "numbercolumnsrepeated")
+            if not text and cell.getAttribute("formula") and not cell.getAttribute("valuetype"):
+                raise no_value(file, number, column)
+            yield from [text] * min(repeated, MOST_REPEATED)
+            column += repeated
+
+
+def text_of_ods(cell):
+    """The text of a cell: of a number its value, and otherwise its paragraphs."""
+    from odf import teletype
+    if cell.getAttribute("valuetype") in ("float", "currency", "percentage"):
+        return text_of_value(float(cell.getAttribute("value")))
+    paragraphs = [child for child in cell.childNodes if child.qname[1] == "p"]
+    return " ".join(map(teletype.extractText, paragraphs)) or cell.getAttribute("stringvalue") or ""

@@ -6,10 +6,12 @@ from .amounts import MOST_DECIMALS
 from .columns import picked, titles_said
 from .faults import say
 from .marks import MARKS
+from .models import look_at_size, plain_model
 from .names import Names, counted
-from .problems import arc_lines, dummies_of, look_at_size, problem_of
+from .problems import problem_of
 from .tables import read_table
 from .text_tables import SEPARATORS
+from .wishes import by_persons
 
 
 def add_options(words):
@@ -34,36 +36,43 @@ def number_of_decimals(word):
     return int(word)
 
 
-def read_problem(words):
-    """The problem of the table that the words name, and the names of both. Decimals that nobody said are told on standard error."""
+def read_problem(words, extras=()):
+    """The table that the words name, its problem, and what columns of these titles say of each person. Decimals that nobody said are told on standard error."""
     table, has_header = read_table(words.file, SEPARATORS.get(words.separator), words.sheet), not words.no_header
-    form = words.form
-    if words.columns is not None:
-        table, form = picked(table, titles_said(words.columns), [], has_header)[0], "pairs"
+    form, columns, places = words.form, [], []
+    if words.columns is not None or extras:
+        table, columns, places = picked(table, titles_said(words.columns) if words.columns is not None else [], extras, has_header)
+        form = form if words.columns is None else "pairs"
     problem = problem_of(table, form, has_header, words.decimals, words.maximise, MARKS.get(words.decimal_mark))
-    look_at_size(table.file, problem)
     if words.decimals is None and problem.decimals:
         say(f"{table.file}: the costs have {counted(problem.decimals, 'decimal')}")
-    names = Names(
+    told = [by_persons(table, cells, place, 1 if has_header else 0) for cells, place in zip(columns, places)]
+    return table, problem, told
+
+
+def names_of(words, table, problem, model):
+    """The names of a model's persons and objects."""
+    return Names(
         table=os.path.basename(table.file),
         titles=problem.titles,
         separator=table.separator,
         mark=problem.mark,
         decimals=problem.decimals,
         maximise=words.maximise,
-        persons=problem.persons,
+        persons=[problem.persons[place] for place in model.owners],
         objects=problem.objects,
-        dummy_objects=dummies_of(problem),
+        dummy_objects=model.dummies(),
         arcs="",
     )
-    return problem, names
 
 
 def converted(words):
     """The text of the arc file, and the names, of the table that the words name."""
-    problem, names = read_problem(words)
-    arcs = "".join(arc_lines(problem))
-    return arcs, names._replace(arcs=arcs)
+    table, problem, _ = read_problem(words)
+    model = plain_model(problem)
+    look_at_size(table.file, model)
+    arcs = "".join(model.lines())
+    return arcs, names_of(words, table, problem, model)._replace(arcs=arcs)
 
 
 def stem_of(file):

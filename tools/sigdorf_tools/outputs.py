@@ -5,7 +5,7 @@ import os
 import sys
 
 from .faults import Fault
-from .plans import blamed, rows_of_free, rows_of_pairs, sentence_of, write_rows
+from .plans import Free, blamed, rows_of_free, rows_of_pairs, sentence_of, write_rows
 
 STATUS_WORDS = {"optimal": "best", "bracket": "stopped", "infeasible": "no plan"}
 
@@ -17,20 +17,20 @@ def text_of_rows(names, rows):
     return text.getvalue()
 
 
-def json_of(names, claim, judges):
+def json_of(names, claim, judges, free=Free()):
     """An answer as JSON: amounts are numbers with the decimals of the table, exactly."""
     names = names._replace(mark=".")
     told = {"answer": STATUS_WORDS[claim.kind]}
     if claim.kind == "infeasible":
         persons, objects = blamed(names, claim)
-        told |= {"sentence": sentence_of(names, claim), "persons": list(map(names.person, persons)), "objects": list(map(names.object, objects))}
+        told |= {"sentence": sentence_of(names, claim), "persons": list(dict.fromkeys(map(names.person, persons))), "objects": list(map(names.object, objects))}
     else:
-        free = rows_of_free(names, claim)
+        rows = rows_of_free(names, claim, free)
         told |= {
             "total": number(names.amount(claim.cost)),
             "pairs": [dict(person=person, object=thing, cost=number(cost)) for person, thing, cost in rows_of_pairs(names, claim)],
-            "free_persons": [{"person": person} | ({"cost": number(cost)} if cost else {}) for person, _, cost in free if person],
-            "free_objects": [thing for person, thing, _ in free if not person],
+            "free_persons": [{"person": person} | ({"cost": number(cost)} if cost else {}) for person, _, cost in rows if person],
+            "free_objects": [thing for person, thing, _ in rows if not person],
         }
         if claim.kind == "bracket":
             told |= {"sentence": sentence_of(names, claim), "bound": number(names.amount(claim.lower))}

@@ -1,6 +1,8 @@
 """Plans: the rows of a table that tell an answer in the words of the planner."""
+import collections
 import csv
 import sys
+from typing import NamedTuple
 
 from .claims import read_arcs, read_claim
 from .names import counted
@@ -9,26 +11,39 @@ from .names import counted
 MOST_LISTED = 5
 
 
-def rows_of_plan(names, claim):
+class Free(NamedTuple):
+    """Who stays free beside those whom the solver left so: persons who may take nothing; and whether staying free has a price, which is told then."""
+
+    absent: list = []
+    has_prices: bool = False
+
+
+def rows_of_plan(names, claim, free=Free()):
     """The rows for an answer: of a plan those of its pairs, of who and what stays free, and of the total."""
     if claim.kind == "infeasible":
         return rows_of_hall_set(names, claim)
-    rows = [names.titles, *rows_of_pairs(names, claim), *rows_of_free(names, claim), ["total", "", names.amount(claim.cost)]]
+    rows = [names.titles, *rows_of_pairs(names, claim), *rows_of_free(names, claim, free), ["total", "", names.amount(claim.cost)]]
     if claim.kind == "bracket":
         rows.append([sentence_of(names, claim)])
     return rows
 
 
 def rows_of_pairs(names, claim):
-    """A row for each person who has an object: whoever takes a dummy stays without."""
-    picks = zip(names.persons, claim.picks)
-    return [[person, names.object(thing), names.amount(cost)] for person, (thing, cost) in picks if names.object(thing) is not None]
+    """A row for each pair, by persons and then by objects: whoever takes a dummy stays without."""
+    places = {name: place for place, name in enumerate(dict.fromkeys(names.persons))}
+    picks = sorted((places[person], thing, cost) for person, (thing, cost) in zip(names.persons, claim.picks) if names.object(thing) is not None)
+    persons = list(places)
+    return [[persons[place], names.object(thing), names.amount(cost)] for place, thing, cost in picks]
 
 
-def rows_of_free(names, claim):
+def rows_of_free(names, claim, free=Free()):
     """A row for each person who has no object, and for each object that nobody has."""
-    taken = {thing for thing, _ in claim.picks}
-    persons = [[person, "", ""] for person, (thing, _) in zip(names.persons, claim.picks) if names.object(thing) is None]
+    taken, costs = {thing for _, (thing, _) in zip(names.persons, claim.picks)}, {}
+    busy = {person for person, (thing, _) in zip(names.persons, claim.picks) if names.object(thing) is not None}
+    for person, (_, cost) in zip(names.persons, claim.picks):
+        if person not in busy:
+            costs[person] = costs.get(person, 0) + cost
+    persons = [[person, "", names.amount(cost) if free.has_prices else ""] for person, cost in costs.items()] + [[person, "", ""] for person in free.absent]
     return persons + [["", name, ""] for number, name in enumerate(names.objects, 1) if number not in taken]
 
 
@@ -36,7 +51,7 @@ def rows_of_hall_set(names, claim):
     """A sentence, and then who and what it speaks of."""
     persons, objects = blamed(names, claim)
     rows = [[sentence_of(names, claim)]]
-    rows += [["person", names.person(number)] for number in persons]
+    rows += [["person", name] for name in dict.fromkeys(map(names.person, persons))]
     rows += [["object", names.object(number)] for number in objects]
     return rows
 
@@ -59,11 +74,16 @@ def sentence_of(names, claim):
         gap = names._replace(maximise=False).amount(claim.cost - claim.lower)
         return f"The search was stopped early: this plan is at most {gap} from the best, and no total is {'above' if names.maximise else 'below'} {names.amount(claim.lower)}."
     persons, objects = blamed(names, claim)
-    told_persons = listed([names.person(number) for number in persons], "person")
+    told_persons = listed(with_times(map(names.person, persons)), "person")
     told_objects = listed([names.object(number) for number in objects], "object")
     if names.dummy_objects:
         return f"No plan gives every object to somebody: {told_objects} can go to {told_persons}{', and to nobody else' if persons else ''}."
     return f"No plan gives every person an object: {told_persons} may take {told_objects}{', and nothing else' if objects else ''}."
+
+
+def with_times(names):
+    """Each name once, with how many times it is there, where that is more than once: so many objects the person would have to take."""
+    return [name if times == 1 else f"{name} ({times} times)" for name, times in collections.Counter(names).items()]
 
 
 def listed(names, word):
@@ -96,8 +116,7 @@ def summary_of(names, claim, judges):
     judged = " and ".join(judges)
     if claim.kind == "infeasible":
         return f"there is no plan, proved by {judged}"
-    pairs = sum(names.object(thing) is not None for thing, _ in claim.picks)
-    total = f"{counted(pairs, 'pair')}, total {names.amount(claim.cost)}"
+    total = f"{counted(len(rows_of_pairs(names, claim)), 'pair')}, total {names.amount(claim.cost)}"
     if claim.kind == "optimal":
         return f"{total}, proved {'greatest' if names.maximise else 'least'} by {judged}"
     return f"{total}, proved at most {names._replace(maximise=False).amount(claim.cost - claim.lower)} from the best by {judged}"

@@ -36,10 +36,6 @@ class Problem(NamedTuple):
     objects: list
     arcs: list
 
-    def count(self):
-        """How many arcs there are."""
-        return sum(len(arcs.objects) for arcs in self.arcs)
-
 
 def problem_of(table, form, has_header, decimals=None, maximise=False, mark=None):
     """The problem of a table. The form is `pairs`, `matrix`, or None, where the table tells it; so are decimals and their mark."""
@@ -168,36 +164,3 @@ def problem_of_costs(table, costs):
             raise Fault(f"{table.file}: {count:,} {word}s are more than the {most:,} that a problem may have; leave some out")
     numbers = [str(number) for number in range(1, max(rows, columns) + 1)]
     return problem_of_rows(TITLES, numbers[:rows], numbers[:columns], table.rows, costs, lambda row, column: (row, column))
-
-
-def dummies_of(problem):
-    """How many dummy objects a problem gets, which cost nothing.
-
-    The solver wants no fewer objects than persons, since each person gets one: whoever takes a dummy stays without. What else is here knows of dummies only
-    how many there are.
-    """
-    return max(len(problem.persons) - len(problem.objects), 0)
-
-
-def arc_lines(problem):
-    """The text of the arc file of a problem, in pieces. Each one is made by one step of the library, from a form with a place for each cost."""
-    persons, objects = len(problem.persons), len(problem.objects)
-    yield f"{persons}\n"
-    # The form of a row serves for all that follow with the same objects.
-    before, form = None, ""
-    for person, arcs in enumerate(problem.arcs, 1):
-        if arcs.objects != before:
-            before, form = arcs.objects, "".join([f"@ {number} %s\n" for number in arcs.objects])
-        if arcs.objects:
-            yield form.replace("@", str(person)) % tuple(arcs.text.split("\n"))
-    dummies = range(objects + 1, objects + dummies_of(problem) + 1)
-    if dummies:
-        form = "".join(f"@ {dummy} 0\n" for dummy in dummies)
-        yield from (form.replace("@", str(person)) for person in range(1, persons + 1))
-
-
-def look_at_size(file, problem):
-    """A problem has to have no more arcs than the solver takes."""
-    total = problem.count() + dummies_of(problem) * len(problem.persons)
-    if total > MOST_ARCS:
-        raise Fault(f"{file}: the problem has {total:,} arcs with those of dummies, and may have {MOST_ARCS:,}; leave out pairs that won't be taken")

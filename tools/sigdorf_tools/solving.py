@@ -57,6 +57,15 @@ class Solver:
                 judges.append(SECOND)
         return Answer(claim, certificate, status, judges)
 
+    def has_full(self, pieces, objects):
+        """Whether the problem has an assignment, by a search that asks no costs. It is judged by what comes of it."""
+        with tempfile.NamedTemporaryFile("w", suffix=".arcs", encoding="ascii") as file:
+            file.writelines(pieces)
+            file.flush()
+            with self.started(["hall", file.name, *([f"--objects={objects}"] if objects else [])]) as running:
+                running.communicate()
+        return running.returncode == 0
+
     def started(self, words):
         try:
             return subprocess.Popen([self.program, *words], stdin=subprocess.PIPE, stdout=subprocess.PIPE, stderr=subprocess.PIPE)

@@ -17,7 +17,8 @@ sys.path.append(str(pathlib.Path(__file__).resolve().parents[1]))
 import check_certificate  # noqa: E402
 from sigdorf_tools.columns import picked, titles_said  # noqa: E402
 from sigdorf_tools.faults import Fault  # noqa: E402
-from sigdorf_tools.problems import arc_lines, look_at_size, problem_of  # noqa: E402
+from sigdorf_tools.models import look_at_size, plain_model  # noqa: E402
+from sigdorf_tools.problems import problem_of  # noqa: E402
 from sigdorf_tools.tables import read_table  # noqa: E402
 
 # What is put into tables: what parts and quotes, marks and signs, what is no text, and what has stood in tables.
@@ -69,8 +70,9 @@ def look(file, decimals, form, has_header, mark, columns):
     if columns:
         table, form = picked(table, titles_said(columns), [], has_header)[0], "pairs"
     problem = problem_of(table, form, has_header, decimals, False, mark)
-    look_at_size(table.file, problem)
-    check_certificate.read_problem("".join(arc_lines(problem)).encode(), max(len(problem.persons), len(problem.objects)))
+    model = plain_model(problem)
+    look_at_size(table.file, model)
+    check_certificate.read_problem("".join(model.lines()).encode(), max(len(problem.persons), len(problem.objects)))
 
 
 def fault_of(folder, number, seed):

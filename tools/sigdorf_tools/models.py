@@ -1,0 +1,110 @@
+"""What the solver is given for a problem and the wishes for its plan: persons with a copy for each object that they may take, and objects for those who stay free."""
+from typing import NamedTuple
+
+from .faults import Fault
+from .problems import MOST_ARCS, MOST_OBJECTS, MOST_PERSONS, Arcs
+
+
+class Model(NamedTuple):
+    """For each person of the solver, who is a copy of one of the table's, the place of that one and the arcs; what it costs each copy to stay free, or None where it mustn't, and nothing at all where
+    nobody is asked; which copies stand for a fixed pair; and how many objects the table has.
+
+    Where nobody is asked, copies are given to objects as far as both go: where copies are more, each one that isn't fixed may take one of the dummies, which cost nothing and are as many as copies are more.
+
+    Where copies may stay free, each has an object of its own for that. These make the objects more than the persons, which the solver is slow with where costs are high; so the problem is
+    made square. Persons for the objects alone could take whatever is left, but that is an arc for each of them and each object. It is enough that the one for an object takes that object, where nobody else does,
+    or the own object of a copy that may take it: whoever takes an object leaves his own one to its person. So there are twice the arcs of the table, and one for each copy and each object.
+    """
+
+    owners: list
+    arcs: list
+    free: list
+    fixed: frozenset
+    objects: int
+
+    def dummies(self):
+        """How many dummies there are."""
+        return 0 if self.free else max(len(self.owners) - self.objects, 0)
+
+    def persons(self):
+        """How many persons the solver has."""
+        return len(self.owners) + (self.objects if self.free else 0)
+
+    def all_objects(self):
+        return len(self.owners) + self.objects if self.free else self.objects + self.dummies()
+
+    def objects_said(self):
+        """How many objects there are, where they aren't as many as the persons."""
+        return self.all_objects() if self.all_objects() > self.persons() else None
+
+    def count(self):
+        """How many arcs there are."""
+        total = sum(len(arcs.objects) for arcs in self.arcs)
+        if self.free:
+            return 2 * total + self.objects + sum(price is not None for price in self.free)
+        return total + self.dummies() * (len(self.owners) - len(self.fixed))
+
+    def lines(self):
+        """The text of the arc file, in pieces. Each one is made by one step of the library, from a form with a place for each cost."""
+        yield f"{self.persons()}\n"
+        # The form of a row serves for all that follow with the same objects.
+        before, form = None, ""
+        for person, arcs in enumerate(self.arcs, 1):
+            if arcs.objects != before:
+                before, form = arcs.objects, "".join([f"@ {number} %s\n" for number in arcs.objects])
+            if arcs.objects:
+                yield form.replace("@", str(person)) % tuple(arcs.text.split("\n"))
+        yield from self.lines_of_free() if self.free else self.lines_of_dummies()
+
+    def lines_of_dummies(self):
+        form = "".join(f"@ {self.objects + dummy} 0\n" for dummy in range(1, self.dummies() + 1))
+        yield from (form.replace("@", str(person)) for person in range(1, len(self.owners) + 1) if form and person - 1 not in self.fixed)
+
+    def lines_of_free(self):
+        """The arcs to the own objects, and those of the persons for the objects."""
+        copies, count = len(self.owners), self.objects
+        for copy, (arcs, price) in enumerate(zip(self.arcs, self.free), 1):
+            if price is not None:
+                yield f"{copy} {count + copy} {price}\n"
+            yield "".join([f"{copies + thing} {count + copy} 0\n" for thing in arcs.objects])
+        yield "".join([f"{copies + thing} {thing} 0\n" for thing in range(1, count + 1)])
+
+    def without(self, pair=None, stays=()):
+        """The model in which no copy of a person takes an object, which are given by their places and numbers, and some copies don't stay free."""
+        arcs = self.arcs
+        if pair:
+            arcs = [without_object(each, pair[1]) if owner == pair[0] else each for owner, each in zip(self.owners, arcs)]
+        return self._replace(arcs=arcs, free=[None if copy in stays else price for copy, price in enumerate(self.free)])
+
+    def up_to(self, most):
+        """The model without all that costs more."""
+        arcs = [kept(each, lambda cost: cost <= most) for each in self.arcs]
+        return self._replace(arcs=arcs, free=[None if price is None or price > most else price for price in self.free])
+
+    def costs(self):
+        """All costs that the plan may have, in rising order."""
+        return sorted({cost for arcs in self.arcs for cost in arcs.costs()} | {price for price in self.free if price is not None})
+
+
+def kept(arcs, is_kept):
+    pairs = [(thing, cost) for thing, cost in zip(arcs.objects, arcs.costs()) if is_kept(cost)]
+    return Arcs([thing for thing, _ in pairs], "\n".join([str(cost) for _, cost in pairs]))
+
+
+def without_object(arcs, number):
+    pairs = [(thing, text) for thing, text in zip(arcs.objects, arcs.text.split("\n")) if thing != number]
+    return Arcs([thing for thing, _ in pairs], "\n".join([text for _, text in pairs]))
+
+
+def plain_model(problem):
+    """The model of a problem without wishes."""
+    return Model(range(len(problem.persons)), problem.arcs, [], frozenset(), len(problem.objects))
+
+
+def look_at_size(file, model):
+    """A problem has to be one that the solver takes."""
+    for word, count, most in (("persons", model.persons(), MOST_PERSONS), ("objects", model.all_objects(), MOST_OBJECTS)):
+        if count > most:
+            raise Fault(f"{file}: with copies and those that stay free the problem has {count:,} {word}, and may have {most:,}; ask for less capacity, or leave pairs out")
+    if model.count() > MOST_ARCS:
+        raise Fault(f"{file}: the problem has {model.count():,} arcs with those of dummies, and may have {MOST_ARCS:,}; leave out pairs that won't be taken")

@@ -1,0 +1,52 @@
+"""Why a person has this object and not that, told from the prices of a plan in the units of its table."""
+from .faults import Fault
+from .margins import margins_of
+from .searches import arcs_of
+from .wishes import unknown
+
+
+def whole_prices(prices, persons):
+    """Prices in smallest units at which each person has what is least for him, from those on the scale of persons + 1, at which he may be off by 1.
+
+    Each price is rounded down once all are raised by so much that none of them is just below a whole one: then what was at most 1 better isn't better at all. There is such an amount unless all
+    remainders occur, which they can't where objects are as many as persons; where all do, the prices stay as near as they can.
+    """
+    scale = persons + 1
+    found = {price % scale for price in prices}
+    raised = next((amount for amount in range(scale) if (persons - amount) % scale not in found), 0)
+    return [(price + raised) // scale for price in prices]
+
+
+def rows_of_reasons(names, problem, model, claim, name):
+    """The rows that tell why a person has his objects: each object that he may take, and what is against it."""
+    if name not in problem.persons:
+        raise Fault(f"--why {name}: {unknown('person', name, problem.persons)}")
+    place = problem.persons.index(name)
+    copies = [copy for copy, owner in enumerate(model.owners, 1) if owner == place]
+    prices = whole_prices(claim.prices, model.persons())
+    # Where nothing is left over only differences of prices say something, so that the least one counts as nothing.
+    least = min(prices) if not model.objects_said() else 0
+    holders = {thing: names.person(copy) for copy, (thing, _) in zip(range(1, len(names.persons) + 1), claim.picks)}
+    own = {claim.picks[copy - 1][0] for copy in copies}
+    unsigned = names._replace(maximise=False)
+    rows, best = [], {}
+    for margin in margins_of(arcs_of(model), claim):
+        if margin.person in copies:
+            thing, cost = margin.arc
+            key = thing if thing <= model.objects else None
+            worse = 0 if thing in own else margin.margin
+            value = cost + prices[thing - 1] - least
+            if key not in best or (thing in own, -value) > (best[key][0] in own, -best[key][2]):
+                best[key] = thing, cost, value, worse
+    for key, (thing, cost, value, worse) in sorted(best.items(), key=lambda item: (item[1][0] not in own, item[1][2])):
+        told = "any" if worse is None else unsigned.amount(worse)
+        rows.append([names.object(thing) or "stays free", names.amount(cost), unsigned.amount(prices[thing - 1] - least), names.amount(value), "" if thing in own else told, holders.get(thing, "") if key else ""])
+    has = [names.object(thing) or "no object" for thing in sorted(own)]
+    return [[*names.titles[1:], "price", "together", "worse by", "who has it"], *rows, [sentence(names, name, has)]]
+
+
+def sentence(names, name, has):
+    """What the rows say."""
+    best = "most, less its price" if names.maximise else "least, with its price"
+    listed = " and ".join(has) if has else "nothing, since the capacity is 0"
+    return f"{name} has {listed}: at these prices everybody has what is {best}. A plan that has another row of these is worse by so much, at least."

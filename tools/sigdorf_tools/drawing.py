@@ -1,5 +1,6 @@
 """Pictures of small problems, as SVG: persons above, objects below, arcs between them, prices as bars; of a Hall set, who is in it."""
 import textwrap
+import unicodedata
 from fractions import Fraction
 from typing import NamedTuple
 from xml.sax.saxutils import escape
@@ -8,11 +9,23 @@ INK, FAINT, PAPER = "#22262b", "#747c85", "#ffffff"
 PLAN, ARC, BAR, HALL = "#1b5fa7", "#c3c9d0", "#e0a030", "#b8322a"
 PLAN_FILL, PLAIN_FILL, HALL_FILL = "#e6f0fa", "#f4f5f7", "#fbe4e1"
 # Places and sizes, in pixels. A picture is laid out from the top of the names of persons on; its title stands above that.
-LETTER, BOX_HEIGHT, OBJECTS_AT, BARS_AT, BAR_MOST, LEFT, RIGHT = 8.2, 36, 220, 268, 84, 104, 28
-TITLE_LETTER, TITLE_LINE, LEGEND_LINE = 10.6, 26, 19
+BOX_HEIGHT, OBJECTS_AT, BARS_AT, BAR_MOST, LEFT, RIGHT = 36, 220, 268, 84, 104, 28
+TITLE_LETTER, TITLE_LINE, LEGEND_LINE = 13.5, 26, 19
+NAME_SIZE, COST_SIZE = 15, 12.5
+# How wide letters are in the widest of the usual fonts, in parts of its size: narrow ones, wide ones, capitals, and all others.
+NARROW, WIDE = set("iljtfrI.,:;|!'()[] "), set("mwMWQ@%&\u2026")
 MOST_LABELS = 80
 LEGEND = ["thick: the plan; thin: other arcs; numbers: costs", "bars: prices, in the unit of costs, to a tenth"]
 HALL_LEGEND = ["red: who is in the way of a plan, and all that they may take"]
+
+
+def width_of(text, size):
+    """How wide a text is at most, whichever of the usual fonts it is drawn in."""
+    def part(letter):
+        if letter in WIDE or unicodedata.east_asian_width(letter) in "WF":
+            return 1.0
+        return 0.42 if letter in NARROW else 0.78 if letter.isupper() else 0.66
+    return size * sum(map(part, text))
 
 
 class Label(NamedTuple):
@@ -24,7 +37,7 @@ class Label(NamedTuple):
     colour: str
 
     def width(self):
-        return 7.2 * len(self.text) + 8
+        return width_of(self.text, COST_SIZE) + 8
 
     def meets(self, other):
         return abs(self.x - other.x) < (self.width() + other.width()) / 2 and abs(self.y - other.y) < 17
@@ -37,36 +50,38 @@ class Label(NamedTuple):
 
 
 class Scene(NamedTuple):
-    """What is drawn: all names, the arcs (person, object, cost) by their numbers from 1 on, how a cost is told, how many units of a price are one of cost,
-    and the claim; who and what stand out, which are those of the plan or of the Hall set; and whether the arcs of a Hall set are those of its persons or those
-    to its objects."""
+    """What is drawn: all names, the arcs (person, object, cost) by their numbers from 1 on, and those of them that stand out; how a cost is told, how many units of a price are one of cost, and the
+    prices; who and what stand out, which are those of the plan or of the Hall set, and whether it is one."""
 
     titles: list
     persons: list
     objects: list
     arcs: list
+    arcs_told: set
     amount: object
     mark: str
     scale: int
-    claim: object
-    persons_told: list
-    objects_told: list
-    by_persons: bool
+    prices: list
+    persons_told: set
+    objects_told: set
+    is_hall: bool
 
     def step(self):
         """From the middle of a name to the middle of the next one."""
-        return max(108, LETTER * max(map(len, self.persons + self.objects)) + 44)
+        return max(108, max(width_of(name, NAME_SIZE) for name in self.persons + self.objects) + 44)
+
+    def left(self):
+        """Where the first name begins: behind the titles."""
+        return max(LEFT, max(width_of(title, 13) for title in self.titles[:2]) + 40)
 
     def x(self, number, names):
         """The middle of a name in its row; the shorter row stands in the middle of the picture."""
         columns = max(len(self.persons), len(self.objects))
-        return LEFT + self.step() * (number - 0.5 + (columns - len(names)) / 2)
+        return self.left() + self.step() * (number - 0.5 + (columns - len(names)) / 2)
 
     def width(self):
-        return max(LEFT + RIGHT + self.step() * max(len(self.persons), len(self.objects)), 460)
-
-    def infeasible(self):
-        return self.claim.kind == "infeasible"
+        legend = max(width_of(line, COST_SIZE) for line in LEGEND + HALL_LEGEND) + 48
+        return max(self.left() + RIGHT + self.step() * max(len(self.persons), len(self.objects)), legend)
 
     def labelled(self):
         """The arcs whose costs are written: all, or where they are too many those that matter, or none."""
@@ -75,16 +90,14 @@ class Scene(NamedTuple):
 
     def is_told(self, arc):
         """Whether an arc is of the plan; or, where there is none, of those who are in its way."""
-        if self.infeasible():
-            return arc[0] in self.persons_told if self.by_persons else arc[1] in self.objects_told
-        return self.claim.picks[arc[0] - 1] == arc[1:]
+        return arc in self.arcs_told
 
 
 def drawing(scene, title):
     """The text of the picture."""
     width = scene.width()
     title_lines = textwrap.wrap(title, int((width - 2 * 24) / TITLE_LETTER))
-    legend, legend_at = (HALL_LEGEND, OBJECTS_AT + BOX_HEIGHT + 40) if scene.infeasible() else (LEGEND, BARS_AT + BAR_MOST + 52)
+    legend, legend_at = (HALL_LEGEND, OBJECTS_AT + BOX_HEIGHT + 40) if scene.is_hall else (LEGEND, BARS_AT + BAR_MOST + 52)
     top, height = 26 + TITLE_LINE * len(title_lines) + 20, legend_at + LEGEND_LINE * len(legend)
     parts = [
         f'<svg xmlns="http://www.w3.org/2000/svg" viewBox="0 0 {width:.0f} {top + height}" width="{width:.0f}" height="{top + height}" font-family="Helvetica, Arial, DejaVu Sans, sans-serif">',
@@ -98,7 +111,7 @@ def drawing(scene, title):
         *(box(scene.x(number, scene.persons), 0, name, *colours(scene, number in scene.persons_told)) for number, name in enumerate(scene.persons, 1)),
         *(box(scene.x(number, scene.objects), OBJECTS_AT, name, *colours(scene, number in scene.objects_told)) for number, name in enumerate(scene.objects, 1)),
         *costs(scene),
-        *([] if scene.infeasible() else bars(scene)),
+        *([] if scene.is_hall else bars(scene)),
         *(text_at(24, legend_at + LEGEND_LINE * place, line, FAINT, 12.5, "start") for place, line in enumerate(legend)),
         "</g>",
         "</svg>",
@@ -110,7 +123,7 @@ def colours(scene, is_told):
     """Fill, border and ink of a name."""
     if not is_told:
         return PLAIN_FILL, ARC, FAINT
-    return (HALL_FILL, HALL, INK) if scene.infeasible() else (PLAN_FILL, PLAN, INK)
+    return (HALL_FILL, HALL, INK) if scene.is_hall else (PLAN_FILL, PLAN, INK)
 
 
 def text_at(x, y, text, colour, size, anchor="middle", weight="normal"):
@@ -118,9 +131,9 @@ def text_at(x, y, text, colour, size, anchor="middle", weight="normal"):
 
 
 def box(x, y, name, fill, border, ink):
-    width = LETTER * len(name) + 28
+    width = width_of(name, NAME_SIZE) + 28
     rectangle = f'<rect x="{x - width / 2:.1f}" y="{y}" width="{width:.1f}" height="{BOX_HEIGHT}" rx="8" fill="{fill}" stroke="{border}" stroke-width="1.5"/>'
-    return rectangle + text_at(x, y + 23, name, ink, 15)
+    return rectangle + text_at(x, y + 23, name, ink, NAME_SIZE)
 
 
 def ends(scene, arc):
@@ -131,7 +144,7 @@ def ends(scene, arc):
 def lines(scene):
     """The arcs: thin ones first, so that those that matter lie on top."""
     for arc in sorted(scene.arcs, key=scene.is_told):
-        colour, width = (ARC, 1.3) if not scene.is_told(arc) else (HALL, 2.6) if scene.infeasible() else (PLAN, 4.5)
+        colour, width = (ARC, 1.3) if not scene.is_told(arc) else (HALL, 2.6) if scene.is_hall else (PLAN, 4.5)
         x1, y1, x2, y2 = ends(scene, arc)
         yield f'<line x1="{x1:.1f}" y1="{y1}" x2="{x2:.1f}" y2="{y2}" stroke="{colour}" stroke-width="{width}" stroke-linecap="round"/>'
 
@@ -140,14 +153,14 @@ def costs(scene):
     """The cost of each arc, on its line near the person, or further on where it would hide something. Arcs that matter come first."""
     placed, arcs = [], scene.labelled()
     for arc in sorted(arcs, key=lambda arc: not scene.is_told(arc)):
-        colour = FAINT if not scene.is_told(arc) else HALL if scene.infeasible() else PLAN
+        colour = FAINT if not scene.is_told(arc) else HALL if scene.is_hall else PLAN
         x1, y1, x2, y2 = ends(scene, arc)
         choices = [Label(x1 + (x2 - x1) * part / 100, y1 + (y2 - y1) * part / 100, scene.amount(arc[2]), colour) for part in range(17, 84, 3)]
         label = min(choices, key=lambda label: hidden_by(scene, label, [other for other in arcs if other != arc], placed))
         placed.append(label)
         weight = "bold" if colour != FAINT else "normal"
         yield f'<rect x="{label.x - label.width() / 2:.1f}" y="{label.y - 9:.1f}" width="{label.width():.1f}" height="18" rx="4" fill="{PAPER}"/>'
-        yield text_at(label.x, label.y + 4.5, label.text, colour, 12.5, weight=weight)
+        yield text_at(label.x, label.y + 4.5, label.text, colour, COST_SIZE, weight=weight)
 
 
 def hidden_by(scene, label, others, placed):
@@ -158,11 +171,11 @@ def hidden_by(scene, label, others, placed):
 
 def bars(scene):
     """The price of each object as a bar below it, and as a number in the unit of costs."""
-    prices = scene.claim.prices[: len(scene.objects)]
+    prices = scene.prices[: len(scene.objects)]
     most = max(max(prices), 1)
     top = BARS_AT
     yield text_at(24, top + 13, "price", FAINT, 13, "start")
-    yield f'<line x1="{LEFT}" y1="{top}" x2="{scene.width() - RIGHT:.1f}" y2="{top}" stroke="{ARC}" stroke-width="1"/>'
+    yield f'<line x1="{scene.left():.1f}" y1="{top}" x2="{scene.width() - RIGHT:.1f}" y2="{top}" stroke="{ARC}" stroke-width="1"/>'
     for number, price in enumerate(prices, 1):
         height = BAR_MOST * price / most
         x = scene.x(number, scene.objects)

@@ -51,11 +51,44 @@ class Pictures(ToolTest):
         self.write("certificate", "auction 1\ninfeasible 40 39\n" + "".join(numbers))
         self.assertEqual(len(self.lines(self.drawn("problem", "certificate"), "#b8322a")), 1560)
 
+    def heat_map(self, persons, *words):
+        """The picture of persons who all take the object of their number, with arcs to the next one."""
+        arcs = [f"{n} {n} {n}\n{n} {n % persons + 1} {persons + n}\n" for n in range(1, persons + 1)]
+        self.write("many.arcs", f"{persons}\n" + "".join(arcs))
+        total = persons * (persons + 1) // 2
+        lines = [f"assign {n} {n} {n}\n" for n in range(1, persons + 1)] + [f"price {n} 0\n" for n in range(1, persons + 1)]
+        self.write("many.certificate", f"auction 1\noptimal {persons} {total}\n" + "".join(lines))
+        return self.drawn("many.arcs", "many.certificate", *words)
+
+    def test_heat_maps(self):
+        """Above 40 persons or objects, with names or numbers at the sides; of large ones a square stands for more pairs."""
+        for persons, picks, label, told in [(41, 41, "41", "a square is a pair"), (130, 65, "1", "a square is 2 by 1 pairs"), (1000, 112, "1", "a square is 9 by 7 pairs")]:
+            picture = self.heat_map(persons)
+            marks = [mark for mark in picture.getElementsByTagName("rect") if mark.getAttribute("fill") == "#e0701a"]
+            texts = [text.firstChild.data for text in picture.getElementsByTagName("text")]
+            with self.subTest(persons):
+                self.assertIn(label, texts)
+                self.assertTrue(any(text.startswith(told) for text in texts), texts)
+                self.assertGreaterEqual(len(marks), picks)
+                self.assertLess(len(picture.toxml()), 400_000)
+
+    def test_heat_map_of_a_hall_set(self):
+        self.write("many.arcs", "45\n" + "".join(f"{n} {min(n, 44)} 5\n" for n in range(1, 46)))
+        self.write("many.certificate", "auction 1\ninfeasible 2 1\nperson 44\nperson 45\nobject 44\n")
+        picture = self.drawn("many.arcs", "many.certificate")
+        marks = [mark for mark in picture.getElementsByTagName("rect") if mark.getAttribute("fill") == "#b8322a"]
+        self.assertEqual(len(marks), 3)
+
+    def test_text_fits(self):
+        """A box is as wide as its name in a wide font: 15 pixels for a W or a Chinese character."""
+        self.convert("WWWWWWWWWW,\u6c34\u6c34\u6c34\u6c34,4\n")
+        self.write("certificate", "auction 1\noptimal 1 4\nassign 1 1 4\nprice 1 0\n")
+        picture = self.drawn("table.arcs", "certificate", "--names", "table.names")
+        boxes = [float(box.getAttribute("width")) for box in picture.getElementsByTagName("rect") if box.getAttribute("rx") == "8"]
+        self.assertEqual(boxes, [178.0, 88.0])
+
     def test_faults(self):
         crew, certificate, week = EXAMPLES / "crew.arcs", EXAMPLES / "crew.certificate", EXAMPLES / "week_of_vehicles.certificate"
-        self.write("many.arcs", "41\n" + "".join(f"{n} {n} 0\n" for n in range(1, 42)))
-        lines = [f"assign {n} {n} 0\n" for n in range(1, 42)] + [f"price {n} 0\n" for n in range(1, 42)]
-        self.write("many.certificate", "auction 1\noptimal 41 0\n" + "".join(lines))
         self.write("empty", "")
         self.convert("a,x,4\n")
         for words, *parts in [
@@ -66,7 +99,6 @@ class Pictures(ToolTest):
             ([crew, "empty"], "line 1"),
             ([crew, week], "another problem"),
             ([crew, certificate, "--names", "table.names"], "table.names", "another problem"),
-            (["many.arcs", "many.certificate"], "41 persons", "40"),
         ]:
             with self.subTest(words=words):
                 self.assert_fault(self.call("tools/picture", *words), *parts)

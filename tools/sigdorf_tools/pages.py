@@ -1,0 +1,81 @@
+"""A plan as a page for a browser and for paper: what it says, its table, a picture, and the prices; or who is in the way of one."""
+from html import escape
+
+from .drawing import price_text
+from .pictures import picture_of
+from .plans import blamed, rows_of_free, rows_of_pairs, sentence_of
+
+STYLE = """
+body { font-family: Helvetica, Arial, "DejaVu Sans", sans-serif; color: #22262b; margin: 2em auto; max-width: 60em; padding: 0 1em; line-height: 1.4; }
+h1 { font-size: 1.5em; } h2 { font-size: 1.15em; margin-top: 2em; }
+table { border-collapse: collapse; } th, td { text-align: left; padding: 0.3em 1em 0.3em 0; border-bottom: 1px solid #c3c9d0; }
+td.number, th.number { text-align: right; } tr.total td { font-weight: bold; border-bottom: none; } tr.free td { color: #747c85; }
+p.judged { color: #747c85; } svg { max-width: 100%; height: auto; }
+@media print { body { margin: 0; max-width: none; } h2, tr, svg { break-inside: avoid; } h2 { break-after: avoid; } thead { display: table-header-group; } }
+"""
+
+
+def page_of(names, problem, model, claim, free, summary):
+    """The text of the page."""
+    title = sentence_of(names, claim)
+    single = names._replace(persons=problem.persons)
+    pairs = {(model.owners[copy] + 1, thing) for copy, (thing, _) in enumerate(claim.picks[: len(model.owners)]) if thing <= model.objects}
+    scale = (model.persons() + 1) * 10**names.decimals
+    is_hall = claim.kind == "infeasible"
+    parts = [
+        "<!DOCTYPE html>",
+        '<html lang="en"><head><meta charset="utf-8"><meta name="viewport" content="width=device-width">',
+        f"<title>{escape(names.table)}: {escape(title)}</title><style>{STYLE}</style></head><body>",
+        f"<h1>{escape(title)}</h1>",
+        f'<p class="judged">{escape(names.table)}: {escape(summary)}</p>',
+        *(tables_of_hall(names, claim) if is_hall else tables_of_plan(names, claim, free)),
+        "<h2>Picture</h2>",
+        picture_of(single, rows_of(problem), pairs, claim_of_owners(model, claim), scale, title),
+        *([] if is_hall else table_of_prices(names, model, claim, scale)),
+        "</body></html>",
+    ]
+    return "\n".join(parts) + "\n"
+
+
+def claim_of_owners(model, claim):
+    """The claim with the table's persons in place of their copies. Where dummies are there, those who aren't in the Hall set are told: somebody is in it if all of his copies are."""
+    if claim.kind != "infeasible":
+        return claim
+    inside = {copy - 1 for copy in claim.persons}
+    owners = {model.owners[copy] for copy in inside}
+    if model.dummies():
+        owners -= {owner for copy, owner in enumerate(model.owners) if copy not in inside}
+    return claim._replace(persons=sorted(owner + 1 for owner in owners))
+
+
+def rows_of(problem):
+    for person, arcs in enumerate(problem.arcs, 1):
+        yield person, arcs.objects, arcs.costs()
+
+
+def tables_of_plan(names, claim, free):
+    yield "<h2>Plan</h2>"
+    rows = [("", row) for row in rows_of_pairs(names, claim)] + [("free", [person or "nobody", thing or "stays free", cost]) for person, thing, cost in rows_of_free(names, claim, free)]
+    yield table(names.titles, [*rows, ("total", ["total", "", names.amount(claim.cost)])], {2})
+
+
+def tables_of_hall(names, claim):
+    persons, objects = blamed(names, claim)
+    yield "<h2>In the way of a plan</h2>"
+    yield table(names.titles[:1], [("", [name]) for name in dict.fromkeys(map(names.person, persons))], set())
+    yield table(names.titles[1:2], [("", [names.object(number)]) for number in objects], set())
+
+
+def table_of_prices(names, model, claim, scale):
+    yield "<h2>Prices</h2>"
+    yield "<p>At these prices everybody has what is best for him: cost and price together. They are in the unit of costs, to a tenth.</p>"
+    rows = [("", [name, price_text(price, scale, names.mark)]) for name, price in zip(names.objects, claim.prices)]
+    yield table([names.titles[1], "price"], rows, {1})
+
+
+def table(titles, rows, numbers):
+    """A table; of some columns, by their places, the cells are numbers."""
+    def cells(tag, texts):
+        return "".join(f'<{tag}{" class=number" if place in numbers else ""}>{escape(text)}</{tag}>' for place, text in enumerate(texts))
+    body = "\n".join(f'<tr{f" class={kind}" if kind else ""}>{cells("td", texts)}</tr>' for kind, texts in rows)
+    return f"<table><thead><tr>{cells('th', titles)}</tr></thead><tbody>\n{body}\n</tbody></table>"

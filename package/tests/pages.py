@@ -2,6 +2,8 @@
 import re
 
 PROMPT, INDENT = "    $ ", "    "
+# How long a plan took: it is another time at each run.
+TOOK = re.compile(r"(?<=, )[0-9]+\.[0-9] s$", re.MULTILINE)
 # How a command of the repository is called once it is installed.
 NAMES = [
     (r"(?<![\w/])\./auction\b", "auction"),
@@ -21,6 +23,11 @@ def installed(command):
 def told(line):
     """A sentence of a tool begins with the name that it was called by."""
     return "auction-" + line if line.startswith("plan: ") else line
+
+
+def lines_of(text):
+    """The lines that a command has written, with the time that stands on the pages."""
+    return TOOK.sub("0.1 s", text).splitlines()
 
 
 def commands_of(text):

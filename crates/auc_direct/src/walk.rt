@@ -56,13 +56,7 @@ pub(crate) fn raise(prices: &mut [i64], labels: &[Label], line: &[u32], end: u64
 
 /// An object is taken as its label says.
 #[inline]
-fn take(
-    rows: &ShortRows,
-    holders: &mut [u32],
-    owns: &mut [ShortArc],
-    object: u32,
-    held: Held,
-)
+fn take(rows: &ShortRows, holders: &mut [u32], owns: &mut [ShortArc], object: u32, held: Held)
     requires object { object < length holders.old }
     requires person { held.person < length owns.old }
     requires known { held.person < length rows.now.rows }

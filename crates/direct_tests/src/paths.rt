@@ -6,7 +6,8 @@ use auc_graph::{Arc, ArcList};
 use std::test::*;
 
 /// Three persons, of whom each has one of two objects for nothing, and else pays the greatest cost.
-const THREE: &str = "3\n1 1 0 1 2 0 1 3 1000000000\n2 1 0 2 2 0 2 3 1000000000\n3 1 0 3 2 0 3 3 1000000000\n";
+const THREE: &str =
+    "3\n1 1 0 1 2 0 1 3 1000000000\n2 1 0 2 2 0 2 3 1000000000\n3 1 0 3 2 0 3 3 1000000000\n";
 
 /// Far fewer bids than the greatest cost is steps of eps.
 const FEW: DirectLimits = DirectLimits { bids: 1_000 };
@@ -38,7 +39,10 @@ fn crowd(
 fn a_penalty_with_objects_to_spare(rt: HostRuntime) -> Result<(), Fail> {
     let problem = problem_of(&rt, THREE, 4)?;
     let told = answered(&rt, &problem, &FEW)?;
-    assert!(rt; told.as_slice().starts_with(b"auction 2\noptimal 3 4 1000000000\n"));
+    assert!(rt;
+        told.as_slice()
+            .starts_with(b"auction 2\noptimal 3 4 1000000000\n")
+    );
     Ok(())
 }
 
@@ -47,7 +51,10 @@ fn a_penalty_with_objects_to_spare(rt: HostRuntime) -> Result<(), Fail> {
 fn many_penalties_with_objects_to_spare(rt: HostRuntime) -> Result<(), Fail> {
     let problem = crowd(&rt, 20, 25, 15, 1_000_000_000)?;
     let told = answered(&rt, &problem, &FEW)?;
-    assert!(rt; told.as_slice().starts_with(b"auction 2\noptimal 20 25 5000000000\n"));
+    assert!(rt;
+        told.as_slice()
+            .starts_with(b"auction 2\noptimal 20 25 5000000000\n")
+    );
     Ok(())
 }
 
@@ -57,7 +64,10 @@ fn a_start_without_prices(rt: HostRuntime) -> Result<(), Fail> {
     let problem = problem_of(&rt, THREE, 0)?;
     let answer = solve_direct_from(rt.alloc(), &problem, &FEW, &[0, 0, 0])?;
     let told = text_of(&rt, &problem, answer)?;
-    assert!(rt; told.as_slice().starts_with(b"auction 1\noptimal 3 1000000000\n"));
+    assert!(rt;
+        told.as_slice()
+            .starts_with(b"auction 1\noptimal 3 1000000000\n")
+    );
     Ok(())
 }
 
@@ -66,6 +76,9 @@ fn a_start_without_prices(rt: HostRuntime) -> Result<(), Fail> {
 fn a_war_in_all_phases(rt: HostRuntime) -> Result<(), Fail> {
     let problem = crowd(&rt, 40, 40, 39, 1_000_000_000)?;
     let told = answered(&rt, &problem, &AMPLE)?;
-    assert!(rt; told.as_slice().starts_with(b"auction 1\noptimal 40 1000000000\n"));
+    assert!(rt;
+        told.as_slice()
+            .starts_with(b"auction 1\noptimal 40 1000000000\n")
+    );
     Ok(())
 }

@@ -2,8 +2,6 @@
 import re
 
 PROMPT, INDENT = "    $ ", "    "
-# How long a plan took: it is another time at each run.
-TOOK = re.compile(r"(?<=, )[0-9]+\.[0-9] s$", re.MULTILINE)
 # How a command of the repository is called once it is installed.
 NAMES = [
     (r"(?<![\w/])\./auction\b", "auction"),
@@ -12,6 +10,9 @@ NAMES = [
     (r"(?<![\w/])tools/(from|to)_csv\b", r"auction-\1-csv"),
     (r"(?<![\w/])tools/(picture|margins)\b", r"auction-\1"),
 ]
+
+# How long a plan took, at the end of its line.
+TOOK = re.compile(r"(?<=, )[0-9]+\.[0-9] s$")
 
 
 def installed(command):
@@ -25,9 +26,9 @@ def told(line):
     return "auction-" + line if line.startswith("plan: ") else line
 
 
-def lines_of(text):
-    """The lines that a command has written, with the time that stands on the pages."""
-    return TOOK.sub("0.1 s", text).splitlines()
+def compared(lines):
+    """Lines of output without how long something took."""
+    return [TOOK.sub("0.1 s", line) for line in lines]
 
 
 def commands_of(text):

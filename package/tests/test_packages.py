@@ -9,7 +9,7 @@ import unittest
 
 from calls import ROOT, VERSION, PackageTest, packages, run, wants, wants_library, wants_program
 from clean_root import CannotBeMade, CleanRoot, closure, names_in
-from pages import commands_of, lines_of
+from pages import commands_of, compared
 
 PAGES = ["README.md", "examples/README.md", "docs/PLANNING.md"]
 TOOLCHAIN = ["rt", "rattle", "cc", "gcc", "clang", "ld", "make", "git"]
@@ -103,7 +103,8 @@ class InRoot(PackageTest):
         tried = 0
         for command, wanted in commands_of(text):
             with self.subTest(page=page, command=command):
-                self.assertEqual(lines_of(self.root.run(command, folder="/root/work", PATH=path)[1]), wanted)
+                got = self.root.run(command, folder="/root/work", PATH=path)[1].splitlines()
+                self.assertEqual(compared(got), compared(wanted))
             tried += 1
         self.assertGreater(tried, 0)
 

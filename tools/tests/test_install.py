@@ -22,7 +22,7 @@ class Installed(ToolTest):
         self.assertEqual(again, (status, output, said), "a second time, and by a name from here")
         self.write("table.csv", "a,x,3\na,y,1\nb,x,1\nb,y,9\n")
         without = {"AUCTION": ""}
-        self.assertEqual(self.run_in_folder("a place/bin/auction-plan", "--quiet", "table.csv", **without), (0, "person,object,cost\na,y,1\nb,x,1\ntotal,,2\n", ""))
+        self.assertEqual(self.run_in_folder("a place/bin/auction-plan", "table.csv", "--quiet", **without), (0, "person,object,cost\na,y,1\nb,x,1\ntotal,,2\n", ""))
         steps = "auction-from-csv table.csv && auction solve table.arcs >certificate && auction-to-csv certificate table.names && auction-check-certificate table.arcs certificate"
         steps += " && auction-margins table.arcs certificate && auction-picture table.arcs certificate"
         status, output, said = self.run_in_folder("sh", "-c", steps, **without, PATH=f"{prefix}/bin:{os.environ['PATH']}")

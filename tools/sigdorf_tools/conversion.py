@@ -16,7 +16,8 @@ from .wishes import by_persons
 
 def add_options(words):
     """The words that say how a table is to be read."""
-    words.add_argument("file", metavar="FILE", help="a table with names: person, object and cost in three columns, or a row for each person and a column for each object; CSV, .xlsx, .ods or .json; `-` is standard input")
+    table = "a table with names: person, object and cost in three columns, or a row for each person and a column for each object"
+    words.add_argument("file", metavar="FILE", help=f"{table}; CSV, .xlsx, .ods or .json; `-` is standard input")
     words.add_argument("--decimals", type=number_of_decimals, metavar="D", help="how many decimals of the costs are kept, 0 to 9; left out, as many as the table has")
     words.add_argument("--decimal-mark", choices=list(MARKS), help="what stands before decimals, where it isn't to be found out")
     words.add_argument("--maximise", "--maximize", action="store_true", help="look for the greatest total, not for the least")

@@ -1,4 +1,5 @@
-"""Pictures of problems of any size, as SVG: a row for each person, a column for each object, darker where the cost is greater, and the pairs of the plan on it. Of large ones a square stands for some rows and columns."""
+"""Pictures of problems of any size, as SVG: a row for each person, a column for each object, darker where the cost is greater, and the pairs of the plan on it.
+Of large ones a square stands for some rows and columns."""
 import textwrap
 from xml.sax.saxutils import escape
 

@@ -6,14 +6,16 @@ from .problems import MOST_ARCS, MOST_OBJECTS, MOST_PERSONS, Arcs
 
 
 class Model(NamedTuple):
-    """For each person of the solver, who is a copy of one of the table's, the place of that one and the arcs; what it costs each copy to stay free, or None where it mustn't, and nothing at all where
-    nobody is asked; which copies stand for a fixed pair; and how many objects the table has.
+    """For each person of the solver, who is a copy of one of the table's, the place of that one and the arcs; what it costs each copy to stay free,
+    or None where it mustn't, and nothing at all where nobody is asked; which copies stand for a fixed pair; and how many objects the table has.
 
-    Where nobody is asked, copies are given to objects as far as both go: where copies are more, each one that isn't fixed may take one of the dummies, which cost nothing and are as many as copies are more.
+    Where nobody is asked, copies are given to objects as far as both go: where copies are more, each one that isn't fixed may take one of the dummies,
+    which cost nothing and are as many as copies are more.
 
-    Where copies may stay free, each has an object of its own for that. These make the objects more than the persons, which the solver is slow with where costs are high; so the problem is
-    made square. Persons for the objects alone could take whatever is left, but that is an arc for each of them and each object. It is enough that the one for an object takes that object, where nobody else does,
-    or the own object of a copy that may take it: whoever takes an object leaves his own one to its person. So there are twice the arcs of the table, and one for each copy and each object.
+    Where copies may stay free, each has an object of its own for that. These make the objects more than the persons, which the solver is slow with where
+    costs are high; so the problem is made square. Persons for the objects alone could take whatever is left, but that is an arc for each of them and each
+    object. It is enough that the one for an object takes that object, where nobody else does, or the own object of a copy that may take it: whoever takes an
+    object leaves his own one to its person. So there are twice the arcs of the table, and one for each copy and each object.
     """
 
     owners: list

@@ -40,7 +40,8 @@ def rows_of_reasons(names, problem, model, claim, name):
                 best[key] = thing, cost, value, worse
     for key, (thing, cost, value, worse) in sorted(best.items(), key=lambda item: (item[1][0] not in own, item[1][2])):
         told = "any" if worse is None else unsigned.amount(worse)
-        rows.append([names.object(thing) or "stays free", names.amount(cost), unsigned.amount(prices[thing - 1] - least), names.amount(value), "" if thing in own else told, holders.get(thing, "") if key else ""])
+        amounts = [names.amount(cost), unsigned.amount(prices[thing - 1] - least), names.amount(value)]
+        rows.append([names.object(thing) or "stays free", *amounts, "" if thing in own else told, holders.get(thing, "") if key else ""])
     has = [names.object(thing) or "no object" for thing in sorted(own)]
     return [[*names.titles[1:], "price", "together", "worse by", "who has it"], *rows, [sentence(names, name, has)]]
 

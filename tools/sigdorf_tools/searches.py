@@ -2,7 +2,6 @@
 from .claims import Claim
 from .faults import Fault
 from .margins import margins_of
-from .solving import Answer
 
 
 class Plans:
@@ -43,8 +42,8 @@ class Plans:
         return found
 
     def fair(self, model):
-        """The plan whose greatest cost is least, and of those the one of the least total, with that cost; or the answer that there is no plan, without one. That no plan goes below is judged: it is the
-        answer for the next lower cost, that there is no plan."""
+        """The plan whose greatest cost is least, and of those the one of the least total, with that cost; or the answer that there is no plan, without one.
+        That no plan goes below is judged: it is the answer for the next lower cost, that there is no plan."""
         costs = model.costs()
         if not costs or not self.is_enough(model, costs[-1]):
             return self.answer(model), None

@@ -1,6 +1,7 @@
 //! Where bids at eps 1 would go on for billions, since many want few objects: paths end that within a few.
 
 use crate::texts::{AMPLE, answered, problem_of, text_of};
+use auc_cert::{read_cert, start_prices};
 use auc_direct::{DirectLimits, solve_direct_from};
 use auc_graph::{Arc, ArcList};
 use std::test::*;
@@ -8,6 +9,10 @@ use std::test::*;
 /// Three persons, of whom each has one of two objects for nothing, and else pays the greatest cost.
 const THREE: &str =
     "3\n1 1 0 1 2 0 1 3 1000000000\n2 1 0 2 2 0 2 3 1000000000\n3 1 0 3 2 0 3 3 1000000000\n";
+
+/// A certificate of another problem, at prices of 0.
+const NO_PRICES: &str =
+    "auction 1\noptimal 3 0\nassign 1 1 0\nassign 2 2 0\nassign 3 3 0\nprice 1 0\nprice 2 0\nprice 3 0\n";
 
 /// Far fewer bids than the greatest cost is steps of eps.
 const FEW: DirectLimits = DirectLimits { bids: 1_000 };
@@ -62,7 +67,9 @@ fn many_penalties_with_objects_to_spare(rt: HostRuntime) -> Result<(), Fail> {
 #[test]
 fn a_start_without_prices(rt: HostRuntime) -> Result<(), Fail> {
     let problem = problem_of(&rt, THREE, 0)?;
-    let answer = solve_direct_from(rt.alloc(), &problem, &FEW, &[0, 0, 0])?;
+    let cert = read_cert(rt.alloc(), NO_PRICES.as_bytes())?;
+    let start = start_prices(rt.alloc(), &problem, &cert)?;
+    let answer = solve_direct_from(rt.alloc(), &problem, &FEW, start.as_slice())?;
     let told = text_of(&rt, &problem, answer)?;
     assert!(rt;
         told.as_slice()

@@ -3,7 +3,7 @@
 use auc_answers::Answer;
 use auc_cert::{check, write_cert};
 use auc_direct::{DirectLimits, solve_direct};
-use auc_graph::{ArcList, ReadLimits, read_arcs};
+use auc_graph::{ArcList, MOST_OBJECTS, ReadLimits, read_arcs};
 use std::test::*;
 
 /// As many bids as any problem of these tests needs.
@@ -11,6 +11,9 @@ pub const AMPLE: DirectLimits = DirectLimits { bids: 1_000_000 };
 
 /// The problem that a text reads as, of so many objects, or as many as persons where that is 0.
 pub fn problem_of(rt: &HostRuntime, text: &str, objects: u32) -> Result<ArcList, Fail> {
+    if objects > MOST_OBJECTS {
+        return Err(Fail::new("too many objects"));
+    }
     let limits = ReadLimits {
         objects,
         ..ReadLimits::usual()

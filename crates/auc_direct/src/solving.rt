@@ -85,7 +85,8 @@ fn solve_rows(
 /// The answer is right as that of `auc_world::solve_serial` is, but of several least assignments it may be another one.
 ///
 /// Takes the time of the search for an assignment of any cost ([`auc_hall::complete`]), of the bids, each O(arcs of the person), of the paths, each at most
-/// O(arcs * log arcs), and of one check; and 20 bytes of memory an arc and some 60 an object beside the problem's own. The method is the auction with epsilon scaling
+/// O(arcs * log arcs), and of one check; and 20 bytes of memory an arc and some 60 an object beside the problem's own, and 16 for each label that waits in a search,
+/// of which there are at most as many as arcs. That paths are taken at all no clause says. The method is the auction with epsilon scaling
 /// (Bertsekas, 1979; Bertsekas and Eckstein, 1988), where whoever is displaced bids next, and successive shortest paths (Edmonds and Karp, 1972) where that goes far.
 ///
 /// # Errors
@@ -112,6 +113,8 @@ pub fn solve_direct(
 
 /// Solves a problem as [`solve_direct`] does, but from start prices, in one phase at the last eps: those of an old certificate
 /// ([`auc_cert::start_prices`]), say. They are scaled costs, indexed by object, from 0 to 2^60, and as many as the persons.
+///
+/// The clause `limit` counts the sum of the start prices too: where they add up to as many as the bids allowed, it doesn't tell why a bracket stands.
 ///
 /// # Errors
 ///

@@ -1,29 +1,31 @@
 -- What the last phase leaves is an answer.
-use Rattle.std.proofs.Common.{ℕ, ℤ, pos, ◌≢◌, ◌<◌, refl, arith, List, length, map, Contains, Option, sym, subst}
+use Rattle.std.proofs.Common.{ℕ, ℤ, pos, ◌≢◌, ◌<◌, refl, arith, inl, List, length, map, Contains, Option, sym, subst}
 use Rattle.std.specs.Prelude.{All, IfOk, Result, Ok, Err}
 use Rattle.std.proofs.lemmas.List.Elements.{All-weaker}
 use Rattle.auc_cert.specs.declared.reason.Reason.{Reason}
 use Rattle.auc_cert.specs.Claim.{pick_of}
 use Rattle.auc_cert.proofs.ClaimLaws.{faultless_is_allowed}
 use Rattle.auc_cert.proofs.Converse.{assignment_spelled, slack_right_faultless}
-use Rattle.auc_graph.specs.Assignment.{total_cost}
+use Rattle.auc_graph.specs.Assignment.{total, total_cost}
 use Rattle.auc_graph.specs.declared.arc.Arc.{Arc}
 use Rattle.auc_graph.specs.Price.{IsPrice as IsPriceText}
 use Rattle.auc_graph.specs.Problem.{IsProblem, Problem}
 use Rattle.auc_graph.specs.Table.{IsTableOf, Table, row_of}
+use Rattle.auc_hall.proofs.ProblemLaws.{length-rows}
 use Rattle.auc_letters.specs.Price.{IsPrice}
 use Rattle.auc_letters.specs.declared.state.Held.{Held}
 use Rattle.auc_answers.specs.declared.answer.Answer.{Answer}
-use Rattle.auc_answers.specs.Answers.{HasAssignment, IsAnswer, IsBracketAnswer, IsCertified, IsOptimalAnswer}
+use Rattle.auc_answers.specs.Answers.{HasAssignment, IsAnswer, IsBracketAnswer, IsCertified, IsInfeasibleAnswer, IsOptimalAnswer}
 use Rattle.auc_answers.specs.Claims.{BoundFits, claim_of}
 use Rattle.auc_answers.proofs.BracketLaws.{bound_fits, holders_price_few}
 use Rattle.auc_direct.specs.declared.arc.ShortArc.{ShortArc}
 use Rattle.auc_direct.specs.declared.ending.Ending.{Ending}
 use Rattle.auc_direct.specs.declared.market.TheConstants.{NOBODY}
-use Rattle.auc_direct.specs.Endings.{IsLimit, IsLimited, IsLimitedBy, IsOutcome}
+use Rattle.auc_direct.specs.Endings.{IsLeft, IsLimit, IsLimited, IsLimitedBy, IsLimitedFrom}
 use Rattle.auc_direct.specs.Held.{AreHeld}
 use Rattle.auc_direct.specs.Market.{HaveObjects, Stands, holder_at, own_at}
 use Rattle.auc_direct.specs.Rows.{AreShorts, AreShortsOf, Shorts, short}
+use Rattle.auc_direct.specs.Starts.{AreOpened}
 use Rattle.auc_direct.proofs.Choices as choices
 use Rattle.auc_direct.proofs.MarketLaws.{holder_has, owner_below}
 
@@ -67,17 +69,35 @@ module _ (p : Problem) (t : Table) (r : Shorts) (prices : List ℤ) (holders : L
 
 -- ---- a bracket is answered only where a limit has stopped a phase
 
-pub sold_is_limited : (p : Problem) (bids : ℕ) (held : List (Option Held)) (prices : List ℤ) (answer : Answer) → IsOptimalAnswer p held prices answer → IsLimited p bids answer
-sold_is_limited p bids held prices (Answer.Optimal cert) h = tt
-sold_is_limited p bids held prices (Answer.Infeasible cert) h = tt
-sold_is_limited p bids held prices (Answer.Bracket cert) h = absurd h
-sold_is_limited p bids held prices (Answer.Broken guard) h = tt
+pub sold_is_limited : (p : Problem) (bids : ℕ) (begun : ℤ) (held : List (Option Held)) (prices : List ℤ) (answer : Answer) → IsOptimalAnswer p held prices answer → IsLimited p bids begun answer
+sold_is_limited p bids begun held prices (Answer.Optimal cert) h = tt
+sold_is_limited p bids begun held prices (Answer.Infeasible cert) h = tt
+sold_is_limited p bids begun held prices (Answer.Bracket cert) h = absurd h
+sold_is_limited p bids begun held prices (Answer.Broken guard) h = tt
 
-pub stopped_is_limited : (p : Problem) (t : Table) (r : Shorts) (bids : ℕ) (reason : Reason) (held : List (Option Held)) (prices : List ℤ) → IsTableOf p t → AreShortsOf t r → IsLimit r bids reason prices → (answer : Answer) → IsBracketAnswer p reason held prices answer → IsLimited p bids answer
-stopped_is_limited p t r bids reason held prices its same limit (Answer.Optimal cert) h = tt
-stopped_is_limited p t r bids reason held prices its same limit (Answer.Infeasible cert) h = tt
-stopped_is_limited p t r bids reason held prices its same limit (Answer.Bracket cert) h = subst (IsLimitedBy p bids) (sym h.1.is) (t, r, its, same, limit)
-stopped_is_limited p t r bids reason held prices its same limit (Answer.Broken guard) h = tt
+pub stopped_is_limited : (p : Problem) (t : Table) (r : Shorts) (bids : ℕ) (begun : ℤ) (reason : Reason) (held : List (Option Held)) (prices : List ℤ) → IsTableOf p t → AreShortsOf t r → IsLimit r bids begun reason prices → (answer : Answer) → IsBracketAnswer p reason held prices answer → IsLimited p bids begun answer
+stopped_is_limited p t r bids begun reason held prices its same limit (Answer.Optimal cert) h = tt
+stopped_is_limited p t r bids begun reason held prices its same limit (Answer.Infeasible cert) h = tt
+stopped_is_limited p t r bids begun reason held prices its same limit (Answer.Bracket cert) h = subst (IsLimitedBy p bids begun) (sym h.1.is) (t, r, its, same, limit)
+stopped_is_limited p t r bids begun reason held prices its same limit (Answer.Broken guard) h = tt
+
+-- one that stands before any phase is no bracket
+pub none_is_limited : (p : Problem) (bids : ℕ) (begun : ℤ) (answer : Answer) → IsInfeasibleAnswer p answer → IsLimited p bids begun answer
+none_is_limited p bids begun (Answer.Optimal cert) h = tt
+none_is_limited p bids begun (Answer.Infeasible cert) h = tt
+none_is_limited p bids begun (Answer.Bracket cert) h = absurd h
+none_is_limited p bids begun (Answer.Broken guard) h = tt
+
+pub none_is_limited_from : (p : Problem) (bids : ℕ) (start : List ℤ) (answer : Answer) → IsInfeasibleAnswer p answer → IsLimitedFrom p bids start answer
+none_is_limited_from p bids start answer h = record { begun = start; opened = record { each = refl; same = λ e. refl; kept = λ j. inl refl }; limited = none_is_limited p bids (total start) answer h }
+
+-- what is opened for the rows of a problem is opened for the problem
+pub limited_from : (p : Problem) (t : Table) (r : Shorts) (bids : ℕ) (start begun : List ℤ) → IsTableOf p t → AreShortsOf t r → AreOpened r.objects (length r.rows) start begun → (answer : Answer) → IsLimited p bids (total begun) answer → IsLimitedFrom p bids start answer
+limited_from p t r bids start begun its same opened answer limited = record {
+  begun = begun;
+  opened = record { each = opened.each; same = λ e. opened.same (let a = its.objects in let b = same.objects in let c = same.persons in let d = length-rows p t its in omega (arith, a, b, c, d, e)); kept = opened.kept };
+  limited = limited;
+}
 
 -- ---- what all phases come to
 
@@ -85,9 +105,9 @@ pub of_answers : {E : Type 0} (P Q : Answer → Type 0) (r : Result Answer E) �
 of_answers P Q (Ok a) f h = f a h
 of_answers P Q (Err e) f h = tt
 
-pub outcome_stands : (r : Shorts) (bids : ℕ) (ending : Ending) (prices : List ℤ) (holders : List ℕ) (owns : List ShortArc) → IsOutcome r bids ending prices holders owns → (eps : ℤ) × Stands r eps prices holders owns
-outcome_stands r bids Ending.Sold prices holders owns h = (pos 1, h.0)
-outcome_stands r bids (Ending.Stopped reason) prices holders owns h = (h.0, h.1)
+pub left_stands : (r : Shorts) (ending : Ending) (prices : List ℤ) (holders : List ℕ) (owns : List ShortArc) → IsLeft r ending prices holders owns → (eps : ℤ) × Stands r eps prices holders owns
+left_stands r Ending.Sold prices holders owns h = (pos 1, h.0)
+left_stands r (Ending.Stopped reason) prices holders owns h = h
 
 pub own_listed : (t : Table) (r : Shorts) (eps : ℤ) (prices : List ℤ) (holders : List ℕ) (owns : List ShortArc) → AreShortsOf t r → AreShorts r → Stands r eps prices holders owns → (j : ℕ) → holder_at holders j ≢ NOBODY → Contains (map short (row_of t (holder_at holders j))) (own_at owns (holder_at holders j))
 own_listed t r eps prices holders owns same sound stands j some =

@@ -4,6 +4,8 @@ mod MarketLaws
 mod Bounds
 mod RowLaws
 mod Opening
+mod StartLaws
+mod EndingLaws
 mod HeldLaws
 mod Choices
 mod Answering

@@ -69,13 +69,13 @@ slack_rises r eps prices new i s rise same h = record {
 
 -- ---- an award
 
-module _ (r : Shorts) (eps : ℤ) (prices : List ℤ) (holders : List ℕ) (owns : List ShortArc) (i : ℕ) (s : ShortArc) (amount : ℤ) (sound : AreShorts r) (is_eps : IsEps eps) (stands : Stands r eps prices holders owns) (known : i < length r.rows) (none : (own_at owns i).object ≡ NOBODY)
-    (raise : IsRaise (scale_in r) eps prices (shorts_of r i) s amount) where
+module _ (r : Shorts) (eps : ℤ) (prices : List ℤ) (holders : List ℕ) (owns : List ShortArc) (i : ℕ) (s : ShortArc) (amount : ℤ) (sound : AreShorts r) (stands : Stands r eps prices holders owns) (known : i < length r.rows) (none : (own_at owns i).object ≡ NOBODY)
+    (up : price_at prices s.object ≤ℤ amount) (fits : IsSlack r eps (set prices s.object amount) i s) where
   abbrev j : ℕ
   j = s.object
 
   pub object_in : j < r.objects
-  object_in = (All-contains (IsShort r.objects) (shorts_of r i) s (sound.each i) raise.listed).object
+  object_in = (All-contains (IsShort r.objects) (shorts_of r i) s (sound.each i) fits.listed).object
 
   pub price_in : j < length prices
   price_in = let e = stands.prices_are in let l = object_in in omega (arith, e, l)
@@ -101,19 +101,16 @@ module _ (r : Shorts) (eps : ℤ) (prices : List ℤ) (holders : List ℕ) (owns
   abbrev left : List ShortArc
   left = set had d no_own
 
-  up : price_at prices j ≤ℤ amount
-  up = let m = raise.more in let l = is_eps.low in omega (arith, ints, m, l)
-
-  pub total_more : (total prices +ℤ pos 1) ≤ℤ total new
-  total_more = let e = total_set prices j amount price_in in let m = raise.more in let l = is_eps.low in omega (arith, ints, e, m, l)
+  pub total_with : (total new +ℤ price_at prices j) ≡ (total prices +ℤ amount)
+  total_with = total_set prices j amount price_in
 
   rise : (k : ℕ) → price_at prices k ≤ℤ price_at new k
   rise = risen prices j amount price_in up
 
-  price_here : price_at new j ≡ amount
+  pub price_here : price_at new j ≡ amount
   price_here = get_or-set_same prices j amount (pos 0) price_in
 
-  price_off : (k : ℕ) → k ≢ j → price_at new k ≡ price_at prices k
+  pub price_off : (k : ℕ) → k ≢ j → price_at new k ≡ price_at prices k
   price_off k ne = get_or-set_other prices j k amount (pos 0) ne
 
   holder_here : holder_at sold j ≡ i
@@ -130,10 +127,10 @@ module _ (r : Shorts) (eps : ℤ) (prices : List ℤ) (holders : List ℕ) (owns
         | inr some ↦ holder_has r eps prices holders owns sound stands j some (ap (λ (k : ℕ). (own_at owns k).object) (sym e) ∙ none)
       ]
 
-  own_new : own_at left i ≡ s
+  pub own_new : own_at left i ≡ s
   own_new = get_or-set_other had d i no_own no_own apart ∙ get_or-set_same owns i s no_own own_in
 
-  own_off : (k : ℕ) → k ≢ i → k ≢ d → own_at left k ≡ own_at owns k
+  pub own_off : (k : ℕ) → k ≢ i → k ≢ d → own_at left k ≡ own_at owns k
   own_off k ni nd = get_or-set_other had d k no_own no_own nd ∙ get_or-set_other owns i k s no_own ni
 
   own_gone : own_at left d ≡ no_own
@@ -153,11 +150,8 @@ module _ (r : Shorts) (eps : ℤ) (prices : List ℤ) (holders : List ℕ) (owns
   pub others_have : (k : ℕ) → k ≢ i → k ≢ d → (own_at owns k).object ≢ NOBODY → (own_at left k).object ≢ NOBODY
   others_have k ni nd some e = some (sym (ap (λ (x : ShortArc). x.object) (own_off k ni nd)) ∙ e)
 
-  slack_new : IsSlack r eps new i s
-  slack_new = record { listed = raise.listed; least = raise.slack }
-
   -- who has an object behind it, and isn't the bidder, had it before, and it isn't that of the bid
-  had_before : (k : ℕ) → k ≢ i → (own_at left k).object ≢ NOBODY → ((own_at left k) ≡ (own_at owns k)) × ((own_at owns k).object ≢ NOBODY) × ((own_at owns k).object ≢ j)
+  pub had_before : (k : ℕ) → k ≢ i → (own_at left k).object ≢ NOBODY → ((own_at left k) ≡ (own_at owns k)) × ((own_at owns k).object ≢ NOBODY) × ((own_at owns k).object ≢ j)
   had_before k ni some =
       let nd : k ≢ d = λ e. some (ap (λ (m : ℕ). (own_at left m).object) e ∙ gone) in
       let same = own_off k ni nd in
@@ -174,7 +168,7 @@ module _ (r : Shorts) (eps : ℤ) (prices : List ℤ) (holders : List ℕ) (owns
   slack_after : (k : ℕ) → (own_at left k).object ≢ NOBODY → IsSlack r eps new k (own_at left k)
   slack_after k some =
       elim (cases_eq k i) [
-        | inl e ↦ subst (λ (m : ℕ). IsSlack r eps new m (own_at left m)) (sym e) (subst (IsSlack r eps new i) (sym own_new) slack_new)
+        | inl e ↦ subst (λ (m : ℕ). IsSlack r eps new m (own_at left m)) (sym e) (subst (IsSlack r eps new i) (sym own_new) fits)
         | inr ne ↦ (let b = had_before k ne some in subst (IsSlack r eps new k) (sym b.0) (slack_rises r eps prices new k (own_at owns k) rise (price_off (own_at owns k).object b.2) (stands.slack k b.1)))
       ]
 
@@ -206,7 +200,7 @@ module _ (r : Shorts) (eps : ℤ) (prices : List ℤ) (holders : List ℕ) (owns
 
   module _ (high : amount ≤ℤ pos (2 ^ 61)) where
     zero_low : pos 0 ≤ℤ amount
-    zero_low = let u = up in let l = (stands.within j (pos 0) price_in).low in omega (arith, ints, u, l)
+    zero_low = let l = (stands.within j (pos 0) price_in).low in omega (arith, ints, up, l)
 
     pub stands_after : Stands r eps new sold left
     stands_after = record {
@@ -255,9 +249,13 @@ pub awarded : (r : Shorts) (eps : ℤ) (person : ℕ) (prices new : List ℤ) (h
     → IsRaise (scale_in r) eps prices (shorts_of r person) s amount → amount ≤ℤ pos (2 ^ 61) → new ≡ set prices s.object amount → sold ≡ set holders s.object person → left ≡ set (set owns person s) (holder_at holders s.object) no_own → d ≡ holder_at holders s.object
     → IsAwarded r eps person prices new sold owns left d
 awarded r eps person prices new holders sold owns left d s amount sound is_eps stands known none raise high e f g h =
+    let m = raise.more in
+    let e0 = is_eps.low in
+    let up : price_at prices s.object ≤ℤ amount = omega (arith, ints, m, e0) in
+    let fits : IsSlack r eps (set prices s.object amount) person s = record { listed = raise.listed; least = raise.slack } in
     record {
-      stands = stands_by r eps (set prices s.object amount) new (set holders s.object person) sold (set (set owns person s) (holder_at holders s.object) no_own) left e f g (stands_after r eps prices holders owns person s amount sound is_eps stands known none raise high);
-      more = rw e (total_more r eps prices holders owns person s amount sound is_eps stands known none raise);
-      but = λ n b. subst (λ (os : List ShortArc). HaveAllBut n os d) (sym g) (subst (HaveAllBut n (set (set owns person s) (holder_at holders s.object) no_own)) (sym h) (all_but r eps prices holders owns person s amount sound is_eps stands known none raise n b));
-      below = λ some. (let l = displaced_below r eps prices holders owns person s amount sound is_eps stands known none raise (λ z. some (h ∙ z)) in omega (arith, l, h));
+      stands = stands_by r eps (set prices s.object amount) new (set holders s.object person) sold (set (set owns person s) (holder_at holders s.object) no_own) left e f g (stands_after r eps prices holders owns person s amount sound stands known none up fits high);
+      more = rw e (let t = total_with r eps prices holders owns person s amount sound stands known none up fits in omega (arith, ints, t, m, e0));
+      but = λ n b. subst (λ (os : List ShortArc). HaveAllBut n os d) (sym g) (subst (HaveAllBut n (set (set owns person s) (holder_at holders s.object) no_own)) (sym h) (all_but r eps prices holders owns person s amount sound stands known none up fits n b));
+      below = λ some. (let l = displaced_below r eps prices holders owns person s amount sound stands known none up fits (λ z. some (h ∙ z)) in omega (arith, l, h));
     }

@@ -1,14 +1,14 @@
 -- What a phase begins with.
-use Rattle.std.proofs.Common.{ℕ, ℤ, pos, ◌<◌, ◌≤◌, ◌≡◌, arith, List, length, get_or, replicate, inl, inr, ap, sym, subst, ◌∙◌}
+use Rattle.std.proofs.Common.{ℕ, ℤ, pos, zero, suc, refl, ◌<◌, ◌≤◌, ◌≡◌, arith, List, length, get_or, replicate, inl, inr, ap, sym, subst, ◌∙◌}
 use Rattle.std.specs.Prelude.{All, ◌⊎◌, ◌<ℤ◌, unsigned_abs}
 use Rattle.std.proofs.lemmas.Int.{ints}
 use Rattle.std.proofs.lemmas.List.{get_or-replicate, get_or_default, length-replicate, same_lists}
 use Rattle.std.proofs.lemmas.List.Elements.{All-replicate, All-weaker}
-use Rattle.auc_cert.specs.Start.{AreStart, IsStartPrice}
+use Rattle.auc_cert.specs.Start.{IsStartPrice}
+use Rattle.auc_graph.specs.Assignment.{total}
 use Rattle.auc_graph.specs.Dual.{price_at}
 use Rattle.auc_graph.specs.Problem.{Problem}
 use Rattle.auc_graph.specs.Table.{IsTableOf, Table}
-use Rattle.auc_hall.proofs.ProblemLaws.{length-rows}
 use Rattle.auc_letters.specs.Price.{IsEps, IsPrice}
 use Rattle.auc_answers.proofs.NewShards.{replicate_default}
 use Rattle.auc_direct.specs.declared.arc.ShortArc.{ShortArc}
@@ -16,6 +16,7 @@ use Rattle.auc_direct.specs.declared.market.TheConstants.{NOBODY}
 use Rattle.auc_direct.specs.Endings.{IsStart}
 use Rattle.auc_direct.specs.Market.{AreSpare, Stands, holder_at, no_own, own_at}
 use Rattle.auc_direct.specs.Rows.{AreShortsOf, Shorts}
+use Rattle.auc_direct.specs.Starts.{ArePricesOf, AreStartPrices}
 
 -- a list of so many times the same
 pub all_same : {X : Type 0} (a : X) (xs ys : List X) (n : ℕ) → length xs ≡ length ys → length xs ≤ n → ((k : ℕ) → k < n → get_or xs k a ≡ a) → xs ≡ replicate (length ys) a
@@ -23,8 +24,8 @@ all_same a xs ys n len enough same =
     same_lists xs (replicate (length ys) a) (len ∙ sym (length-replicate (length ys) a))
     (λ k d lt. get_or_default xs k d a lt ∙ same k (omega (arith, lt, enough)) ∙ sym (get_or-replicate (length ys) k a d (omega (arith, lt, len))))
 
-pub stands_opened : (r : Shorts) (eps : ℤ) (prices : List ℤ) (holders : List ℕ) (owns : List ShortArc) (n m : ℕ) → IsStart r eps prices → n ≡ r.objects → m ≡ length r.rows → holders ≡ replicate n NOBODY → owns ≡ replicate m no_own → Stands r eps prices holders owns
-stands_opened r eps prices holders owns n m start objects persons nobody none = record {
+pub stands_opened : (r : Shorts) (first eps : ℤ) (prices : List ℤ) (holders : List ℕ) (owns : List ShortArc) (n m : ℕ) → IsStart r first prices → n ≡ r.objects → m ≡ length r.rows → holders ≡ replicate n NOBODY → owns ≡ replicate m no_own → Stands r eps prices holders owns
+stands_opened r first eps prices holders owns n m start objects persons nobody none = record {
   prices_are = start.each;
   holders_are = ap length nobody ∙ length-replicate n NOBODY ∙ objects;
   owns_are = ap length none ∙ length-replicate m no_own ∙ persons;
@@ -41,7 +42,7 @@ stands_opened r eps prices holders owns n m start objects persons nobody none = 
     unowned : (i : ℕ) → (own_at owns i).object ≡ NOBODY
     unowned i = ap (λ (os : List ShortArc). (own_at os i).object) none ∙ ap (λ (s : ShortArc). s.object) (replicate_default m i no_own)
 
-    spare : (r.objects ≡ length r.rows) ⊎ ((eps ≡ pos 1) × ((j : ℕ) → price_at prices j ≡ pos 0)) → AreSpare r prices holders
+    spare : (r.objects ≡ length r.rows) ⊎ ((first ≡ pos 1) × ((j : ℕ) → price_at prices j ≡ pos 0)) → AreSpare r prices holders
     spare (inl square) = inl square
     spare (inr zeros) = inr (λ j free. zeros.1 j)
 
@@ -73,10 +74,21 @@ start_none r eps n prices many zeros start = record {
     by (inl square) = inl square
     by (inr one) = inr (one, λ j. ap (λ (ps : List ℤ). price_at ps j) zeros ∙ replicate_default n j (pos 0))
 
--- start prices, where there are as many objects as persons
-pub start_at : (p : Problem) (t : Table) (r : Shorts) (eps : ℤ) (start prices : List ℤ) → IsTableOf p t → AreShortsOf t r → AreStart p start → prices ≡ start → IsStart r eps prices
-start_at p t r eps start prices its same is e = record {
-  each = ap length e ∙ (is.each ∙ (let a = its.objects in let b = same.objects in omega (arith, a, b)));
-  within = subst (All IsPrice) (sym e) (All-weaker IsStartPrice IsPrice (λ z h. record { low = h.low; high = (let u = h.high in omega (arith, ints, u)) }) start is.within);
-  spare = inl (let a = its.objects in let b = same.objects in let c = same.persons in let d = length-rows p t its in let s = is.square in omega (arith, a, b, c, d, s));
+-- no price comes to nothing
+total_of_none : (n : ℕ) → total (replicate n (pos 0)) ≡ pos 0
+total_of_none zero = refl
+total_of_none (suc n) = let e = total_of_none n in omega (arith, ints, e)
+
+pub total_none : (n : ℕ) (prices : List ℤ) → prices ≡ replicate n (pos 0) → total prices ≡ pos 0
+total_none n prices e = ap total e ∙ total_of_none n
+
+-- start prices, a price for each object
+pub prices_of_start : (p : Problem) (t : Table) (r : Shorts) (start : List ℤ) → IsTableOf p t → AreShortsOf t r → AreStartPrices p start → ArePricesOf r start
+prices_of_start p t r start its same is = record {
+  each = is.each ∙ (let a = its.objects in let b = same.objects in omega (arith, a, b));
+  within = All-weaker IsStartPrice IsPrice (λ z h. record { low = h.low; high = (let u = h.high in omega (arith, ints, u)) }) start is.within;
 }
+
+-- and where there are as many objects as persons, a run may begin with them
+pub start_at : (r : Shorts) (start prices : List ℤ) → ArePricesOf r start → r.objects ≡ length r.rows → prices ≡ start → IsStart r (pos 1) prices
+start_at r start prices is square e = record { each = ap length e ∙ is.each; within = subst (All IsPrice) (sym e) is.within; spare = inl square }

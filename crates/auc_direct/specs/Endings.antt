@@ -1,5 +1,5 @@
 -- What a chain of bids, a phase and a run come to.
-use Rattle.std.specs.Prelude.{ℕ, ℤ, pos, ◌≡◌, ◌≢◌, ◌⊎◌, ◌≤ℤ◌, List, length, All}
+use Rattle.std.specs.Prelude.{ℕ, ℤ, pos, ◌≡◌, ◌≢◌, ◌⊎◌, ◌+ℤ◌, ◌≤ℤ◌, List, length, All}
 use Rattle.auc_cert.specs.declared.cert.CertParts.{CertParts}
 use Rattle.auc_cert.specs.declared.reason.Reason.{Reason}
 use Rattle.auc_graph.specs.Assignment.{total}
@@ -15,15 +15,16 @@ use Rattle.auc_direct.specs.declared.ending.PathStep.{PathStep}
 use Rattle.auc_direct.specs.declared.market.TheConstants.{NOBODY}
 use Rattle.auc_direct.specs.Market.{HaveObjects, IsAbove, Stands, own_at}
 use Rattle.auc_direct.specs.Rows.{AreShortsOf, Shorts}
+use Rattle.auc_direct.specs.Starts.{AreOpened}
 
--- Why a phase may be stopped: the prices add up to no less than the bids that it may take, each of which has raised one; or somebody
--- would bid more than the greatest price.
-abbrev pub IsLimit : Shorts → ℕ → Reason → List ℤ → Type 0
-IsLimit r bids Reason.Bids prices = pos bids ≤ℤ total prices
-IsLimit r bids Reason.Ceiling prices = (eps : ℤ) × IsAbove r eps prices
-IsLimit r bids Reason.Posts prices = ⊥
-IsLimit r bids Reason.Trail prices = ⊥
-IsLimit r bids Reason.Mail prices = ⊥
+-- Why a phase may be stopped: the prices add up to more than those that the run began with, by no less than the bids that a phase may
+-- take, each of which has raised one; or somebody would bid more than the greatest price.
+abbrev pub IsLimit : Shorts → ℕ → ℤ → Reason → List ℤ → Type 0
+IsLimit r bids begun Reason.Bids prices = (begun +ℤ pos bids) ≤ℤ total prices
+IsLimit r bids begun Reason.Ceiling prices = (eps : ℤ) × IsAbove r eps prices
+IsLimit r bids begun Reason.Posts prices = ⊥
+IsLimit r bids begun Reason.Trail prices = ⊥
+IsLimit r bids begun Reason.Mail prices = ⊥
 
 -- the first n persons have objects; or the bids have run out; or a bid would be too high
 abbrev pub IsChain : Shorts → ℤ → ℕ → ℕ → Chain → List ℤ → List ShortArc → Type 0
@@ -31,9 +32,10 @@ IsChain r eps n left Chain.Placed prices owns = HaveObjects n owns
 IsChain r eps n left Chain.Bids prices owns = left ≡ 0
 IsChain r eps n left Chain.Ceiling prices owns = IsAbove r eps prices
 
-abbrev pub IsEnding : Shorts → ℤ → ℕ → Ending → List ℤ → List ShortArc → Type 0
-IsEnding r eps bids Ending.Sold prices owns = HaveObjects (length r.rows) owns
-IsEnding r eps bids (Ending.Stopped reason) prices owns = IsLimit r bids reason prices
+-- each person has an object; or a limit has stopped the phase
+abbrev pub IsEnding : Shorts → ℕ → ℤ → Ending → List ℤ → List ShortArc → Type 0
+IsEnding r bids begun Ending.Sold prices owns = HaveObjects (length r.rows) owns
+IsEnding r bids begun (Ending.Stopped reason) prices owns = IsLimit r bids begun reason prices
 
 -- what a phase at this eps begins with: as many objects as persons, or no price
 pub record IsStart (r : Shorts) (eps : ℤ) (prices : List ℤ) : Type 0 where
@@ -41,22 +43,44 @@ pub record IsStart (r : Shorts) (eps : ℤ) (prices : List ℤ) : Type 0 where
   pub within : All IsPrice prices
   pub spare : (r.objects ≡ length r.rows) ⊎ ((eps ≡ pos 1) × ((j : ℕ) → price_at prices j ≡ pos 0))
 
--- what all phases come to: the last one, at eps 1, has given each person an object; or a limit has stopped one
-abbrev pub IsOutcome : Shorts → ℕ → Ending → List ℤ → List ℕ → List ShortArc → Type 0
-IsOutcome r bids Ending.Sold prices holders owns = Stands r (pos 1) prices holders owns × HaveObjects (length r.rows) owns
-IsOutcome r bids (Ending.Stopped reason) prices holders owns = (eps : ℤ) × Stands r eps prices holders owns × IsLimit r bids reason prices
+-- what all phases leave: the last one, at eps 1, has given each person an object; or one of them was stopped
+abbrev pub IsLeft : Shorts → Ending → List ℤ → List ℕ → List ShortArc → Type 0
+IsLeft r Ending.Sold prices holders owns = Stands r (pos 1) prices holders owns × HaveObjects (length r.rows) owns
+IsLeft r (Ending.Stopped reason) prices holders owns = (eps : ℤ) × Stands r eps prices holders owns
 
-abbrev pub IsLimitedBy : Problem → ℕ → CertParts → Type 0
-IsLimitedBy p bids (CertParts.Optimal cost choice prices) = Unit {0}
-IsLimitedBy p bids (CertParts.Infeasible persons objects) = Unit {0}
-IsLimitedBy p bids (CertParts.Bracket reason lower cost choice prices) = (t : Table) × (r : Shorts) × IsTableOf p t × AreShortsOf t r × IsLimit r bids reason prices
+-- only a limit has stopped one
+abbrev pub IsStopped : Shorts → ℕ → ℤ → Ending → List ℤ → Type 0
+IsStopped r bids begun Ending.Sold prices = Unit {0}
+IsStopped r bids begun (Ending.Stopped reason) prices = IsLimit r bids begun reason prices
 
--- a bracket is answered only where a limit has stopped a phase
-abbrev pub IsLimited : Problem → ℕ → Answer → Type 0
-IsLimited p bids (Answer.Optimal cert) = Unit {0}
-IsLimited p bids (Answer.Infeasible cert) = Unit {0}
-IsLimited p bids (Answer.Bracket cert) = IsLimitedBy p bids cert
-IsLimited p bids (Answer.Broken guard) = Unit {0}
+-- what a run comes to that began with prices of this sum
+abbrev pub IsOutcome : Shorts → ℕ → ℤ → Ending → List ℤ → List ℕ → List ShortArc → Type 0
+IsOutcome r bids begun ending prices holders owns = IsLeft r ending prices holders owns × IsStopped r bids begun ending prices
+
+-- what a run from start prices comes to: it began with what its opening has left of them
+pub record IsOutcomeFrom (r : Shorts) (bids : ℕ) (start : List ℤ) (ending : Ending) (prices : List ℤ) (holders : List ℕ) (owns : List ShortArc) : Type 0 where
+  pub left : IsLeft r ending prices holders owns
+  pub begun : List ℤ
+  pub opened : AreOpened r.objects (length r.rows) start begun
+  pub stopped : IsStopped r bids (total begun) ending prices
+
+abbrev pub IsLimitedBy : Problem → ℕ → ℤ → CertParts → Type 0
+IsLimitedBy p bids begun (CertParts.Optimal cost choice prices) = Unit {0}
+IsLimitedBy p bids begun (CertParts.Infeasible persons objects) = Unit {0}
+IsLimitedBy p bids begun (CertParts.Bracket reason lower cost choice prices) = (t : Table) × (r : Shorts) × IsTableOf p t × AreShortsOf t r × IsLimit r bids begun reason prices
+
+-- a bracket is answered only where a limit has stopped a phase of a run that began with prices of this sum
+abbrev pub IsLimited : Problem → ℕ → ℤ → Answer → Type 0
+IsLimited p bids begun (Answer.Optimal cert) = Unit {0}
+IsLimited p bids begun (Answer.Infeasible cert) = Unit {0}
+IsLimited p bids begun (Answer.Bracket cert) = IsLimitedBy p bids begun cert
+IsLimited p bids begun (Answer.Broken guard) = Unit {0}
+
+-- the same of a run from start prices: what counts is how far the sum has risen above what the opening has left of them
+pub record IsLimitedFrom (p : Problem) (bids : ℕ) (start : List ℤ) (answer : Answer) : Type 0 where
+  pub begun : List ℤ
+  pub opened : AreOpened p.objects p.persons start begun
+  pub limited : IsLimited p bids (total begun) answer
 
 -- A path leaves what stands between two bids, and the person has an object; or nothing has changed.
 abbrev pub IsPathStep : Shorts → ℤ → ℕ → PathStep → List ℤ → List ℕ → List ShortArc → List ℤ → List ℕ → List ShortArc → Type 0

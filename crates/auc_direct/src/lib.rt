@@ -18,7 +18,9 @@ mod rows;
 mod scan;
 mod search;
 mod solving;
+mod starts;
 mod walk;
 mod wipe;
 
 pub use solving::{DirectLimits, solve_direct, solve_direct_from};
+pub use starts::may_start;

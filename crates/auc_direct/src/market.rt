@@ -1,7 +1,7 @@
 //! The state of a phase: the prices, who holds each object, and by which arc each person holds his.
 
 ghost use Rattle.std.specs.Prelude.{◌≡◌, ◌≢◌, ◌<◌, pos, length, replicate, set, IfOk};
-ghost use Rattle.auc_direct.specs.Market.{holder_at, no_own};
+ghost use Rattle.auc_direct.specs.Market.{holder_at, no_own, own_at};
 
 use crate::arc::ShortArc;
 use crate::bid::Bid;
@@ -52,6 +52,33 @@ impl Market {
         for person in 0..self.owns.len() {
             self.owns[person] = NO_OWN;
         }
+    }
+
+    /// Nobody holds anything any more, and nothing has a price.
+    pub(crate) fn empty(&mut self)
+        ensures prices { self.new.prices.items ≡ replicate (length self.old.prices.items) (pos 0) }
+        ensures holders { self.new.holders.items ≡ replicate (length self.old.holders.items) NOBODY }
+        ensures owns { self.new.owns.items ≡ replicate (length self.old.owns.items) no_own }
+    {
+        for object in 0..self.prices.len() {
+            self.prices[object] = 0;
+        }
+        self.open();
+    }
+
+    /// A person leaves his object, which has no price then.
+    pub(crate) fn leave(&mut self, person: u32)
+        requires person { person < length self.old.owns.items }
+        requires price { (own_at self.old.owns.items person).object < length self.old.prices.items }
+        requires holder { (own_at self.old.owns.items person).object < length self.old.holders.items }
+        ensures prices { self.new.prices.items ≡ set self.old.prices.items (own_at self.old.owns.items person).object (pos 0) }
+        ensures holders { self.new.holders.items ≡ set self.old.holders.items (own_at self.old.owns.items person).object NOBODY }
+        ensures owns { self.new.owns.items ≡ set self.old.owns.items person no_own }
+    {
+        let object = self.owns[person as usize].object as usize;
+        self.prices[object] = 0;
+        self.holders[object] = NOBODY;
+        self.owns[person as usize] = NO_OWN;
     }
 
     /// The object of a bid is the bidder's, the amount is its price, and who has held it has none; gives him.

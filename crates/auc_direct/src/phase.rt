@@ -1,6 +1,6 @@
 //! A phase: the persons who have no object bid in order, and whoever is displaced bids next; where that goes far, he goes by a path.
 
-ghost use Rattle.std.specs.Prelude.{◌≡◌, ◌+◌, ◌<◌, pos, ◌+ℤ◌, ◌≤ℤ◌, length, IfOk, IfSome, IfNone, OnOk};
+ghost use Rattle.std.specs.Prelude.{◌≡◌, ◌+◌, ◌<◌, ◌≤◌, pos, ◌+ℤ◌, ◌≤ℤ◌, length, IfOk, IfSome, IfNone, OnOk};
 ghost use Rattle.std.specs.BinaryHeap.{heap_items};
 ghost use Rattle.auc_graph.specs.Assignment.{total};
 ghost use Rattle.auc_letters.specs.Price.{IsEps};
@@ -65,6 +65,7 @@ impl Market {
         ensures stands { OnOk result (Stands rows.now eps self.new.prices.items self.new.holders.items self.new.owns.items) }
         ensures chain { IfOk result (λ c. IsChain rows.now eps (first + 1) left.new c self.new.prices.items self.new.owns.items) }
         ensures raised { OnOk result ((total self.old.prices.items +ℤ pos left.old) ≤ℤ (total self.new.prices.items +ℤ pos left.new)) }
+        ensures fewer { OnOk result (left.new ≤ left.old) }
         ensures clean { OnOk result (IsClean rows.now.objects search.new.labels.items search.new.line.items (heap_items search.new.heap)) }
     {
         let scale = rows.scale();
@@ -92,7 +93,7 @@ impl Market {
         Ok(Chain::Bids)
     }
 
-    /// Plays a phase in which nobody holds anything yet, of at most so many bids.
+    /// Plays a phase of at most so many bids, in which those bid who hold nothing yet.
     pub(crate) fn play(
         &mut self,
         rows: &ShortRows,
@@ -106,7 +107,8 @@ impl Market {
         requires stands { Stands rows.now eps self.old.prices.items self.old.holders.items self.old.owns.items }
         requires clean { IsClean rows.now.objects search.old.labels.items search.old.line.items (heap_items search.old.heap) }
         ensures stands { OnOk result (Stands rows.now eps self.new.prices.items self.new.holders.items self.new.owns.items) }
-        ensures ending { IfOk result (λ e. IsEnding rows.now eps bids e self.new.prices.items self.new.owns.items) }
+        ensures ending { IfOk result (λ e. IsEnding rows.now bids (total self.old.prices.items) e self.new.prices.items self.new.owns.items) }
+        ensures risen { OnOk result (total self.old.prices.items ≤ℤ total self.new.prices.items) }
         ensures clean { OnOk result (IsClean rows.now.objects search.new.labels.items search.new.line.items (heap_items search.new.heap)) }
     {
         let mut left = bids;

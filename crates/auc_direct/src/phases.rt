@@ -1,9 +1,11 @@
 //! All phases of a run: epsilon scaling.
 
-ghost use Rattle.std.specs.Prelude.{◌≡◌, IfOk};
+ghost use Rattle.std.specs.Prelude.{◌≡◌, pos, length, IfOk};
+ghost use Rattle.auc_graph.specs.Assignment.{total};
 ghost use Rattle.auc_letters.specs.Price.{IsEps};
-ghost use Rattle.auc_direct.specs.Endings.{IsOutcome, IsStart};
+ghost use Rattle.auc_direct.specs.Endings.{IsOutcome, IsOutcomeFrom, IsStart};
 ghost use Rattle.auc_direct.specs.Market.{EachHasArc};
+ghost use Rattle.auc_direct.specs.Starts.{AreKept, ArePricesOf};
 
 use crate::ending::Ending;
 use crate::eps::{LAST_EPS, next_eps};
@@ -37,7 +39,7 @@ pub(crate) fn play_all(
     requires arcs { EachHasArc rows.now }
     requires eps { IsEps eps }
     requires start { IsStart rows.now eps prices.items }
-    ensures { IfOk result (λ o. IsOutcome rows.now bids o.ending o.market.prices.items o.market.holders.items o.market.owns.items) }
+    ensures { IfOk result (λ o. IsOutcome rows.now bids (total prices.items) o.ending o.market.prices.items o.market.holders.items o.market.owns.items) }
 {
     let patience = if eps == LAST_EPS { SOON } else { LATE };
     let mut search = Search::new(alloc, rows)?;
@@ -46,12 +48,47 @@ pub(crate) fn play_all(
     loop {
         market.open();
         let ending = market.play(rows, eps, bids, patience, &mut search)?;
-        if ending != Ending::Sold {
-            return Ok(Outcome { ending, market });
+        match ending {
+            Ending::Stopped(_) => return Ok(Outcome { ending, market }),
+            Ending::Sold => {}
         }
         let Some(next) = next_eps(eps) else {
             return Ok(Outcome { ending, market });
         };
         eps = next;
     }
+}
+
+/// The prices before anybody holds anything: those of the start where there are as many objects as persons, and else none.
+fn prices_before(alloc: Global, rows: &ShortRows, start: &[i64]) -> Result<Vec<i64>, AllocError>
+    requires start { ArePricesOf rows.now start.now }
+    ensures start { IfOk result (λ v. IsStart rows.now (pos 1) v.items) }
+    ensures kept { IfOk result (λ v. AreKept start.now v.items) }
+    ensures same { IfOk result (λ v. rows.now.objects ≡ length rows.now.rows → v.items ≡ start.now) }
+{
+    if rows.persons() == rows.objects() {
+        let prices = start.to_vec(alloc)?;
+        return Ok(prices);
+    }
+    let none = vec![in alloc; 0; rows.objects() as usize]?;
+    Ok(none)
+}
+
+/// One phase at the last eps, from start prices, at which persons keep what they may. It may make so many bids.
+pub(crate) fn play_from(
+    alloc: Global,
+    rows: &ShortRows,
+    bids: u64,
+    start: &[i64],
+) -> Result<Outcome, AllocError>
+    requires arcs { EachHasArc rows.now }
+    requires start { ArePricesOf rows.now start.now }
+    ensures { IfOk result (λ o. IsOutcomeFrom rows.now bids start.now o.ending o.market.prices.items o.market.holders.items o.market.owns.items) }
+{
+    let mut search = Search::new(alloc, rows)?;
+    let prices = prices_before(alloc, rows, start)?;
+    let mut market = Market::new(alloc, rows.persons(), prices)?;
+    market.open_at(rows, LAST_EPS, start);
+    let ending = market.play(rows, LAST_EPS, bids, SOON, &mut search)?;
+    Ok(Outcome { ending, market })
 }

@@ -1,18 +1,19 @@
 //! The solver in one hand.
 
-ghost use Rattle.std.specs.Prelude.{IfOk};
-ghost use Rattle.auc_cert.specs.Start.{AreStart};
+ghost use Rattle.std.specs.Prelude.{ℕ, ℤ, pos, IfOk};
+ghost use Rattle.auc_graph.specs.Assignment.{total};
 ghost use Rattle.auc_graph.specs.Table.{IsTableOf};
 ghost use Rattle.auc_letters.specs.Price.{IsEps};
 ghost use Rattle.auc_answers.specs.Answers.{HasAssignment, IsAnswer};
 ghost use Rattle.auc_answers.specs.Prepared.{NobodyStuck};
-ghost use Rattle.auc_direct.specs.Endings.{IsLimited, IsOutcome, IsStart};
+ghost use Rattle.auc_direct.specs.Endings.{IsLeft, IsLimited, IsLimitedFrom, IsStart, IsStopped};
 ghost use Rattle.auc_direct.specs.Rows.{AreShorts, AreShortsOf};
+ghost use Rattle.auc_direct.specs.Starts.{AreStartPrices};
 
 use crate::ending::Ending;
-use crate::eps::{LAST_EPS, first_eps};
+use crate::eps::first_eps;
 use crate::gathering::gather;
-use crate::phases::{Outcome, play_all};
+use crate::phases::{Outcome, play_all, play_from};
 use crate::rows::ShortRows;
 use auc_answers::finish::{bracket, optimal};
 use auc_answers::{Answer, Prepared, prepare};
@@ -32,16 +33,15 @@ fn answer_of(
     problem: &ArcList,
     rows: &Rows,
     _shorts: &ShortRows,
-    _bids: u64,
     outcome: Outcome,
 ) -> Result<Answer, AllocError>
     requires rows { IsTableOf problem.now rows.now }
     requires shorts { AreShortsOf rows.now _shorts.now }
     requires sound { AreShorts _shorts.now }
     requires assignment { HasAssignment problem.now }
-    requires outcome { IsOutcome _shorts.now _bids outcome.ending outcome.market.prices.items outcome.market.holders.items outcome.market.owns.items }
+    requires left { IsLeft _shorts.now outcome.ending outcome.market.prices.items outcome.market.holders.items outcome.market.owns.items }
     ensures is { IfOk result (IsAnswer problem.now) }
-    ensures limit { IfOk result (IsLimited problem.now _bids) }
+    ensures limit { (bids : ℕ) (begun : ℤ) → IsStopped _shorts.now bids begun outcome.ending outcome.market.prices.items → IfOk result (IsLimited problem.now bids begun) }
 {
     // Read here, so that the proof knows what every problem keeps.
     let _ = problem.arcs();
@@ -70,12 +70,35 @@ fn solve_rows(
     requires eps { IsEps eps }
     requires start { IsStart shorts.now eps prices.items }
     ensures is { IfOk result (IsAnswer problem.now) }
-    ensures limit { IfOk result (IsLimited problem.now bids) }
+    ensures limit { IfOk result (IsLimited problem.now bids (total prices.items)) }
 {
     // Read here, so that the proof knows what all rows keep.
     let _ = shorts.persons();
     let outcome = play_all(alloc, shorts, bids, eps, prices)?;
-    answer_of(alloc, problem, rows, shorts, bids, outcome)
+    answer_of(alloc, problem, rows, shorts, outcome)
+}
+
+/// The same in one phase from start prices.
+fn solve_rows_from(
+    alloc: Global,
+    problem: &ArcList,
+    rows: &Rows,
+    shorts: &ShortRows,
+    bids: u64,
+    start: &[i64],
+) -> Result<Answer, AllocError>
+    requires rows { IsTableOf problem.now rows.now }
+    requires shorts { AreShortsOf rows.now shorts.now }
+    requires arcs { NobodyStuck rows.now }
+    requires assignment { HasAssignment problem.now }
+    requires start { AreStartPrices problem.now start.now }
+    ensures is { IfOk result (IsAnswer problem.now) }
+    ensures limit { IfOk result (IsLimitedFrom problem.now bids start.now) }
+{
+    // Read here, so that the proof knows what all rows keep.
+    let _ = shorts.persons();
+    let outcome = play_from(alloc, shorts, bids, start)?;
+    answer_of(alloc, problem, rows, shorts, outcome)
 }
 
 /// Solves a problem: an arc for each person, no object twice, of the least cost together; or persons who together know fewer objects than they number; or, where
@@ -98,7 +121,7 @@ pub fn solve_direct(
     limits: &DirectLimits,
 ) -> Result<Answer, AllocError>
     ensures is { IfOk result (IsAnswer problem.now) }
-    ensures limit { IfOk result (IsLimited problem.now limits.now.bids) }
+    ensures limit { IfOk result (IsLimited problem.now limits.now.bids (pos 0)) }
 {
     match prepare(alloc, problem)? {
         Prepared::Answered(answer) => Ok(answer),
@@ -111,10 +134,16 @@ pub fn solve_direct(
     }
 }
 
-/// Solves a problem as [`solve_direct`] does, but from start prices, in one phase at the last eps: those of an old certificate
-/// ([`auc_cert::start_prices`]), say. They are scaled costs, indexed by object, from 0 to 2^60, and as many as the persons.
+/// Solves a problem as [`solve_direct`] does, but from start prices, in one phase at the last eps: those of an old certificate, say. They are scaled costs,
+/// indexed by object, from 0 to 2^60; there may be more objects than persons.
 ///
-/// The clause `limit` counts the sum of the start prices too: where they add up to as many as the bids allowed, it doesn't tell why a bracket stands.
+/// Each person in order keeps an object that is within 1 of his best at the start prices, and that nobody before him has kept; the others bid. Where there are
+/// more objects than persons, what nobody has kept begins at price 0, and who has kept an object and would now lose more than 1 by it leaves it, and its price is 0
+/// too. Where that doesn't end within a few passes over all persons, the run begins with no prices.
+///
+/// A limit on bids counts from the prices that are left then: clause `limit`. With as many objects as persons these are the start's.
+///
+/// Takes two passes over the arcs for what persons keep, and with more objects than persons up to eight more; beside that the time and memory of [`solve_direct`].
 ///
 /// # Errors
 ///
@@ -125,24 +154,15 @@ pub fn solve_direct_from(
     limits: &DirectLimits,
     start: &[i64],
 ) -> Result<Answer, AllocError>
-    requires start { AreStart problem.now start.now }
+    requires start { AreStartPrices problem.now start.now }
     ensures is { IfOk result (IsAnswer problem.now) }
-    ensures limit { IfOk result (IsLimited problem.now limits.now.bids) }
+    ensures limit { IfOk result (IsLimitedFrom problem.now limits.now.bids start.now) }
 {
     match prepare(alloc, problem)? {
         Prepared::Answered(answer) => Ok(answer),
         Prepared::Rows(rows) => {
             let shorts = ShortRows::build(alloc, &rows, problem.arcs().len())?;
-            let prices = start.to_vec(alloc)?;
-            solve_rows(
-                alloc,
-                problem,
-                &rows,
-                &shorts,
-                limits.bids,
-                LAST_EPS,
-                prices,
-            )
+            solve_rows_from(alloc, problem, &rows, &shorts, limits.bids, start)
         }
     }
 }

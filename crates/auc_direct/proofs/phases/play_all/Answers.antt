@@ -1,6 +1,7 @@
-use Rattle.std.proofs.Common.{length, rules, sym, subst, to_z, w64}
+use Rattle.std.proofs.Common.{ap, arith, length, rules, sym, subst, to_z, w64}
 use Rattle.std.specs.Prelude.{FitsSigned}
-use Rattle.std.proofs.lemmas.Int.{to_z-of_z}
+use Rattle.std.proofs.lemmas.Int.{ints, to_z-of_z}
+use Rattle.auc_graph.specs.Assignment.{total}
 use Rattle.auc_direct.specs.Endings.{IsStart}
 use Rattle.auc_direct.proofs.Opening.{stands_opened, start_next}
 use Rattle.auc_direct.proofs.phases.play_all.Goals as goal
@@ -10,7 +11,7 @@ play-requires-clause-stands c =
     let inv = c.loop-market.invariant in
     let eps = to_z w64 c.loop-market.eps-bits in
     let start : IsStart c.args.rows.now eps c.open.new.self.prices.items = subst (IsStart c.args.rows.now eps) (sym c.open.ensures.prices) inv.start in
-    stands_opened c.args.rows.now eps c.open.new.self.prices.items c.open.new.self.holders.items c.open.new.self.owns.items (length c.loop-market.market.holders.items) (length c.loop-market.market.owns.items) start inv.holders inv.owns c.open.ensures.holders c.open.ensures.owns
+    stands_opened c.args.rows.now eps eps c.open.new.self.prices.items c.open.new.self.holders.items c.open.new.self.owns.items (length c.loop-market.market.holders.items) (length c.loop-market.market.owns.items) start inv.holders inv.owns c.open.ensures.holders c.open.ensures.owns
 
 pub loop-market-preserved : goal.loop-market-preserved
 loop-market-preserved c =
@@ -26,4 +27,5 @@ loop-market-preserved c =
       holders = after.stands.holders_are;
       clean = after.clean;
       owns = after.stands.owns_are;
+      risen = (let o = ap total c.open.ensures.prices in let a = inv.risen in let b = after.risen in omega (arith, ints, o, a, b));
     })

@@ -1,5 +1,6 @@
 use Rattle.std.proofs.Common.{◌≡◌, length}
-use Rattle.std.specs.Prelude.{unsigned_abs}
+use Rattle.std.specs.Prelude.{unsigned_abs, ◌≤ℤ◌}
+use Rattle.auc_graph.specs.Assignment.{total}
 use Rattle.auc_letters.specs.Price.{IsEps}
 use Rattle.std.specs.BinaryHeap.{heap_items}
 use Rattle.auc_direct.specs.Endings.{IsStart}
@@ -13,6 +14,7 @@ invariant-loop-market l = record {
   holders : length l.market.holders.items ≡ l.rows.objects;
   clean : IsClean l.rows.objects l.search.labels.items l.search.line.items (heap_items l.search.heap);
   owns : length l.market.owns.items ≡ length l.rows.rows;
+  risen : total l.fn.prices.items ≤ℤ total l.market.prices.items;
 }
 
 abbrev pub decreases-loop-market : goal.decreases-loop-market

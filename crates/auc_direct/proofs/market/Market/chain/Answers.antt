@@ -42,6 +42,7 @@ loop-left-preserved-then-bids-patience c =
       but = a.but (c.args.first + 1) c.loop-left.invariant.but;
       clean = c.loop-left.invariant.clean;
       raised = omega (arith, ints, m, r, t);
+      fewer = (let l = c.loop-left.invariant.fewer in omega (arith, l, t));
     }
 
 pub loop-left-preserved : goal.loop-left-preserved
@@ -58,4 +59,5 @@ loop-left-preserved c =
       but = a.but (c.args.first + 1) c.loop-left.invariant.but;
       clean = c.in_ok-path.ensures.clean;
       raised = omega (arith, ints, m, r, t);
+      fewer = (let l = c.loop-left.invariant.fewer in omega (arith, l, t));
     })

@@ -1,4 +1,4 @@
-use Rattle.std.proofs.Common.{pos, ◌+◌, ◌<◌, length}
+use Rattle.std.proofs.Common.{pos, ◌+◌, ◌<◌, ◌≤◌, length}
 use Rattle.std.specs.Prelude.{◌+ℤ◌, ◌≤ℤ◌}
 use Rattle.auc_graph.specs.Assignment.{total}
 use Rattle.std.specs.BinaryHeap.{heap_items}
@@ -13,6 +13,7 @@ invariant-loop-left l = record {
   but : HaveAllBut (l.first + 1) l.self.owns.items l.person;
   clean : IsClean l.rows.objects l.search.labels.items l.search.line.items (heap_items l.search.heap);
   raised : (total l.fn.self.prices.items +ℤ pos l.fn.left) ≤ℤ (total l.self.prices.items +ℤ pos l.left);
+  fewer : l.left ≤ l.fn.left;
 }
 
 abbrev pub decreases-loop-left : goal.decreases-loop-left

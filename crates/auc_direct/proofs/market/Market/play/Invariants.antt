@@ -1,4 +1,4 @@
-use Rattle.std.proofs.Common.{pos}
+use Rattle.std.proofs.Common.{pos, ◌≤◌}
 use Rattle.std.specs.Prelude.{◌+ℤ◌, ◌≤ℤ◌}
 use Rattle.auc_graph.specs.Assignment.{total}
 use Rattle.std.specs.BinaryHeap.{heap_items}
@@ -11,5 +11,6 @@ invariant-loop-first l = record {
   stands : Stands l.rows l.eps l.self.prices.items l.self.holders.items l.self.owns.items;
   have : HaveObjects l.first l.self.owns.items;
   clean : IsClean l.rows.objects l.search.labels.items l.search.line.items (heap_items l.search.heap);
-  raised : pos l.bids ≤ℤ (total l.self.prices.items +ℤ pos l.left);
+  raised : (total l.fn.self.prices.items +ℤ pos l.bids) ≤ℤ (total l.self.prices.items +ℤ pos l.left);
+  fewer : l.left ≤ l.bids;
 }

@@ -1,0 +1,26 @@
+-- What a phase's ending says of the run.
+use Rattle.std.proofs.Common.{ℕ, ℤ, pos, ◌≡◌, refl, arith, List, subst}
+use Rattle.std.specs.Prelude.{◌≤ℤ◌}
+use Rattle.std.proofs.lemmas.Int.{ints}
+use Rattle.auc_cert.specs.declared.reason.Reason.{Reason}
+use Rattle.auc_direct.specs.declared.arc.ShortArc.{ShortArc}
+use Rattle.auc_direct.specs.declared.ending.Ending.{Ending}
+use Rattle.auc_direct.specs.Endings.{IsEnding, IsLeft, IsLimit, IsStopped}
+use Rattle.auc_direct.specs.Market.{Stands}
+use Rattle.auc_direct.specs.Rows.{Shorts}
+
+-- a limit of a phase is one of a run that began with no greater sum
+limit_earlier : (r : Shorts) (bids : ℕ) (begun after : ℤ) (reason : Reason) (prices : List ℤ) → begun ≤ℤ after → IsLimit r bids after reason prices → IsLimit r bids begun reason prices
+limit_earlier r bids begun after Reason.Bids prices le h = omega (arith, ints, le, h)
+limit_earlier r bids begun after Reason.Ceiling prices le h = h
+limit_earlier r bids begun after Reason.Posts prices le h = h
+limit_earlier r bids begun after Reason.Trail prices le h = h
+limit_earlier r bids begun after Reason.Mail prices le h = h
+
+pub ended_left : (r : Shorts) (bids : ℕ) (begun eps : ℤ) (ending : Ending) (prices : List ℤ) (holders : List ℕ) (owns : List ShortArc) → Stands r eps prices holders owns → IsEnding r bids begun ending prices owns → (ending ≡ Ending.Sold → eps ≡ pos 1) → IsLeft r ending prices holders owns
+ended_left r bids begun eps Ending.Sold prices holders owns stands is last = (subst (λ (e : ℤ). Stands r e prices holders owns) (last refl) stands, is)
+ended_left r bids begun eps (Ending.Stopped reason) prices holders owns stands is last = (eps, stands)
+
+pub ended_stopped : (r : Shorts) (bids : ℕ) (begun after : ℤ) (ending : Ending) (prices : List ℤ) (owns : List ShortArc) → begun ≤ℤ after → IsEnding r bids after ending prices owns → IsStopped r bids begun ending prices
+ended_stopped r bids begun after Ending.Sold prices owns le is = tt
+ended_stopped r bids begun after (Ending.Stopped reason) prices owns le is = limit_earlier r bids begun after reason prices le is

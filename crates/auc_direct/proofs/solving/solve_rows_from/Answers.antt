@@ -1,0 +1,14 @@
+use Rattle.auc_graph.specs.Assignment.{total}
+use Rattle.auc_direct.specs.Endings.{IsLimited, IsLimitedFrom}
+use Rattle.auc_direct.proofs.Answering.{limited_from, of_answers}
+use Rattle.auc_direct.proofs.Opening.{prices_of_start}
+use Rattle.auc_direct.proofs.solving.solve_rows_from.Goals as goal
+
+pub play_from-requires-clause-start : goal.play_from-requires-clause-start
+play_from-requires-clause-start c = prices_of_start c.args.problem.now c.args.rows.now c.args.shorts.now c.args.start.now c.requires.rows c.requires.shorts c.requires.start
+
+pub returns-clause-limit : goal.returns-clause-limit
+returns-clause-limit c =
+    let o = c.in_ok-outcome.ensures in
+    of_answers (IsLimited c.args.problem.now c.args.bids (total o.begun)) (IsLimitedFrom c.args.problem.now c.args.bids c.args.start.now) c.answer_of.result
+    (limited_from c.args.problem.now c.args.rows.now c.args.shorts.now c.args.bids c.args.start.now o.begun c.requires.rows c.requires.shorts o.opened) (c.answer_of.ensures.limit c.args.bids (total o.begun) o.stopped)

@@ -1,0 +1,47 @@
+-- What a run may start from, and what its opening leaves.
+use Rattle.std.specs.Prelude.{ℕ, ℤ, pos, ◌≡◌, ◌≢◌, ◌⊎◌, ◌^◌, List, length, All}
+use Rattle.auc_cert.specs.Start.{IsStartPrice}
+use Rattle.auc_graph.specs.Dual.{price_at}
+use Rattle.auc_graph.specs.Problem.{Problem}
+use Rattle.auc_letters.specs.Price.{IsPrice}
+use Rattle.auc_direct.specs.declared.arc.ShortArc.{ShortArc}
+use Rattle.auc_direct.specs.declared.market.TheConstants.{NOBODY}
+use Rattle.auc_direct.specs.Market.{IsSlack, Stands, holder_at, own_at}
+use Rattle.auc_direct.specs.Rows.{Shorts}
+
+-- for each object a price from which a run may start, from 0 to 2^60
+pub record AreStartPrices (p : Problem) (start : List ℤ) : Type 0 where
+  pub each : length start ≡ p.objects
+  pub within : All IsStartPrice start
+
+-- a price for each object
+pub record ArePricesOf (r : Shorts) (prices : List ℤ) : Type 0 where
+  pub each : length prices ≡ r.objects
+  pub within : All IsPrice prices
+
+-- each price has stayed, or is 0
+abbrev pub AreKept : List ℤ → List ℤ → Type 0
+AreKept prices new = (j : ℕ) → (price_at new j ≡ price_at prices j) ⊎ (price_at new j ≡ pos 0)
+
+-- What an opening leaves of start prices: all of them where there are as many objects as persons; else each price of the start, or 0.
+pub record AreOpened (objects persons : ℕ) (start begun : List ℤ) : Type 0 where
+  pub each : length begun ≡ length start
+  pub same : objects ≡ persons → begun ≡ start
+  pub kept : AreKept start begun
+
+-- an eps so great that no two arcs of a person differ by more
+abbrev pub any_eps : ℤ
+any_eps = pos (2 ^ 62)
+
+-- While persons take objects at start prices: each who has one is within eps of his best at those prices, and only what is held has a
+-- price of them where there are more objects than persons.
+pub record AreSeated (r : Shorts) (eps : ℤ) (start prices : List ℤ) (holders : List ℕ) (owns : List ShortArc) : Type 0 where
+  pub stands : Stands r any_eps prices holders owns
+  pub within : (i : ℕ) → (own_at owns i).object ≢ NOBODY → IsSlack r eps start i (own_at owns i)
+  pub kept : AreKept start prices
+  pub same : r.objects ≡ length r.rows → prices ≡ start
+
+-- an arc to an object that nobody holds, within eps of the person's best
+pub record IsFreeWithin (r : Shorts) (eps : ℤ) (start : List ℤ) (holders : List ℕ) (i : ℕ) (s : ShortArc) : Type 0 where
+  pub free : holder_at holders s.object ≡ NOBODY
+  pub slack : IsSlack r eps start i s

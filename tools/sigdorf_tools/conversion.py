@@ -6,10 +6,11 @@ from .amounts import MOST_DECIMALS
 from .columns import picked, titles_said
 from .faults import say
 from .marks import MARKS
+from .matrices import problem_by_arrays
 from .models import look_at_size, plain_model
 from .names import Names, counted
 from .problems import problem_of
-from .tables import read_table
+from .tables import read_source, table_of_source
 from .text_tables import SEPARATORS
 from .wishes import by_persons
 
@@ -38,17 +39,21 @@ def number_of_decimals(word):
 
 
 def read_problem(words, extras=()):
-    """The table that the words name, its problem, and what columns of these titles say of each person. Decimals that nobody said are told on standard error."""
-    table, has_header = read_table(words.file, SEPARATORS.get(words.separator), words.sheet), not words.no_header
-    form, columns, places = words.form, [], []
-    if words.columns is not None or extras:
-        table, columns, places = picked(table, titles_said(words.columns) if words.columns is not None else [], extras, has_header)
-        form = form if words.columns is None else "pairs"
-    problem = problem_of(table, form, has_header, words.decimals, words.maximise, MARKS.get(words.decimal_mark))
+    """The table that the words name, or its text, its problem, and what columns of these titles say of each person. Decimals that nobody said are told on standard error."""
+    source, has_header = read_source(words.file, SEPARATORS.get(words.separator), words.sheet), not words.no_header
+    said = has_header, words.decimals, words.maximise, MARKS.get(words.decimal_mark)
+    is_whole = words.columns is None and not extras
+    problem, told = problem_by_arrays(source, words.form, *said) if is_whole else None, []
+    if problem is None:
+        source, form, columns, places = table_of_source(source), words.form, [], []
+        if not is_whole:
+            source, columns, places = picked(source, titles_said(words.columns) if words.columns is not None else [], extras, has_header)
+            form = form if words.columns is None else "pairs"
+        problem = problem_of(source, form, *said)
+        told = [by_persons(source, cells, place, 1 if has_header else 0) for cells, place in zip(columns, places)]
     if words.decimals is None and problem.decimals:
-        say(f"{table.file}: the costs have {counted(problem.decimals, 'decimal')}")
-    told = [by_persons(table, cells, place, 1 if has_header else 0) for cells, place in zip(columns, places)]
-    return table, problem, told
+        say(f"{source.file}: the costs have {counted(problem.decimals, 'decimal')}")
+    return source, problem, told
 
 
 def names_of(words, table, problem, model):

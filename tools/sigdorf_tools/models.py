@@ -1,8 +1,11 @@
 """What the solver is given for a problem and the wishes for its plan: persons with a copy for each object that they may take, and objects for those who stay free."""
+import itertools
 from typing import NamedTuple
 
+from . import array_lines
+from .arrays import ArrayArcs
 from .faults import Fault
-from .problems import MOST_ARCS, MOST_OBJECTS, MOST_PERSONS, Arcs
+from .problems import MOST_ARCS, MOST_OBJECTS, MOST_PERSONS
 
 
 class Model(NamedTuple):
@@ -41,21 +44,16 @@ class Model(NamedTuple):
 
     def count(self):
         """How many arcs there are."""
-        total = sum(len(arcs.objects) for arcs in self.arcs)
+        total = sum(arcs.count() for arcs in self.arcs)
         if self.free:
             return 2 * total + self.objects + sum(price is not None for price in self.free)
         return total + self.dummies() * (len(self.owners) - len(self.fixed))
 
     def lines(self):
-        """The text of the arc file, in pieces. Each one is made by one step of the library, from a form with a place for each cost."""
+        """The text of the arc file, in pieces."""
         yield f"{self.persons()}\n"
-        # The form of a row serves for all that follow with the same objects.
-        before, form = None, ""
-        for person, arcs in enumerate(self.arcs, 1):
-            if arcs.objects != before:
-                before, form = arcs.objects, "".join([f"@ {number} %s\n" for number in arcs.objects])
-            if arcs.objects:
-                yield form.replace("@", str(person)) % tuple(arcs.text.split("\n"))
+        for in_arrays, numbered in itertools.groupby(enumerate(self.arcs, 1), lambda row: isinstance(row[1], ArrayArcs)):
+            yield from array_lines.lines_of(numbered) if in_arrays else lines_of(numbered)
         yield from self.lines_of_free() if self.free else self.lines_of_dummies()
 
     def lines_of_dummies(self):
@@ -75,12 +73,12 @@ class Model(NamedTuple):
         """The model in which no copy of a person takes an object, which are given by their places and numbers, and some copies don't stay free."""
         arcs = self.arcs
         if pair:
-            arcs = [without_object(each, pair[1]) if owner == pair[0] else each for owner, each in zip(self.owners, arcs)]
+            arcs = [each.without({pair[1]}) if owner == pair[0] else each for owner, each in zip(self.owners, arcs)]
         return self._replace(arcs=arcs, free=[None if copy in stays else price for copy, price in enumerate(self.free)])
 
     def up_to(self, most):
         """The model without all that costs more."""
-        arcs = [kept(each, lambda cost: cost <= most) for each in self.arcs]
+        arcs = [each.up_to(most) for each in self.arcs]
         return self._replace(arcs=arcs, free=[None if price is None or price > most else price for price in self.free])
 
     def costs(self):
@@ -88,14 +86,15 @@ class Model(NamedTuple):
         return sorted({cost for arcs in self.arcs for cost in arcs.costs()} | {price for price in self.free if price is not None})
 
 
-def kept(arcs, is_kept):
-    pairs = [(thing, cost) for thing, cost in zip(arcs.objects, arcs.costs()) if is_kept(cost)]
-    return Arcs([thing for thing, _ in pairs], "\n".join([str(cost) for _, cost in pairs]))
-
-
-def without_object(arcs, number):
-    pairs = [(thing, text) for thing, text in zip(arcs.objects, arcs.text.split("\n")) if thing != number]
-    return Arcs([thing for thing, _ in pairs], "\n".join([text for _, text in pairs]))
+def lines_of(numbered):
+    """The lines of persons, who come with their numbers and arcs. Those of one are made by one step of the library, from a form with a place for each cost."""
+    # The form of a row serves for all that follow with the same objects.
+    before, form = None, ""
+    for person, arcs in numbered:
+        if arcs.objects != before:
+            before, form = arcs.objects, "".join([f"@ {number} %s\n" for number in arcs.objects])
+        if arcs.objects:
+            yield form.replace("@", str(person)) % tuple(arcs.text.split("\n"))
 
 
 def plain_model(problem):

@@ -18,12 +18,27 @@ class Arcs(NamedTuple):
     objects: list
     text: str
 
+    def count(self):
+        return len(self.objects)
+
     def costs(self):
         return list(map(int, self.text.split("\n"))) if self.objects else []
 
     def pairs(self):
         """Each object with its cost."""
         return dict(zip(self.objects, self.costs()))
+
+    def up_to(self, most):
+        """The arcs that don't cost more."""
+        kept = [(thing, cost) for thing, cost in zip(self.objects, self.costs()) if cost <= most]
+        return Arcs([thing for thing, _ in kept], "\n".join([str(cost) for _, cost in kept]))
+
+    def without(self, numbers):
+        """The arcs to all other objects."""
+        if not numbers:
+            return self
+        kept = [(thing, text) for thing, text in zip(self.objects, self.text.split("\n")) if thing not in numbers]
+        return Arcs([thing for thing, _ in kept], "\n".join([text for _, text in kept]))
 
 
 class Problem(NamedTuple):

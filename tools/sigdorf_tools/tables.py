@@ -6,7 +6,7 @@ from typing import NamedTuple
 from .faults import Fault, read_bytes
 from .json_tables import read_json
 from .sheets import WORKBOOK, read_workbook
-from .text_tables import read_text
+from .text_tables import Text, parted, read_text
 
 # What an old workbook of Excel begins with.
 OLD_WORKBOOK = b"\xd0\xcf\x11\xe0\xa1\xb1\x1a\xe1"
@@ -36,6 +36,11 @@ class Table(NamedTuple):
 
 def read_table(file, separator=None, sheet=None):
     """The table of a file, without its empty rows. A separator that isn't given is found, and the only sheet of a workbook is taken."""
+    return table_of_source(read_source(file, separator, sheet))
+
+
+def read_source(file, separator=None, sheet=None):
+    """What a file holds: of a text its `Text`, whose cells aren't parted yet, and of others the table."""
     content = sys.stdin.buffer.read() if file == "-" else read_bytes(file)
     is_json = file.lower().endswith(".json") or file == "-" and content.lstrip()[:1] in (b"[", b"{")
     file = name_of(file)
@@ -49,7 +54,12 @@ def read_table(file, separator=None, sheet=None):
     if is_json:
         (rows, lines, word), is_pairs = read_json(file, content)
         return table_of(file, ",", rows, lines, False, word)._replace(is_pairs=is_pairs)
-    return table_of(file, *read_text(file, content, separator))
+    return read_text(file, content, separator)
+
+
+def table_of_source(source):
+    """The table of what a file holds."""
+    return table_of(source.file, source.separator, *parted(source)) if isinstance(source, Text) else source
 
 
 def name_of(file):

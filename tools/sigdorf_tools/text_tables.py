@@ -6,6 +6,7 @@ import csv
 import io
 import itertools
 import re
+from typing import NamedTuple
 
 from .faults import Fault
 
@@ -19,14 +20,27 @@ SEPARATOR_LINE = re.compile(r"sep=([^\r\n]?)(?:\r\n|\r|\n|\Z)", re.IGNORECASE)
 PLAIN_BYTES = bytes(range(32, 127)) + b"\t\r\n"
 
 
+class Text(NamedTuple):
+    """A table whose cells aren't parted yet: its file, what parts them, the text, and how many lines are left out above it."""
+
+    file: str
+    separator: str
+    text: str
+    skipped: int
+
+
 def read_text(file, content, separator):
-    """The separator of a text, its rows of cells, the lines where they begin, and whether all cells are plain."""
+    """The text of a file's content. A separator that isn't given is found."""
     text = text_of(file, content)
     told, text, skipped = separator_line_of(file, text)
-    separator = separator or told or separator_of(text)
-    rows, lines = rows_of(file, text, separator, skipped)
+    return Text(file, separator or told or separator_of(text), text, skipped)
+
+
+def parted(table):
+    """The rows of cells, the lines where they begin, and whether all cells are plain."""
+    rows, lines = rows_of(*table)
     # A cell with a line end in it makes the lines no range.
-    return separator, rows, lines, isinstance(lines, range) and is_plain(text, separator)
+    return rows, lines, isinstance(lines, range) and is_plain(table.text, table.separator)
 
 
 def text_of(file, content):
@@ -72,10 +86,15 @@ def reader_of(text, separator):
     return csv.reader(io.StringIO(text, newline=""), delimiter=separator, strict=True)
 
 
-def rows_of(file, text, separator, skipped):
+def lines_of(text):
+    """The lines of a text without quotes."""
+    return text.replace("\r\n", "\n").replace("\r", "\n").removesuffix("\n").split("\n")
+
+
+def rows_of(file, separator, text, skipped):
     """The rows of a text, and the line of each."""
     if '"' not in text:
-        lines = text.replace("\r\n", "\n").replace("\r", "\n").removesuffix("\n").split("\n")
+        lines = lines_of(text)
         if max(map(len, lines)) <= csv.field_size_limit():
             return [line.split(separator) for line in lines], range(1 + skipped, len(lines) + 1 + skipped)
     rows, lines, line = [], [], 1 + skipped

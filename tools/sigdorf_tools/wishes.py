@@ -92,7 +92,7 @@ def model_of(problem, wishes, maximise):
         mine = [(word, pair) for word, pair in zip(wishes.fixed, fixed) if pair[0] == place]
         if len(mine) > capacity:
             raise Fault(f"--fix {mine[-1][0]}: `{name}` may take {capacity} and more pairs are fixed; leave one out, or say --capacity")
-        allowed = without_forbidden(problem.arcs[place], {thing for person, thing in forbidden if person == place})
+        allowed = problem.arcs[place].without({thing for person, thing in forbidden if person == place})
         for copy in range(capacity):
             owners.append(place)
             if copy < len(mine):
@@ -131,13 +131,6 @@ def fixed_arc(problem, word, pair, forbidden):
     if pair[1] not in costs:
         raise Fault(f"--fix {word}: the table has no cost for this pair; write one into it")
     return Arcs([pair[1]], str(costs[pair[1]]))
-
-
-def without_forbidden(arcs, numbers):
-    if not numbers:
-        return arcs
-    pairs = [(thing, text) for thing, text in zip(arcs.objects, arcs.text.split("\n")) if thing not in numbers]
-    return Arcs([thing for thing, _ in pairs], "\n".join([text for _, text in pairs]))
 
 
 def price_of(problem, told, maximise, capacity):

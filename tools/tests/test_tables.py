@@ -6,7 +6,7 @@ import unittest
 import zipfile
 
 import fuzz_tables
-from calls import ToolTest, has_program, python_with
+from calls import TOOLS, ToolTest, has_program, python_with
 
 CREW = [["fitter", "pump", "roof"], ["Ada", 40.5, 65], ["Ben", None, 20.1 + 0.2]]
 CREW_ARCS = "2\n1 1 405\n1 2 650\n2 2 203\n"
@@ -104,6 +104,33 @@ class TextTables(TableTest):
             with self.subTest(value):
                 self.assertEqual(self.arcs("a.json", json.dumps(value)), "2\n1 1 45\n1 2 70\n2 1 30\n")
         self.assertEqual(self.arcs("a.json", json.dumps([{"who": "a", "what": "x", "cost": 4, "day": "Mon"}]), "--columns", "who,what,cost"), "1\n1 1 4\n")
+
+
+class Roads(ToolTest):
+    def test_roads(self):
+        """The road by numpy gives what the road for all tables gives, and says nothing of tables that have a fault."""
+        python = python_with("numpy")
+        if not python:
+            self.skipTest("it needs numpy")
+        done = subprocess.run([python, TOOLS / "tests" / "compare_roads.py"], capture_output=True, text=True, timeout=600)
+        *_, taken, last = done.stdout.splitlines()
+        self.assertEqual(last, "2000 passed, 0 failed", done.stdout + done.stderr)
+        self.assertGreater(int(taken.split()[-1]), 200)
+
+    def test_large_table(self):
+        """A table that is large enough for numpy, sound and with a fault, with and without the library."""
+        python = python_with("numpy")
+        if not python:
+            self.skipTest("it needs numpy")
+        rows = [",".join(["who", *(f"job {thing}" for thing in range(400))])]
+        rows += [",".join([f"person {person}", *("" if (person + thing) % 7 == 0 else f"{(person * thing) % 9_973 / 100:.2f}" for thing in range(400))]) for person in range(300)]
+        for change in (lambda text: text, lambda text: text.replace("person 250", "person 25"), lambda text: text.replace("99.72", "99.7x"), lambda text: text.replace("99.72", '"99.72"')):
+            self.write("table.csv", change("\n".join(rows)))
+            with_numpy, without = (self.call("tools/from_csv", "table.csv", "--arcs", arcs, "--names", f"{arcs}.names", python=which) for which, arcs in ((python, "a"), (None, "b")))
+            self.assertEqual((with_numpy[0], with_numpy[2]), (without[0], without[2]))
+            if with_numpy[0] == 0:
+                self.assertEqual(self.read("a"), self.read("b"))
+                self.assertEqual(self.read("a.names"), self.read("b.names"))
 
 
 class Workbooks(TableTest):

@@ -16,7 +16,7 @@ def lines_of(numbered):
     least, most = (end(int(arcs.units.max() if end is max else arcs.units.min()) for _, arcs in rows) for end in (min, max))
     heads, tails = texts_of_costs(numpy, max(-least, most))
     has_heads = least < 0 or most >= TAIL
-    objects = texts(numpy, (f"{number} " for number in range(max(int(arcs.numbers[-1]) for _, arcs in rows) + 1)), 8)
+    objects = texts(numpy, (f"{number} " for number in range(max(int(arcs.numbers.max()) for _, arcs in rows) + 1)), 8)
     kinds = [("person", "<u8"), ("object", "<u8"), *([("head", heads.dtype)] if has_heads else []), ("tail", "<u4")]
     for batch in batches(rows):
         counts = [arcs.count() for _, arcs in batch]

@@ -9,6 +9,7 @@ from .marks import MARKS
 from .matrices import problem_by_arrays
 from .models import look_at_size, plain_model
 from .names import Names, counted
+from .pair_texts import problem_of_pairs
 from .problems import problem_of
 from .tables import read_source, table_of_source
 from .text_tables import SEPARATORS
@@ -43,7 +44,9 @@ def read_problem(words, extras=()):
     source, has_header = read_source(words.file, SEPARATORS.get(words.separator), words.sheet), not words.no_header
     said = has_header, words.decimals, words.maximise, MARKS.get(words.decimal_mark)
     is_whole = words.columns is None and not extras
-    problem, told = problem_by_arrays(source, words.form, *said) if is_whole else None, []
+    problem, told = None, []
+    if is_whole:
+        problem = problem_by_arrays(source, words.form, *said) or problem_of_pairs(source, words.form, *said)
     if problem is None:
         source, form, columns, places = table_of_source(source), words.form, [], []
         if not is_whole:

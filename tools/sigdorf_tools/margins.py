@@ -23,46 +23,73 @@ class Margin(NamedTuple):
         return None if self.margin is None else self.arc[1] + (self.margin if self.is_picked else -self.margin)
 
 
-def margins_of(arcs, claim):
-    """The margins of all arcs, by persons, for a claim of a best plan.
+class Detours(NamedTuple):
+    """What a certificate proves of plans that differ from its own.
 
     The excess of an arc is how far it is above the least of its person, each at his costs times persons + 1, and prices. The excesses of any plan, and the prices
     of what it leaves over, together, are its cost times persons + 1, less a sum that is the same for all plans. So a plan costs at least as much more than the best one as the excesses that
     it can't do without are above all of the best plan's. Costs are whole, so it is rounded up. A plan without a person's own arc has another one of his.
+
+    Kept are that scale, the excesses of the best plan together, for each object the least excess of another arc of whoever has it, and the least of another person's arc to it, or what it costs
+    to leave it over.
     """
-    scale = len(arcs) + 1
-    excesses = {person: excesses_of(arcs[person], claim.prices, scale) for person in arcs}
-    of_plan = sum(excesses[person][pick] for person, pick in enumerate(claim.picks, 1))
-    detour = detours_of(excesses, claim)
-    for person, pick in enumerate(claim.picks, 1):
-        wanted = {arc: excess + detour(pick[0], arc[0]) for arc, excess in excesses[person].items() if arc != pick}
-        falls = {arc: None if excess == inf else -((of_plan - excess) // scale) for arc, excess in wanted.items()}
-        rise = min((fall for fall in falls.values() if fall is not None), default=None)
-        for arc in sorted(arcs[person]):
-            yield Margin(person, arc, arc == pick, rise if arc == pick else falls[arc])
+
+    prices: list
+    scale: int
+    of_plan: int
+    leave: list
+    take: list
+
+    def excesses(self, objects, costs):
+        """The excess of each arc of a person."""
+        return excesses_of(objects, costs, self.prices, self.scale)
+
+    def between(self, own, thing):
+        """What excess others can't do without where a person changes his own object for another one. Whoever has the other one has to leave it. The own one is taken by somebody else, or, where
+        objects are more than persons, it may be left over, which costs its price. Both may be the same arc, so the greater one counts."""
+        return 0 if own == thing else max(self.leave[thing], self.take[own])
+
+    def rise(self, excess):
+        """How much dearer a plan with so much excess is at least, or None where there is no such plan."""
+        return None if excess == inf else -((self.of_plan - excess) // self.scale)
 
 
-def detours_of(excesses, claim):
-    """What excess others can't do without where a person changes his own object for another one: a function of both.
-
-    Whoever has the other one has to leave it. The own one is taken by somebody else, or, where objects are more than persons, it may be left over, which costs
-    its price. Both may be the same arc, so the greater one counts.
-    """
-    has_spare = len(claim.prices) > len(claim.picks)
-    leave = dict.fromkeys(range(1, len(claim.prices) + 1), 0) | {own: inf for own, _ in claim.picks}
-    take = {thing: price if has_spare else inf for thing, price in enumerate(claim.prices, 1)}
-    for person, (own, _) in enumerate(claim.picks, 1):
-        for (thing, _), excess in excesses[person].items():
-            if thing != own:
-                leave[own], take[thing] = min(leave[own], excess), min(take[thing], excess)
-    return lambda own, thing: 0 if own == thing else max(leave[thing], take[own])
+def excesses_of(objects, costs, prices, scale):
+    values = [scale * cost + prices[thing - 1] for thing, cost in zip(objects, costs)]
+    least = min(values, default=0)
+    return [value - least for value in values]
 
 
-def excesses_of(arcs, prices, scale):
-    """The excess of each arc of a person."""
-    values = {arc: scale * arc[1] + prices[arc[0] - 1] for arc in arcs}
-    least = min(values.values())
-    return {arc: value - least for arc, value in values.items()}
+def detours_of(rows, claim):
+    """The detours of a claim of a best plan. The rows are those of all persons in turn, each one a person, the objects and the costs; they are looked at once."""
+    scale, count = len(claim.picks) + 1, len(claim.prices)
+    leave = [0] * (count + 1)
+    take = [inf, *claim.prices] if count > len(claim.picks) else [inf] * (count + 1)
+    of_plan = 0
+    for person, objects, costs in rows:
+        own, paid = claim.picks[person - 1]
+        least = inf
+        for thing, cost, excess in zip(objects, costs, excesses_of(objects, costs, claim.prices, scale)):
+            if thing == own:
+                of_plan += excess if cost == paid else 0
+                continue
+            if excess < least:
+                least = excess
+            if excess < take[thing]:
+                take[thing] = excess
+        leave[own] = least
+    return Detours(claim.prices, scale, of_plan, leave, take)
+
+
+def margins_of(row, claim, detours):
+    """The margins of the arcs of a person, by objects."""
+    person, objects, costs = row
+    own = claim.picks[person - 1]
+    arcs = sorted(zip(objects, costs, detours.excesses(objects, costs)))
+    falls = [detours.rise(excess + detours.between(own[0], thing)) for thing, _, excess in arcs]
+    rise = min((fall for fall, arc in zip(falls, arcs) if fall is not None and arc[:2] != own), default=None)
+    for fall, arc in zip(falls, arcs):
+        yield Margin(person, arc[:2], arc[:2] == own, rise if arc[:2] == own else fall)
 
 
 def rows_of_margins(names, arcs, claim):
@@ -70,7 +97,9 @@ def rows_of_margins(names, arcs, claim):
     unsigned = names._replace(maximise=False)
     contested = set()
     yield [*names.titles, "is", "margin", "holds to"]
-    for margin in margins_of(arcs, claim):
+    rows = [(person, *zip(*sorted(arcs[person]))) for person in sorted(arcs)]
+    detours = detours_of(rows, claim)
+    for margin in (margin for row in rows for margin in margins_of(row, claim, detours)):
         person, thing = names.person(margin.person), names.object(margin.arc[0])
         # A dummy has no row.
         if thing is None:

@@ -69,6 +69,23 @@ class Model(NamedTuple):
             yield "".join([f"{copies + thing} {count + copy} 0\n" for thing in arcs.objects])
         yield "".join([f"{copies + thing} {thing} 0\n" for thing in range(1, count + 1)])
 
+    def rows(self):
+        """For each person of the solver, in turn, the number, the objects and the costs."""
+        copies, count, dummies = len(self.owners), self.objects, [self.objects + dummy for dummy in range(1, self.dummies() + 1)]
+        for copy, arcs in enumerate(self.arcs, 1):
+            objects, costs = arcs.objects, arcs.costs()
+            if self.free and self.free[copy - 1] is not None:
+                objects, costs = [*objects, count + copy], [*costs, self.free[copy - 1]]
+            elif dummies and copy - 1 not in self.fixed:
+                objects, costs = objects + dummies, costs + [0] * len(dummies)
+            yield copy, objects, costs
+        if self.free:
+            own = [[thing] for thing in range(1, count + 1)]
+            for copy, arcs in enumerate(self.arcs, 1):
+                for thing in arcs.objects:
+                    own[thing - 1].append(count + copy)
+            yield from ((copies + thing, objects, [0] * len(objects)) for thing, objects in enumerate(own, 1))
+
     def without(self, pair=None, stays=()):
         """The model in which no copy of a person takes an object, which are given by their places and numbers, and some copies don't stay free."""
         arcs = self.arcs
@@ -80,6 +97,12 @@ class Model(NamedTuple):
         """The model without all that costs more."""
         arcs = [each.up_to(most) for each in self.arcs]
         return self._replace(arcs=arcs, free=[None if price is None or price > most else price for price in self.free])
+
+    def least_limit(self):
+        """A cost below which no plan can stay, since somebody has no arc there; the least of all where that isn't known."""
+        if self.free or self.dummies():
+            return min(self.costs())
+        return max(min(arcs.costs()) for arcs in self.arcs)
 
     def costs(self):
         """All costs that the plan may have, in rising order."""

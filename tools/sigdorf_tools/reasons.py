@@ -1,7 +1,6 @@
 """Why a person has this object and not that, told from the prices of a plan in the units of its table."""
 from .faults import Fault
-from .margins import margins_of
-from .searches import arcs_of
+from .margins import detours_of, margins_of
 from .wishes import unknown
 
 
@@ -22,16 +21,17 @@ def rows_of_reasons(names, problem, model, claim, name):
     if name not in problem.persons:
         raise Fault(f"--why {name}: {unknown('person', name, problem.persons)}")
     place = problem.persons.index(name)
-    copies = [copy for copy, owner in enumerate(model.owners, 1) if owner == place]
+    mine = {copy for copy, owner in enumerate(model.owners, 1) if owner == place}
     prices = whole_prices(claim.prices, model.persons())
     # Where nothing is left over only differences of prices say something, so that the least one counts as nothing.
     least = min(prices) if not model.objects_said() else 0
     holders = {thing: names.person(copy) for copy, (thing, _) in zip(range(1, len(names.persons) + 1), claim.picks)}
-    own = {claim.picks[copy - 1][0] for copy in copies}
+    own = {claim.picks[copy - 1][0] for copy in mine}
     unsigned = names._replace(maximise=False)
     rows, best = [], {}
-    for margin in margins_of(arcs_of(model), claim):
-        if margin.person in copies:
+    detours = detours_of(model.rows(), claim)
+    for row in filter(lambda row: row[0] in mine, model.rows()):
+        for margin in margins_of(row, claim, detours):
             thing, cost = margin.arc
             key = thing if thing <= model.objects else None
             worse = 0 if thing in own else margin.margin

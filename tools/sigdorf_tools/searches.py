@@ -1,7 +1,10 @@
 """Plans that are asked for by more than their total: the second best one, and the one whose greatest cost is least. Each is made of plans that are judged like any other."""
+import bisect
+import heapq
+
 from .claims import Claim
 from .faults import Fault
-from .margins import margins_of
+from .rises import Change, Rises
 
 
 class Plans:
@@ -28,13 +31,23 @@ class Plans:
         return found._replace(claim=found.claim._replace(persons=[bound[person - 1] + 1 for person in found.claim.persons]))
 
     def second(self, model, best):
-        """The least plan that differs from the best one in a pair, or in who stays free; None where there is none. Its pairs are left out one after the other, those first without which a plan
-        may be least dear, as the prices of the best one tell, until none that is left can be less dear than what was found."""
-        found = None
-        for bound, change in sorted(changes(model, best), key=lambda change: change[0]):
-            if found and best.claim.cost + bound >= found.claim.cost:
+        """The least plan that differs from the best one in a pair, or in who stays free; None where there is none. It is the least of those without a pair of the best one each, and the prices
+        of that one tell how dear each of them is at least. The one that may be least dear is looked for, until no other can be less dear than what was found."""
+        found, rises = None, Rises(model, best.claim)
+        waiting = [(rise, place, change) for place, (rise, change) in enumerate(changes(model, best, rises))]
+        heapq.heapify(waiting)
+        sure = set()
+        while waiting:
+            rise, place, change = heapq.heappop(waiting)
+            gap = found and found.claim.cost - best.claim.cost
+            if found and rise >= gap:
                 break
-            answer = self.answer(model.without(**change), best.certificate)
+            if found and place not in sure:
+                # What is found tells how far a better look at the prices has to go.
+                sure.add(place)
+                heapq.heappush(waiting, (rises.better(change, rise, gap), place, change))
+                continue
+            answer = self.answer(model.without(change.pair, change.stays), best.certificate)
             if answer.claim.kind == "bracket":
                 raise Fault(f"{self.name}: the search for the second best plan was stopped by --bids; say more of them")
             if answer.claim.kind == "optimal" and (found is None or answer.claim.cost < found.claim.cost):
@@ -44,10 +57,14 @@ class Plans:
     def fair(self, model):
         """The plan whose greatest cost is least, and of those the one of the least total, with that cost; or the answer that there is no plan, without one.
         That no plan goes below is judged: it is the answer for the next lower cost, that there is no plan."""
+        answer = self.answer(model)
+        if answer.claim.kind == "infeasible":
+            return answer, None
+        # No better plan has a greater cost than this one, so that most arcs of a large table are left out at once.
+        greatest = max(cost for thing, cost in answer.claim.picks[: len(model.owners)] if thing <= model.objects or model.free)
+        model = model.up_to(greatest)
         costs = model.costs()
-        if not costs or not self.is_enough(model, costs[-1]):
-            return self.answer(model), None
-        low, high = -1, len(costs) - 1
+        low, high = bisect.bisect_left(costs, model.least_limit()) - 1, len(costs) - 1
         while high - low > 1:
             middle = (low + high) // 2
             low, high = (low, middle) if self.is_enough(model, costs[middle]) else (middle, high)
@@ -62,35 +79,17 @@ class Plans:
         return self.solver.has_full(part.lines(), part.objects_said())
 
 
-def arcs_of(model):
-    """The arcs of each of the solver's persons, as the checkers have them: pairs of object and cost."""
-    copies, count = len(model.owners), model.objects
-    arcs = {copy: set(zip(each.objects, each.costs())) for copy, each in enumerate(model.arcs, 1)}
-    for copy in range(1, copies + 1):
-        if not model.free and copy - 1 not in model.fixed:
-            arcs[copy] |= {(count + dummy, 0) for dummy in range(1, model.dummies() + 1)}
-        elif model.free and model.free[copy - 1] is not None:
-            arcs[copy].add((count + copy, model.free[copy - 1]))
-    if model.free:
-        arcs |= {copies + thing: {(thing, 0)} for thing in range(1, count + 1)}
-        for copy, each in enumerate(model.arcs, 1):
-            for thing in each.objects:
-                arcs[copies + thing].add((count + copy, 0))
-    return arcs
-
-
-def changes(model, best):
-    """What makes a plan differ, one thing each, as words for a model without it, and how much dearer a plan has to be then at least."""
-    rises = {margin.person: margin.margin for margin in margins_of(arcs_of(model), best.claim) if margin.is_picked}
+def changes(model, best, rises):
+    """What makes a plan differ, one thing each, and how much dearer a plan has to be then at least."""
     told = set()
     for copy, owner in enumerate(model.owners):
-        thing, rise = best.claim.picks[copy][0], rises[copy + 1]
+        thing, rise = best.claim.picks[copy][0], rises.of_person[copy]
         if rise is None:
             continue
         if thing <= model.objects:
-            yield rise, {"pair": (owner, thing)}
+            yield rise, Change(copy + 1, (owner, thing), ())
         elif model.free and owner not in told:
             # Copies are alike: one that stays free has to take something, and none that has something may stay free in its place.
             told.add(owner)
             busy = [other for other, his in enumerate(model.owners) if his == owner and best.claim.picks[other][0] <= model.objects]
-            yield rise, {"stays": (copy, *busy)}
+            yield rise, Change(copy + 1, None, (copy, *busy))

@@ -115,10 +115,10 @@ class Roads(ToolTest):
         *_, taken, last = done.stdout.splitlines()
         self.assertEqual(last, "2000 passed, 0 failed", done.stdout + done.stderr)
         matrices, pairs = (int(word) for word in taken.replace(",", "").split() if word.isdigit())
-        self.assertGreater(pairs, 100)
+        self.assertGreater(pairs, 50)
         if not python:
             self.skipTest("it needs numpy for matrices")
-        self.assertGreater(matrices, 100)
+        self.assertGreater(matrices, 50)
 
     def test_large_table(self):
         """A table that is large enough for numpy, sound and with a fault, with and without the library."""

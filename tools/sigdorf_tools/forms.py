@@ -52,6 +52,11 @@ def form_without_header(table):
     raise table.fault_of_row(0, "person, object and cost in three columns, or costs alone: say --pairs or --matrix")
 
 
+def is_title(cell):
+    """Whether a cell may stand over a column of costs: it is no number, nor what a spreadsheet shows in place of one, as `#N/A`."""
+    return not looks_like_number(cell) and not is_number(cell) and not cell.startswith("#")
+
+
 def looks_like_number(cell):
     return cell[:1].isdigit() or cell[:1] in tuple("+-.,\u2212")
 

@@ -33,7 +33,7 @@ def texts(file, word, rows, numbers):
     for number, row in zip(numbers, rows):
         for column, value in enumerate(row, 1):
             if isinstance(value, (list, dict)):
-                raise Fault(f"{file}, {word} {number}, column {column}: a name or a number is wanted, and this is a list or an object")
+                raise Fault(f"{file}, {word} {number}, column {column}: a name or a number is wanted, and this is a list or an object; write one, or leave it out")
     return [["" if value is None else str(value).lower() if isinstance(value, bool) else value for value in row] for row in rows], list(numbers), word
 
 

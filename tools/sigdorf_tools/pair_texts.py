@@ -7,7 +7,7 @@ from . import arrays
 from .arrays import ArrayArcs, numpy_for
 from .costs import cells_of, read_costs
 from .faults import Fault
-from .forms import look_for_header, looks_like_number
+from .forms import is_title, look_for_header
 from .problems import MOST_OBJECTS, MOST_PERSONS, TITLES, Arcs, Problem
 from .tables import Table
 from .text_tables import Text, is_plain, lines_of
@@ -33,7 +33,7 @@ def problem_of_pairs(source, form, has_header, decimals, maximise, mark):
     if len(first) != 3 or not is_sure(table, first, form, has_header):
         return None
     titles, text = TITLES, source.text.replace("\r\n", "\n")
-    if has_header and not looks_like_number(first[2]):
+    if has_header and is_title(first[2]):
         titles, text = [cell or title for cell, title in zip(first, TITLES)], text[text.find("\n") + 1 :]
     names, numbers, groups = (Numbers(), Numbers()), ([], []), []
     for *named, costs in batches(text.removesuffix("\n"), source.separator):

@@ -3,13 +3,14 @@ from typing import NamedTuple
 
 from .costs import cells_of, read_costs
 from .faults import Fault
-from .forms import form_of, looks_like_number
+from .forms import form_of, is_title
 from .tables import look_at_lengths
 
 MOST_PERSONS = 10_000
 MOST_OBJECTS = 20_000
 MOST_ARCS = 33_554_432
 TITLES = ["person", "object", "cost"]
+NAME_WANTED = "a name is wanted, and the cell is empty; write one, or leave out what is no part of the table"
 
 
 class Arcs(NamedTuple):
@@ -62,10 +63,10 @@ def problem_of(table, form, has_header, decimals=None, maximise=False, mark=None
 
 
 def problem_of_pairs(table, has_header, costs):
-    """Three columns: person, object, cost. A first row whose third cell doesn't begin as a number does has their titles, unless no header is said to be there."""
+    """Three columns: person, object, cost. A first row whose third cell is no number has their titles, unless no header is said to be there."""
     look_at_lengths(table, 3)
     titles, first = TITLES, 0
-    if has_header and not looks_like_number(table.rows[0][2]):
+    if has_header and is_title(table.rows[0][2]):
         titles, first = titles_of(table), 1
     persons, objects, amounts = zip(*table.rows[first:])
     look_for_gap(table, amounts, first, 2, "a cost is wanted, and the cell is empty; leave out the row of a pair that isn't allowed")
@@ -100,11 +101,11 @@ def without_doubles(table, first, pairs, *columns):
 
 def numbered(table, names, first, column, most):
     """The different names of a column, in their order, and for each row the number of its name."""
-    look_for_gap(table, names, first, column, "a name is wanted, and the cell is empty")
+    look_for_gap(table, names, first, column, NAME_WANTED)
     numbers = dict.fromkeys(names)
     if len(numbers) > most:
         name = list(numbers)[most]
-        raise table.fault(first + names.index(name), column, f"`{name}` is one name more than the {most:,} that a problem may have")
+        raise table.fault(first + names.index(name), column, f"`{name}` is one name more than the {most:,} that a problem may have; leave some out")
     numbers = {name: number for number, name in enumerate(numbers, 1)}
     return list(numbers), list(map(numbers.__getitem__, names))
 
@@ -141,9 +142,9 @@ def problem_of_matrix(table, costs):
 def look_at_names(table, names, place_of, most):
     """Each name has to stand there once."""
     if "" in names:
-        raise table.fault(*place_of(names.index("")), "a name is wanted, and the cell is empty")
+        raise table.fault(*place_of(names.index("")), NAME_WANTED)
     if len(names) > most:
-        raise table.fault(*place_of(most), f"`{names[most]}` is one name more than the {most:,} that a problem may have")
+        raise table.fault(*place_of(most), f"`{names[most]}` is one name more than the {most:,} that a problem may have; leave some out")
     seen = set()
     for place, name in enumerate(names if len(set(names)) < len(names) else ()):
         if name in seen:

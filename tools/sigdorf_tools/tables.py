@@ -79,7 +79,7 @@ def table_of(file, separator, rows, lines, is_plain, line_word="line"):
         raise Fault(f"{file}: the table is empty; put person, object and cost into three columns, or a row for each person")
     table = Table(file, separator, rows, lines, gaps, line_word)
     if max(map(len, rows)) == 1:
-        raise table.fault_of_row(0, "no table, since no comma, semicolon or tab parts its columns")
+        raise table.fault_of_row(0, "no table, since no comma, semicolon or tab parts its columns; save the table as .xlsx, .ods or CSV in UTF-8")
     if not is_plain:
         look_for_control_characters(table)
     return table
@@ -89,7 +89,7 @@ def look_for_control_characters(table):
     for row, cells in enumerate(table.rows):
         for column, cell in enumerate(cells):
             if not cell.isprintable() and any(unicodedata.category(character) == "Cc" for character in cell):
-                raise table.fault(row, column, "a control character; a name or a number is wanted")
+                raise table.fault(row, column, "a control character; take it out, since a name or a number is wanted")
 
 
 def look_at_lengths(table, length):

@@ -1,0 +1,67 @@
+"""Forty tables with a fault: each is refused in one sentence with the file, the line and the column where there is one, and a way out."""
+import argparse
+
+from calls import ToolTest
+from sigdorf_tools.conversion import add_options, read_problem
+from sigdorf_tools.faults import Fault
+
+# The table, the words, the place, and the way out.
+FAULTS = [
+    ("", "", "", "put person, object and cost into three columns"),
+    (",,\n,,\n", "", "", "put person, object and cost into three columns"),
+    ("hello\nworld\n", "", ", line 1", "save the table as"),
+    ("<?xml version='1.0'?>\n<a/>\n", "", ", line 1", "save the table as"),
+    ("a,x,1\nb,y\n", "", ", line 2, column 3", "fill it up"),
+    ("a,x,1\nb,y,2,3\n", "", ", line 2, column 4", "into double quotes"),
+    (",x,y\na,1\nb,1,2\n", "", ", line 2, column 3", "fill it up"),
+    (",x,x\na,1,2\n", "", ", line 1, column 3", "give each one a name of its own"),
+    (",x,y\na,1,2\na,3,4\n", "", ", line 3, column 1", "give each one a name of its own"),
+    (",x,\na,1,2\n", "", ", line 1, column 3", "write one, or leave out"),
+    (",x,y\n,1,2\n", "", ", line 2, column 1", "write one, or leave out"),
+    ("Plan of Monday,,,\nwho,x,y,z\na,1,2,3\n", "", ", line 1, column 2", "leave out what is no part of the table"),
+    ("a,,3\nb,y,2\n", "--pairs", ", line 1, column 2", "write one, or leave out"),
+    ("a,x,1\nb,y,\n", "--pairs", ", line 2, column 3", "leave out the row"),
+    ("a,x,4 min\nb,y,2\n", "", ", line 1, column 3", "write digits alone"),
+    (",x,y\na,4km,2\n", "", ", line 2, column 2", "write digits alone"),
+    ("a,x,$5\nb,y,1\n", "", ", line 1, column 3", "write digits alone"),
+    ("a,x,#N/A\nb,y,1\n", "", ", line 1, column 3", "leave the cell empty"),
+    ("a,x,inf\nb,y,1\n", "", ", line 1, column 3", "leave the cell empty"),
+    ("a,x,1\nb,y,1e3\n", "", ", line 2, column 3", "write digits alone"),
+    ("a,x,1\nb,y,2026-11-26\n", "", ", line 2, column 3", "write digits alone"),
+    ("a,x,1\na,x,2\n", "", ", line 2, column 3", "leave out the row that is wrong"),
+    ("a;x;1.250\nb;y;2\n", "", ", line 1, column 3", "say --decimal-mark point or --decimal-mark comma"),
+    ("a;x;1,5\nb;y;1.5\n", "", ", line 2, column 3", "say --decimal-mark point"),
+    ("a,x,1.23\nb,y,2\n", "--decimals 1", ", line 1, column 3", "--decimals 2 keeps them"),
+    ("a,x,10000000000\nb,y,2\n", "", ", line 1, column 3", "count in greater units"),
+    ("a,x,0.1234567890123\nb,y,2\n", "", ", line 1, column 3", "round the costs in the table to 8 decimals"),
+    ("12,2\n1,3\n", "", ", line 1", "--matrix --no-header where the table is costs alone"),
+    ("1,2,3\n4,5,6\n", "", ", line 1", "--pairs where each row is a person"),
+    ("who,what,room,min\na,x,12,3\nb,y,13,4\n", "", ", line 2, column 2", "say --columns"),
+    ('a,"x,1\nb,y,2\n', "", ", line 1, column 2", "write a quote inside a cell twice"),
+    (b"a,x\xff,1\n", "", ", line 1, byte 4 of the line", "save the table as CSV in UTF-8"),
+    ("a,x,1\n".encode("utf-16"), "", "", "save the table as CSV in UTF-8"),
+    ("a,x\x07,1\nb,y,2\n", "", ", line 1, column 2", "take it out"),
+    (b"\xd0\xcf\x11\xe0\xa1\xb1\x1a\xe1abc", "", "", "save it as .xlsx"),
+    (b"PK\x03\x04abc", "", "", "save it anew"),
+    ("sep=|\na|x|1\n", "", ", line 1, column 1", "part the columns by one of these"),
+    (",x,y\n", "", ", line 1", "put a row for each person below"),
+    ("who,what,cost\n", "", ", line 1, column 3", "put the pairs below the titles"),
+    ("who,what,cost\na,x,3\n", "--columns who,what,price", ", line 1", "say one of `who`, `what`, `cost`"),
+    ("a,x,1\n", "--sheet Plan", "", "leave it out"),
+]
+
+
+class Faults(ToolTest):
+    def test_faults(self):
+        parser = argparse.ArgumentParser()
+        add_options(parser)
+        self.assertGreaterEqual(len(FAULTS), 40)
+        for content, words, place, way_out in FAULTS:
+            with self.subTest(content=content, words=words):
+                table = self.write("table.csv", content)
+                with self.assertRaises(Fault) as caught:
+                    read_problem(parser.parse_args([str(table), *words.split()]))
+                sentence = str(caught.exception)
+                self.assertTrue(sentence.startswith(f"{table}{place}: "), sentence)
+                self.assertIn(way_out, sentence)
+                self.assertNotIn("\n", sentence)

@@ -3,6 +3,8 @@ import os
 import sys
 
 STATUS = 2
+# What takes away the line of a terminal in which the cursor stands.
+TAKE_AWAY = "\r\x1b[K"
 
 
 class Fault(Exception):
@@ -34,8 +36,9 @@ def tell(sentence):
 
 
 def say(sentence):
-    """One sentence on standard error, behind the name of the tool."""
-    print(f"{os.path.basename(sys.argv[0])}: {sentence}", file=sys.stderr)
+    """One sentence on standard error, behind the name of the tool. On a terminal a line that tells what goes on may stand there, and is taken away."""
+    before = TAKE_AWAY if sys.stderr.isatty() else ""
+    print(f"{before}{os.path.basename(sys.argv[0])}: {sentence}", file=sys.stderr)
 
 
 def read_bytes(file):

@@ -2,7 +2,10 @@
 from math import inf
 from typing import NamedTuple
 
-from .plans import listed
+from .plans import MOST_LISTED, listed
+
+# How many contested objects the last sentence names.
+MOST_NAMED = 100
 
 
 class Margin(NamedTuple):
@@ -114,4 +117,8 @@ def rows_of_margins(names, arcs, claim):
 def sentence_of(names, contested):
     if not contested:
         return "No object is contested: this is the only best plan."
-    return f"Contested at these prices: {listed([name for name in names.objects if name in contested], 'object')}."
+    told = [name for name in names.objects if name in contested]
+    if len(told) <= MOST_LISTED:
+        return f"Contested at these prices: {listed(told, 'object')}."
+    more = f", and {len(told) - MOST_NAMED} more in rows with `contests`" if len(told) > MOST_NAMED else ""
+    return f"Contested at these prices are {len(told)} objects: {', '.join(told[:MOST_NAMED])}{more}."

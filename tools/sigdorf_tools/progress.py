@@ -4,6 +4,8 @@ import sys
 import threading
 import time
 
+from .faults import TAKE_AWAY
+
 # After so many seconds the line comes, and so often it is told anew.
 QUIET, STEP = 2.0, 0.5
 
@@ -36,9 +38,9 @@ class Progress:
     def tell(self, is_over, output):
         has_told, wait = False, QUIET - self.seconds()
         while not is_over.wait(max(wait, 0)):
-            output.write(f"\r\x1b[K{self.stage}, {self.seconds():.0f} s ")
+            output.write(f"{TAKE_AWAY}{self.stage}, {self.seconds():.0f} s ")
             output.flush()
             has_told, wait = True, STEP
         if has_told:
-            output.write("\r\x1b[K")
+            output.write(TAKE_AWAY)
             output.flush()

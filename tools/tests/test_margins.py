@@ -44,6 +44,14 @@ class Margins(ToolTest):
         self.write("certificate", "auction 1\noptimal 2 4\nassign 1 1 1\nassign 2 2 3\nprice 1 9\nprice 2 10\n")
         self.assertEqual(self.rows("problem", "certificate")[1:4], ["1,1,1,plan,any,any", "2,1,4,,any,any", "2,2,3,plan,any,any"])
 
+    def test_contested_objects_are_named(self):
+        """However many they are, up to a hundred of them."""
+        for persons, wanted in [(7, "are 7 objects: 1, 2, 3, 4, 5, 6, 7."), (120, "100, and 20 more in rows with `contests`.")]:
+            self.write("problem", f"{persons}\n" + "".join(f"{person} {thing} 0\n" for person in range(1, persons + 1) for thing in range(1, persons + 1)))
+            plan = "".join(f"assign {person} {person} 0\n" for person in range(1, persons + 1)) + "".join(f"price {thing} 0\n" for thing in range(1, persons + 1))
+            self.write("certificate", f"auction 1\noptimal {persons} 0\n{plan}")
+            self.assertTrue(self.rows("problem", "certificate")[-1].strip('"').endswith(wanted))
+
     def test_the_same_pair_twice(self):
         self.write("problem", "1\n1 1 1\n1 1 4\n")
         self.write("certificate", "auction 1\noptimal 1 1\nassign 1 1 1\nprice 1 0\n")

@@ -88,7 +88,10 @@ def reader_of(text, separator):
 
 def lines_of(text):
     """The lines of a text without quotes."""
-    return text.replace("\r\n", "\n").replace("\r", "\n").removesuffix("\n").split("\n")
+    lines = text.replace("\r\n", "\n").replace("\r", "\n").split("\n")
+    if len(lines) > 1 and not lines[-1]:
+        lines.pop()
+    return lines
 
 
 def rows_of(file, separator, text, skipped):

@@ -12,7 +12,7 @@ _auction() {
     --from) ;;
     *)
         case $command in
-        solve) options="--workers --bids --audit --objects --from --help" ;;
+        solve) options="--workers --bids --audit --objects --from --direct --help" ;;
         check | hall) options="--objects --help" ;;
         mail) options="--help" ;;
         esac

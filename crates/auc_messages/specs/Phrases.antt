@@ -59,7 +59,7 @@ phrase_of_claim WrongBound = codes "its lower bound is not that of its prices; s
 phrase_of_claim NoMemoryToCheck = out_of_memory
 
 unfoldable pub phrase_of_start : StartError → List ℕ
-phrase_of_start NotSquare = codes "a solve starts from old prices only with as many objects as persons; leave out --from"
+phrase_of_start NotSquare = codes "a solve starts from old prices only with as many objects as persons; leave out --from, or add --direct"
 phrase_of_start NoPrices = codes "it names persons who know too few objects, and has no prices to start from; leave out --from"
 phrase_of_start OtherSize = codes "it is of a problem with another number of persons or objects; leave out --from, or name that of an equal number"
 phrase_of_start (TooHigh object) = codes "the price of this object is above 1152921504606846976, too high to start from; leave out --from"

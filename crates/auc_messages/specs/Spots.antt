@@ -84,7 +84,7 @@ spot_of NoThreads = All
 
 -- what was not read to its end is a mail's script, and else the certificate
 abbrev pub unread_of : Job → Subject
-unread_of (Solve workers bids audit objects from) = Second
+unread_of (Solve workers bids audit objects from direct) = Second
 unread_of (Check objects) = Second
 unread_of (Hall objects) = Second
 unread_of Mail = First

@@ -140,7 +140,7 @@ fn of_start(error: StartError) -> &'static [u8]
 {
     match error {
         StartError::NotSquare => {
-            b"a solve starts from old prices only with as many objects as persons; leave out --from"
+            b"a solve starts from old prices only with as many objects as persons; leave out --from, or add --direct"
         }
         StartError::NoPrices => {
             b"it names persons who know too few objects, and has no prices to start from; leave out --from"

@@ -4,5 +4,6 @@ mod VerdictLaws
 mod ScriptLaws
 mod ReplyLaws
 mod CompletionLaws
+mod PriceLaws
 mod StartLaws
 mod OutcomeLaws

@@ -1,5 +1,5 @@
 -- The outcome of a job, by what its own kind has found.
-use Rattle.std.proofs.Common.{◌≡◌, ℕ, Bool, List, Option, Result, Ok, Err, ℤ, refl, sym, subst}
+use Rattle.std.proofs.Common.{◌≡◌, ◌<◌, ℕ, Bool, true, false, arith, List, Option, Result, Ok, Err, ℤ, refl, sym, subst}
 use Rattle.std.specs.Prelude.{IsErrAnd}
 use Rattle.auc_mail.specs.declared.call.Reply.{Reply}
 use Rattle.auc_answers.specs.declared.answer.Answer.{Answer}
@@ -18,12 +18,14 @@ use Rattle.auc_run.specs.Verdicts.{IsVerdict}
 use Rattle.auc_run.proofs.ProblemLaws.{known, are_known}
 
 module _ (a b : Option (List ℕ)) where
-  pub solved : (workers bids audit objects : ℕ) (from : Bool) (answer : Result Answer Refusal) → IsSolvingIn from objects workers bids audit a b answer → IsOutcome (Solve workers bids audit objects from) a b (reported Solved answer)
-  solved workers bids audit objects from answer h = (h.0, h.1, h.2, h.3, (answer, h.4, refl))
+  pub solved : (workers bids audit objects : ℕ) (from direct : Bool) (answer : Result Answer Refusal) → IsSolvingIn direct from objects workers bids audit a b answer
+      → IsOutcome (Solve workers bids audit objects from direct) a b (reported Solved answer)
+  solved workers bids audit objects from direct answer h = (h.0, h.1, h.2, h.3, (answer, h.4, refl))
 
   -- without workers, of which the answer says that there are none
-  pub solved_plainly : (workers bids audit objects : ℕ) (from : Bool) (answer : Result Answer Refusal) → workers ≡ 0 → ((trail : ℕ) → IsSolvingIn from objects 0 bids trail a b answer) → IsOutcome (Solve workers bids audit objects from) a b (reported Solved answer)
-  solved_plainly workers bids audit objects from answer none h = rw none (solved 0 bids audit objects from answer (h audit))
+  pub solved_plainly : (workers bids audit objects : ℕ) (from direct : Bool) (answer : Result Answer Refusal) → workers ≡ 0 → ((trail : ℕ) → IsSolvingIn direct from objects 0 bids trail a b answer)
+      → IsOutcome (Solve workers bids audit objects from direct) a b (reported Solved answer)
+  solved_plainly workers bids audit objects from direct answer none h = rw none (solved 0 bids audit objects from direct answer (h audit))
 
   pub judged : (objects : ℕ) (verdict : Result Valid Refusal) → IsVerdict objects a b verdict → IsOutcome (Check objects) a b (reported Judged verdict)
   judged objects verdict h = (h.0, h.1, h.2, h.3, (verdict, h.4, refl))
@@ -38,3 +40,8 @@ module _ (a b : Option (List ℕ)) where
   pub refused : (job : Job) (r : Result Report Refusal) (e : Refusal) → IsErrAnd r (λ x. x ≡ e) → IsOutcome job a b (Err e) → IsOutcome job a b r
   refused job (Ok x) e p h = absurd p
   refused job (Err x) e p h = subst (λ (y : Refusal). IsOutcome job a b (Err y)) (sym p) h
+
+-- a job with workers goes by messages
+pub by_messages : (direct : Bool) (workers : ℕ) → (direct ≡ true → workers ≡ 0) → 0 < workers → direct ≡ false
+by_messages true workers alone some = absurd (omega (arith, alone refl, some))
+by_messages false workers alone some = refl

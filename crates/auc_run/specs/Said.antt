@@ -27,7 +27,7 @@ reported report (Err refusal) = Err refusal
 -- The bytes of the two inputs bear the outcome of the job out: an answer about the problem, a verdict on the certificate's claim, a full
 -- assignment or the certificate that there is none, or the replies of a run of the mail.
 abbrev pub BearOutJob : Job → List ℕ → List ℕ → Result Report Refusal → Type 0
-BearOutJob (Solve workers bids audit objects from) file cert outcome = (answer : Result Answer Refusal) × BearOutSolving from objects workers bids audit file cert answer × (outcome ≡ reported Solved answer)
+BearOutJob (Solve workers bids audit objects from direct) file cert outcome = (answer : Result Answer Refusal) × BearOutSolving direct from objects workers bids audit file cert answer × (outcome ≡ reported Solved answer)
 BearOutJob (Check objects) file cert outcome = (verdict : Result Valid Refusal) × BearOut objects file cert verdict × (outcome ≡ reported Judged verdict)
 BearOutJob (Hall objects) file cert outcome = (found : Result Found Refusal) × BearOutFound objects file found × (outcome ≡ reported Completed found)
 BearOutJob Mail file cert outcome = (replies : Result (List (Reply ℤ)) Refusal) × BearOutReplies file replies × (outcome ≡ reported Replied replies)

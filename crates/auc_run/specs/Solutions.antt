@@ -1,5 +1,5 @@
 -- What a solve may answer about a problem, the text that tells it, and which answers are right for the bytes of a problem.
-use Rattle.std.specs.Prelude.{ℕ, zero, suc, List, codes, Option, None, Result, Ok, Err, ⊤}
+use Rattle.std.specs.Prelude.{ℕ, zero, suc, List, codes, Option, None, Result, Ok, Err, ⊤, pos}
 use Rattle.auc_graph.specs.Problem.{Problem}
 use Rattle.auc_cert.specs.Text.{text}
 use Rattle.auc_answers.specs.declared.answer.Answer.{Answer}
@@ -9,6 +9,7 @@ use Rattle.auc_answers.specs.declared.answer.Guard.TheVariants.{Check, Fell, Set
 use Rattle.auc_answers.specs.declared.limits.Limits.{Limits}
 use Rattle.auc_answers.specs.Answers.{IsAnswer}
 use Rattle.auc_world.specs.Chain.{IsOfRun}
+use Rattle.auc_direct.specs.Endings.{IsLimited}
 use Rattle.auc_threads.specs.declared.phase.PhaseEnd.{PhaseEnd}
 use Rattle.auc_threads.specs.Solved.{IsSolvedBy, IsThreadAnswer}
 use Rattle.auc_run.specs.declared.refusal.Refusal.{Refusal}
@@ -24,6 +25,11 @@ limits_of bids = record { shards = 1; bids = bids; posts = 1000000000000; audit 
 abbrev pub BearOutSolved : ℕ → ℕ → List ℕ → Result Answer Refusal → Type 0
 BearOutSolved objects bids file (Ok answer) = (p : Problem) × IsProblemOf objects file p × IsAnswer p answer × IsOfRun p (limits_of bids) None answer
 BearOutSolved objects bids file (Err refusal) = BearOutRefusal objects file refusal
+
+-- The same of a solve in one hand. Where an answer is an assignment and a bound, the bids ran out, or somebody would bid more than the greatest price.
+abbrev pub BearOutDirect : ℕ → ℕ → List ℕ → Result Answer Refusal → Type 0
+BearOutDirect objects bids file (Ok answer) = (p : Problem) × IsProblemOf objects file p × IsAnswer p answer × IsLimited p bids (pos 0) answer
+BearOutDirect objects bids file (Err refusal) = BearOutRefusal objects file refusal
 
 -- the limits of a solve with threads: so many shards of each kind, bids, and places in each trail, and else the usual numbers
 abbrev pub thread_limits_of : ℕ → ℕ → ℕ → Limits
@@ -49,6 +55,10 @@ BearOutSolve objects (suc workers) bids audit file answer = BearOutThreads objec
 -- what was answered in threads about the problem that a reader has
 abbrev pub IsSolvedByThreadsIn : ℕ → ℕ → ℕ → ℕ → Option (List ℕ) → Result Answer Refusal → Type 0
 IsSolvedByThreadsIn objects workers bids audit reader answer = (file : List ℕ) × AreKnown reader file × BearOutThreads objects workers bids audit file answer
+
+-- what was answered in one hand about the problem that a reader has
+abbrev pub IsDirectIn : ℕ → ℕ → Option (List ℕ) → Result Answer Refusal → Type 0
+IsDirectIn objects bids reader answer = (file : List ℕ) × AreKnown reader file × BearOutDirect objects bids file answer
 
 -- what was answered about the problem that a reader has
 abbrev pub IsSolvedIn : ℕ → ℕ → Option (List ℕ) → Result Answer Refusal → Type 0

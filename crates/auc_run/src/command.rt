@@ -8,6 +8,7 @@ ghost use Rattle.auc_run.specs.Jobs.{IsInRange, IsPlain, has_second, objects_of,
 ghost use Rattle.auc_run.specs.Reports.{IsWritable};
 ghost use Rattle.auc_run.specs.Said.{Ended, IsOutcome, Said, SaidInPart};
 
+use crate::direct::answer_alone;
 use crate::ending::Ending;
 use crate::hall::found_of;
 use crate::input::read_all;
@@ -15,7 +16,7 @@ use crate::mail::replies_of;
 use crate::problem::problem_of;
 use crate::refusal::Refusal;
 use crate::report::{Report, tell};
-use crate::solve::{answer_in_threads, answer_plainly};
+use crate::solve::answer_in_threads;
 use crate::valid::Valid;
 use auc_cert::{Cert, CertParts, check, read_cert};
 use auc_graph::{ArcList, MOST_ARCS, MOST_READS};
@@ -43,8 +44,11 @@ pub enum Job {
         audit: u32,
         /// How many objects the problem has: to 20,000, and 0 for as many as persons.
         objects: u32,
-        /// Whether it starts from the prices of an old certificate, which the second reader has, see [`auc_cert::start_prices`].
+        /// Whether it starts from the prices of an old certificate, which the second reader has: see [`auc_cert::start_prices`]; in one hand any
+        /// prices will do, one for each object, from 0 to 2^60.
         from: bool,
+        /// Whether it is solved in one hand, by [`auc_direct::solve_direct`], in place of by messages: then there are no workers and no trail.
+        direct: bool,
     },
     /// Reads a problem from the first reader and a certificate from the second, and says whether what the certificate
     /// claims of the problem holds.
@@ -62,7 +66,7 @@ pub enum Job {
     Mail,
 }
 
-/// The numbers of a solve, as [`Job::Solve`] has them.
+/// The numbers of a solve by messages, as [`Job::Solve`] has them.
 #[derive(Clone, Copy)]
 pub(crate) struct SolveNumbers {
     pub(crate) workers: u32,
@@ -137,9 +141,10 @@ fn outcome_of<R: Read, Q: Read>(
             objects,
             bids,
             from,
+            direct,
             ..
         } => {
-            let answer = answer_plainly(alloc, reader, second, *objects, *bids, *from)?;
+            let answer = answer_alone(alloc, reader, second, *objects, *bids, *from, *direct)?;
             Ok(Report::Solved(answer))
         }
         Job::Check { objects } => {
@@ -247,6 +252,7 @@ pub fn perform<H: Threads + Wait + Sync, R: Read, Q: Read, W: Write, G: Gate + S
         audit,
         objects,
         from,
+        ..
     } = *job
     {
         if workers > 0 {

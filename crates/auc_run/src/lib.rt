@@ -7,6 +7,7 @@
 
 mod command;
 mod command_word;
+mod direct;
 mod ending;
 mod found;
 mod hall;

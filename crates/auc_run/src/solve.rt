@@ -55,10 +55,10 @@ fn answer_from<R: Read, Q: Read>(
     bids: u64,
 ) -> Result<Answer, Refusal>
     requires { objects ≤ 20000 }
-    ensures from { (audit : ℕ) → IsSolvedFromIn objects 0 bids audit (R.remaining reader.old) (Q.remaining second.old) result }
+    ensures from { (audit : ℕ) → IsSolvedFromIn false objects 0 bids audit (R.remaining reader.old) (Q.remaining second.old) result }
     ensures unread { IfSome (R.remaining reader.old) (λ file. IsErr (reading MOST_ARCS objects file) → second.new ≡ second.old) }
 {
-    let started = started_of(alloc, reader, second, objects)?;
+    let started = started_of(alloc, reader, second, objects, false)?;
     let limits = serial_limits(bids);
     let prices = started.prices.as_slice();
     let answer = solve_serial_from(alloc, &started.problem, &limits, prices)?;
@@ -76,7 +76,7 @@ pub(crate) fn answer_plainly<R: Read, Q: Read>(
     from: bool,
 ) -> Result<Answer, Refusal>
     requires { objects ≤ 20000 }
-    ensures solving { (audit : ℕ) → IsSolvingIn from objects 0 bids audit (R.remaining reader.old) (Q.remaining second.old) result }
+    ensures solving { (audit : ℕ) → IsSolvingIn false from objects 0 bids audit (R.remaining reader.old) (Q.remaining second.old) result }
     ensures unread { IfSome (R.remaining reader.old) (λ file. IsErr (reading MOST_ARCS objects file) → second.new ≡ second.old) }
     ensures alone { from ≡ false → second.new ≡ second.old }
 {
@@ -131,10 +131,10 @@ fn answer_by_threads_from<H: Threads + Wait + Sync, R: Read, Q: Read, G: Gate + 
 ) -> Result<Answer, Refusal>
     requires some { 1 ≤ numbers.workers }
     requires range { IsInRange (solve_by numbers) }
-    ensures from { IsSolvedFromIn numbers.objects numbers.workers numbers.bids numbers.audit (R.remaining reader.old) (Q.remaining second.old) result }
+    ensures from { IsSolvedFromIn false numbers.objects numbers.workers numbers.bids numbers.audit (R.remaining reader.old) (Q.remaining second.old) result }
     ensures unread { IfSome (R.remaining reader.old) (λ file. IsErr (reading MOST_ARCS numbers.objects file) → second.new ≡ second.old) }
 {
-    let started = started_of(alloc, reader, second, numbers.objects)?;
+    let started = started_of(alloc, reader, second, numbers.objects, false)?;
     let limits = thread_limits(numbers);
     let prices = started.prices.as_slice();
     let solved = solve_threads_from(rt, alloc, &started.problem, &limits, prices, gate)?;
@@ -152,7 +152,7 @@ pub(crate) fn answer_in_threads<H: Threads + Wait + Sync, R: Read, Q: Read, G: G
 ) -> Result<Answer, Refusal>
     requires some { 1 ≤ numbers.workers }
     requires range { IsInRange (solve_by numbers) }
-    ensures solving { IsSolvingIn numbers.from numbers.objects numbers.workers numbers.bids numbers.audit (R.remaining reader.old) (Q.remaining second.old) result }
+    ensures solving { IsSolvingIn false numbers.from numbers.objects numbers.workers numbers.bids numbers.audit (R.remaining reader.old) (Q.remaining second.old) result }
     ensures unread { IfSome (R.remaining reader.old) (λ file. IsErr (reading MOST_ARCS numbers.objects file) → second.new ≡ second.old) }
     ensures alone { numbers.from ≡ false → second.new ≡ second.old }
 {

@@ -1,17 +1,24 @@
 //! What a solve starts from: a problem is read, then an old certificate, and of this one the prices.
 
-ghost use Rattle.std.specs.Prelude.{◌≡◌, ◌≤◌, IfOk, IfSome, IsErr};
-ghost use Rattle.auc_cert.specs.Start.{AreStart};
+ghost use Rattle.std.specs.Prelude.{◌≡◌, ◌≤◌, ◌<◌, ◌^◌, false, length, All, IfOk, IfSome, IsErr};
+ghost use Rattle.auc_cert.specs.declared.start_error.StartError.{StartError};
+ghost use Rattle.auc_cert.specs.Start.{AreStart, IsStartPrice, high_price};
+ghost use Rattle.auc_graph.specs.Memory.{AnswersUnless};
+ghost use Rattle.auc_graph.specs.Price.{IsPrice};
 ghost use Rattle.auc_graph.specs.Reading.{reading};
-ghost use Rattle.auc_run.specs.Starts.{IsStartIn};
+ghost use Rattle.auc_direct.specs.Starts.{AreStartPrices};
+ghost use Rattle.auc_run.specs.Starts.{IsStartIn, direct_start_of, each_price, start_for};
 
 use crate::input::read_all;
 use crate::problem::problem_of;
 use crate::refusal::Refusal;
-use auc_cert::{read_cert, start_prices};
+use auc_cert::{Cert, CertParts, StartError, read_cert, start_prices};
 use auc_graph::{ArcList, MOST_ARCS, MOST_READS};
 use std::alloc::Global;
 use std::io::Read;
+
+/// The highest price that a solve in one hand may start from, 2^60, on the scale of costs times persons + 1: that of the solver by messages.
+const HIGHEST_START: i64 = 1_152_921_504_606_846_976;
 
 /// A problem, and the prices from which it is to be solved: scaled costs, indexed by object.
 #[derive(Drop)]
@@ -20,16 +27,80 @@ pub struct Started {
     pub prices: Vec<i64>,
 }
 
-/// The first reader's problem, and the prices of the second one's certificate. The second reader is read once the problem is accepted.
+/// The first object whose price is too high to start from.
+fn first_high(prices: &[i64]) -> Option<u32>
+    requires few { length prices.now < 2 ^ 32 }
+    requires fair { All IsPrice prices.now }
+    ensures { result ≡ high_price prices.now }
+{
+    for object in 0..prices.len() {
+        if prices[object] > HIGHEST_START {
+            return Some(object as u32);
+        }
+    }
+    None
+}
+
+/// These prices, where they are as many as objects.
+fn each_price(alloc: Global, objects: u32, prices: &[i64]) -> Result<Vec<i64>, StartError>
+    requires { All IsPrice prices.now }
+    ensures each { IfOk result (λ v. length v.items ≡ objects) }
+    ensures within { IfOk result (λ v. All IsStartPrice v.items) }
+    ensures exact { AnswersUnless StartError.NoMemory (λ v. v.items) result (λ r. r ≡ each_price objects prices.now) }
+{
+    if prices.len() != objects as usize {
+        return Err(StartError::OtherSize);
+    }
+    if let Some(object) = first_high(prices) {
+        return Err(StartError::TooHigh { object });
+    }
+    Ok(prices.to_vec(alloc)?)
+}
+
+/// The prices of a certificate from which the solver in one hand may start: one for each object, whatever the picks beside them.
+fn direct_prices(alloc: Global, problem: &ArcList, cert: &Cert) -> Result<Vec<i64>, StartError>
+    ensures exact { AnswersUnless StartError.NoMemory (λ v. v.items) result (λ r. r ≡ direct_start_of problem.now cert.now) }
+    ensures start { IfOk result (λ v. AreStartPrices problem.now v.items) }
+{
+    match cert.parts() {
+        CertParts::Optimal { prices, .. } | CertParts::Bracket { prices, .. } => {
+            each_price(alloc, problem.objects(), prices.as_slice())
+        }
+        CertParts::Infeasible { .. } => Err(StartError::NoPrices),
+    }
+}
+
+/// The prices of a certificate from which a solve may start, in one hand or by messages.
+fn prices_of(
+    alloc: Global,
+    problem: &ArcList,
+    cert: &Cert,
+    direct: bool,
+) -> Result<Vec<i64>, StartError>
+    ensures exact { AnswersUnless StartError.NoMemory (λ v. v.items) result (λ r. r ≡ start_for direct problem.now cert.now) }
+    ensures start { direct ≡ false → IfOk result (λ v. AreStart problem.now v.items) }
+    ensures each { IfOk result (λ v. AreStartPrices problem.now v.items) }
+{
+    if direct {
+        direct_prices(alloc, problem, cert)
+    } else {
+        start_prices(alloc, problem, cert)
+    }
+}
+
+/// The first reader's problem, and the prices of the second one's certificate, for a solve in one hand or by messages. The second reader is read
+/// once the problem is accepted.
 pub(crate) fn started_of<R: Read, Q: Read>(
     alloc: Global,
     reader: &mut R,
     second: &mut Q,
     objects: u32,
+    direct: bool,
 ) -> Result<Started, Refusal>
     requires { objects ≤ 20000 }
-    ensures started { IsStartIn objects (R.remaining reader.old) (Q.remaining second.old) result }
-    ensures start { IfOk result (λ s. AreStart s.problem s.prices.items) }
+    ensures started { IsStartIn direct objects (R.remaining reader.old) (Q.remaining second.old) result }
+    ensures start { direct ≡ false → IfOk result (λ s. AreStart s.problem s.prices.items) }
+    ensures each { IfOk result (λ s. AreStartPrices s.problem s.prices.items) }
     ensures unread { IfSome (R.remaining reader.old) (λ file. IsErr (reading MOST_ARCS objects file) → second.new ≡ second.old) }
 {
     let problem = problem_of(alloc, reader, objects)?;
@@ -37,6 +108,6 @@ pub(crate) fn started_of<R: Read, Q: Read>(
     let cert = read_cert(alloc, bytes.as_slice())?;
     // Read here, so that the proof knows what every certificate keeps.
     let _ = cert.parts();
-    let prices = start_prices(alloc, &problem, &cert)?;
+    let prices = prices_of(alloc, &problem, &cert, direct)?;
     Ok(Started { problem, prices })
 }

@@ -1,5 +1,5 @@
 -- What the matches of a command ask for.
-use Rattle.std.proofs.Common.{◌≡◌, ◌<◌, ◌⊎◌, ℕ, List, Option, Some, None, Result, Ok, Err, arith, codes, is_some, refl, sym, ap, subst, ◌∙◌, inl, inr}
+use Rattle.std.proofs.Common.{◌≡◌, ◌<◌, ◌⊎◌, ℕ, Bool, true, false, List, Option, Some, None, Result, Ok, Err, arith, codes, is_some, refl, sym, ap, subst, ◌∙◌, inl, inr}
 use Rattle.std.specs.Prelude.{IsErrAnd}
 use Rattle.clap.specs.Words.{Row, Text, first_of, first_value, rows_of}
 use Rattle.clap.specs.declared.parser.matches.Found.{Found}
@@ -8,10 +8,10 @@ use Rattle.auc_run.specs.declared.command.Job.{Job}
 use Rattle.auc_run.specs.declared.command.Job.TheVariants.{Solve, Check, Hall}
 use Rattle.auction.specs.declared.asked.Words.{Words}
 use Rattle.auction.specs.declared.words_error.WordsError.{WordsError}
-use Rattle.auction.specs.declared.words_error.WordsError.TheVariants.{NoMemory, Usage}
+use Rattle.auction.specs.declared.words_error.WordsError.TheVariants.{AuditAlone, DirectThreads, FromObjects, NoMemory, Usage}
 use Rattle.auction.specs.Arguments.{value_in}
-use Rattle.auction.specs.CommandLine.{AsksFor, IsAuditAlone, IsFromObjects, IsUsage}
-use Rattle.auction.specs.Options.{AreNumbers, AskWrongly, AsksToSolve, HasBoth, HasCheckOf, HasHallOf, HasNumber, HasObjects, HasObjectsJob, HasSolveOf}
+use Rattle.auction.specs.CommandLine.{AsksFor, IsAuditAlone, IsDirectThreads, IsFromObjects, IsUsage}
+use Rattle.auction.specs.Options.{AreNumbers, AskWrongly, AsksToSolve, GoTogether, HasBoth, HasCheckOf, HasHallOf, HasNumber, HasObjects, HasObjectsJob, HasSolveOf, HasThreads, is_direct}
 
 -- the parser was refused memory, and so is its caller
 pub no_memory : (r : Result Words WordsError) (e : WordsError) → IsErrAnd r (λ x. x ≡ e) → e ≡ NoMemory → r ≡ Err NoMemory
@@ -59,8 +59,16 @@ same_numbers same workers bids audit objects h = record {
   of_objects = subst (λ (v : Option Text). HasObjects v objects) (same (codes "objects")) h.of_objects;
 }
 
-same_both : {f g : Text → Option Text} → ((name : Text) → f name ≡ g name) → HasBoth f → HasBoth g
-same_both same h = (ap is_some (sym (same (codes "from"))) ∙ h.0, ap is_some (sym (same (codes "objects"))) ∙ h.1)
+module _ {f g : Text → Option Text} (same : (name : Text) → f name ≡ g name) where
+  same_both : HasBoth f → HasBoth g
+  same_both h = (ap is_some (sym (same (codes "from"))) ∙ h.0, ap is_some (sym (same (codes "objects"))) ∙ h.1)
+
+  same_direct : is_direct f ≡ is_direct g
+  same_direct = ap is_some (same (codes "direct"))
+
+  same_threads : HasThreads f → HasThreads g
+  same_threads (inl h) = inl (ap is_some (sym (same (codes "workers"))) ∙ h)
+  same_threads (inr h) = inr (ap is_some (sym (same (codes "audit"))) ∙ h)
 
 module _ (rows : List Row) (given : List (Text × Text)) (same : (name : Text) → first_of name rows ≡ value_in given name) where
   check_of : (r : Result Words WordsError) → HasCheckOf r rows → HasObjectsJob Check r (value_in given (codes "objects")) (value_in given (codes "file")) (value_in given (codes "cert"))
@@ -84,74 +92,156 @@ module _ (rows : List Row) (given : List (Text × Text)) (same : (name : Text) �
 
 -- ---- a solve
 
-module _ (values : Text → Option Text) (w b a o workers bids audit objects : ℕ) (h : AreNumbers values w b a o) (k : AreNumbers values workers bids audit objects) where
-  one_workers : w ≡ workers
-  one_workers = one_number 0 16 0 (values (codes "workers")) w workers h.of_workers k.of_workers
+-- what the same values ask for
+module _ {f g : Text → Option Text} (same : (name : Text) → f name ≡ g name) where
+  back : (name : Text) → g name ≡ f name
+  back name = sym (same name)
 
-  one_audit : a ≡ audit
-  one_audit = one_number 0 1000000 0 (values (codes "audit")) a audit h.of_audit k.of_audit
+  same_together : (workers audit : ℕ) → GoTogether f workers audit → GoTogether g workers audit
+  same_together workers audit h = record {
+    direct = λ is threads. h.direct (same_direct same ∙ is) (same_threads back threads);
+    trail = λ is none. h.trail (same_direct same ∙ is) none;
+    start = λ is both. h.start (same_direct same ∙ is) (same_both back both);
+  }
 
-  one_solve : Solve w b a o (is_some (values (codes "from"))) ≡ Solve workers bids audit objects (is_some (values (codes "from")))
-  one_solve =
-      let same = one_number 1 1000000000000 100000000 (values (codes "bids")) b bids h.of_bids k.of_bids in
-      let also = one_number 1 20000 0 (values (codes "objects")) o objects h.of_objects k.of_objects in rw (one_workers, same, one_audit, also) refl
+  pub same_asked : (job : Job) → AsksToSolve f job → AsksToSolve g job
+  same_asked job h = (
+    h.0,
+    h.1,
+    h.2,
+    h.3,
+    same_numbers same h.0 h.1 h.2 h.3 h.4,
+    same_together h.0 h.2 h.5,
+    h.6 ∙ ap (λ (v : Option Text). Solve h.0 h.1 h.2 h.3 (is_some v) (is_direct f)) (same (codes "from")) ∙ ap (λ (b : Bool). Solve h.0 h.1 h.2 h.3 (is_some (g (codes "from"))) b) (same_direct same),
+  )
+
+  pub same_wrong : (e : WordsError) → AskWrongly f e → AskWrongly g e
+  same_wrong Usage h = λ workers bids audit objects are. h workers bids audit objects (same_numbers back workers bids audit objects are)
+  same_wrong AuditAlone h = record {
+    bids = h.bids;
+    audit = h.audit;
+    objects = h.objects;
+    numbers = same_numbers same 0 h.bids h.audit h.objects h.numbers;
+    direct = same_direct back ∙ h.direct;
+    some = h.some;
+  }
+  same_wrong NoMemory h = h
+  same_wrong FromObjects h = record {
+    workers = h.workers;
+    bids = h.bids;
+    audit = h.audit;
+    objects = h.objects;
+    numbers = same_numbers same h.workers h.bids h.audit h.objects h.numbers;
+    direct = same_direct back ∙ h.direct;
+    trail = h.trail;
+    both = same_both same h.both;
+  }
+  same_wrong DirectThreads h = record {
+    workers = h.workers;
+    bids = h.bids;
+    audit = h.audit;
+    objects = h.objects;
+    numbers = same_numbers same h.workers h.bids h.audit h.objects h.numbers;
+    direct = same_direct back ∙ h.direct;
+    threads = same_threads same h.threads;
+  }
+
+-- options that ask for these numbers
+module _ (values : Text → Option Text) (workers bids audit objects : ℕ) (are : AreNumbers values workers bids audit objects) where
+  one_workers : (w b a o : ℕ) → AreNumbers values w b a o → w ≡ workers
+  one_workers w b a o h = one_number 0 16 0 (values (codes "workers")) w workers h.of_workers are.of_workers
+
+  one_audit : (w b a o : ℕ) → AreNumbers values w b a o → a ≡ audit
+  one_audit w b a o h = one_number 0 1000000 0 (values (codes "audit")) a audit h.of_audit are.of_audit
+
+  one_solve : (job : Job) → AsksToSolve values job → job ≡ Solve workers bids audit objects (is_some (values (codes "from"))) (is_direct values)
+  one_solve job h =
+      let same = one_number 1 1000000000000 100000000 (values (codes "bids")) h.1 bids h.4.of_bids are.of_bids in
+      let also = one_number 1 20000 0 (values (codes "objects")) h.3 objects h.4.of_objects are.of_objects in
+      h.6 ∙ (rw (one_workers h.0 h.1 h.2 h.3 h.4, same, one_audit h.0 h.1 h.2 h.3 h.4, also) refl)
+
+  not_wrongly : GoTogether values workers audit → (e : WordsError) → AskWrongly values e → ⊥
+  not_wrongly h Usage wrong = wrong workers bids audit objects are
+  not_wrongly h AuditAlone wrong =
+      let none = h.trail wrong.direct (sym (one_workers 0 wrong.bids wrong.audit wrong.objects wrong.numbers)) in
+      omega (arith, none, one_audit 0 wrong.bids wrong.audit wrong.objects wrong.numbers, wrong.some)
+  not_wrongly h NoMemory wrong = wrong
+  not_wrongly h FromObjects wrong = h.start wrong.direct wrong.both
+  not_wrongly h DirectThreads wrong = h.direct wrong.direct wrong.threads
+
+  -- the solver in one hand with threads is at fault for that
+  wants_threads : is_direct values ≡ true → (e : WordsError) → AskWrongly values e → e ≡ DirectThreads
+  wants_threads is Usage wrong = absurd (wrong workers bids audit objects are)
+  wants_threads is AuditAlone wrong = let k = sym is ∙ wrong.direct in absurd cc
+  wants_threads is NoMemory wrong = absurd wrong
+  wants_threads is FromObjects wrong = let k = sym is ∙ wrong.direct in absurd cc
+  wants_threads is DirectThreads wrong = refl
+
+  -- another one with a trail and no threads for that
+  wants_trail : is_direct values ≡ false → workers ≡ 0 → 0 < audit → (e : WordsError) → AskWrongly values e → e ≡ AuditAlone
+  wants_trail is none some Usage wrong = absurd (wrong workers bids audit objects are)
+  wants_trail is none some AuditAlone wrong = refl
+  wants_trail is none some NoMemory wrong = absurd wrong
+  wants_trail is none some FromObjects wrong =
+      let no_trail = wrong.trail (one_workers wrong.workers wrong.bids wrong.audit wrong.objects wrong.numbers ∙ none) in
+      absurd (omega (arith, no_trail, one_audit wrong.workers wrong.bids wrong.audit wrong.objects wrong.numbers, some))
+  wants_trail is none some DirectThreads wrong = let k = sym is ∙ wrong.direct in absurd cc
+
+  -- and then one with a start and a number of objects for that
+  wants_both : is_direct values ≡ false → (workers ≡ 0 → audit ≡ 0) → (e : WordsError) → AskWrongly values e → (GoTogether values workers audit → ⊥) → e ≡ FromObjects
+  wants_both is trail Usage wrong apart = absurd (wrong workers bids audit objects are)
+  wants_both is trail AuditAlone wrong apart =
+      let none = trail (sym (one_workers 0 wrong.bids wrong.audit wrong.objects wrong.numbers)) in
+      absurd (omega (arith, none, one_audit 0 wrong.bids wrong.audit wrong.objects wrong.numbers, wrong.some))
+  wants_both is trail NoMemory wrong apart = absurd wrong
+  wants_both is trail FromObjects wrong apart = refl
+  wants_both is trail DirectThreads wrong apart = let k = sym wrong.direct ∙ is in absurd cc
+
+-- numbers of which there are none
+is_no_number : (values : Text → Option Text) → ((workers bids audit objects : ℕ) → AreNumbers values workers bids audit objects → ⊥) → (e : WordsError) → AskWrongly values e → e ≡ Usage
+is_no_number values none Usage wrong = refl
+is_no_number values none AuditAlone wrong = absurd (none 0 wrong.bids wrong.audit wrong.objects wrong.numbers)
+is_no_number values none NoMemory wrong = absurd wrong
+is_no_number values none FromObjects wrong = absurd (none wrong.workers wrong.bids wrong.audit wrong.objects wrong.numbers)
+is_no_number values none DirectThreads wrong = absurd (none wrong.workers wrong.bids wrong.audit wrong.objects wrong.numbers)
 
 module _ (rows : List Row) (given : List (Text × Text)) (same : (name : Text) → first_of name rows ≡ value_in given name) where
-  pub asks_to_solve : (r : Result Words WordsError) (workers bids audit objects : ℕ) → HasSolveOf r rows → AreNumbers (value_in given) workers bids audit objects → (workers ≡ 0 → audit ≡ 0)
-      → (HasBoth (value_in given) → ⊥) → AsksFor (Solve workers bids audit objects (is_some (value_in given (codes "from")))) r (value_in given (codes "file")) (value_in given (codes "from"))
-  asks_to_solve (Ok words) workers bids audit objects h are with_threads one =
-      let asked = h.0 in
-      let known = same_numbers same asked.0 asked.1 asked.2 asked.3 asked.4 in
-      let job = ap (λ (v : Option Text). Solve asked.0 asked.1 asked.2 asked.3 (is_some v)) (same (codes "from")) in
-      (asked.7 ∙ job ∙ one_solve (value_in given) asked.0 asked.1 asked.2 asked.3 workers bids audit objects known are, h.1.1 ∙ same (codes "file"), h.1.2 ∙ same (codes "from"))
-  asks_to_solve (Err e) workers bids audit objects h are with_threads one = elim h [
-    | inl out ↦ out
-    | inr (inl wrong) ↦ absurd (wrong.1 workers bids audit objects (same_numbers (λ name. sym (same name)) workers bids audit objects are))
-    | inr (inr (inl alone)) ↦
-        let known = same_numbers same 0 alone.1.0 alone.1.1 alone.1.2 alone.1.3 in
-        let none = with_threads (sym (one_workers (value_in given) 0 alone.1.0 alone.1.1 alone.1.2 workers bids audit objects known are)) in
-        absurd (omega (arith, none, one_audit (value_in given) 0 alone.1.0 alone.1.1 alone.1.2 workers bids audit objects known are, alone.1.4))
-    | inr (inr (inr both)) ↦ absurd (one (same_both same both.1.6))
-  ]
+  -- the job that was read, and the numbers with which it goes together
+  asked : (w : Words) → HasSolveOf (Ok w) rows → AsksToSolve (value_in given) w.job
+  asked w h = same_asked same w.job h.0
+
+  pub asks_to_solve : (r : Result Words WordsError) (workers bids audit objects : ℕ) → HasSolveOf r rows → AreNumbers (value_in given) workers bids audit objects → GoTogether (value_in given) workers audit
+      → AsksFor (Solve workers bids audit objects (is_some (value_in given (codes "from"))) (is_direct (value_in given))) r (value_in given (codes "file")) (value_in given (codes "from"))
+  asks_to_solve (Ok w) workers bids audit objects h are together = (one_solve (value_in given) workers bids audit objects are w.job (asked w h), h.1.1 ∙ same (codes "file"), h.1.2 ∙ same (codes "from"))
+  asks_to_solve (Err e) workers bids audit objects (inl out) are together = out
+  asks_to_solve (Err e) workers bids audit objects (inr wrong) are together = absurd (not_wrongly (value_in given) workers bids audit objects are together e (same_wrong same e wrong))
 
   pub asks_wrongly : (r : Result Words WordsError) → HasSolveOf r rows → ((workers bids audit objects : ℕ) → AreNumbers (value_in given) workers bids audit objects → ⊥) → IsUsage r
-  asks_wrongly (Ok words) h none = let asked = h.0 in absurd (none asked.0 asked.1 asked.2 asked.3 (same_numbers same asked.0 asked.1 asked.2 asked.3 asked.4))
-  asks_wrongly (Err e) h none = elim h [
-    | inl out ↦ inr out
-    | inr (inl wrong) ↦ inl wrong.0
-    | inr (inr (inl alone)) ↦ absurd (none 0 alone.1.0 alone.1.1 alone.1.2 (same_numbers same 0 alone.1.0 alone.1.1 alone.1.2 alone.1.3))
-    | inr (inr (inr both)) ↦ absurd (none both.1.0 both.1.1 both.1.2 both.1.3 (same_numbers same both.1.0 both.1.1 both.1.2 both.1.3 both.1.4))
-  ]
+  asks_wrongly (Ok w) h none = let a = asked w h in absurd (none a.0 a.1 a.2 a.3 a.4)
+  asks_wrongly (Err e) (inl out) none = inr out
+  asks_wrongly (Err e) (inr wrong) none = inl (is_no_number (value_in given) none e (same_wrong same e wrong))
 
-  pub asks_alone : (r : Result Words WordsError) (bids audit objects : ℕ) → HasSolveOf r rows → AreNumbers (value_in given) 0 bids audit objects → 0 < audit → IsAuditAlone r
-  asks_alone (Ok words) bids audit objects h are some =
-      let asked = h.0 in
-      let known = same_numbers same asked.0 asked.1 asked.2 asked.3 asked.4 in
-      let none = asked.5 (one_workers (value_in given) asked.0 asked.1 asked.2 asked.3 0 bids audit objects known are) in
-      absurd (omega (arith, none, one_audit (value_in given) asked.0 asked.1 asked.2 asked.3 0 bids audit objects known are, some))
-  asks_alone (Err e) bids audit objects h are some = elim h [
-    | inl out ↦ inr out
-    | inr (inl wrong) ↦ absurd (wrong.1 0 bids audit objects (same_numbers (λ name. sym (same name)) 0 bids audit objects are))
-    | inr (inr (inl alone)) ↦ inl alone.0
-    | inr (inr (inr both)) ↦
-        let asked = both.1 in
-        let known = same_numbers same asked.0 asked.1 asked.2 asked.3 asked.4 in
-        let none = asked.5 (one_workers (value_in given) asked.0 asked.1 asked.2 asked.3 0 bids audit objects known are) in
-        absurd (omega (arith, none, one_audit (value_in given) asked.0 asked.1 asked.2 asked.3 0 bids audit objects known are, some))
-  ]
+  pub asks_threads : (r : Result Words WordsError) (workers bids audit objects : ℕ) → HasSolveOf r rows → AreNumbers (value_in given) workers bids audit objects → is_direct (value_in given) ≡ true
+      → HasThreads (value_in given) → IsDirectThreads r
+  asks_threads (Ok w) workers bids audit objects h are is threads = let a = asked w h in absurd (a.5.direct is threads)
+  asks_threads (Err e) workers bids audit objects (inl out) are is threads = inr out
+  asks_threads (Err e) workers bids audit objects (inr wrong) are is threads = inl (wants_threads (value_in given) workers bids audit objects are is e (same_wrong same e wrong))
 
-  pub asks_both : (r : Result Words WordsError) (workers bids audit objects : ℕ) → HasSolveOf r rows → AreNumbers (value_in given) workers bids audit objects → (workers ≡ 0 → audit ≡ 0)
-      → HasBoth (value_in given) → IsFromObjects r
-  asks_both (Ok words) workers bids audit objects h are with_threads two = absurd (h.0.6 (same_both (λ name. sym (same name)) two))
-  asks_both (Err e) workers bids audit objects h are with_threads two = elim h [
-    | inl out ↦ inr out
-    | inr (inl wrong) ↦ absurd (wrong.1 workers bids audit objects (same_numbers (λ name. sym (same name)) workers bids audit objects are))
-    | inr (inr (inl alone)) ↦
-        let known = same_numbers same 0 alone.1.0 alone.1.1 alone.1.2 alone.1.3 in
-        let none = with_threads (sym (one_workers (value_in given) 0 alone.1.0 alone.1.1 alone.1.2 workers bids audit objects known are)) in
-        absurd (omega (arith, none, one_audit (value_in given) 0 alone.1.0 alone.1.1 alone.1.2 workers bids audit objects known are, alone.1.4))
-    | inr (inr (inr both)) ↦ inl both.0
-  ]
+  pub asks_alone : (r : Result Words WordsError) (bids audit objects : ℕ) → HasSolveOf r rows → AreNumbers (value_in given) 0 bids audit objects → is_direct (value_in given) ≡ false → 0 < audit
+      → IsAuditAlone r
+  asks_alone (Ok w) bids audit objects h are is some =
+      let a = asked w h in
+      let none = a.5.trail is (one_workers (value_in given) 0 bids audit objects are a.0 a.1 a.2 a.3 a.4) in
+      absurd (omega (arith, none, one_audit (value_in given) 0 bids audit objects are a.0 a.1 a.2 a.3 a.4, some))
+  asks_alone (Err e) bids audit objects (inl out) are is some = inr out
+  asks_alone (Err e) bids audit objects (inr wrong) are is some = inl (wants_trail (value_in given) 0 bids audit objects are is refl some e (same_wrong same e wrong))
+
+  pub asks_both : (r : Result Words WordsError) (workers bids audit objects : ℕ) → HasSolveOf r rows → AreNumbers (value_in given) workers bids audit objects → is_direct (value_in given) ≡ false
+      → (workers ≡ 0 → audit ≡ 0) → HasBoth (value_in given) → IsFromObjects r
+  asks_both (Ok w) workers bids audit objects h are is trail both = let a = asked w h in absurd (a.5.start is both)
+  asks_both (Err e) workers bids audit objects (inl out) are is trail both = inr out
+  asks_both (Err e) workers bids audit objects (inr wrong) are is trail both =
+      inl (wants_both (value_in given) workers bids audit objects are is trail e (same_wrong same e wrong) (λ together. together.start is both))
 
 -- ---- the matches' first values are those of their rows
 
@@ -168,24 +258,10 @@ without_job (Err x) rows e same wrong = inr (rw same wrong)
 
 module _ (found : Found) where
   pub by_rows : (job : Job) → AsksToSolve (λ name. first_value found name) job → AsksToSolve (λ name. first_of name (rows_of found)) job
-  by_rows job h = (
-    h.0,
-    h.1,
-    h.2,
-    h.3,
-    same_numbers (first_value-rows found) h.0 h.1 h.2 h.3 h.4,
-    h.5,
-    λ both. h.6 (same_both (λ name. sym (first_value-rows found name)) both),
-    h.7 ∙ ap (λ (v : Option Text). Solve h.0 h.1 h.2 h.3 (is_some v)) (first_value-rows found (codes "from")),
-  )
+  by_rows job h = same_asked (first_value-rows found) job h
 
   pub wrong_by_rows : (e : WordsError) → AskWrongly (λ name. first_value found name) e → AskWrongly (λ name. first_of name (rows_of found)) e
-  wrong_by_rows e (inl h) = inl (h.0, λ w b a o are. h.1 w b a o (same_numbers (λ name. sym (first_value-rows found name)) w b a o are))
-  wrong_by_rows e (inr (inl h)) = inr (inl (h.0, (h.1.0, h.1.1, h.1.2, same_numbers (first_value-rows found) 0 h.1.0 h.1.1 h.1.2 h.1.3, h.1.4)))
-  wrong_by_rows e (inr (inr h)) = inr (inr (
-    h.0,
-    (h.1.0, h.1.1, h.1.2, h.1.3, same_numbers (first_value-rows found) h.1.0 h.1.1 h.1.2 h.1.3 h.1.4, h.1.5, same_both (first_value-rows found) h.1.6),
-  ))
+  wrong_by_rows e h = same_wrong (first_value-rows found) e h
 
   module _ (job : ℕ → Job) (r : Result Words WordsError) (first second : Option Text) where
     pub with_objects : (n : ℕ) → HasObjects (first_value found (codes "objects")) n → AsksFor (job n) r first second → HasObjectsJob job r (first_of (codes "objects") (rows_of found)) first second

@@ -8,10 +8,10 @@ use Rattle.clap.specs.Simple.{App, Shape, built, entered, is_simple, label_of, n
 use Rattle.clap.specs.Takes.{default_passes, entered_passes, is_given, is_valid, level_passes, settle_passes, takes, walk_passes}
 use Rattle.clap.proofs.OnLiterals.{clap_on_literals}
 use Rattle.clap.proofs.WalkLemmas.{walk_stopped}
-use Rattle.auction.specs.Arguments.{AreCheck, AreCheckOf, AreCommand, AreHallOf, AreJob, AreSolve, solve_options, value_in}
+use Rattle.auction.specs.Arguments.{AreCheck, AreCheckOf, AreCommand, AreHallOf, AreJob, AreSolve, solve_flags, solve_options, value_in}
 use Rattle.auction.specs.Grammar.{grammar}
-use Rattle.auction.specs.Options.{AreNumbers, HasBoth, HasObjects}
-use Rattle.auction.proofs.WalkLaws.{AreRules, IsLong, built_rule, built_shape, command_rows, first_values, row_of_value}
+use Rattle.auction.specs.Options.{AreNumbers, GoTogether, HasObjects, is_direct}
+use Rattle.auction.proofs.WalkLaws.{AreRules, IsLong, built_flag, built_rule, built_shape, command_rows, first_values, row_of_value}
 
 -- the command and its subcommands, as the parser builds them
 abbrev all_built : App
@@ -31,7 +31,7 @@ mail_rules = built_rule (codes "script") None (Some 1) false ∷ []
 
 abbrev solve_rules : List Rule
 solve_rules = built_rule (codes "file") None (Some 1) false ∷ option_built (codes "workers") ∷ option_built (codes "bids") ∷ option_built (codes "audit")
-    ∷ option_built (codes "objects") ∷ option_built (codes "from") ∷ []
+    ∷ option_built (codes "objects") ∷ option_built (codes "from") ∷ built_flag (codes "direct") ∷ []
 
 -- the arguments have no defaults
 either_way : (b : Bool) (rows : List Row) → cond b rows rows ≡ rows
@@ -55,34 +55,40 @@ objects_long = record { alone = refl; valued = λ value. refl; is_more = refl; i
 from_long : IsLong (codes "from")
 from_long = record { alone = refl; valued = λ value. refl; is_more = refl; is_more_valued = λ value. refl }
 
-check_are : AreRules (codes "check") check_rules (codes "objects" ∷ []) (codes "file" ∷ codes "cert" ∷ [])
+direct_long : IsLong (codes "direct")
+direct_long = record { alone = refl; valued = λ value. refl; is_more = refl; is_more_valued = λ value. refl }
+
+check_are : AreRules (codes "check") check_rules (codes "objects" ∷ []) [] (codes "file" ∷ codes "cert" ∷ [])
 check_are = record {
   options_known = (record { by_long = refl; by_id = refl; is_long = objects_long }, tt);
+  flags_known = tt;
   files_known = (record { required = true; by_index = refl; by_id = refl }, (record { required = false; by_index = refl; by_id = refl }, tt));
   no_defaults = refl;
   free = refl;
   same_rows = λ rows. simp either_way;
 }
 
-hall_are : AreRules (codes "hall") hall_rules (codes "objects" ∷ []) (codes "file" ∷ [])
+hall_are : AreRules (codes "hall") hall_rules (codes "objects" ∷ []) [] (codes "file" ∷ [])
 hall_are = record {
   options_known = (record { by_long = refl; by_id = refl; is_long = objects_long }, tt);
+  flags_known = tt;
   files_known = (record { required = false; by_index = refl; by_id = refl }, tt);
   no_defaults = refl;
   free = refl;
   same_rows = λ rows. simp either_way;
 }
 
-mail_are : AreRules (codes "mail") mail_rules [] (codes "script" ∷ [])
+mail_are : AreRules (codes "mail") mail_rules [] [] (codes "script" ∷ [])
 mail_are = record {
   options_known = tt;
+  flags_known = tt;
   files_known = (record { required = false; by_index = refl; by_id = refl }, tt);
   no_defaults = refl;
   free = refl;
   same_rows = λ rows. simp either_way;
 }
 
-solve_are : AreRules (codes "solve") solve_rules solve_options (codes "file" ∷ [])
+solve_are : AreRules (codes "solve") solve_rules solve_options solve_flags (codes "file" ∷ [])
 solve_are = record {
   options_known = (
     record { by_long = refl; by_id = refl; is_long = workers_long },
@@ -94,6 +100,7 @@ solve_are = record {
       ),
     ),
   );
+  flags_known = (record { by_long = refl; is_long = direct_long }, tt);
   files_known = (record { required = false; by_index = refl; by_id = refl }, tt);
   no_defaults = refl;
   free = refl;
@@ -158,7 +165,7 @@ pub record Fits (words : List Text) (command : Text) (given : List (Text × Text
   pub found : subcommand_of grammar words ≡ Some (command, rows)
   pub values : (name : Text) → first_of name rows ≡ value_in given name
 
-module _ (command : Text) (rules : List Rule) (left : IsLeft command rules) (options files : List Text) (are : AreRules command rules options files) where
+module _ (command : Text) (rules : List Rule) (left : IsLeft command rules) (options flags files : List Text) (are : AreRules command rules options flags files) where
   command_found : (rest : List Text) → subcommand_of grammar (command ∷ rest) ≡ Some (command, rows_after rules [] rest)
   unfolding clap_on_literals
   command_found rest = ap (λ (w : Walk). entered all_built w.stopped) (left.stops rest) ∙ simp left.named
@@ -167,10 +174,10 @@ module _ (command : Text) (rules : List Rule) (left : IsLeft command rules) (opt
   unfolding clap_on_literals
   command_taken rest h = ap₂ takes_by (left.stops rest) (left.passes rest) ∙ simp (left.named, h)
 
-  command_fits : (words : List Text) (given : List (Text × Text)) → AreCommand command options files words given
+  command_fits : (words : List Text) (given : List (Text × Text)) → AreCommand command options flags files words given
       → list_all (λ a. not a.required || is_given a.id (map row_of_value given)) rules ≡ true → Fits words command given
   command_fits words given h required =
-      let level = command_rows command rules options files are given h.0 h.2 h.3 required in
+      let level = command_rows command rules options flags files are given h.0 h.2 h.3 required in
       rw (h.1) (record {
         taken = command_taken h.0 level.0;
         rows = map row_of_value given;
@@ -181,10 +188,10 @@ module _ (command : Text) (rules : List Rule) (left : IsLeft command rules) (opt
 -- ---- each command
 
 pub solve_fits : (words : List Text) (given : List (Text × Text)) → AreSolve words given → Fits words (codes "solve") given
-solve_fits words given h = command_fits (codes "solve") solve_rules solve_left solve_options (codes "file" ∷ []) solve_are words given h refl
+solve_fits words given h = command_fits (codes "solve") solve_rules solve_left solve_options solve_flags (codes "file" ∷ []) solve_are words given h refl
 
 pub hall_fits : (words : List Text) (given : List (Text × Text)) → AreHallOf words given → Fits words (codes "hall") given
-hall_fits words given h = command_fits (codes "hall") hall_rules hall_left (codes "objects" ∷ []) (codes "file" ∷ []) hall_are words given h refl
+hall_fits words given h = command_fits (codes "hall") hall_rules hall_left (codes "objects" ∷ []) [] (codes "file" ∷ []) hall_are words given h refl
 
 -- an argument is there where it has a value
 given_row : (given : List (Text × Text)) (name : Text) → is_given name (map row_of_value given) ≡ is_some (value_in given name)
@@ -197,7 +204,7 @@ given_row (first ∷ given) name = elim (cases_Bool (bytes_eq first.0 name)) [
 pub check_fits : (words : List Text) (given : List (Text × Text)) → AreCheckOf words given → Fits words (codes "check") given
 check_fits words given h =
     let there : is_given (codes "file") (map row_of_value given) ≡ true = given_row given (codes "file") ∙ h.1 in
-    command_fits (codes "check") check_rules check_left (codes "objects" ∷ []) (codes "file" ∷ codes "cert" ∷ []) check_are words given h.0 (simp there)
+    command_fits (codes "check") check_rules check_left (codes "objects" ∷ []) [] (codes "file" ∷ codes "cert" ∷ []) check_are words given h.0 (simp there)
 
 -- ---- commands without options
 
@@ -218,27 +225,31 @@ pub no_certificate : (file : Option Text) → value_in (named (codes "file") fil
 no_certificate None = refl
 no_certificate (Some file) = refl
 
-pub one_at_most : (file : Option Text) → HasBoth (value_in (named (codes "file") file)) → ⊥
-one_at_most None h = absurd cc
-one_at_most (Some file) h = absurd cc
+pub not_direct : (file : Option Text) → is_direct (value_in (named (codes "file") file)) ≡ false
+not_direct None = refl
+not_direct (Some file) = refl
+
+pub usual_together : (file : Option Text) → GoTogether (value_in (named (codes "file") file)) 0 0
+usual_together None = record { direct = λ e. absurd cc; trail = λ e none. refl; start = λ e both. absurd cc }
+usual_together (Some file) = record { direct = λ e. absurd cc; trail = λ e none. refl; start = λ e both. absurd cc }
 
 pub usual_numbers : (file : Option Text) → AreNumbers (value_in (named (codes "file") file)) 0 100000000 0 0
 usual_numbers None = record { of_workers = refl; of_bids = refl; of_audit = refl; of_objects = refl }
 usual_numbers (Some file) = record { of_workers = refl; of_bids = refl; of_audit = refl; of_objects = refl }
 
-only_named : (command : Text) (options : List Text) (id : Text) (words : List Text) (name : Option Text) → AreJob command words name → AreCommand command options (id ∷ []) words (named id name)
+only_named : (command : Text) (options flags : List Text) (id : Text) (words : List Text) (name : Option Text) → AreJob command words name → AreCommand command options flags (id ∷ []) words (named id name)
 unfolding IsDistinct
-only_named command options id words None h = ([], h, refl, tt)
-only_named command options id words (Some name) h = (name ∷ [], h.1, ([], name ∷ [], [], inl (refl, h.0, refl), refl, refl), (tt, tt))
+only_named command options flags id words None h = ([], h, refl, tt)
+only_named command options flags id words (Some name) h = (name ∷ [], h.1, ([], name ∷ [], [], inl (refl, h.0, refl), refl, refl), (tt, tt))
 
 pub plain_solve_fits : (words : List Text) (file : Option Text) → AreJob (codes "solve") words file → Fits words (codes "solve") (named (codes "file") file)
-plain_solve_fits words file h = solve_fits words (named (codes "file") file) (only_named (codes "solve") solve_options (codes "file") words file h)
+plain_solve_fits words file h = solve_fits words (named (codes "file") file) (only_named (codes "solve") solve_options solve_flags (codes "file") words file h)
 
 pub plain_hall_fits : (words : List Text) (file : Option Text) → AreJob (codes "hall") words file → Fits words (codes "hall") (named (codes "file") file)
-plain_hall_fits words file h = hall_fits words (named (codes "file") file) (only_named (codes "hall") (codes "objects" ∷ []) (codes "file") words file h)
+plain_hall_fits words file h = hall_fits words (named (codes "file") file) (only_named (codes "hall") (codes "objects" ∷ []) [] (codes "file") words file h)
 
 pub mail_fits : (words : List Text) (script : Option Text) → AreJob (codes "mail") words script → Fits words (codes "mail") (named (codes "script") script)
-mail_fits words script h = command_fits (codes "mail") mail_rules mail_left [] (codes "script" ∷ []) mail_are words (named (codes "script") script) (only_named (codes "mail") [] (codes "script") words script h) refl
+mail_fits words script h = command_fits (codes "mail") mail_rules mail_left [] [] (codes "script" ∷ []) mail_are words (named (codes "script") script) (only_named (codes "mail") [] [] (codes "script") words script h) refl
 
 -- what the names of a problem and of a certificate give
 abbrev pub both_named : Text → Option Text → List (Text × Text)
@@ -269,7 +280,8 @@ plain_check words file (Some cert) h = (
 pub plain_check_fits : (words : List Text) (file : Text) (cert : Option Text) → AreCheck words file cert → Fits words (codes "check") (both_named file cert)
 plain_check_fits words file cert h = check_fits words (both_named file cert) (plain_check words file cert h)
 
--- ---- examples: a solve with FILE between two options, one in a word and one in two; and a check with the option between FILE and CERT
+-- ---- examples: a solve with FILE between two options, one in a word and one in two; one in one hand, with the flag between an option and FILE; and a check with the option
+-- between FILE and CERT
 
 example_given : List (Text × Text)
 example_given = (codes "audit", codes "5") ∷ (codes "file", codes "problem") ∷ (codes "workers", codes "+02") ∷ []
@@ -283,13 +295,13 @@ example_words = (
     codes "file" ∷ [],
     codes "--audit=5" ∷ [],
     codes "problem" ∷ codes "--workers" ∷ codes "+02" ∷ [],
-    inr (inr (inr (inl refl)), inr refl, refl),
+    inr (inl (inr (inr (inl refl)), inr refl, refl)),
     (
       [],
       codes "problem" ∷ [],
       codes "--workers" ∷ codes "+02" ∷ [],
       inl (refl, search obvious, refl),
-      ([], codes "--workers" ∷ codes "+02" ∷ [], [], inr (inl refl, inl (search obvious, refl), refl), refl, refl),
+      ([], codes "--workers" ∷ codes "+02" ∷ [], [], inr (inl (inl refl, inl (search obvious, refl), refl)), refl, refl),
       refl,
     ),
     refl,
@@ -300,6 +312,32 @@ example_words = (
 example_numbers : AreNumbers (value_in example_given) 2 100000000 5 0
 unfolding example_given
 example_numbers = record { of_workers = search obvious; of_bids = refl; of_audit = search obvious; of_objects = refl }
+
+direct_given : List (Text × Text)
+direct_given = (codes "bids", codes "9") ∷ (codes "direct", codes "true") ∷ (codes "file", codes "problem") ∷ []
+
+direct_words : AreSolve (codes "solve" ∷ codes "--bids=9" ∷ codes "--direct" ∷ codes "problem" ∷ []) direct_given
+unfolding IsDistinct direct_given
+direct_words = (
+  codes "--bids=9" ∷ codes "--direct" ∷ codes "problem" ∷ [],
+  refl,
+  (
+    codes "file" ∷ [],
+    codes "--bids=9" ∷ [],
+    codes "--direct" ∷ codes "problem" ∷ [],
+    inr (inl (inr (inl refl), inr refl, refl)),
+    (
+      codes "file" ∷ [],
+      codes "--direct" ∷ [],
+      codes "problem" ∷ [],
+      inr (inr ((inl refl, refl, refl), refl)),
+      ([], codes "problem" ∷ [], [], inl (refl, search obvious, refl), refl, refl),
+      refl,
+    ),
+    refl,
+  ),
+  ((refl, (refl, tt)), ((refl, tt), (tt, tt))),
+)
 
 check_given : List (Text × Text)
 check_given = (codes "file", codes "problem") ∷ (codes "objects", codes "3") ∷ (codes "cert", codes "claim") ∷ []
@@ -319,7 +357,7 @@ check_words = (
         codes "cert" ∷ [],
         codes "--objects=3" ∷ [],
         codes "claim" ∷ [],
-        inr (inl refl, inr refl, refl),
+        inr (inl (inl refl, inr refl, refl)),
         ([], codes "claim" ∷ [], [], inl (refl, search obvious, refl), refl, refl),
         refl,
       ),

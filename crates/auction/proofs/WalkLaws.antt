@@ -32,6 +32,16 @@ built_rule name long index required = record (new_rule name) {
   parser = Some parser.String;
 }
 
+-- a flag as the parser builds it: it takes no value, and `true` stands for it
+abbrev pub built_flag : Text → Rule
+built_flag name = record (new_rule name) {
+  long = Some name;
+  action = Some Set;
+  range = Some (record { start_inclusive = 0; end_inclusive = 0 });
+  missing = codes "true" ∷ [];
+  parser = Some parser.String;
+}
+
 -- a command as the parser builds it
 abbrev pub built_shape : Text → List Rule → Shape
 built_shape name rules = record (new_shape name) {
@@ -58,6 +68,11 @@ pub record IsLong (name : Text) : Type 0 where
 pub record HasOption (rules : List Rule) (name : Text) : Type 0 where
   pub by_long : arg_by_long rules name ≡ Some (built_rule name (Some name) None false)
   pub by_id : arg_by_id rules name ≡ Some (built_rule name (Some name) None false)
+  pub is_long : IsLong name
+
+-- the rules have this flag
+pub record HasFlag (rules : List Rule) (name : Text) : Type 0 where
+  pub by_long : arg_by_long rules name ≡ Some (built_flag name)
   pub is_long : IsLong name
 
 -- the rules have this positional in this place
@@ -123,6 +138,15 @@ module _ (command : Text) (rules : List Rule) where
     one_word name value has fresh =
         let row = new_row (name, value) rows fresh in
         (simp (has.is_long.is_more_valued value, has.is_long.valued value, has.by_long, settles, passes, fresh), simp (has.is_long.is_more_valued value, has.is_long.valued value, has.by_long, settles, row))
+
+    -- a flag has its row at once
+    flag_word : (name : Text) → HasFlag rules name → has_row name rows ≡ false
+        → (turn_passes shape [] (walk_at so_far pending position) (codes "--" ++ name) ≡ true)
+        × (walked rules [] (walk_at so_far pending position) (codes "--" ++ name) ≡ walk_at (rows ++ row_of_value (name, codes "true") ∷ []) None position)
+    unfolding clap_on_literals
+    flag_word name has fresh =
+        let row = new_row (name, codes "true") rows fresh in
+        (simp (has.is_long.is_more, has.is_long.alone, has.by_long, settles, passes, fresh), simp (has.is_long.is_more, has.is_long.alone, has.by_long, settles, row))
 
     -- an option alone waits for its value
     option_word : (name : Text) → HasOption rules name
@@ -202,37 +226,43 @@ module _ (command : Text) (rules : List Rule) where
       let waits = waits_in given rows known fresh in
       record { so_far = rows; pending = Some (given.0, given.1 ∷ []); position = position; is = refl; settles = waits.0; passes = waits.1 position; place = place }
 
-  -- one of the options has what they all have
-  one_of : (options : List Text) (name : Text) → AllByRecursion (HasOption rules) options → IsOneOf name options → HasOption rules name
-  one_of [] name all none = elim none [ ]
-  one_of (first ∷ options) name all (inl same) = rw same all.0
-  one_of (first ∷ options) name all (inr later) = one_of options name all.1 later
+  -- one of some names has what they all have
+  one_of : (P : Text → Type 0) (names : List Text) (name : Text) → AllByRecursion P names → IsOneOf name names → P name
+  one_of P [] name all none = elim none [ ]
+  one_of P (first ∷ names) name all (inl same) = rw same all.0
+  one_of P (first ∷ names) name all (inr later) = one_of P names name all.1 later
 
-  module _ (options : List Text) (known : AllByRecursion (HasOption rules) options) where
-    argument_goes : (w : Walk) (rows : List Row) (files left : List Text) (given : Text × Text) (front : List Text) → Stands w rows files → AreArgument options files left given front
+  module _ (options flags : List Text) (known : AllByRecursion (HasOption rules) options) (known_flags : AllByRecursion (HasFlag rules) flags) where
+    argument_goes : (w : Walk) (rows : List Row) (files left : List Text) (given : Text × Text) (front : List Text) → Stands w rows files → AreArgument options flags files left given front
         → has_row given.0 rows ≡ false → Goes w front (rows ++ row_of_value given ∷ []) left
     argument_goes w rows files left given front s (inl file) fresh =
         let place : HasFiles rules s.position (given.0 ∷ left) = rw file.0 at s.place in
         let step = file_word s.so_far rows s.pending s.position s.settles s.passes given.0 given.1 place.0 file.1 in
         let stands = stands_waiting given rows _ left (None, Some s.position, place.0.required, place.0.by_id) fresh place.1 in
         rw (file.2, s.is) (one_goes _ _ given.1 _ left step.0 step.1 stands)
-    argument_goes w rows files left given front s (inr (name, inl two, same)) fresh =
-        let has = one_of options given.0 known name in
+    argument_goes w rows files left given front s (inr (inl (name, inl two, same))) fresh =
+        let has = one_of (HasOption rules) options given.0 known name in
         let word = option_word s.so_far rows s.pending s.position s.settles s.passes given.0 has in
         let step = value_word rows given.0 given.1 s.position has two.0 in
         let stands = stands_waiting given rows s.position left (Some given.0, None, false, has.by_id) fresh (rw same at s.place) in
         let last = one_goes _ _ given.1 _ left step.0 step.1 stands in
         rw (two.1, s.is) (record { taken = two_taken _ _ _ _ word.0 word.1 last.taken; stands = rw word.1 last.stands })
-    argument_goes w rows files left given front s (inr (name, inr one, same)) fresh =
-        let has = one_of options given.0 known name in
+    argument_goes w rows files left given front s (inr (inl (name, inr one, same))) fresh =
+        let has = one_of (HasOption rules) options given.0 known name in
         let step = one_word s.so_far rows s.pending s.position s.settles s.passes given.0 given.1 has fresh in
         let stands : Stands (walk_at (rows ++ row_of_value given ∷ []) None s.position) (rows ++ row_of_value given ∷ []) left =
         record { so_far = rows ++ row_of_value given ∷ []; pending = None; position = s.position; is = refl; settles = refl; passes = refl; place = rw same at s.place } in
         rw (one, s.is) (one_goes _ _ _ _ left step.0 step.1 stands)
+    argument_goes w rows files left given front s (inr (inr (is, same))) fresh =
+        let has = one_of (HasFlag rules) flags given.0 known_flags is.0 in
+        let step = flag_word s.so_far rows s.pending s.position s.settles s.passes given.0 has fresh in
+        let stands : Stands (walk_at (rows ++ row_of_value (given.0, codes "true") ∷ []) None s.position) (rows ++ row_of_value (given.0, codes "true") ∷ []) left =
+        record { so_far = rows ++ row_of_value (given.0, codes "true") ∷ []; pending = None; position = s.position; is = refl; settles = refl; passes = refl; place = rw same at s.place } in
+        rw (is.1, is.2, s.is) (one_goes _ _ _ _ left step.0 step.1 stands)
 
     -- ---- all words
 
-    all_go : (given : List (Text × Text)) (words : List Text) (w : Walk) (rows : List Row) (files : List Text) → Stands w rows files → AreArguments options files given words
+    all_go : (given : List (Text × Text)) (words : List Text) (w : Walk) (rows : List Row) (files : List Text) → Stands w rows files → AreArguments options flags files given words
         → IsDistinct bytes_eq (keys_of given) → AllByRecursion (λ name. has_row name rows ≡ false) (keys_of given) → (left : List Text) × Goes w words (rows ++ map row_of_value given) left
     unfolding walk_passes IsDistinct
     all_go [] words w rows files s h distinct fresh = (files, rw (h, append-nil rows) (record { taken = refl; stands = s }))
@@ -241,22 +271,23 @@ module _ (command : Text) (rules : List Rule) where
         let rest = all_go given h.2 _ (rows ++ row_of_value first ∷ []) h.0 one.stands h.4 distinct.1 (still_absent first rows (keys_of given) distinct.0 fresh.1) in
         (rest.0, rw (h.5, ← append_assoc rows (row_of_value first ∷ []) (map row_of_value given)) (goes_on w h.1 h.2 _ _ h.0 rest.0 one rest.1))
 
-  -- the rules are those of a command with these options and these positionals
-  pub record AreRules (options files : List Text) : Type 0 where
+  -- the rules are those of a command with these options, these flags and these positionals
+  pub record AreRules (options flags files : List Text) : Type 0 where
     pub options_known : AllByRecursion (HasOption rules) options
+    pub flags_known : AllByRecursion (HasFlag rules) flags
     pub files_known : HasFiles rules 1 files
     pub no_defaults : list_all default_passes rules ≡ true
     pub free : list_all (λ a. a.is_free) rules ≡ true
     pub same_rows : (rows : List Row) → fold with_default rows rules ≡ rows
 
   -- the parser takes the words of the command, and has a row for each argument that they give
-  pub command_rows : (options files : List Text) → AreRules options files → (given : List (Text × Text)) (words : List Text) → AreArguments options files given words
+  pub command_rows : (options flags files : List Text) → AreRules options flags files → (given : List (Text × Text)) (words : List Text) → AreArguments options flags files given words
       → IsDistinct bytes_eq (keys_of given) → list_all (λ a. not a.required || is_given a.id (map row_of_value given)) rules ≡ true
       → (level_passes shape [] nothing_held words false ≡ true) × (rows_after rules [] words ≡ map row_of_value given)
-  command_rows options files are given words h distinct required =
+  command_rows options flags files are given words h distinct required =
       let start : Stands (walk_at [] None 1) [] files =
       record { so_far = []; pending = None; position = 1; is = refl; settles = refl; passes = refl; place = are.files_known } in
-      let goes = (all_go options are.options_known given words (walk_at [] None 1) [] files start h distinct (none_yet (keys_of given))).1 in
+      let goes = (all_go options flags are.options_known are.flags_known given words (walk_at [] None 1) [] files start h distinct (none_yet (keys_of given))).1 in
       let end = goes.stands in
       (simp (goes.taken, end.is, end.passes, end.settles, are.no_defaults, are.free, are.same_rows, required), simp (end.is, end.settles, are.same_rows))
 

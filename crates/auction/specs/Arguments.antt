@@ -18,20 +18,24 @@ IsOneOf name (first ∷ names) = (name ≡ first) ⊎ IsOneOf name names
 abbrev pub AreOption : List ℕ → List ℕ → List (List ℕ) → Type 0
 AreOption option value words = (IsName value × (words ≡ option ∷ value ∷ [])) ⊎ (words ≡ (option ++ codes "=" ++ value) ∷ [])
 
--- the words give an argument its value: the next of these files its name, and then the others are left; or one of these options its value
-abbrev pub AreArgument : List (List ℕ) → List (List ℕ) → List (List ℕ) → List ℕ × List ℕ → List (List ℕ) → Type 0
-AreArgument options files left given words = ((files ≡ given.0 ∷ left) × IsName given.1 × (words ≡ given.1 ∷ []))
-    ⊎ (IsOneOf given.0 options × AreOption (codes "--" ++ given.0) given.1 words × (files ≡ left))
+-- the words are one of these flags, which has no value, and stands for `true`
+abbrev pub IsFlag : List (List ℕ) → List ℕ × List ℕ → List (List ℕ) → Type 0
+IsFlag flags given words = IsOneOf given.0 flags × (given.1 ≡ codes "true") × (words ≡ (codes "--" ++ given.0) ∷ [])
 
--- the words give these arguments their values, one behind the other: files in their order, and options anywhere among them
-abbrev pub AreArguments : List (List ℕ) → List (List ℕ) → List (List ℕ × List ℕ) → List (List ℕ) → Type 0
-AreArguments options files [] words = words ≡ []
-AreArguments options files (first ∷ given) words =
-    (left : List (List ℕ)) × (front : List (List ℕ)) × (rest : List (List ℕ)) × AreArgument options files left first front × AreArguments options left given rest × (words ≡ front ++ rest)
+-- the words give an argument its value: the next of these files its name, and then the others are left; or one of these options its value; or they are one of these flags
+abbrev pub AreArgument : List (List ℕ) → List (List ℕ) → List (List ℕ) → List (List ℕ) → List ℕ × List ℕ → List (List ℕ) → Type 0
+AreArgument options flags files left given words = ((files ≡ given.0 ∷ left) × IsName given.1 × (words ≡ given.1 ∷ []))
+    ⊎ ((IsOneOf given.0 options × AreOption (codes "--" ++ given.0) given.1 words × (files ≡ left)) ⊎ (IsFlag flags given words × (files ≡ left)))
 
--- the words are a command with these options and these files, and give these arguments their values, in this order and none twice
-abbrev pub AreCommand : List ℕ → List (List ℕ) → List (List ℕ) → List (List ℕ) → List (List ℕ × List ℕ) → Type 0
-AreCommand command options files words given = (rest : List (List ℕ)) × (words ≡ command ∷ rest) × AreArguments options files given rest × IsDistinct bytes_eq (keys_of given)
+-- the words give these arguments their values, one behind the other: files in their order, and options and flags anywhere among them
+abbrev pub AreArguments : List (List ℕ) → List (List ℕ) → List (List ℕ) → List (List ℕ × List ℕ) → List (List ℕ) → Type 0
+AreArguments options flags files [] words = words ≡ []
+AreArguments options flags files (first ∷ given) words =
+    (left : List (List ℕ)) × (front : List (List ℕ)) × (rest : List (List ℕ)) × AreArgument options flags files left first front × AreArguments options flags left given rest × (words ≡ front ++ rest)
+
+-- the words are a command with these options, these flags and these files, and give these arguments their values, in this order and none twice
+abbrev pub AreCommand : List ℕ → List (List ℕ) → List (List ℕ) → List (List ℕ) → List (List ℕ) → List (List ℕ × List ℕ) → Type 0
+AreCommand command options flags files words given = (rest : List (List ℕ)) × (words ≡ command ∷ rest) × AreArguments options flags files given rest × IsDistinct bytes_eq (keys_of given)
 
 -- the value of an argument, where it is given
 abbrev pub value_in : List (List ℕ × List ℕ) → List ℕ → Option (List ℕ)
@@ -41,17 +45,21 @@ value_in given name = lookup (λ key. bytes_eq key name) given
 abbrev pub solve_options : List (List ℕ)
 solve_options = codes "workers" ∷ codes "bids" ∷ codes "audit" ∷ codes "objects" ∷ codes "from" ∷ []
 
--- `solve [FILE]` with options
+-- its flags
+abbrev pub solve_flags : List (List ℕ)
+solve_flags = codes "direct" ∷ []
+
+-- `solve [FILE]` with options and flags
 abbrev pub AreSolve : List (List ℕ) → List (List ℕ × List ℕ) → Type 0
-AreSolve words given = AreCommand (codes "solve") solve_options (codes "file" ∷ []) words given
+AreSolve words given = AreCommand (codes "solve") solve_options solve_flags (codes "file" ∷ []) words given
 
 -- `check FILE [CERT]` with options
 abbrev pub AreCheckOf : List (List ℕ) → List (List ℕ × List ℕ) → Type 0
-AreCheckOf words given = AreCommand (codes "check") (codes "objects" ∷ []) (codes "file" ∷ codes "cert" ∷ []) words given × (is_some (value_in given (codes "file")) ≡ true)
+AreCheckOf words given = AreCommand (codes "check") (codes "objects" ∷ []) [] (codes "file" ∷ codes "cert" ∷ []) words given × (is_some (value_in given (codes "file")) ≡ true)
 
 -- `hall [FILE]` with options
 abbrev pub AreHallOf : List (List ℕ) → List (List ℕ × List ℕ) → Type 0
-AreHallOf words given = AreCommand (codes "hall") (codes "objects" ∷ []) (codes "file" ∷ []) words given
+AreHallOf words given = AreCommand (codes "hall") (codes "objects" ∷ []) [] (codes "file" ∷ []) words given
 
 -- the words are this command, and may have the name of its input
 abbrev pub AreJob : List ℕ → List (List ℕ) → Option (List ℕ) → Type 0

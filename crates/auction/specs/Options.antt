@@ -1,5 +1,5 @@
 -- The numbers that options give, and the jobs that they ask for.
-use Rattle.std.specs.Prelude.{◌≡◌, ◌≤◌, ◌<◌, ◌⊎◌, ℕ, List, Option, Some, None, Result, Ok, Err, codes, is_some, true, ⊤}
+use Rattle.std.specs.Prelude.{◌≡◌, ◌≤◌, ◌<◌, ◌⊎◌, ℕ, List, Option, Some, None, Result, Ok, Err, Bool, codes, is_some, true, false, ⊤}
 use Rattle.std.specs.Str.Parse.{ParsesUnsigned}
 use Rattle.clap.specs.Words.{Row, first_of}
 use Rattle.auc_run.specs.declared.command.Job.{Job}
@@ -7,7 +7,7 @@ use Rattle.auc_run.specs.declared.command.Job.TheVariants.{Solve, Check, Hall}
 use Rattle.auction.specs.CommandLine.{AsksFor}
 use Rattle.auction.specs.declared.asked.Words.{Words}
 use Rattle.auction.specs.declared.words_error.WordsError.{WordsError}
-use Rattle.auction.specs.declared.words_error.WordsError.TheVariants.{Usage, AuditAlone, NoMemory, FromObjects}
+use Rattle.auction.specs.declared.words_error.WordsError.TheVariants.{Usage, AuditAlone, NoMemory, FromObjects, DirectThreads}
 
 -- the text is read as this number by `from_str` of the numbers of 64 bits
 abbrev pub IsNumber : List ℕ → ℕ → Type 0
@@ -38,16 +38,72 @@ pub record AreNumbers (values : List ℕ → Option (List ℕ)) (workers bids au
 abbrev pub HasBoth : (List ℕ → Option (List ℕ)) → Type 0
 HasBoth values = (is_some (values (codes "from")) ≡ true) × (is_some (values (codes "objects")) ≡ true)
 
--- the solve that the options' values ask for: with their numbers, with a trail only where there are threads, and from a certificate only without a number of objects
-abbrev pub AsksToSolve : (List ℕ → Option (List ℕ)) → Job → Type 0
-AsksToSolve values job = (workers : ℕ) × (bids : ℕ) × (audit : ℕ) × (objects : ℕ) × AreNumbers values workers bids audit objects × (workers ≡ 0 → audit ≡ 0) × (¬ HasBoth values)
-    × (job ≡ Solve workers bids audit objects (is_some (values (codes "from"))))
+-- the solver in one hand is asked for
+abbrev pub is_direct : (List ℕ → Option (List ℕ)) → Bool
+is_direct values = is_some (values (codes "direct"))
 
--- why the options' values ask for no solve: one is no number in its range; or all are, and there is a trail without threads; or there is none, and a start from a certificate has a number of objects
+-- a number of threads is given, or one of lines in a trail
+abbrev pub HasThreads : (List ℕ → Option (List ℕ)) → Type 0
+HasThreads values = (is_some (values (codes "workers")) ≡ true) ⊎ (is_some (values (codes "audit")) ≡ true)
+
+-- What goes together: the solver in one hand has no threads and no trail; the other one has a trail only where there are threads, and starts from a certificate only without a number of
+-- objects.
+pub record GoTogether (values : List ℕ → Option (List ℕ)) (workers audit : ℕ) : Type 0 where
+  pub direct : is_direct values ≡ true → ¬ HasThreads values
+  pub trail : is_direct values ≡ false → workers ≡ 0 → audit ≡ 0
+  pub start : is_direct values ≡ false → ¬ HasBoth values
+
+-- whether they go together, or why not, where a fault of a solve in one hand is told alone, and a trail before a start
+abbrev pub AreTogether : (List ℕ → Option (List ℕ)) → ℕ → ℕ → Result ⊤ WordsError → Type 0
+AreTogether values workers audit (Ok _) = GoTogether values workers audit
+AreTogether values workers audit (Err Usage) = ⊥
+AreTogether values workers audit (Err AuditAlone) = (is_direct values ≡ false) × (workers ≡ 0) × (0 < audit)
+AreTogether values workers audit (Err NoMemory) = ⊥
+AreTogether values workers audit (Err FromObjects) = (is_direct values ≡ false) × (workers ≡ 0 → audit ≡ 0) × HasBoth values
+AreTogether values workers audit (Err DirectThreads) = (is_direct values ≡ true) × HasThreads values
+
+-- the solve that the options' values ask for: with their numbers, where these go together
+abbrev pub AsksToSolve : (List ℕ → Option (List ℕ)) → Job → Type 0
+AsksToSolve values job = (workers : ℕ) × (bids : ℕ) × (audit : ℕ) × (objects : ℕ) × AreNumbers values workers bids audit objects × GoTogether values workers audit
+    × (job ≡ Solve workers bids audit objects (is_some (values (codes "from"))) (is_direct values))
+
+-- all numbers are in their ranges, and these don't go together: the solver in one hand, and threads or a trail
+pub record WantThreads (values : List ℕ → Option (List ℕ)) : Type 0 where
+  pub workers : ℕ
+  pub bids : ℕ
+  pub audit : ℕ
+  pub objects : ℕ
+  pub numbers : AreNumbers values workers bids audit objects
+  pub direct : is_direct values ≡ true
+  pub threads : HasThreads values
+
+-- or a trail without threads
+pub record WantTrail (values : List ℕ → Option (List ℕ)) : Type 0 where
+  pub bids : ℕ
+  pub audit : ℕ
+  pub objects : ℕ
+  pub numbers : AreNumbers values 0 bids audit objects
+  pub direct : is_direct values ≡ false
+  pub some : 0 < audit
+
+-- or, with no fault of that kind, a start from a certificate with a number of objects
+pub record WantBoth (values : List ℕ → Option (List ℕ)) : Type 0 where
+  pub workers : ℕ
+  pub bids : ℕ
+  pub audit : ℕ
+  pub objects : ℕ
+  pub numbers : AreNumbers values workers bids audit objects
+  pub direct : is_direct values ≡ false
+  pub trail : workers ≡ 0 → audit ≡ 0
+  pub both : HasBoth values
+
+-- why the options' values ask for no solve
 abbrev pub AskWrongly : (List ℕ → Option (List ℕ)) → WordsError → Type 0
-AskWrongly values e = ((e ≡ Usage) × ((workers bids audit objects : ℕ) → ¬ AreNumbers values workers bids audit objects))
-    ⊎ (((e ≡ AuditAlone) × ((bids : ℕ) × (audit : ℕ) × (objects : ℕ) × AreNumbers values 0 bids audit objects × (0 < audit)))
-    ⊎ ((e ≡ FromObjects) × ((workers : ℕ) × (bids : ℕ) × (audit : ℕ) × (objects : ℕ) × AreNumbers values workers bids audit objects × (workers ≡ 0 → audit ≡ 0) × HasBoth values)))
+AskWrongly values Usage = (workers bids audit objects : ℕ) → ¬ AreNumbers values workers bids audit objects
+AskWrongly values AuditAlone = WantTrail values
+AskWrongly values NoMemory = ⊥
+AskWrongly values FromObjects = WantBoth values
+AskWrongly values DirectThreads = WantThreads values
 
 -- the options' values ask for this solve, or for none
 abbrev pub IsSolveOf : (List ℕ → Option (List ℕ)) → Result Job WordsError → Type 0

@@ -3,9 +3,9 @@
 ghost use Rattle.std.specs.Prelude.{◌≡◌, IfOk, false};
 ghost use Rattle.clap.specs.declared.builder.command.Command.TheViews.{out-Command as fields_of};
 ghost use Rattle.clap.specs.Words.{app_of, with_rule};
-ghost use Rattle.auction.specs.Grammar.{check_grammar, hall_grammar, mail_grammar, solve_grammar, bare_grammar, grammar, option_rule};
+ghost use Rattle.auction.specs.Grammar.{check_grammar, hall_grammar, mail_grammar, solve_grammar, bare_grammar, grammar, flag_rule, option_rule, optioned_grammar};
 
-use clap::{Arg, Command};
+use clap::{Arg, ArgAction, Command};
 use std::alloc::{AllocError, Global};
 
 /// One more option, `--NAME VALUE` or `--NAME=VALUE`.
@@ -18,6 +18,23 @@ fn with_option<'a>(
     ensures local { (fields_of command.entry).has_globals ≡ false → IfOk result (λ c. (fields_of c).has_globals ≡ false) }
 {
     command.arg(Arg::new(alloc, name).long(name))
+}
+
+/// One more flag, `--NAME`. It has no value of its own, and stands for `true`; where it isn't given, it has none.
+fn with_flag<'a>(
+    alloc: Global,
+    command: Command<'a>,
+    name: &'a str,
+) -> Result<Command<'a>, AllocError>
+    ensures shape { IfOk result (λ c. app_of c ≡ with_rule (app_of command.entry) (flag_rule name.entry.now)) }
+    ensures local { (fields_of command.entry).has_globals ≡ false → IfOk result (λ c. (fields_of c).has_globals ≡ false) }
+{
+    let flag = Arg::new(alloc, name)
+        .long(name)
+        .action(ArgAction::Set)
+        .num_args(0)
+        .default_missing_value("true");
+    command.arg(flag)
 }
 
 /// `check FILE [CERT] [--objects M]`.
@@ -53,10 +70,9 @@ fn mail_command<'a>(alloc: Global) -> Result<Command<'a>, AllocError>
         .arg(Arg::new(alloc, "script"))
 }
 
-/// `solve [FILE] [--workers K] [--bids N] [--audit ROOM] [--objects M] [--from CERT]`. The numbers are read behind the parser, by
-/// [`crate::numbers`].
-fn solve_command<'a>(alloc: Global) -> Result<Command<'a>, AllocError>
-    ensures shape { IfOk result (λ c. app_of c ≡ solve_grammar) }
+/// `solve [FILE] [--workers K] [--bids N] [--audit ROOM] [--objects M] [--from CERT]`.
+fn solve_with_options<'a>(alloc: Global) -> Result<Command<'a>, AllocError>
+    ensures shape { IfOk result (λ c. app_of c ≡ optioned_grammar) }
     ensures local { IfOk result (λ c. (fields_of c).has_globals ≡ false) }
 {
     let of_file = Command::new(alloc, "solve")
@@ -67,6 +83,15 @@ fn solve_command<'a>(alloc: Global) -> Result<Command<'a>, AllocError>
     let with_audit = with_option(alloc, with_bids, "audit")?;
     let with_objects = with_option(alloc, with_audit, "objects")?;
     with_option(alloc, with_objects, "from")
+}
+
+/// The same with `[--direct]`. The numbers are read behind the parser, by [`crate::numbers`].
+fn solve_command<'a>(alloc: Global) -> Result<Command<'a>, AllocError>
+    ensures shape { IfOk result (λ c. app_of c ≡ solve_grammar) }
+    ensures local { IfOk result (λ c. (fields_of c).has_globals ≡ false) }
+{
+    let with_options = solve_with_options(alloc)?;
+    with_flag(alloc, with_options, "direct")
 }
 
 /// No command yet. Words that ask for help or for the version are at fault like others.

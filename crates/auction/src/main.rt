@@ -188,7 +188,10 @@ fn status_of(error: WordsError) -> u8
     ensures { result ≡ words_status error }
 {
     match error {
-        WordsError::Usage | WordsError::AuditAlone | WordsError::FromObjects => USAGE,
+        WordsError::Usage
+        | WordsError::AuditAlone
+        | WordsError::FromObjects
+        | WordsError::DirectThreads => USAGE,
         WordsError::NoMemory => NO_MEMORY,
     }
 }

@@ -3,7 +3,7 @@
 ghost use Rattle.std.specs.Prelude.{◌≡◌, ◌≤◌, ℕ, IfErr, IfOk, codes, is_some};
 ghost use Rattle.clap.specs.Words.{first_value, found_of};
 ghost use Rattle.auc_run.specs.Jobs.{IsInRange};
-ghost use Rattle.auction.specs.Options.{HasNumber, HasObjects, IsNumberIn, IsSolveOf};
+ghost use Rattle.auction.specs.Options.{AreTogether, HasNumber, HasObjects, IsNumberIn, IsSolveOf, is_direct};
 
 use crate::words_error::WordsError;
 use auc_run::{Job, MOST_BIDS, USUAL_BIDS};
@@ -62,8 +62,33 @@ fn is_given(matches: &ArgMatches<'_>, id: &str) -> bool
     matches.get_str(id).is_some()
 }
 
-/// The solve that the options ask for. A number that is wrong is told before a trail without threads, and that before a start with a
-/// number of objects.
+/// Looks whether the options go together: a solve in one hand has no threads and no trail; another one has a trail only with threads, and
+/// starts from a certificate only without a number of objects.
+fn look_together(
+    matches: &ArgMatches<'_>,
+    workers: u64,
+    audit: u64,
+    direct: bool,
+) -> Result<(), WordsError>
+    requires { direct ≡ is_direct (λ name. first_value (found_of matches.now) name) }
+    ensures whether { AreTogether (λ name. first_value (found_of matches.now) name) workers audit result }
+{
+    if direct {
+        if is_given(matches, "workers") || is_given(matches, "audit") {
+            return Err(WordsError::DirectThreads);
+        }
+        return Ok(());
+    }
+    if workers == 0 && audit > 0 {
+        return Err(WordsError::AuditAlone);
+    }
+    if is_given(matches, "from") && is_given(matches, "objects") {
+        return Err(WordsError::FromObjects);
+    }
+    Ok(())
+}
+
+/// The solve that the options ask for. A number that is wrong is told before options that don't go together.
 pub(crate) fn solve_of_options(matches: &ArgMatches<'_>) -> Result<Job, WordsError>
     ensures solve { IsSolveOf (λ name. first_value (found_of matches.now) name) result }
     ensures range { IfOk result IsInRange }
@@ -72,18 +97,14 @@ pub(crate) fn solve_of_options(matches: &ArgMatches<'_>) -> Result<Job, WordsErr
     let bids = number_of(matches, "bids", 1, MOST_BIDS, USUAL_BIDS)?;
     let audit = number_of(matches, "audit", 0, MOST_AUDIT, 0)?;
     let objects = objects_of(matches)?;
-    let from = is_given(matches, "from");
-    if workers == 0 && audit > 0 {
-        return Err(WordsError::AuditAlone);
-    }
-    if from && is_given(matches, "objects") {
-        return Err(WordsError::FromObjects);
-    }
+    let direct = is_given(matches, "direct");
+    look_together(matches, workers, audit, direct)?;
     Ok(Job::Solve {
         workers: workers as u32,
         bids,
         audit: audit as u32,
         objects,
-        from,
+        from: is_given(matches, "from"),
+        direct,
     })
 }

@@ -5,9 +5,9 @@ ghost use Rattle.std.specs.String.{string_bytes};
 ghost use Rattle.clap.specs.Words.{Row, fault_of, first_of, first_value, found_of, rows_of, subcommand_of, subcommand_rows_of, takes};
 ghost use Rattle.auc_run.specs.Jobs.{IsInRange};
 ghost use Rattle.auction.specs.Arguments.{AreCheck, AreCheckOf, AreHallOf, AreJob, AreSolve, value_in};
-ghost use Rattle.auction.specs.CommandLine.{AsksFor, IsAuditAlone, IsFromObjects, IsUsage};
+ghost use Rattle.auction.specs.CommandLine.{AsksFor, IsAuditAlone, IsDirectThreads, IsFromObjects, IsUsage};
 ghost use Rattle.auction.specs.Grammar.{grammar};
-ghost use Rattle.auction.specs.Options.{AreNumbers, HasBoth, HasCheckOf, HasHallOf, HasObjects, HasSolveOf};
+ghost use Rattle.auction.specs.Options.{AreNumbers, GoTogether, HasBoth, HasCheckOf, HasHallOf, HasObjects, HasSolveOf, HasThreads, is_direct};
 
 use crate::asked::Words;
 use crate::grammar::all_commands;
@@ -122,9 +122,9 @@ fn words_of(alloc: Global, matches: &ArgMatches<'_>) -> Result<Words, WordsError
 ///
 /// # Errors
 ///
-/// [`WordsError::Usage`] where the words are no job, or a number is out of its range; then [`WordsError::AuditAlone`] where a
-/// solve without threads is to keep a trail; then [`WordsError::FromObjects`] where a solve is to start from a certificate and has a number
-/// of objects.
+/// [`WordsError::Usage`] where the words are no job, or a number is out of its range; then [`WordsError::DirectThreads`] where a solve in one
+/// hand is to have threads or a trail; then, of another one, [`WordsError::AuditAlone`] where it has no threads and is to keep a trail; then
+/// [`WordsError::FromObjects`] where it is to start from a certificate and has a number of objects.
 pub fn read_words(alloc: Global, words: &[String]) -> Result<Words, WordsError>
     // A check that is asked for without options is read as that check, of as many objects as persons, unless memory runs out.
     ensures check { (file : List ℕ) (cert : Option (List ℕ)) → AreCheck (map string_bytes words.now) file cert → AsksFor (Job.Check 0) result (Some file) cert }
@@ -139,23 +139,26 @@ pub fn read_words(alloc: Global, words: &[String]) -> Result<Words, WordsError>
     // A mail that is asked for is read as that mail, unless memory runs out.
     ensures mail { (script : Option (List ℕ)) → AreJob (codes "mail") (map string_bytes words.now) script → AsksFor Job.Mail result script None }
     // A solve that is asked for without options is read as that solve, with no threads, the usual bids, no trail, as many objects as persons, and from no certificate, unless memory runs out.
-    ensures solve { (file : Option (List ℕ)) → AreJob (codes "solve") (map string_bytes words.now) file → AsksFor (Job.Solve 0 100000000 0 0 false) result file None }
-    // A solve with options, in any order, is read as the solve with their numbers and the usual ones of the others, and from the certificate that they name, unless memory runs out.
+    ensures solve { (file : Option (List ℕ)) → AreJob (codes "solve") (map string_bytes words.now) file → AsksFor (Job.Solve 0 100000000 0 0 false false) result file None }
+    // A solve with options, in any order, is read as the solve with their numbers and the usual ones of the others, from the certificate that they name, and in one hand where they say so, unless memory runs out.
     ensures options { (given : List (List ℕ × List ℕ)) (workers bids audit objects : ℕ) → AreSolve (map string_bytes words.now) given → AreNumbers (value_in given) workers bids audit objects
-        → (workers ≡ 0 → audit ≡ 0) → ¬ HasBoth (value_in given)
-        → AsksFor (Job.Solve workers bids audit objects (is_some (value_in given (codes "from")))) result (value_in given (codes "file")) (value_in given (codes "from")) }
+        → GoTogether (value_in given) workers audit
+        → AsksFor (Job.Solve workers bids audit objects (is_some (value_in given (codes "from"))) (is_direct (value_in given))) result (value_in given (codes "file")) (value_in given (codes "from")) }
     // An option whose value is no number, or one out of range, is a fault of usage, unless memory runs out.
     ensures wrong_number { (given : List (List ℕ × List ℕ)) → AreSolve (map string_bytes words.now) given
         → ((workers bids audit objects : ℕ) → ¬ AreNumbers (value_in given) workers bids audit objects) → IsUsage result }
     // So is a number of objects of a check, or of a hall.
     ensures wrong_objects { (given : List (List ℕ × List ℕ)) → AreCheckOf (map string_bytes words.now) given ⊎ AreHallOf (map string_bytes words.now) given
         → ((objects : ℕ) → ¬ HasObjects (value_in given (codes "objects")) objects) → IsUsage result }
-    // A trail without threads is a fault of its own, unless memory runs out.
-    ensures audit_alone { (given : List (List ℕ × List ℕ)) (bids audit objects : ℕ) → AreSolve (map string_bytes words.now) given → AreNumbers (value_in given) 0 bids audit objects → 0 < audit
-        → IsAuditAlone result }
+    // A solve in one hand with threads or a trail is a fault of its own, unless memory runs out.
+    ensures direct_threads { (given : List (List ℕ × List ℕ)) (workers bids audit objects : ℕ) → AreSolve (map string_bytes words.now) given → AreNumbers (value_in given) workers bids audit objects
+        → is_direct (value_in given) ≡ true → HasThreads (value_in given) → IsDirectThreads result }
+    // So is, of another one, a trail without threads.
+    ensures audit_alone { (given : List (List ℕ × List ℕ)) (bids audit objects : ℕ) → AreSolve (map string_bytes words.now) given → AreNumbers (value_in given) 0 bids audit objects
+        → is_direct (value_in given) ≡ false → 0 < audit → IsAuditAlone result }
     // Behind it, so is a start from a certificate with a number of objects.
     ensures from_objects { (given : List (List ℕ × List ℕ)) (workers bids audit objects : ℕ) → AreSolve (map string_bytes words.now) given → AreNumbers (value_in given) workers bids audit objects
-        → (workers ≡ 0 → audit ≡ 0) → HasBoth (value_in given) → IsFromObjects result }
+        → is_direct (value_in given) ≡ false → (workers ≡ 0 → audit ≡ 0) → HasBoth (value_in given) → IsFromObjects result }
     // Words that the grammar does not take are a fault of usage, unless memory runs out.
     ensures unfit { fault_of grammar (map string_bytes words.now) ≢ [] → IsUsage result }
     // The numbers of the job are those that it may have.

@@ -10,7 +10,7 @@ use thiserror::Error;
 #[derive(Clone, Copy, Debug, PartialEq, Eq, Error)]
 pub enum WordsError {
     /// They are none that the program knows.
-    #[error("usage: auction solve [FILE] [--workers K] [--bids N] [--audit ROOM] [--objects M] [--from CERT]
+    #[error("usage: auction solve [FILE] [--workers K] [--bids N] [--audit ROOM] [--objects M] [--from CERT] [--direct]
        auction check FILE [CERT] [--objects M]
        auction hall [FILE] [--objects M]
        auction mail [SCRIPT]
@@ -23,6 +23,8 @@ Each shard of the persons makes at most N bids in a phase: 1 to 1000000000000, w
 Where they don't do, solve gives an assignment and a bound below which none costs.
 Each mail keeps a trail of at most ROOM calls, by which the phases are judged: 0 to 1000000; 0, as without --audit, keeps none. Trails want threads.
 With --from the prices begin at those of the certificate CERT, of a problem with as many persons, and as many objects; without, at 0.
+With --direct one hand does all, without messages: as right, mostly sooner, and far sooner with more objects than persons; of several
+least assignments it may find another one. It takes the prices of any CERT with one for each object, and no --workers and no --audit.
 
 check says whether the claim of the certificate CERT holds of the problem FILE: a least-cost assignment, or that there is none.
 Without CERT the certificate is read from standard input.
@@ -51,8 +53,11 @@ Read on: man auction (auction.1), docs/FORMATS.md for problems, certificates and
     #[error("auction: out of memory")]
     NoMemory,
     /// They ask for a start from a certificate, and for a number of objects.
-    #[error("auction: --from CERT goes without --objects M: a solve from old prices has as many objects as persons")]
+    #[error("auction: --from CERT goes with --objects M only where there is --direct too: else a solve from old prices has as many objects as persons")]
     FromObjects,
+    /// They ask for the solver in one hand, and for threads or a trail.
+    #[error("auction: --direct goes without --workers K and --audit ROOM: a solve in one hand has no threads and no trail")]
+    DirectThreads,
 }
 
 impl From<AllocError> for WordsError {

@@ -116,6 +116,7 @@ fn solving(rt: HostRuntime) -> Result<(), Fail> {
                 audit,
                 objects: 0,
                 from,
+                direct: false,
             };
             assert!(rt; answers(&rt, rt.alloc(), &job, THREE, least, 0)?);
         }
@@ -126,23 +127,20 @@ fn solving(rt: HostRuntime) -> Result<(), Fail> {
 /// Each job but a solve in threads can be run without leave to wait.
 #[test]
 fn without_threads(rt: HostRuntime) -> Result<(), Fail> {
-    let solve = Job::Solve {
-        workers: 0,
-        bids: 1_000,
-        audit: 0,
-        objects: 0,
-        from: false,
-    };
-    let from = Job::Solve {
-        workers: 0,
-        bids: 1_000,
-        audit: 0,
-        objects: 0,
-        from: true,
-    };
     let least = "auction 1\noptimal 3 5\n";
-    assert!(rt; answers_alone(rt.alloc(), &solve, THREE, least, 0)?);
-    assert!(rt; answers_alone(rt.alloc(), &from, THREE, least, 0)?);
+    for direct in [false, true] {
+        for from in [false, true] {
+            let solve = Job::Solve {
+                workers: 0,
+                bids: 1_000,
+                audit: 0,
+                objects: 0,
+                from,
+                direct,
+            };
+            assert!(rt; answers_alone(rt.alloc(), &solve, THREE, least, 0)?);
+        }
+    }
     let check = Job::Check { objects: 0 };
     assert!(rt; answers_alone(rt.alloc(), &check, THREE, "valid optimal 5\n", 0)?);
     let hall = Job::Hall { objects: 0 };

@@ -13,6 +13,8 @@ mod fakes;
 #[cfg(test)]
 mod halls;
 #[cfg(test)]
+mod in_one_hand;
+#[cfg(test)]
 mod mails;
 #[cfg(test)]
 mod pieces;

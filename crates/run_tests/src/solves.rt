@@ -15,6 +15,7 @@ const USUAL: Job = Job::Solve {
     audit: 0,
     objects: 0,
     from: false,
+    direct: false,
 };
 
 /// The same from an old certificate.
@@ -24,6 +25,7 @@ const FROM: Job = Job::Solve {
     audit: 0,
     objects: 0,
     from: true,
+    direct: false,
 };
 
 /// Whether a solve of two persons by so many bids writes this text, and answers this status.
@@ -37,6 +39,7 @@ fn two_say(rt: &HostRuntime, bids: u64, text: &str, status: u8) -> bool
         audit: 0,
         objects: 0,
         from: false,
+        direct: false,
     };
     let mut first = TWO.as_bytes();
     let mut second = b"".as_slice();

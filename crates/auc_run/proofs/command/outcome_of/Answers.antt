@@ -5,12 +5,12 @@ use Rattle.auc_run.proofs.command.outcome_of.Goals as goal
 
 pub returns-in_ok-answer-in-Solve-clause-outcome : goal.returns-in_ok-answer-in-Solve-clause-outcome
 returns-in_ok-answer-in-Solve-clause-outcome g c =
-    rw c.in-Solve.is (solved_plainly (g.R.Read.remaining c.args.reader.now) (g.Q.Read.remaining c.args.second.now) c.in-Solve.workers c.in-Solve.bids c.in-Solve.audit c.in-Solve.objects c.in-Solve.from (Ok c.in_ok-answer-in-Solve.answer) (rw c.in-Solve.is at c.requires.plain) c.in_ok-answer-in-Solve.ensures.solving)
+    rw c.in-Solve.is (solved_plainly (g.R.Read.remaining c.args.reader.now) (g.Q.Read.remaining c.args.second.now) c.in-Solve.workers c.in-Solve.bids c.in-Solve.audit c.in-Solve.objects c.in-Solve.from c.in-Solve.direct (Ok c.in_ok-answer-in-Solve.answer) (rw c.in-Solve.is at c.requires.plain) c.in_ok-answer-in-Solve.ensures.solving)
 
 pub returns-in_err-answer-in-Solve-clause-outcome : goal.returns-in_err-answer-in-Solve-clause-outcome
 returns-in_err-answer-in-Solve-clause-outcome g c =
-    rw c.in-Solve.is (refused (g.R.Read.remaining c.args.reader.now) (g.Q.Read.remaining c.args.second.now) (Solve c.in-Solve.workers c.in-Solve.bids c.in-Solve.audit c.in-Solve.objects c.in-Solve.from) c.from_residual.result c.in_err-answer-in-Solve.field-0.0 c.from_residual.ensures.1
-    (solved_plainly (g.R.Read.remaining c.args.reader.now) (g.Q.Read.remaining c.args.second.now) c.in-Solve.workers c.in-Solve.bids c.in-Solve.audit c.in-Solve.objects c.in-Solve.from (Err c.in_err-answer-in-Solve.field-0.0) (rw c.in-Solve.is at c.requires.plain) c.in_err-answer-in-Solve.ensures.solving))
+    rw c.in-Solve.is (refused (g.R.Read.remaining c.args.reader.now) (g.Q.Read.remaining c.args.second.now) (Solve c.in-Solve.workers c.in-Solve.bids c.in-Solve.audit c.in-Solve.objects c.in-Solve.from c.in-Solve.direct) c.from_residual.result c.in_err-answer-in-Solve.field-0.0 c.from_residual.ensures.1
+    (solved_plainly (g.R.Read.remaining c.args.reader.now) (g.Q.Read.remaining c.args.second.now) c.in-Solve.workers c.in-Solve.bids c.in-Solve.audit c.in-Solve.objects c.in-Solve.from c.in-Solve.direct (Err c.in_err-answer-in-Solve.field-0.0) (rw c.in-Solve.is at c.requires.plain) c.in_err-answer-in-Solve.ensures.solving))
 
 pub returns-in_ok-found_of-in-Hall-clause-outcome : goal.returns-in_ok-found_of-in-Hall-clause-outcome
 returns-in_ok-found_of-in-Hall-clause-outcome g c =

@@ -1,7 +1,7 @@
 use Rattle.std.proofs.Common.{◌∙◌, codes, inl, inr, refl}
 use Rattle.auc_run.specs.declared.command.Job.TheVariants.{Mail}
-use Rattle.auction.proofs.AskLaws.{at_fault, no_memory, asks_alone, asks_both, asks_for_hall, asks_to_check, asks_to_solve, asks_wrongly, checks_wrongly, halls_wrongly, same_files}
-use Rattle.auction.proofs.CommandFits.{both_file, both_named, check_fits, hall_fits, mail_fits, named, named_file, named_script, no_certificate, no_objects, one_at_most, plain_check_fits, plain_hall_fits, plain_solve_fits, solve_fits, usual_numbers}
+use Rattle.auction.proofs.AskLaws.{at_fault, no_memory, asks_alone, asks_both, asks_for_hall, asks_threads, asks_to_check, asks_to_solve, asks_wrongly, checks_wrongly, halls_wrongly, same_files}
+use Rattle.auction.proofs.CommandFits.{both_file, both_named, check_fits, hall_fits, mail_fits, named, named_file, named_script, no_certificate, no_objects, not_direct, plain_check_fits, plain_hall_fits, plain_solve_fits, solve_fits, usual_numbers, usual_together}
 use Rattle.auction.proofs.words.read_words.Goals as goal
 
 pub returns-in_err-matches-clause-check : goal.returns-in_err-matches-clause-check
@@ -23,15 +23,19 @@ pub returns-in_err-matches-clause-solve : goal.returns-in_err-matches-clause-sol
 returns-in_err-matches-clause-solve c = λ file h. rw (no_memory _ _ c.from_residual.ensures.1 (c.in_err-matches.ensures.taken (plain_solve_fits _ file h).taken)) refl
 
 pub returns-in_err-matches-clause-options : goal.returns-in_err-matches-clause-options
-returns-in_err-matches-clause-options c = λ given workers bids audit objects h are alone one.
+returns-in_err-matches-clause-options c = λ given workers bids audit objects h are together.
     rw (no_memory _ _ c.from_residual.ensures.1 (c.in_err-matches.ensures.taken (solve_fits _ given h).taken)) refl
 
+pub returns-in_err-matches-clause-direct_threads : goal.returns-in_err-matches-clause-direct_threads
+returns-in_err-matches-clause-direct_threads c = λ given workers bids audit objects h are is threads.
+    rw (no_memory _ _ c.from_residual.ensures.1 (c.in_err-matches.ensures.taken (solve_fits _ given h).taken)) (inr refl)
+
 pub returns-in_err-matches-clause-audit_alone : goal.returns-in_err-matches-clause-audit_alone
-returns-in_err-matches-clause-audit_alone c = λ given bids audit objects h are some.
+returns-in_err-matches-clause-audit_alone c = λ given bids audit objects h are is some.
     rw (no_memory _ _ c.from_residual.ensures.1 (c.in_err-matches.ensures.taken (solve_fits _ given h).taken)) (inr refl)
 
 pub returns-in_err-matches-clause-from_objects : goal.returns-in_err-matches-clause-from_objects
-returns-in_err-matches-clause-from_objects c = λ given workers bids audit objects h are alone two.
+returns-in_err-matches-clause-from_objects c = λ given workers bids audit objects h are is trail both.
     rw (no_memory _ _ c.from_residual.ensures.1 (c.in_err-matches.ensures.taken (solve_fits _ given h).taken)) (inr refl)
 
 pub returns-in_err-matches-clause-wrong_number : goal.returns-in_err-matches-clause-wrong_number
@@ -73,13 +77,13 @@ returns-clause-mail c = λ script h.
 pub returns-clause-solve : goal.returns-clause-solve
 returns-clause-solve c = λ file h.
     let fits = plain_solve_fits _ file h in
-    let asked = asks_to_solve fits.rows (named (codes "file") file) fits.values c.words_of.result 0 100000000 0 0 (c.words_of.ensures.solve fits.rows (c.in_ok-matches.ensures.found ∙ fits.found)) (usual_numbers file) (λ none. refl) (one_at_most file) in
-    rw (no_certificate file, named_file file) at asked
+    let asked = asks_to_solve fits.rows (named (codes "file") file) fits.values c.words_of.result 0 100000000 0 0 (c.words_of.ensures.solve fits.rows (c.in_ok-matches.ensures.found ∙ fits.found)) (usual_numbers file) (usual_together file) in
+    rw (no_certificate file, not_direct file, named_file file) at asked
 
 pub returns-clause-options : goal.returns-clause-options
-returns-clause-options c = λ given workers bids audit objects h are alone one.
+returns-clause-options c = λ given workers bids audit objects h are together.
     let fits = solve_fits _ given h in
-    asks_to_solve fits.rows given fits.values c.words_of.result workers bids audit objects (c.words_of.ensures.solve fits.rows (c.in_ok-matches.ensures.found ∙ fits.found)) are alone one
+    asks_to_solve fits.rows given fits.values c.words_of.result workers bids audit objects (c.words_of.ensures.solve fits.rows (c.in_ok-matches.ensures.found ∙ fits.found)) are together
 
 pub returns-clause-wrong_number : goal.returns-clause-wrong_number
 returns-clause-wrong_number c = λ given h none.
@@ -96,12 +100,17 @@ returns-clause-wrong_objects c = λ given h none. elim h [
       halls_wrongly fits.rows given fits.values c.words_of.result (c.words_of.ensures.hall fits.rows (c.in_ok-matches.ensures.found ∙ fits.found)) none
 ]
 
-pub returns-clause-audit_alone : goal.returns-clause-audit_alone
-returns-clause-audit_alone c = λ given bids audit objects h are some.
+pub returns-clause-direct_threads : goal.returns-clause-direct_threads
+returns-clause-direct_threads c = λ given workers bids audit objects h are is threads.
     let fits = solve_fits _ given h in
-    asks_alone fits.rows given fits.values c.words_of.result bids audit objects (c.words_of.ensures.solve fits.rows (c.in_ok-matches.ensures.found ∙ fits.found)) are some
+    asks_threads fits.rows given fits.values c.words_of.result workers bids audit objects (c.words_of.ensures.solve fits.rows (c.in_ok-matches.ensures.found ∙ fits.found)) are is threads
+
+pub returns-clause-audit_alone : goal.returns-clause-audit_alone
+returns-clause-audit_alone c = λ given bids audit objects h are is some.
+    let fits = solve_fits _ given h in
+    asks_alone fits.rows given fits.values c.words_of.result bids audit objects (c.words_of.ensures.solve fits.rows (c.in_ok-matches.ensures.found ∙ fits.found)) are is some
 
 pub returns-clause-from_objects : goal.returns-clause-from_objects
-returns-clause-from_objects c = λ given workers bids audit objects h are alone two.
+returns-clause-from_objects c = λ given workers bids audit objects h are is trail both.
     let fits = solve_fits _ given h in
-    asks_both fits.rows given fits.values c.words_of.result workers bids audit objects (c.words_of.ensures.solve fits.rows (c.in_ok-matches.ensures.found ∙ fits.found)) are alone two
+    asks_both fits.rows given fits.values c.words_of.result workers bids audit objects (c.words_of.ensures.solve fits.rows (c.in_ok-matches.ensures.found ∙ fits.found)) are is trail both

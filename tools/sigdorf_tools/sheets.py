@@ -2,6 +2,7 @@
 import datetime
 import io
 import itertools
+import re
 import warnings
 import zipfile
 from decimal import Decimal
@@ -10,6 +11,8 @@ from .faults import Fault
 
 WORKBOOK = b"PK\x03\x04"
 ODS_KIND = b"application/vnd.oasis.opendocument.spreadsheet"
+# What a formula begins with in a sheet of a workbook.
+FORMULA = re.compile(rb"<(?:[A-Za-z0-9_]+:)?f[ >/]")
 # As many digits as a spreadsheet has of a number; what stands behind them comes of its binary sums.
 DIGITS = 15
 # No table that a plan can be made of has a longer row or column.
@@ -83,14 +86,22 @@ def sheets_of_xlsx(file, content):
     with warnings.catch_warnings():
         warnings.simplefilter("ignore")
         sheets, formulas = (openpyxl.load_workbook(io.BytesIO(content), read_only=True, data_only=values).worksheets for values in (True, False))
+        # Without a formula each cell is read once.
+        formulas = formulas if has_formulas(content) else [None] * len(sheets)
         return {sheet.title: dict(rows_of_xlsx(file, sheet, formula)) for sheet, formula in zip(sheets, formulas)}
+
+
+def has_formulas(content):
+    with zipfile.ZipFile(io.BytesIO(content)) as archive:
+        return any(FORMULA.search(archive.read(name)) for name in archive.namelist() if "worksheets/" in name)
 
 
 def rows_of_xlsx(file, sheet, formulas):
     # Sheets tell their size, and not all of them tell the truth.
     sheet.reset_dimensions()
-    formulas.reset_dimensions()
-    written = formulas.iter_rows(values_only=True)
+    if formulas:
+        formulas.reset_dimensions()
+    written = formulas.iter_rows(values_only=True) if formulas else ()
     for number, (values, formula) in enumerate(itertools.zip_longest(sheet.iter_rows(values_only=True), written, fillvalue=()), 1):
         for column, (value, text) in enumerate(zip(values, formula), 1):
             if value is None and isinstance(text, str) and text.startswith("="):

@@ -4,7 +4,7 @@ from .faults import Fault
 from .forms import form_of
 from .problems import MOST_OBJECTS, MOST_PERSONS, TITLES, Problem
 from .tables import Table
-from .text_tables import Text, is_plain, lines_of
+from .text_tables import Text, are_short, is_plain, lines_of
 
 USUAL_MARK = {";": ","}
 
@@ -20,7 +20,7 @@ def problem_by_arrays(source, form, has_header, decimals, maximise, mark):
     if not all(source.separator in line for line in lines):
         return None
     titles, persons, objects, rows = named(source.separator, lines) if has_header else numbered(source.separator, lines)
-    if not (are_names(persons, MOST_PERSONS) and are_names(objects, MOST_OBJECTS)):
+    if not (are_names(persons, MOST_PERSONS) and are_names(objects, MOST_OBJECTS) and are_short(persons, objects)):
         return None
     found = mark_in(source.separator, rows)
     cells = found and arrays.cells_of(numpy, rows, len(objects), source.separator, found)

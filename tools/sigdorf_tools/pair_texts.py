@@ -10,7 +10,7 @@ from .faults import Fault
 from .forms import is_title, look_for_header
 from .problems import MOST_OBJECTS, MOST_PERSONS, TITLES, Arcs, Problem
 from .tables import Table
-from .text_tables import Text, is_plain, lines_of
+from .text_tables import MOST_CHARACTERS, Text, are_short, is_plain
 
 # So many characters are parted at a time.
 BATCH = 300_000
@@ -28,13 +28,18 @@ def problem_of_pairs(source, form, has_header, decimals, maximise, mark):
     """The problem of pairs in a text of many characters; None where it isn't sure that there is one, which the road for all tables has to tell."""
     if not isinstance(source, Text) or len(source.text) < arrays.LEAST_CHARACTERS or '"' in source.text or not is_plain(source.text, source.separator):
         return None
-    first = lines_of(source.text[: source.text.find("\n") + 1])[0].split(source.separator)
+    text = source.text.replace("\r\n", "\n")
+    end = text.find("\n")
+    # Elsewhere a carriage return ends a line too.
+    if "\r" in text or end < 0:
+        return None
+    first = text[:end].split(source.separator)
     table = Table(source.file, source.separator, [first], range(1, 2**31), [])
     if len(first) != 3 or not is_sure(table, first, form, has_header):
         return None
-    titles, text = TITLES, source.text.replace("\r\n", "\n")
+    titles = TITLES
     if has_header and is_title(first[2]):
-        titles, text = [cell or title for cell, title in zip(first, TITLES)], text[text.find("\n") + 1 :]
+        titles, text = [cell or title for cell, title in zip(first, TITLES)], text[end + 1 :]
     names, numbers, groups = (Numbers(), Numbers()), ([], []), []
     for *named, costs in batches(text.removesuffix("\n"), source.separator):
         for known, parts, cells in zip(names, numbers, named):
@@ -42,6 +47,8 @@ def problem_of_pairs(source, form, has_header, decimals, maximise, mark):
         if not costs or "" in costs or not are_names(*names):
             return None
         groups.append(cells_of(costs, lambda place: (0, 2)))
+    if not are_short(*names) or max(cells.length for cells in groups) > MOST_CHARACTERS:
+        return None
     # A title that stands below too is none, and persons who have one row each may be those of a matrix.
     if titles is not TITLES and first[0] in names[0] or form is None and len(names[0]) == sum(map(len, numbers[0])):
         return None

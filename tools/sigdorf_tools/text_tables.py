@@ -16,6 +16,8 @@ SEPARATORS = {"tab": "\t", "semicolon": ";", "comma": ","}
 SAMPLE, SAMPLE_CHARACTERS = 1_000, 400_000
 # What Excel reads above a table: the separator, in a line of its own.
 SEPARATOR_LINE = re.compile(r"sep=([^\r\n]?)(?:\r\n|\r|\n|\Z)", re.IGNORECASE)
+# How long a cell may be.
+MOST_CHARACTERS = csv.field_size_limit()
 # The bytes of a plain text in ASCII.
 PLAIN_BYTES = bytes(range(32, 127)) + b"\t\r\n"
 
@@ -98,7 +100,7 @@ def rows_of(file, separator, text, skipped):
     """The rows of a text, and the line of each."""
     if '"' not in text:
         lines = lines_of(text)
-        if max(map(len, lines)) <= csv.field_size_limit():
+        if max(map(len, lines)) <= MOST_CHARACTERS:
             return [line.split(separator) for line in lines], range(1 + skipped, len(lines) + 1 + skipped)
     rows, lines, line = [], [], 1 + skipped
     reader = reader_of(text, separator)
@@ -109,7 +111,7 @@ def rows_of(file, separator, text, skipped):
             line = reader.line_num + 1 + skipped
     except csv.Error as error:
         long = "field larger" in str(error)
-        what = f"a cell is longer than {csv.field_size_limit():,} characters; shorten it" if long else "a quote doesn't end where its cell ends; write a quote inside a cell twice"
+        what = f"a cell is longer than {MOST_CHARACTERS:,} characters; shorten it" if long else "a quote doesn't end where its cell ends; write a quote inside a cell twice"
         raise Fault(f"{file}, line {line}, column {column_of_fault(text, separator, line - skipped)}: {what}") from None
     return rows, range(1 + skipped, line) if reader.line_num == len(rows) else lines
 
@@ -118,9 +120,14 @@ def column_of_fault(text, separator, line):
     """The column of the first cell of a row that the reader can't take; the row begins at a line."""
     place = next(itertools.islice(re.finditer(r"^|(?<=\r)(?!\n)|(?<=\n)", text), line - 1, None)).end()
     cell, column = re.compile(rf'(?:"(?:[^"]|"")*+"|[^"\r\n{separator}][^\r\n{separator}]*+|)(?={separator})'), 1
-    while (found := cell.match(text, place)) and len(found[0]) <= csv.field_size_limit():
+    while (found := cell.match(text, place)) and len(found[0]) <= MOST_CHARACTERS:
         place, column = found.end() + 1, column + 1
     return column
+
+
+def are_short(*columns):
+    """Whether no cell is longer than the reader of CSV takes it."""
+    return all(len(cell) <= MOST_CHARACTERS for cells in columns for cell in cells)
 
 
 def is_plain(text, separator):

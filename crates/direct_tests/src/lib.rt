@@ -10,6 +10,8 @@ mod limits;
 #[cfg(test)]
 mod paths;
 #[cfg(test)]
+mod spare;
+#[cfg(test)]
 mod starts;
 #[cfg(test)]
 mod texts;

@@ -1,8 +1,8 @@
 //! Problems and answers as texts.
 
 use auc_answers::Answer;
-use auc_cert::{check, write_cert};
-use auc_direct::{DirectLimits, solve_direct};
+use auc_cert::{CertParts, check, write_cert};
+use auc_direct::{DirectLimits, may_start, solve_direct, solve_direct_from};
 use auc_graph::{ArcList, MOST_OBJECTS, ReadLimits, read_arcs};
 use std::test::*;
 
@@ -43,4 +43,29 @@ pub fn answered(
 ) -> Result<Vec<u8>, Fail> {
     let answer = solve_direct(rt.alloc(), problem, limits)?;
     text_of(rt, problem, answer)
+}
+
+/// What the solver answers from start prices, which have to be some.
+pub fn answered_from(
+    rt: &HostRuntime,
+    problem: &ArcList,
+    limits: &DirectLimits,
+    start: &[i64],
+) -> Result<Vec<u8>, Fail> {
+    if !may_start(problem, start) {
+        return Err(Fail::new("no start prices"));
+    }
+    let answer = solve_direct_from(rt.alloc(), problem, limits, start)?;
+    text_of(rt, problem, answer)
+}
+
+/// The prices of the certificate that a solve ends with.
+pub fn prices_of(rt: &HostRuntime, problem: &ArcList) -> Result<Vec<i64>, Fail> {
+    let Answer::Optimal(cert) = solve_direct(rt.alloc(), problem, &AMPLE)? else {
+        return Err(Fail::new("no assignment"));
+    };
+    let CertParts::Optimal { prices, .. } = cert.parts() else {
+        return Err(Fail::new("no prices"));
+    };
+    Ok(prices.as_slice().to_vec(rt.alloc())?)
 }

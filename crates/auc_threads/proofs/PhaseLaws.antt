@@ -23,6 +23,7 @@ use Rattle.auc_threads.specs.Gathering.{Gathers, IsOwnShard}
 use Rattle.auc_threads.specs.Phase.{IsRun, IsToldBy, price_in, taken_by, unsold}
 use Rattle.auc_threads.specs.Naming.{IsNamed, hub_nodes, objects_nodes, persons_nodes, workers_of}
 use Rattle.auc_threads.specs.declared.phase.PhaseEnd.{PhaseEnd}
+use Rattle.auc_threads.specs.declared.task.Task.{Task}
 use Rattle.auc_threads.specs.declared.settling.Trails.{Trails}
 use Rattle.auc_model.specs.declared.turn.End.{End}
 use Rattle.auc_letters.specs.Award.{Sale, award_all, bids_on}
@@ -63,57 +64,57 @@ pub placed_all : {X : Type 0} (P : ℕ → X → Type 0) (Q : X → Type 0) (xs 
 placed_all P Q xs f all k d l = f (0 + k) (get_or xs k d) (placed_at P 0 xs k d all l)
 
 -- the results of the threads
-module _ {X : Type 0} (f : X → Objects) (a p h : X → Account Letter) (y : X → Option Why) (eps : ℤ) (r₁ r₂ r₃ shards persons : ℕ) (prices : List ℤ) (xs : List X)
-    (results : Placed (λ k w. IsObjectResult eps r₁ r₂ r₃ shards persons prices k (f w) (a w) (p w) (h w) (y w)) 0 xs) where
-  pub own_of : (objects : ℕ) → length prices ≡ objects → Placed (λ k w. IsOwnShard shards objects k (f w)) 0 xs
+module _ {X : Type 0} (f : X → Objects) (a p h : X → Account Letter) (y : X → Option Why) (task : Task) (r₁ r₂ r₃ : ℕ) (xs : List X)
+    (results : Placed (λ k w. IsObjectResult task r₁ r₂ r₃ k (f w) (a w) (p w) (h w) (y w)) 0 xs) where
+  pub own_of : (objects : ℕ) → length task.prices.now ≡ objects → Placed (λ k w. IsOwnShard task.limits.now.shards objects k (f w)) 0 xs
   own_of objects e =
-      placed_weaker (λ k w. IsObjectResult eps r₁ r₂ r₃ shards persons prices k (f w) (a w) (p w) (h w) (y w)) (λ k w. IsOwnShard shards objects k (f w))
+      placed_weaker (λ k w. IsObjectResult task r₁ r₂ r₃ k (f w) (a w) (p w) (h w) (y w)) (λ k w. IsOwnShard task.limits.now.shards objects k (f w))
       (λ k w r. record { number = r.sells.shape.shard; of = r.sells.shape.of; prices = r.sells.shape.objects ∙ e }) 0 xs results
 
   pub no_guards : All (λ w. (y w ≢ Some Why.Stuck) × (y w ≢ Some Why.Fell)) xs
   no_guards =
-      placed_all (λ k w. IsObjectResult eps r₁ r₂ r₃ shards persons prices k (f w) (a w) (p w) (h w) (y w)) (λ w. (y w ≢ Some Why.Stuck) × (y w ≢ Some Why.Fell)) xs
+      placed_all (λ k w. IsObjectResult task r₁ r₂ r₃ k (f w) (a w) (p w) (h w) (y w)) (λ w. (y w ≢ Some Why.Stuck) × (y w ≢ Some Why.Fell)) xs
       (λ k w r. r.no_guard) results
 
   -- each object's price and holder, by the trail
-  pub sold_told : (trail : List (TrailLine Letter)) (j : ℕ) (price : ℤ) (holder : Option Held) → 0 < r₁ → All (λ w. Agrees trail (a w)) xs → length xs ≡ shards → 0 < shards → j < length prices
-      → ((d : X) → Gathers (f (get_or xs (j % shards) d)) j price holder)
-      → record { price = price; holder = holder } ≡ award_all eps (unsold prices j) (bids_on j (taken_by (shards + j % shards) trail))
+  pub sold_told : (trail : List (TrailLine Letter)) (j : ℕ) (price : ℤ) (holder : Option Held) → 0 < r₁ → All (λ w. Agrees trail (a w)) xs → length xs ≡ task.limits.now.shards → 0 < task.limits.now.shards → j < length task.prices.now
+      → ((d : X) → Gathers (f (get_or xs (j % task.limits.now.shards) d)) j price holder)
+      → record { price = price; holder = holder } ≡ award_all task.eps (unsold task.prices.now j) (bids_on j (taken_by (task.limits.now.shards + j % task.limits.now.shards) trail))
   sold_told trail j price holder room agree many some low got =
-      let q = j % shards in
+      let q = j % task.limits.now.shards in
       let known : q < length xs = omega (arith, many, some) in
-      let at = placed_some (λ k w. IsObjectResult eps r₁ r₂ r₃ shards persons prices k (f w) (a w) (p w) (h w) (y w)) 0 xs q results known in
+      let at = placed_some (λ k w. IsObjectResult task r₁ r₂ r₃ k (f w) (a w) (p w) (h w) (y w)) 0 xs q results known in
       let x = at.0 in
-      let r : IsObjectResult eps r₁ r₂ r₃ shards persons prices q (f x) (a x) (p x) (h x) (y x) = subst (λ (m : ℕ). IsObjectResult eps r₁ r₂ r₃ shards persons prices m (f x) (a x) (p x) (h x) (y x)) (omega arith) at.1 in
+      let r : IsObjectResult task r₁ r₂ r₃ q (f x) (a x) (p x) (h x) (y x) = subst (λ (m : ℕ). IsObjectResult task r₁ r₂ r₃ m (f x) (a x) (p x) (h x) (y x)) (omega arith) at.1 in
       let g : Gathers (f x) j price holder = subst (λ w. Gathers (f w) j price holder) (at.2 x) (got x) in
-      let owns : Owns (new_objects shards persons prices q) j = record { known = low; own = refl } in
-      let start : sale_of (new_objects shards persons prices q) j ≡ unsold prices j = ap (λ (o : Option Held). record { price = price_in prices j; holder = o }) (replicate_default (length prices) j None) in
+      let owns : Owns (new_objects task.limits.now.shards (length task.rows.now.rows) task.prices.now q) j = record { known = low; own = refl } in
+      let start : sale_of (new_objects task.limits.now.shards (length task.rows.now.rows) task.prices.now q) j ≡ unsold task.prices.now j = ap (λ (o : Option Held). record { price = price_in task.prices.now j; holder = o }) (replicate_default (length task.prices.now) j None) in
       let told : letters_in (a x).lines ≡ r.sells.letters = r.sells.took.told room in
-      let lines : lines_of (shards + q) trail ≡ (a x).lines = ap (λ (m : ℕ). lines_of m trail) (sym r.seat) ∙ subst (λ w. Agrees trail (a w)) (at.2 x) (agree q x known) in
+      let lines : lines_of (task.limits.now.shards + q) trail ≡ (a x).lines = ap (λ (m : ℕ). lines_of m trail) (sym r.seat) ∙ subst (λ w. Agrees trail (a w)) (at.2 x) (agree q x known) in
       ap (λ (z : ℤ). record { price = z; holder = holder }) g.price_is
       ∙ (ap (λ (o : Option Held). record { price = price_of (f x) j; holder = o }) g.holder_is
       ∙ (r.sells.sold j owns
-      ∙ (ap (λ (s : Sale). award_all eps s (bids_on j r.sells.letters)) start ∙ ap (λ ls. award_all eps (unsold prices j) (bids_on j ls)) (sym told ∙ ap letters_in (sym lines)))))
+      ∙ (ap (λ (s : Sale). award_all task.eps s (bids_on j r.sells.letters)) start ∙ ap (λ ls. award_all task.eps (unsold task.prices.now j) (bids_on j ls)) (sym told ∙ ap letters_in (sym lines)))))
 
 -- the persons' results
-module _ {X : Type 0} (f : X → Persons) (a p h : X → Account Letter) (y : X → Option Why) (t : Table) (r₁ r₂ r₃ shards bids : ℕ) (prices : List ℤ) (xs : List X)
-    (results : Placed (λ k w. IsPersonResult t r₁ r₂ r₃ shards bids prices k (f w) (a w) (p w) (h w) (y w)) 0 xs) where
-  pub stuck_told : (k : ℕ) × (k < length xs) × ((d : X) → y (get_or xs k d) ≡ Some Why.Stuck) → SomebodyStuck t
+module _ {X : Type 0} (f : X → Persons) (a p h : X → Account Letter) (y : X → Option Why) (task : Task) (r₁ r₂ r₃ : ℕ) (xs : List X)
+    (results : Placed (λ k w. IsPersonResult task r₁ r₂ r₃ k (f w) (a w) (p w) (h w) (y w)) 0 xs) where
+  pub stuck_told : (k : ℕ) × (k < length xs) × ((d : X) → y (get_or xs k d) ≡ Some Why.Stuck) → SomebodyStuck task.rows.now
   stuck_told s =
-      let at = placed_some (λ k w. IsPersonResult t r₁ r₂ r₃ shards bids prices k (f w) (a w) (p w) (h w) (y w)) 0 xs s.0 results s.1 in
+      let at = placed_some (λ k w. IsPersonResult task r₁ r₂ r₃ k (f w) (a w) (p w) (h w) (y w)) 0 xs s.0 results s.1 in
       at.1.stuck (ap y (sym (at.2 at.0)) ∙ s.2 at.0)
 
-  pub fell_told : (trail : List (TrailLine Letter)) → 0 < r₂ → All (λ w. Agrees trail (p w)) xs → length xs ≡ shards
+  pub fell_told : (trail : List (TrailLine Letter)) → 0 < r₂ → All (λ w. Agrees trail (p w)) xs → length xs ≡ task.limits.now.shards
       → (k : ℕ) × (k < length xs) × ((d : X) → y (get_or xs k d) ≡ Some Why.Fell)
-      → (k : ℕ) × (k < shards) × Falls (price_in prices) (taken_by k trail)
+      → (k : ℕ) × (k < task.limits.now.shards) × Falls (price_in task.prices.now) (taken_by k trail)
   fell_told trail room agree many s =
-      let at = placed_some (λ k w. IsPersonResult t r₁ r₂ r₃ shards bids prices k (f w) (a w) (p w) (h w) (y w)) 0 xs s.0 results s.1 in
+      let at = placed_some (λ k w. IsPersonResult task r₁ r₂ r₃ k (f w) (a w) (p w) (h w) (y w)) 0 xs s.0 results s.1 in
       let x = at.0 in
-      let r : IsPersonResult t r₁ r₂ r₃ shards bids prices s.0 (f x) (a x) (p x) (h x) (y x) = subst (λ (m : ℕ). IsPersonResult t r₁ r₂ r₃ shards bids prices m (f x) (a x) (p x) (h x) (y x)) (omega arith) at.1 in
+      let r : IsPersonResult task r₁ r₂ r₃ s.0 (f x) (a x) (p x) (h x) (y x) = subst (λ (m : ℕ). IsPersonResult task r₁ r₂ r₃ m (f x) (a x) (p x) (h x) (y x)) (omega arith) at.1 in
       let told : letters_in (p x).lines ≡ r.hears.letters = r.hears.took.told room in
       let lines : lines_of s.0 trail ≡ (p x).lines = ap (λ (m : ℕ). lines_of m trail) (sym r.seat) ∙ subst (λ w. Agrees trail (p w)) (at.2 x) (agree s.0 x s.1) in
-      let falls : Falls (price_in prices) r.hears.letters = r.hears.hears.falls (ap y (sym (at.2 x)) ∙ s.2 x) in
-      (s.0, omega (arith, s.1, many), subst (λ ls. Falls (price_in prices) ls) (sym told ∙ ap letters_in (sym lines)) falls)
+      let falls : Falls (price_in task.prices.now) r.hears.letters = r.hears.hears.falls (ap y (sym (at.2 x)) ∙ s.2 x) in
+      (s.0, omega (arith, s.1, many), subst (λ ls. Falls (price_in task.prices.now) ls) (sym told ∙ ap letters_in (sym lines)) falls)
 
 -- the hub's
 pub all_told : (room persons w : ℕ) (is_all : Bool) (b : Account Letter) (trail : List (TrailLine Letter)) → 0 < room → Counts room persons (new_account w) is_all b → Agrees trail b
@@ -182,31 +183,31 @@ run_of b w n m r b' n' limits s ls named set =
 
 -- What the trails tell, of all that came back.
 module _ {X Z : Type 0} (f : X → Persons) (a p h : X → Account Letter) (y : X → Option Why) (g : Z → Objects) (b q i : Z → Account Letter) (z : Z → Option Why)
-    (t : Table) (limits : Limits) (eps : ℤ) (ro rp rh : ℕ) (start : List ℤ) (xs : List X) (zs : List Z)
-    (bought : Placed (λ k w. IsPersonResult t ro rp rh limits.shards limits.bids start k (f w) (a w) (p w) (h w) (y w)) 0 xs)
-    (sold : Placed (λ k w. IsObjectResult eps ro rp rh limits.shards (length t.rows) start k (g w) (b w) (q w) (i w) (z w)) 0 zs)
-    (persons_many : length xs ≡ limits.shards) (objects_many : length zs ≡ limits.shards) (some : 0 < limits.shards) (each : length start ≡ t.objects)
-    (is_all : Bool) (hub_objects hub_persons hub : Account Letter) (counts : Counts rh (length t.rows) (new_account (2 * limits.shards)) is_all hub)
+    (task : Task) (ro rp rh : ℕ) (xs : List X) (zs : List Z)
+    (bought : Placed (λ k w. IsPersonResult task ro rp rh k (f w) (a w) (p w) (h w) (y w)) 0 xs)
+    (sold : Placed (λ k w. IsObjectResult task ro rp rh k (g w) (b w) (q w) (i w) (z w)) 0 zs)
+    (persons_many : length xs ≡ task.limits.now.shards) (objects_many : length zs ≡ task.limits.now.shards) (some : 0 < task.limits.now.shards) (each : length task.prices.now ≡ task.rows.now.objects)
+    (is_all : Bool) (hub_objects hub_persons hub : Account Letter) (counts : Counts rh (length task.rows.now.rows) (new_account (2 * task.limits.now.shards)) is_all hub)
     (e : PhaseEnd)
-    (gathers : (j : ℕ) (d : Z) → j < t.objects → Gathers (g (get_or zs (j % limits.shards) d)) j (price_in e.gathered.prices.items j) (get_or e.gathered.holders.items j None))
+    (gathers : (j : ℕ) (d : Z) → j < task.rows.now.objects → Gathers (g (get_or zs (j % task.limits.now.shards) d)) j (price_in e.gathered.prices.items j) (get_or e.gathered.holders.items j None))
     (ends : (e.end ≡ Some End.All) ↔ IsTrue is_all)
     (falls : e.end ≡ Some (End.Stopped Why.Fell) → (k : ℕ) × (k < length xs) × ((d : X) → y (get_or xs k d) ≡ Some Why.Fell))
-    (bo wo no mo bp wp np mp bh wh nh mh : ℕ) (named_o : IsNamed bo wo no mo ro limits.shards (objects_nodes limits (length t.rows)) limits) (named_p : IsNamed bp wp np mp rp limits.shards (persons_nodes limits (length t.rows)) limits)
-    (named_h : IsNamed bh wh nh mh rh 1 (hub_nodes limits (length t.rows)) limits)
+    (bo wo no mo bp wp np mp bh wh nh mh : ℕ) (named_o : IsNamed bo wo no mo ro task.limits.now.shards (objects_nodes task.limits.now (length task.rows.now.rows)) task.limits.now) (named_p : IsNamed bp wp np mp rp task.limits.now.shards (persons_nodes task.limits.now (length task.rows.now.rows)) task.limits.now)
+    (named_h : IsNamed bh wh nh mh rh 1 (hub_nodes task.limits.now (length task.rows.now.rows)) task.limits.now)
     (so sp sh : List (Account Letter)) (eo : so ≡ (map a xs ++ map b zs) ++ hub_objects ∷ []) (ep : sp ≡ (map p xs ++ map q zs) ++ hub_persons ∷ []) (eh : sh ≡ (map h xs ++ map i zs) ++ hub ∷ [])
     (trails : Trails) where
-  pub told_phase : IsSettled bo wo no mo ro so trails.objects → IsSettled bp wp np mp rp sp trails.persons → IsSettled bh wh nh mh rh sh trails.hub → IsToldBy t limits eps start e trails
+  pub told_phase : IsSettled bo wo no mo ro so trails.objects → IsSettled bp wp np mp rp sp trails.persons → IsSettled bh wh nh mh rh sh trails.hub → IsToldBy task.rows.now task.limits.now task.eps task.prices.now e trails
   told_phase o u v =
-      let hub_told = all_told rh (length t.rows) (2 * limits.shards) is_all hub trails.hub v.kept counts (all_last (Agrees trails.hub) h i xs zs hub sh eh v.agree) in
+      let hub_told = all_told rh (length task.rows.now.rows) (2 * task.limits.now.shards) is_all hub trails.hub v.kept counts (all_last (Agrees trails.hub) h i xs zs hub sh eh v.agree) in
       record {
         kept = subst (λ (x : ℕ). 0 < x) named_o.room_is o.kept;
-        objects_run = run_of bo wo no mo ro limits.shards (objects_nodes limits (length t.rows)) limits so trails.objects named_o o;
-        persons_run = run_of bp wp np mp rp limits.shards (persons_nodes limits (length t.rows)) limits sp trails.persons named_p u;
-        hub_run = run_of bh wh nh mh rh 1 (hub_nodes limits (length t.rows)) limits sh trails.hub named_h v;
+        objects_run = run_of bo wo no mo ro task.limits.now.shards (objects_nodes task.limits.now (length task.rows.now.rows)) task.limits.now so trails.objects named_o o;
+        persons_run = run_of bp wp np mp rp task.limits.now.shards (persons_nodes task.limits.now (length task.rows.now.rows)) task.limits.now sp trails.persons named_p u;
+        hub_run = run_of bh wh nh mh rh 1 (hub_nodes task.limits.now (length task.rows.now.rows)) task.limits.now sh trails.hub named_h v;
         sold = λ j low.
-            sold_told g b q i z eps ro rp rh limits.shards (length t.rows) start zs sold trails.objects j (price_in e.gathered.prices.items j) (get_or e.gathered.holders.items j None) o.kept (all_second (Agrees trails.objects) a b xs zs hub_objects so eo o.agree) objects_many some (omega (arith, low, each)) (λ d. gathers j d low);
+            sold_told g b q i z task ro rp rh zs sold trails.objects j (price_in e.gathered.prices.items j) (get_or e.gathered.holders.items j None) o.kept (all_second (Agrees trails.objects) a b xs zs hub_objects so eo o.agree) objects_many some (omega (arith, low, each)) (λ d. gathers j d low);
         all = ((λ x. hub_told.0 (ends.0 x)), (λ x. ends.1 (hub_told.1 x)));
-        fell = λ x. fell_told f a p h y t ro rp rh limits.shards limits.bids start xs bought trails.persons u.kept (all_first (Agrees trails.persons) p q xs zs hub_persons sp ep u.agree) persons_many (falls x);
+        fell = λ x. fell_told f a p h y task ro rp rh xs bought trails.persons u.kept (all_first (Agrees trails.persons) p q xs zs hub_persons sp ep u.agree) persons_many (falls x);
       }
 
 pub told_map : {T : Type 0} (o : Option T) (P Q R S : T → Type 0) → IfSome o P → IfSome o Q → IfSome o R → ((t : T) → P t → Q t → R t → S t) → IfSome o S

@@ -14,7 +14,7 @@ use Rattle.auc_model.specs.Mails.{box_of}
 use Rattle.auc_answers.specs.Boxes.{Reaches, boxes_in, name_of}
 use Rattle.auc_answers.proofs.ShardLaws.{answers_reach}
 use Rattle.auc_threads.specs.Taking.{GoesWithin, TookMore}
-use Rattle.auc_threads.specs.Sales.{IsDuty, Sells}
+use Rattle.auc_threads.specs.Sales.{Sells}
 use Rattle.auc_threads.proofs.TakingLaws.{took_then}
 
 pub same_shape : (s : Objects) → SameShape s s
@@ -32,10 +32,6 @@ shape_then s t u f g = record {
 
 pub owns_then : (s t : Objects) (j : ℕ) → SameShape s t → Owns s j → Owns t j
 owns_then s t j e o = record { known = subst (λ (n : ℕ). j < n) (sym e.objects) o.known; own = ap (λ (n : ℕ). j % n) e.of ∙ (o.own ∙ sym e.shard) }
-
--- the duty stays
-pub duty_then : (number : ℕ) (eps : ℤ) (shards : ℕ) (s t : Objects) → SameShape s t → IsDuty number eps shards s → IsDuty number eps shards t
-duty_then number eps shards s t same duty = record { eps_is = duty.eps_is; known = duty.known; tells = same.person_shards ∙ duty.tells }
 
 bids_append : (j : ℕ) (xs ys : List Letter) → bids_on j (xs ++ ys) ≡ bids_on j xs ++ bids_on j ys
 bids_append j xs ys = filter_map-append (bid_on j) xs ys

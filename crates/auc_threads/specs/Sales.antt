@@ -1,8 +1,7 @@
 -- What the award rule makes of the objects of a shard, letter by letter.
-use Rattle.std.specs.Prelude.{◌≡◌, ◌<◌, ℕ, ℤ, List}
+use Rattle.std.specs.Prelude.{◌≡◌, ℕ, ℤ, List}
 use Rattle.auc_letters.specs.declared.letter.Letter.{Letter}
 use Rattle.auc_letters.specs.Award.{award_all, bids_on}
-use Rattle.auc_letters.specs.Price.{IsEps}
 use Rattle.auc_objects.specs.Objects.{Objects, Owns, SameShape, sale_of}
 use Rattle.auc_book.specs.Seat.{Account}
 use Rattle.auc_threads.specs.Taking.{TookMore}
@@ -14,9 +13,3 @@ pub record Sells (eps : ℤ) (room : ℕ) (s : Objects) (a : Account Letter) (t 
   pub letters : List Letter
   pub took : TookMore room a letters b
   pub sold : (j : ℕ) → Owns s j → sale_of t j ≡ award_all eps (sale_of s j) (bids_on j letters)
-
--- the numbers by which a shard of the objects works: eps, which shard it is, and how many there are of each kind
-pub record IsDuty (number : ℕ) (eps : ℤ) (shards : ℕ) (s : Objects) : Type 0 where
-  pub eps_is : IsEps eps
-  pub known : number < shards
-  pub tells : s.person_shards ≡ shards

@@ -8,6 +8,7 @@ use Rattle.auc_graph.specs.Table.{Table}
 use Rattle.auc_persons.specs.Candidates.{Kept, Listed}
 use Rattle.auc_persons.specs.Persons.{Persons}
 use Rattle.auc_answers.specs.Shards.{new_objects, new_persons}
+use Rattle.auc_threads.specs.declared.task.Task.{Task}
 use Rattle.auc_threads.specs.Hearing.{Hears, SomebodyStuck}
 use Rattle.auc_threads.specs.Taking.{TookMore}
 use Rattle.auc_threads.specs.Sales.{Sells}
@@ -19,9 +20,9 @@ pub record AreNewSeats (k : ℕ) (objects persons hub : Account Letter) : Type 0
   pub hub_seat : hub ≡ new_account k
 
 -- what the shard number k of the objects begins with
-pub record IsObjectStart (shards persons : ℕ) (prices : List ℤ) (k : ℕ) (s : Objects) (a p h : Account Letter) : Type 0 where
-  pub shard : s ≡ new_objects shards persons prices k
-  pub seats : AreNewSeats (shards + k) a p h
+pub record IsObjectStart (task : Task) (k : ℕ) (s : Objects) (a p h : Account Letter) : Type 0 where
+  pub shard : s ≡ new_objects task.limits.now.shards (length task.rows.now.rows) task.prices.now k
+  pub seats : AreNewSeats (task.limits.now.shards + k) a p h
 
 -- what comes of a worker of the objects
 pub record IsObjectWork (eps : ℤ) (objects_room persons_room hub_room : ℕ) (s : Objects) (a p h : Account Letter) (t : Objects) (a' p' h' : Account Letter) (why : Option Why) : Type 0 where
@@ -31,27 +32,27 @@ pub record IsObjectWork (eps : ℤ) (objects_room persons_room hub_room : ℕ) (
   pub no_guard : (why ≢ Some Why.Stuck) × (why ≢ Some Why.Fell)
 
 -- what the thread number k of the objects promises: it works at eps, from such a beginning
-pub record IsObjectPromise (eps : ℤ) (shards persons : ℕ) (prices : List ℤ) (k : ℕ) (eps' : ℤ) (s : Objects) (a p h : Account Letter) : Type 0 where
-  pub at_eps : eps' ≡ eps
-  pub begins : IsObjectStart shards persons prices k s a p h
+pub record IsObjectPromise (task : Task) (k : ℕ) (eps : ℤ) (s : Objects) (a p h : Account Letter) : Type 0 where
+  pub at_eps : eps ≡ task.eps
+  pub begins : IsObjectStart task k s a p h
 
 -- what the thread number k of the objects gives back
-pub record IsObjectResult (eps : ℤ) (objects_room persons_room hub_room shards persons : ℕ) (prices : List ℤ) (k : ℕ) (t : Objects) (a p h : Account Letter) (why : Option Why) : Type 0 where
-  pub seat : a.worker ≡ shards + k
-  pub persons_seat : p.worker ≡ shards + k
-  pub hub_seat : h.worker ≡ shards + k
-  pub sells : Sells eps objects_room (new_objects shards persons prices k) (new_account (shards + k)) t a
+pub record IsObjectResult (task : Task) (objects_room persons_room hub_room : ℕ) (k : ℕ) (t : Objects) (a p h : Account Letter) (why : Option Why) : Type 0 where
+  pub seat : a.worker ≡ task.limits.now.shards + k
+  pub persons_seat : p.worker ≡ task.limits.now.shards + k
+  pub hub_seat : h.worker ≡ task.limits.now.shards + k
+  pub sells : Sells task.eps objects_room (new_objects task.limits.now.shards (length task.rows.now.rows) task.prices.now k) (new_account (task.limits.now.shards + k)) t a
   pub no_guard : (why ≢ Some Why.Stuck) × (why ≢ Some Why.Fell)
 
 -- the same of the persons
-pub record IsPersonStart (t : Table) (shards bids : ℕ) (prices : List ℤ) (k : ℕ) (s : Persons) (a p h : Account Letter) : Type 0 where
-  pub shard : s ≡ new_persons shards (length t.rows) bids prices k
+pub record IsPersonStart (task : Task) (k : ℕ) (s : Persons) (a p h : Account Letter) : Type 0 where
+  pub shard : s ≡ new_persons task.limits.now.shards (length task.rows.now.rows) task.limits.now.bids task.prices.now k
   pub seats : AreNewSeats k a p h
 
 -- and with lists that are right whatever the copies are
-pub record IsBuyerStart (t : Table) (shards bids : ℕ) (prices : List ℤ) (k : ℕ) (s : Persons) (lists : List Listed) (a p h : Account Letter) : Type 0 where
-  pub begins : IsPersonStart t shards bids prices k s a p h
-  pub kept : (copies : List ℤ) → Kept t copies lists
+pub record IsBuyerStart (task : Task) (k : ℕ) (s : Persons) (lists : List Listed) (a p h : Account Letter) : Type 0 where
+  pub begins : IsPersonStart task k s a p h
+  pub kept : (copies : List ℤ) → Kept task.rows.now copies lists
 
 pub record IsPersonWork (t : Table) (objects_room persons_room hub_room : ℕ) (s : Persons) (a p h : Account Letter) (n : Persons) (a' p' h' : Account Letter) (why : Option Why) : Type 0 where
   pub hears : Hears persons_room s p n p' (why ≡ Some Why.Fell)
@@ -59,13 +60,13 @@ pub record IsPersonWork (t : Table) (objects_room persons_room hub_room : ℕ) (
   pub hub_seat : TookMore hub_room h [] h'
   pub stuck : why ≡ Some Why.Stuck → SomebodyStuck t
 
-pub record IsPersonPromise (t : Table) (shards bids : ℕ) (prices : List ℤ) (k : ℕ) (t' : Table) (s : Persons) (a p h : Account Letter) : Type 0 where
-  pub same_table : t' ≡ t
-  pub begins : IsPersonStart t shards bids prices k s a p h
+pub record IsPersonPromise (task : Task) (k : ℕ) (t : Table) (s : Persons) (a p h : Account Letter) : Type 0 where
+  pub same_table : t ≡ task.rows.now
+  pub begins : IsPersonStart task k s a p h
 
-pub record IsPersonResult (t : Table) (objects_room persons_room hub_room shards bids : ℕ) (prices : List ℤ) (k : ℕ) (n : Persons) (a p h : Account Letter) (why : Option Why) : Type 0 where
+pub record IsPersonResult (task : Task) (objects_room persons_room hub_room : ℕ) (k : ℕ) (n : Persons) (a p h : Account Letter) (why : Option Why) : Type 0 where
   pub seat : p.worker ≡ k
   pub objects_seat : a.worker ≡ k
   pub hub_seat : h.worker ≡ k
-  pub hears : Hears persons_room (new_persons shards (length t.rows) bids prices k) (new_account k) n p (why ≡ Some Why.Fell)
-  pub stuck : why ≡ Some Why.Stuck → SomebodyStuck t
+  pub hears : Hears persons_room (new_persons task.limits.now.shards (length task.rows.now.rows) task.limits.now.bids task.prices.now k) (new_account k) n p (why ≡ Some Why.Fell)
+  pub stuck : why ≡ Some Why.Stuck → SomebodyStuck task.rows.now

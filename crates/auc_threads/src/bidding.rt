@@ -2,7 +2,6 @@
 
 ghost use Rattle.std.specs.Prelude.{◌≡◌, ◌≢◌, ◌<◌, [], All};
 ghost use Rattle.auc_letters.specs.declared.letter.Why.{Why};
-ghost use Rattle.auc_letters.specs.Price.{IsEps};
 ghost use Rattle.auc_persons.specs.Candidates.{Kept};
 ghost use Rattle.auc_answers.specs.Shards.{IsPersonShard};
 ghost use Rattle.auc_threads.specs.Taking.{GoesWithin, TookMore};
@@ -10,9 +9,9 @@ ghost use Rattle.auc_threads.specs.Hearing.{SomebodyStuck};
 
 use crate::calls::{BATCH, Calls, Step};
 use crate::gate::Gate;
+use crate::task::Task;
 use arrayvec::ArrayVec;
 use auc_book::{MailBrand, Seat, SharedMail};
-use auc_graph::Rows;
 use auc_letters::{Letter, Out, Why};
 use auc_persons::{Bidding, Candidates, PersonShard};
 use std::sync::Wait;
@@ -25,51 +24,45 @@ pub(crate) struct Buyer {
 }
 
 /// Asks for the next bid.
-fn ask(rows: &Rows, shards: u32, number: u32, eps: i64, buyer: &mut Buyer) -> Bidding
-    requires shard { IsPersonShard rows.now shards number buyer.old.shard }
-    requires kept { Kept rows.now buyer.old.shard.copies buyer.old.lists }
-    requires known { number < shards }
-    requires eps { IsEps eps }
-    ensures is { IsPersonShard rows.now shards number buyer.new.shard }
-    ensures kept { Kept rows.now buyer.new.shard.copies buyer.new.lists }
+fn ask(task: &Task, number: u32, buyer: &mut Buyer) -> Bidding
+    requires shard { IsPersonShard task.now.rows.now task.now.limits.now.shards number buyer.old.shard }
+    requires kept { Kept task.now.rows.now buyer.old.shard.copies buyer.old.lists }
+    requires known { number < task.now.limits.now.shards }
+    ensures is { IsPersonShard task.now.rows.now task.now.limits.now.shards number buyer.new.shard }
+    ensures kept { Kept task.now.rows.now buyer.new.shard.copies buyer.new.lists }
     ensures copies { buyer.new.shard.copies ≡ buyer.old.shard.copies }
-    ensures stuck { result ≡ Bidding.Stop Why.Stuck → SomebodyStuck rows.now }
+    ensures stuck { result ≡ Bidding.Stop Why.Stuck → SomebodyStuck task.now.rows.now }
     ensures why { result ≢ Bidding.Stop Why.Fell }
-    ensures reach { (o : _) → result ≡ Bidding.Out o → GoesWithin shards o }
+    ensures reach { (o : _) → result ≡ Bidding.Out o → GoesWithin task.now.limits.now.shards o }
 {
-    let _ = shards;
-    let _ = number;
     let lists = &mut buyer.lists;
-    buyer.shard.next_bid_by(rows, eps, lists)
+    buyer.shard.next_bid_by(task.rows, task.eps, lists)
 }
 
 /// Asks for bids until nobody is free, but no more than `most`, nor more than find a place.
 pub(crate) fn ask_all(
-    rows: &Rows,
-    shards: u32,
+    task: &Task,
     number: u32,
-    eps: i64,
     buyer: &mut Buyer,
     bids: &mut ArrayVec<Out, BATCH>,
     most: usize,
 ) -> Step
-    requires shard { IsPersonShard rows.now shards number buyer.old.shard }
-    requires kept { Kept rows.now buyer.old.shard.copies buyer.old.lists }
-    requires known { number < shards }
-    requires eps { IsEps eps }
-    requires reach { All (GoesWithin shards) bids.old.items }
-    ensures is { IsPersonShard rows.now shards number buyer.new.shard }
-    ensures kept { Kept rows.now buyer.new.shard.copies buyer.new.lists }
+    requires shard { IsPersonShard task.now.rows.now task.now.limits.now.shards number buyer.old.shard }
+    requires kept { Kept task.now.rows.now buyer.old.shard.copies buyer.old.lists }
+    requires known { number < task.now.limits.now.shards }
+    requires reach { All (GoesWithin task.now.limits.now.shards) bids.old.items }
+    ensures is { IsPersonShard task.now.rows.now task.now.limits.now.shards number buyer.new.shard }
+    ensures kept { Kept task.now.rows.now buyer.new.shard.copies buyer.new.lists }
     ensures copies { buyer.new.shard.copies ≡ buyer.old.shard.copies }
-    ensures stuck { result ≡ Step.Stop Why.Stuck → SomebodyStuck rows.now }
+    ensures stuck { result ≡ Step.Stop Why.Stuck → SomebodyStuck task.now.rows.now }
     ensures why { result ≢ Step.Stop Why.Fell }
-    ensures reach { All (GoesWithin shards) bids.new.items }
+    ensures reach { All (GoesWithin task.now.limits.now.shards) bids.new.items }
 {
     for _ in 0..most {
         if bids.is_full() {
             return Step::On;
         }
-        match ask(rows, shards, number, eps, buyer) {
+        match ask(task, number, buyer) {
             Bidding::Idle => return Step::On,
             Bidding::Stop { why } => return Step::Stop { why },
             Bidding::Out { out } => bids.push(out),

@@ -20,6 +20,7 @@ mod settling;
 mod solving;
 mod stopping;
 mod taking;
+mod task;
 mod telling;
 mod verdict;
 

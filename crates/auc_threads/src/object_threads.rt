@@ -1,37 +1,22 @@
 //! The threads of the objects.
 
-ghost use Rattle.std.specs.Prelude.{ℕ, ◌≡◌, ◌≢◌, ◌≤◌, ◌+◌, [], Some, length, All, vec_len, vec_capacity, IfOk, IsTrue};
-ghost use Rattle.auc_letters.specs.declared.letter.Why.{Why};
-ghost use Rattle.auc_letters.specs.Price.{IsEps, IsPrice};
-ghost use Rattle.auc_threads.specs.Taking.{TookMore};
-ghost use Rattle.auc_threads.specs.Sales.{IsDuty, Sells};
+ghost use Rattle.std.specs.Prelude.{◌≡◌, ◌<◌, ◌≤◌, [], vec_len, vec_capacity, IsTrue};
 ghost use Rattle.auc_threads.specs.Placed.{Placed};
 ghost use Rattle.auc_threads.specs.Starts.{IsObjectPromise, IsObjectResult, IsObjectStart};
 
-use crate::dealing::Duty;
 use crate::gate::Gate;
-use crate::mails::{Mails, WorkerSeats};
-use crate::object_worker::{ObjectWork, sell};
+use crate::object_worker::{ObjectWork, ObjectWorker, sell};
+use crate::task::{PhaseRun, Task};
 use auc_book::MailBrand;
-use auc_graph::Rows;
-use auc_objects::ObjectShard;
-use std::alloc::{AllocError, Global};
 use std::snapshot::Snapshot;
 use std::sync::Wait;
 use std::thread::{Promise, PromisedHandle, Scope, Threads};
-
-/// What a thread of the objects begins with.
-#[derive(Drop)]
-pub(crate) struct ObjectStart<O: MailBrand, P: MailBrand, H: MailBrand> {
-    pub(crate) shard: ObjectShard,
-    pub(crate) seats: WorkerSeats<O, P, H>,
-}
 
 /// What a thread of the objects promises: its shard comes of the bids that its seat tells of.
 #[derive(Drop)]
 pub(crate) struct Sold<O: MailBrand, P: MailBrand, H: MailBrand> {
     pub(crate) eps: i64,
-    pub(crate) start: Snapshot<ObjectStart<O, P, H>>,
+    pub(crate) start: Snapshot<ObjectWorker<O, P, H>>,
 }
 
 impl<O: MailBrand, P: MailBrand, H: MailBrand> Promise<ObjectWork<O, P, H>> for Sold<O, P, H> {
@@ -53,35 +38,27 @@ pub(crate) fn start_objects<
     scope: &'s Scope<'s, &'e ()>,
     rt: &'e R,
     gate: &'e G,
-    mails: &'e Mails<O, P, H>,
-    rows: &Rows,
-    prices: &[i64],
-    eps: i64,
-    starts: Vec<ObjectStart<O, P, H>>,
+    run: &'e PhaseRun<'e, O, P, H>,
+    starts: Vec<ObjectWorker<O, P, H>>,
     handles: &mut Vec<PromisedHandle<ObjectWork<O, P, H>, Sold<O, P, H>>>,
 ) -> bool
-    requires eps { IsEps eps }
-    requires many { vec_len starts ≡ mails.now.shards }
-    requires starts { Placed (λ k x. IsObjectStart mails.now.shards (length rows.now.rows) prices.now k x.shard x.seats.objects x.seats.persons x.seats.hub) 0 starts.items }
+    requires many { vec_len starts ≡ run.now.task.limits.now.shards }
+    requires starts { Placed (λ k x. IsObjectStart run.now.task k x.shard x.seats.objects x.seats.persons x.seats.hub) 0 starts.items }
     requires none { handles.old.items ≡ [] }
     requires room { vec_len starts ≤ vec_capacity handles.old }
-    ensures promised { Placed (λ k h. IsObjectPromise eps mails.now.shards (length rows.now.rows) prices.now k h.promise.eps h.promise.start.value.shard h.promise.start.value.seats.objects h.promise.start.value.seats.persons h.promise.start.value.seats.hub) 0 handles.new.items }
-    ensures few { vec_len handles.new ≤ mails.now.shards }
-    ensures all { IsTrue result → vec_len handles.new ≡ mails.now.shards }
+    ensures promised { Placed (λ k h. IsObjectPromise run.now.task k h.promise.eps h.promise.start.value.shard h.promise.start.value.seats.objects h.promise.start.value.seats.persons h.promise.start.value.seats.hub) 0 handles.new.items }
+    ensures few { vec_len handles.new ≤ run.now.task.limits.now.shards }
+    ensures all { IsTrue result → vec_len handles.new ≡ run.now.task.limits.now.shards }
 {
-    let _ = rows.persons();
-    let _ = prices.len();
     let mut number: u32 = 0;
     for start in starts {
-        let duty = Duty { number, eps };
         let promise = Sold {
-            eps,
+            eps: run.task.eps,
             start: Snapshot::of(&start),
         };
-        let ObjectStart { shard, seats } = start;
         let work = move || -> ObjectWork<O, P, H>
-            requires { IsDuty duty.number duty.eps mails.now.shards shard }
-        { sell(rt, gate, mails, duty, shard, seats) };
+            requires { (start.shard.person_shards ≡ run.now.task.limits.now.shards) × (number < run.now.task.limits.now.shards) }
+        { sell(rt, gate, run, number, start) };
         let Ok(handle) = scope.spawn_with(promise, work) else {
             return false;
         };
@@ -99,23 +76,16 @@ pub(crate) fn join_objects<
     R: Threads,
 >(
     rt: &R,
+    task: &Task,
     handles: Vec<PromisedHandle<ObjectWork<O, P, H>, Sold<O, P, H>>>,
     works: &mut Vec<ObjectWork<O, P, H>>,
-    shards: u32,
-    eps: i64,
-    rows: &Rows,
-    prices: &[i64],
 )
-    requires promised { Placed (λ k h. IsObjectPromise eps shards (length rows.now.rows) prices.now k h.promise.eps h.promise.start.value.shard h.promise.start.value.seats.objects h.promise.start.value.seats.persons h.promise.start.value.seats.hub) 0 handles.items }
+    requires promised { Placed (λ k h. IsObjectPromise task.now k h.promise.eps h.promise.start.value.shard h.promise.start.value.seats.objects h.promise.start.value.seats.persons h.promise.start.value.seats.hub) 0 handles.items }
     requires none { works.old.items ≡ [] }
     requires room { vec_len handles ≤ vec_capacity works.old }
     ensures many { vec_len works.new ≡ vec_len handles }
-    ensures works { Placed (λ k r. IsObjectResult eps O.room P.room H.room shards (length rows.now.rows) prices.now k r.shard r.seats.objects r.seats.persons r.seats.hub r.why) 0 works.new.items }
+    ensures works { Placed (λ k r. IsObjectResult task.now O.room P.room H.room k r.shard r.seats.objects r.seats.persons r.seats.hub r.why) 0 works.new.items }
 {
-    let _ = shards;
-    let _ = eps;
-    let _ = rows.objects();
-    let _ = prices.len();
     for handle in handles {
         works.push_reserved(handle.join(rt));
     }

@@ -1,21 +1,29 @@
 //! A worker of the objects: it deals with bids until the phase is over.
 
-ghost use Rattle.std.specs.Prelude.{◌≡◌, ◌≢◌, [], Some};
+ghost use Rattle.std.specs.Prelude.{◌≡◌, ◌≢◌, ◌<◌, [], Some};
 ghost use Rattle.auc_letters.specs.declared.letter.Why.{Why};
 ghost use Rattle.auc_threads.specs.Taking.{TookMore};
-ghost use Rattle.auc_threads.specs.Sales.{IsDuty, Sells};
+ghost use Rattle.auc_threads.specs.Sales.{Sells};
 
 use crate::calls::{BATCH, Step};
-use crate::dealing::{Duty, deal_next};
+use crate::dealing::deal_next;
 use crate::gate::Gate;
-use crate::mails::{Mails, WorkerSeats};
+use crate::mails::WorkerSeats;
 use crate::stopping::end;
+use crate::task::PhaseRun;
 use crate::telling::{Said, tell};
 use arrayvec::ArrayVec;
 use auc_book::MailBrand;
 use auc_letters::Why;
 use auc_objects::ObjectShard;
 use std::sync::Wait;
+
+/// A worker of the objects: its shard and its seats.
+#[derive(Drop)]
+pub(crate) struct ObjectWorker<O: MailBrand, P: MailBrand, H: MailBrand> {
+    pub(crate) shard: ObjectShard,
+    pub(crate) seats: WorkerSeats<O, P, H>,
+}
 
 /// What a worker of the objects gives back: its shard and its seats, and why it stopped, if it did.
 #[derive(Drop)]
@@ -29,23 +37,21 @@ pub(crate) struct ObjectWork<O: MailBrand, P: MailBrand, H: MailBrand> {
 fn serve<O: MailBrand, P: MailBrand, H: MailBrand, R: Wait, G: Gate>(
     rt: &R,
     gate: &G,
-    mails: &Mails<O, P, H>,
-    duty: Duty,
-    shard: &mut ObjectShard,
-    seats: &mut WorkerSeats<O, P, H>,
+    run: &PhaseRun<'_, O, P, H>,
+    number: u32,
+    worker: &mut ObjectWorker<O, P, H>,
     said: &mut ArrayVec<Said, BATCH>,
 ) -> Step
-    requires { IsDuty duty.number duty.eps mails.now.shards shard.old }
-    ensures sells { Sells duty.eps O.room shard.old seats.old.objects shard.new seats.new.objects }
-    ensures persons { TookMore P.room seats.old.persons [] seats.new.persons }
-    ensures hub { TookMore H.room seats.old.hub [] seats.new.hub }
+    requires tells { worker.old.shard.person_shards ≡ run.now.task.limits.now.shards }
+    requires known { number < run.now.task.limits.now.shards }
+    ensures sells { Sells run.now.task.eps O.room worker.old.shard worker.old.seats.objects worker.new.shard worker.new.seats.objects }
+    ensures persons { TookMore P.room worker.old.seats.persons [] worker.new.seats.persons }
+    ensures hub { TookMore H.room worker.old.seats.hub [] worker.new.seats.hub }
     ensures why { (result ≢ Step.Stop Why.Stuck) × (result ≢ Step.Stop Why.Fell) }
 {
     said.clear();
-    let shards = mails.shards;
-    let bought = &mut seats.objects;
-    let step = deal_next(rt, gate, &mails.objects, duty, shards, shard, bought, said);
-    let told = tell(rt, gate, mails, seats, said.as_slice());
+    let step = deal_next(rt, gate, run, number, worker, said);
+    let told = tell(rt, gate, run, &mut worker.seats, said.as_slice());
     if step != Step::On {
         return step;
     }
@@ -56,24 +62,24 @@ fn serve<O: MailBrand, P: MailBrand, H: MailBrand, R: Wait, G: Gate>(
 pub(crate) fn sell<O: MailBrand, P: MailBrand, H: MailBrand, R: Wait, G: Gate>(
     rt: &R,
     gate: &G,
-    mails: &Mails<O, P, H>,
-    duty: Duty,
-    shard: ObjectShard,
-    seats: WorkerSeats<O, P, H>,
+    run: &PhaseRun<'_, O, P, H>,
+    number: u32,
+    worker: ObjectWorker<O, P, H>,
 ) -> ObjectWork<O, P, H>
-    requires { IsDuty duty.number duty.eps mails.now.shards shard }
-    ensures sells { Sells duty.eps O.room shard seats.objects result.shard result.seats.objects }
-    ensures persons { TookMore P.room seats.persons [] result.seats.persons }
-    ensures hub { TookMore H.room seats.hub [] result.seats.hub }
+    requires tells { worker.shard.person_shards ≡ run.now.task.limits.now.shards }
+    requires known { number < run.now.task.limits.now.shards }
+    ensures sells { Sells run.now.task.eps O.room worker.shard worker.seats.objects result.shard result.seats.objects }
+    ensures persons { TookMore P.room worker.seats.persons [] result.seats.persons }
+    ensures hub { TookMore H.room worker.seats.hub [] result.seats.hub }
     ensures why { (result.why ≢ Some Why.Stuck) × (result.why ≢ Some Why.Fell) }
 {
-    let mut shard = shard;
-    let mut seats = seats;
+    let mut worker = worker;
     let mut said = ArrayVec::new();
     for _ in rt.forever() {
-        let step = serve(rt, gate, mails, duty, &mut shard, &mut seats, &mut said);
+        let step = serve(rt, gate, run, number, &mut worker, &mut said);
         if step != Step::On {
-            let why = end(rt, gate, &mails.hub, &mut seats.hub, step);
+            let why = end(rt, gate, &run.mails.hub, &mut worker.seats.hub, step);
+            let ObjectWorker { shard, seats } = worker;
             return ObjectWork { shard, seats, why };
         }
     }

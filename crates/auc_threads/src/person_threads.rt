@@ -1,36 +1,25 @@
 //! The threads of the persons.
 
-ghost use Rattle.std.specs.Prelude.{ℕ, ◌≡◌, ◌<◌, ◌≤◌, [], Some, length, All, vec_len, vec_capacity, IfOk, IsTrue};
-ghost use Rattle.auc_letters.specs.declared.letter.Why.{Why};
-ghost use Rattle.auc_letters.specs.Price.{IsEps};
+ghost use Rattle.std.specs.Prelude.{◌≡◌, ◌<◌, ◌≤◌, [], vec_len, vec_capacity, IsTrue};
 ghost use Rattle.auc_persons.specs.Candidates.{Kept};
 ghost use Rattle.auc_answers.specs.Shards.{IsPersonShard};
 ghost use Rattle.auc_threads.specs.Placed.{Placed};
 ghost use Rattle.auc_threads.specs.Starts.{IsBuyerStart, IsPersonPromise, IsPersonResult};
 
-use crate::bidding::Buyer;
 use crate::gate::Gate;
-use crate::mails::{Mails, WorkerSeats};
-use crate::person_worker::{PersonWork, buy};
+use crate::person_worker::{PersonWork, PersonWorker, buy};
+use crate::task::{PhaseRun, Task};
 use auc_book::MailBrand;
 use auc_graph::Rows;
-use std::alloc::{AllocError, Global};
 use std::snapshot::Snapshot;
 use std::sync::Wait;
 use std::thread::{Promise, PromisedHandle, Scope, Threads};
-
-/// What a thread of the persons begins with.
-#[derive(Drop)]
-pub(crate) struct PersonStart<O: MailBrand, P: MailBrand, H: MailBrand> {
-    pub(crate) buyer: Buyer,
-    pub(crate) seats: WorkerSeats<O, P, H>,
-}
 
 /// What a thread of the persons promises: it falls only where its seat tells of a fall, and is stuck only where a person has no arc.
 #[derive(Drop)]
 pub(crate) struct Bought<O: MailBrand, P: MailBrand, H: MailBrand> {
     pub(crate) rows: Snapshot<Rows>,
-    pub(crate) start: Snapshot<PersonStart<O, P, H>>,
+    pub(crate) start: Snapshot<PersonWorker<O, P, H>>,
 }
 
 impl<O: MailBrand, P: MailBrand, H: MailBrand> Promise<PersonWork<O, P, H>> for Bought<O, P, H> {
@@ -52,36 +41,28 @@ pub(crate) fn start_persons<
     scope: &'s Scope<'s, &'e ()>,
     rt: &'e R,
     gate: &'e G,
-    mails: &'e Mails<O, P, H>,
-    rows: &'e Rows,
-    prices: &[i64],
-    bids: u64,
-    eps: i64,
-    starts: Vec<PersonStart<O, P, H>>,
+    run: &'e PhaseRun<'e, O, P, H>,
+    starts: Vec<PersonWorker<O, P, H>>,
     handles: &mut Vec<PromisedHandle<PersonWork<O, P, H>, Bought<O, P, H>>>,
 ) -> bool
-    requires eps { IsEps eps }
-    requires prices { length prices.now ≡ rows.now.objects }
-    requires many { vec_len starts ≡ mails.now.shards }
-    requires starts { Placed (λ k x. IsBuyerStart rows.now mails.now.shards bids prices.now k x.buyer.shard x.buyer.lists x.seats.objects x.seats.persons x.seats.hub) 0 starts.items }
+    requires many { vec_len starts ≡ run.now.task.limits.now.shards }
+    requires starts { Placed (λ k x. IsBuyerStart run.now.task k x.buyer.shard x.buyer.lists x.seats.objects x.seats.persons x.seats.hub) 0 starts.items }
     requires none { handles.old.items ≡ [] }
     requires room { vec_len starts ≤ vec_capacity handles.old }
-    ensures promised { Placed (λ k h. IsPersonPromise rows.now mails.now.shards bids prices.now k h.promise.rows.value h.promise.start.value.buyer.shard h.promise.start.value.seats.objects h.promise.start.value.seats.persons h.promise.start.value.seats.hub) 0 handles.new.items }
-    ensures few { vec_len handles.new ≤ mails.now.shards }
-    ensures all { IsTrue result → vec_len handles.new ≡ mails.now.shards }
+    ensures promised { Placed (λ k h. IsPersonPromise run.now.task k h.promise.rows.value h.promise.start.value.buyer.shard h.promise.start.value.seats.objects h.promise.start.value.seats.persons h.promise.start.value.seats.hub) 0 handles.new.items }
+    ensures few { vec_len handles.new ≤ run.now.task.limits.now.shards }
+    ensures all { IsTrue result → vec_len handles.new ≡ run.now.task.limits.now.shards }
 {
-    let _ = prices.len();
-    let _ = bids;
     let mut number: u32 = 0;
     for start in starts {
         let promise = Bought {
-            rows: Snapshot::of(rows),
+            rows: Snapshot::of(run.task.rows),
             start: Snapshot::of(&start),
         };
-        let PersonStart { buyer, seats } = start;
+        let PersonWorker { buyer, seats } = start;
         let work = move || -> PersonWork<O, P, H>
-            requires { IsPersonShard rows.now mails.now.shards number buyer.shard × Kept rows.now buyer.shard.copies buyer.lists × IsEps eps × (number < mails.now.shards) }
-        { buy(rt, gate, mails, rows, number, eps, buyer, seats) };
+            requires { IsPersonShard run.now.task.rows.now run.now.task.limits.now.shards number buyer.shard × Kept run.now.task.rows.now buyer.shard.copies buyer.lists × (number < run.now.task.limits.now.shards) }
+        { buy(rt, gate, run, number, PersonWorker { buyer, seats }) };
         let Ok(handle) = scope.spawn_with(promise, work) else {
             return false;
         };
@@ -99,23 +80,16 @@ pub(crate) fn join_persons<
     R: Threads,
 >(
     rt: &R,
+    task: &Task,
     handles: Vec<PromisedHandle<PersonWork<O, P, H>, Bought<O, P, H>>>,
     works: &mut Vec<PersonWork<O, P, H>>,
-    shards: u32,
-    bids: u64,
-    rows: &Rows,
-    prices: &[i64],
 )
-    requires promised { Placed (λ k h. IsPersonPromise rows.now shards bids prices.now k h.promise.rows.value h.promise.start.value.buyer.shard h.promise.start.value.seats.objects h.promise.start.value.seats.persons h.promise.start.value.seats.hub) 0 handles.items }
+    requires promised { Placed (λ k h. IsPersonPromise task.now k h.promise.rows.value h.promise.start.value.buyer.shard h.promise.start.value.seats.objects h.promise.start.value.seats.persons h.promise.start.value.seats.hub) 0 handles.items }
     requires none { works.old.items ≡ [] }
     requires room { vec_len handles ≤ vec_capacity works.old }
     ensures many { vec_len works.new ≡ vec_len handles }
-    ensures works { Placed (λ k r. IsPersonResult rows.now O.room P.room H.room shards bids prices.now k r.shard r.seats.objects r.seats.persons r.seats.hub r.why) 0 works.new.items }
+    ensures works { Placed (λ k r. IsPersonResult task.now O.room P.room H.room k r.shard r.seats.objects r.seats.persons r.seats.hub r.why) 0 works.new.items }
 {
-    let _ = shards;
-    let _ = bids;
-    let _ = rows.objects();
-    let _ = prices.len();
     for handle in handles {
         works.push_reserved(handle.join(rt));
     }

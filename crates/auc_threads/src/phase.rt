@@ -15,8 +15,9 @@ use crate::error::RunError;
 use crate::gate::Gate;
 use crate::gathering::{end_of, gather};
 use crate::mails::{Ledgers, Mails};
-use crate::running::{Pace, Works, run_in_scope, starts_of};
+use crate::running::{Works, run_in_scope, starts_of};
 use crate::settling::{Trails, seats_of, settle_all};
+use crate::task::{PhaseRun, Task};
 use auc_answers::{Gathered, Limits};
 use auc_book::MailBrand;
 use auc_graph::Rows;
@@ -41,31 +42,23 @@ pub struct PhaseEnd {
 /// What the phase comes to, of what its workers gave back.
 fn finish<O: MailBrand, P: MailBrand, H: MailBrand>(
     alloc: Global,
-    rows: &Rows,
-    limits: &Limits,
-    prices: &[i64],
-    pace: &Pace,
+    task: &Task,
     mails: Mails<O, P, H>,
     works: Works<O, P, H>,
 ) -> Result<PhaseEnd, RunError>
-    requires prices { ArePrices rows.now prices.now }
-    requires limits { AreThreadLimits limits.now }
-    requires persons { Placed (λ k w. IsPersonResult rows.now O.room P.room H.room limits.now.shards limits.now.bids prices.now k w.shard w.seats.objects w.seats.persons w.seats.hub w.why) 0 works.persons.items }
-    requires persons_many { vec_len works.persons ≡ limits.now.shards }
-    requires objects { Placed (λ k w. IsObjectResult pace.now.eps O.room P.room H.room limits.now.shards (length rows.now.rows) prices.now k w.shard w.seats.objects w.seats.persons w.seats.hub w.why) 0 works.objects.items }
-    requires objects_many { vec_len works.objects ≡ limits.now.shards }
-    requires counts { Counts H.room (length rows.now.rows) (new_account (2 * limits.now.shards)) works.hub.is_all works.hub.seats.hub }
+    requires persons { Placed (λ k w. IsPersonResult task.now O.room P.room H.room k w.shard w.seats.objects w.seats.persons w.seats.hub w.why) 0 works.persons.items }
+    requires persons_many { vec_len works.persons ≡ task.now.limits.now.shards }
+    requires objects { Placed (λ k w. IsObjectResult task.now O.room P.room H.room k w.shard w.seats.objects w.seats.persons w.seats.hub w.why) 0 works.objects.items }
+    requires objects_many { vec_len works.objects ≡ task.now.limits.now.shards }
+    requires counts { Counts H.room (length task.now.rows.now.rows) (new_account (2 * task.now.limits.now.shards)) works.hub.is_all works.hub.seats.hub }
     requires hub_why { (works.hub.why ≢ Some Why.Stuck) × (works.hub.why ≢ Some Why.Fell) }
-    requires objects_name { IsNamed O.boxes O.workers O.nodes O.most O.room limits.now.shards (objects_nodes limits.now (length rows.now.rows)) limits.now }
-    requires persons_name { IsNamed P.boxes P.workers P.nodes P.most P.room limits.now.shards (persons_nodes limits.now (length rows.now.rows)) limits.now }
-    requires hub_name { IsNamed H.boxes H.workers H.nodes H.most H.room 1 (hub_nodes limits.now (length rows.now.rows)) limits.now }
-    ensures { IfOk result (IsPhase rows.now limits.now pace.now.eps prices.now) }
+    requires objects_name { IsNamed O.boxes O.workers O.nodes O.most O.room task.now.limits.now.shards (objects_nodes task.now.limits.now (length task.now.rows.now.rows)) task.now.limits.now }
+    requires persons_name { IsNamed P.boxes P.workers P.nodes P.most P.room task.now.limits.now.shards (persons_nodes task.now.limits.now (length task.now.rows.now.rows)) task.now.limits.now }
+    requires hub_name { IsNamed H.boxes H.workers H.nodes H.most H.room 1 (hub_nodes task.now.limits.now (length task.now.rows.now.rows)) task.now.limits.now }
+    ensures { IfOk result (IsPhase task.now.rows.now task.now.limits.now task.now.eps task.now.prices.now) }
 {
-    // Read here, so that the contract can name them.
-    let _ = prices.len();
-    let _ = pace.eps;
-    let shards = limits.shards;
-    let gathered = gather(alloc, rows.objects(), shards, works.objects.as_slice())?;
+    let shards = task.limits.shards;
+    let gathered = gather(alloc, task.rows.objects(), shards, works.objects.as_slice())?;
     let end = end_of(&works);
     let all = seats_of(alloc, works)?;
     let trails = settle_all(mails, all);
@@ -83,32 +76,23 @@ fn named_phase<
     H: MailBrand + Send + Sync,
     R: Threads + Wait + Sync,
     G: Gate + Sync,
->(
-    rt: &R,
-    alloc: Global,
-    rows: &Rows,
-    limits: &Limits,
-    prices: &[i64],
-    pace: &Pace,
-    gate: &G,
-    ledgers: Ledgers,
-) -> Result<PhaseEnd, RunError>
-    requires prices { ArePrices rows.now prices.now }
-    requires eps { IsEps pace.now.eps }
-    requires limits { AreThreadLimits limits.now }
-    requires objects_ledger { IsUnopened ledgers.objects.name O.name ledgers.objects.parts O.parts (workers_of limits.now.shards) }
-    requires persons_ledger { IsUnopened ledgers.persons.name P.name ledgers.persons.parts P.parts (workers_of limits.now.shards) }
-    requires hub_ledger { IsUnopened ledgers.hub.name H.name ledgers.hub.parts H.parts (workers_of limits.now.shards) }
-    requires objects_name { IsNamed O.boxes O.workers O.nodes O.most O.room limits.now.shards (objects_nodes limits.now (length rows.now.rows)) limits.now }
-    requires persons_name { IsNamed P.boxes P.workers P.nodes P.most P.room limits.now.shards (persons_nodes limits.now (length rows.now.rows)) limits.now }
-    requires hub_name { IsNamed H.boxes H.workers H.nodes H.most H.room 1 (hub_nodes limits.now (length rows.now.rows)) limits.now }
-    ensures { IfOk result (IsPhase rows.now limits.now pace.now.eps prices.now) }
+>(rt: &R, alloc: Global, gate: &G, task: &Task, ledgers: Ledgers) -> Result<PhaseEnd, RunError>
+    requires objects_ledger { IsUnopened ledgers.objects.name O.name ledgers.objects.parts O.parts (workers_of task.now.limits.now.shards) }
+    requires persons_ledger { IsUnopened ledgers.persons.name P.name ledgers.persons.parts P.parts (workers_of task.now.limits.now.shards) }
+    requires hub_ledger { IsUnopened ledgers.hub.name H.name ledgers.hub.parts H.parts (workers_of task.now.limits.now.shards) }
+    requires objects_name { IsNamed O.boxes O.workers O.nodes O.most O.room task.now.limits.now.shards (objects_nodes task.now.limits.now (length task.now.rows.now.rows)) task.now.limits.now }
+    requires persons_name { IsNamed P.boxes P.workers P.nodes P.most P.room task.now.limits.now.shards (persons_nodes task.now.limits.now (length task.now.rows.now.rows)) task.now.limits.now }
+    requires hub_name { IsNamed H.boxes H.workers H.nodes H.most H.room 1 (hub_nodes task.now.limits.now (length task.now.rows.now.rows)) task.now.limits.now }
+    ensures { IfOk result (IsPhase task.now.rows.now task.now.limits.now task.now.eps task.now.prices.now) }
 {
-    let (mails, seats) = Mails::<O, P, H>::make(alloc, rows.persons(), limits, ledgers)?;
-    let starts = starts_of(alloc, rows, limits, prices, seats)?;
-    let bids = limits.bids;
-    let works = run_in_scope(rt, alloc, gate, &mails, rows, bids, prices, pace, starts)?;
-    finish(alloc, rows, limits, prices, pace, mails, works)
+    let (mails, seats) = Mails::<O, P, H>::make(alloc, task.rows.persons(), task.limits, ledgers)?;
+    let starts = starts_of(alloc, task, seats)?;
+    let run = PhaseRun {
+        task: *task,
+        mails: &mails,
+    };
+    let works = run_in_scope(rt, alloc, gate, &run, starts)?;
+    finish(alloc, task, mails, works)
 }
 
 /// One phase in threads, on new mails: a thread for each shard, and the hub on the caller's.
@@ -145,6 +129,11 @@ pub fn phase_threads<R: Threads + Wait + Sync, G: Gate + Sync>(
         persons: Blank::new(workers),
         hub: Blank::new(workers),
     };
-    let pace = Pace { eps };
-    named_phase::<Brand, Brand, Brand, R, G>(rt, alloc, rows, limits, prices, &pace, gate, ledgers)
+    let task = Task {
+        rows,
+        limits,
+        prices,
+        eps,
+    };
+    named_phase::<Brand, Brand, Brand, R, G>(rt, alloc, gate, &task, ledgers)
 }

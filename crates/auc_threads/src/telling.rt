@@ -7,7 +7,8 @@ ghost use Rattle.auc_threads.specs.Taking.{GoesWithin, TookMore};
 
 use crate::calls::{Calls, Step};
 use crate::gate::Gate;
-use crate::mails::{Mails, WorkerSeats};
+use crate::mails::WorkerSeats;
+use crate::task::PhaseRun;
 use auc_book::{MailBrand, Seat};
 use auc_letters::{Letter, Out, Why};
 use auc_objects::Answers;
@@ -169,11 +170,11 @@ fn tell_hub<N: MailBrand, R: Wait, G: Gate>(
 pub(crate) fn tell<O: MailBrand, P: MailBrand, H: MailBrand, R: Wait, G: Gate>(
     rt: &R,
     gate: &G,
-    mails: &Mails<O, P, H>,
+    run: &PhaseRun<'_, O, P, H>,
     seats: &mut WorkerSeats<O, P, H>,
     said: &[Said],
 ) -> Step
-    requires { All (λ a. All (GoesWithin mails.now.shards) (letters_of a.answers)) said.now }
+    requires { All (λ a. All (GoesWithin run.now.task.limits.now.shards) (letters_of a.answers)) said.now }
     ensures objects { seats.new.objects ≡ seats.old.objects }
     ensures persons { TookMore P.room seats.old.persons [] seats.new.persons }
     ensures hub { TookMore H.room seats.old.hub [] seats.new.hub }
@@ -182,13 +183,14 @@ pub(crate) fn tell<O: MailBrand, P: MailBrand, H: MailBrand, R: Wait, G: Gate>(
     if said.is_empty() {
         return Step::On;
     }
-    let mut persons = Calls::begin(rt, gate, &mails.persons);
-    let step = tell_persons(&mut persons, &mut seats.persons, mails.shards, said);
+    let shards = run.task.limits.shards;
+    let mut persons = Calls::begin(rt, gate, &run.mails.persons);
+    let step = tell_persons(&mut persons, &mut seats.persons, shards, said);
     persons.end();
     if step != Step::On || !has_first(said) {
         return step;
     }
-    let mut hub = Calls::begin(rt, gate, &mails.hub);
+    let mut hub = Calls::begin(rt, gate, &run.mails.hub);
     let step = tell_hub(&mut hub, &mut seats.hub, said);
     hub.end();
     step

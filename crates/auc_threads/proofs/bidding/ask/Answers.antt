@@ -6,12 +6,12 @@ use Rattle.auc_threads.proofs.bidding.ask.Goals as goal
 
 pub returns-clause-is : goal.returns-clause-is
 returns-clause-is c =
-    let fits : FitsSigned w64 c.args.eps = search rules in
+    let fits : FitsSigned w64 c.args.task.now.eps = search rules in
     let said = simp to_z-of_z at c.next_bid_by.ensures in
-    asked_is c.args.rows.now c.args.eps c.args.shards c.args.number c.args.buyer.now.shard c.next_bid_by.new.self c.next_bid_by.result c.requires.shard said.exact said.shape
+    asked_is c.args.task.now.rows.now c.args.task.now.eps c.args.task.now.limits.now.shards c.args.number c.args.buyer.now.shard c.next_bid_by.new.self c.next_bid_by.result c.requires.shard said.exact said.shape
 
 pub returns-clause-reach : goal.returns-clause-reach
 returns-clause-reach c =
-    let fits : FitsSigned w64 c.args.eps = search rules in
+    let fits : FitsSigned w64 c.args.task.now.eps = search rules in
     let said = simp to_z-of_z at c.next_bid_by.ensures in
-    asked_reach c.args.rows.now c.args.eps c.args.shards c.args.number c.args.buyer.now.shard c.next_bid_by.new.self c.next_bid_by.result c.requires.shard c.requires.known said.exact
+    asked_reach c.args.task.now.rows.now c.args.task.now.eps c.args.task.now.limits.now.shards c.args.number c.args.buyer.now.shard c.next_bid_by.new.self c.next_bid_by.result c.requires.shard c.requires.known said.exact

@@ -6,8 +6,8 @@ use Rattle.auc_threads.proofs.bidding.ask_all.Given as goal
 
 abbrev pub invariant-loop : goal.invariant-loop
 invariant-loop l = record {
-  is : IsPersonShard l.rows l.shards l.number l.buyer.shard;
-  kept : Kept l.rows l.buyer.shard.copies l.buyer.lists;
+  is : IsPersonShard l.task.rows.now l.task.limits.now.shards l.number l.buyer.shard;
+  kept : Kept l.task.rows.now l.buyer.shard.copies l.buyer.lists;
   copies : l.buyer.shard.copies ≡ l.fn.buyer.shard.copies;
-  reach : All (GoesWithin l.shards) l.bids.items;
+  reach : All (GoesWithin l.task.limits.now.shards) l.bids.items;
 }

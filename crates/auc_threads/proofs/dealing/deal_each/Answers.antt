@@ -1,4 +1,5 @@
-use Rattle.auc_threads.proofs.SalesLaws.{duty_then, sells_one, sells_then}
+use Rattle.std.proofs.Common.{◌∙◌}
+use Rattle.auc_threads.proofs.SalesLaws.{sells_one, sells_then}
 use Rattle.auc_threads.proofs.dealing.deal_each.Goals as goal
 
 pub returns-then-ne-clause-sells : goal.returns-then-ne-clause-sells
@@ -11,7 +12,7 @@ loop-preserved g c =
     let inv = c.loop.invariant in
     let step = c.deal-step.ensures in
     record {
-      duty = duty_then _ _ _ _ _ step.shape inv.duty;
+      tells = step.shape.person_shards ∙ inv.tells;
       sells = sells_then _ _ _ _ _ _ _ _ inv.sells (sells_one _ _ _ _ _ _ _ step.shape c.take-taken.ensures step.sold);
       reach = step.reach;
     }

@@ -1,6 +1,4 @@
-use Rattle.std.proofs.Common.{rules, arith, ◌≡◌, vec_len, w64}
-use Rattle.std.specs.Prelude.{FitsSigned}
-use Rattle.std.proofs.lemmas.Int.{to_z-of_z}
+use Rattle.std.proofs.Common.{rules, arith, ◌≡◌, vec_len}
 use Rattle.std.specs.Vec.Iter.{into_iter_items}
 use Rattle.auc_threads.proofs.PlacedLaws.{placed_more, placed_uncons}
 use Rattle.auc_threads.proofs.StartsLaws.{object_result}
@@ -8,11 +6,10 @@ use Rattle.auc_threads.proofs.object_threads.join_objects.Goals as goal
 
 pub loop-handle-init : goal.loop-handle-init
 loop-handle-init g c =
-    let fits : FitsSigned w64 c.args.eps = search rules in
     let e : into_iter_items c.into_iter-handle-iterator.result ≡ c.args.handles.items = search rules in
     let none : vec_len c.args.works.now ≡ 0 = search rules in
     record {
-      left = simp to_z-of_z (rw (e, none) c.requires.promised);
+      left = rw (e, none) c.requires.promised;
       many = search rules;
       room = search rules;
       works = rw c.requires.none tt;
@@ -28,10 +25,5 @@ loop-handle-preserved g c =
       left = rw pushed.len left.1;
       many = omega (arith, inv.many, step.1, pushed.len);
       room = omega (arith, inv.room, pushed.capacity);
-      works = placed_more _ (vec_len c.loop-handle.works) c.loop-handle.works.items c.push_reserved.new.self.items c.join.result inv.works (search rules) pushed.items (object_result _ _ _ _ _ _ _ _ _ _ _ _ _ _ _ _ _ _ left.0 c.join.ensures);
+      works = placed_more _ (vec_len c.loop-handle.works) c.loop-handle.works.items c.push_reserved.new.self.items c.join.result inv.works (search rules) pushed.items (object_result _ _ _ _ _ _ _ _ _ _ _ _ _ _ _ left.0 c.join.ensures);
     }
-
-pub returns-clause-works : goal.returns-clause-works
-returns-clause-works g c =
-    let fits : FitsSigned w64 c.args.eps = search rules in
-    simp to_z-of_z at c.loop-handle.invariant.works

@@ -1,4 +1,4 @@
-use Rattle.std.proofs.Common.{rules, arith, ◌≡◌, refl, w64}
+use Rattle.std.proofs.Common.{rules, arith, ◌≡◌, of_z, to_z, w64}
 use Rattle.std.specs.Prelude.{FitsSigned}
 use Rattle.std.proofs.lemmas.Int.{to_z-of_z}
 use Rattle.std.specs.Vec.Iter.{into_iter_items}
@@ -17,27 +17,19 @@ loop-start-init g c =
       promised = rw c.requires.none tt;
     }
 
-pub returns-in_default-clause-promised : goal.returns-in_default-clause-promised
-returns-in_default-clause-promised g c =
-    let fits : FitsSigned w64 c.args.eps = search rules in
-    simp to_z-of_z at c.loop-start.invariant.promised
-
-pub returns-clause-promised : goal.returns-clause-promised
-returns-clause-promised g c =
-    let fits : FitsSigned w64 c.args.eps = search rules in
-    simp to_z-of_z at c.loop-start.invariant.promised
-
 pub loop-start-preserved : goal.loop-start-preserved
 loop-start-preserved g c =
     let inv = c.loop-start.invariant in
     let step = c.in-Some.ensures.steps in
     let ok = c.in-Ok.ensures.ok in
     let pushed = c.push_reserved.ensures in
+    let fits : FitsSigned w64 c.args.run.now.task.eps = search rules in
+    let same : to_z w64 (of_z w64 c.args.run.now.task.eps) ≡ c.args.run.now.task.eps = to_z-of_z w64 c.args.run.now.task.eps fits in
     let left = placed_uncons _ c.loop-start.number (into_iter_items c.loop-start.start-iterator) c.in-Some.start (into_iter_items c.next.new.self) step.0 inv.left in
     record {
       left = left.1;
       many = omega (arith, inv.many, step.1);
       so_far = omega (arith, inv.so_far, pushed.len);
       room = omega (arith, inv.room, pushed.capacity);
-      promised = placed_more _ c.loop-start.number c.loop-start.handles.items c.push_reserved.new.self.items c.in-Ok.handle inv.promised (search rules) pushed.items (rw (ok, c.of.ensures) (object_promised _ _ _ _ _ _ _ _ _ _ refl left.0));
+      promised = placed_more _ c.loop-start.number c.loop-start.handles.items c.push_reserved.new.self.items c.in-Ok.handle inv.promised (search rules) pushed.items (rw (ok, c.of.ensures) (object_promised _ _ _ _ _ _ _ same left.0));
     }

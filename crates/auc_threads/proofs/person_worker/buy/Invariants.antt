@@ -7,9 +7,9 @@ use Rattle.auc_threads.proofs.person_worker.buy.Given as goal
 
 abbrev pub invariant-loop : goal.invariant-loop
 invariant-loop g l = record {
-  is : IsPersonShard l.rows l.mails.shards l.number l.buyer.shard;
-  kept : Kept l.rows l.buyer.shard.copies l.buyer.lists;
-  hears : Hears g.P.MailBrand.room l.fn.buyer.shard l.fn.seats.persons l.buyer.shard l.seats.persons ⊥;
-  objects : TookMore g.O.MailBrand.room l.fn.seats.objects [] l.seats.objects;
-  hub : l.seats.hub ≡ l.fn.seats.hub;
+  is : IsPersonShard l.run.task.rows.now l.run.task.limits.now.shards l.number l.worker.buyer.shard;
+  kept : Kept l.run.task.rows.now l.worker.buyer.shard.copies l.worker.buyer.lists;
+  hears : Hears g.P.MailBrand.room l.fn.worker.buyer.shard l.fn.worker.seats.persons l.worker.buyer.shard l.worker.seats.persons ⊥;
+  objects : TookMore g.O.MailBrand.room l.fn.worker.seats.objects [] l.worker.seats.objects;
+  hub : l.worker.seats.hub ≡ l.fn.worker.seats.hub;
 }

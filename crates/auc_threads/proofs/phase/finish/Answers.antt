@@ -4,27 +4,27 @@ use Rattle.auc_threads.proofs.phase.finish.Goals as goal
 
 pub gather-requires-clause-works : goal.gather-requires-clause-works
 gather-requires-clause-works g c =
-    rw c.as_slice.ensures.value (own_of (λ w. w.shard) (λ w. w.seats.objects) (λ w. w.seats.persons) (λ w. w.seats.hub) (λ w. w.why) _ _ _ _ _ _ _ _ c.requires.objects c.objects.result (c.requires.prices.each ∙ sym c.objects.ensures.objects))
+    rw c.as_slice.ensures.value (own_of (λ w. w.shard) (λ w. w.seats.objects) (λ w. w.seats.persons) (λ w. w.seats.hub) (λ w. w.why) _ _ _ _ _ c.requires.objects c.objects.result (c.args.task.now.prices_are.each ∙ sym c.objects.ensures.objects))
 
 pub end_of-end-requires-clause-objects : goal.end_of-end-requires-clause-objects
-end_of-end-requires-clause-objects g c = no_guards (λ w. w.shard) (λ w. w.seats.objects) (λ w. w.seats.persons) (λ w. w.seats.hub) (λ w. w.why) _ _ _ _ _ _ _ _ c.requires.objects
+end_of-end-requires-clause-objects g c = no_guards (λ w. w.shard) (λ w. w.seats.objects) (λ w. w.seats.persons) (λ w. w.seats.hub) (λ w. w.why) _ _ _ _ _ c.requires.objects
 
 pub returns : goal.returns
 returns g c =
     let got = c.in_ok-gathered.ensures in
     let each = rw (c.as_slice.ensures.value, c.objects.ensures.objects) at got.each in
-    let persons : length c.args.works.persons.items ≡ c.args.limits.now.shards = search rules in
-    let objects : length c.args.works.objects.items ≡ c.args.limits.now.shards = search rules in
-    let some : 0 < c.args.limits.now.shards = omega (arith, c.requires.limits.world.some) in
+    let persons : length c.args.works.persons.items ≡ c.args.task.now.limits.now.shards = search rules in
+    let objects : length c.args.works.objects.items ≡ c.args.task.now.limits.now.shards = search rules in
+    let some : 0 < c.args.task.now.limits.now.shards = omega (arith, c.args.task.now.limits_are.world.some) in
     let settled = c.settle_all-trails.ensures in
     let all = c.in_ok-all.ensures in
     record {
       holders = got.holders ∙ c.objects.ensures.objects;
       prices = record { each = got.prices ∙ c.objects.ensures.objects; within = got.range };
-      stuck = λ e. stuck_told (λ w. w.shard) (λ w. w.seats.objects) (λ w. w.seats.persons) (λ w. w.seats.hub) (λ w. w.why) _ _ _ _ _ _ _ _ c.requires.persons (c.end_of-end.ensures.stuck e);
+      stuck = λ e. stuck_told (λ w. w.shard) (λ w. w.seats.objects) (λ w. w.seats.persons) (λ w. w.seats.hub) (λ w. w.why) _ _ _ _ _ c.requires.persons (c.end_of-end.ensures.stuck e);
       told =
           told_map _ _ _ _ _ settled.objects settled.persons settled.hub
           (λ t o u v.
-          told_phase (λ w. w.shard) (λ w. w.seats.objects) (λ w. w.seats.persons) (λ w. w.seats.hub) (λ w. w.why) (λ w. w.shard) (λ w. w.seats.objects) (λ w. w.seats.persons) (λ w. w.seats.hub) (λ w. w.why) _ _ _ _ _ _ _ _ _ c.requires.persons c.requires.objects persons objects some c.requires.prices.each _ _ _ _ c.requires.counts
+          told_phase (λ w. w.shard) (λ w. w.seats.objects) (λ w. w.seats.persons) (λ w. w.seats.hub) (λ w. w.why) (λ w. w.shard) (λ w. w.seats.objects) (λ w. w.seats.persons) (λ w. w.seats.hub) (λ w. w.why) _ _ _ _ _ _ c.requires.persons c.requires.objects persons objects some c.args.task.now.prices_are.each _ _ _ _ c.requires.counts
           _ each c.end_of-end.ensures.all c.end_of-end.ensures.fell _ _ _ _ _ _ _ _ _ _ _ _ c.requires.objects_name c.requires.persons_name c.requires.hub_name _ _ _ all.objects all.persons all.hub t o u v);
     }

@@ -12,10 +12,10 @@ abbrev pub ghosts-named_phase-H-Ledger : goal.ghosts-named_phase-H-Ledger
 ghosts-named_phase-H-Ledger g a = record { name = a.ledgers.hub.name; parts = a.ledgers.hub.parts }
 
 abbrev pub ghosts-named_phase-O-MailBrand : goal.ghosts-named_phase-O-MailBrand
-ghosts-named_phase-O-MailBrand g a = record { boxes = a.limits.now.shards; workers = workers_of a.limits.now.shards; nodes = objects_nodes a.limits.now (length a.rows.now.rows); most = a.limits.now.posts; room = a.limits.now.audit }
+ghosts-named_phase-O-MailBrand g a = record { boxes = a.task.now.limits.now.shards; workers = workers_of a.task.now.limits.now.shards; nodes = objects_nodes a.task.now.limits.now (length a.task.now.rows.now.rows); most = a.task.now.limits.now.posts; room = a.task.now.limits.now.audit }
 
 abbrev pub ghosts-named_phase-P-MailBrand : goal.ghosts-named_phase-P-MailBrand
-ghosts-named_phase-P-MailBrand g a = record { boxes = a.limits.now.shards; workers = workers_of a.limits.now.shards; nodes = persons_nodes a.limits.now (length a.rows.now.rows); most = a.limits.now.posts; room = a.limits.now.audit }
+ghosts-named_phase-P-MailBrand g a = record { boxes = a.task.now.limits.now.shards; workers = workers_of a.task.now.limits.now.shards; nodes = persons_nodes a.task.now.limits.now (length a.task.now.rows.now.rows); most = a.task.now.limits.now.posts; room = a.task.now.limits.now.audit }
 
 abbrev pub ghosts-named_phase-H-MailBrand : goal.ghosts-named_phase-H-MailBrand
-ghosts-named_phase-H-MailBrand g a = record { boxes = 1; workers = workers_of a.limits.now.shards; nodes = hub_nodes a.limits.now (length a.rows.now.rows); most = a.limits.now.posts; room = a.limits.now.audit }
+ghosts-named_phase-H-MailBrand g a = record { boxes = 1; workers = workers_of a.task.now.limits.now.shards; nodes = hub_nodes a.task.now.limits.now (length a.task.now.rows.now.rows); most = a.task.now.limits.now.posts; room = a.task.now.limits.now.audit }

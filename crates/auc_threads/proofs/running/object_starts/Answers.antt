@@ -8,7 +8,7 @@ loop-seats-preserved g c =
     let inv = c.loop-seats.invariant in
     let step = c.in-Some.ensures.steps in
     let pushed = c.push_reserved.ensures in
-    let left = placed_then _ c.args.shards c.loop-seats.number (into_iter_items c.loop-seats.seats-iterator) c.in-Some.seats (into_iter_items c.next.new.self) step.0 inv.left in
+    let left = placed_then _ c.args.task.now.limits.now.shards c.loop-seats.number (into_iter_items c.loop-seats.seats-iterator) c.in-Some.seats (into_iter_items c.next.new.self) step.0 inv.left in
     record {
       left = left.1;
       many = omega (arith, inv.many, step.1);

@@ -6,9 +6,9 @@ pub person_starts-requires-clause-seats : goal.person_starts-requires-clause-sea
 person_starts-requires-clause-seats g c = rw (c.in_ok-object_seats.ensures.items, c.in-Some.ensures.rest) (placed_take _ 0 _ _ (placed_take _ 0 _ _ c.requires.seats))
 
 pub object_starts-requires-clause-seats : goal.object_starts-requires-clause-seats
-object_starts-requires-clause-seats g c = rw (c.in_ok-object_seats.ensures.tail, c.in-Some.ensures.rest) (placed_rest _ _ c.args.limits.now.shards (placed_take _ 0 _ _ c.requires.seats))
+object_starts-requires-clause-seats g c = rw (c.in_ok-object_seats.ensures.tail, c.in-Some.ensures.rest) (placed_rest _ _ c.args.task.now.limits.now.shards (placed_take _ 0 _ _ c.requires.seats))
 
 pub returns-clause-hub : goal.returns-clause-hub
 returns-clause-hub g c =
     let some : 0 < vec_len c.args.seats = omega (arith, c.requires.many) in
-    placed_got _ c.args.seats.items (vec_len c.args.seats - 1) (2 * c.args.limits.now.shards) c.in-Some.hub c.requires.seats (search rules) (omega (arith, c.requires.many)) (c.in-Some.ensures.value c.in-Some.hub some)
+    placed_got _ c.args.seats.items (vec_len c.args.seats - 1) (2 * c.args.task.now.limits.now.shards) c.in-Some.hub c.requires.seats (search rules) (omega (arith, c.requires.many)) (c.in-Some.ensures.value c.in-Some.hub some)

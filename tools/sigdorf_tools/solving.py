@@ -24,11 +24,13 @@ class Answer(NamedTuple):
 
 
 class Solver:
-    """The program, the limits of its search, and whether the second checker is asked whatever the size."""
+    """The program, the limits of its search, and whether the second checker is asked whatever the size. It solves in one hand, unless threads are asked for."""
 
     def __init__(self, program, bids=None, workers=None, has_second=False):
         self.program, self.has_second = program, has_second
         self.limits = [f"--{name}={value}" for name, value in (("bids", bids), ("workers", workers)) if value is not None]
+        if workers is None:
+            self.limits.append("--direct")
 
     def answer(self, name, pieces, count, objects, start=None):
         """The answer for the text of an arc file, which comes in pieces and has so many arcs and objects. Its name is for faults. A search may start from an old certificate, where objects are as

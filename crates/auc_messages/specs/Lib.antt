@@ -4,3 +4,4 @@ pub mod Names
 pub mod Phrases
 pub mod Remarks
 pub mod Pages
+pub mod Forms

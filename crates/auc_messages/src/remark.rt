@@ -2,12 +2,15 @@
 
 ghost use Rattle.std.specs.Prelude.{◌≡◌, ◌≢◌, ℕ, IfSome, IsSome, IsTrue, Some, None};
 ghost use Rattle.auc_run.specs.declared.command.Job.{Job};
+ghost use Rattle.auc_messages.specs.Forms.{phrase_at};
 ghost use Rattle.auc_messages.specs.Phrases.{phrase_of_refusal, phrase_of_status};
 ghost use Rattle.auc_messages.specs.Remarks.{HasWords, IsRemark, IsRemarkOn, subject_of_status, told_refusal};
 ghost use Rattle.auc_messages.specs.Sentences.{is_phrase};
 
+use crate::forms::{form_told, of_form};
 use crate::phrases::{of_refusal, of_status};
 use crate::spot::{Spot, Subject, spot_of, subject_of};
+use auc_place::Place;
 use auc_run::status::{BRACKET, INFEASIBLE, OPTIMAL, UNWRITTEN};
 use auc_run::{Ending, Job, Refusal};
 
@@ -60,7 +63,7 @@ fn remark_of_status(status: u8) -> Remark
 }
 
 /// Why a job was refused, where that is told: not where it wasn't written.
-fn told_refusal(ending: Ending) -> Option<Refusal>
+pub(crate) fn told_refusal(ending: Ending) -> Option<Refusal>
     ensures { result ≡ told_refusal ending }
 {
     if ending.status == UNWRITTEN {
@@ -87,5 +90,25 @@ pub fn remark_of(job: &Job, ending: Ending) -> Option<Remark>
     match told_refusal(ending) {
         Some(refusal) => Some(remark_of_refusal(job, refusal)),
         None => Some(remark_of_status(ending.status)),
+    }
+}
+
+/// What is to be said of the end of this job where its token is known to stand at this place, if it is: as [`remark_of`]; but a first file that is
+/// no problem, and begins as files of another form do, is told to be of that form, with what to do.
+pub fn remark_at(job: &Job, ending: Ending, place: &Option<Place>) -> Option<Remark>
+    ensures silent { ending.status ≡ 0 → result ≡ None }
+    ensures told { ending.status ≢ 0 → IsSome result }
+    ensures is { IfSome result (IsRemark job.now ending) }
+    // Its words are those of the form that the place shows, and where it shows none, as of the refusal or the status.
+    ensures words { IfSome result (λ remark. remark.phrase.now ≡ phrase_at ending place.now) }
+    ensures phrase { IfSome result (λ remark. IsTrue (is_phrase remark.phrase.now)) }
+{
+    let remark = remark_of(job, ending)?;
+    match form_told(ending, place) {
+        Some(form) => Some(Remark {
+            phrase: of_form(form),
+            ..remark
+        }),
+        None => Some(remark),
     }
 }

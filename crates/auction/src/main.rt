@@ -8,11 +8,13 @@ ghost use Rattle.auction.specs.CommandLine.{words_status};
 mod asked;
 mod grammar;
 mod numbers;
+mod usage;
 mod words;
 mod words_error;
+mod wrong_words;
 
 use asked::Words;
-use auc_messages::{Page, Spot, Subject, page_of, remark_of, write_name, write_remark};
+use auc_messages::{Page, Spot, Subject, page_of, remark_at, remark_of, write_name, write_remark};
 use auc_place::{Place, find_token};
 use auc_run::status::{NO_MEMORY, OPTIMAL, REFUSED, UNWRITTEN, USAGE};
 use auc_run::{Ending, FreeGate, Job, perform};
@@ -23,8 +25,10 @@ use std::process::ExitCode;
 use std::rt::{Env, Files};
 use std::sync::Wait;
 use std::thread::Threads;
+use usage::USAGE_PAGE;
 use words::read_words;
 use words_error::WordsError;
+use wrong_words::fault_of;
 
 /// The most reads that look for the place of a token, 4,096 bytes each: in the first 64 MiB of a file. A token that stands behind them is
 /// told by its number, so that the answer isn't long past when the sentence comes.
@@ -140,7 +144,7 @@ fn conclude<E: Write>(errors: &mut E, words: &Words, ended: Ended, place: &Optio
         Ok(ending) => ending,
         Err(status) => return status,
     };
-    if let Some(remark) = remark_of(&words.job, ending) {
+    if let Some(remark) = remark_at(&words.job, ending, place) {
         let _ = write_remark(errors, name_of(words, remark.subject), place, remark);
     }
     ending.status
@@ -204,10 +208,31 @@ fn refuse<R: Eprint>(rt: &R, error: WordsError) -> u8
     status_of(error)
 }
 
+/// The same, and which of the words is at fault where none of the errors says more.
+fn refuse_words<R: Eprint + AllocGlobal, E: Write>(
+    rt: &R,
+    errors: &mut E,
+    words: &[String],
+    error: WordsError,
+) -> u8
+    ensures { result ≡ words_status error }
+{
+    if error != WordsError::Usage {
+        return refuse(rt, error);
+    }
+    match fault_of(rt.alloc(), words) {
+        Ok(fault) => {
+            fault.write(errors);
+            status_of(error)
+        }
+        Err(_) => refuse(rt, error),
+    }
+}
+
 /// Writes a page about the program to standard output, and gives the status.
 fn show<R: Print + Eprint>(rt: &R, page: Page) -> u8 {
     let shown = match page {
-        Page::Usage => println!(rt; "{}", WordsError::Usage),
+        Page::Usage => println!(rt; "{}", USAGE_PAGE),
         Page::Version => println!(rt; "auction 1.0 (Sigdorf)"),
     };
     if shown.is_err() {
@@ -237,7 +262,7 @@ fn run<R: Env + Files + Input + Print + Eprint + AllocGlobal + Threads + Wait + 
             REFUSED
         }
         Ok(words) => with_files(rt, errors, &words),
-        Err(error) => refuse(rt, error),
+        Err(error) => refuse_words(rt, errors, given.as_slice(), error),
     }
 }
 

@@ -10,16 +10,16 @@ use auc_run::{Job, MOST_BIDS, USUAL_BIDS};
 use clap::ArgMatches;
 
 /// The most threads that may do the work of each kind of shard.
-const MOST_WORKERS: u64 = 16;
+pub(crate) const MOST_WORKERS: u64 = 16;
 
 /// The most calls that the trail of a mail may note.
-const MOST_AUDIT: u64 = 1_000_000;
+pub(crate) const MOST_AUDIT: u64 = 1_000_000;
 
 /// The most objects that a problem may have.
-const MOST_OBJECTS: u64 = 20_000;
+pub(crate) const MOST_OBJECTS: u64 = 20_000;
 
 /// The number that a text spells, where it is from `least` to `most`.
-fn number_in(text: &str, least: u64, most: u64) -> Result<u64, WordsError>
+pub(crate) fn number_in(text: &str, least: u64, most: u64) -> Result<u64, WordsError>
     ensures { IsNumberIn least most text.now result }
 {
     match text.parse::<u64>() {

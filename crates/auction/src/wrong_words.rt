@@ -1,0 +1,377 @@
+//! Which of some words that are no job is at fault, and what was wanted, in a sentence. Whether words are a job, the parser tells
+//! (`words.rt`); this tells why not.
+
+use crate::numbers::{MOST_AUDIT, MOST_OBJECTS, MOST_WORKERS, number_in};
+use auc_messages::write_name;
+use auc_run::MOST_BIDS;
+use std::alloc::{AllocError, Global};
+use std::io::Write;
+use strsim::jaro;
+
+/// How alike a wrong word and a right one are at least that is told beside it, from 0 to 1: that of `clap`.
+const ALIKE: f64 = 0.7;
+
+/// What is wrong with some words.
+#[derive(Debug, Drop)]
+pub(crate) struct WordFault<'a> {
+    // What stands before the word in the sentence, the word, and what stands behind it where no right word is near.
+    before: &'static str,
+    word: Option<&'a str>,
+    behind: &'static str,
+    // The right word that is like it, without its hyphens, and these.
+    nearest: Option<&'static str>,
+    hyphens: &'static str,
+}
+
+/// A command.
+#[derive(Clone, Copy, Debug, PartialEq, Eq)]
+enum Command {
+    Solve,
+    Check,
+    Hall,
+    Mail,
+}
+
+/// What an option wants behind it.
+#[derive(Clone, Copy, Debug, PartialEq, Eq)]
+enum Wanted {
+    Workers,
+    Bids,
+    Audit,
+    Objects,
+    Name,
+    Nothing,
+}
+
+/// How far a walk over the words behind a command has come.
+#[derive(Drop)]
+struct Walk<'a> {
+    command: Command,
+    // How many names there were.
+    names: u32,
+    // Whether all that comes is a name, behind --.
+    is_plain: bool,
+    // The option before this word, where its value is to come.
+    awaited: Option<(&'a str, Wanted)>,
+}
+
+impl<'a> WordFault<'a> {
+    fn alone(before: &'static str) -> WordFault<'a> {
+        WordFault {
+            before,
+            word: None,
+            behind: "",
+            nearest: None,
+            hyphens: "",
+        }
+    }
+
+    fn about(before: &'static str, word: &'a str, behind: &'static str) -> WordFault<'a> {
+        WordFault {
+            before,
+            word: Some(word),
+            behind,
+            nearest: None,
+            hyphens: "",
+        }
+    }
+
+    /// Writes it in one sentence, with no control character of the word.
+    pub fn write<W: Write>(&self, writer: &mut W) {
+        let _ = writer.write_all(b"auction: ");
+        let _ = writer.write_all(self.before.as_bytes());
+        if let Some(word) = self.word {
+            let _ = writer.write_all(b"`");
+            let _ = write_name(writer, word);
+            let _ = writer.write_all(b"`");
+        }
+        match self.nearest {
+            Some(nearest) => {
+                let _ = writer.write_all(b"; did you mean `");
+                let _ = writer.write_all(self.hyphens.as_bytes());
+                let _ = writer.write_all(nearest.as_bytes());
+                let _ = writer.write_all(b"`?\n");
+            }
+            None => {
+                let _ = writer.write_all(self.behind.as_bytes());
+                let _ = writer.write_all(b"\n");
+            }
+        }
+    }
+}
+
+/// How alike two words are, from 0 to 1; in capitals a word is as right.
+fn likeness(alloc: Global, word: &str, other: &str) -> Result<f64, AllocError> {
+    if word.eq_ignore_ascii_case(other) {
+        return Ok(1.0);
+    }
+    jaro(alloc, word, other)
+}
+
+/// The right word that is most like a wrong one, where one is like it.
+fn nearest(
+    alloc: Global,
+    word: &str,
+    right: &[&'static str],
+) -> Result<Option<&'static str>, AllocError> {
+    let mut found = None;
+    let mut most = ALIKE;
+    for other in right {
+        let alike = likeness(alloc, word, other)?;
+        if alike > most {
+            most = alike;
+            found = Some(*other);
+        }
+    }
+    Ok(found)
+}
+
+fn command_of(word: &str) -> Option<Command> {
+    match word {
+        "solve" => Some(Command::Solve),
+        "check" => Some(Command::Check),
+        "hall" => Some(Command::Hall),
+        "mail" => Some(Command::Mail),
+        _ => None,
+    }
+}
+
+/// What an option of this command wants behind it; none where the command has no such option.
+fn wanted_of(command: Command, option: &str) -> Option<Wanted> {
+    if option == "--objects" && command != Command::Mail {
+        return Some(Wanted::Objects);
+    }
+    if command != Command::Solve {
+        return None;
+    }
+    match option {
+        "--workers" => Some(Wanted::Workers),
+        "--bids" => Some(Wanted::Bids),
+        "--audit" => Some(Wanted::Audit),
+        "--from" => Some(Wanted::Name),
+        "--direct" => Some(Wanted::Nothing),
+        _ => None,
+    }
+}
+
+/// The option of this command that is most like a wrong one, both without hyphens.
+fn nearest_option(
+    alloc: Global,
+    command: Command,
+    option: &str,
+) -> Result<Option<&'static str>, AllocError> {
+    let name = option.trim_start_matches('-');
+    match command {
+        Command::Solve => {
+            let right = ["workers", "bids", "audit", "objects", "from", "direct"];
+            nearest(alloc, name, right.as_slice())
+        }
+        Command::Check | Command::Hall => nearest(alloc, name, ["objects"].as_slice()),
+        Command::Mail => Ok(None),
+    }
+}
+
+/// The most files that a command reads.
+fn most_names(command: Command) -> u32 {
+    match command {
+        Command::Check => 2,
+        Command::Solve | Command::Hall | Command::Mail => 1,
+    }
+}
+
+/// Whether a word is an option, and no name.
+fn is_option(word: &str) -> bool {
+    word.len() > 1 && word.starts_with('-')
+}
+
+/// The part of an option before its value, and the value where it stands in the same word.
+fn parts_of(word: &str) -> (&str, Option<&str>) {
+    match word.split_once('=') {
+        Some((option, value)) => (option, Some(value)),
+        None => (word, None),
+    }
+}
+
+/// What is wrong with a value, if anything.
+fn fault_of_value<'a>(wanted: Wanted, value: &'a str) -> Option<WordFault<'a>> {
+    let (least, most, before) = match wanted {
+        Wanted::Workers => (
+            0,
+            MOST_WORKERS,
+            "--workers wants a whole number from 0 to 16, and not ",
+        ),
+        Wanted::Bids => (
+            1,
+            MOST_BIDS,
+            "--bids wants a whole number from 1 to 1000000000000, and not ",
+        ),
+        Wanted::Audit => (
+            0,
+            MOST_AUDIT,
+            "--audit wants a whole number from 0 to 1000000, and not ",
+        ),
+        Wanted::Objects => (
+            1,
+            MOST_OBJECTS,
+            "--objects wants a whole number from 1 to 20000, and not ",
+        ),
+        Wanted::Name | Wanted::Nothing => return None,
+    };
+    match number_in(value, least, most) {
+        Ok(_) => None,
+        Err(_) => Some(WordFault::about(before, value, "")),
+    }
+}
+
+/// Whether an option was given among these words.
+fn is_among(words: &[String], option: &str) -> bool {
+    for word in words {
+        if parts_of(word.as_str()).0 == option {
+            return true;
+        }
+    }
+    false
+}
+
+impl<'a> Walk<'a> {
+    /// Goes past the value of the option before it.
+    fn value(&self, option: &'a str, wanted: Wanted, word: &'a str) -> Option<WordFault<'a>> {
+        if is_option(word) {
+            return Some(WordFault::about(
+                "no value stands behind ",
+                option,
+                "; see auction --help",
+            ));
+        }
+        fault_of_value(wanted, word)
+    }
+
+    /// Goes past a name.
+    fn name(&mut self, word: &'a str) -> Option<WordFault<'a>> {
+        self.names = self.names.saturating_add(1);
+        if self.names > most_names(self.command) {
+            return Some(WordFault::about("one name too many, ", word, "; see auction --help"));
+        }
+        None
+    }
+
+    /// Goes past an option of the command, and its value where that stands in the same word.
+    fn option(&mut self, wanted: Wanted, word: &'a str) -> Option<WordFault<'a>> {
+        let (option, value) = parts_of(word);
+        match value {
+            Some(_) if wanted == Wanted::Nothing => {
+                Some(WordFault::about("no value goes with this option, ", word, "; leave it out"))
+            }
+            Some(value) => fault_of_value(wanted, value),
+            None => {
+                if wanted != Wanted::Nothing {
+                    self.awaited = Some((option, wanted));
+                }
+                None
+            }
+        }
+    }
+
+    /// Goes past a word that is no value, where there are `earlier` ones.
+    fn word(
+        &mut self,
+        alloc: Global,
+        earlier: &[String],
+        word: &'a str,
+    ) -> Result<Option<WordFault<'a>>, AllocError> {
+        if self.is_plain || !is_option(word) {
+            return Ok(self.name(word));
+        }
+        if word == "--" {
+            self.is_plain = true;
+            return Ok(None);
+        }
+        let option = parts_of(word).0;
+        let Some(wanted) = wanted_of(self.command, option) else {
+            let mut fault = WordFault::about(
+                "this command has no option ",
+                option,
+                "; see auction --help",
+            );
+            fault.nearest = nearest_option(alloc, self.command, option)?;
+            fault.hyphens = "--";
+            return Ok(Some(fault));
+        };
+        if is_among(earlier, option) {
+            return Ok(Some(WordFault::about("an option stands twice, ", option, "; give it once")));
+        }
+        Ok(self.option(wanted, word))
+    }
+
+    /// What is missing at the end of the words.
+    fn end(&self) -> WordFault<'a> {
+        if let Some((option, _)) = self.awaited {
+            return WordFault::about("no value stands behind ", option, "; see auction --help");
+        }
+        if self.names == 0 && self.command == Command::Check {
+            return WordFault::alone(
+                "check wants the name of a problem: auction check FILE [CERT] [--objects M]",
+            );
+        }
+        WordFault::alone("these words are no command; auction --help tells how they go")
+    }
+}
+
+/// What is wrong with the words behind a command.
+fn fault_behind<'a>(
+    alloc: Global,
+    command: Command,
+    words: &'a [String],
+) -> Result<WordFault<'a>, AllocError> {
+    let mut walk = Walk {
+        command,
+        names: 0,
+        is_plain: false,
+        awaited: None,
+    };
+    for place in 0..words.len() {
+        let word = words[place].as_str();
+        let fault = match walk.awaited.take() {
+            Some((option, wanted)) => walk.value(option, wanted, word),
+            None => walk.word(alloc, &words[..place], word)?,
+        };
+        if let Some(fault) = fault {
+            return Ok(fault);
+        }
+    }
+    Ok(walk.end())
+}
+
+/// What is wrong with a first word that is no command.
+fn fault_of_command<'a>(alloc: Global, word: &'a str) -> Result<WordFault<'a>, AllocError> {
+    if is_option(word) {
+        return Ok(WordFault::about(
+            "a command stands first, and not ",
+            word,
+            "; see auction --help",
+        ));
+    }
+    let behind = "; there are solve, check, hall and mail, and auction --help";
+    let mut fault = WordFault::about("no command ", word, behind);
+    fault.nearest = nearest(alloc, word, ["solve", "check", "hall", "mail"].as_slice())?;
+    Ok(fault)
+}
+
+/// What is wrong with words that are no job: the first word at fault, and the right one that is most like it, if one is.
+///
+/// # Errors
+///
+/// Only where memory was refused.
+pub(crate) fn fault_of<'a>(
+    alloc: Global,
+    words: &'a [String],
+) -> Result<WordFault<'a>, AllocError> {
+    let Some(first) = words.first() else {
+        let none = "no command; there are solve, check, hall and mail, and auction --help";
+        return Ok(WordFault::alone(none));
+    };
+    match command_of(first.as_str()) {
+        Some(command) => fault_behind(alloc, command, &words[1..]),
+        None => fault_of_command(alloc, first.as_str()),
+    }
+}

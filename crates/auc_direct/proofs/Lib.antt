@@ -1,4 +1,5 @@
 mod ScanLaws
+mod Shortlists
 mod BidLaws
 mod MarketLaws
 mod Bounds

@@ -104,7 +104,7 @@ module _ (r : Shorts) (eps : ℤ) (prices : List ℤ) (holders : List ℕ) (owns
   pub total_with : (total new +ℤ price_at prices j) ≡ (total prices +ℤ amount)
   total_with = total_set prices j amount price_in
 
-  rise : (k : ℕ) → price_at prices k ≤ℤ price_at new k
+  pub rise : (k : ℕ) → price_at prices k ≤ℤ price_at new k
   rise = risen prices j amount price_in up
 
   pub price_here : price_at new j ≡ amount
@@ -258,4 +258,5 @@ awarded r eps person prices new holders sold owns left d s amount sound is_eps s
       more = rw e (let t = total_with r eps prices holders owns person s amount sound stands known none up fits in omega (arith, ints, t, m, e0));
       but = λ n b. subst (λ (os : List ShortArc). HaveAllBut n os d) (sym g) (subst (HaveAllBut n (set (set owns person s) (holder_at holders s.object) no_own)) (sym h) (all_but r eps prices holders owns person s amount sound stands known none up fits n b));
       below = λ some. (let l = displaced_below r eps prices holders owns person s amount sound stands known none up fits (λ z. some (h ∙ z)) in omega (arith, l, h));
+      higher = λ k. (let up_k = rise r eps prices holders owns person s amount sound stands known none up fits k in rw e up_k);
     }

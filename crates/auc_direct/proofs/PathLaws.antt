@@ -65,6 +65,9 @@ module _ (t : Shorts) (eps : ℤ) (prices : List ℤ) (holders : List ℕ) (owns
       pub total_after_path : total prices ≤ℤ total new
       total_after_path = total_rises prices new raised.many (rise t eps prices new holders start labels line heap end ended raised is_eps)
 
+      pub higher_after_path : (k : ℕ) → price_at prices k ≤ℤ price_at new k
+      higher_after_path = rise t eps prices new holders start labels line heap end ended raised is_eps
+
       unsettled : (j : ℕ) → holder_at holders j ≡ NOBODY → place_of labels j ≡ 0
       unsettled j e = elim (cases_lt 0 (place_of labels j)) [ inl up ↦ absurd (seated j (omega (arith, up)) e) | inr z ↦ omega (arith, z) ]
 

@@ -2,6 +2,7 @@ pub mod Rows
 pub mod Scan
 pub mod Bid
 pub mod Market
+pub mod Shortlist
 pub mod Starts
 pub mod Endings
 pub mod Held

@@ -67,12 +67,17 @@ pub record IsAbove (r : Shorts) (eps : ℤ) (prices : List ℤ) : Type 0 where
   pub raise : IsRaise (scale_in r) eps prices (shorts_of r person) arc amount
   pub above : pos (2 ^ 61) <ℤ amount
 
+-- no price is lower than before
+abbrev pub AreHigher : List ℤ → List ℤ → Type 0
+AreHigher prices new = (k : ℕ) → price_at prices k ≤ℤ price_at new k
+
 -- What a bid that was awarded comes to: the bidder has an object, and who has held it has none.
 pub record IsAwarded (r : Shorts) (eps : ℤ) (person : ℕ) (prices new : List ℤ) (sold : List ℕ) (owns left : List ShortArc) (displaced : ℕ) : Type 0 where
   pub stands : Stands r eps new sold left
   pub more : (total prices +ℤ pos 1) ≤ℤ total new
   pub but : (n : ℕ) → HaveAllBut n owns person → HaveAllBut n left displaced
   pub below : displaced ≢ NOBODY → displaced < length r.rows
+  pub higher : AreHigher prices new
 
 -- and one that would be too high: nothing has changed
 pub record IsTooHigh (r : Shorts) (eps : ℤ) (prices new : List ℤ) (holders sold : List ℕ) (owns left : List ShortArc) : Type 0 where

@@ -4,10 +4,11 @@ ghost use Rattle.std.specs.Prelude.{◌≡◌, ◌<◌, ◌+◌, ◌*◌, ◌^�
 ghost use Rattle.auc_letters.specs.Price.{IsEps, IsPrice};
 ghost use Rattle.auc_direct.specs.Bid.{IsRaise};
 ghost use Rattle.auc_direct.specs.Rows.{IsShort};
-ghost use Rattle.auc_direct.specs.Scan.{IsValue, endless};
+ghost use Rattle.auc_direct.specs.Scan.{IsValue, endless, short_value};
+ghost use Rattle.auc_direct.specs.Shortlist.{IsBest};
 
 use crate::arc::ShortArc;
-use crate::scan::{Found, scan};
+use crate::best::Best;
 
 /// What is bid: an amount, in scaled costs, which the object's price is then; and the arc that it is bid by.
 #[derive(Clone, Copy)]
@@ -32,19 +33,19 @@ fn scaled(scale: i64, spread: i64) -> i64
 
 /// How much more the second arc of a row is worth than its best one; the scaled spread of all costs where there is no second.
 #[inline(always)]
-fn lead_of(found: Found, scaled_spread: i64) -> i64
-    requires value { IsValue found.value }
-    requires second { found.second <ℤ endless → IsValue found.second }
-    requires order { found.value ≤ℤ found.second }
+fn lead_of(best: Best, scaled_spread: i64) -> i64
+    requires value { IsValue best.value }
+    requires second { best.second <ℤ endless → IsValue best.second }
+    requires order { best.value ≤ℤ best.second }
     requires spread_low { pos 0 ≤ℤ scaled_spread }
     requires spread_high { scaled_spread ≤ℤ pos (2 ^ 45) }
-    ensures next { found.second <ℤ endless → result ≡ (found.second -ℤ found.value) }
-    ensures only { endless ≤ℤ found.second → result ≡ scaled_spread }
+    ensures next { best.second <ℤ endless → result ≡ (best.second -ℤ best.value) }
+    ensures only { endless ≤ℤ best.second → result ≡ scaled_spread }
     ensures low { pos 0 ≤ℤ result }
     ensures high { result ≤ℤ pos (2 ^ 61 + 2 ^ 46) }
 {
-    if found.second < i64::MAX {
-        found.second - found.value
+    if best.second < i64::MAX {
+        best.second - best.value
     } else {
         scaled_spread
     }
@@ -66,22 +67,29 @@ fn amount_of(price: i64, lead: i64, eps: i64) -> i64
 ///
 /// `scale` is one more than the persons, `spread` that of the costs of the file; `eps` and `prices` are in scaled costs.
 ///
-/// Takes one pass over the row, and no memory. The method is the bid of the auction algorithm (Bertsekas, 1979).
+/// O(1): the best arc is found before. The method is the bid of the auction algorithm (Bertsekas, 1979).
 #[inline(always)]
-pub(crate) fn bid_of(scale: i64, spread: i64, eps: i64, row: &[ShortArc], prices: &[i64]) -> Bid
+pub(crate) fn bid_of(
+    scale: i64,
+    spread: i64,
+    eps: i64,
+    _row: &[ShortArc],
+    best: Best,
+    prices: &[i64],
+) -> Bid
     requires scale_low { pos 1 ≤ℤ scale }
     requires scale_high { scale ≤ℤ pos 10001 }
     requires spread_low { pos 0 ≤ℤ spread }
     requires spread_high { spread ≤ℤ pos (2 * 10 ^ 9) }
     requires eps { IsEps eps }
-    requires some { 0 < length row.now }
-    requires row { All (IsShort (length prices.now)) row.now }
+    requires row { All (IsShort (length prices.now)) _row.now }
     requires prices { All IsPrice prices.now }
-    ensures { IsRaise scale eps prices.now row.now result.arc result.amount }
+    requires best { IsBest (short_value scale prices.now) _row.now best }
+    requires object { best.arc.object < length prices.now }
+    ensures { IsRaise scale eps prices.now _row.now result.arc result.amount }
 {
-    let found = scan(scale, row, prices);
-    let arc = row[found.place];
-    let lead = lead_of(found, scaled(scale, spread));
+    let arc = best.arc;
+    let lead = lead_of(best, scaled(scale, spread));
     Bid {
         amount: amount_of(prices[arc.object as usize], lead, eps),
         arc,

@@ -4,12 +4,14 @@
 #![tactic(auto)]
 
 mod arc;
+mod best;
 mod bid;
 mod ending;
 mod eps;
 mod gathering;
 mod hop;
 mod label;
+mod lists;
 mod market;
 mod path;
 mod phase;
@@ -17,10 +19,12 @@ mod phases;
 mod rows;
 mod scan;
 mod search;
+mod shortlist;
 mod solving;
 mod starts;
 mod walk;
 mod wipe;
+mod workspace;
 
 pub use solving::{DirectLimits, solve_direct, solve_direct_from};
 pub use starts::may_start;

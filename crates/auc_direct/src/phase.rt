@@ -7,12 +7,14 @@ ghost use Rattle.auc_letters.specs.Price.{IsEps};
 ghost use Rattle.auc_direct.specs.Endings.{IsChain, IsEnding};
 ghost use Rattle.auc_direct.specs.Market.{EachHasArc, HaveAllBut, IsAwarded, IsTooHigh, Stands, own_at, scale_in};
 ghost use Rattle.auc_direct.specs.Path.{IsClean};
+ghost use Rattle.auc_direct.specs.Shortlist.{Kept};
 
 use crate::bid::bid_of;
 use crate::ending::{Chain, Ending, PathStep};
+use crate::lists::Lists;
 use crate::market::{Market, NOBODY};
 use crate::rows::ShortRows;
-use crate::search::Search;
+use crate::workspace::Workspace;
 use auc_cert::Reason;
 use auc_letters::MOST_PRICE;
 use std::alloc::AllocError;
@@ -27,6 +29,7 @@ impl Market {
         spread: i64,
         eps: i64,
         person: u32,
+        lists: &mut Lists,
     ) -> Option<u32>
         requires person { person < length rows.now.rows }
         requires arcs { EachHasArc rows.now }
@@ -35,10 +38,14 @@ impl Market {
         requires eps { IsEps eps }
         requires stands { Stands rows.now eps self.old.prices.items self.old.holders.items self.old.owns.items }
         requires none { (own_at self.old.owns.items person).object ≡ NOBODY }
+        requires kept { Kept rows.now self.old.prices.items lists.old.lists.items }
         ensures awarded { IfSome result (IsAwarded rows.now eps person self.old.prices.items self.new.prices.items self.new.holders.items self.old.owns.items self.new.owns.items) }
         ensures high { IfNone result (IsTooHigh rows.now eps self.old.prices.items self.new.prices.items self.old.holders.items self.new.holders.items self.old.owns.items self.new.owns.items) }
+        ensures kept { Kept rows.now self.new.prices.items lists.new.lists.items }
     {
-        let bid = bid_of(scale, spread, eps, rows.row(person), self.prices.as_slice());
+        let prices = self.prices.as_slice();
+        let best = lists.best(rows, scale, person, prices);
+        let bid = bid_of(scale, spread, eps, rows.row(person), best, prices);
         if bid.amount > MOST_PRICE {
             return None;
         }
@@ -54,26 +61,29 @@ impl Market {
         first: u32,
         left: &mut u64,
         patience: u64,
-        search: &mut Search,
+        work: &mut Workspace,
     ) -> Result<Chain, AllocError>
         requires first { first < length rows.now.rows }
         requires arcs { EachHasArc rows.now }
         requires eps { IsEps eps }
         requires stands { Stands rows.now eps self.old.prices.items self.old.holders.items self.old.owns.items }
         requires but { HaveAllBut (first + 1) self.old.owns.items first }
-        requires clean { IsClean rows.now.objects search.old.labels.items search.old.line.items (heap_items search.old.heap) }
+        requires clean { IsClean rows.now.objects work.old.search.labels.items work.old.search.line.items (heap_items work.old.search.heap) }
+        requires kept { Kept rows.now self.old.prices.items work.old.lists.lists.items }
         ensures stands { OnOk result (Stands rows.now eps self.new.prices.items self.new.holders.items self.new.owns.items) }
         ensures chain { IfOk result (λ c. IsChain rows.now eps (first + 1) left.new c self.new.prices.items self.new.owns.items) }
         ensures raised { OnOk result ((total self.old.prices.items +ℤ pos left.old) ≤ℤ (total self.new.prices.items +ℤ pos left.new)) }
         ensures fewer { OnOk result (left.new ≤ left.old) }
-        ensures clean { OnOk result (IsClean rows.now.objects search.new.labels.items search.new.line.items (heap_items search.new.heap)) }
+        ensures clean { OnOk result (IsClean rows.now.objects work.new.search.labels.items work.new.search.line.items (heap_items work.new.search.heap)) }
+        ensures kept { OnOk result (Kept rows.now self.new.prices.items work.new.lists.lists.items) }
     {
         let scale = rows.scale();
         let spread = rows.spread();
         let mut person = first;
         let mut bids: u64 = 0;
         while *left > 0 {
-            let Some(displaced) = self.step(rows, scale, spread, eps, person) else {
+            let lists = &mut work.lists;
+            let Some(displaced) = self.step(rows, scale, spread, eps, person, lists) else {
                 return Ok(Chain::Ceiling);
             };
             *left -= 1;
@@ -85,7 +95,7 @@ impl Market {
             if bids < patience {
                 continue;
             }
-            match self.path(rows, eps, person, search)? {
+            match self.path(rows, eps, person, &mut work.search)? {
                 PathStep::Placed => return Ok(Chain::Placed),
                 PathStep::Stayed => bids = 0,
             }
@@ -100,23 +110,25 @@ impl Market {
         eps: i64,
         bids: u64,
         patience: u64,
-        search: &mut Search,
+        work: &mut Workspace,
     ) -> Result<Ending, AllocError>
         requires arcs { EachHasArc rows.now }
         requires eps { IsEps eps }
         requires stands { Stands rows.now eps self.old.prices.items self.old.holders.items self.old.owns.items }
-        requires clean { IsClean rows.now.objects search.old.labels.items search.old.line.items (heap_items search.old.heap) }
+        requires clean { IsClean rows.now.objects work.old.search.labels.items work.old.search.line.items (heap_items work.old.search.heap) }
+        requires kept { Kept rows.now self.old.prices.items work.old.lists.lists.items }
         ensures stands { OnOk result (Stands rows.now eps self.new.prices.items self.new.holders.items self.new.owns.items) }
         ensures ending { IfOk result (λ e. IsEnding rows.now bids (total self.old.prices.items) e self.new.prices.items self.new.owns.items) }
         ensures risen { OnOk result (total self.old.prices.items ≤ℤ total self.new.prices.items) }
-        ensures clean { OnOk result (IsClean rows.now.objects search.new.labels.items search.new.line.items (heap_items search.new.heap)) }
+        ensures clean { OnOk result (IsClean rows.now.objects work.new.search.labels.items work.new.search.line.items (heap_items work.new.search.heap)) }
+        ensures kept { OnOk result (Kept rows.now self.new.prices.items work.new.lists.lists.items) }
     {
         let mut left = bids;
         for first in 0..rows.persons() {
             if self.owns[first as usize].object != NOBODY {
                 continue;
             }
-            match self.chain(rows, eps, first, &mut left, patience, search)? {
+            match self.chain(rows, eps, first, &mut left, patience, work)? {
                 Chain::Placed => {}
                 Chain::Bids => return Ok(Ending::Stopped(Reason::Bids)),
                 Chain::Ceiling => return Ok(Ending::Stopped(Reason::Ceiling)),

@@ -11,7 +11,7 @@ use crate::ending::Ending;
 use crate::eps::{LAST_EPS, next_eps};
 use crate::market::Market;
 use crate::rows::ShortRows;
-use crate::search::Search;
+use crate::workspace::Workspace;
 use std::alloc::{AllocError, Global};
 
 /// Behind how many bids of a chain a path is looked for in a run of one phase, at the last eps, where a bid raises a price by little.
@@ -42,12 +42,12 @@ pub(crate) fn play_all(
     ensures { IfOk result (λ o. IsOutcome rows.now bids (total prices.items) o.ending o.market.prices.items o.market.holders.items o.market.owns.items) }
 {
     let patience = if eps == LAST_EPS { SOON } else { LATE };
-    let mut search = Search::new(alloc, rows)?;
+    let mut work = Workspace::new(alloc, rows)?;
     let mut market = Market::new(alloc, rows.persons(), prices)?;
     let mut eps = eps;
     loop {
         market.open();
-        let ending = market.play(rows, eps, bids, patience, &mut search)?;
+        let ending = market.play(rows, eps, bids, patience, &mut work)?;
         match ending {
             Ending::Stopped(_) => return Ok(Outcome { ending, market }),
             Ending::Sold => {}
@@ -85,10 +85,10 @@ pub(crate) fn play_from(
     requires start { ArePricesOf rows.now start.now }
     ensures { IfOk result (λ o. IsOutcomeFrom rows.now bids start.now o.ending o.market.prices.items o.market.holders.items o.market.owns.items) }
 {
-    let mut search = Search::new(alloc, rows)?;
+    let mut work = Workspace::new(alloc, rows)?;
     let prices = prices_before(alloc, rows, start)?;
     let mut market = Market::new(alloc, rows.persons(), prices)?;
     market.open_at(rows, LAST_EPS, start);
-    let ending = market.play(rows, LAST_EPS, bids, SOON, &mut search)?;
+    let ending = market.play(rows, LAST_EPS, bids, SOON, &mut work)?;
     Ok(Outcome { ending, market })
 }

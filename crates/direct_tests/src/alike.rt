@@ -28,16 +28,41 @@ impl Dice {
     }
 }
 
-/// A problem of up to 8 persons and so many more objects, whose costs lie below a number.
-fn problem_of(rt: &HostRuntime, dice: &mut Dice, more: u32, costs: u32) -> Result<ArcList, Fail> {
-    let persons = 1 + dice.below(8) % 8;
-    let objects = persons + more % 4;
+/// How many problems are drawn, of how many persons at least, of how many more objects, and below which number costs lie.
+#[derive(Clone, Copy)]
+struct Shape {
+    problems: u32,
+    least: u32,
+    more: u32,
+    costs: u32,
+}
+
+/// Some persons, each of whom knows few objects.
+const SMALL: Shape = Shape {
+    problems: 100,
+    least: 1,
+    more: 0,
+    costs: 100,
+};
+
+/// So many that each knows some 60 objects, for which he has a list of candidates.
+const LONG: Shape = Shape {
+    problems: 5,
+    least: 90,
+    more: 0,
+    costs: 1_000,
+};
+
+/// A problem of such a shape, of up to 7 persons more.
+fn problem_of(rt: &HostRuntime, dice: &mut Dice, shape: Shape) -> Result<ArcList, Fail> {
+    let persons = shape.least % 1_000 + dice.below(8) % 8;
+    let objects = persons + shape.more % 4;
     let mut arcs = Vec::new(rt.alloc());
     for person in 0..persons {
         for object in 0..objects {
             if dice.below(3) > 0 {
                 arcs.push(Arc {
-                    cost: i64::from(dice.below(costs)) - 50,
+                    cost: i64::from(dice.below(shape.costs)) - 50,
                     person,
                     object,
                 })?;
@@ -65,12 +90,12 @@ fn usual() -> Result<Limits, Fail>
     Ok(limits)
 }
 
-/// Whether both solvers make the same claim of so many problems.
-fn are_alike(rt: &HostRuntime, more: u32, costs: u32) -> Result<bool, Fail> {
+/// Whether both solvers make the same claim of the problems of a shape.
+fn are_alike(rt: &HostRuntime, shape: Shape) -> Result<bool, Fail> {
     let mut dice = Dice { state: 7 };
     let limits = usual()?;
-    for _ in 0..100 {
-        let problem = problem_of(rt, &mut dice, more, costs)?;
+    for _ in 0..shape.problems {
+        let problem = problem_of(rt, &mut dice, shape)?;
         let direct = answered(rt, &problem, &AMPLE)?;
         let serial = text_of(rt, &problem, solve_serial(rt.alloc(), &problem, &limits)?)?;
         if claim_of(direct.as_slice()) != claim_of(serial.as_slice()) {
@@ -82,14 +107,27 @@ fn are_alike(rt: &HostRuntime, more: u32, costs: u32) -> Result<bool, Fail> {
 
 #[test]
 fn square(rt: HostRuntime) -> Result<(), Fail> {
-    assert!(rt; are_alike(&rt, 0, 100)?);
-    assert!(rt; are_alike(&rt, 0, 4)?);
+    assert!(rt; are_alike(&rt, SMALL)?);
+    assert!(rt; are_alike(&rt, Shape { costs: 4, ..SMALL })?);
     Ok(())
 }
 
 #[test]
 fn more_objects(rt: HostRuntime) -> Result<(), Fail> {
-    assert!(rt; are_alike(&rt, 1, 100)?);
-    assert!(rt; are_alike(&rt, 3, 4)?);
+    assert!(rt; are_alike(&rt, Shape { more: 1, ..SMALL })?);
+    let ties = Shape {
+        more: 3,
+        costs: 4,
+        ..SMALL
+    };
+    assert!(rt; are_alike(&rt, ties)?);
+    Ok(())
+}
+
+#[test]
+fn long_rows(rt: HostRuntime) -> Result<(), Fail> {
+    assert!(rt; are_alike(&rt, LONG)?);
+    assert!(rt; are_alike(&rt, Shape { costs: 4, ..LONG })?);
+    assert!(rt; are_alike(&rt, Shape { more: 3, ..LONG })?);
     Ok(())
 }

@@ -1,8 +1,11 @@
-use Rattle.std.proofs.Common.{ap, arith, length, rules, sym, subst, to_z, w64}
+use Rattle.std.proofs.Common.{◌∙◌, ap, arith, length, rules, sym, subst, to_z, w64}
 use Rattle.std.specs.Prelude.{FitsSigned}
 use Rattle.std.proofs.lemmas.Int.{ints, to_z-of_z}
+use Rattle.std.proofs.lemmas.List.{length-replicate}
 use Rattle.auc_graph.specs.Assignment.{total}
+use Rattle.auc_direct.specs.declared.market.TheConstants.{NOBODY}
 use Rattle.auc_direct.specs.Endings.{IsStart}
+use Rattle.auc_direct.specs.Market.{no_own}
 use Rattle.auc_direct.proofs.Opening.{stands_opened, start_next}
 use Rattle.auc_direct.proofs.phases.play_all.Goals as goal
 
@@ -26,6 +29,22 @@ loop-market-preserved c =
       start = start_next c.args.rows.now eps c.in-Some.next c.loop-market.market.prices.items c.play.new.self.prices.items c.play.new.self.holders.items c.play.new.self.owns.items range less inv.start after.stands;
       holders = after.stands.holders_are;
       clean = after.clean;
+      kept = after.kept;
       owns = after.stands.owns_are;
       risen = (let o = ap total c.open.ensures.prices in let a = inv.risen in let b = after.risen in omega (arith, ints, o, a, b));
+    })
+
+pub loop-market-init : goal.loop-market-init
+loop-market-init c =
+    let f : FitsSigned w64 c.args.eps = c.ranges.eps in
+    let e = c.in_ok-market.ensures.prices in
+    let start = c.requires.start in
+    simp to_z-of_z (record {
+      eps_is = c.requires.eps;
+      start = rw e start;
+      holders = ap length c.in_ok-market.ensures.holders ∙ (length-replicate (length c.args.prices.items) NOBODY ∙ start.each);
+      clean = c.in_ok-work.ensures.clean;
+      kept = c.in_ok-work.ensures.kept c.in_ok-market.market.prices.items;
+      owns = ap length c.in_ok-market.ensures.owns ∙ (length-replicate c.persons.result no_own ∙ c.persons.ensures.persons);
+      risen = (let t = ap total e in omega (arith, ints, t));
     })

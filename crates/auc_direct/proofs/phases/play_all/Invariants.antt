@@ -5,6 +5,7 @@ use Rattle.auc_letters.specs.Price.{IsEps}
 use Rattle.std.specs.BinaryHeap.{heap_items}
 use Rattle.auc_direct.specs.Endings.{IsStart}
 use Rattle.auc_direct.specs.Path.{IsClean}
+use Rattle.auc_direct.specs.Shortlist.{Kept}
 use Rattle.auc_direct.proofs.phases.play_all.Given as goal
 
 abbrev pub invariant-loop-market : goal.invariant-loop-market
@@ -12,7 +13,8 @@ invariant-loop-market l = record {
   eps_is : IsEps l.eps;
   start : IsStart l.rows l.eps l.market.prices.items;
   holders : length l.market.holders.items ≡ l.rows.objects;
-  clean : IsClean l.rows.objects l.search.labels.items l.search.line.items (heap_items l.search.heap);
+  clean : IsClean l.rows.objects l.work.search.labels.items l.work.search.line.items (heap_items l.work.search.heap);
+  kept : Kept l.rows l.market.prices.items l.work.lists.lists.items;
   owns : length l.market.owns.items ≡ length l.rows.rows;
   risen : total l.fn.prices.items ≤ℤ total l.market.prices.items;
 }

@@ -27,3 +27,6 @@ returns c =
       opened = c.open_at.ensures.opened;
       stopped = ended_stopped c.args.rows.now c.args.bids (total begun) (total begun) c.in_ok-ending.ending c.play.new.self.prices.items c.play.new.self.owns.items same after.ending;
     }
+
+pub play-requires-clause-kept : goal.play-requires-clause-kept
+play-requires-clause-kept c = c.in_ok-work.ensures.kept c.open_at.new.self.prices.items

@@ -3,6 +3,7 @@ use Rattle.std.specs.Prelude.{FitsSigned}
 use Rattle.std.proofs.lemmas.Int.{ints}
 use Rattle.auc_direct.proofs.MarketLaws.{all_have}
 use Rattle.auc_direct.proofs.PathLaws.{have_after_path}
+use Rattle.auc_direct.proofs.Shortlists.{kept_rises}
 use Rattle.auc_direct.proofs.market.Market.chain.Goals as goal
 
 pub returns-then-displaced-clause-chain : goal.returns-then-displaced-clause-chain
@@ -18,6 +19,11 @@ pub returns-in-Placed-clause-chain : goal.returns-in-Placed-clause-chain
 returns-in-Placed-clause-chain c =
     let s = rw c.in-Placed.is at c.in_ok-path.ensures.step in
     have_after_path (c.args.first + 1) c.step.new.self.owns.items c.path.new.self.owns.items c.in-Some.displaced (c.in-Some.ensures.awarded.but (c.args.first + 1) c.loop-left.invariant.but) s.2 s.3
+
+pub returns-in-Placed-clause-kept : goal.returns-in-Placed-clause-kept
+returns-in-Placed-clause-kept c =
+    let s = rw c.in-Placed.is at c.in_ok-path.ensures.step in
+    kept_rises c.args.rows.now c.step.new.self.prices.items c.path.new.self.prices.items c.step.new.lists.lists.items s.4 c.step.ensures.kept
 
 pub returns-in-Placed-clause-raised : goal.returns-in-Placed-clause-raised
 returns-in-Placed-clause-raised c =
@@ -41,6 +47,7 @@ loop-left-preserved-then-bids-patience c =
       known = a.below c.if-displaced.false;
       but = a.but (c.args.first + 1) c.loop-left.invariant.but;
       clean = c.loop-left.invariant.clean;
+      kept = c.step.ensures.kept;
       raised = omega (arith, ints, m, r, t);
       fewer = (let l = c.loop-left.invariant.fewer in omega (arith, l, t));
     }
@@ -58,6 +65,7 @@ loop-left-preserved c =
       known = a.below c.if-displaced.false;
       but = a.but (c.args.first + 1) c.loop-left.invariant.but;
       clean = c.in_ok-path.ensures.clean;
+      kept = c.step.ensures.kept;
       raised = omega (arith, ints, m, r, t);
       fewer = (let l = c.loop-left.invariant.fewer in omega (arith, l, t));
     })

@@ -4,6 +4,7 @@ use Rattle.auc_graph.specs.Assignment.{total}
 use Rattle.std.specs.BinaryHeap.{heap_items}
 use Rattle.auc_direct.specs.Market.{HaveAllBut, Stands}
 use Rattle.auc_direct.specs.Path.{IsClean}
+use Rattle.auc_direct.specs.Shortlist.{Kept}
 use Rattle.auc_direct.proofs.market.Market.chain.Given as goal
 
 abbrev pub invariant-loop-left : goal.invariant-loop-left
@@ -11,7 +12,8 @@ invariant-loop-left l = record {
   stands : Stands l.rows l.eps l.self.prices.items l.self.holders.items l.self.owns.items;
   known : l.person < length l.rows.rows;
   but : HaveAllBut (l.first + 1) l.self.owns.items l.person;
-  clean : IsClean l.rows.objects l.search.labels.items l.search.line.items (heap_items l.search.heap);
+  clean : IsClean l.rows.objects l.work.search.labels.items l.work.search.line.items (heap_items l.work.search.heap);
+  kept : Kept l.rows l.self.prices.items l.work.lists.lists.items;
   raised : (total l.fn.self.prices.items +ℤ pos l.fn.left) ≤ℤ (total l.self.prices.items +ℤ pos l.left);
   fewer : l.left ≤ l.fn.left;
 }

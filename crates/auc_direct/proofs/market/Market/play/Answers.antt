@@ -6,4 +6,4 @@ use Rattle.auc_direct.proofs.market.Market.play.Goals as goal
 pub loop-first-init : goal.loop-first-init
 loop-first-init c =
     let f1 : FitsSigned w64 c.args.eps = c.ranges.eps in
-    simp to_z-of_z (record { stands = c.requires.stands; have = λ i l. absurd (omega (arith, l)); clean = c.requires.clean; raised = omega (arith, ints); fewer = omega arith })
+    simp to_z-of_z (record { stands = c.requires.stands; have = λ i l. absurd (omega (arith, l)); clean = c.requires.clean; kept = c.requires.kept; raised = omega (arith, ints); fewer = omega arith })

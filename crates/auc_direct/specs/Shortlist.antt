@@ -1,0 +1,48 @@
+-- Lists of candidates: what they say of a row, and that it stays true while prices rise.
+use Rattle.std.specs.Prelude.{ℕ, ℤ, pos, ◌≡◌, ◌⊎◌, ◌<◌, ◌≤ℤ◌, List, [], length, All, Contains, set, slice_index_or}
+use Rattle.auc_direct.specs.declared.arc.ShortArc.{ShortArc}
+use Rattle.auc_direct.specs.declared.best.Best.{Best}
+use Rattle.auc_direct.specs.Market.{scale_in}
+use Rattle.auc_direct.specs.Rows.{Shorts, shorts_of}
+use Rattle.auc_direct.specs.Scan.{IsValue, endless, no_arc, short_value}
+
+-- An arc of the row and what it is worth, and what no other one is worth less than: the second, or there is none.
+pub record IsBest (val : ShortArc → ℤ) (row : List ShortArc) (b : Best) : Type 0 where
+  pub listed : Contains row b.arc
+  pub is : b.value ≡ val b.arc
+  pub range : IsValue b.value
+  pub others : All (λ a. (a ≡ b.arc) ⊎ (b.second ≤ℤ val a)) row
+  pub least : b.value ≤ℤ b.second
+  pub second_is : ((b.second ≡ endless) × All (λ a. a ≡ b.arc) row) ⊎ IsValue b.second
+
+-- some arcs of a row, and a bound
+pub record Listed : Type 0 where
+  pub bound : ℤ
+  pub arcs : List ShortArc
+
+abbrev pub no_list : Listed
+no_list = record { bound = pos 0; arcs = [] }
+
+-- what a list says of the arcs that were seen: its arcs are among them, and each other one is worth no less than the bound
+pub record Gathered (val : ShortArc → ℤ) (seen : List ShortArc) (l : Listed) : Type 0 where
+  pub members : All (Contains seen) l.arcs
+  pub rest : All (λ b. Contains l.arcs b ⊎ (l.bound ≤ℤ val b)) seen
+
+-- an arc stands in the place of another one, and the bound has risen neither above what it was nor above what that one is worth
+pub record IsReplaced (val : ShortArc → ℤ) (arc : ShortArc) (old new : Listed) : Type 0 where
+  pub place : ℕ
+  pub within : place < length old.arcs
+  pub arcs : new.arcs ≡ set old.arcs place arc
+  pub bound : new.bound ≤ℤ old.bound
+  pub out : new.bound ≤ℤ val (slice_index_or old.arcs place no_arc)
+
+-- what a list says of a row: it has no arc, or that
+abbrev pub Keeps : (ShortArc → ℤ) → List ShortArc → Listed → Type 0
+Keeps val row l = (l.arcs ≡ []) ⊎ Gathered val row l
+
+abbrev pub list_at : List Listed → ℕ → Listed
+list_at lists i = slice_index_or lists i no_list
+
+-- each person's list is right at these prices
+abbrev pub Kept : Shorts → List ℤ → List Listed → Type 0
+Kept r prices lists = (i : ℕ) → Keeps (short_value (scale_in r) prices) (shorts_of r i) (list_at lists i)

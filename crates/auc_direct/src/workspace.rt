@@ -1,0 +1,30 @@
+//! What the phases of a run keep beside the market.
+
+ghost use Rattle.std.specs.Prelude.{List, ℤ, IfOk};
+ghost use Rattle.std.specs.BinaryHeap.{heap_items};
+ghost use Rattle.auc_direct.specs.Path.{IsClean};
+ghost use Rattle.auc_direct.specs.Shortlist.{Kept};
+
+use crate::lists::Lists;
+use crate::rows::ShortRows;
+use crate::search::Search;
+use std::alloc::{AllocError, Global};
+
+/// The lists of candidates, which stay through all phases, and room for searches.
+#[derive(Drop)]
+pub(crate) struct Workspace {
+    pub(crate) lists: Lists,
+    pub(crate) search: Search,
+}
+
+impl Workspace {
+    /// With lists that say nothing, and nothing labelled.
+    pub(crate) fn new(alloc: Global, rows: &ShortRows) -> Result<Workspace, AllocError>
+        ensures kept { IfOk result (λ w. (prices : List ℤ) → Kept rows.now prices w.lists.lists.items) }
+        ensures clean { IfOk result (λ w. IsClean rows.now.objects w.search.labels.items w.search.line.items (heap_items w.search.heap)) }
+    {
+        let lists = Lists::new(alloc, rows)?;
+        let search = Search::new(alloc, rows)?;
+        Ok(Workspace { lists, search })
+    }
+}

@@ -12,7 +12,14 @@ pub(crate) const LAST_EPS: i64 = 1;
 /// By what eps is divided from phase to phase.
 const STEP: i64 = 8;
 
-/// An eighth of the scaled spread of the costs, and at least 1. Where there are more objects than persons it is 1, so that there is one phase: a later one would
+/// Half of the arcs that a person knows in the mean.
+fn half_of_mean(rows: &ShortRows) -> usize {
+    rows.many()
+        .checked_div(2 * rows.persons() as usize)
+        .unwrap_or(0)
+}
+
+/// The scaled spread of the costs divided by half of the mean row, by a power of 2 from 8 to 64, and at least 1. Where there are more objects than persons it is 1, so that there is one phase: a later one would
 /// leave prices to objects that nobody holds.
 pub(crate) fn first_eps(rows: &ShortRows) -> i64
     ensures range { IsEps result }
@@ -22,7 +29,13 @@ pub(crate) fn first_eps(rows: &ShortRows) -> i64
         return LAST_EPS;
     }
     let eighth = rows.scale() * rows.spread() / STEP;
-    if eighth < LAST_EPS { LAST_EPS } else { eighth }
+    let eps = match half_of_mean(rows) {
+        64.. => eighth / 8,
+        32.. => eighth / 4,
+        16.. => eighth / 2,
+        _ => eighth,
+    };
+    if eps < LAST_EPS { LAST_EPS } else { eps }
 }
 
 /// An eighth of the last eps, and at least 1; none behind 1.

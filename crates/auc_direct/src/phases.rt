@@ -17,8 +17,20 @@ use std::alloc::{AllocError, Global};
 /// Behind how many bids of a chain a path is looked for in a run of one phase, at the last eps, where a bid raises a price by little.
 const SOON: u64 = 16;
 
-/// The same in a run of more phases, where few chains are so long: those of a price war.
+/// The same in a run of more phases, where few chains are so long: those of a price war. At least so many, and in a problem of many arcs as many as may take the time of
+/// a search.
 const LATE: u64 = 10_000;
+
+/// How many arcs a search may look at in the time of one bid.
+const LOOKS: usize = 100;
+
+/// Behind how many bids of a chain a path is looked for in a run that begins at this eps.
+fn patience_at(rows: &ShortRows, eps: i64) -> u64 {
+    if eps == LAST_EPS {
+        return SOON;
+    }
+    LATE.max((rows.many() / LOOKS) as u64)
+}
 
 /// How the last phase has ended, and what it leaves.
 #[derive(Drop)]
@@ -41,7 +53,7 @@ pub(crate) fn play_all(
     requires start { IsStart rows.now eps prices.items }
     ensures { IfOk result (λ o. IsOutcome rows.now bids (total prices.items) o.ending o.market.prices.items o.market.holders.items o.market.owns.items) }
 {
-    let patience = if eps == LAST_EPS { SOON } else { LATE };
+    let patience = patience_at(rows, eps);
     let mut work = Workspace::new(alloc, rows)?;
     let mut market = Market::new(alloc, rows.persons(), prices)?;
     let mut eps = eps;

@@ -130,6 +130,12 @@ impl ShortRows {
         self.spread
     }
 
+    /// The number of all arcs.
+    #[inline]
+    pub(crate) fn many(&self) -> usize {
+        self.arcs.len()
+    }
+
     /// The arcs of a person. O(1).
     #[inline(always)]
     pub(crate) fn row(&self, person: u32) -> &[ShortArc]

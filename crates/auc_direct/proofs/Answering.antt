@@ -1,6 +1,7 @@
 -- What the last phase leaves is an answer.
-use Rattle.std.proofs.Common.{ℕ, ℤ, pos, ◌≢◌, ◌<◌, refl, arith, inl, List, length, map, Contains, Option, sym, subst}
-use Rattle.std.specs.Prelude.{All, IfOk, Result, Ok, Err}
+use Rattle.std.proofs.Common.{Bool, true, false, ℕ, ℤ, pos, ◌≡◌, ◌≢◌, ◌<◌, refl, arith, inl, inr, List, length, map, Contains, Option, sym, subst}
+use Rattle.std.specs.Prelude.{All, IfOk, Result, Ok, Err, ◌⊎◌}
+use Rattle.std.proofs.lemmas.Bool.{false≢true}
 use Rattle.std.proofs.lemmas.List.Elements.{All-weaker}
 use Rattle.auc_cert.specs.declared.reason.Reason.{Reason}
 use Rattle.auc_cert.specs.Claim.{pick_of}
@@ -115,3 +116,18 @@ own_listed t r eps prices holders owns same sound stands j some =
     let has = holder_has r eps prices holders owns sound stands j some in
     let lt : i < length t.rows = (let l = owner_below r eps prices holders owns sound stands i has in let e = same.persons in omega (arith, l, e)) in
     subst (λ (xs : List ShortArc). Contains xs (own_at owns i)) (same.rows i lt) (stands.slack i has).listed
+
+-- ---- where somebody watches
+
+-- an answer that is right, where who watched has said no; and else one that a limit explains
+pub limit_or_told : {E : Type 0} (told : Bool) (P Q : Answer → Type 0) (S : Type 0) (r : Result Answer E) → (told ≡ true) ⊎ S → IfOk r P → (S → IfOk r Q) → IfOk r (λ a. (told ≡ true) ⊎ Q a)
+limit_or_told told P Q S r (inl e) any limit = of_answers P (λ a. (told ≡ true) ⊎ Q a) r (λ a p. inl e) any
+limit_or_told told P Q S r (inr s) any limit = of_answers Q (λ a. (told ≡ true) ⊎ Q a) r (λ a q. inr q) (limit s)
+
+not_told : (P : Answer → Type 0) (a : Answer) → (false ≡ true) ⊎ P a → P a
+not_told P a (inl e) = absurd (false≢true e)
+not_told P a (inr p) = p
+
+-- who never says no has said no nowhere
+pub never_told : {E : Type 0} (P : Answer → Type 0) (r : Result Answer E) → IfOk r (λ a. (false ≡ true) ⊎ P a) → IfOk r P
+never_told P r h = of_answers (λ a. (false ≡ true) ⊎ P a) P r (not_told P) h

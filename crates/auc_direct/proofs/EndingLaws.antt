@@ -1,11 +1,11 @@
 -- What a phase's ending says of the run.
-use Rattle.std.proofs.Common.{ℕ, ℤ, pos, ◌≡◌, refl, arith, List, subst}
-use Rattle.std.specs.Prelude.{◌≤ℤ◌}
+use Rattle.std.proofs.Common.{Bool, true, inl, inr, ℕ, ℤ, pos, ◌≡◌, refl, arith, List, subst}
+use Rattle.std.specs.Prelude.{◌≤ℤ◌, ◌⊎◌}
 use Rattle.std.proofs.lemmas.Int.{ints}
 use Rattle.auc_cert.specs.declared.reason.Reason.{Reason}
 use Rattle.auc_direct.specs.declared.arc.ShortArc.{ShortArc}
 use Rattle.auc_direct.specs.declared.ending.Ending.{Ending}
-use Rattle.auc_direct.specs.Endings.{IsEnding, IsLeft, IsLimit, IsStopped}
+use Rattle.auc_direct.specs.Endings.{IsEnding, IsLeft, IsLimit, IsSold, IsStopped}
 use Rattle.auc_direct.specs.Market.{Stands}
 use Rattle.auc_direct.specs.Rows.{Shorts}
 
@@ -24,3 +24,17 @@ ended_left r bids begun eps (Ending.Stopped reason) prices holders owns stands i
 pub ended_stopped : (r : Shorts) (bids : ℕ) (begun after : ℤ) (ending : Ending) (prices : List ℤ) (owns : List ShortArc) → begun ≤ℤ after → IsEnding r bids after ending prices owns → IsStopped r bids begun ending prices
 ended_stopped r bids begun after Ending.Sold prices owns le is = tt
 ended_stopped r bids begun after (Ending.Stopped reason) prices owns le is = limit_earlier r bids begun after reason prices le is
+
+-- where all is sold, each person has an object
+pub ended_sold : (r : Shorts) (bids : ℕ) (begun : ℤ) (ending : Ending) (prices : List ℤ) (owns : List ShortArc) → IsEnding r bids begun ending prices owns → IsSold r ending owns
+ended_sold r bids begun Ending.Sold prices owns is = is
+ended_sold r bids begun (Ending.Stopped reason) prices owns is = tt
+
+pub sold_left : (r : Shorts) (eps : ℤ) (ending : Ending) (prices : List ℤ) (holders : List ℕ) (owns : List ShortArc) → Stands r eps prices holders owns → IsSold r ending owns → (ending ≡ Ending.Sold → eps ≡ pos 1) → IsLeft r ending prices holders owns
+sold_left r eps Ending.Sold prices holders owns stands is last = (subst (λ (e : ℤ). Stands r e prices holders owns) (last refl) stands, is)
+sold_left r eps (Ending.Stopped reason) prices holders owns stands is last = (eps, stands)
+
+-- only a limit has stopped the run, or who watched it
+pub watched_stopped : (told : Bool) (r : Shorts) (bids : ℕ) (begun after : ℤ) (ending : Ending) (prices : List ℤ) (owns : List ShortArc) → begun ≤ℤ after → (told ≡ true) ⊎ IsEnding r bids after ending prices owns → (told ≡ true) ⊎ IsStopped r bids begun ending prices
+watched_stopped told r bids begun after ending prices owns le (inl e) = inl e
+watched_stopped told r bids begun after ending prices owns le (inr is) = inr (ended_stopped r bids begun after ending prices owns le is)

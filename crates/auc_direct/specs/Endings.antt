@@ -1,5 +1,5 @@
 -- What a chain of bids, a phase and a run come to.
-use Rattle.std.specs.Prelude.{ℕ, ℤ, pos, ◌≡◌, ◌≢◌, ◌⊎◌, ◌+ℤ◌, ◌≤ℤ◌, List, length, All}
+use Rattle.std.specs.Prelude.{Bool, true, ℕ, ℤ, pos, ◌≡◌, ◌≢◌, ◌⊎◌, ◌+ℤ◌, ◌≤ℤ◌, List, length, All}
 use Rattle.auc_cert.specs.declared.cert.CertParts.{CertParts}
 use Rattle.auc_cert.specs.declared.reason.Reason.{Reason}
 use Rattle.auc_graph.specs.Assignment.{total}
@@ -37,6 +37,11 @@ abbrev pub IsEnding : Shorts → ℕ → ℤ → Ending → List ℤ → List Sh
 IsEnding r bids begun Ending.Sold prices owns = HaveObjects (length r.rows) owns
 IsEnding r bids begun (Ending.Stopped reason) prices owns = IsLimit r bids begun reason prices
 
+-- where a phase has sold all, each person has an object
+abbrev pub IsSold : Shorts → Ending → List ShortArc → Type 0
+IsSold r Ending.Sold owns = HaveObjects (length r.rows) owns
+IsSold r (Ending.Stopped reason) owns = Unit {0}
+
 -- what a phase at this eps begins with: as many objects as persons, or no price
 pub record IsStart (r : Shorts) (eps : ℤ) (prices : List ℤ) : Type 0 where
   pub each : length prices ≡ r.objects
@@ -53,16 +58,12 @@ abbrev pub IsStopped : Shorts → ℕ → ℤ → Ending → List ℤ → Type 0
 IsStopped r bids begun Ending.Sold prices = Unit {0}
 IsStopped r bids begun (Ending.Stopped reason) prices = IsLimit r bids begun reason prices
 
--- what a run comes to that began with prices of this sum
-abbrev pub IsOutcome : Shorts → ℕ → ℤ → Ending → List ℤ → List ℕ → List ShortArc → Type 0
-IsOutcome r bids begun ending prices holders owns = IsLeft r ending prices holders owns × IsStopped r bids begun ending prices
-
--- what a run from start prices comes to: it began with what its opening has left of them
-pub record IsOutcomeFrom (r : Shorts) (bids : ℕ) (start : List ℤ) (ending : Ending) (prices : List ℤ) (holders : List ℕ) (owns : List ShortArc) : Type 0 where
+-- what a run from start prices comes to: it began with what its opening has left of them, and only a limit has stopped it, or who watched it
+pub record IsOutcomeFrom (r : Shorts) (bids : ℕ) (start : List ℤ) (told : Bool) (ending : Ending) (prices : List ℤ) (holders : List ℕ) (owns : List ShortArc) : Type 0 where
   pub left : IsLeft r ending prices holders owns
   pub begun : List ℤ
   pub opened : AreOpened r.objects (length r.rows) start begun
-  pub stopped : IsStopped r bids (total begun) ending prices
+  pub stopped : (told ≡ true) ⊎ IsStopped r bids (total begun) ending prices
 
 abbrev pub IsLimitedBy : Problem → ℕ → ℤ → CertParts → Type 0
 IsLimitedBy p bids begun (CertParts.Optimal cost choice prices) = Unit {0}

@@ -23,8 +23,13 @@ mod shortlist;
 mod solving;
 mod starts;
 mod walk;
+mod watch;
+mod watched;
 mod wipe;
 mod workspace;
 
-pub use solving::{DirectLimits, solve_direct, solve_direct_from};
+pub use solving::{
+    DirectLimits, solve_direct, solve_direct_from, solve_direct_watched, solve_direct_watched_from,
+};
 pub use starts::may_start;
+pub use watch::{Progress, Watch};

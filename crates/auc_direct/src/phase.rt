@@ -80,7 +80,6 @@ impl Market {
         let scale = rows.scale();
         let spread = rows.spread();
         let mut person = first;
-        let mut bids: u64 = 0;
         while *left > 0 {
             let lists = &mut work.lists;
             let Some(displaced) = self.step(rows, scale, spread, eps, person, lists) else {
@@ -88,16 +87,18 @@ impl Market {
             };
             *left -= 1;
             if displaced == NOBODY {
+                work.walked = 0;
                 return Ok(Chain::Placed);
             }
             person = displaced;
-            bids = bids.saturating_add(1);
-            if bids < patience {
+            work.walked = work.walked.saturating_add(1);
+            if work.walked < patience {
                 continue;
             }
+            work.walked = 0;
             match self.path(rows, eps, person, &mut work.search)? {
                 PathStep::Placed => return Ok(Chain::Placed),
-                PathStep::Stayed => bids = 0,
+                PathStep::Stayed => {}
             }
         }
         Ok(Chain::Bids)

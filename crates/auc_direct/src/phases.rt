@@ -1,9 +1,9 @@
 //! All phases of a run: epsilon scaling.
 
-ghost use Rattle.std.specs.Prelude.{◌≡◌, pos, length, IfOk};
+ghost use Rattle.std.specs.Prelude.{true, ◌≡◌, ◌⊎◌, pos, length, IfOk};
 ghost use Rattle.auc_graph.specs.Assignment.{total};
 ghost use Rattle.auc_letters.specs.Price.{IsEps};
-ghost use Rattle.auc_direct.specs.Endings.{IsOutcome, IsOutcomeFrom, IsStart};
+ghost use Rattle.auc_direct.specs.Endings.{IsLeft, IsOutcomeFrom, IsStart, IsStopped};
 ghost use Rattle.auc_direct.specs.Market.{EachHasArc};
 ghost use Rattle.auc_direct.specs.Starts.{AreKept, ArePricesOf};
 
@@ -11,6 +11,7 @@ use crate::ending::Ending;
 use crate::eps::{LAST_EPS, next_eps};
 use crate::market::Market;
 use crate::rows::ShortRows;
+use crate::watch::Watch;
 use crate::workspace::Workspace;
 use std::alloc::{AllocError, Global};
 
@@ -41,17 +42,19 @@ pub(crate) struct Outcome {
 
 /// A phase at this eps from these prices, and then one at each next eps, from the prices of the one before: up to the last one, or the first that a limit stops. Each
 /// may make so many bids.
-pub(crate) fn play_all(
+pub(crate) fn play_all<W: Watch>(
     alloc: Global,
     rows: &ShortRows,
     bids: u64,
     eps: i64,
     prices: Vec<i64>,
+    watch: &mut W,
 ) -> Result<Outcome, AllocError>
     requires arcs { EachHasArc rows.now }
     requires eps { IsEps eps }
     requires start { IsStart rows.now eps prices.items }
-    ensures { IfOk result (λ o. IsOutcome rows.now bids (total prices.items) o.ending o.market.prices.items o.market.holders.items o.market.owns.items) }
+    ensures left { IfOk result (λ o. IsLeft rows.now o.ending o.market.prices.items o.market.holders.items o.market.owns.items) }
+    ensures stopped { IfOk result (λ o. (W.has_stopped watch.new ≡ true) ⊎ IsStopped rows.now bids (total prices.items) o.ending o.market.prices.items) }
 {
     let patience = patience_at(rows, eps);
     let mut work = Workspace::new(alloc, rows)?;
@@ -59,7 +62,7 @@ pub(crate) fn play_all(
     let mut eps = eps;
     loop {
         market.open();
-        let ending = market.play(rows, eps, bids, patience, &mut work)?;
+        let ending = market.play_watched(rows, eps, bids, patience, &mut work, watch)?;
         match ending {
             Ending::Stopped(_) => return Ok(Outcome { ending, market }),
             Ending::Sold => {}
@@ -87,20 +90,21 @@ fn prices_before(alloc: Global, rows: &ShortRows, start: &[i64]) -> Result<Vec<i
 }
 
 /// One phase at the last eps, from start prices, at which persons keep what they may. It may make so many bids.
-pub(crate) fn play_from(
+pub(crate) fn play_from<W: Watch>(
     alloc: Global,
     rows: &ShortRows,
     bids: u64,
     start: &[i64],
+    watch: &mut W,
 ) -> Result<Outcome, AllocError>
     requires arcs { EachHasArc rows.now }
     requires start { ArePricesOf rows.now start.now }
-    ensures { IfOk result (λ o. IsOutcomeFrom rows.now bids start.now o.ending o.market.prices.items o.market.holders.items o.market.owns.items) }
+    ensures { IfOk result (λ o. IsOutcomeFrom rows.now bids start.now (W.has_stopped watch.new) o.ending o.market.prices.items o.market.holders.items o.market.owns.items) }
 {
     let mut work = Workspace::new(alloc, rows)?;
     let prices = prices_before(alloc, rows, start)?;
     let mut market = Market::new(alloc, rows.persons(), prices)?;
     market.open_at(rows, LAST_EPS, start);
-    let ending = market.play(rows, LAST_EPS, bids, SOON, &mut work)?;
+    let ending = market.play_watched(rows, LAST_EPS, bids, SOON, &mut work, watch)?;
     Ok(Outcome { ending, market })
 }

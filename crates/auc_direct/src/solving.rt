@@ -1,6 +1,6 @@
 //! The solver in one hand.
 
-ghost use Rattle.std.specs.Prelude.{ℕ, ℤ, pos, IfOk};
+ghost use Rattle.std.specs.Prelude.{ℕ, ℤ, true, ◌≡◌, ◌⊎◌, pos, IfOk};
 ghost use Rattle.auc_graph.specs.Assignment.{total};
 ghost use Rattle.auc_graph.specs.Table.{IsTableOf};
 ghost use Rattle.auc_letters.specs.Price.{IsEps};
@@ -15,6 +15,7 @@ use crate::eps::first_eps;
 use crate::gathering::gather;
 use crate::phases::{Outcome, play_all, play_from};
 use crate::rows::ShortRows;
+use crate::watch::{Onward, Watch};
 use auc_answers::finish::{bracket, optimal};
 use auc_answers::{Answer, Prepared, prepare};
 use auc_graph::{ArcList, Rows};
@@ -54,7 +55,7 @@ fn answer_of(
 }
 
 /// Solves a problem that has an assignment, in phases from this eps and these prices on.
-fn solve_rows(
+fn solve_rows<W: Watch>(
     alloc: Global,
     problem: &ArcList,
     rows: &Rows,
@@ -62,6 +63,7 @@ fn solve_rows(
     bids: u64,
     eps: i64,
     prices: Vec<i64>,
+    watch: &mut W,
 ) -> Result<Answer, AllocError>
     requires rows { IsTableOf problem.now rows.now }
     requires shorts { AreShortsOf rows.now shorts.now }
@@ -70,22 +72,23 @@ fn solve_rows(
     requires eps { IsEps eps }
     requires start { IsStart shorts.now eps prices.items }
     ensures is { IfOk result (IsAnswer problem.now) }
-    ensures limit { IfOk result (IsLimited problem.now bids (total prices.items)) }
+    ensures limit { IfOk result (λ a. (W.has_stopped watch.new ≡ true) ⊎ IsLimited problem.now bids (total prices.items) a) }
 {
     // Read here, so that the proof knows what all rows keep.
     let _ = shorts.persons();
-    let outcome = play_all(alloc, shorts, bids, eps, prices)?;
+    let outcome = play_all(alloc, shorts, bids, eps, prices, watch)?;
     answer_of(alloc, problem, rows, shorts, outcome)
 }
 
 /// The same in one phase from start prices.
-fn solve_rows_from(
+fn solve_rows_from<W: Watch>(
     alloc: Global,
     problem: &ArcList,
     rows: &Rows,
     shorts: &ShortRows,
     bids: u64,
     start: &[i64],
+    watch: &mut W,
 ) -> Result<Answer, AllocError>
     requires rows { IsTableOf problem.now rows.now }
     requires shorts { AreShortsOf rows.now shorts.now }
@@ -93,11 +96,11 @@ fn solve_rows_from(
     requires assignment { HasAssignment problem.now }
     requires start { AreStartPrices problem.now start.now }
     ensures is { IfOk result (IsAnswer problem.now) }
-    ensures limit { IfOk result (IsLimitedFrom problem.now bids start.now) }
+    ensures limit { IfOk result (λ a. (W.has_stopped watch.new ≡ true) ⊎ IsLimitedFrom problem.now bids start.now a) }
 {
     // Read here, so that the proof knows what all rows keep.
     let _ = shorts.persons();
-    let outcome = play_from(alloc, shorts, bids, start)?;
+    let outcome = play_from(alloc, shorts, bids, start, watch)?;
     answer_of(alloc, problem, rows, shorts, outcome)
 }
 
@@ -123,15 +126,7 @@ pub fn solve_direct(
     ensures is { IfOk result (IsAnswer problem.now) }
     ensures limit { IfOk result (IsLimited problem.now limits.now.bids (pos 0)) }
 {
-    match prepare(alloc, problem)? {
-        Prepared::Answered(answer) => Ok(answer),
-        Prepared::Rows(rows) => {
-            let shorts = ShortRows::build(alloc, &rows, problem.arcs().len())?;
-            let prices = vec![in alloc; 0; shorts.objects() as usize]?;
-            let eps = first_eps(&shorts);
-            solve_rows(alloc, problem, &rows, &shorts, limits.bids, eps, prices)
-        }
-    }
+    solve_direct_watched(alloc, problem, limits, &mut Onward)
 }
 
 /// Solves a problem as [`solve_direct`] does, but from start prices, in one phase at the last eps: those of an old certificate, say. They are scaled costs,
@@ -158,11 +153,67 @@ pub fn solve_direct_from(
     ensures is { IfOk result (IsAnswer problem.now) }
     ensures limit { IfOk result (IsLimitedFrom problem.now limits.now.bids start.now) }
 {
+    solve_direct_watched_from(alloc, problem, limits, start, &mut Onward)
+}
+
+/// Solves a problem as [`solve_direct`] does, and asks between bids whether the run goes on: before each phase, and behind 16,384 bids of one. Where it doesn't, the answer is
+/// a bracket with the reason `Bids`: a bracket stands only behind a limit, or where `watch` has said no: clause `limit`. To ask takes O(persons) time, and that of `goes_on`.
+///
+/// Nothing is asked before the rows are laid out and an assignment of any cost is found, within a search for a path, or while the answer is checked.
+///
+/// # Errors
+///
+/// Only where memory was refused.
+pub fn solve_direct_watched<W: Watch>(
+    alloc: Global,
+    problem: &ArcList,
+    limits: &DirectLimits,
+    watch: &mut W,
+) -> Result<Answer, AllocError>
+    ensures is { IfOk result (IsAnswer problem.now) }
+    ensures limit { IfOk result (λ a. (W.has_stopped watch.new ≡ true) ⊎ IsLimited problem.now limits.now.bids (pos 0) a) }
+{
     match prepare(alloc, problem)? {
         Prepared::Answered(answer) => Ok(answer),
         Prepared::Rows(rows) => {
             let shorts = ShortRows::build(alloc, &rows, problem.arcs().len())?;
-            solve_rows_from(alloc, problem, &rows, &shorts, limits.bids, start)
+            let prices = vec![in alloc; 0; shorts.objects() as usize]?;
+            let eps = first_eps(&shorts);
+            solve_rows(
+                alloc,
+                problem,
+                &rows,
+                &shorts,
+                limits.bids,
+                eps,
+                prices,
+                watch,
+            )
+        }
+    }
+}
+
+/// Solves a problem from start prices as [`solve_direct_from`] does, and asks as [`solve_direct_watched`] does.
+///
+/// # Errors
+///
+/// Only where memory was refused.
+pub fn solve_direct_watched_from<W: Watch>(
+    alloc: Global,
+    problem: &ArcList,
+    limits: &DirectLimits,
+    start: &[i64],
+    watch: &mut W,
+) -> Result<Answer, AllocError>
+    requires start { AreStartPrices problem.now start.now }
+    ensures is { IfOk result (IsAnswer problem.now) }
+    ensures limit { IfOk result (λ a. (W.has_stopped watch.new ≡ true) ⊎ IsLimitedFrom problem.now limits.now.bids start.now a) }
+{
+    match prepare(alloc, problem)? {
+        Prepared::Answered(answer) => Ok(answer),
+        Prepared::Rows(rows) => {
+            let shorts = ShortRows::build(alloc, &rows, problem.arcs().len())?;
+            solve_rows_from(alloc, problem, &rows, &shorts, limits.bids, start, watch)
         }
     }
 }

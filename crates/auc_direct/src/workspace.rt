@@ -10,11 +10,12 @@ use crate::rows::ShortRows;
 use crate::search::Search;
 use std::alloc::{AllocError, Global};
 
-/// The lists of candidates, which stay through all phases, and room for searches.
+/// The lists of candidates, which stay through all phases; room for searches; and how many bids have gone by since nobody was displaced.
 #[derive(Drop)]
 pub(crate) struct Workspace {
     pub(crate) lists: Lists,
     pub(crate) search: Search,
+    pub(crate) walked: u64,
 }
 
 impl Workspace {
@@ -25,6 +26,10 @@ impl Workspace {
     {
         let lists = Lists::new(alloc, rows)?;
         let search = Search::new(alloc, rows)?;
-        Ok(Workspace { lists, search })
+        Ok(Workspace {
+            lists,
+            search,
+            walked: 0,
+        })
     }
 }

@@ -15,3 +15,5 @@ mod spare;
 mod starts;
 #[cfg(test)]
 mod texts;
+#[cfg(test)]
+mod watched;

@@ -9,15 +9,15 @@ use Rattle.auc_direct.specs.Market.{no_own}
 use Rattle.auc_direct.proofs.Opening.{stands_opened, start_next}
 use Rattle.auc_direct.proofs.phases.play_all.Goals as goal
 
-pub play-requires-clause-stands : goal.play-requires-clause-stands
-play-requires-clause-stands c =
+pub play_watched-requires-clause-stands : goal.play_watched-requires-clause-stands
+play_watched-requires-clause-stands g c =
     let inv = c.loop-market.invariant in
     let eps = to_z w64 c.loop-market.eps-bits in
     let start : IsStart c.args.rows.now eps c.open.new.self.prices.items = subst (IsStart c.args.rows.now eps) (sym c.open.ensures.prices) inv.start in
     stands_opened c.args.rows.now eps eps c.open.new.self.prices.items c.open.new.self.holders.items c.open.new.self.owns.items (length c.loop-market.market.holders.items) (length c.loop-market.market.owns.items) start inv.holders inv.owns c.open.ensures.holders c.open.ensures.owns
 
 pub loop-market-preserved : goal.loop-market-preserved
-loop-market-preserved c =
+loop-market-preserved g c =
     let f : FitsSigned w64 c.in-Some.next = search rules in
     let inv = c.loop-market.invariant in
     let eps = to_z w64 c.loop-market.eps-bits in
@@ -26,7 +26,7 @@ loop-market-preserved c =
     let less = c.in-Some.ensures.less in
     simp to_z-of_z (record {
       eps_is = range;
-      start = start_next c.args.rows.now eps c.in-Some.next c.loop-market.market.prices.items c.play.new.self.prices.items c.play.new.self.holders.items c.play.new.self.owns.items range less inv.start after.stands;
+      start = start_next c.args.rows.now eps c.in-Some.next c.loop-market.market.prices.items c.play_watched.new.self.prices.items c.play_watched.new.self.holders.items c.play_watched.new.self.owns.items range less inv.start after.stands;
       holders = after.stands.holders_are;
       clean = after.clean;
       kept = after.kept;
@@ -35,7 +35,7 @@ loop-market-preserved c =
     })
 
 pub loop-market-init : goal.loop-market-init
-loop-market-init c =
+loop-market-init g c =
     let f : FitsSigned w64 c.args.eps = c.ranges.eps in
     let e = c.in_ok-market.ensures.prices in
     let start = c.requires.start in

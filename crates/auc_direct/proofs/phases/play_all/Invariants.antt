@@ -9,7 +9,7 @@ use Rattle.auc_direct.specs.Shortlist.{Kept}
 use Rattle.auc_direct.proofs.phases.play_all.Given as goal
 
 abbrev pub invariant-loop-market : goal.invariant-loop-market
-invariant-loop-market l = record {
+invariant-loop-market g l = record {
   eps_is : IsEps l.eps;
   start : IsStart l.rows l.eps l.market.prices.items;
   holders : length l.market.holders.items ≡ l.rows.objects;
@@ -20,4 +20,4 @@ invariant-loop-market l = record {
 }
 
 abbrev pub decreases-loop-market : goal.decreases-loop-market
-decreases-loop-market l = unsigned_abs l.eps
+decreases-loop-market g l = unsigned_abs l.eps

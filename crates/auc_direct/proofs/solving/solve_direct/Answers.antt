@@ -1,18 +1,7 @@
-use Rattle.std.proofs.Common.{◌≡◌, length, pos, replicate, rules, subst, w64, ℤ}
-use Rattle.std.specs.Prelude.{FitsSigned, IfOk, ◌⊎◌}
-use Rattle.std.proofs.lemmas.Int.{to_z-of_z}
+use Rattle.std.proofs.Common.{pos}
 use Rattle.auc_direct.specs.Endings.{IsLimited}
-use Rattle.auc_direct.proofs.Opening.{start_none, total_none}
+use Rattle.auc_direct.proofs.Answering.{never_told}
 use Rattle.auc_direct.proofs.solving.solve_direct.Goals as goal
 
-pub solve_rows-requires-clause-start : goal.solve_rows-requires-clause-start
-solve_rows-requires-clause-start c =
-    let f : FitsSigned w64 c.first_eps-eps.result = search rules in
-    let zeros : c.in_ok-prices-in-Rows.prices.items ≡ replicate c.objects.result (pos 0) = search rules in
-    let start : (c.in_ok-shorts-in-Rows.shorts.objects ≡ length c.in_ok-shorts-in-Rows.shorts.rows) ⊎ (c.first_eps-eps.result ≡ pos 1) = search rules in
-    simp to_z-of_z (start_none c.in_ok-shorts-in-Rows.shorts c.first_eps-eps.result c.objects.result c.in_ok-prices-in-Rows.prices.items c.objects.ensures.objects zeros start)
-
-pub returns-in_ok-prices-in-Rows-clause-limit : goal.returns-in_ok-prices-in-Rows-clause-limit
-returns-in_ok-prices-in-Rows-clause-limit c =
-    let zeros : c.in_ok-prices-in-Rows.prices.items ≡ replicate c.objects.result (pos 0) = search rules in
-    subst (λ (z : ℤ). IfOk c.solve_rows.result (IsLimited c.args.problem.now c.args.limits.now.bids z)) (total_none c.objects.result c.in_ok-prices-in-Rows.prices.items zeros) c.solve_rows.ensures.limit
+pub returns-clause-limit : goal.returns-clause-limit
+returns-clause-limit c = never_told (IsLimited c.args.problem.now c.args.limits.now.bids (pos 0)) c.solve_direct_watched.result c.solve_direct_watched.ensures.limit

@@ -1,5 +1,6 @@
-use Rattle.auc_direct.proofs.Answering.{none_is_limited_from}
+use Rattle.auc_direct.specs.Endings.{IsLimitedFrom}
+use Rattle.auc_direct.proofs.Answering.{never_told}
 use Rattle.auc_direct.proofs.solving.solve_direct_from.Goals as goal
 
-pub returns-in-Answered-clause-limit : goal.returns-in-Answered-clause-limit
-returns-in-Answered-clause-limit c = none_is_limited_from c.args.problem.now c.args.limits.now.bids c.args.start.now c.in-Answered.answer (rw c.in-Answered.is at c.in_ok-answer.ensures)
+pub returns-clause-limit : goal.returns-clause-limit
+returns-clause-limit c = never_told (IsLimitedFrom c.args.problem.now c.args.limits.now.bids c.args.start.now) c.solve_direct_watched_from.result c.solve_direct_watched_from.ensures.limit

@@ -35,8 +35,8 @@ returns-in-Placed-clause-raised c =
     let u = s.1 in
     omega (arith, ints, m, r, t, u)
 
-pub loop-left-preserved-then-bids-patience : goal.loop-left-preserved-then-bids-patience
-loop-left-preserved-then-bids-patience c =
+pub loop-left-preserved-then-work-patience : goal.loop-left-preserved-then-work-patience
+loop-left-preserved-then-work-patience c =
     let f1 : FitsSigned w64 c.args.eps = c.ranges.eps in
     let a = c.in-Some.ensures.awarded in
     let r = c.loop-left.invariant.raised in

@@ -1,0 +1,99 @@
+//! A phase in slices, before each of which somebody is asked whether it goes on.
+
+ghost use Rattle.std.specs.Prelude.{ℕ, ℤ, List, true, false, ◌≡◌, ◌⊎◌, ◌<◌, ◌≤ℤ◌, length, IfOk, OnOk};
+ghost use Rattle.std.specs.BinaryHeap.{heap_items};
+ghost use Rattle.auc_cert.specs.declared.reason.Reason.{Reason};
+ghost use Rattle.auc_graph.specs.Assignment.{total};
+ghost use Rattle.auc_letters.specs.Price.{IsEps};
+ghost use Rattle.auc_direct.specs.declared.arc.ShortArc.{ShortArc};
+ghost use Rattle.auc_direct.specs.declared.ending.Ending.{Ending};
+ghost use Rattle.auc_direct.specs.Endings.{IsEnding, IsSold};
+ghost use Rattle.auc_direct.specs.Market.{EachHasArc, Stands};
+ghost use Rattle.auc_direct.specs.Path.{IsClean};
+ghost use Rattle.auc_direct.specs.Rows.{Shorts};
+ghost use Rattle.auc_direct.specs.Shortlist.{Kept};
+
+use crate::ending::Ending;
+use crate::market::{Market, NOBODY};
+use crate::rows::ShortRows;
+use crate::watch::{Progress, Watch};
+use crate::workspace::Workspace;
+use auc_cert::Reason;
+use std::alloc::AllocError;
+
+/// How many bids a phase makes between two questions at most: as many as take some milliseconds.
+const SLICE: u64 = 16_384;
+
+/// Whether bids have run out. Any other ending of a slice is one of its phase.
+fn ran_out(ending: Ending) -> bool
+    ensures yes { result ≡ true → ending ≡ Ending.Stopped Reason.Bids }
+    ensures no { result ≡ false → (r : Shorts) (bids other : ℕ) (begun before : ℤ) (prices : List ℤ) (owns : List ShortArc) → IsEnding r bids begun ending prices owns → IsEnding r other before ending prices owns }
+{
+    match ending {
+        Ending::Sold => false,
+        Ending::Stopped(reason) => match reason {
+            Reason::Bids => true,
+            Reason::Ceiling => false,
+            Reason::Posts => false,
+            Reason::Trail => false,
+            Reason::Mail => false,
+        },
+    }
+}
+
+/// How many persons have an object.
+fn count_held(market: &Market) -> u32 {
+    let mut held: u32 = 0;
+    for own in &market.owns {
+        if own.object != NOBODY {
+            held = held.saturating_add(1);
+        }
+    }
+    held
+}
+
+impl Market {
+    /// Plays a phase of at most so many bids as [`Market::play`] does, in slices; before each of them the watch is asked whether the run goes on.
+    pub(crate) fn play_watched<W: Watch>(
+        &mut self,
+        rows: &ShortRows,
+        eps: i64,
+        bids: u64,
+        patience: u64,
+        work: &mut Workspace,
+        watch: &mut W,
+    ) -> Result<Ending, AllocError>
+        requires arcs { EachHasArc rows.now }
+        requires eps { IsEps eps }
+        requires stands { Stands rows.now eps self.old.prices.items self.old.holders.items self.old.owns.items }
+        requires clean { IsClean rows.now.objects work.old.search.labels.items work.old.search.line.items (heap_items work.old.search.heap) }
+        requires kept { Kept rows.now self.old.prices.items work.old.lists.lists.items }
+        ensures stands { OnOk result (Stands rows.now eps self.new.prices.items self.new.holders.items self.new.owns.items) }
+        ensures sold { IfOk result (λ e. IsSold rows.now e self.new.owns.items) }
+        ensures ending { IfOk result (λ e. (W.has_stopped watch.new ≡ true) ⊎ IsEnding rows.now bids (total self.old.prices.items) e self.new.prices.items self.new.owns.items) }
+        ensures risen { OnOk result (total self.old.prices.items ≤ℤ total self.new.prices.items) }
+        ensures clean { OnOk result (IsClean rows.now.objects work.new.search.labels.items work.new.search.line.items (heap_items work.new.search.heap)) }
+        ensures kept { OnOk result (Kept rows.now self.new.prices.items work.new.lists.lists.items) }
+    {
+        let mut left = bids;
+        loop {
+            let progress = Progress {
+                eps,
+                held: count_held(self),
+                bids: bids - left,
+            };
+            if !watch.goes_on(progress) {
+                return Ok(Ending::Stopped(Reason::Bids));
+            }
+            let slice = left.min(SLICE);
+            let ending = self.play(rows, eps, slice, patience, work)?;
+            if !ran_out(ending) {
+                return Ok(ending);
+            }
+            left -= slice;
+            if left == 0 {
+                return Ok(ending);
+            }
+        }
+    }
+}

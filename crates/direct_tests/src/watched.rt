@@ -1,0 +1,74 @@
+//! Solves that somebody watches.
+
+use crate::texts::{AMPLE, problem_of, text_of};
+use auc_direct::{Progress, Watch, may_start, solve_direct_watched, solve_direct_watched_from};
+use std::test::*;
+
+/// Three persons who all like the first object best.
+const THREE: &str = "3\n1 1 4 1 2 1 1 3 3\n2 1 2 2 2 0 2 3 5\n3 1 3 3 2 2 3 3 2\n";
+
+/// Goes on so many times, and then says no.
+#[derive(Drop)]
+struct Patience {
+    left: u32,
+    asked: u32,
+    has_stopped: bool,
+}
+
+impl Watch for Patience {
+    ghost has_stopped = { λ p. p.has_stopped };
+
+    fn goes_on(&mut self, _progress: Progress) -> bool {
+        self.asked = self.asked.saturating_add(1);
+        if self.left == 0 {
+            self.has_stopped = true;
+            return false;
+        }
+        self.left -= 1;
+        true
+    }
+}
+
+/// Who goes on so many times.
+fn going_on(left: u32) -> Patience {
+    Patience {
+        left,
+        asked: 0,
+        has_stopped: false,
+    }
+}
+
+/// A no ends the run before the next phase, with a bracket; who never says no has the answer of all phases, and was asked in each.
+#[test]
+fn stops(rt: HostRuntime) -> Result<(), Fail> {
+    let problem = problem_of(&rt, THREE, 0)?;
+    for times in [0, 1] {
+        let mut watch = going_on(times);
+        let answer = solve_direct_watched(rt.alloc(), &problem, &AMPLE, &mut watch)?;
+        let told = text_of(&rt, &problem, answer)?;
+        assert!(rt; told.as_slice().starts_with(b"auction 1\nbracket bids 3 "));
+        assert!(rt; watch.asked == times + 1);
+    }
+    let mut watch = going_on(100);
+    let answer = solve_direct_watched(rt.alloc(), &problem, &AMPLE, &mut watch)?;
+    let told = text_of(&rt, &problem, answer)?;
+    assert!(rt; told.as_slice().starts_with(b"auction 1\noptimal 3 "));
+    assert!(rt; watch.asked > 1);
+    Ok(())
+}
+
+/// The same from start prices, in one phase.
+#[test]
+fn stops_from_prices(rt: HostRuntime) -> Result<(), Fail> {
+    let problem = problem_of(&rt, THREE, 0)?;
+    let mut watch = going_on(0);
+    let start = [0, 0, 0];
+    if !may_start(&problem, &start) {
+        return Err(Fail::new("no start prices"));
+    }
+    let answer = solve_direct_watched_from(rt.alloc(), &problem, &AMPLE, &start, &mut watch)?;
+    let told = text_of(&rt, &problem, answer)?;
+    assert!(rt; told.as_slice().starts_with(b"auction 1\nbracket bids 3 "));
+    assert!(rt; watch.has_stopped);
+    Ok(())
+}

@@ -77,7 +77,7 @@ enum sigdorf_list_fault {
 };
 
 enum sigdorf_start_fault {
-    SIGDORF_NOT_SQUARE = 1, /* there are more objects than persons */
+    SIGDORF_NOT_SQUARE = 1, /* there are more objects than persons: of sigdorf_solve_by_messages alone */
     SIGDORF_OTHER_SIZE,     /* the prices are not as many as the objects */
     SIGDORF_PRICE           /* the price of object `place` is not from 0 to 2^60 */
 };
@@ -92,24 +92,33 @@ enum sigdorf_claim_fault {
     SIGDORF_NOT_HALL       /* the persons do not know too few objects */
 };
 
-/* What ended a phase. */
+/* What ended a phase; of sigdorf_solve one of the first two. */
 enum sigdorf_limit { SIGDORF_BIDS = 1, SIGDORF_CEILING, SIGDORF_POSTS, SIGDORF_TRAIL, SIGDORF_MAIL };
 
 /* Solves the problem of `persons` persons, `objects` objects (0 stands for as many as persons) and these arcs. `start` has no price at
- * all, or for each object one to start from, as an earlier call has left them in `prices`; then objects are as many as persons. `bids` is the
- * most bids of a phase. `choice` and `hall_objects` have a place for each person, `prices` for each object.
+ * all, or for each object one to start from, as an earlier call has left them in `prices`. `bids` is the most bids of a phase. `choice` and
+ * `hall_objects` have a place for each person, `prices` for each object.
  *
  * SIGDORF_OPTIMAL: choice[i] is the place in `arcs` of an arc of person i; no two lead to one object; found->cost is the sum of their
  *   costs; and NO ASSIGNMENT OF THE PROBLEM COSTS LESS. prices[j] is a price of object j from 0 to 2^61, on the scale of costs times
  *   persons + 1. sigdorf_check lets all of it pass, unless memory is refused.
- * SIGDORF_BRACKET: the same, but that no assignment costs less than found->lower.
+ * SIGDORF_BRACKET: the same, but that no assignment costs less than found->lower. It is left only where a phase ran out of bids, or a
+ *   price would pass 2^61.
  * SIGDORF_INFEASIBLE: all arcs of the first found->persons persons in `choice` lead to the first found->objects objects in
  *   `hall_objects`, which are fewer; so there is no assignment. Both rise. sigdorf_check_hall lets them pass, unless memory is refused.
  * SIGDORF_REFUSED: found->kind and found->place are exactly the first fault of the list.
- * SIGDORF_MEMORY may stand in place of every other status but SIGDORF_SIZES. What a status does not name keeps its values. */
+ * SIGDORF_MEMORY may stand in place of every other status but SIGDORF_SIZES. What a status does not name keeps its values.
+ *
+ * Of several least assignments one is written, and which may change from version to version. */
 int32_t sigdorf_solve(uint32_t persons, uint32_t objects, const sigdorf_arc *arcs, size_t arcs_len, const int64_t *start,
                       size_t start_len, uint64_t bids, uint32_t *choice, size_t choice_len, int64_t *prices, size_t prices_len,
                       uint32_t *hall_objects, size_t hall_objects_len, sigdorf_found *found);
+
+/* The same by messages, as the program solves without --direct and sigdorf_solve did in version 1.0: a start is for as many objects as
+ * persons, and where there are more and costs differ much it may take very long. What is written is that of the program's run. */
+int32_t sigdorf_solve_by_messages(uint32_t persons, uint32_t objects, const sigdorf_arc *arcs, size_t arcs_len, const int64_t *start,
+                                  size_t start_len, uint64_t bids, uint32_t *choice, size_t choice_len, int64_t *prices,
+                                  size_t prices_len, uint32_t *hall_objects, size_t hall_objects_len, sigdorf_found *found);
 
 /* Checks an answer, whoever found it. SIGDORF_OPTIMAL: choice, cost and prices are as under SIGDORF_OPTIMAL above. */
 int32_t sigdorf_check(uint32_t persons, uint32_t objects, const sigdorf_arc *arcs, size_t arcs_len, const uint32_t *choice,

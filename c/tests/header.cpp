@@ -15,10 +15,12 @@ int main() {
     int failed = sigdorf_solve(4, 0, arcs.data(), arcs.size(), &no_start, 0, SIGDORF_USUAL_BIDS, choice.data(), choice.size(), prices.data(),
                                prices.size(), hall.data(), hall.size(), &found) != SIGDORF_OPTIMAL;
     failed += found.cost != 145;
+    failed += sigdorf_solve_by_messages(4, 0, arcs.data(), arcs.size(), &no_start, 0, SIGDORF_USUAL_BIDS, choice.data(), choice.size(), prices.data(),
+                                        prices.size(), hall.data(), hall.size(), &found) != SIGDORF_OPTIMAL;
     failed += sigdorf_check(4, 0, arcs.data(), arcs.size(), choice.data(), choice.size(), prices.data(), prices.size(), 145, &found) != SIGDORF_OPTIMAL;
     char version[16];
     std::snprintf(version, sizeof version, "%d.%d", SIGDORF_VERSION_MAJOR, SIGDORF_VERSION_MINOR);
     failed += std::strcmp(version, SIGDORF_VERSION) != 0;
-    std::printf("%d passed, %d failed\n", 4 - failed, failed);
+    std::printf("%d passed, %d failed\n", 5 - failed, failed);
     return failed != 0;
 }

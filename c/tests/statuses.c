@@ -26,11 +26,15 @@ static sigdorf_found found;
 /* Two persons and two objects: the least cost is 3. */
 static sigdorf_arc two[] = {{1, 0, 0}, {2, 0, 1}, {1, 1, 0}, {4, 1, 1}};
 
+/* In one hand, or by messages. */
+static int32_t (*solver)(uint32_t, uint32_t, const sigdorf_arc *, size_t, const int64_t *, size_t, uint64_t, uint32_t *, size_t, int64_t *, size_t,
+                         uint32_t *, size_t, sigdorf_found *) = sigdorf_solve;
+
 static int32_t solve(uint32_t persons, uint32_t objects, const sigdorf_arc *arcs, size_t count, const int64_t *start, size_t start_len, uint64_t bids) {
     uint32_t meant = objects ? objects : persons;
     memset(&found, 0x55, sizeof found);
-    return sigdorf_solve(persons, objects, arcs, count, start, start_len, bids, choice, persons > 3 ? 3 : persons, prices, meant > 4 ? 4 : meant,
-                         hall_objects, persons > 3 ? 3 : persons, &found);
+    return solver(persons, objects, arcs, count, start, start_len, bids, choice, persons > 3 ? 3 : persons, prices, meant > 4 ? 4 : meant,
+                  hall_objects, persons > 3 ? 3 : persons, &found);
 }
 
 static void fault(const char *what, int32_t got, int32_t status, uint32_t kind, uint32_t place) {
@@ -62,11 +66,12 @@ static void solves(void) {
     want("its check", sigdorf_check_hall(2, 0, both, 2, choice, found.persons, hall_objects, found.objects, &found), SIGDORF_OPTIMAL);
 }
 
-static void refusals(void) {
+/* Each refusal. With more objects than persons no run by messages starts, so its faults of a start are told apart. */
+static void refusals(enum sigdorf_start_fault other_size, enum sigdorf_start_fault price) {
     sigdorf_arc arc = {0, 0, 0};
-    want("sizes", sigdorf_solve(2, 0, two, COUNT(two), no_prices, 0, 1, choice, 1, prices, 2, hall_objects, 2, &found), SIGDORF_SIZES);
-    want("sizes", sigdorf_solve(2, 0, two, COUNT(two), no_prices, 0, 1, choice, 2, prices, 1, hall_objects, 2, &found), SIGDORF_SIZES);
-    want("sizes", sigdorf_solve(2, 0, two, COUNT(two), no_prices, 0, 1, choice, 2, prices, 2, hall_objects, 1, &found), SIGDORF_SIZES);
+    want("sizes", solver(2, 0, two, COUNT(two), no_prices, 0, 1, choice, 1, prices, 2, hall_objects, 2, &found), SIGDORF_SIZES);
+    want("sizes", solver(2, 0, two, COUNT(two), no_prices, 0, 1, choice, 2, prices, 1, hall_objects, 2, &found), SIGDORF_SIZES);
+    want("sizes", solver(2, 0, two, COUNT(two), no_prices, 0, 1, choice, 2, prices, 2, hall_objects, 1, &found), SIGDORF_SIZES);
     fault("no persons", solve(0, 0, &arc, 0, no_prices, 0, 1), SIGDORF_REFUSED, SIGDORF_PERSONS, 0);
     fault("few objects", solve(2, 1, two, COUNT(two), no_prices, 0, 1), SIGDORF_REFUSED, SIGDORF_OBJECTS, 0);
     sigdorf_arc wrong[] = {two[0], two[1]};
@@ -85,7 +90,19 @@ static void refusals(void) {
     start[0] = -1;
     fault("start below 0", solve(2, 0, two, COUNT(two), start, 2, 1), SIGDORF_START, SIGDORF_PRICE, 0);
     fault("start of another size", solve(2, 0, two, COUNT(two), start, 3, 1), SIGDORF_START, SIGDORF_OTHER_SIZE, 0);
-    fault("start with more objects", solve(2, 3, two, COUNT(two), start, 3, 1), SIGDORF_START, SIGDORF_NOT_SQUARE, 0);
+    fault("start of another size with more objects", solve(2, 4, two, COUNT(two), start, 3, 1), SIGDORF_START, other_size, 0);
+    fault("start below 0 with more objects", solve(2, 3, two, COUNT(two), start, 3, 1), SIGDORF_START, price, 0);
+}
+
+/* A start with more objects than persons, which only a solve in one hand takes. */
+static void spare_starts(void) {
+    int64_t start[4] = {0, SIGDORF_HIGHEST_START, 0, 7};
+    want("start with more objects", solve(2, 4, two, COUNT(two), start, 4, SIGDORF_USUAL_BIDS), SIGDORF_OPTIMAL);
+    want("cost from it", found.cost, 3);
+    want("price of nobody's object from it", prices[3], 0);
+    want("its check", sigdorf_check(2, 4, two, COUNT(two), choice, 2, prices, 4, 3, &found), SIGDORF_OPTIMAL);
+    start[2]--;
+    fault("start below 0 of nobody's object", solve(2, 4, two, COUNT(two), start, 4, 1), SIGDORF_START, SIGDORF_PRICE, 2);
 }
 
 static void checks(void) {
@@ -137,7 +154,11 @@ static void limits(void) {
 
 int main(int words, char **word) {
     solves();
-    refusals();
+    refusals(SIGDORF_OTHER_SIZE, SIGDORF_PRICE);
+    spare_starts();
+    solver = sigdorf_solve_by_messages;
+    solves();
+    refusals(SIGDORF_NOT_SQUARE, SIGDORF_NOT_SQUARE);
     checks();
     if (words < 2 || strcmp(word[1], "--small") != 0)
         limits();

@@ -7,3 +7,5 @@ mod MadeLaws
 mod CheckLaws
 mod ToldLaws
 mod ToldChecks
+mod LimitedLaws
+mod DriverLaws

@@ -1,9 +1,10 @@
 -- What a status says of a solve.
 use Rattle.std.proofs.Common.{◌≡◌, ◌≢◌, ℕ, List, Option, Some, None, refl, sym, ap, subst, arith}
-use Rattle.std.specs.Prelude.{ℤ, pos, unsigned_abs, Result, Ok, Err, Contains, IfOk}
+use Rattle.std.specs.Prelude.{ℤ, pos, unsigned_abs, Result, Ok, Err, Contains}
 use Rattle.auc_graph.specs.declared.listing_fault.ListFault.{ListFault}
 use Rattle.auc_graph.specs.Problem.{Problem}
 use Rattle.auc_graph.specs.Listing.{problem_fault}
+use Rattle.auc_call.specs.declared.driver.Driver.{Driver}
 use Rattle.auc_call.specs.declared.found.Found.{Found}
 use Rattle.auc_call.specs.declared.start.StartFault.{StartFault}
 use Rattle.auc_call.specs.declared.solved.Solved.{Solved}
@@ -12,11 +13,10 @@ use Rattle.auc_call.specs.declared.solved.Failed.{Failed}
 use Rattle.auc_call.specs.declared.solved.Failed.TheVariants.{Sizes, Fault, Start, NoMemory}
 use Rattle.auc_call.specs.Memory.{Memory, AreSizes}
 use Rattle.auc_call.specs.Shown.{IsLeastAt, IsHallAt}
-use Rattle.auc_call.specs.Start.{start_fault}
+use Rattle.auc_call.specs.Start.{start_fault_by}
 use Rattle.auc_call.specs.Codes.{list_kind, list_place, start_kind, start_place, IsListFault, IsStartFault}
 use Rattle.auc_call.specs.Solving.{Solves}
 use Rattle.auc_call.specs.Answers.{IsBracketTold}
-use Rattle.auc_call.specs.Running.{IsOfRunFrom, IsRunTold}
 use Rattle.auc_call.specs.Telling.{solve_status, solve_found, solve_statuses, KeepsFound, KeepsMemory}
 
 pub apart : (m n : ℕ) → pos m ≡ pos n → m ≡ n
@@ -31,32 +31,32 @@ solve_known (Err (Fault fault)) = (4, omega arith, refl)
 solve_known (Err (Start fault)) = (6, omega arith, refl)
 solve_known (Err NoMemory) = (5, omega arith, refl)
 
-pub told_optimal : (p : Problem) (start : List ℤ) (before after : Memory) (r : Result Solved Failed) (old : Found) → Solves p start before after r → solve_status r ≡ pos 0 → IsLeastAt p after.choice after.prices (solve_found r old).cost
-told_optimal p start before after (Ok (Optimal cost)) old h e = h.2.0
-told_optimal p start before after (Ok (Infeasible persons objects)) old h e = absurd (omega (arith, apart 3 0 e))
-told_optimal p start before after (Ok (Bracket reason lower cost)) old h e = absurd (omega (arith, apart 4 0 e))
-told_optimal p start before after (Err Sizes) old h e = absurd (omega (arith, apart 2 0 e))
-told_optimal p start before after (Err (Fault fault)) old h e = absurd (omega (arith, apart 5 0 e))
-told_optimal p start before after (Err (Start fault)) old h e = absurd (omega (arith, apart 7 0 e))
-told_optimal p start before after (Err NoMemory) old h e = absurd (omega (arith, apart 6 0 e))
+pub told_optimal : (d : Driver) (p : Problem) (start : List ℤ) (before after : Memory) (r : Result Solved Failed) (old : Found) → Solves d p start before after r → solve_status r ≡ pos 0 → IsLeastAt p after.choice after.prices (solve_found r old).cost
+told_optimal d p start before after (Ok (Optimal cost)) old h e = h.2.0
+told_optimal d p start before after (Ok (Infeasible persons objects)) old h e = absurd (omega (arith, apart 3 0 e))
+told_optimal d p start before after (Ok (Bracket reason lower cost)) old h e = absurd (omega (arith, apart 4 0 e))
+told_optimal d p start before after (Err Sizes) old h e = absurd (omega (arith, apart 2 0 e))
+told_optimal d p start before after (Err (Fault fault)) old h e = absurd (omega (arith, apart 5 0 e))
+told_optimal d p start before after (Err (Start fault)) old h e = absurd (omega (arith, apart 7 0 e))
+told_optimal d p start before after (Err NoMemory) old h e = absurd (omega (arith, apart 6 0 e))
 
-pub told_infeasible : (p : Problem) (start : List ℤ) (before after : Memory) (r : Result Solved Failed) (old : Found) → Solves p start before after r → solve_status r ≡ pos 3 → IsHallAt p after.choice after.set (solve_found r old).persons (solve_found r old).objects
-told_infeasible p start before after (Ok (Optimal cost)) old h e = absurd (omega (arith, apart 0 3 e))
-told_infeasible p start before after (Ok (Infeasible persons objects)) old h e = h.2.0
-told_infeasible p start before after (Ok (Bracket reason lower cost)) old h e = absurd (omega (arith, apart 4 3 e))
-told_infeasible p start before after (Err Sizes) old h e = absurd (omega (arith, apart 2 3 e))
-told_infeasible p start before after (Err (Fault fault)) old h e = absurd (omega (arith, apart 5 3 e))
-told_infeasible p start before after (Err (Start fault)) old h e = absurd (omega (arith, apart 7 3 e))
-told_infeasible p start before after (Err NoMemory) old h e = absurd (omega (arith, apart 6 3 e))
+pub told_infeasible : (d : Driver) (p : Problem) (start : List ℤ) (before after : Memory) (r : Result Solved Failed) (old : Found) → Solves d p start before after r → solve_status r ≡ pos 3 → IsHallAt p after.choice after.set (solve_found r old).persons (solve_found r old).objects
+told_infeasible d p start before after (Ok (Optimal cost)) old h e = absurd (omega (arith, apart 0 3 e))
+told_infeasible d p start before after (Ok (Infeasible persons objects)) old h e = h.2.0
+told_infeasible d p start before after (Ok (Bracket reason lower cost)) old h e = absurd (omega (arith, apart 4 3 e))
+told_infeasible d p start before after (Err Sizes) old h e = absurd (omega (arith, apart 2 3 e))
+told_infeasible d p start before after (Err (Fault fault)) old h e = absurd (omega (arith, apart 5 3 e))
+told_infeasible d p start before after (Err (Start fault)) old h e = absurd (omega (arith, apart 7 3 e))
+told_infeasible d p start before after (Err NoMemory) old h e = absurd (omega (arith, apart 6 3 e))
 
-pub told_bracket : (p : Problem) (start : List ℤ) (before after : Memory) (r : Result Solved Failed) (old : Found) → Solves p start before after r → solve_status r ≡ pos 4 → IsBracketTold p after.choice after.prices (solve_found r old).kind (solve_found r old).lower (solve_found r old).cost
-told_bracket p start before after (Ok (Optimal cost)) old h e = absurd (omega (arith, apart 0 4 e))
-told_bracket p start before after (Ok (Infeasible persons objects)) old h e = absurd (omega (arith, apart 3 4 e))
-told_bracket p start before after (Ok (Bracket reason lower cost)) old h e = record { reason = reason; kind_is = refl; right = h.2.0 }
-told_bracket p start before after (Err Sizes) old h e = absurd (omega (arith, apart 2 4 e))
-told_bracket p start before after (Err (Fault fault)) old h e = absurd (omega (arith, apart 5 4 e))
-told_bracket p start before after (Err (Start fault)) old h e = absurd (omega (arith, apart 7 4 e))
-told_bracket p start before after (Err NoMemory) old h e = absurd (omega (arith, apart 6 4 e))
+pub told_bracket : (d : Driver) (p : Problem) (start : List ℤ) (before after : Memory) (r : Result Solved Failed) (old : Found) → Solves d p start before after r → solve_status r ≡ pos 4 → IsBracketTold p after.choice after.prices (solve_found r old).kind (solve_found r old).lower (solve_found r old).cost
+told_bracket d p start before after (Ok (Optimal cost)) old h e = absurd (omega (arith, apart 0 4 e))
+told_bracket d p start before after (Ok (Infeasible persons objects)) old h e = absurd (omega (arith, apart 3 4 e))
+told_bracket d p start before after (Ok (Bracket reason lower cost)) old h e = record { reason = reason; kind_is = refl; right = h.2.0 }
+told_bracket d p start before after (Err Sizes) old h e = absurd (omega (arith, apart 2 4 e))
+told_bracket d p start before after (Err (Fault fault)) old h e = absurd (omega (arith, apart 5 4 e))
+told_bracket d p start before after (Err (Start fault)) old h e = absurd (omega (arith, apart 7 4 e))
+told_bracket d p start before after (Err NoMemory) old h e = absurd (omega (arith, apart 6 4 e))
 
 pub list_fault_is : (found : Option ListFault) (fault : ListFault) → found ≡ Some fault → IsListFault found (list_kind fault) (list_place fault)
 list_fault_is found fault e = subst (λ (o : Option ListFault). IsListFault o (list_kind fault) (list_place fault)) (sym e) (refl, refl)
@@ -64,60 +64,52 @@ list_fault_is found fault e = subst (λ (o : Option ListFault). IsListFault o (l
 start_fault_is : (found : Option StartFault) (fault : StartFault) → found ≡ Some fault → IsStartFault found (start_kind fault) (start_place fault)
 start_fault_is found fault e = subst (λ (o : Option StartFault). IsStartFault o (start_kind fault) (start_place fault)) (sym e) (refl, refl)
 
-pub told_refused : (p : Problem) (start : List ℤ) (before after : Memory) (r : Result Solved Failed) (old : Found) → Solves p start before after r → solve_status r ≡ pos 5 → IsListFault (problem_fault p) (solve_found r old).kind (solve_found r old).place
-told_refused p start before after (Ok (Optimal cost)) old h e = absurd (omega (arith, apart 0 5 e))
-told_refused p start before after (Ok (Infeasible persons objects)) old h e = absurd (omega (arith, apart 3 5 e))
-told_refused p start before after (Ok (Bracket reason lower cost)) old h e = absurd (omega (arith, apart 4 5 e))
-told_refused p start before after (Err Sizes) old h e = absurd (omega (arith, apart 2 5 e))
-told_refused p start before after (Err (Fault fault)) old h e = list_fault_is (problem_fault p) fault h.0.1
-told_refused p start before after (Err (Start fault)) old h e = absurd (omega (arith, apart 7 5 e))
-told_refused p start before after (Err NoMemory) old h e = absurd (omega (arith, apart 6 5 e))
+pub told_refused : (d : Driver) (p : Problem) (start : List ℤ) (before after : Memory) (r : Result Solved Failed) (old : Found) → Solves d p start before after r → solve_status r ≡ pos 5 → IsListFault (problem_fault p) (solve_found r old).kind (solve_found r old).place
+told_refused d p start before after (Ok (Optimal cost)) old h e = absurd (omega (arith, apart 0 5 e))
+told_refused d p start before after (Ok (Infeasible persons objects)) old h e = absurd (omega (arith, apart 3 5 e))
+told_refused d p start before after (Ok (Bracket reason lower cost)) old h e = absurd (omega (arith, apart 4 5 e))
+told_refused d p start before after (Err Sizes) old h e = absurd (omega (arith, apart 2 5 e))
+told_refused d p start before after (Err (Fault fault)) old h e = list_fault_is (problem_fault p) fault h.0.1
+told_refused d p start before after (Err (Start fault)) old h e = absurd (omega (arith, apart 7 5 e))
+told_refused d p start before after (Err NoMemory) old h e = absurd (omega (arith, apart 6 5 e))
 
-pub told_start : (p : Problem) (start : List ℤ) (before after : Memory) (r : Result Solved Failed) (old : Found) → Solves p start before after r → solve_status r ≡ pos 7 → IsStartFault (start_fault p start) (solve_found r old).kind (solve_found r old).place
-told_start p start before after (Ok (Optimal cost)) old h e = absurd (omega (arith, apart 0 7 e))
-told_start p start before after (Ok (Infeasible persons objects)) old h e = absurd (omega (arith, apart 3 7 e))
-told_start p start before after (Ok (Bracket reason lower cost)) old h e = absurd (omega (arith, apart 4 7 e))
-told_start p start before after (Err Sizes) old h e = absurd (omega (arith, apart 2 7 e))
-told_start p start before after (Err (Fault fault)) old h e = absurd (omega (arith, apart 5 7 e))
-told_start p start before after (Err (Start fault)) old h e = start_fault_is (start_fault p start) fault h.0.2
-told_start p start before after (Err NoMemory) old h e = absurd (omega (arith, apart 6 7 e))
+pub told_start : (d : Driver) (p : Problem) (start : List ℤ) (before after : Memory) (r : Result Solved Failed) (old : Found) → Solves d p start before after r → solve_status r ≡ pos 7 → IsStartFault (start_fault_by d p start) (solve_found r old).kind (solve_found r old).place
+told_start d p start before after (Ok (Optimal cost)) old h e = absurd (omega (arith, apart 0 7 e))
+told_start d p start before after (Ok (Infeasible persons objects)) old h e = absurd (omega (arith, apart 3 7 e))
+told_start d p start before after (Ok (Bracket reason lower cost)) old h e = absurd (omega (arith, apart 4 7 e))
+told_start d p start before after (Err Sizes) old h e = absurd (omega (arith, apart 2 7 e))
+told_start d p start before after (Err (Fault fault)) old h e = absurd (omega (arith, apart 5 7 e))
+told_start d p start before after (Err (Start fault)) old h e = start_fault_is (start_fault_by d p start) fault h.0.2
+told_start d p start before after (Err NoMemory) old h e = absurd (omega (arith, apart 6 7 e))
 
-pub told_sizes : (p : Problem) (start : List ℤ) (before after : Memory) (r : Result Solved Failed) → Solves p start before after r → solve_status r ≡ pos 2 → AreSizes p before → ⊥
-told_sizes p start before after (Ok (Optimal cost)) h e = absurd (omega (arith, apart 0 2 e))
-told_sizes p start before after (Ok (Infeasible persons objects)) h e = absurd (omega (arith, apart 3 2 e))
-told_sizes p start before after (Ok (Bracket reason lower cost)) h e = absurd (omega (arith, apart 4 2 e))
-told_sizes p start before after (Err Sizes) h e = h.0
-told_sizes p start before after (Err (Fault fault)) h e = absurd (omega (arith, apart 5 2 e))
-told_sizes p start before after (Err (Start fault)) h e = absurd (omega (arith, apart 7 2 e))
-told_sizes p start before after (Err NoMemory) h e = absurd (omega (arith, apart 6 2 e))
+pub told_sizes : (d : Driver) (p : Problem) (start : List ℤ) (before after : Memory) (r : Result Solved Failed) → Solves d p start before after r → solve_status r ≡ pos 2 → AreSizes p before → ⊥
+told_sizes d p start before after (Ok (Optimal cost)) h e = absurd (omega (arith, apart 0 2 e))
+told_sizes d p start before after (Ok (Infeasible persons objects)) h e = absurd (omega (arith, apart 3 2 e))
+told_sizes d p start before after (Ok (Bracket reason lower cost)) h e = absurd (omega (arith, apart 4 2 e))
+told_sizes d p start before after (Err Sizes) h e = h.0
+told_sizes d p start before after (Err (Fault fault)) h e = absurd (omega (arith, apart 5 2 e))
+told_sizes d p start before after (Err (Start fault)) h e = absurd (omega (arith, apart 7 2 e))
+told_sizes d p start before after (Err NoMemory) h e = absurd (omega (arith, apart 6 2 e))
 
-pub sizes_told : (p : Problem) (start : List ℤ) (before after : Memory) (r : Result Solved Failed) → Solves p start before after r → (AreSizes p before → ⊥) → solve_status r ≡ pos 2
-sizes_told p start before after (Ok solved) h not_so = absurd (not_so h.0)
-sizes_told p start before after (Err Sizes) h not_so = refl
-sizes_told p start before after (Err (Fault fault)) h not_so = absurd (not_so h.0.0)
-sizes_told p start before after (Err (Start fault)) h not_so = absurd (not_so h.0.0)
-sizes_told p start before after (Err NoMemory) h not_so = absurd (not_so h.0)
+pub sizes_told : (d : Driver) (p : Problem) (start : List ℤ) (before after : Memory) (r : Result Solved Failed) → Solves d p start before after r → (AreSizes p before → ⊥) → solve_status r ≡ pos 2
+sizes_told d p start before after (Ok solved) h not_so = absurd (not_so h.0)
+sizes_told d p start before after (Err Sizes) h not_so = refl
+sizes_told d p start before after (Err (Fault fault)) h not_so = absurd (not_so h.0.0)
+sizes_told d p start before after (Err (Start fault)) h not_so = absurd (not_so h.0.0)
+sizes_told d p start before after (Err NoMemory) h not_so = absurd (not_so h.0)
 
-pub told_started : (p : Problem) (start : List ℤ) (before after : Memory) (r : Result Solved Failed) → Solves p start before after r → solve_status r ≢ pos 2 → solve_status r ≢ pos 5 → solve_status r ≢ pos 6 → solve_status r ≢ pos 7 → start_fault p start ≡ None
-told_started p start before after (Ok solved) h two five six seven = h.1
-told_started p start before after (Err Sizes) h two five six seven = absurd (two refl)
-told_started p start before after (Err (Fault fault)) h two five six seven = absurd (five refl)
-told_started p start before after (Err (Start fault)) h two five six seven = absurd (seven refl)
-told_started p start before after (Err NoMemory) h two five six seven = absurd (six refl)
+pub told_started : (d : Driver) (p : Problem) (start : List ℤ) (before after : Memory) (r : Result Solved Failed) → Solves d p start before after r → solve_status r ≢ pos 2 → solve_status r ≢ pos 5 → solve_status r ≢ pos 6 → solve_status r ≢ pos 7 → start_fault_by d p start ≡ None
+told_started d p start before after (Ok solved) h two five six seven = h.1
+told_started d p start before after (Err Sizes) h two five six seven = absurd (two refl)
+told_started d p start before after (Err (Fault fault)) h two five six seven = absurd (five refl)
+told_started d p start before after (Err (Start fault)) h two five six seven = absurd (seven refl)
+told_started d p start before after (Err NoMemory) h two five six seven = absurd (six refl)
 
-pub told_run : (p : Problem) (start : List ℤ) (bids : ℕ) (after : Memory) (r : Result Solved Failed) (status : ℤ) (old new : Found) → IfOk r (IsOfRunFrom p start bids after) → status ≡ solve_status r → new ≡ solve_found r old
-    → solve_status r ≢ pos 2 → solve_status r ≢ pos 5 → solve_status r ≢ pos 6 → solve_status r ≢ pos 7 → IsRunTold p start bids after status old new
-told_run p start bids after (Ok solved) status old new h s f two five six seven = record { solved = solved; run = h; status_is = s; found_is = f }
-told_run p start bids after (Err Sizes) status old new h s f two five six seven = absurd (two refl)
-told_run p start bids after (Err (Fault fault)) status old new h s f two five six seven = absurd (five refl)
-told_run p start bids after (Err (Start fault)) status old new h s f two five six seven = absurd (seven refl)
-told_run p start bids after (Err NoMemory) status old new h s f two five six seven = absurd (six refl)
-
-pub told_same : (p : Problem) (start : List ℤ) (before after : Memory) (r : Result Solved Failed) → Solves p start before after r → KeepsMemory (solve_status r) before after
-told_same p start before after (Ok (Optimal cost)) h = record { choice = λ a b c. absurd (a refl); prices = λ a b. absurd (a refl); set = λ a. h.2.1 }
-told_same p start before after (Ok (Infeasible persons objects)) h = record { choice = λ a b c. absurd (b refl); prices = λ a b. h.2.1; set = λ a. absurd (a refl) }
-told_same p start before after (Ok (Bracket reason lower cost)) h = record { choice = λ a b c. absurd (c refl); prices = λ a b. absurd (b refl); set = λ a. h.2.1 }
-told_same p start before after (Err failed) h = record { choice = λ a b c. ap (λ (m : Memory). m.choice) h.1; prices = λ a b. ap (λ (m : Memory). m.prices) h.1; set = λ a. ap (λ (m : Memory). m.set) h.1 }
+pub told_same : (d : Driver) (p : Problem) (start : List ℤ) (before after : Memory) (r : Result Solved Failed) → Solves d p start before after r → KeepsMemory (solve_status r) before after
+told_same d p start before after (Ok (Optimal cost)) h = record { choice = λ a b c. absurd (a refl); prices = λ a b. absurd (a refl); set = λ a. h.2.1 }
+told_same d p start before after (Ok (Infeasible persons objects)) h = record { choice = λ a b c. absurd (b refl); prices = λ a b. h.2.1; set = λ a. absurd (a refl) }
+told_same d p start before after (Ok (Bracket reason lower cost)) h = record { choice = λ a b c. absurd (c refl); prices = λ a b. absurd (b refl); set = λ a. h.2.1 }
+told_same d p start before after (Err failed) h = record { choice = λ a b c. ap (λ (m : Memory). m.choice) h.1; prices = λ a b. ap (λ (m : Memory). m.prices) h.1; set = λ a. ap (λ (m : Memory). m.set) h.1 }
 
 pub told_found : (r : Result Solved Failed) (old : Found) → KeepsFound (solve_status r) old (solve_found r old)
 told_found (Ok (Optimal cost)) old = record { cost = λ a b. absurd (a refl); lower = λ a. refl; persons = λ a. refl; objects = λ a. refl; kind = λ a b c. refl; place = λ a b. refl }

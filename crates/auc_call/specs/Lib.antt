@@ -6,4 +6,6 @@ pub mod Checking
 pub mod Codes
 pub mod Telling
 pub mod Running
+pub mod Limited
+pub mod Drivers
 pub mod Answers

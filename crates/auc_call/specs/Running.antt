@@ -1,5 +1,5 @@
 -- The run that an answer is of: by so many bids, from these prices or from nothing.
-use Rattle.std.specs.Prelude.{◌≡◌, ℕ, ℤ, List, [], ◌∷◌, take, Option, Some, None, Result, Ok}
+use Rattle.std.specs.Prelude.{◌≡◌, ℕ, ℤ, List, [], ◌∷◌, take, Option, Some, None, Ok}
 use Rattle.auc_graph.specs.Problem.{Problem}
 use Rattle.auc_cert.specs.declared.cert.CertParts.{CertParts}
 use Rattle.auc_cert.specs.Claim.{chosen}
@@ -8,7 +8,6 @@ use Rattle.auc_answers.specs.declared.answer.Answer.{Answer}
 use Rattle.auc_world.specs.Chain.{IsOfRun}
 use Rattle.auc_call.specs.declared.found.Found.{Found}
 use Rattle.auc_call.specs.declared.solved.Solved.{Solved}
-use Rattle.auc_call.specs.declared.solved.Failed.{Failed}
 use Rattle.auc_call.specs.Memory.{Memory, AreAt}
 use Rattle.auc_call.specs.Telling.{solve_status, solve_found}
 

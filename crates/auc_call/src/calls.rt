@@ -6,33 +6,78 @@ ghost use Rattle.auc_graph.specs.HallSet.{IsHallSet};
 ghost use Rattle.auc_graph.specs.Listing.{problem_from, list_fault};
 ghost use Rattle.auc_call.specs.Memory.{AreSizes, memory};
 ghost use Rattle.auc_call.specs.Shown.{IsLeastAt, IsHallAt};
-ghost use Rattle.auc_call.specs.Start.{start_fault};
+ghost use Rattle.auc_call.specs.Start.{start_fault, start_fault_by, start_fault_by_messages};
 ghost use Rattle.auc_call.specs.Codes.{IsListFault, IsStartFault};
 ghost use Rattle.auc_call.specs.Checking.{AreClaimSizes};
 ghost use Rattle.auc_call.specs.Answers.{IsBracketTold, IsClaimFaultTold, IsHallFaultTold, IsHallShown};
+ghost use Rattle.auc_call.specs.Drivers.{IsToldBy};
+ghost use Rattle.auc_call.specs.Limited.{IsLimitTold};
 ghost use Rattle.auc_call.specs.Running.{IsRunTold};
 ghost use Rattle.auc_call.specs.Telling.{solve_statuses, check_statuses, KeepsFound, KeepsMemory, KeepsChecked};
 
 use crate::checking::{check_at, check_hall_at};
+use crate::driver::Driver;
 use crate::found::Found;
 use crate::solving::solve_into;
 use crate::telling::{tell_checked, tell_solved};
 use auc_graph::Arc;
 use std::alloc::Global;
 
+/// Solves a problem by this solver, and tells what it comes to.
+fn solve_by(
+    alloc: Global,
+    driver: Driver,
+    persons: u32,
+    objects: u32,
+    arcs: &[Arc],
+    start: &[i64],
+    bids: u64,
+    choice: &mut [u32],
+    prices: &mut [i64],
+    hall_objects: &mut [u32],
+    found: &mut Found,
+) -> i32
+    ensures known { Contains solve_statuses result }
+    ensures optimal { result ≡ pos 0 → IsLeastAt (problem_from persons objects arcs.now) choice.new prices.new found.new.cost }
+    ensures sizes { result ≡ pos 2 ↔ (AreSizes (problem_from persons objects arcs.now) (memory choice.old prices.old hall_objects.old) → ⊥) }
+    ensures infeasible { result ≡ pos 3 → IsHallAt (problem_from persons objects arcs.now) choice.new hall_objects.new found.new.persons found.new.objects }
+    ensures bracket { result ≡ pos 4 → IsBracketTold (problem_from persons objects arcs.now) choice.new prices.new found.new.kind found.new.lower found.new.cost }
+    ensures refused { result ≡ pos 5 → IsListFault (list_fault persons objects arcs.now) found.new.kind found.new.place }
+    ensures start { result ≡ pos 7 → IsStartFault (start_fault_by driver (problem_from persons objects arcs.now) start.now) found.new.kind found.new.place }
+    ensures started { result ≢ pos 2 → result ≢ pos 5 → result ≢ pos 6 → result ≢ pos 7 → start_fault_by driver (problem_from persons objects arcs.now) start.now ≡ None }
+    ensures run { IsToldBy driver (problem_from persons objects arcs.now) start.now bids (memory choice.new prices.new hall_objects.new) result found.old found.new }
+    ensures same { KeepsMemory result (memory choice.old prices.old hall_objects.old) (memory choice.new prices.new hall_objects.new) }
+    ensures same_found { KeepsFound result found.old found.new }
+{
+    let solved = solve_into(
+        alloc,
+        driver,
+        persons,
+        objects,
+        arcs,
+        start,
+        bids,
+        choice,
+        prices,
+        hall_objects,
+    );
+    tell_solved(solved, found)
+}
+
 /// Solves the problem of so many persons, so many objects and these arcs: a least-cost assignment, persons who together know too few
 /// objects, or, where the bids don't suffice, an assignment and a bound on what any costs.
 ///
 /// Persons and objects are numbered from 0; `objects` 0 stands for as many as persons. `start` holds the prices to start from, indexed by
-/// object, on the scale of costs times persons + 1, as an earlier call has left them in `prices`; none at all is a start from nothing. `bids` is the most bids of a
-/// phase.
+/// object, from 0 to 2^60 on the scale of costs times persons + 1, as an earlier call has left them in `prices`; none at all is a start from
+/// nothing. `bids` is the most bids of a phase.
 ///
 /// `choice` and `hall_objects` have a place for each person, and `prices` one for each object. Behind [`OPTIMAL`](crate::OPTIMAL) and
 /// [`BRACKET`](crate::BRACKET) `choice` holds for each person the place in `arcs` of his arc, and `prices` the prices that show it; behind
 /// [`INFEASIBLE`](crate::INFEASIBLE) `choice` begins with `found.persons` persons, and `hall_objects` with the `found.objects` objects that
 /// they know, both rising. All else stays as it was.
 ///
-/// Takes the time of [`auc_world::solve_serial`], and 44 bytes of memory an arc, the caller's own among them.
+/// The solver is the one in one hand, [`auc_direct::solve_direct`], or from a start [`auc_direct::solve_direct_from`], whose time and memory
+/// it takes, beside a copy of the arcs. Clause `limit` says where a bracket is left.
 pub fn solve_call(
     alloc: Global,
     persons: u32,
@@ -53,12 +98,13 @@ pub fn solve_call(
     ensures refused { result ≡ pos 5 → IsListFault (list_fault persons objects arcs.now) found.new.kind found.new.place }
     ensures start { result ≡ pos 7 → IsStartFault (start_fault (problem_from persons objects arcs.now) start.now) found.new.kind found.new.place }
     ensures started { result ≢ pos 2 → result ≢ pos 5 → result ≢ pos 6 → result ≢ pos 7 → start_fault (problem_from persons objects arcs.now) start.now ≡ None }
-    ensures run { result ≢ pos 2 → result ≢ pos 5 → result ≢ pos 6 → result ≢ pos 7 → IsRunTold (problem_from persons objects arcs.now) start.now bids (memory choice.new prices.new hall_objects.new) result found.old found.new }
+    ensures limit { result ≡ pos 4 → IsLimitTold (problem_from persons objects arcs.now) start.now bids choice.new prices.new found.new.kind found.new.lower found.new.cost }
     ensures same { KeepsMemory result (memory choice.old prices.old hall_objects.old) (memory choice.new prices.new hall_objects.new) }
     ensures same_found { KeepsFound result found.old found.new }
 {
-    let solved = solve_into(
+    solve_by(
         alloc,
+        Driver::Direct,
         persons,
         objects,
         arcs,
@@ -67,8 +113,52 @@ pub fn solve_call(
         choice,
         prices,
         hall_objects,
-    );
-    tell_solved(solved, found)
+        found,
+    )
+}
+
+/// Solves as [`solve_call`] does, but by messages, as the program does without `--direct`: clause `run` says which run the answer is of. Of
+/// several least assignments it may be another one. A start is for as many objects as persons.
+///
+/// Takes the time of [`auc_world::solve_serial`], which may be far longer where there are more objects than persons and costs differ much;
+/// and 44 bytes of memory an arc, the caller's own among them.
+pub fn solve_by_messages_call(
+    alloc: Global,
+    persons: u32,
+    objects: u32,
+    arcs: &[Arc],
+    start: &[i64],
+    bids: u64,
+    choice: &mut [u32],
+    prices: &mut [i64],
+    hall_objects: &mut [u32],
+    found: &mut Found,
+) -> i32
+    ensures known { Contains solve_statuses result }
+    ensures optimal { result ≡ pos 0 → IsLeastAt (problem_from persons objects arcs.now) choice.new prices.new found.new.cost }
+    ensures sizes { result ≡ pos 2 ↔ (AreSizes (problem_from persons objects arcs.now) (memory choice.old prices.old hall_objects.old) → ⊥) }
+    ensures infeasible { result ≡ pos 3 → IsHallAt (problem_from persons objects arcs.now) choice.new hall_objects.new found.new.persons found.new.objects }
+    ensures bracket { result ≡ pos 4 → IsBracketTold (problem_from persons objects arcs.now) choice.new prices.new found.new.kind found.new.lower found.new.cost }
+    ensures refused { result ≡ pos 5 → IsListFault (list_fault persons objects arcs.now) found.new.kind found.new.place }
+    ensures start { result ≡ pos 7 → IsStartFault (start_fault_by_messages (problem_from persons objects arcs.now) start.now) found.new.kind found.new.place }
+    ensures started { result ≢ pos 2 → result ≢ pos 5 → result ≢ pos 6 → result ≢ pos 7 → start_fault_by_messages (problem_from persons objects arcs.now) start.now ≡ None }
+    ensures run { result ≢ pos 2 → result ≢ pos 5 → result ≢ pos 6 → result ≢ pos 7 → IsRunTold (problem_from persons objects arcs.now) start.now bids (memory choice.new prices.new hall_objects.new) result found.old found.new }
+    ensures same { KeepsMemory result (memory choice.old prices.old hall_objects.old) (memory choice.new prices.new hall_objects.new) }
+    ensures same_found { KeepsFound result found.old found.new }
+{
+    solve_by(
+        alloc,
+        Driver::Messages,
+        persons,
+        objects,
+        arcs,
+        start,
+        bids,
+        choice,
+        prices,
+        hall_objects,
+        found,
+    )
 }
 
 /// Checks that the arcs at these places are an assignment of this cost than which none costs less, as the prices show, whoever found it.

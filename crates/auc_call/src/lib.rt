@@ -1,13 +1,14 @@
 //! The solver and the checker over a caller's memory: what a C program holds goes in, and a status comes out.
 //!
-//! [`solve_call`], [`check_call`] and [`check_hall_call`] are what the crate `sigdorf_c` exports. Each says by its status which of its
-//! promises holds of what it has written. No call keeps anything behind its return.
+//! [`solve_call`], [`solve_by_messages_call`], [`check_call`] and [`check_hall_call`] are what the crate `sigdorf_c` exports. Each says by
+//! its status which of its promises holds of what it has written. No call keeps anything behind its return.
 #![tactic(auto)]
 
 mod calls;
 mod checked;
 mod checking;
 mod codes;
+mod driver;
 mod found;
 mod handing;
 mod picking;
@@ -18,6 +19,6 @@ mod start;
 mod status;
 mod telling;
 
-pub use calls::{check_call, check_hall_call, solve_call};
+pub use calls::{check_call, check_hall_call, solve_by_messages_call, solve_call};
 pub use found::Found;
 pub use status::{BRACKET, INFEASIBLE, INVALID, MEMORY, OPTIMAL, REFUSED, SIZES, START};

@@ -1,41 +1,20 @@
 //! A solve over the caller's memory.
 
-ghost use Rattle.std.specs.Prelude.{◌≡◌, ◌≢◌, [], IfOk};
+ghost use Rattle.std.specs.Prelude.{◌≡◌, IfOk};
 ghost use Rattle.auc_graph.specs.Listing.{problem_from};
-ghost use Rattle.auc_call.specs.Memory.{AreSizes, memory};
-ghost use Rattle.auc_cert.specs.Start.{AreStart};
 ghost use Rattle.auc_answers.specs.Answers.{IsAnswer};
-ghost use Rattle.auc_world.specs.Chain.{IsOfRun};
-ghost use Rattle.auc_call.specs.Running.{IsAnswerWritten, IsOfRunFrom, limits_of, start_in};
+ghost use Rattle.auc_call.specs.Memory.{AreSizes, memory};
+ghost use Rattle.auc_call.specs.Drivers.{IsSolvedBy};
+ghost use Rattle.auc_call.specs.Running.{IsAnswerWritten};
 ghost use Rattle.auc_call.specs.Solving.{IsSolved, Solves};
 
+use crate::driver::{Driver, answer_of};
 use crate::handing::{hand_bracket, hand_hall, hand_optimal};
 use crate::solved::{Failed, Solved};
-use crate::start::start_fault;
+use crate::start::start_fault_by;
 use auc_graph::{Arc, ArcList, objects_or};
-use auc_world::{Answer, Limits, solve_serial, solve_serial_from};
-use std::alloc::{AllocError, Global};
-
-/// What the solver answers, from these prices where there are any.
-fn answer_of(
-    alloc: Global,
-    problem: &ArcList,
-    start: &[i64],
-    bids: u64,
-) -> Result<Answer, AllocError>
-    requires { start.now ≢ [] → AreStart problem.now start.now }
-    ensures is { IfOk result (IsAnswer problem.now) }
-    ensures run { IfOk result (IsOfRun problem.now (limits_of bids) (start_in start.now)) }
-{
-    let limits = Limits {
-        bids,
-        ..Limits::usual(1)
-    };
-    if start.is_empty() {
-        return solve_serial(alloc, problem, &limits);
-    }
-    solve_serial_from(alloc, problem, &limits, start)
-}
+use auc_world::Answer;
+use std::alloc::Global;
 
 /// Hands out an answer.
 fn hand_out(
@@ -58,9 +37,10 @@ fn hand_out(
     }
 }
 
-/// Solves the problem of these arcs, and writes the answer into the caller's memory.
+/// Solves the problem of these arcs by this solver, and writes the answer into the caller's memory.
 pub(crate) fn solve_into(
     alloc: Global,
+    driver: Driver,
     persons: u32,
     objects: u32,
     arcs: &[Arc],
@@ -70,8 +50,8 @@ pub(crate) fn solve_into(
     prices: &mut [i64],
     set: &mut [u32],
 ) -> Result<Solved, Failed>
-    ensures solves { Solves (problem_from persons objects arcs.now) start.now (memory choice.old prices.old set.old) (memory choice.new prices.new set.new) result }
-    ensures run { IfOk result (IsOfRunFrom (problem_from persons objects arcs.now) start.now bids (memory choice.new prices.new set.new)) }
+    ensures solves { Solves driver (problem_from persons objects arcs.now) start.now (memory choice.old prices.old set.old) (memory choice.new prices.new set.new) result }
+    ensures run { IfOk result (IsSolvedBy driver (problem_from persons objects arcs.now) start.now bids (memory choice.new prices.new set.new)) }
 {
     let wanted = objects_or(objects, persons) as usize;
     let places = persons as usize;
@@ -80,9 +60,9 @@ pub(crate) fn solve_into(
     }
     let arcs = Vec::from_slice(alloc, arcs)?;
     let problem = ArcList::from_arcs(persons, objects, arcs)?;
-    if let Some(fault) = start_fault(&problem, start) {
+    if let Some(fault) = start_fault_by(driver, &problem, start) {
         return Err(Failed::Start(fault));
     }
-    let answer = answer_of(alloc, &problem, start, bids)?;
+    let answer = answer_of(alloc, driver, &problem, start, bids)?;
     Ok(hand_out(&problem, &answer, choice, prices, set))
 }

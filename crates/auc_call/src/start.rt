@@ -2,8 +2,10 @@
 
 ghost use Rattle.std.specs.Prelude.{◌≡◌, ◌≢◌, ◌<◌, ◌^◌, None, [], length};
 ghost use Rattle.auc_cert.specs.Start.{AreStart};
-ghost use Rattle.auc_call.specs.Start.{is_outside, outside, start_fault};
+ghost use Rattle.auc_direct.specs.Starts.{AreStartPrices};
+ghost use Rattle.auc_call.specs.Start.{CanStart, is_outside, outside, prices_fault, square_fault, start_fault_by};
 
+use crate::driver::Driver;
 use auc_graph::ArcList;
 
 /// The highest price that a run may start from, 2^60, on the scale of costs times persons + 1.
@@ -12,7 +14,7 @@ const HIGHEST_START: i64 = 1_152_921_504_606_846_976;
 /// Why no run can start from the prices.
 #[derive(Clone, Copy, Debug, PartialEq, Eq)]
 pub(crate) enum StartFault {
-    /// There are more objects than persons.
+    /// There are more objects than persons: only a run by messages can't start then.
     NotSquare,
     /// They aren't as many as the objects.
     OtherSize,
@@ -39,22 +41,41 @@ fn outside(prices: &[i64]) -> Option<u32>
     None
 }
 
-/// Why no run on this problem can start from these prices; no prices at all are no start, and no fault.
-pub(crate) fn start_fault(problem: &ArcList, start: &[i64]) -> Option<StartFault>
-    ensures exact { result ≡ start_fault problem.now start.now }
-    ensures start { result ≡ None → start.now ≢ [] → AreStart problem.now start.now }
+/// Why no run in one hand can start from these prices.
+fn prices_fault(problem: &ArcList, start: &[i64]) -> Option<StartFault>
+    ensures exact { result ≡ prices_fault problem.now start.now }
+    ensures start { result ≡ None → AreStartPrices problem.now start.now }
 {
-    if start.is_empty() {
-        return None;
-    }
-    if problem.objects() != problem.persons() {
-        return Some(StartFault::NotSquare);
-    }
     if start.len() != problem.objects() as usize {
         return Some(StartFault::OtherSize);
     }
     match outside(start) {
         Some(object) => Some(StartFault::Price { object }),
         None => None,
+    }
+}
+
+/// Why no run by messages can.
+fn square_fault(problem: &ArcList, start: &[i64]) -> Option<StartFault>
+    ensures exact { result ≡ square_fault problem.now start.now }
+    ensures start { result ≡ None → AreStart problem.now start.now }
+{
+    if problem.objects() != problem.persons() {
+        return Some(StartFault::NotSquare);
+    }
+    prices_fault(problem, start)
+}
+
+/// Why no run of this kind on this problem can start from these prices; no prices at all are no start, and no fault.
+pub(crate) fn start_fault_by(driver: Driver, problem: &ArcList, start: &[i64]) -> Option<StartFault>
+    ensures exact { result ≡ start_fault_by driver problem.now start.now }
+    ensures start { result ≡ None → start.now ≢ [] → CanStart driver problem.now start.now }
+{
+    if start.is_empty() {
+        return None;
+    }
+    match driver {
+        Driver::Direct => prices_fault(problem, start),
+        Driver::Messages => square_fault(problem, start),
     }
 }

@@ -10,19 +10,20 @@ ghost use Rattle.auc_graph.specs.HallSet.{IsHallSet};
 ghost use Rattle.auc_graph.specs.Listing.{problem_from, list_fault};
 ghost use Rattle.auc_call.specs.Memory.{AreSizes, memory};
 ghost use Rattle.auc_call.specs.Shown.{IsLeastAt, IsHallAt};
-ghost use Rattle.auc_call.specs.Start.{start_fault};
+ghost use Rattle.auc_call.specs.Start.{start_fault, start_fault_by_messages};
 ghost use Rattle.auc_call.specs.Codes.{IsListFault, IsStartFault};
 ghost use Rattle.auc_call.specs.Checking.{AreClaimSizes};
 ghost use Rattle.auc_call.specs.Answers.{IsBracketTold, IsClaimFaultTold, IsHallFaultTold, IsHallShown};
+ghost use Rattle.auc_call.specs.Limited.{IsLimitTold};
 ghost use Rattle.auc_call.specs.Running.{IsRunTold};
 ghost use Rattle.auc_call.specs.Telling.{solve_statuses, check_statuses, KeepsFound, KeepsMemory, KeepsChecked};
 
-use auc_call::{Found, check_call, check_hall_call, solve_call};
+use auc_call::{Found, check_call, check_hall_call, solve_by_messages_call, solve_call};
 use auc_graph::Arc;
 use std::alloc::Global;
 
 /// Solves the problem of so many persons, so many objects (0: as many as persons) and these arcs, from nothing where `start` is empty, else
-/// from its prices: see [`auc_call::solve_call`].
+/// from its prices, in one hand: see [`auc_call::solve_call`].
 #[unsafe(no_mangle)]
 pub extern "C" fn sigdorf_solve(
     alloc: Global,
@@ -44,11 +45,51 @@ pub extern "C" fn sigdorf_solve(
     ensures refused { result ≡ pos 5 → IsListFault (list_fault persons objects arcs.now) found.new.kind found.new.place }
     ensures start { result ≡ pos 7 → IsStartFault (start_fault (problem_from persons objects arcs.now) start.now) found.new.kind found.new.place }
     ensures started { result ≢ pos 2 → result ≢ pos 5 → result ≢ pos 6 → result ≢ pos 7 → start_fault (problem_from persons objects arcs.now) start.now ≡ None }
-    ensures run { result ≢ pos 2 → result ≢ pos 5 → result ≢ pos 6 → result ≢ pos 7 → IsRunTold (problem_from persons objects arcs.now) start.now bids (memory choice.new prices.new hall_objects.new) result found.old found.new }
+    ensures limit { result ≡ pos 4 → IsLimitTold (problem_from persons objects arcs.now) start.now bids choice.new prices.new found.new.kind found.new.lower found.new.cost }
     ensures same { KeepsMemory result (memory choice.old prices.old hall_objects.old) (memory choice.new prices.new hall_objects.new) }
     ensures same_found { KeepsFound result found.old found.new }
 {
     solve_call(
+        alloc,
+        persons,
+        objects,
+        arcs,
+        start,
+        bids,
+        choice,
+        prices,
+        hall_objects,
+        found,
+    )
+}
+
+/// Solves as [`sigdorf_solve`] does, but by messages: see [`auc_call::solve_by_messages_call`].
+#[unsafe(no_mangle)]
+pub extern "C" fn sigdorf_solve_by_messages(
+    alloc: Global,
+    persons: u32,
+    objects: u32,
+    arcs: &[Arc],
+    start: &[i64],
+    bids: u64,
+    choice: &mut [u32],
+    prices: &mut [i64],
+    hall_objects: &mut [u32],
+    found: &mut Found,
+) -> i32
+    ensures known { Contains solve_statuses result }
+    ensures optimal { result ≡ pos 0 → IsLeastAt (problem_from persons objects arcs.now) choice.new prices.new found.new.cost }
+    ensures sizes { result ≡ pos 2 ↔ (AreSizes (problem_from persons objects arcs.now) (memory choice.old prices.old hall_objects.old) → ⊥) }
+    ensures infeasible { result ≡ pos 3 → IsHallAt (problem_from persons objects arcs.now) choice.new hall_objects.new found.new.persons found.new.objects }
+    ensures bracket { result ≡ pos 4 → IsBracketTold (problem_from persons objects arcs.now) choice.new prices.new found.new.kind found.new.lower found.new.cost }
+    ensures refused { result ≡ pos 5 → IsListFault (list_fault persons objects arcs.now) found.new.kind found.new.place }
+    ensures start { result ≡ pos 7 → IsStartFault (start_fault_by_messages (problem_from persons objects arcs.now) start.now) found.new.kind found.new.place }
+    ensures started { result ≢ pos 2 → result ≢ pos 5 → result ≢ pos 6 → result ≢ pos 7 → start_fault_by_messages (problem_from persons objects arcs.now) start.now ≡ None }
+    ensures run { result ≢ pos 2 → result ≢ pos 5 → result ≢ pos 6 → result ≢ pos 7 → IsRunTold (problem_from persons objects arcs.now) start.now bids (memory choice.new prices.new hall_objects.new) result found.old found.new }
+    ensures same { KeepsMemory result (memory choice.old prices.old hall_objects.old) (memory choice.new prices.new hall_objects.new) }
+    ensures same_found { KeepsFound result found.old found.new }
+{
+    solve_by_messages_call(
         alloc,
         persons,
         objects,

@@ -1,6 +1,6 @@
 use Rattle.std.proofs.Common.{rules, ◌≢◌, []}
 use Rattle.auc_call.proofs.RunLaws.{some_start}
-use Rattle.auc_call.proofs.solving.answer_of.Goals as goal
+use Rattle.auc_call.proofs.driver.answer_by_messages.Goals as goal
 
 pub returns-clause-run : goal.returns-clause-run
 returns-clause-run c =

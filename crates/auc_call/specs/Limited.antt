@@ -1,0 +1,28 @@
+-- A run in one hand leaves a bracket only where one of its limits has stopped it.
+use Rattle.std.specs.Prelude.{◌≡◌, ℕ, ℤ, pos, List, [], ◌∷◌}
+use Rattle.auc_graph.specs.Problem.{Problem}
+use Rattle.auc_cert.specs.declared.lists.Pick.{Pick}
+use Rattle.auc_cert.specs.declared.reason.Reason.{Reason}
+use Rattle.auc_cert.specs.declared.cert.CertParts.{CertParts}
+use Rattle.auc_cert.specs.Claim.{chosen}
+use Rattle.auc_answers.specs.declared.answer.Answer.{Answer}
+use Rattle.auc_direct.specs.Endings.{IsLimited, IsLimitedFrom}
+use Rattle.auc_call.specs.Codes.{limit_kind}
+use Rattle.auc_call.specs.Memory.{AreAt}
+
+-- of a run by so many bids from these prices, or from nothing where there are none
+abbrev pub IsLimitedIn : Problem → List ℤ → ℕ → Answer → Type 0
+IsLimitedIn p [] bids answer = IsLimited p bids (pos 0) answer
+IsLimitedIn p (price ∷ prices) bids answer = IsLimitedFrom p bids (price ∷ prices) answer
+
+-- these places and prices are a bracket that this limit of such a run has left
+pub record IsLimitAt (p : Problem) (start : List ℤ) (bids : ℕ) (places : List ℕ) (prices : List ℤ) (reason : Reason) (lower cost : ℤ) : Type 0 where
+  pub picks : List Pick
+  pub at : AreAt p.arcs places (chosen 0 picks)
+  pub limited : IsLimitedIn p start bids (Answer.Bracket (CertParts.Bracket reason lower cost picks prices))
+
+-- and so is the limit of this kind
+pub record IsLimitTold (p : Problem) (start : List ℤ) (bids : ℕ) (places : List ℕ) (prices : List ℤ) (kind : ℕ) (lower cost : ℤ) : Type 0 where
+  pub reason : Reason
+  pub kind_is : kind ≡ limit_kind reason
+  pub limit : IsLimitAt p start bids places prices reason lower cost

@@ -1,0 +1,82 @@
+//! Which solver answers a call, and what it answers.
+
+ghost use Rattle.std.specs.Prelude.{◌≡◌, ◌≢◌, [], IfOk};
+ghost use Rattle.auc_cert.specs.Start.{AreStart};
+ghost use Rattle.auc_answers.specs.Answers.{IsAnswer};
+ghost use Rattle.auc_direct.specs.Starts.{AreStartPrices};
+ghost use Rattle.auc_world.specs.Chain.{IsOfRun};
+ghost use Rattle.auc_call.specs.Drivers.{IsAnswerBy};
+ghost use Rattle.auc_call.specs.Limited.{IsLimitedIn};
+ghost use Rattle.auc_call.specs.Running.{limits_of, start_in};
+ghost use Rattle.auc_call.specs.Start.{CanStart};
+
+use auc_direct::{DirectLimits, solve_direct, solve_direct_from};
+use auc_graph::ArcList;
+use auc_world::{Answer, Limits, solve_serial, solve_serial_from};
+use std::alloc::{AllocError, Global};
+
+/// Which solver answers a call.
+#[derive(Clone, Copy, Debug, PartialEq, Eq)]
+pub(crate) enum Driver {
+    /// The one in one hand, which starts from any prices.
+    Direct,
+    /// The one by messages, which starts only where there are as many objects as persons.
+    Messages,
+}
+
+/// What the solver in one hand answers, from these prices where there are any.
+fn answer_directly(
+    alloc: Global,
+    problem: &ArcList,
+    start: &[i64],
+    bids: u64,
+) -> Result<Answer, AllocError>
+    requires { start.now ≢ [] → AreStartPrices problem.now start.now }
+    ensures is { IfOk result (IsAnswer problem.now) }
+    ensures limit { IfOk result (IsLimitedIn problem.now start.now bids) }
+{
+    let limits = DirectLimits { bids };
+    if start.is_empty() {
+        return solve_direct(alloc, problem, &limits);
+    }
+    solve_direct_from(alloc, problem, &limits, start)
+}
+
+/// What the solver by messages does.
+fn answer_by_messages(
+    alloc: Global,
+    problem: &ArcList,
+    start: &[i64],
+    bids: u64,
+) -> Result<Answer, AllocError>
+    requires { start.now ≢ [] → AreStart problem.now start.now }
+    ensures is { IfOk result (IsAnswer problem.now) }
+    ensures run { IfOk result (IsOfRun problem.now (limits_of bids) (start_in start.now)) }
+{
+    let limits = Limits {
+        bids,
+        ..Limits::usual(1)
+    };
+    if start.is_empty() {
+        return solve_serial(alloc, problem, &limits);
+    }
+    solve_serial_from(alloc, problem, &limits, start)
+}
+
+/// What the solver of this kind does.
+pub(crate) fn answer_of(
+    alloc: Global,
+    driver: Driver,
+    problem: &ArcList,
+    start: &[i64],
+    bids: u64,
+) -> Result<Answer, AllocError>
+    requires { start.now ≢ [] → CanStart driver problem.now start.now }
+    ensures is { IfOk result (IsAnswer problem.now) }
+    ensures run { IfOk result (IsAnswerBy driver problem.now start.now bids) }
+{
+    match driver {
+        Driver::Direct => answer_directly(alloc, problem, start, bids),
+        Driver::Messages => answer_by_messages(alloc, problem, start, bids),
+    }
+}

@@ -15,7 +15,8 @@ def solve(rows, columns, costs, shape=None, *, maximize=False, decimals=0, start
     `bound`. Where it is True, the prices of the solution show that none does.
 
     Entry k says that row rows[k] may have column columns[k] at costs[k]. Each row gets a column, or where there are more rows than columns
-    each column a row, none twice. The search of a first assignment takes O(rows * entries) time at most, mostly far less.
+    each column a row, none twice. The search of a first assignment takes O(rows * entries) time at most, mostly far less. The solver is the one
+    in one hand, as the program's with --direct; the numbers of rows and columns may be unequal.
 
     rows, columns: int arrays of one length, from 0; a pair may stand twice.
     costs: int or float array of the same length. What counts is costs * 10^decimals, which must be whole numbers to 10^9 in magnitude.
@@ -23,7 +24,7 @@ def solve(rows, columns, costs, shape=None, *, maximize=False, decimals=0, start
         larger one, 33,554,432 entries.
     maximize: whether the most is wanted.
     decimals: 0 to 9; a float must be the one nearest to a number with so many decimals, of its own type.
-    start: the prices of an earlier solution of as many rows as columns, from which a run may be shorter. They may be wrong.
+    start: the prices of an earlier solution of as many rows and columns, from which a run may be shorter. They may be wrong: any from 0 to 2^60.
     bids: how many bids a phase may take, from 0 to 2^64 - 1.
 
     Raises Infeasible where there is no full assignment, ValueError where an argument is at fault (a masked array among them), and MemoryError.
@@ -44,8 +45,6 @@ def _start_of(problem, start):
     if start is None:
         return numpy.zeros(0, numpy.int64)
     start = whole_numbers(start, "start", *INT64)
-    if problem.persons != problem.objects:
-        raise ValueError(START_FAULTS[1])
     if len(start) != problem.objects:
         raise ValueError(START_FAULTS[2])
     return start

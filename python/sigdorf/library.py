@@ -20,8 +20,7 @@ LIST_FAULTS = {
     6: "the cost of entry {place} is beyond 10^9 in magnitude, scaled",
 }
 START_FAULTS = {
-    1: "a start is for as many rows as columns",
-    2: "a start has a price for each column",
+    2: "a start has a price for each column, or for each row where there are more rows",
     3: "the price {place} of the start is not from 0 to 2^60",
 }
 OTHER_SIZE = "the solution is not of the size of the problem"

@@ -103,7 +103,10 @@ class Lists(Limited):
                       numpy.ma.masked_array([0, 1], [0, 1]), Broken()]:
             with self.subTest(kind=type(value), value=value if isinstance(value, list) else ""):
                 self.assert_refused(sigdorf.solve, *LISTS, start=value)
-        self.assert_refused(sigdorf.solve, [0, 0], [0, 1], [1, 2], start=[0, 0])
+        for rows, columns in [([0, 0], [0, 1]), ([0, 1], [0, 0])]:
+            for value in [[0], [0, 0, 0], [0, -1], [2**60 + 1, 0]]:
+                self.assert_refused(sigdorf.solve, rows, columns, [1, 2], start=value)
+            self.assertEqual(sigdorf.solve(rows, columns, [1, 2], start=[2**60, 0]).cost, 1)
         for value in [(0, 4), numpy.array([0, 4], ">i8"), numpy.array([9, 0, 9, 4], numpy.uint8)[1::2], numpy.array([4, 0])[::-1]]:
             self.assertEqual(sigdorf.solve(*LISTS, start=value).cost, 3)
 

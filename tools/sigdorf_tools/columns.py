@@ -2,7 +2,7 @@
 import csv
 
 from .faults import Fault
-from .tables import look_at_lengths
+from .tables import below_header, look_at_lengths
 
 
 def titles_said(words):
@@ -12,6 +12,7 @@ def titles_said(words):
 
 def picked(table, titles, extras, has_header):
     """The table with the columns of these titles, or where there are none with all but the extra ones; and the extra ones, each as a list of cells. Without a header titles are numbers, from 1 on."""
+    table = below_header(table) if has_header else table
     look_at_lengths(table, len(table.rows[0]))
     beside = [place_of(table, title, has_header) for title in extras]
     kept = [place_of(table, title, has_header) for title in titles] if titles else [place for place in range(len(table.rows[0])) if place not in beside]
@@ -19,7 +20,9 @@ def picked(table, titles, extras, has_header):
         raise Fault(f"{table.file}: --columns: three titles are wanted, of the columns of person, object and cost, and there are {len(titles)}")
     rows = [[cells[place] for place in kept] for cells in table.rows]
     columns = [[cells[place] for cells in table.rows] for place in beside]
-    return table._replace(rows=rows, columns=kept, gaps=[]), columns, beside
+    # Columns that were named by their titles are below these.
+    form = "pairs" if titles and has_header else table.form
+    return table._replace(rows=rows, columns=kept, gaps=[], form=form), columns, beside
 
 
 def place_of(table, title, has_header):

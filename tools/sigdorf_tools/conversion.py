@@ -29,6 +29,7 @@ def add_options(words):
     form.add_argument("--matrix", dest="form", action="store_const", const="matrix", help="the first row names the objects, and the first column the persons")
     words.add_argument("--no-header", action="store_true", help="the first row has no names: of pairs it is one, and a matrix is costs alone, whose rows and columns are numbered")
     words.add_argument("--columns", metavar="WHO,WHAT,COST", help="the titles of the columns of person, object and cost, where a table of pairs has more columns; with --no-header their numbers")
+    words.add_argument("--ignore-column", metavar="TITLE", action="append", default=[], help="a column that is none of the table's, as one of remarks; with --no-header its number")
     words.add_argument("--sheet", metavar="NAME", help="the sheet of a workbook, where more than one has cells")
     words.add_argument("--separator", choices=list(SEPARATORS), help="what parts the columns, where it isn't to be found out")
 
@@ -43,17 +44,19 @@ def read_problem(words, extras=()):
     """The table that the words name, or its text, its problem, and what columns of these titles say of each person. Decimals that nobody said are told on standard error."""
     source, has_header = read_source(words.file, SEPARATORS.get(words.separator), words.sheet), not words.no_header
     said = has_header, words.decimals, words.maximise, MARKS.get(words.decimal_mark)
-    is_whole = words.columns is None and not extras
+    is_whole = words.columns is None and not extras and not words.ignore_column
     problem, told = None, []
     if is_whole:
         problem = problem_by_arrays(source, words.form, *said) or problem_of_pairs(source, words.form, *said)
     if problem is None:
         source, form, columns, places = table_of_source(source), words.form, [], []
+        has_header = has_header or source.form is not None
         if not is_whole:
-            source, columns, places = picked(source, titles_said(words.columns) if words.columns is not None else [], extras, has_header)
+            titles = titles_said(words.columns) if words.columns is not None else []
+            source, columns, places = picked(source, titles, [*extras, *words.ignore_column], has_header)
             form = form if words.columns is None else "pairs"
         problem = problem_of(source, form, *said)
-        told = [by_persons(source, cells, place, 1 if has_header else 0) for cells, place in zip(columns, places)]
+        told = [by_persons(source, cells, place, 1 if has_header else 0) for _, cells, place in zip(extras, columns, places)]
     if words.decimals is None and problem.decimals:
         say(f"{source.file}: the costs have {counted(problem.decimals, 'decimal')}")
     return source, problem, told

@@ -30,7 +30,7 @@ def look_for_more_columns(table):
     rest = table.rows[1:]
     for column, cell in enumerate(rest[0] if rest else [], 0):
         if column and cell and not is_number(cell) and not looks_like_number(cell) and not any(is_number(cells[column]) for cells in rest if column < len(cells)) and len(rest) > 1:
-            raise table.fault(1, column, f"`{cell}` is no cost, nor is another cell of this column; say --columns with the titles of person, object and cost, or leave the column out")
+            raise table.fault(1, column, f"`{cell}` is no cost, nor is another cell of this column; say --columns with the titles of person, object and cost, or --ignore-column with the title of this one")
 
 
 def look_for_header(table):
@@ -53,8 +53,8 @@ def form_without_header(table):
 
 
 def is_title(cell):
-    """Whether a cell may stand over a column of costs: it is no number, nor what a spreadsheet shows in place of one, as `#N/A`."""
-    return not looks_like_number(cell) and not is_number(cell) and not cell.startswith("#")
+    """Whether a cell may stand over a column of costs: it has something in it, and is no number, nor what a spreadsheet shows in place of one, as `#N/A`."""
+    return cell != "" and not looks_like_number(cell) and not is_number(cell) and not cell.startswith("#")
 
 
 def looks_like_number(cell):

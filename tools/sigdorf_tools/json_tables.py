@@ -8,20 +8,31 @@ WANTED = "a list of records, a list of rows, or for each person an object of cos
 
 
 def read_json(file, content):
-    """The rows of the table, the numbers of what they come from, what that is called, and whether they are known to be pairs below their titles."""
+    """The rows of the table, the numbers of what they come from, what that is called, and the form where it is known: what is `pairs` then has titles on top."""
     value = value_of(file, text_of(file, content))
     if isinstance(value, dict) and value and all(isinstance(costs, dict) for costs in value.values()):
-        pairs = [[person, thing, cost] for person, costs in value.items() for thing, cost in costs.items() if cost is not None]
-        return texts(file, "pair", [["person", "object", "cost"], *pairs], numbers_below_titles(pairs)), True
+        return rows_of_persons(file, value)
     if not isinstance(value, list) or not value:
         raise Fault(f"{file}: no table, since {WANTED}")
     if all(isinstance(row, list) for row in value):
-        return texts(file, "row", value, range(1, len(value) + 1)), False
+        return texts(file, "row", value, range(1, len(value) + 1)), None
     for number, record in enumerate(value, 1):
         if not isinstance(record, dict):
             raise Fault(f"{file}, record {number}: no record; {WANTED}")
     titles = list(dict.fromkeys(title for record in value for title in record))
-    return texts(file, "record", [titles, *([record.get(title) for title in titles] for record in value)], numbers_below_titles(value)), True
+    return texts(file, "record", [titles, *([record.get(title) for title in titles] for record in value)], numbers_below_titles(value)), "pairs"
+
+
+def rows_of_persons(file, value):
+    """The rows of an object that has for each person an object of costs. Pairs tell nothing of a person without a cost, or of an object; where there is one, it is a matrix."""
+    objects = dict.fromkeys(thing for costs in value.values() for thing in costs)
+    pairs = [[person, thing, cost] for person, costs in value.items() for thing, cost in costs.items() if cost is not None]
+    if not pairs:
+        raise Fault(f"{file}: nobody has a cost, so that there is no pair; {WANTED}")
+    if len({person for person, _, _ in pairs}) == len(value) and len({thing for _, thing, _ in pairs}) == len(objects):
+        return texts(file, "pair", [["person", "object", "cost"], *pairs], numbers_below_titles(pairs)), "pairs"
+    rows = [[person, *map(costs.get, objects)] for person, costs in value.items()]
+    return texts(file, "person", [["person", *objects], *rows], numbers_below_titles(rows)), "matrix"
 
 
 def numbers_below_titles(rows):

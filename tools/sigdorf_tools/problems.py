@@ -4,7 +4,7 @@ from typing import NamedTuple
 from .costs import cells_of, read_costs
 from .faults import Fault
 from .forms import form_of, is_title
-from .tables import look_at_lengths
+from .tables import below_header, look_at_lengths
 
 MOST_PERSONS = 10_000
 MOST_OBJECTS = 20_000
@@ -57,17 +57,23 @@ def problem_of(table, form, has_header, decimals=None, maximise=False, mark=None
     """The problem of a table. The form is `pairs`, `matrix`, or None, where the table tells it; so are decimals and their mark."""
     def costs(groups):
         return read_costs(table, groups, decimals, maximise, mark)
-    if table.is_pairs or (form or form_of(table, has_header)) == "pairs":
+    has_header = has_header or table.form is not None
+    # Of costs alone an empty column is an object that nobody may have.
+    table = below_header(table) if has_header else table
+    if (table.form or form or form_of(table, has_header)) == "pairs":
         return problem_of_pairs(table, has_header, costs)
     return problem_of_matrix(table, costs) if has_header else problem_of_costs(table, costs)
 
 
 def problem_of_pairs(table, has_header, costs):
     """Three columns: person, object, cost. A first row whose third cell is no number has their titles, unless no header is said to be there."""
+    look_for_more_than_pairs(table)
     look_at_lengths(table, 3)
     titles, first = TITLES, 0
-    if has_header and is_title(table.rows[0][2]):
+    if table.form or has_header and is_title(table.rows[0][2]):
         titles, first = titles_of(table), 1
+    elif has_header and not table.rows[0][2]:
+        raise table.fault(0, 2, "the cell is empty, so the row may have titles, or a pair without a cost; write a title or a cost into it, or leave the row out")
     persons, objects, amounts = zip(*table.rows[first:])
     look_for_gap(table, amounts, first, 2, "a cost is wanted, and the cell is empty; leave out the row of a pair that isn't allowed")
     person_names, person_numbers = numbered(table, persons, first, 0, MOST_PERSONS)
@@ -83,6 +89,12 @@ def problem_of_pairs(table, has_header, costs):
         row[0].append(thing)
         row[1].append(text)
     return Problem(titles, read.mark, read.decimals, person_names, object_names, [Arcs(things, "\n".join(amounts)) for things, amounts in rows])
+
+
+def look_for_more_than_pairs(table):
+    """Where all rows have more than three columns, which ones are meant has to be said."""
+    if min(map(len, table.rows)) > 3:
+        raise table.fault(0, 3, "pairs are three columns, and here are more; say --columns with the titles of person, object and cost, or --ignore-column with that of another one")
 
 
 def without_doubles(table, first, pairs, *columns):
@@ -121,7 +133,7 @@ def titles_of(table):
     first, rest = table.rows[0], table.rows[1:]
     if not rest:
         raise table.fault(0, 2, f"`{first[2]}` is no number, and there is no row below it; put the pairs below the titles")
-    if first[0] in (cells[0] for cells in rest):
+    if not table.form and first[0] in (cells[0] for cells in rest):
         raise table.fault(0, 2, f"`{first[2]}` is no number, and `{first[0]}` is no title, since it stands below too; write a number, or titles above")
     return [cell or title for cell, title in zip(first, TITLES)]
 

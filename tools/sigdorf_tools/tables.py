@@ -14,7 +14,7 @@ OLD_WORKBOOK = b"\xd0\xcf\x11\xe0\xa1\xb1\x1a\xe1"
 
 class Table(NamedTuple):
     """The cells of each row that isn't empty, the lines where these rows begin, and the lines of empty rows that have cells. Rows and columns are named by places, from 0 on.
-    Of a table whose columns were picked the columns say where these stand in the file. Where it is known to be pairs below their titles, that is said."""
+    Of a table whose columns were picked the columns say where these stand in the file. Where the form is known, it is said: what is `pairs` then has their titles on top."""
 
     file: str
     separator: str
@@ -23,7 +23,7 @@ class Table(NamedTuple):
     gaps: list
     line_word: str = "line"
     columns: list | None = None
-    is_pairs: bool = False
+    form: str | None = None
 
     def fault(self, row, column, sentence):
         if self.columns:
@@ -52,8 +52,8 @@ def read_source(file, separator=None, sheet=None):
     if sheet is not None:
         raise Fault(f"{file}: --sheet is said, and this is no workbook; leave it out")
     if is_json:
-        (rows, lines, word), is_pairs = read_json(file, content)
-        return table_of(file, ",", rows, lines, False, word)._replace(is_pairs=is_pairs)
+        (rows, lines, word), form = read_json(file, content)
+        return table_of(file, ",", rows, lines, False, word)._replace(form=form)
     return read_text(file, content, separator)
 
 
@@ -92,9 +92,26 @@ def look_for_control_characters(table):
                 raise table.fault(row, column, "a control character; take it out, since a name or a number is wanted")
 
 
+def below_header(table):
+    """A table whose first row is a header, without the columns at its end that have nothing in them, which some programs write behind the last one. The header has to be as long as the rows
+    below it, where these are all of the same length."""
+    lengths = {len(cells) for cells in table.rows}
+    if table.rows[0][-1] and len(lengths) == 1:
+        return table
+    width = max(place for cells in table.rows for place, cell in enumerate(cells, 1) if cell)
+    rows = [cells[:width] for cells in table.rows]
+    first, *others = map(len, rows)
+    if len(others) > 1 and len(set(others)) == 1 and first < others[0]:
+        raise table.fault(0, first, f"the row has {columns(first)}, and all others have {others[0]}; fill it up, or leave out what is no part of the table")
+    return table._replace(rows=rows)
+
+
 def look_at_lengths(table, length):
-    """Each row has to have as many cells as the first one."""
-    for row, cells in enumerate(table.rows):
-        if len(cells) != length:
-            found = f"the row has {len(cells)} column{'s' * (len(cells) != 1)}, and {length} are wanted"
-            raise table.fault(row, min(len(cells), length), f"{found}; fill it up, or put a name with a separator in it into double quotes")
+    """Each row has to have so many cells."""
+    for row, count in enumerate(map(len, table.rows)):
+        if count != length:
+            raise table.fault(row, min(count, length), f"the row has {columns(count)}, and {length} are wanted; fill it up, or put a name with a separator in it into double quotes")
+
+
+def columns(count):
+    return f"{count} column{'s' * (count != 1)}"

@@ -68,7 +68,7 @@ def separator_line_of(file, text):
 
 
 def separator_of(text):
-    """The separator that parts the rows evenly, or else the one that parts the first row most. (`csv.Sniffer` takes `a;x;1,5` to be parted by commas.)"""
+    """The separator that parts the rows evenly, or else the one that parts the first row most which any does. (`csv.Sniffer` takes `a;x;1,5` to be parted by commas.)"""
     sample = text[:SAMPLE_CHARACTERS]
     if len(sample) < len(text):
         # A row that is cut says nothing.
@@ -80,7 +80,7 @@ def separator_of(text):
             continue
         if len(lengths) == 1 and max(lengths) > 1:
             return separator
-    first = text.lstrip("\r\n").split("\n", 1)[0]
+    first = next((line for line in lines_of(sample) if any(separator in line for separator in SEPARATORS.values())), "")
     return max(SEPARATORS.values(), key=first.count)
 
 

@@ -4,9 +4,10 @@ from typing import NamedTuple
 
 from .amounts import NotAnAmount, units_of
 from .faults import Fault
+from .forms import is_title
 from .models import Model
 from .problems import Arcs
-from .tables import read_table
+from .tables import columns, read_table
 
 MOST_CAPACITY = 10_000
 
@@ -26,8 +27,8 @@ def capacity_of(place, text):
     return int(text)
 
 
-def capacities_said(word):
-    """The capacities that a word of the command names: one number for all, or a file with a row for each person."""
+def capacities_said(word, persons):
+    """The capacities that a word of the command names: one number for all, or a file with a row for each person, which may have titles above."""
     if word is None:
         return {}
     if word.isdecimal():
@@ -36,8 +37,8 @@ def capacities_said(word):
     found = {}
     for row, cells in enumerate(table.rows):
         if len(cells) != 2:
-            raise table.fault(row, min(len(cells), 2), f"the row has {len(cells)} columns, and 2 are wanted: a person and a capacity")
-        if row == 0 and not cells[1][:1].isdigit():
+            raise table.fault(row, min(len(cells), 2), f"the row has {columns(len(cells))}, and 2 are wanted; write a person and how many objects he may take at most")
+        if row == 0 and is_title(cells[1]) and cells[0] not in persons:
             continue
         if cells[0] in found:
             raise table.fault(row, 0, f"the name `{cells[0]}` stands there twice; leave one of the rows out")

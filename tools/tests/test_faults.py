@@ -1,4 +1,4 @@
-"""Forty tables with a fault: each is refused in one sentence with the file, the line and the column where there is one, and a way out."""
+"""Fifty tables with a fault: each is refused in one sentence with the file, the line and the column where there is one, and a way out."""
 import argparse
 
 from calls import ToolTest
@@ -19,7 +19,13 @@ FAULTS = [
     (",x,\na,1,2\n", "", ", line 1, column 3", "write one, or leave out"),
     (",x,y\n,1,2\n", "", ", line 2, column 1", "write one, or leave out"),
     ("Plan of Monday,,,\nwho,x,y,z\na,1,2,3\n", "", ", line 1, column 2", "leave out what is no part of the table"),
+    ("Plan of Monday\nwho,what,min\na,x,3\nb,y,4\n", "", ", line 1, column 2", "leave out what is no part of the table"),
+    ("x,y,z\na,1,2,3\nb,4,5,6\n", "", ", line 1, column 4", "fill it up"),
     ("a,,3\nb,y,2\n", "--pairs", ", line 1, column 2", "write one, or leave out"),
+    ("a,x,\nb,y,2\n", "", ", line 1, column 3", "write a title or a cost into it"),
+    ("a,x,\nb,y,2\n", "--pairs", ", line 1, column 3", "write a title or a cost into it"),
+    ("who,what,\na,x,1\nb,y,2\n", "", ", line 1, column 3", "write a title or a cost into it"),
+    ("a,x,\nb,y,2\n", "--pairs --no-header", ", line 1, column 3", "leave out the row of a pair"),
     ("a,x,1\nb,y,\n", "--pairs", ", line 2, column 3", "leave out the row"),
     ("a,x,4 min\nb,y,2\n", "", ", line 1, column 3", "write digits alone"),
     (",x,y\na,4km,2\n", "", ", line 2, column 2", "write digits alone"),
@@ -37,6 +43,8 @@ FAULTS = [
     ("12,2\n1,3\n", "", ", line 1", "--matrix --no-header where the table is costs alone"),
     ("1,2,3\n4,5,6\n", "", ", line 1", "--pairs where each row is a person"),
     ("who,what,room,min\na,x,12,3\nb,y,13,4\n", "", ", line 2, column 2", "say --columns"),
+    ("who,what,room,min\na,x,12,3\nb,y,13,4\n", "--pairs", ", line 1, column 4", "say --columns"),
+    ("who,x,y,note\na,1,2,ill\nb,3,4,\n", "", ", line 2, column 4", "--ignore-column"),
     ('a,"x,1\nb,y,2\n', "", ", line 1, column 2", "write a quote inside a cell twice"),
     (b"a,x\xff,1\n", "", ", line 1, byte 4 of the line", "save the table as CSV in UTF-8"),
     ("a,x,1\n".encode("utf-16"), "", "", "save the table as CSV in UTF-8"),

@@ -90,6 +90,28 @@ class TextTables(TableTest):
         self.write("a.csv", table.replace("20", "20 min"))
         self.assert_fault(self.call("tools/from_csv", "a.csv", "--columns", 'who,"what, now",minutes'), "a.csv, line 3, column 5", "20 min")
 
+    def test_ignored_columns(self):
+        for table, words in [
+            ("who,x,note,y\na,4,ill,\nb,,,5\n", ["--ignore-column", "note"]),
+            ("note,who,what,min,day\n,a,x,4,Mon\nill,b,y,5,Mon\n", ["--ignore-column", "day", "--ignore-column", "note"]),
+            ("4,,x\n,5,y\n", ["--ignore-column", "3", "--no-header"]),
+        ]:
+            with self.subTest(table):
+                self.assertEqual(self.arcs("a.csv", table, *words), "2\n1 1 4\n2 2 5\n")
+        self.write("a.csv", "who,x,note,y\na,4,ill,few\n")
+        self.assert_fault(self.call("tools/from_csv", "a.csv", "--matrix", "--ignore-column", "note"), "line 2, column 4", "`few`")
+
+    def test_titles_that_are_numbers(self):
+        """Columns that are named by their titles have these on top, whatever they look like."""
+        self.assertEqual(self.arcs("a.csv", "who,what,2025,2026\na,x,1,4\nb,y,2,5\n", "--columns", "who,what,2026"), "2\n1 1 4\n2 2 5\n")
+
+    def test_empty_columns_at_the_end(self):
+        for table in ("who,what,min,,\na,x,4,,\nb,y,5,,\n", "a,x,4\nb,y,5,\n", "who,x,y,\na,4,,\nb,,5,\n", "who,x,y\na,4,,\nb,,5,\n"):
+            with self.subTest(table):
+                self.assertEqual(self.arcs("a.csv", table), "2\n1 1 4\n2 2 5\n")
+        self.assertEqual(self.arcs("a.csv", "4,6,\n,5,\n", "--no-header", "--matrix"), "2\n1 1 4\n1 2 6\n2 2 5\n")
+        self.assertIn("2 persons, 3 objects", self.call("tools/from_csv", "a.csv", "--no-header", "--matrix")[1])
+
     def test_standard_input(self):
         self.assertEqual(self.arcs("-", None, text="a,x,4\nb,y,5\n"), "2\n1 1 4\n2 2 5\n")
         self.assertEqual(self.arcs("-", None, text='{"a": {"x": 4}, "b": {"y": 5}}'), "2\n1 1 4\n2 2 5\n")
@@ -105,6 +127,16 @@ class TextTables(TableTest):
             with self.subTest(value):
                 self.assertEqual(self.arcs("a.json", json.dumps(value)), "2\n1 1 45\n1 2 70\n2 1 30\n")
         self.assertEqual(self.arcs("a.json", json.dumps([{"who": "a", "what": "x", "cost": 4, "day": "Mon"}]), "--columns", "who,what,cost"), "1\n1 1 4\n")
+        for titles in ["who", "what", "3"], ["who", "what", ""], ["a", "what", "cost"]:
+            self.assertEqual(self.arcs("a.json", json.dumps([dict(zip(titles, ["a", "x", 4]))])), "1\n1 1 4\n")
+        self.assertEqual(self.arcs("a.json", '{"a": {"x": 4}}', "--no-header"), "1\n1 1 4\n")
+
+    def test_json_with_nothing_for_somebody(self):
+        """Who has no cost is a person all the same, and what nobody may take an object."""
+        self.assertEqual(self.arcs("a.json", '{"a": {"x": 4, "y": 5}, "b": {}}'), "2\n1 1 4\n1 2 5\n")
+        self.assertEqual(self.arcs("a.json", '{"a": {"x": 4, "y": null}, "b": {"x": 5}}'), "2\n1 1 4\n2 1 5\n")
+        self.write("a.json", '{"a": {"x": "few", "y": 5}, "b": {}}')
+        self.assert_fault(self.call("tools/from_csv", "a.json"), "a.json, person 1, column 2", "`few`")
 
 
 class Roads(ToolTest):
@@ -196,6 +228,8 @@ class Faults(ToolTest):
         "mixed JSON": ("a.json", '[{"a": 1}, 5]', [], "record 2", "list of records"),
         "lists in JSON": ("a.json", '[["a", "x", [1]]]', [], "row 1, column 3", "list"),
         "deep JSON": ("a.json", "[" * 100_000, [], "a.json", "too deep"),
+        "nothing in JSON": ("a.json", '{"a": {}, "b": {"x": null}}', [], "nobody has a cost"),
+        "more titles in JSON": ("a.json", '[{"who": "a", "what": "x", "cost": 1, "day": 2}]', [], "record 1, column 4", "--columns"),
         "name twice in JSON": ("a.json", '{"a": {"x": 1}, "a": {"x": 2}}', [], "`a`", "twice"),
         "truth in JSON": ("a.json", '{"a": {"x": true}}', [], "pair 1, column 3", "`true` is no number"),
         "no cost in JSON": ("a.json", '[{"who": "a", "what": "x", "cost": null}, {"who": "b", "what": "y", "cost": 1}]', [], "record 1, column 3", "empty"),

@@ -143,6 +143,8 @@ class Wishes(ToolTest):
         self.write("capacities.csv", "Ada,2\nDan,1\n")
         self.write("twice.csv", "Ada,2\nAda,1\n")
         self.write("bad.csv", "Ada,2\nBen,few\n")
+        self.write("first.csv", "Ada,few\nBen,2\n")
+        self.write("gap.csv", "Ada,\nBen,2\n")
         self.write("rows.csv", "p,q,c,n\na,x,1,2\na,y,1,3\n")
         for words, *parts in [
             (["--fix", "Ada=wirin"], "--fix Ada=wirin", "`wiring`"),
@@ -157,6 +159,8 @@ class Wishes(ToolTest):
             (["--capacity", "capacities.csv"], "capacities.csv, line 2, column 2", "`Dan`"),
             (["--capacity", "twice.csv"], "twice.csv, line 2, column 1", "twice"),
             (["--capacity", "bad.csv"], "bad.csv, line 2, column 2", "`few`"),
+            (["--capacity", "first.csv"], "first.csv, line 1, column 2", "`few`"),
+            (["--capacity", "gap.csv"], "gap.csv, line 1, column 2", "a capacity from 0"),
             (["--capacity", "99999"], "--capacity 99999", "10,000"),
             (["--capacity", "0"], "--capacity", "above 0"),
             (["--leave-free", "x"], "--leave-free x", "no number"),

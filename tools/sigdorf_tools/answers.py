@@ -5,6 +5,7 @@ from typing import NamedTuple
 from .claims import Claim, read_arcs, read_claim
 from .faults import Fault, read_bytes
 from .names import Names, plain_names, read_names
+from .plans import claim_told
 from .problems import MOST_OBJECTS
 
 
@@ -37,4 +38,5 @@ def read_answer(words):
     objects = names.number_of_objects() if names else words.objects
     arcs = read_arcs(words.arcs, text, objects)
     claim = read_claim(words.certificate, read_bytes(words.certificate), arcs, objects or len(arcs), words.arcs)
-    return Answer(names or plain_names(len(arcs), objects or len(arcs)), arcs, claim)
+    names = names or plain_names(len(arcs), objects or len(arcs))
+    return Answer(names, arcs, claim_told(names, claim, arcs))

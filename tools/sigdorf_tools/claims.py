@@ -68,6 +68,12 @@ def claim_of(certificate):
     return told(*check_certificate.read_claim(certificate))
 
 
+def with_all_persons(claim, rows):
+    """A Hall set with all persons who may take nothing but its objects, so that each other person may take another one. The rows are those of all persons in turn: a number and the objects."""
+    inside = set(claim.objects)
+    return claim._replace(persons=[person for person, objects in rows if inside.issuperset(objects)])
+
+
 def told(kind, numbers, first, second):
     if kind == "infeasible":
         return Claim(kind, [], [], None, None, first, second)

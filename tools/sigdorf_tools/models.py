@@ -93,10 +93,14 @@ class Model(NamedTuple):
             arcs = [each.without({pair[1]}) if owner == pair[0] else each for owner, each in zip(self.owners, arcs)]
         return self._replace(arcs=arcs, free=[None if copy in stays else price for copy, price in enumerate(self.free)])
 
+    def is_spare(self, copy):
+        """Whether a copy isn't the first one of its person. It stays free at no cost, since he has an object by another one, or pays for the first one."""
+        return copy > 0 and self.owners[copy - 1] == self.owners[copy]
+
     def up_to(self, most):
         """The model without all that costs more."""
         arcs = [each.up_to(most) for each in self.arcs]
-        return self._replace(arcs=arcs, free=[None if price is None or price > most else price for price in self.free])
+        return self._replace(arcs=arcs, free=[price if price is None or price <= most or self.is_spare(copy) else None for copy, price in enumerate(self.free)])
 
     def least_limit(self):
         """A cost below which no plan can stay, since somebody has no arc there; the least of all where that isn't known."""
@@ -106,7 +110,8 @@ class Model(NamedTuple):
 
     def costs(self):
         """All costs that the plan may have, in rising order."""
-        return sorted({cost for arcs in self.arcs for cost in arcs.costs()} | {price for price in self.free if price is not None})
+        prices = {price for copy, price in enumerate(self.free) if price is not None and not self.is_spare(copy)}
+        return sorted({cost for arcs in self.arcs for cost in arcs.costs()} | prices)
 
 
 def lines_of(numbered):

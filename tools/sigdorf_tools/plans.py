@@ -4,7 +4,7 @@ import csv
 import sys
 from typing import NamedTuple
 
-from .claims import read_arcs, read_claim
+from .claims import read_arcs, read_claim, with_all_persons
 from .names import counted
 
 # How many names a sentence holds.
@@ -100,7 +100,15 @@ def write_plan(names, file, certificate):
     """Writes the plan of a certificate, whose file is named for faults, to standard output, as a table like the one that the names are from."""
     objects = names.number_of_objects()
     arcs = read_arcs(names.table, names.arcs.encode(), objects)
-    write_rows(names, rows_of_plan(names, read_claim(file, certificate, arcs, objects, names.table)))
+    claim = read_claim(file, certificate, arcs, objects, names.table)
+    write_rows(names, rows_of_plan(names, claim_told(names, claim, arcs)))
+
+
+def claim_told(names, claim, arcs):
+    """A claim as it is told: of objects that can't all be given out, with everybody who may take one of them."""
+    if claim.kind != "infeasible" or not names.dummy_objects:
+        return claim
+    return with_all_persons(claim, ((person, [thing for thing, _ in arcs[person]]) for person in sorted(arcs)))
 
 
 def write_rows(names, rows, output=None):

@@ -2,7 +2,7 @@
 import bisect
 import heapq
 
-from .claims import Claim
+from .claims import Claim, with_all_persons
 from .faults import Fault
 from .rises import Change, Rises
 
@@ -19,13 +19,14 @@ class Plans:
         answer = self.solver.answer(self.name, model.lines(), model.count(), model.objects_said(), start)
         if answer.claim.kind == "infeasible" and model.free:
             return self.answer_of_bound(model, answer)
-        return answer
+        return told_whole(model, answer)
 
     def answer_of_bound(self, model, answer):
         """The answer for those who mustn't stay free, with their numbers in the whole model: they are in the way of a plan."""
         bound = [copy for copy, price in enumerate(model.free) if price is None]
         if len(bound) > model.objects:
-            return answer._replace(claim=Claim("infeasible", [], [], None, None, [copy + 1 for copy in bound], list(range(1, model.objects + 1))))
+            objects = {thing for copy in bound for thing in model.arcs[copy].objects}
+            return answer._replace(claim=Claim("infeasible", [], [], None, None, [copy + 1 for copy in bound], sorted(objects)))
         part = model._replace(owners=[model.owners[copy] for copy in bound], arcs=[model.arcs[copy] for copy in bound], free=[], fixed=frozenset())
         found = self.solver.answer(self.name, part.lines(), part.count(), part.objects_said())
         return found._replace(claim=found.claim._replace(persons=[bound[person - 1] + 1 for person in found.claim.persons]))
@@ -61,7 +62,8 @@ class Plans:
         if answer.claim.kind == "infeasible":
             return answer, None
         # No better plan has a greater cost than this one, so that most arcs of a large table are left out at once.
-        greatest = max(cost for thing, cost in answer.claim.picks[: len(model.owners)] if thing <= model.objects or model.free)
+        picks = enumerate(answer.claim.picks[: len(model.owners)])
+        greatest = max(cost for copy, (thing, cost) in picks if thing <= model.objects or model.free and not model.is_spare(copy))
         model = model.up_to(greatest)
         costs = model.costs()
         low, high = bisect.bisect_left(costs, model.least_limit()) - 1, len(costs) - 1
@@ -77,6 +79,13 @@ class Plans:
     def is_enough(self, model, cost):
         part = model.up_to(cost)
         return self.solver.has_full(part.lines(), part.objects_said())
+
+
+def told_whole(model, answer):
+    """An answer in which objects that can't all be given out go to nobody but those who are told."""
+    if answer.claim.kind != "infeasible" or not model.dummies():
+        return answer
+    return answer._replace(claim=with_all_persons(answer.claim, ((person, objects) for person, objects, _ in model.rows())))
 
 
 def changes(model, best, rises):

@@ -1,11 +1,19 @@
 """Calls of the tools as a user makes them: in a folder of its own, by their words."""
 import concurrent.futures
+import contextlib
+import functools
+import importlib.machinery
+import importlib.util
+import io
 import os
 import pathlib
 import subprocess
 import sys
 import tempfile
 import unittest
+from unittest import mock
+
+from sigdorf_tools.faults import run
 
 TOOLS = pathlib.Path(__file__).resolve().parents[1]
 ROOT = TOOLS.parent
@@ -21,6 +29,27 @@ def python_with(*modules):
         if os.path.exists(python) and subprocess.run([python, "-c", f"import {', '.join(modules)}"], capture_output=True).returncode == 0:
             return python
     return None
+
+
+@functools.cache
+def main_of(tool):
+    """The main function of a tool, which is named from the root of the repository."""
+    loader = importlib.machinery.SourceFileLoader(f"tool_{os.path.basename(tool)}", str(ROOT / tool))
+    module = importlib.util.module_from_spec(importlib.util.spec_from_loader(loader.name, loader))
+    loader.exec_module(module)
+    return module.main
+
+
+def called(tool, words):
+    """The status of a tool, and what it writes on standard output and standard error, in this process."""
+    output, said = io.TextIOWrapper(io.BytesIO(), newline=""), io.StringIO()
+    with mock.patch.object(sys, "argv", [os.path.basename(tool), *map(str, words)]), contextlib.redirect_stdout(output), contextlib.redirect_stderr(said):
+        try:
+            run(main_of(tool))
+        except SystemExit as end:
+            status = end.code
+    output.flush()
+    return status, output.buffer.getvalue().decode(), said.getvalue()
 
 
 class ToolTest(unittest.TestCase):

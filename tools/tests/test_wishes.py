@@ -2,7 +2,9 @@
 import itertools
 import os
 import random
+import unittest
 
+import compare_plans
 from calls import ToolTest, has_program
 from sigdorf_tools.models import Model
 from sigdorf_tools.problems import Arcs
@@ -23,7 +25,7 @@ def plans_of(model):
         things = [thing for thing, _ in picks if thing]
         if len(set(things)) == len(things) and (model.free or len(things) == most):
             pairs = tuple(sorted((owner, thing) for owner, (thing, _) in zip(model.owners, picks) if thing))
-            yield pairs, [cost for _, cost in picks]
+            yield pairs, [cost for copy, (thing, cost) in enumerate(picks) if thing or not model.is_spare(copy)]
 
 
 def drawn_model(draw):
@@ -72,6 +74,13 @@ def fairest(model):
 
 
 @has_program()
+class Tables(unittest.TestCase):
+    def test_against_all_plans(self):
+        """A short run of compare_plans.py, which takes more by hand: wishes and questions as they are said."""
+        self.assertEqual(compare_plans.faults_of_run(seed=2, count=15), [])
+
+
+@has_program()
 class Wishes(ToolTest):
     def planned(self, table, *words, status=0):
         self.write("table.csv", table)
@@ -104,6 +113,15 @@ class Wishes(ToolTest):
         lines = self.planned("p,q,c,f\na,x,1,\nb,x,1,\nc,y,1,3\n", "--leave-free-column", "f", status=3)
         self.assertEqual(lines, ['"No plan gives every person an object: a and b may take x, and nothing else."', "person,a", "person,b", "object,x"])
 
+    def test_who_is_told(self):
+        """Nobody is told to take what he may not."""
+        self.write("table.csv", "p,q,c,f\na,x,1,0\nb,x,1,\nc,x,1,\n")
+        lines = self.planned(self.read("table.csv"), "--leave-free-column", "f", "--forbid", "b=x", "--forbid", "c=x", status=3)
+        self.assertEqual(lines[1:], ["person,b", "person,c"])
+        lines = self.planned("a,x,1\na,y,2\n", "--capacity", "3", "--forbid", "a=x", "--forbid", "a=y", status=3)
+        self.assertIn("can go to", lines[0])
+        self.assertEqual(lines[1:], ["object,x", "object,y"])
+
     def test_fixed_and_forbidden(self):
         self.assertEqual(self.planned(CREW), ["fitter,object,cost", "Ada,pump,40", "Ben,wiring,20", "Cleo,roof,45", "total,,105"])
         self.assertEqual(self.planned(CREW, "--fix", "Ada=wiring")[1:3], ["Ada,wiring,30", "Ben,pump,35"])
@@ -127,6 +145,10 @@ class Wishes(ToolTest):
         self.assertEqual((status, output), (0, "person,object,cost\na,y,6\nb,x,5\ntotal,,11\n"))
         self.assertIn("the greatest cost is 6, and no plan has a better one", said)
         self.assertEqual(self.planned("a,x,1\na,y,6\nb,x,5\nb,y,11\n", "--fair", "--maximise")[-1], "total,,11")
+        # Who could take one more is none who stays free.
+        self.write("table.csv", "a,x,4\na,y,5\nb,y,6\n")
+        said = self.call("plan", "table.csv", "--fair", "--maximise", "--capacity", "2", "--leave-free", "0")[2]
+        self.assertIn("the least cost is 4,", said)
 
     def test_why(self):
         lines = self.planned(CREW, "--why", "Ben")

@@ -1,7 +1,7 @@
 """Columns by their titles: which ones are person, object and cost, and what others say of persons."""
 import csv
 
-from .faults import Fault
+from .faults import Fault, quoted
 from .tables import below_header, look_at_lengths
 
 
@@ -32,6 +32,6 @@ def place_of(table, title, has_header):
     places = [place for place, name in enumerate(titles) if name == title]
     if len(places) != 1:
         found = "there is no column" if not places else f"there are {len(places)} columns"
-        listed = ", ".join(f"`{name}`" for name in titles[:20])
-        raise table.fault_of_row(0, f"{found} `{title}`; say one of {listed}{', ..' if len(titles) > 20 else ''}")
+        listed = ", ".join(f"{quoted(name)}" for name in titles[:20])
+        raise table.fault_of_row(0, f"{found} {quoted(title)}; say one of {listed}{', ..' if len(titles) > 20 else ''}")
     return places[0]

@@ -3,11 +3,11 @@ import re
 from typing import NamedTuple
 
 from .amounts import DELETE_THOUSANDS, MOST, THOUSANDS, NotAnAmount, TooManyDecimals, parts_of, parts_with, room_for_decimals, ungrouped, units_of, way_out
+from .faults import quoted
 from .marks import OTHER, TO_SHAPE, Marks
 
 # How many digits a cost may have so that it is in range, whichever they are; and how many so that it is read with others at once.
 SURE_DIGITS, MOST_DIGITS = len(str(MOST)) - 1, 18
-SHOWN = 40
 
 
 class Cells(NamedTuple):
@@ -83,7 +83,7 @@ def mark_of(table, groups, has_decimals):
                 return told
             left_open = left_open or marks.open and place
     if left_open:
-        raise table.fault(*left_open, f"`{shown(marks.open)}` may have three decimals, or be a thousand and more; say --decimal-mark point or --decimal-mark comma")
+        raise table.fault(*left_open, f"{quoted(marks.open)} may have three decimals, or be a thousand and more; say --decimal-mark point or --decimal-mark comma")
     return marks.usual or ","
 
 
@@ -172,10 +172,5 @@ def first_fault(table, groups, look):
             try:
                 look(cost)
             except NotAnAmount as why:
-                return table.fault(row, column, f"`{shown(cost)}` {why}")
+                return table.fault(row, column, f"{quoted(cost)} {why}")
     raise AssertionError("one of the costs is at fault")
-
-
-def shown(text):
-    """A cell as a sentence shows it."""
-    return text if len(text) <= SHOWN else text[: SHOWN - 3] + ".."

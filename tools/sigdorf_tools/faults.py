@@ -3,6 +3,8 @@ import os
 import sys
 
 STATUS = 2
+# So many letters of a cell are shown in a sentence.
+SHOWN = 40
 # What takes away the line of a terminal in which the cursor stands.
 TAKE_AWAY = "\r\x1b[K"
 
@@ -28,6 +30,12 @@ def run(main):
     except KeyboardInterrupt:
         status = tell("stopped")
     sys.exit(status)
+
+
+def quoted(text):
+    """A name or a cell as a sentence shows it, in one line."""
+    text = "".join(letter if letter.isprintable() else " " for letter in text[: SHOWN + 1])
+    return f"`{text if len(text) <= SHOWN else text[: SHOWN - 3] + '..'}`"
 
 
 def tell(sentence):

@@ -1,6 +1,8 @@
 """The form of a table: whether it lists pairs, or has a row for each person and a column for each object. What may be either is a fault."""
 import re
 
+from .faults import quoted
+
 # What no name is: a number in whatever notation, with a unit or without letters, and what stands for one that isn't there.
 EXPONENT = re.compile(r"(?<=[0-9.,])[eE](?=[+\-\u2212]?[0-9])")
 NO_NUMBERS = re.compile(r"[+\-\u2212]?(inf|infinity|nan)|[\-\u2010-\u2015\u2212]+", re.IGNORECASE)
@@ -30,7 +32,7 @@ def look_for_more_columns(table):
     rest = table.rows[1:]
     for column, cell in enumerate(rest[0] if rest else [], 0):
         if column and cell and not is_number(cell) and not looks_like_number(cell) and not any(is_number(cells[column]) for cells in rest if column < len(cells)) and len(rest) > 1:
-            raise table.fault(1, column, f"`{cell}` is no cost, nor is another cell of this column; say --columns with the titles of person, object and cost, or --ignore-column with the title of this one")
+            raise table.fault(1, column, f"{quoted(cell)} is no cost, nor is another cell of this column; say --columns with the titles of person, object and cost, or --ignore-column with the title of this one")
 
 
 def look_for_header(table):

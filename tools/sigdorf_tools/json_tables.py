@@ -1,7 +1,7 @@
 """Tables as JSON: a list of records, a list of rows, or for each person an object with the costs of what he may take. Numbers are kept as they are written."""
 import json
 
-from .faults import Fault
+from .faults import Fault, quoted
 from .text_tables import text_of
 
 WANTED = "a list of records, a list of rows, or for each person an object of costs is wanted"
@@ -53,7 +53,7 @@ def value_of(file, text):
         found = dict(pairs)
         if len(found) < len(pairs):
             name = next(name for place, (name, _) in enumerate(pairs) if name in dict(pairs[:place]))
-            raise Fault(f"{file}: the name `{name}` stands twice in one object; give each one a name of its own")
+            raise Fault(f"{file}: the name {quoted(name)} stands twice in one object; give each one a name of its own")
         return found
     try:
         return json.loads(text, parse_float=str, parse_int=str, parse_constant=str, object_pairs_hook=record)

@@ -2,7 +2,7 @@
 from typing import NamedTuple
 
 from .costs import cells_of, read_costs
-from .faults import Fault
+from .faults import Fault, quoted
 from .forms import form_of, is_title
 from .tables import below_header, look_at_lengths
 
@@ -104,7 +104,7 @@ def without_doubles(table, first, pairs, *columns):
         before, cost = seen.setdefault(pair, (place, others[-1]))
         if cost != others[-1]:
             person, thing, _ = table.rows[first + place]
-            told = f"`{person}` and `{thing}` have another cost in {table.line_word} {table.lines[first + before]}"
+            told = f"{quoted(person)} and {quoted(thing)} have another cost in {table.line_word} {table.lines[first + before]}"
             raise table.fault(first + place, 2, f"{told}; leave out the row that is wrong")
         if before == place:
             kept.append(others)
@@ -117,7 +117,7 @@ def numbered(table, names, first, column, most):
     numbers = dict.fromkeys(names)
     if len(numbers) > most:
         name = list(numbers)[most]
-        raise table.fault(first + names.index(name), column, f"`{name}` is one name more than the {most:,} that a problem may have; leave some out")
+        raise table.fault(first + names.index(name), column, f"{quoted(name)} is one name more than the {most:,} that a problem may have; leave some out")
     numbers = {name: number for number, name in enumerate(numbers, 1)}
     return list(numbers), list(map(numbers.__getitem__, names))
 
@@ -132,9 +132,9 @@ def titles_of(table):
     """The titles of three columns. A row of titles that has a name of the rows below is none, but a row whose cost is no number."""
     first, rest = table.rows[0], table.rows[1:]
     if not rest:
-        raise table.fault(0, 2, f"`{first[2]}` is no number, and there is no row below it; put the pairs below the titles")
+        raise table.fault(0, 2, f"{quoted(first[2])} is no number, and there is no row below it; put the pairs below the titles")
     if not table.form and first[0] in (cells[0] for cells in rest):
-        raise table.fault(0, 2, f"`{first[2]}` is no number, and `{first[0]}` is no title, since it stands below too; write a number, or titles above")
+        raise table.fault(0, 2, f"{quoted(first[2])} is no number, and {quoted(first[0])} is no title, since it stands below too; write a number, or titles above")
     return [cell or title for cell, title in zip(first, TITLES)]
 
 
@@ -142,6 +142,8 @@ def problem_of_matrix(table, costs):
     """A column for each object with its name on top, and a row for each person with his name in front. An empty cell is a pair that isn't allowed."""
     first, rest = table.rows[0], table.rows[1:]
     look_at_lengths(table, len(first))
+    if len(first) == 1:
+        raise table.fault_of_row(0, "there is no object, since no column follows the names of the persons; put a column for each object beside them")
     look_at_names(table, first[1:], lambda place: (0, place + 1), MOST_OBJECTS)
     persons = [cells[0] for cells in rest]
     look_at_names(table, persons, lambda place: (place + 1, 0), MOST_PERSONS)
@@ -156,11 +158,11 @@ def look_at_names(table, names, place_of, most):
     if "" in names:
         raise table.fault(*place_of(names.index("")), NAME_WANTED)
     if len(names) > most:
-        raise table.fault(*place_of(most), f"`{names[most]}` is one name more than the {most:,} that a problem may have; leave some out")
+        raise table.fault(*place_of(most), f"{quoted(names[most])} is one name more than the {most:,} that a problem may have; leave some out")
     seen = set()
     for place, name in enumerate(names if len(set(names)) < len(names) else ()):
         if name in seen:
-            raise table.fault(*place_of(place), f"the name `{name}` stands there twice; give each one a name of its own")
+            raise table.fault(*place_of(place), f"the name {quoted(name)} stands there twice; give each one a name of its own")
         seen.add(name)
 
 

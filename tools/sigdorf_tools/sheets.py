@@ -7,7 +7,7 @@ import warnings
 import zipfile
 from decimal import Decimal
 
-from .faults import Fault
+from .faults import Fault, quoted
 
 WORKBOOK = b"PK\x03\x04"
 ODS_KIND = b"application/vnd.oasis.opendocument.spreadsheet"
@@ -42,10 +42,10 @@ def kind_of(file, content):
 
 
 def chosen(file, sheets, sheet):
-    names = ", ".join(f"`{name}`" for name in sheets)
+    names = ", ".join(f"{quoted(name)}" for name in sheets)
     if sheet is not None:
         if sheet not in sheets:
-            raise Fault(f"{file}: there is no sheet `{sheet}`; say --sheet with one of {names}")
+            raise Fault(f"{file}: there is no sheet {quoted(sheet)}; say --sheet with one of {names}")
         return sheets[sheet]
     filled = [rows for rows in sheets.values() if rows]
     if len(filled) > 1:

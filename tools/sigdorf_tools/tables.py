@@ -27,7 +27,8 @@ class Table(NamedTuple):
 
     def fault(self, row, column, sentence):
         if self.columns:
-            column = self.columns[column]
+            # Of a cell that isn't there the place is behind the last one.
+            column = self.columns[column] if column < len(self.columns) else self.columns[-1] + 1
         return Fault(f"{self.file}, {self.line_word} {self.lines[row]}, column {column + 1}: {sentence}")
 
     def fault_of_row(self, row, sentence):

@@ -3,7 +3,7 @@ import difflib
 from typing import NamedTuple
 
 from .amounts import NotAnAmount, units_of
-from .faults import Fault
+from .faults import Fault, quoted
 from .forms import is_title
 from .models import Model
 from .problems import Arcs
@@ -23,7 +23,7 @@ class Wishes(NamedTuple):
 
 def capacity_of(place, text):
     if not text.isascii() or not text.isdigit() or int(text[:9]) > MOST_CAPACITY:
-        raise Fault(f"{place}: a capacity from 0 to {MOST_CAPACITY:,} is wanted, not `{text}`; write how many objects the person may take at most")
+        raise Fault(f"{place}: a capacity from 0 to {MOST_CAPACITY:,} is wanted, not {quoted(text)}; write how many objects the person may take at most")
     return int(text)
 
 
@@ -41,7 +41,7 @@ def capacities_said(word, persons):
         if row == 0 and is_title(cells[1]) and cells[0] not in persons:
             continue
         if cells[0] in found:
-            raise table.fault(row, 0, f"the name `{cells[0]}` stands there twice; leave one of the rows out")
+            raise table.fault(row, 0, f"the name {quoted(cells[0])} stands there twice; leave one of the rows out")
         found[cells[0]] = f"{table.file}, {table.line_word} {table.lines[row]}, column 2", cells[1]
     return found
 
@@ -53,7 +53,7 @@ def by_persons(table, cells, column, first):
         person, place = table.rows[row][0], f"{table.file}, {table.line_word} {table.lines[row]}, column {column + 1}"
         before = found.setdefault(person, (place, cells[row]))
         if before[1] != cells[row]:
-            raise Fault(f"{place}: `{person}` has `{cells[row]}` here, and `{before[1]}` in another row; write the same in all of them")
+            raise Fault(f"{place}: {quoted(person)} has {quoted(cells[row])} here, and {quoted(before[1])} in another row; write the same in all of them")
     return {person: told for person, told in found.items() if told[1]}
 
 
@@ -76,7 +76,7 @@ def pair_of(option, word, problem):
 def unknown(word, name, names):
     """What to do about a name that isn't there: the end of a sentence."""
     near = difflib.get_close_matches(name, names, 1)
-    return f"the table has no {word} `{name}`{f'; is `{near[0]}` meant?' if near else '; write it as it stands there'}"
+    return f"the table has no {word} {quoted(name)}{f'; is {quoted(near[0])} meant?' if near else '; write it as it stands there'}"
 
 
 def model_of(problem, wishes, maximise):
@@ -92,7 +92,7 @@ def model_of(problem, wishes, maximise):
         price = price_of(problem, wishes.prices.get(name) or wishes.prices.get(None), maximise, capacity)
         mine = [(word, pair) for word, pair in zip(wishes.fixed, fixed) if pair[0] == place]
         if len(mine) > capacity:
-            raise Fault(f"--fix {mine[-1][0]}: `{name}` may take {capacity} and more pairs are fixed; leave one out, or say --capacity")
+            raise Fault(f"--fix {mine[-1][0]}: {quoted(name)} may take {capacity} and more pairs are fixed; leave one out, or say --capacity")
         allowed = problem.arcs[place].without({thing for person, thing in forbidden if person == place})
         for copy in range(capacity):
             owners.append(place)
@@ -142,7 +142,7 @@ def price_of(problem, told, maximise, capacity):
     try:
         units = units_of(text, problem.decimals, problem.mark)
     except NotAnAmount as why:
-        raise Fault(f"{place}: `{text}` {why}" + ("" if "decimals than" not in str(why) else "; say more of them by --decimals")) from None
+        raise Fault(f"{place}: {quoted(text)} {why}" + ("" if "decimals than" not in str(why) else "; say more of them by --decimals")) from None
     units = -units if maximise else units
     if units < 0 and capacity > 1:
         raise Fault(f"{place}: who may take more than one object can't be paid for staying free; take another price, or a capacity of 1")

@@ -6,6 +6,7 @@ import sys
 import unittest
 import zipfile
 
+import fuzz_plans
 import fuzz_tables
 from calls import TOOLS, ToolTest, has_program, python_with
 
@@ -247,6 +248,15 @@ class Faults(ToolTest):
     def test_spoiled_tables(self):
         """A short run of fuzz_tables.py, which takes more by hand."""
         self.assertEqual(fuzz_tables.faults_of_run(seed=5, count=300), [])
+
+
+@has_program()
+class SpoiledPlans(unittest.TestCase):
+    def test_spoiled_plans(self):
+        """A short run of fuzz_plans.py, which takes more by hand."""
+        statuses, faults = fuzz_plans.results_of_run(seed=5, count=60)
+        self.assertEqual(faults, [])
+        self.assertGreater(statuses[0], 10)
 
 
 @has_program()

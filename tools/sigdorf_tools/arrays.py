@@ -171,9 +171,11 @@ def decimals_of(numpy, cells):
     def has_digit(numbers, decimals, place):
         places = decimals.astype(numpy.int64) - place
         return (numpy.abs(numbers) // 10 ** numpy.maximum(places, 0) % 10)[places >= 0].any()
-    for place in range(int(cells.decimals.max()), 0, -1):
-        # One of the first rows tells it, as a rule.
-        if any(has_digit(numbers, decimals, place) for numbers, decimals in zip(cells.numbers, cells.decimals)):
+    numbers, decimals = cells.numbers.ravel(), cells.decimals.ravel()
+    parts = [slice(begin, begin + BATCH) for begin in range(0, len(numbers), BATCH)]
+    for place in range(int(decimals.max()), 0, -1):
+        # One of the first cells tells it, as a rule.
+        if any(has_digit(numbers[part], decimals[part], place) for part in parts):
             return place
     return 0
 
@@ -187,6 +189,14 @@ def units_of(numpy, cells, decimals):
     signs, numbers = numpy.sign(cells.numbers), numpy.abs(cells.numbers)
     units = numbers // 10 ** numpy.maximum(-missing, 0) * 10 ** numpy.maximum(missing, 0)
     return (signs * units).astype(numpy.int32) if units.max() <= MOST else None
+
+
+def told_units(numpy, cells, decimals):
+    """How many decimals are kept, which are as many as the cells have where none are said, and the cells in smallest units; None where a cell has more, or is out of range."""
+    needed = decimals_of(numpy, cells)
+    decimals = needed if decimals is None else decimals
+    units = units_of(numpy, cells, decimals) if needed <= decimals else None
+    return None if units is None else (decimals, units)
 
 
 def arcs_of(numpy, units, is_filled):

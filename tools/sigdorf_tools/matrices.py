@@ -1,10 +1,12 @@
 """Problems of matrices by numpy: the road for millions of cells that are plain numbers. Whatever else a table has in it, it is read on the road for all tables, which gives the same problem."""
+import re
+
 from . import arrays
 from .faults import Fault
 from .forms import form_of
 from .problems import MOST_OBJECTS, MOST_PERSONS, TITLES, Problem
 from .tables import Table
-from .text_tables import Text, are_short, is_plain, lines_of
+from .text_tables import Text, are_short, is_plain_name, lines_of
 
 USUAL_MARK = {";": ","}
 
@@ -12,25 +14,26 @@ USUAL_MARK = {";": ","}
 def problem_by_arrays(source, form, has_header, decimals, maximise, mark):
     """The problem of a matrix as a text; None where it isn't sure that there is one, which the road for all tables has to tell."""
     numpy = arrays.numpy_for(len(source.text)) if isinstance(source, Text) else None
-    if numpy is None or '"' in source.text or not is_plain(source.text, source.separator):
+    if numpy is None or '"' in source.text:
+        return None
+    # Whether the rest is plain is seen when it is read.
+    first = re.match("[^\r\n]*", source.text)[0].split(source.separator)
+    if not is_matrix(source, first, form, has_header):
         return None
     lines = lines_of(source.text)
-    if not is_matrix(source, lines[0].split(source.separator), form, has_header):
-        return None
     if not all(source.separator in line for line in lines):
         return None
     titles, persons, objects, rows = named(source.separator, lines) if has_header else numbered(source.separator, lines)
-    if not (are_names(persons, MOST_PERSONS) and are_names(objects, MOST_OBJECTS) and are_short(persons, objects)):
+    if not (are_names(persons, MOST_PERSONS) and are_names(objects, MOST_OBJECTS) and are_short(persons, objects) and all(map(is_plain_name, [*titles, *persons, *objects]))):
         return None
     found = mark_in(source.separator, rows)
     cells = found and arrays.cells_of(numpy, rows, len(objects), source.separator, found)
     if not cells or cells.has_mark.any() and not is_mark_sure(numpy, source.separator, cells, found, mark) or not has_header and not cells.is_filled.any(axis=1).all():
         return None
-    needed = arrays.decimals_of(numpy, cells)
-    decimals = needed if decimals is None else decimals
-    units = arrays.units_of(numpy, cells, decimals) if needed <= decimals else None
-    if units is None:
+    told = arrays.told_units(numpy, cells, decimals)
+    if told is None:
         return None
+    decimals, units = told
     return Problem(titles, mark or found, decimals, persons, objects, arrays.arcs_of(numpy, -units if maximise else units, cells.is_filled))
 
 

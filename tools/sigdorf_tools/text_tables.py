@@ -130,6 +130,11 @@ def are_short(*columns):
     return all(len(cell) <= MOST_CHARACTERS for cells in columns for cell in cells)
 
 
+def is_plain_name(name):
+    """Whether something is in a name, and all white space in it is single blanks between other characters. (What is at fault in a cost is seen when it is read.)"""
+    return name.isprintable() and " ".join(name.split()) == name != ""
+
+
 def is_plain(text, separator):
     """Whether all white space in cells is single blanks between other characters, and no control character is there. Each is looked for by a search for a string."""
     around = (separator, "\n", "\r", '"', " ")

@@ -15,7 +15,7 @@ import tempfile
 sys.dont_write_bytecode = True
 sys.path.append(str(pathlib.Path(__file__).resolve().parents[1]))
 from fuzz_tables import NAMES, PIECES  # noqa: E402
-from sigdorf_tools import array_lines, arrays, pair_texts  # noqa: E402
+from sigdorf_tools import array_lines, arrays, pair_arrays, pair_texts  # noqa: E402
 from sigdorf_tools.faults import Fault  # noqa: E402
 from sigdorf_tools.matrices import problem_by_arrays  # noqa: E402
 from sigdorf_tools.models import plain_model  # noqa: E402
@@ -39,12 +39,14 @@ def sound(draw):
         return f"{draw.randrange(-most, most) / 10**places:.{places}f}".replace(".", mark)
 
     def named(count):
-        return [f"{draw.choice(NAMES[3:])} {number}" for number in range(count)]
+        return [f"{draw.choice([*NAMES[3:], 'Wartung der Halle', 'x' * 31])} {number}" for number in range(count)]
 
     if draw.random() < 0.4:
         pairs = [[person, thing, cost()] for person in named(persons) for thing in named(objects)]
-        draw.shuffle(pairs)
-        return [["who", "what", draw.choice(["", "cost"])]][: int(has_header)] + pairs[: draw.randrange(1, len(pairs) + 1)], separator, has_header
+        if draw.random() < 0.4:
+            draw.shuffle(pairs)
+        pairs = [pair for pair in pairs if draw.random() < draw.choice([0.7, 1])] or pairs
+        return [["who", "what", draw.choice(["", "cost", "cost", "cost"])]][: int(has_header)] + pairs, separator, has_header
     share = draw.choice([0, 0, 0.3])
     rows = [["" if draw.random() < share else cost() for _ in range(objects)] for _ in range(persons)]
     if has_header:
@@ -75,7 +77,9 @@ def fault_of(folder, number, seed):
     draw = random.Random(f"{seed} {number}")
     text, has_header = spoiled(draw)
     # Few characters and arcs at once, so that there are more batches than one.
-    arrays.BATCH, array_lines.BATCH, pair_texts.BATCH = (draw.choice([1, 30, 10_000]) for _ in range(3))
+    arrays.BATCH, array_lines.BATCH, pair_texts.BATCH, pair_texts.LEAST_WINDOW, pair_arrays.BATCH, pair_arrays.ONE_BY_ONE = (draw.choice([1, 30, 10_000]) for _ in range(6))
+    # Many names at the same places, tables that are no runs, and pairs that are sorted.
+    pair_arrays.PLACES, pair_texts.MOST_RUNS, pair_arrays.MOST_CELLS = draw.choice([2, 18]), draw.choice([2, 20_000]), draw.choice([0, 1_000])
     pair_texts.numpy_for = draw.choice([arrays.numpy_for, lambda characters: None])
     form, decimals, maximise, mark = draw.choice([None, None, "matrix", "pairs"]), draw.choice([None, None, None, 0, 3, 9]), draw.random() < 0.3, draw.choice([None, None, ".", ","])
     said = form, has_header, decimals, maximise, mark

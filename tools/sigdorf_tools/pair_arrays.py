@@ -130,11 +130,11 @@ class Columns(NamedTuple):
     costs: Cells
 
 
-def columns_of(numpy, text, separator, marks, most_persons, most_objects):
-    """The columns of a text of rows, the last of which ends; and the mark that the costs have, or None. None at all where a row hasn't three cells, or one isn't plain."""
-    content = text.encode()
+def columns_of(numpy, content, begin, separator, marks, most_persons, most_objects):
+    """The columns of the rows that begin at a place of a content, in bytes, where the last one ends; and the mark that the costs have, or None. None at all where a row hasn't three cells, or one
+    isn't plain."""
     names, parts, found = (Persons(numpy, most_persons), Objects(numpy, most_objects)), [], None
-    begin, padding = 0, b"\0" * LONGEST
+    padding = b"\0" * LONGEST
     while begin < len(content):
         end = content.find(b"\n", begin + BATCH) + 1 or len(content)
         part = columns_of_rows(numpy, padding[:WORD] + content[begin:end] + padding, ord(separator), [ord(mark) for mark in marks], names)
@@ -181,7 +181,7 @@ def words_of(numpy, text, begins, lengths):
     if lengths.min() < 1 or longest > LONGEST:
         return None
     at, kept = words_at(numpy, text), numpy.array(FIRST_BYTES, numpy.uint64)
-    return [at[begins + place] & kept[numpy.clip(lengths - place, 0, WORD)] for place in range(0, longest, WORD)]
+    return [at[begins + place] & kept[numpy.minimum(numpy.maximum(lengths - place, 0), WORD)] for place in range(0, longest, WORD)]
 
 
 def words_at(numpy, text):
@@ -189,35 +189,70 @@ def words_at(numpy, text):
     return numpy.ndarray(len(text) - WORD + 1, "<u8", text, strides=(1,))
 
 
+class Marked(NamedTuple):
+    """Which mark costs have, or None; where each one has it, or ends; and how many digits stand behind it, in each or in all."""
+
+    mark: int | None
+    stops: object
+    decimals: object
+
+
 def costs_of(numpy, text, characters, places, begins, ends, marks):
     """Costs without marks, their decimals, whether they have a mark, and which one; None where one is no plain number, or there are two marks."""
-    is_negative = characters[begins] == ord("-")
-    decimals, has_mark, mark, stops = numpy.zeros(len(ends), numpy.int8), numpy.zeros(len(ends), bool), None, ends
-    for candidate in marks:
-        found = numpy.flatnonzero(characters == candidate)
+    even = costs_with(numpy, text, characters, begins, ends, evenly_marked(text, characters, begins, ends, marks))
+    return even or costs_with(numpy, text, characters, begins, ends, marked(numpy, characters, places, ends, marks))
+
+
+def evenly_marked(text, characters, begins, ends, marks):
+    """The marks, if all costs have as many decimals as the first one. That there is none elsewhere is seen when they are read."""
+    first = text[begins[0] : ends[0]]
+    for mark in marks:
+        place = first.find(mark)
+        if place >= 0:
+            stops = ends - (len(first) - place)
+            return Marked(mark, stops, len(first) - place - 1) if (characters[stops] == mark).all() else None
+    return Marked(None, ends, 0)
+
+
+def marked(numpy, characters, places, ends, marks):
+    """The marks wherever they are; None where two of them are in a cost, or both kinds in some."""
+    all_marks = Marked(None, ends, numpy.zeros(len(ends), numpy.int8))
+    for mark in marks:
+        found = numpy.flatnonzero(characters == mark)
         cells = numpy.searchsorted(places, found)
         found, rows = found[cells % 3 == 2], cells[cells % 3 == 2] // 3
-        if len(found):
-            # One mark in each cell, and one kind of marks.
-            if mark or (rows[1:] == rows[:-1]).any() or (ends[rows] - found).max() > MOST_DIGITS:
-                return None
-            mark, stops = candidate, ends.copy()
-            stops[rows], has_mark[rows], decimals[rows] = found, True, ends[rows] - found - 1
+        if not len(found):
+            continue
+        if all_marks.mark or (rows[1:] == rows[:-1]).any() or (ends[rows] - found).max() > MOST_DIGITS:
+            return None
+        all_marks = Marked(mark, ends.copy(), all_marks.decimals)
+        all_marks.stops[rows], all_marks.decimals[rows] = found, ends[rows] - found - 1
+    return all_marks
+
+
+def costs_with(numpy, text, characters, begins, ends, found):
+    """The costs, if they have these marks."""
+    if not found:
+        return None
+    mark, stops, decimals = found
+    is_negative = characters[begins] == ord("-")
     whole = stops - begins - is_negative
-    if (whole + decimals).max() > MOST_DIGITS or (whole + decimals).min() < 1:
+    if (whole + decimals).max() > MOST_DIGITS or whole.min() < 0 or (whole + decimals).min() < 1:
         return None
     numbers = digits_before(numpy, text, stops, whole)
     if mark and numbers is not None:
         fractions = digits_before(numpy, text, ends, decimals)
-        numbers = None if fractions is None else numbers * 10 ** decimals.astype(numpy.int64) + fractions
+        numbers = None if fractions is None else numbers * 10 ** (decimals if isinstance(decimals, int) else decimals.astype(numpy.int64)) + fractions
     if numbers is None:
         return None
     numbers = numbers.astype(numpy.int32)
-    return numpy.where(is_negative, -numbers, numbers), decimals, has_mark, mark
+    if is_negative.any():
+        numbers = numpy.where(is_negative, -numbers, numbers)
+    return numbers, numpy.broadcast_to(numpy.int8(decimals), len(ends)) if isinstance(decimals, int) else decimals, stops < ends, mark
 
 
 def digits_before(numpy, text, ends, digits):
-    """The numbers of so many digits that end before these places; None where one has another character."""
+    """The numbers of so many digits, in each or in all, that end before these places; None where one has another character."""
     kept = numpy.array(LAST_BYTES, numpy.uint64)[digits]
     words = words_at(numpy, text)[ends - WORD] & kept
     words ^= kept & numpy.uint64(ZEROS)

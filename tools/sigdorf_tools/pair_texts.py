@@ -49,7 +49,7 @@ def problem_of_pairs(source, form, has_header, decimals, maximise, mark):
     """The problem of pairs in a text of many characters; None where it isn't sure that there is one, which the road for all tables has to tell."""
     if not isinstance(source, Text) or len(source.text) < arrays.LEAST_CHARACTERS or '"' in source.text:
         return None
-    text = source.text.replace("\r\n", "\n")
+    text = source.text.replace("\r\n", "\n") if "\r" in source.text else source.text
     end = text.find("\n")
     # Elsewhere a carriage return ends a line too.
     if "\r" in text or SAME in text or end < 0:
@@ -75,8 +75,8 @@ def problem_of_pairs(source, form, has_header, decimals, maximise, mark):
 
 def by_arrays(numpy, text, begin, separator, decimals, maximise, mark, are_told):
     """The mark, the decimals, the names and the arcs of rows that are plain; None where one isn't."""
-    text = text[begin:] if text.endswith("\n") else text[begin:] + "\n"
-    read = None if "\0" in text else columns_of(numpy, text, separator, [each for each in ".," if each != separator], MOST_PERSONS, MOST_OBJECTS)
+    content = (text if text.endswith("\n") else text + "\n").encode()
+    read = None if b"\0" in content else columns_of(numpy, content, len(text[:begin].encode()), separator, [each for each in ".," if each != separator], MOST_PERSONS, MOST_OBJECTS)
     if not read:
         return None
     columns, found = read

@@ -1,31 +1,26 @@
 """Pictures of small problems, as SVG: persons above, objects below, arcs between them, prices as bars; of a Hall set, who is in it."""
-import textwrap
-import unicodedata
 from fractions import Fraction
 from typing import NamedTuple
 from xml.sax.saxutils import escape
+
+from .widths import width_of, wrapped
 
 INK, FAINT, PAPER = "#22262b", "#747c85", "#ffffff"
 PLAN, ARC, BAR, HALL = "#1b5fa7", "#c3c9d0", "#e0a030", "#b8322a"
 PLAN_FILL, PLAIN_FILL, HALL_FILL = "#e6f0fa", "#f4f5f7", "#fbe4e1"
 # Places and sizes, in pixels. A picture is laid out from the top of the names of persons on; its title stands above that.
 BOX_HEIGHT, OBJECTS_AT, BARS_AT, BAR_MOST, LEFT, RIGHT = 36, 220, 268, 84, 104, 28
-TITLE_LETTER, TITLE_LINE, LEGEND_LINE = 13.5, 26, 19
-NAME_SIZE, COST_SIZE = 15, 12.5
-# How wide letters are in the widest of the usual fonts, in parts of its size: narrow ones, wide ones, capitals, and all others.
-NARROW, WIDE = set("iljtfrI.,:;|!'()[] "), set("mwMWQ@%&\u2026")
+TITLE_LINE, LEGEND_LINE = 26, 19
+TITLE_SIZE, NAME_SIZE, PRICE_SIZE, COST_SIZE = 20, 15, 13, 12.5
+# Names are cut where they are longer than so many letters.
+LONGEST = 40
 MOST_LABELS = 80
 LEGEND = ["thick: the plan; thin: other arcs; numbers: costs", "bars: prices, in the unit of costs, to a tenth"]
 HALL_LEGEND = ["red: who is in the way of a plan, and all that they may take"]
 
 
-def width_of(text, size):
-    """How wide a text is at most, whichever of the usual fonts it is drawn in."""
-    def part(letter):
-        if letter in WIDE or unicodedata.east_asian_width(letter) in "WF":
-            return 1.0
-        return 0.42 if letter in NARROW else 0.78 if letter.isupper() else 0.66
-    return size * sum(map(part, text))
+def cut(name, longest=LONGEST):
+    return name if len(name) <= longest else name[: longest - 2] + ".."
 
 
 class Label(NamedTuple):
@@ -37,7 +32,7 @@ class Label(NamedTuple):
     colour: str
 
     def width(self):
-        return width_of(self.text, COST_SIZE) + 8
+        return width_of(self.text, COST_SIZE, True) + 8
 
     def meets(self, other):
         return abs(self.x - other.x) < (self.width() + other.width()) / 2 and abs(self.y - other.y) < 17
@@ -68,11 +63,13 @@ class Scene(NamedTuple):
 
     def step(self):
         """From the middle of a name to the middle of the next one."""
-        return max(108, max(width_of(name, NAME_SIZE) for name in self.persons + self.objects) + 44)
+        prices = () if self.is_hall else (price_text(price, self.scale, self.mark) for price in self.prices[: len(self.objects)])
+        names = max(width_of(cut(name), NAME_SIZE) for name in self.persons + self.objects)
+        return max(108, names + 44, max((width_of(text, PRICE_SIZE) for text in prices), default=0) + 16)
 
     def left(self):
         """Where the first name begins: behind the titles."""
-        return max(LEFT, max(width_of(title, 13) for title in self.titles[:2]) + 40)
+        return max(LEFT, max(width_of(cut(title), PRICE_SIZE) for title in self.titles[:2]) + 40)
 
     def x(self, number, names):
         """The middle of a name in its row; the shorter row stands in the middle of the picture."""
@@ -96,23 +93,23 @@ class Scene(NamedTuple):
 def drawing(scene, title):
     """The text of the picture."""
     width = scene.width()
-    title_lines = textwrap.wrap(title, int((width - 2 * 24) / TITLE_LETTER))
+    title_lines = wrapped(title, TITLE_SIZE, width - 2 * 24, True)
     legend, legend_at = (HALL_LEGEND, OBJECTS_AT + BOX_HEIGHT + 40) if scene.is_hall else (LEGEND, BARS_AT + BAR_MOST + 52)
     top, height = 26 + TITLE_LINE * len(title_lines) + 20, legend_at + LEGEND_LINE * len(legend)
     parts = [
         f'<svg xmlns="http://www.w3.org/2000/svg" viewBox="0 0 {width:.0f} {top + height}" width="{width:.0f}" height="{top + height}" font-family="Helvetica, Arial, DejaVu Sans, sans-serif">',
         f"<title>{escape(title)}</title>",
         f'<rect width="100%" height="100%" fill="{PAPER}"/>',
-        *(text_at(24, 40 + TITLE_LINE * place, line, INK, 20, "start", "bold") for place, line in enumerate(title_lines)),
+        *(text_at(24, 40 + TITLE_LINE * place, line, INK, TITLE_SIZE, "start", "bold") for place, line in enumerate(title_lines)),
         f'<g transform="translate(0 {top})">',
-        text_at(24, 23, scene.titles[0], FAINT, 13, "start"),
-        text_at(24, OBJECTS_AT + 23, scene.titles[1], FAINT, 13, "start"),
+        text_at(24, 23, cut(scene.titles[0]), FAINT, PRICE_SIZE, "start"),
+        text_at(24, OBJECTS_AT + 23, cut(scene.titles[1]), FAINT, PRICE_SIZE, "start"),
         *lines(scene),
         *(box(scene.x(number, scene.persons), 0, name, *colours(scene, number in scene.persons_told)) for number, name in enumerate(scene.persons, 1)),
         *(box(scene.x(number, scene.objects), OBJECTS_AT, name, *colours(scene, number in scene.objects_told)) for number, name in enumerate(scene.objects, 1)),
         *costs(scene),
         *([] if scene.is_hall else bars(scene)),
-        *(text_at(24, legend_at + LEGEND_LINE * place, line, FAINT, 12.5, "start") for place, line in enumerate(legend)),
+        *(text_at(24, legend_at + LEGEND_LINE * place, line, FAINT, COST_SIZE, "start") for place, line in enumerate(legend)),
         "</g>",
         "</svg>",
     ]
@@ -131,6 +128,7 @@ def text_at(x, y, text, colour, size, anchor="middle", weight="normal"):
 
 
 def box(x, y, name, fill, border, ink):
+    name = cut(name)
     width = width_of(name, NAME_SIZE) + 28
     rectangle = f'<rect x="{x - width / 2:.1f}" y="{y}" width="{width:.1f}" height="{BOX_HEIGHT}" rx="8" fill="{fill}" stroke="{border}" stroke-width="1.5"/>'
     return rectangle + text_at(x, y + 23, name, ink, NAME_SIZE)
@@ -174,13 +172,13 @@ def bars(scene):
     prices = scene.prices[: len(scene.objects)]
     most = max(max(prices), 1)
     top = BARS_AT
-    yield text_at(24, top + 13, "price", FAINT, 13, "start")
+    yield text_at(24, top + 13, "price", FAINT, PRICE_SIZE, "start")
     yield f'<line x1="{scene.left():.1f}" y1="{top}" x2="{scene.width() - RIGHT:.1f}" y2="{top}" stroke="{ARC}" stroke-width="1"/>'
     for number, price in enumerate(prices, 1):
         height = BAR_MOST * price / most
         x = scene.x(number, scene.objects)
         yield f'<rect x="{x - 22:.1f}" y="{top}" width="44" height="{height:.1f}" fill="{BAR}"/>'
-        yield text_at(x, top + height + 17, price_text(price, scene.scale, scene.mark), INK, 13)
+        yield text_at(x, top + height + 17, price_text(price, scene.scale, scene.mark), INK, PRICE_SIZE)
 
 
 def price_text(price, scale, mark):

@@ -1,9 +1,10 @@
 """Pictures of problems of any size, as SVG: a row for each person, a column for each object, darker where the cost is greater, and the pairs of the plan on it.
 Of large ones a square stands for some rows and columns."""
-import textwrap
 from xml.sax.saxutils import escape
 
-from .drawing import FAINT, HALL, INK, PAPER, TITLE_LETTER, TITLE_LINE, text_at, width_of
+from . import drawing
+from .drawing import COST_SIZE, FAINT, HALL, INK, PAPER, TITLE_LINE, TITLE_SIZE, text_at
+from .widths import width_of, wrapped
 
 # At most so many squares down and across; how wide all of them are together, about; and the greatest and least size of one.
 MOST_DOWN, MOST_ACROSS, WIDE, GREATEST, LEAST = 120, 160, 880, 16, 5
@@ -56,8 +57,8 @@ def heat_map(names, rows, picks, title, hall=None):
     left = MARGIN + (max(width_of(cut(name), NAME_SIZE) for name in names.persons) if has_names else width_of("0" * 6, NAME_SIZE)) + 10
     above = (max(width_of(cut(name), NAME_SIZE) for name in names.objects) if has_names else NAME_SIZE) + 34
     legend = legend_of(grid, hall)
-    width = max(left + grid.size * grid.columns + MARGIN, 2 * MARGIN + max(width_of(line, 12.5) for line in legend))
-    title_lines = textwrap.wrap(title, int((width - 2 * MARGIN) / TITLE_LETTER))
+    width = max(left + grid.size * grid.columns + MARGIN, 2 * MARGIN + max(width_of(line, COST_SIZE) for line in legend))
+    title_lines = wrapped(title, TITLE_SIZE, width - 2 * MARGIN, True)
     top = 30 + TITLE_LINE * len(title_lines) + above
     bottom = top + grid.size * grid.rows
     height = bottom + 30 + LEGEND_LINE * len(legend)
@@ -65,14 +66,14 @@ def heat_map(names, rows, picks, title, hall=None):
         f'<svg xmlns="http://www.w3.org/2000/svg" viewBox="0 0 {width:.0f} {height:.0f}" width="{width:.0f}" height="{height:.0f}" font-family="Helvetica, Arial, DejaVu Sans, sans-serif">',
         f"<title>{escape(title)}</title>",
         f'<rect width="100%" height="100%" fill="{PAPER}"/>',
-        *(text_at(MARGIN, 40 + TITLE_LINE * place, line, INK, 20, "start", "bold") for place, line in enumerate(title_lines)),
+        *(text_at(MARGIN, 40 + TITLE_LINE * place, line, INK, TITLE_SIZE, "start", "bold") for place, line in enumerate(title_lines)),
         *labels(names, grid, left, top, has_names),
         f'<g transform="translate({left:.1f} {top:.1f})">',
         *squares(grid),
         *(marks_of_hall(grid, *hall) if hall else ()),
         *picked(grid, picks),
         "</g>",
-        *(text_at(MARGIN, bottom + 30 + LEGEND_LINE * place, line, FAINT, 12.5, "start") for place, line in enumerate(legend)),
+        *(text_at(MARGIN, bottom + 30 + LEGEND_LINE * place, line, FAINT, COST_SIZE, "start") for place, line in enumerate(legend)),
         "</svg>",
     ]
     return "\n".join(parts) + "\n"
@@ -85,7 +86,7 @@ def legend_of(grid, hall):
 
 
 def cut(name):
-    return name if len(name) <= LONGEST else name[: LONGEST - 2] + ".."
+    return drawing.cut(name, LONGEST)
 
 
 def labels(names, grid, left, top, has_names):

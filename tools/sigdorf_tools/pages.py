@@ -11,7 +11,7 @@ h1 { font-size: 1.5em; } h2 { font-size: 1.15em; margin-top: 2em; }
 table { border-collapse: collapse; margin-bottom: 1.5em; } th, td { text-align: left; padding: 0.3em 1em 0.3em 0; border-bottom: 1px solid #c3c9d0; }
 td.number, th.number { text-align: right; } tr.total td { font-weight: bold; border-bottom: none; } tr.free td { color: #747c85; }
 p.judged { color: #747c85; } svg { max-width: 100%; height: auto; }
-@media print { body { margin: 0; max-width: none; } h2, tr, svg { break-inside: avoid; } h2 { break-after: avoid; } thead { display: table-header-group; } }
+@media print { body { margin: 0; max-width: none; } h2, tr, svg { break-inside: avoid; } h2, h2 + p { break-after: avoid; } thead { display: table-header-group; } }
 """
 
 

@@ -45,11 +45,13 @@ class Pictures(ToolTest):
         self.assertEqual(len(self.lines(picture, "#1b5fa7")), 1)
 
     def test_many_arcs_without_labels(self):
-        """At 40 persons and 1,560 arcs that all matter a picture still takes little time."""
-        self.write("problem", "40\n" + "".join(f"{person} {thing} 7\n" for person in range(1, 41) for thing in range(1, 40)))
-        numbers = [f"person {number}\n" for number in range(1, 41)] + [f"object {number}\n" for number in range(1, 40)]
-        self.write("certificate", "auction 1\ninfeasible 40 39\n" + "".join(numbers))
-        self.assertEqual(len(self.lines(self.drawn("problem", "certificate"), "#b8322a")), 1560)
+        """Of 16 persons and 240 arcs that all matter no costs are written."""
+        self.write("problem", "16\n" + "".join(f"{person} {thing} 7\n" for person in range(1, 17) for thing in range(1, 16)))
+        numbers = [f"person {number}\n" for number in range(1, 17)] + [f"object {number}\n" for number in range(1, 16)]
+        self.write("certificate", "auction 1\ninfeasible 16 15\n" + "".join(numbers))
+        picture = self.drawn("problem", "certificate")
+        self.assertEqual(len(self.lines(picture, "#b8322a")), 240)
+        self.assertNotIn("7", [text.firstChild.data for text in picture.getElementsByTagName("text") if text.getAttribute("font-size") == "12.5"])
 
     def heat_map(self, persons, *words):
         """The picture of persons who all take the object of their number, with arcs to the next one."""
@@ -61,8 +63,8 @@ class Pictures(ToolTest):
         return self.drawn("many.arcs", "many.certificate", *words)
 
     def test_heat_maps(self):
-        """Above 40 persons or objects, with names or numbers at the sides; of large ones a square stands for more pairs."""
-        for persons, picks, label, told in [(41, 41, "41", "a square is a pair"), (130, 65, "1", "a square is 2 by 1 pairs"), (1000, 112, "1", "a square is 9 by 7 pairs")]:
+        """Where names don't fit side by side, with names or numbers at the sides; of large ones a square stands for more pairs."""
+        for persons, picks, label, told in [(18, 18, "18", "a square is a pair"), (41, 41, "41", "a square is a pair"), (130, 65, "1", "a square is 2 by 1 pairs"), (1000, 112, "1", "a square is 9 by 7 pairs")]:
             picture = self.heat_map(persons)
             marks = [mark for mark in picture.getElementsByTagName("rect") if mark.getAttribute("fill") == "#e0701a"]
             texts = [text.firstChild.data for text in picture.getElementsByTagName("text")]
@@ -85,7 +87,17 @@ class Pictures(ToolTest):
         self.write("certificate", "auction 1\noptimal 1 4\nassign 1 1 4\nprice 1 0\n")
         picture = self.drawn("table.arcs", "certificate", "--names", "table.names")
         boxes = [float(box.getAttribute("width")) for box in picture.getElementsByTagName("rect") if box.getAttribute("rx") == "8"]
-        self.assertEqual(boxes, [178.0, 88.0])
+        self.assertEqual(boxes, [181.0, 91.0])
+
+    def test_widths(self):
+        """No picture is wider than a page can show, whatever the names."""
+        for count, name in [(3, "x" * 9_000), (17, "W"), (18, "W"), (12, "Wartung der Halle "), (40, "Mehringdamm "), (120, "\u6c34" * 30)]:
+            self.convert("".join(f"{name}{n},{name}{n},{n}\n" for n in range(1, count + 1)), "--pairs")
+            arcs = [f"assign {n} {n} {n}\n" for n in range(1, count + 1)] + [f"price {n} 0\n" for n in range(1, count + 1)]
+            self.write("certificate", f"auction 1\noptimal {count} {count * (count + 1) // 2}\n" + "".join(arcs))
+            picture = self.drawn("table.arcs", "certificate", "--names", "table.names", "--title", name * 5)
+            with self.subTest(count=count, name=name[:20]):
+                self.assertLessEqual(int(picture.documentElement.getAttribute("width")), 2_000)
 
     def test_faults(self):
         crew, certificate, week = EXAMPLES / "crew.arcs", EXAMPLES / "crew.certificate", EXAMPLES / "week_of_vehicles.certificate"

@@ -118,6 +118,8 @@ class InRoot(PackageTest):
         self.in_root(f"tar -xzf {name}", folder="/opt")
         prefix = name.removesuffix(".tar.gz")
         self.addCleanup(self.in_root, f"rm -r {prefix}")
+        # What the README shows is typed where the archive was unpacked.
+        self.assertIn("total,,145", self.in_root("bin/auction-plan examples/crew.csv && head -1 README.md docs/PLANNING.md", folder=prefix))
         path = f"{prefix}/bin:/usr/bin:/bin"
         self.assertEqual(self.in_root("auction --version", PATH=path), f"auction {VERSION} (Sigdorf)\n")
         for page in PAGES[:2]:

@@ -19,6 +19,10 @@ class NotAnAmount(ValueError):
     """Why a text is no amount: the end of a sentence that begins with the text."""
 
 
+class NoNumber(NotAnAmount):
+    """The text is no number at all, so that something else may be meant by it."""
+
+
 class TooManyDecimals(NotAnAmount):
     """The text is an amount, with more decimals than are kept."""
 
@@ -50,7 +54,7 @@ def parts_with(text, mark):
     """The parts of an amount whose decimals stand behind a mark; a text that is none is a fault."""
     parts = parts_of(ungrouped(text, mark))
     if not parts:
-        raise NotAnAmount("is no number; write digits alone, or leave the cell empty where the pair isn't allowed")
+        raise NoNumber("is no number; write digits alone")
     if parts.mark not in (None, mark):
         found, wanted = ("comma", "point") if parts.mark == "," else ("point", "comma")
         raise NotAnAmount(f"has a {found} in it, and decimals of this table stand behind a {wanted}; write all of them so, or say --decimal-mark {found}")

@@ -2,7 +2,7 @@
 import re
 from typing import NamedTuple
 
-from .amounts import DELETE_THOUSANDS, MOST, THOUSANDS, NotAnAmount, TooManyDecimals, parts_of, parts_with, room_for_decimals, ungrouped, units_of, way_out
+from .amounts import DELETE_THOUSANDS, MOST, THOUSANDS, NoNumber, NotAnAmount, TooManyDecimals, parts_of, parts_with, room_for_decimals, ungrouped, units_of, way_out
 from .faults import quoted
 from .marks import OTHER, TO_SHAPE, Marks
 
@@ -167,10 +167,12 @@ def fault_of_amounts(table, groups, decimals, mark, is_found):
 
 def first_fault(table, groups, look):
     """The fault of the first cost that can't be looked at."""
+    is_of_pairs = table.form == "pairs"
     for cells in groups:
         for (row, column), cost in cells.each():
             try:
                 look(cost)
             except NotAnAmount as why:
-                return table.fault(row, column, f"{quoted(cost)} {why}")
+                allowed = " or leave out the row of a pair that" if is_of_pairs else " or leave the cell empty where the pair"
+                return table.fault(row, column, f"{quoted(cost)} {why}" + (f",{allowed} isn't allowed" if isinstance(why, NoNumber) else ""))
     raise AssertionError("one of the costs is at fault")

@@ -55,12 +55,14 @@ class Problem(NamedTuple):
 
 def problem_of(table, form, has_header, decimals=None, maximise=False, mark=None):
     """The problem of a table. The form is `pairs`, `matrix`, or None, where the table tells it; so are decimals and their mark."""
-    def costs(groups):
-        return read_costs(table, groups, decimals, maximise, mark)
     has_header = has_header or table.form is not None
     # Of costs alone an empty column is an object that nobody may have.
     table = below_header(table) if has_header else table
-    if (table.form or form or form_of(table, has_header)) == "pairs":
+    form = table.form or form or form_of(table, has_header)
+
+    def costs(groups):
+        return read_costs(table._replace(form=form), groups, decimals, maximise, mark)
+    if form == "pairs":
         return problem_of_pairs(table, has_header, costs)
     return problem_of_matrix(table, costs) if has_header else problem_of_costs(table, costs)
 

@@ -1,10 +1,16 @@
 """plan: a table in, a plan out, by the built program."""
 import io
+import os
+import shutil
+import subprocess
+import sys
 import time
 import unittest
 
-from calls import ToolTest, has_program
+from calls import ROOT, ToolTest, has_program
 from sigdorf_tools.progress import Progress
+
+SYSTEM = "/usr/bin:/bin"
 
 
 class Words(ToolTest):
@@ -15,6 +21,27 @@ class Words(ToolTest):
     def test_faults_of_the_table(self):
         self.write("table.csv", "a,x,1\nb,y\n")
         self.assert_fault(self.call("plan", "table.csv", "--program", "nosuch/auction"), "table.csv, line 2, column 3")
+
+
+@has_program()
+@unittest.skipIf(shutil.which("rt", path=SYSTEM), "rt is among the system's programs")
+class WithoutToolchain(ToolTest):
+    def test_installed_program(self):
+        """In a clone where nothing is built the program on the path solves, and without one it is said what is wanting."""
+        clone, programs = self.folder / "clone", self.folder / "programs"
+        (clone / "crates").mkdir(parents=True)
+        programs.mkdir()
+        shutil.copy(ROOT / "plan", clone)
+        shutil.copy(ROOT / "auction", clone)
+        shutil.copytree(ROOT / "tools", clone / "tools")
+        table = self.write("table.csv", "a,x,1\n")
+        environment = {"PATH": f"{programs}:{SYSTEM}"}
+        done = subprocess.run([sys.executable, clone / "plan", table], env=environment, capture_output=True, text=True)
+        self.assertEqual((done.returncode, done.stdout), (2, ""))
+        self.assertIn("Rattle toolchain", done.stderr)
+        (programs / "auction").symlink_to(os.environ["AUCTION"])
+        done = subprocess.run([sys.executable, clone / "plan", table], env=environment, capture_output=True, text=True)
+        self.assertEqual((done.returncode, done.stdout), (0, "person,object,cost\na,x,1\ntotal,,1\n"), done.stderr)
 
 
 @has_program()

@@ -4,16 +4,29 @@ from .margins import detours_of, margins_of
 from .wishes import unknown
 
 
-def whole_prices(prices, persons):
-    """Prices in smallest units at which each person has what is least for him, from those on the scale of persons + 1, at which he may be off by 1.
+def whole_prices(prices, persons, bettered):
+    """Prices in smallest units at which each person has what is least for him, from those on the scale of persons + 1, at which he may be off by 1 for the objects that are bettered so.
 
-    Each price is rounded down once all are raised by so much that none of them is just below a whole one: then what was at most 1 better isn't better at all. There is such an amount unless all
-    remainders occur, which they can't where objects are as many as persons; where all do, the prices stay as near as they can.
+    Each price is rounded down once all are raised by so much that none of these is just below a whole one: then what was 1 better isn't better at all. They are raised by less than a whole
+    unit, so that what is left over stays at 0. There is such an amount, since fewer remainders occur than there are: not all objects that somebody has are bettered, or there would be a ring of
+    persons who would each rather have the object of the next, and costs around it, which are whole, would fall by less than a unit.
     """
     scale = persons + 1
-    found = {price % scale for price in prices}
-    raised = next((amount for amount in range(scale) if (persons - amount) % scale not in found), 0)
+    found = {prices[thing - 1] % scale for thing in bettered}
+    raised = next(amount for amount in range(scale) if (persons - amount) % scale not in found)
     return [(price + raised) // scale for price in prices]
+
+
+def bettered_objects(rows, claim, scale):
+    """The objects that somebody would have for 1 less than his own."""
+    found = set()
+    for person, objects, costs in rows:
+        own, paid = claim.picks[person - 1]
+        values = [scale * cost + claim.prices[thing - 1] for thing, cost in zip(objects, costs)]
+        best = min(values, default=0)
+        if best < scale * paid + claim.prices[own - 1]:
+            found |= {thing for thing, value in zip(objects, values) if value == best}
+    return found
 
 
 def rows_of_reasons(names, problem, model, claim, name):
@@ -22,7 +35,7 @@ def rows_of_reasons(names, problem, model, claim, name):
         raise Fault(f"--why {name}: {unknown('person', name, problem.persons)}")
     place = problem.persons.index(name)
     mine = {copy for copy, owner in enumerate(model.owners, 1) if owner == place}
-    prices = whole_prices(claim.prices, model.persons())
+    prices = whole_prices(claim.prices, model.persons(), bettered_objects(model.rows(), claim, model.persons() + 1))
     # Where nothing is left over only differences of prices say something, so that the least one counts as nothing.
     least = min(prices) if not model.objects_said() else 0
     holders = {thing: names.person(copy) for copy, (thing, _) in zip(range(1, len(names.persons) + 1), claim.picks)}

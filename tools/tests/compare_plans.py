@@ -198,6 +198,10 @@ def look_at_reasons(case, output, plans, person):
     best = min(plan.total for plan in plans)
     assert header == (["what"] if header[0] == "what" else ["object"]) + ["cost", "price", "together", "worse by", "who has it"], header
     units = 10**case.decimals
+    # Who has an object that was fixed may like another one better.
+    if not any(one == person for one, _ in case.fixed):
+        own, others = ([round(float(together) * units) * case.sign() for _, _, _, together, _, holder in rows if (holder == case.persons[person]) == is_own] for is_own in (True, False))
+        assert not own or max(own) <= min(own + others), "another one is better"
     for name, cost, price, together, worse, holder in rows:
         stays = name == "stays free"
         pair = None if stays else (person, case.objects.index(name))

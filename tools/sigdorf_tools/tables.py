@@ -99,7 +99,7 @@ def below_header(table):
     lengths = {len(cells) for cells in table.rows}
     if table.rows[0][-1] and len(lengths) == 1:
         return table
-    width = max(place for cells in table.rows for place, cell in enumerate(cells, 1) if cell)
+    width = max((place for cells in table.rows for place, cell in enumerate(cells, 1) if cell), default=1)
     rows = [cells[:width] for cells in table.rows]
     first, *others = map(len, rows)
     if len(others) > 1 and len(set(others)) == 1 and first < others[0]:

@@ -54,6 +54,7 @@ FAULTS = [
     ("sep=|\na|x|1\n", "", ", line 1, column 1", "part the columns by one of these"),
     (",x,y\n", "", ", line 1", "put a row for each person below"),
     ("who,what,cost\n", "", ", line 1, column 3", "put the pairs below the titles"),
+    ("\tx", "--ignore-column x", ", line 1", "put a column for each object"),
     ("who,x\na,1\n", "--matrix --ignore-column x", ", line 1", "put a column for each object"),
     ("who,what,cost\na,x\nb,y,2\n", "--columns who,what,cost", ", line 2, column 3", "fill it up"),
     ("who,what,x\na,b,1\nc,d,2\n", "--pairs --ignore-column x", ", line 1, column 3", "fill it up"),

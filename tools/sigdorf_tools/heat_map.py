@@ -117,7 +117,8 @@ def squares(grid):
 
 
 def picked(grid, picks):
-    inset = grid.size * 0.18
+    # Among squares that stand for more pairs a mark stands out less.
+    inset = grid.size * (0.18 if grid.is_whole() else 0.04)
     for row, column in sorted({grid.square(*pair) for pair in picks}):
         side = grid.size - 2 * inset
         yield f'<rect x="{column * grid.size + inset:.1f}" y="{row * grid.size + inset:.1f}" width="{side:.1f}" height="{side:.1f}" rx="{side / 4:.1f}" fill="{PICK}"/>'

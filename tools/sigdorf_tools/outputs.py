@@ -37,6 +37,18 @@ def json_of(names, claim, judges, free=Free()):
     return json.dumps(told | {"proved_by": judges}, ensure_ascii=False, indent=1) + "\n"
 
 
+def json_of_reasons(names, rows):
+    """Reasons as JSON, from their rows, whose amounts are told with a point."""
+    told = []
+    _, *rows, (sentence,) = rows
+    for thing, cost, price, together, worse, holder in rows:
+        record = {"object": thing, "cost": number(cost), "price": number(price), "together": number(together)}
+        # Of his own object nothing is worse, and one that no plan can have has no number.
+        record |= {"worse_by": None if worse == "any" else number(worse)} if worse else {}
+        told.append(record | ({"holder": holder} if holder else {}))
+    return json.dumps({"objects": told, "sentence": sentence}, ensure_ascii=False, indent=1) + "\n"
+
+
 def number(text):
     """The number of an amount; a floating-point number has more digits than a total has, so it is written as it was."""
     return float(text) if "." in text else int(text)

@@ -90,8 +90,7 @@ def fault_of(folder, number, seed):
     status = None
     try:
         status, output, said = called("plan", [file, *words])
-        # A question in place of the plan has no other form.
-        look([] if any(word.startswith("--why") for word in words) else words, status, output, said)
+        look(words, status, output, said)
     except Exception as error:
         return status, f"table {number}: {type(error).__name__} {error}: {content!r} {words}"
     return status, None

@@ -1,5 +1,6 @@
 """Wishes for a plan: capacities, who may stay free, fixed and forbidden pairs; the second best plan, the fair one, and why. Small tables are compared with a look at all plans."""
 import itertools
+import json
 import os
 import random
 import unittest
@@ -158,6 +159,11 @@ class Wishes(ToolTest):
         self.assertEqual((int(own[1]) + int(own[2]), int(other[1]) + int(other[2])), (int(own[3]), int(other[3])))
         self.assertLessEqual(int(own[3]), int(other[3]))
         self.assertIn("Ben has wiring", lines[3])
+        told = json.loads("\n".join(self.planned(CREW.replace(",", ";"), "--why", "Ben", "--json")))
+        self.assertEqual(told["objects"][0], dict(object="wiring", cost=20, price=told["objects"][0]["price"], together=told["objects"][0]["together"], holder="Ben"))
+        self.assertEqual((told["objects"][1]["object"], told["objects"][1]["worse_by"], told["objects"][1]["holder"]), ("pump", 5, "Ada"))
+        self.assertEqual([record.get("worse_by") for record in json.loads("\n".join(self.planned("a,x,1\na,y,2\nb,y,1\n", "--why", "a", "--json")))["objects"]], [None, None])
+        self.assert_fault(self.call("plan", "table.csv", "--why", "Ben", "--html"), "--why", "--html")
         self.assertIn("stays free", " ".join(self.planned("a,x,4\nb,x,6\n", "--leave-free", "5", "--why", "b")))
 
     def test_faults(self):

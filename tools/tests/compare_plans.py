@@ -108,16 +108,17 @@ def drawn(draw, kind):
 
 def table_of(case, draw, columns):
     """The text of the table, with more columns that say something of persons."""
-    rows = []
-    extra = [[case.amount(value[person]) if title == "ends" and value[person] is not None else str(value[person]) if title == "most" else "" for title, value in columns] for person in range(len(case.persons))]
-    if {person for person, _ in case.costs} == set(range(len(case.persons))) and {thing for _, thing in case.costs} == set(range(len(case.objects))) and draw.random() < 0.5:
-        # Names are numbered as they come.
-        pairs = sorted(case.costs)
-        rows = [["who", "what", "cost", *(title for title, _ in columns)], *([case.persons[person], case.objects[thing], case.amount(case.costs[person, thing]), *extra[person]] for person, thing in pairs)]
+    def told(title, value):
+        return "" if value is None else case.amount(value) if title == "ends" else str(value)
+    titles, extra = [title for title, _ in columns], [[told(title, value[person]) for title, value in columns] for person in range(len(case.persons))]
+    are_all_there = {person for person, _ in case.costs} == set(range(len(case.persons))) and {thing for _, thing in case.costs} == set(range(len(case.objects)))
+    if are_all_there and draw.random() < 0.5:
+        pairs = ([case.persons[person], case.objects[thing], case.amount(case.costs[person, thing]), *extra[person]] for person, thing in sorted(case.costs))
+        rows = [["who", "what", "cost", *titles], *pairs]
     else:
-        rows = [["who", *case.objects, *(title for title, _ in columns)]]
-        rows += [[name, *(case.amount(case.costs[person, thing]) if (person, thing) in case.costs else "" for thing in range(len(case.objects))), *extra[person]] for person, name in enumerate(case.persons)]
-    return "\n".join(",".join(row) for row in rows) + "\n", "--pairs" if rows[0][1] == "what" else "--matrix"
+        costs = [[case.amount(case.costs[person, thing]) if (person, thing) in case.costs else "" for thing in range(len(case.objects))] for person in range(len(case.persons))]
+        rows = [["who", *case.objects, *titles], *([name, *row, *more] for name, row, more in zip(case.persons, costs, extra))]
+    return "\n".join(map(",".join, rows)) + "\n", "--pairs" if rows[0][1] == "what" else "--matrix"
 
 
 def words_of(case, kind, draw, folder):
@@ -256,10 +257,8 @@ def judged(case, kind, folder, draw):
         look_at_summary(case, said, plan)
 
 
-def judge_margins(case, words, folder, plans):
-    """Within its margin a cost changes no best plan; what is in one contests; and the last line names what is contested."""
-    if not plans or not case.costs:
-        return
+def margins_written(case, words, folder):
+    """What `margins` writes of a case, whose steps are made one by one."""
     with contextlib.chdir(folder):
         status, output, said = called("tools/from_csv", words)
         assert status == 0, said
@@ -268,7 +267,14 @@ def judge_margins(case, words, folder, plans):
             subprocess.run([os.environ["AUCTION"], "solve", "table.arcs", *more], stdout=certificate, check=True)
         status, output, said = called("tools/margins", ["table.arcs", "certificate", "--names", "table.names"])
     assert status == 0, said
-    header, *rows, sentence = csv.reader(io.StringIO(output))
+    return csv.reader(io.StringIO(output))
+
+
+def judge_margins(case, words, folder, plans):
+    """Within its margin a cost changes no best plan; what is in one contests; and the last line names what is contested."""
+    if not plans or not case.costs:
+        return
+    _, *rows, sentence = margins_written(case, words, folder)
     best, units = min(plan.total for plan in plans), 10**case.decimals
     with_pair = {}
     for plan in plans:

@@ -25,7 +25,8 @@ from fuzz_tables import BYTES, NAMES, sound_table, spoiled_table  # noqa: E402
 STATUSES = (0, 2, 3, 4)
 # Words, each with how often it is said in a hundred tables where many are.
 WORDS = [
-    (8, ["--pairs"]), (8, ["--matrix"]), (10, ["--no-header"]), (8, ["--decimals=2"]), (4, ["--decimals=0"]), (5, ["--decimal-mark=comma"]), (5, ["--decimal-mark=point"]), (4, ["--separator=semicolon"]),
+    (8, ["--pairs"]), (8, ["--matrix"]), (10, ["--no-header"]), (8, ["--decimals=2"]), (4, ["--decimals=0"]),
+    (5, ["--decimal-mark=comma"]), (5, ["--decimal-mark=point"]), (4, ["--separator=semicolon"]),
     (6, ["--columns=Ada,x,1"]), (4, ["--columns=1,2,3"]), (6, ["--ignore-column=x"]), (3, ["--sheet=Plan"]), (10, ["--maximise"]), (10, ["--capacity=2"]), (4, ["--capacity-column=x"]),
     (10, ["--leave-free=7.5"]), (4, ["--leave-free-column=roof"]), (6, ["--fix=Ada=roof"]), (6, ["--forbid=Ada=roof"]), (6, ["--forbid=a=b=x"]), (5, ["--bids=1"]),
 ]

@@ -5,9 +5,10 @@
     linear_sum_assignment(cost_matrix)              as SciPy's call of this name, dense or sparse
     min_weight_full_bipartite_matching(matrix)      as SciPy's call of this name
 
-Where there is no full assignment, each raises Infeasible, which names the rows that together know too few columns. Where a limit ended the
-search, `solve` answers a solution whose `is_optimal` is False, and the two calls of SciPy's names raise Unsettled, which holds it. An argument
-that is at fault is a ValueError. What is proved is the library that these functions call; this module itself is only tested.
+Costs count exactly as they stand, floats too (docs/EXACT.md). Where there is no full assignment, each raises Infeasible, which names the rows
+that together know too few columns. Where a limit ended the search, `solve` answers a solution whose `is_optimal` is False, and the two calls of
+SciPy's names raise Unsettled, which holds it. An argument that is at fault is a ValueError. What is proved is the library that these functions
+call; this module itself is only tested.
 """
 from .assignment import check, linear_sum_assignment, min_weight_full_bipartite_matching, solve
 from .faults import Infeasible, Refused, Unsettled

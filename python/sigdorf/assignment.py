@@ -2,13 +2,17 @@
 import numpy
 
 from .arguments import INT64, MOST_BIDS, number, whole_numbers
+from .claims import check_claim
+from .exact import Answer
 from .faults import Unsettled
-from .library import BRACKET, INFEASIBLE, START_FAULTS, USUAL_BIDS, check_arcs, solve_arcs
+from .library import START_FAULTS, USUAL_BIDS
 from .matrices import entries_of, is_sparse
 from .problem import Problem
 
+HIGHEST_START = 2**60
 
-def solve(rows, columns, costs, shape=None, *, maximize=False, decimals=0, start=None, bids=USUAL_BIDS):
+
+def solve(rows, columns, costs, shape=None, *, maximize=False, decimals=None, start=None, bids=USUAL_BIDS):
     """An assignment and a bound: of least cost where `is_optimal` says so, and else the best that the bids sufficed for.
 
     Look at `is_optimal` of the :class:`Solution`: where it is False, a limit ended the search, and another assignment may cost less, down to
@@ -19,25 +23,29 @@ def solve(rows, columns, costs, shape=None, *, maximize=False, decimals=0, start
     in one hand, as the program's with --direct; the numbers of rows and columns may be unequal.
 
     rows, columns: int arrays of one length, from 0; a pair may stand twice.
-    costs: int or float array of the same length. What counts is costs * 10^decimals, which must be whole numbers to 10^9 in magnitude.
+    costs: int or float array of the same length, of at most 64 bits a number. Each counts exactly as it stands: no assignment has a smaller
+        sum, of all digits that these numbers have. Costs that are no whole numbers to 10^9 take a few searches in place of one.
     shape: numbers of rows and of columns; where it is left out, one more than the greatest of each. 10,000 on the smaller side, 20,000 on the
         larger one, 33,554,432 entries.
     maximize: whether the most is wanted.
-    decimals: 0 to 9; a float must be the one nearest to a number with so many decimals, of its own type.
-    start: the prices of an earlier solution of as many rows and columns, from which a run may be shorter. They may be wrong: any from 0 to 2^60.
+    decimals: 0 to 9, for floats that stand for decimal numbers: what counts is costs * 10^decimals, which must be whole numbers to 10^9 in
+        magnitude, and a float must be the one nearest to such a number, of its own type.
+    start: the prices of an earlier solution of as many rows and columns, from which a run may be shorter, on the scale of whole costs times
+        rows + 1 (of decimals, 10^decimals times that). They may be wrong: any from 0 to 2^60.
     bids: how many bids a phase may take, from 0 to 2^64 - 1.
 
     Raises Infeasible where there is no full assignment, ValueError where an argument is at fault (a masked array among them), and MemoryError.
     """
     problem = Problem(rows, columns, costs, shape, maximize, decimals)
-    bids, start = number(bids, "bids", 0, MOST_BIDS), _start_of(problem, start)
+    return problem.solution(answer_of(problem, _start_of(problem, start), bids))
+
+
+def answer_of(problem, start, bids):
+    """The Answer to a problem."""
+    bids = number(bids, "bids", 0, MOST_BIDS)
     if problem.persons == 0:
-        nothing = numpy.zeros(0, numpy.int64)
-        return problem.solution(nothing, numpy.zeros(problem.objects, numpy.int64), 0, 0)
-    status, choice, prices, hall_objects, found = solve_arcs(problem.persons, problem.objects, problem.arcs, start, bids)
-    if status == INFEASIBLE:
-        raise problem.infeasible(choice[: found.persons].astype(numpy.int64), hall_objects[: found.objects].astype(numpy.int64))
-    return problem.solution(choice, prices, found.cost, found.lower if status == BRACKET else found.cost)
+        return Answer(numpy.zeros(0, numpy.int64), [(numpy.zeros(problem.objects, numpy.int64), 0)], 1, 0)
+    return problem.answered(start, bids)
 
 
 def _start_of(problem, start):
@@ -47,25 +55,24 @@ def _start_of(problem, start):
     start = whole_numbers(start, "start", *INT64)
     if len(start) != problem.objects:
         raise ValueError(START_FAULTS[2])
-    return start
+    outside = (start < 0) | (start > HIGHEST_START)
+    if outside.any():
+        raise ValueError(START_FAULTS[3].format(place=numpy.argmax(outside)))
+    finer, coarser = max(problem.costs.unit, 0), max(-problem.costs.unit, 0)
+    return numpy.minimum(start, HIGHEST_START >> finer) << finer >> coarser
 
 
-def check(solution, rows, columns, costs, shape=None, *, maximize=False, decimals=0):
+def check(solution, rows, columns, costs, shape=None, *, maximize=False, decimals=None):
     """Raises :class:`Refused` where a solution isn't an assignment of this problem than which none costs less, as its prices show.
 
     The other arguments are those of :func:`solve`, and a ValueError says which one is at fault. Whoever found the solution is not trusted: type,
-    length and range of each of its parts are looked at. What a limit has ended (`is_optimal` is False) is refused. O(entries) time.
+    length and range of each of its parts are looked at, and each number exactly; nothing of the solver is used. What a limit has ended
+    (`is_optimal` is False) is refused. O(entries) time.
     """
-    problem = Problem(rows, columns, costs, shape, maximize, decimals)
-    choice, prices, cost = problem.claim(solution)
-    if problem.persons:
-        check_arcs(problem.persons, problem.objects, problem.arcs, choice, prices, cost)
-    else:
-        problem.look_at_free_prices(prices)
-    problem.look_at_bound(solution)
+    check_claim(Problem(rows, columns, costs, shape, maximize, decimals), solution)
 
 
-def linear_sum_assignment(cost_matrix, maximize=False, *, decimals=0, bids=USUAL_BIDS):
+def linear_sum_assignment(cost_matrix, maximize=False, *, decimals=None, bids=USUAL_BIDS):
     """As SciPy's call of this name: row_ind and col_ind of the assignment of least cost, and of no other.
 
     cost_matrix: an array of two dimensions, in which an infinite cost is no entry, or a sparse matrix or array (coo, csc, csr, dok, lil), in
@@ -75,13 +82,15 @@ def linear_sum_assignment(cost_matrix, maximize=False, *, decimals=0, bids=USUAL
     Raises what :func:`solve` does, and Unsettled where a limit ended the search before the least cost was found.
     """
     *entries, shape = entries_of(cost_matrix, maximize)
-    solution = solve(*entries, shape, maximize=maximize, decimals=decimals, bids=bids)
-    if not solution.is_optimal:
-        raise Unsettled(solution)
-    return solution.rows, solution.columns
+    problem = Problem(*entries, shape, maximize, decimals, is_matrix=True)
+    answer = answer_of(problem, _start_of(problem, None), bids)
+    if answer.gap:
+        raise Unsettled(problem.solution(answer))
+    rows, columns, _ = problem.pairs(answer.choice)
+    return rows, columns
 
 
-def min_weight_full_bipartite_matching(biadjacency, maximize=False, *, decimals=0, bids=USUAL_BIDS):
+def min_weight_full_bipartite_matching(biadjacency, maximize=False, *, decimals=None, bids=USUAL_BIDS):
     """As SciPy's call of this name, for a sparse matrix or array: row_ind and col_ind of the full matching of least weight, and of no other.
 
     Explicit zeros are entries of weight 0 here. Raises what :func:`linear_sum_assignment` does.

@@ -2,7 +2,6 @@
 import numpy
 
 from .arguments import MOST_ENTRIES, MOST_OBJECTS, array_of, attempt, sides_of, truth, whole_numbers
-from .costs import whole_costs
 from .library import LIST_FAULTS
 from .problem import look_at_sides
 
@@ -44,11 +43,17 @@ def _summed(rows, columns, costs):
     firsts = numpy.flatnonzero((numpy.diff(rows, prepend=-1) != 0) | (numpy.diff(columns, prepend=-1) != 0))
     if len(firsts) == len(rows):
         return rows, columns, costs
-    if costs.dtype.kind in "iu":
-        costs = whole_costs(costs, 0, False)
     with numpy.errstate(all="ignore"):
-        costs = costs if costs.dtype.kind != "f" else costs.astype(numpy.result_type(costs.dtype, numpy.float64))
-        return rows[firsts], columns[firsts], numpy.add.reduceat(costs, firsts, dtype=costs.dtype)
+        return rows[firsts], columns[firsts], numpy.add.reduceat(_wide(costs), firsts)
+
+
+def _wide(costs):
+    """Costs of a type that holds the sums of those that are stored twice. Sums of floats are rounded, as ever."""
+    if costs.dtype.kind == "f":
+        return costs.astype(numpy.result_type(costs.dtype, numpy.float64))
+    if costs.size and max(-int(costs.min()), int(costs.max())) * len(costs) >= 2**63:
+        raise ValueError("the matrix has entries that are stored twice, and sums of these may be beyond 64 bits")
+    return costs.astype(numpy.int64)
 
 
 def _not_infinite(matrix, maximize):

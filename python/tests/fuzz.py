@@ -3,6 +3,8 @@
 
     fuzz.py calls COUNT [--seed N] [--library PATH]      arguments in any guise, and at fault: a call answers or raises what its page says
     fuzz.py answers COUNT [--seed N] [--library PATH]    small problems: the cost is the least of all assignments, and SciPy's where it is there
+    fuzz.py floats COUNT [--seed N] [--library PATH]     the same of floats and great whole numbers, in Fractions, with prices and claims
+    fuzz.py greater COUNT [--seed N] [--library PATH]    some dozens of rows and columns of these: prices, the check, and SciPy's cost
 
 Call number K of a seed is the same each time: `calls 1 --first K` makes it again. The last line is `N passed, M failed`.
 """
@@ -31,7 +33,7 @@ MOST_ENDED = 20
 
 def main():
     words = argparse.ArgumentParser(description=__doc__, formatter_class=argparse.RawDescriptionHelpFormatter)
-    words.add_argument("kind", choices=["calls", "answers"])
+    words.add_argument("kind", choices=["calls", "answers", "floats", "greater"])
     words.add_argument("count", type=int)
     words.add_argument("--seed", type=int, default=1)
     words.add_argument("--first", type=int, default=0, metavar="K", help="the number of the first call")
@@ -74,10 +76,11 @@ def make_calls(words):
     """Makes a block of calls here, and writes how often each outcome came. The number of the call is in the file of `place` at any time."""
     sys.path[:0] = [str(HERE), str(HERE.parent)]
     import calls
+    import floats
 
     faulthandler.enable()
     resource.setrlimit(resource.RLIMIT_AS, (MEMORY, resource.getrlimit(resource.RLIMIT_AS)[1]))
-    make, outcomes = getattr(calls, words.kind), collections.Counter()
+    make, outcomes = getattr(floats if words.kind in ("floats", "greater") else calls, words.kind), collections.Counter()
     signal.signal(signal.SIGALRM, stop)
     with open(words.place, "r+b") as file, mmap.mmap(file.fileno(), 8) as place:
         for number in range(words.first, words.first + words.count):

@@ -62,7 +62,6 @@ class Worked(Limited):
             ("many entries|as many as", (rows[:3], columns, costs)),
             ("not be below 0", ([0, 0, 1, -1], columns, costs)),
             ("nan of entry 3", (rows, columns, [1, 2, 3, numpy.nan])),
-            ("beyond 1000000000", (rows, columns, [1, 2, 3, 10**9 + 1])),
             ("shape doesn't have", (rows, columns, costs, (1, 2))),
             ("larger side", (rows, columns, costs, (2, 20001))),
             ("smaller side", (rows, columns, costs, (10001, 10001))),
@@ -70,6 +69,8 @@ class Worked(Limited):
         ]:
             with self.subTest(fault), self.assertRaisesRegex(ValueError, fault):
                 sigdorf.solve(*words)
+        with self.assertRaisesRegex(ValueError, "row 1, column 1: the cost 1000000001 of entry 3 is beyond 1000000000"):
+            sigdorf.solve(rows, columns, [1, 2, 3, 10**9 + 1], decimals=0)
 
     def test_check_refuses(self):
         solution = sigdorf.solve(*self.TWO)

@@ -1,0 +1,61 @@
+"""A problem solved: an assignment of least cost, and the prices that show it, exactly."""
+import fractions
+import typing
+
+import numpy
+
+from .near import OutOfBids
+from .refinement import first_level
+from .whole import solve_whole, whole_prices
+
+
+class Answer(typing.NamedTuple):
+    """An assignment, its prices, and how far above the least cost it may be."""
+
+    choice: numpy.ndarray
+    """The place of an arc of each person: int64."""
+    levels: list
+    """Pairs of an array with a number for each object, and a unit: a price is the sum of its numbers times 2^-unit each, divided by `scale`."""
+    scale: int
+    """1, or persons + 1."""
+    gap: fractions.Fraction
+    """What the costs are above the least at most, in the unit of the costs: 0 but where the bids didn't suffice."""
+
+
+def solve_costs(persons, objects, arcs, costs, start, bids):
+    """The Answer to a problem of these arcs and Costs. Raises NoAssignment."""
+    found = solve_whole(persons, objects, arcs, start, bids)
+    unit, above = costs.unit, found.cost - found.lower
+    if above or costs.is_whole and unit >= 0:
+        # The tails of an assignment are half a unit for each person at most, and so are those of another one.
+        gap = above if costs.is_whole else above + persons
+        return Answer(found.choice, [(found.prices, unit)], persons + 1, abs(costs.amount(gap)))
+    prices = whole_prices(persons, found.prices, arcs["object"][found.choice])
+    if costs.is_whole:
+        return Answer(found.choice, [(prices, unit)], 1, fractions.Fraction(0))
+    return _refined(first_level(arcs, objects, costs, found.choice, prices), prices, bids)
+
+
+def _refined(level, prices, bids):
+    """The Answer that finer levels come to, from the first one with its prices."""
+    levels, left = [(prices, level.unit)], level.unsettled()
+    try:
+        while left:
+            level, change = level.finer(bids)
+            levels.append((change, level.unit))
+            left = level.unsettled()
+    except OutOfBids:
+        pass
+    # Whoever has a better arc gains less than a unit by it.
+    gap = left / fractions.Fraction(2) ** level.unit
+    return Answer(level.place[level.pick], levels, 1, gap)
+
+
+def combined(levels, least_unit=0):
+    """The sums of levels as Python's whole numbers of 2^-unit, and this unit, which isn't below the least one."""
+    unit = max(least_unit, *(unit for _, unit in levels))
+    total = numpy.zeros(len(levels[0][0]), object)
+    for numbers, own in levels:
+        some = numpy.flatnonzero(numbers)
+        total[some] += numbers[some].astype(object) << (unit - own)
+    return total, unit

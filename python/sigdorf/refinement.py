@@ -1,0 +1,101 @@
+"""Costs as they stand, by rounds of whole costs: docs/EXACT.md has the argument.
+
+At a level with the unit 2^-unit each cost is worth - price + slack + tail in this unit: a worth of its person, a whole price of its object, a
+whole slack from 0, and a tail of a half at most. The choice of each person has no slack. Where there are more objects than persons no price
+is negative, and what nobody has is without one.
+"""
+import math
+
+import numpy
+
+from .costs import MOST, common_twos
+from .near import Near
+
+# By so many powers of two a round is finer at most: slacks of 16 bits have 60 then.
+MOST_FINER = 44
+# What stands for every price that is beyond all costs of a round.
+PLENTY = 1 << 31
+
+
+class Level:
+    """A level of a problem: its arcs that may matter yet, by rising persons, and the choice of each person.
+
+    `place` has their places in the problem, `pick` the place among them of each person's choice, `price` a price of each object, or PLENTY.
+    Tails are in the unit of the costs.
+    """
+
+    def __init__(self, objects, unit, arcs, pick, price):
+        self.objects, self.unit, self.pick, self.price = objects, unit, pick, price
+        self.place, self.person, self.object, self.slack, self.tail = arcs
+        self.persons = len(pick)
+
+    def unsettled(self):
+        """How many persons have an arc that may be better than their choice. Where none has, the choice is least, and its prices show it."""
+        nearest = numpy.flatnonzero(self.slack == 0)
+        mine = self.person[nearest]
+        return len(numpy.unique(mine[self.tail[nearest] < self.tail[self.pick[mine]]]))
+
+    def drop_far(self):
+        """Leaves out arcs that no later round brings near: they all together move a slack by less than 4 persons + 16 of this unit."""
+        keep = self.slack <= most_slack(self.persons)
+        if not keep.all():
+            self.pick = (numpy.cumsum(keep) - 1)[self.pick]
+            self.place, self.person, self.object, self.slack, self.tail = (part[keep] for part in (self.place, self.person, self.object, self.slack, self.tail))
+
+    def finer(self, bids):
+        """The next level, and by how much it changes prices: objects, and whole numbers of its unit. Raises OutOfBids."""
+        self.drop_far()
+        unit, slack, tail = self._in_finer_unit()
+        price = _scaled(self.price, unit - self.unit)
+        near = Near(self.person, self.object, slack, self.pick, price, self.persons == self.objects)
+        pick, worth, change = near.solved(bids)
+        slack = slack + change[self.object] - worth[self.person]
+        level = Level(self.objects, unit, (self.place, self.person, self.object, slack, tail), pick, numpy.minimum(price + change, PLENTY))
+        return level, change
+
+    def _in_finer_unit(self):
+        """A finer unit, slacks in it that are 0 for the best arc of each person, and what is left: the choice's slacks are 5 * 10^8 at most together."""
+        first = numpy.searchsorted(self.person, numpy.arange(self.persons))
+        by = self._step(first)
+        while True:
+            parts = numpy.rint(numpy.ldexp(self.tail, self.unit + by))
+            slack = (self.slack << by) + parts.astype(numpy.int64)
+            slack -= numpy.minimum.reduceat(slack, first)[self.person]
+            if 2 * (int(slack[self.pick].sum()) + 1) <= MOST:
+                break
+            by -= 1
+        tail = self.tail - numpy.ldexp(parts, -(self.unit + by))
+        if not tail.any():
+            # The smaller the numbers, the fewer the bids.
+            spare = min(by, common_twos(slack))
+            by, slack = by - spare, slack >> spare
+        return self.unit + by, slack, tail
+
+    def _step(self, first):
+        """By how many powers of two the next unit is finer: about as many as the sum of the choice's slacks allows."""
+        tail = numpy.ldexp(self.tail, self.unit)
+        gap = float((tail[self.pick] - numpy.minimum.reduceat(self.slack + tail, first)).sum())
+        return max(1, min(MOST_FINER, 29 - math.frexp(gap)[1])) if gap > 0 else MOST_FINER
+
+
+def most_slack(persons):
+    return 4 * persons + 16
+
+
+def _scaled(price, by):
+    """Prices in a unit that is finer by powers of two; PLENTY stays what stands for any that is greater."""
+    return numpy.where(price > PLENTY >> by, PLENTY, price << by)
+
+
+def first_level(arcs, objects, costs, choice, prices):
+    """The level of whole costs: `choice` has a place in the arcs of each person, `prices` are whole, and no arc is better than a choice at these."""
+    person, taken = arcs["person"].astype(numpy.int64), arcs["object"].astype(numpy.int64)
+    slack = costs.whole + prices[taken]
+    slack -= slack[choice][person]
+    place = numpy.flatnonzero(slack <= most_slack(len(choice)))
+    if (numpy.diff(person[place]) < 0).any():
+        place = place[numpy.argsort(person[place], kind="stable")]
+    where = numpy.full(len(person), -1)
+    where[place] = numpy.arange(len(place))
+    kept = place, person[place], taken[place], slack[place], costs.tails(place)
+    return Level(objects, costs.unit, kept, where[choice], numpy.minimum(prices, PLENTY))

@@ -10,14 +10,16 @@ that together know too few columns. Where a limit ended the search, `solve` answ
 SciPy's names raise Unsettled, which holds it. An argument that is at fault is a ValueError. What is proved is the library that these functions
 call; this module itself is only tested.
 """
-from .assignment import check, linear_sum_assignment, min_weight_full_bipartite_matching, solve
-from .faults import Infeasible, Refused, Unsettled
+from .assignment import check, solve
+from .faults import Infeasible, Mistyped, Refused, Unsettled
 from .library import USUAL_BIDS
+from .scipy_calls import linear_sum_assignment, min_weight_full_bipartite_matching
 from .solution import Solution
 
 __version__ = "1.0"
 __all__ = [
     "Infeasible",
+    "Mistyped",
     "Refused",
     "Solution",
     "USUAL_BIDS",

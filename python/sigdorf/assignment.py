@@ -4,9 +4,7 @@ import numpy
 from .arguments import INT64, MOST_BIDS, number, whole_numbers
 from .claims import check_claim
 from .exact import Answer
-from .faults import Unsettled
 from .library import START_FAULTS, USUAL_BIDS
-from .matrices import entries_of, is_sparse
 from .problem import Problem
 
 HIGHEST_START = 2**60
@@ -70,31 +68,3 @@ def check(solution, rows, columns, costs, shape=None, *, maximize=False, decimal
     (`is_optimal` is False) is refused. O(entries) time.
     """
     check_claim(Problem(rows, columns, costs, shape, maximize, decimals), solution)
-
-
-def linear_sum_assignment(cost_matrix, maximize=False, *, decimals=None, bids=USUAL_BIDS):
-    """As SciPy's call of this name: row_ind and col_ind of the assignment of least cost, and of no other.
-
-    cost_matrix: an array of two dimensions, in which an infinite cost is no entry, or a sparse matrix or array (coo, csc, csr, dok, lil), in
-        which what isn't stored is none. A masked array is refused.
-    `maximize`, `decimals` and `bids` are those of :func:`solve`.
-
-    Raises what :func:`solve` does, and Unsettled where a limit ended the search before the least cost was found.
-    """
-    *entries, shape = entries_of(cost_matrix, maximize)
-    problem = Problem(*entries, shape, maximize, decimals, is_matrix=True)
-    answer = answer_of(problem, _start_of(problem, None), bids)
-    if answer.gap:
-        raise Unsettled(problem.solution(answer))
-    rows, columns, _ = problem.pairs(answer.choice)
-    return rows, columns
-
-
-def min_weight_full_bipartite_matching(biadjacency, maximize=False, *, decimals=None, bids=USUAL_BIDS):
-    """As SciPy's call of this name, for a sparse matrix or array: row_ind and col_ind of the full matching of least weight, and of no other.
-
-    Explicit zeros are entries of weight 0 here. Raises what :func:`linear_sum_assignment` does.
-    """
-    if not is_sparse(biadjacency):
-        raise ValueError("the matrix must be sparse")
-    return linear_sum_assignment(biadjacency, maximize, decimals=decimals, bids=bids)

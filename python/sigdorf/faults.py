@@ -8,15 +8,19 @@ class Infeasible(ValueError):
     these columns lead to just these rows, which are fewer, and `by_columns` is True.
     """
 
-    def __init__(self, rows, columns, by_columns=False):
+    def __init__(self, rows, columns, by_columns=False, words="no full assignment exists"):
         # What an exception is made of anew, as where one process tells it to another, are its arguments.
-        super().__init__(rows, columns, by_columns)
-        self.rows, self.columns, self.by_columns = rows, columns, by_columns
+        super().__init__(rows, columns, by_columns, words)
+        self.rows, self.columns, self.by_columns, self.words = rows, columns, by_columns, words
 
     def __str__(self):
         some, few = (self.columns, self.rows) if self.by_columns else (self.rows, self.columns)
         names = ("columns", "rows") if self.by_columns else ("rows", "columns")
-        return f"no full assignment exists: {len(some)} {names[0]} have entries in only {len(few)} {names[1]}"
+        return f"{self.words}: {len(some)} {names[0]} have entries in only {len(few)} {names[1]}"
+
+
+class Mistyped(TypeError, ValueError):
+    """An argument is of a type that isn't taken: a TypeError, as SciPy raises, and a ValueError, as the other faults of arguments here."""
 
 
 class Refused(ValueError):

@@ -2,6 +2,8 @@
 import numpy
 
 from .arguments import MOST_ENTRIES, MOST_OBJECTS, array_of, attempt, sides_of, truth, whole_numbers
+from .costs import KINDS, look_at_rounding
+from .faults import Mistyped
 from .library import LIST_FAULTS
 from .problem import look_at_sides
 
@@ -15,11 +17,12 @@ def is_sparse(matrix):
 
 
 def entries_of(matrix, maximize):
-    """Rows, columns, costs and shape of a matrix: of a sparse one what is stored, of a dense one what isn't infinite."""
-    return _stored(matrix) if is_sparse(matrix) else _not_infinite(matrix, truth(maximize, "maximize"))
+    """Rows, columns, costs and shape of a matrix: of a sparse one what is stored, of a dense one all, and of both what isn't infinite."""
+    none = -numpy.inf if truth(maximize, "maximize") else numpy.inf
+    return _stored(matrix, none) if is_sparse(matrix) else _dense(matrix, none)
 
 
-def _stored(matrix):
+def _stored(matrix, none):
     """The entries of a sparse matrix, whose parts are looked at as those of any caller. One that is stored twice is the sum."""
     if attempt(lambda given: given.format in FORMATS, matrix) is not True:
         raise ValueError(f"a sparse matrix must be of a format that stores its entries alone: {', '.join(FORMATS)}")
@@ -31,9 +34,13 @@ def _stored(matrix):
         raise ValueError("the sparse matrix has faults in it, so that its entries can't be listed")
     rows, columns = (whole_numbers(part, f"{name} indices of the matrix", 0, side - 1) for part, name, side in zip(parts, ("row", "column"), shape))
     costs = array_of(parts[2], "the matrix", MOST_ENTRIES)
-    if costs.ndim != 1 or costs.dtype.kind not in "biuf" or not len(rows) == len(columns) == len(costs):
+    if costs.dtype.kind not in KINDS:
+        raise Mistyped(f"expected a matrix containing numerical entries, got {costs.dtype}")
+    if costs.ndim != 1 or not len(rows) == len(columns) == len(costs):
         raise ValueError("the sparse matrix must have a number for each of its entries")
-    return *_summed(rows, columns, costs), shape
+    rows, columns, costs = _summed(rows, columns, costs)
+    is_entry = _are_entries(costs, none, lambda place: (rows[place], columns[place]))
+    return (rows, columns, costs, shape) if is_entry is None else (rows[is_entry], columns[is_entry], costs[is_entry], shape)
 
 
 def _summed(rows, columns, costs):
@@ -56,20 +63,34 @@ def _wide(costs):
     return costs.astype(numpy.int64)
 
 
-def _not_infinite(matrix, maximize):
-    matrix = array_of(matrix, "the matrix", MOST_OBJECTS)
-    if matrix.ndim != 2 or matrix.dtype.kind not in "biuf":
-        raise ValueError("the matrix must have two dimensions, and numbers in them")
-    look_at_sides(matrix.shape)
-    is_entry = None
-    if matrix.dtype.kind == "f":
-        with numpy.errstate(all="ignore"):
-            is_entry = matrix != (-numpy.inf if maximize else numpy.inf)
+def _dense(matrix, none):
+    numbers = array_of(matrix, "the matrix", MOST_OBJECTS)
+    if numbers.dtype.kind not in KINDS:
+        raise Mistyped(f"Cannot cast array data from {numbers.dtype!r} to dtype('float64') according to the rule 'safe'")
+    if numbers.ndim != 2:
+        raise ValueError(f"expected a matrix (2-D array), got a {numbers.ndim} array")
+    look_at_sides(numbers.shape)
+    look_at_rounding(matrix, numbers)
+    is_entry = _are_entries(numbers, none, lambda place: numpy.unravel_index(place, numbers.shape))
     # Lists of entries take far more memory than a matrix may.
-    if (matrix.size if is_entry is None else numpy.count_nonzero(is_entry)) > MOST_ENTRIES:
+    if (numbers.size if is_entry is None else numpy.count_nonzero(is_entry)) > MOST_ENTRIES:
         raise ValueError(LIST_FAULTS[3])
     if is_entry is None:
-        rows, columns = numpy.indices(matrix.shape).reshape(2, -1)
-        return rows, columns, matrix.ravel(), matrix.shape
+        rows, columns = numpy.indices(numbers.shape).reshape(2, -1)
+        return rows, columns, numbers.ravel(), numbers.shape
     rows, columns = numpy.nonzero(is_entry)
-    return rows, columns, matrix[rows, columns], matrix.shape
+    return rows, columns, numbers[rows, columns], numbers.shape
+
+
+def _are_entries(costs, none, pair_of):
+    """Which costs are entries, or None where all are: those of floats that aren't the infinite one. A ValueError names the first that is none at all."""
+    if costs.dtype.kind != "f":
+        return None
+    with numpy.errstate(all="ignore"):
+        is_entry = costs != none
+        is_number = (costs != -none) & (costs == costs)
+    if not is_number.all():
+        place = int(numpy.argmin(is_number))
+        row, column = pair_of(place)
+        raise ValueError(f"matrix contains invalid numeric entries: row {row}, column {column} has {costs.ravel()[place]}")
+    return None if is_entry.all() else is_entry

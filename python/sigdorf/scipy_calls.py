@@ -1,0 +1,51 @@
+"""Calls with the names, answers, faults and words of SciPy's, for programs that change an import alone. Their costs count exactly."""
+import warnings
+
+import numpy
+
+from .assignment import answer_of
+from .faults import Infeasible, Mistyped, Unsettled
+from .library import USUAL_BIDS
+from .matrices import entries_of, is_sparse
+from .problem import Problem
+
+
+def linear_sum_assignment(cost_matrix, maximize=False, *, decimals=None, bids=USUAL_BIDS):
+    """As SciPy's call of this name: row_ind and col_ind of the assignment of least cost, and of no other.
+
+    cost_matrix: an array of two dimensions, in which an infinite cost is no entry, or a sparse matrix or array (coo, csc, csr, dok, lil), in
+        which what isn't stored is none. A masked array is refused.
+    `maximize`, `decimals` and `bids` are those of :func:`solve`.
+
+    Raises what :func:`solve` does, and Unsettled where a limit ended the search before the least cost was found. A cost that is NaN or
+    infinite the other way is a ValueError, and a matrix of what aren't numbers a :class:`~.faults.Mistyped`.
+    """
+    return _pairs(entries_of(cost_matrix, maximize), maximize, decimals, bids, "cost matrix is infeasible")
+
+
+def min_weight_full_bipartite_matching(biadjacency, maximize=False, *, decimals=None, bids=USUAL_BIDS):
+    """As SciPy's call of this name, for a sparse matrix or array: row_ind and col_ind of the full matching of least weight, and of no other.
+
+    Stored zeros are no entries here, and a warning says so; to :func:`solve` and :func:`linear_sum_assignment` they are. Stored infinities are
+    none either. Raises what :func:`linear_sum_assignment` does.
+    """
+    if not is_sparse(biadjacency):
+        raise Mistyped("graph must be in CSC, CSR, or COO format, and this one isn't sparse.")
+    rows, columns, weights, shape = entries_of(biadjacency, maximize)
+    if not weights.all():
+        warnings.warn("explicit zero weights are removed before matching.", stacklevel=2)
+        some = weights != 0
+        rows, columns, weights = rows[some], columns[some], weights[some]
+    return _pairs((rows, columns, weights, shape), maximize, decimals, bids, "no full matching exists")
+
+
+def _pairs(entries, maximize, decimals, bids, words):
+    """Rows and columns of the least pairs. Where there are none, these words begin the fault."""
+    problem = Problem(*entries, maximize, decimals, is_matrix=True)
+    try:
+        answer = answer_of(problem, numpy.zeros(0, numpy.int64), bids)
+    except Infeasible as fault:
+        raise Infeasible(fault.rows, fault.columns, fault.by_columns, words) from None
+    if answer.gap:
+        raise Unsettled(problem.solution(answer))
+    return problem.pairs(answer.choice)[:2]

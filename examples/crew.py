@@ -10,4 +10,4 @@ print(solution.cost, "minutes, jobs", solution.columns.tolist())
 try:
     sigdorf.solve([0, 1, 2, 2], [0, 0, 0, 1], [1, 1, 1, 1], (3, 3))
 except sigdorf.Infeasible as fault:
-    print(fault, fault.rows.tolist(), fault.columns.tolist())
+    print(fault)

@@ -1,16 +1,32 @@
 """Assignments of rows to columns."""
+import typing
+
 import numpy
+from numpy.typing import ArrayLike
 
 from .arguments import INT64, MOST_BIDS, number, whole_numbers
 from .claims import check_claim
 from .exact import Answer
 from .library import START_FAULTS, USUAL_BIDS
+from .matrices import entries_of
 from .problem import Problem
+from .solution import Solution
+from .tables import named
 
 HIGHEST_START = 2**60
 
 
-def solve(rows, columns, costs, shape=None, *, maximize=False, decimals=None, start=None, bids=USUAL_BIDS):
+def solve(
+    rows: typing.Any,
+    columns: ArrayLike | None = None,
+    costs: ArrayLike | None = None,
+    shape: typing.Sequence[int] | None = None,
+    *,
+    maximize: bool = False,
+    decimals: int | None = None,
+    start: ArrayLike | None = None,
+    bids: int = USUAL_BIDS,
+) -> Solution:
     """An assignment and a bound: of least cost where `is_optimal` says so, and else the best that the bids sufficed for.
 
     Look at `is_optimal` of the :class:`Solution`: where it is False, a limit ended the search, and another assignment may cost less, down to
@@ -32,18 +48,32 @@ def solve(rows, columns, costs, shape=None, *, maximize=False, decimals=None, st
         rows + 1 (of decimals, 10^decimals times that). They may be wrong: any from 0 to 2^60.
     bids: how many bids a phase may take, from 0 to 2^64 - 1.
 
+    In place of the lists there may be one table: a matrix, dense (what is infinite is no entry) or sparse (what isn't stored is none), or a
+    table with `index`, `columns` and `to_numpy`, such as pandas' DataFrame, whose names are in the solution's `labels` and in every fault.
+
     Raises Infeasible where there is no full assignment, ValueError where an argument is at fault (a masked array among them), and MemoryError.
+    KeyboardInterrupt gets away from a long call at once; the search itself runs on to its end in a thread of its own, unseen.
     """
-    problem = Problem(rows, columns, costs, shape, maximize, decimals)
+    problem = _problem_of(rows, columns, costs, shape, maximize, decimals)
     return problem.solution(answer_of(problem, _start_of(problem, start), bids))
 
 
-def answer_of(problem, start, bids):
-    """The Answer to a problem."""
+def _problem_of(rows, columns, costs, shape, maximize, decimals):
+    """The problem of a caller's lists, or of a table alone."""
+    if columns is not None or costs is not None:
+        return Problem(rows, columns, costs, shape, maximize, decimals)
+    if shape is not None:
+        raise ValueError("a table has a shape of its own")
+    table, names = named(rows)
+    return Problem(*entries_of(table, maximize, names), maximize, decimals, names)
+
+
+def answer_of(problem, start, bids, words="no full assignment exists"):
+    """The Answer to a problem; these words begin an Infeasible."""
     bids = number(bids, "bids", 0, MOST_BIDS)
     if problem.persons == 0:
         return Answer(numpy.zeros(0, numpy.int64), [(numpy.zeros(problem.objects, numpy.int64), 0)], 1, 0)
-    return problem.answered(start, bids)
+    return problem.answered(start, bids, words)
 
 
 def _start_of(problem, start):
@@ -60,11 +90,20 @@ def _start_of(problem, start):
     return numpy.minimum(start, HIGHEST_START >> finer) << finer >> coarser
 
 
-def check(solution, rows, columns, costs, shape=None, *, maximize=False, decimals=None):
+def check(
+    solution: Solution,
+    rows: typing.Any,
+    columns: ArrayLike | None = None,
+    costs: ArrayLike | None = None,
+    shape: typing.Sequence[int] | None = None,
+    *,
+    maximize: bool = False,
+    decimals: int | None = None,
+) -> None:
     """Raises :class:`Refused` where a solution isn't an assignment of this problem than which none costs less, as its prices show.
 
     The other arguments are those of :func:`solve`, and a ValueError says which one is at fault. Whoever found the solution is not trusted: type,
     length and range of each of its parts are looked at, and each number exactly; nothing of the solver is used. What a limit has ended
     (`is_optimal` is False) is refused. O(entries) time.
     """
-    check_claim(Problem(rows, columns, costs, shape, maximize, decimals), solution)
+    check_claim(_problem_of(rows, columns, costs, shape, maximize, decimals), solution)

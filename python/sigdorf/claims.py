@@ -9,7 +9,7 @@ import fractions
 import numpy
 
 from .amounts import FINEST, in_units, unit_of
-from .arguments import INT64, whole_numbers
+from .arguments import INT64, attempt, whole_numbers
 from .faults import Refused
 from .library import CLAIM_FAULTS, OTHER_SIZE, check_arcs
 from .solution import Solution
@@ -39,6 +39,9 @@ def check_claim(problem, solution):
     else:
         _check_exactly(problem, solution, choice)
     _look_at_amounts(problem, solution, cost)
+    labels = problem.labels(solution.rows, solution.columns)
+    if type(solution.labels) is not type(labels) or attempt(lambda given: given == labels, solution.labels) is not True:
+        raise Refused("the labels of the solution are not those of its rows and columns")
 
 
 def _choice_of(problem, solution):

@@ -1,22 +1,39 @@
 """What a call raises."""
 
+# A sentence names so many rows or columns.
+MOST_NAMED = 10
+
 
 class Infeasible(ValueError):
     """There is no full assignment: the entries of these rows lead to just these columns, which are fewer.
 
     `rows` and `columns` are arrays of indices, rising. Where there are more rows than columns it is the other way round: the entries of
-    these columns lead to just these rows, which are fewer, and `by_columns` is True.
+    these columns lead to just these rows, which are fewer, and `by_columns` is True. `labels` are the names of these rows and of these
+    columns, where the problem was a table that has names, and else None.
     """
 
-    def __init__(self, rows, columns, by_columns=False, words="no full assignment exists"):
+    def __init__(self, rows, columns, by_columns=False, words="no full assignment exists", labels=None):
         # What an exception is made of anew, as where one process tells it to another, are its arguments.
-        super().__init__(rows, columns, by_columns, words)
-        self.rows, self.columns, self.by_columns, self.words = rows, columns, by_columns, words
+        super().__init__(rows, columns, by_columns, words, labels)
+        self.rows, self.columns, self.by_columns, self.words, self.labels = rows, columns, by_columns, words, labels
 
     def __str__(self):
-        some, few = (self.columns, self.rows) if self.by_columns else (self.rows, self.columns)
-        names = ("columns", "rows") if self.by_columns else ("rows", "columns")
-        return f"{self.words}: {len(some)} {names[0]} have entries in only {len(few)} {names[1]}"
+        rows, columns = self.labels or (self.rows, self.columns)
+        some, few = (("column", columns), ("row", rows)) if self.by_columns else (("row", rows), ("column", columns))
+        have = "has" if len(some[1]) == 1 else "have"
+        return f"{self.words}: {_counted(*some)} {have} entries in only {_counted(*few)} ({_listed(*some)}; {_listed(*few)})"
+
+
+def _counted(name, some):
+    return f"{len(some)} {name}{'' if len(some) == 1 else 's'}"
+
+
+def _listed(name, some):
+    """The first of these rows or columns."""
+    if not len(some):
+        return f"no {name}"
+    more = f" and {len(some) - MOST_NAMED} more" if len(some) > MOST_NAMED else ""
+    return f"{name}{'' if len(some) == 1 else 's'} {', '.join(map(str, some[:MOST_NAMED]))}{more}"
 
 
 class Mistyped(TypeError, ValueError):

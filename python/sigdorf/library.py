@@ -6,6 +6,7 @@ import pathlib
 import numpy
 
 from .faults import Refused
+from .waiting import call_waiting
 
 ARC = numpy.dtype([("cost", "<i8"), ("person", "<u4"), ("object", "<u4")])
 OPTIMAL, SIZES, INFEASIBLE, BRACKET, REFUSED, MEMORY, START = 0, 2, 3, 4, 5, 6, 7
@@ -93,10 +94,14 @@ def solve_arcs(persons, objects, arcs, start, bids):
     start = _own(start, numpy.int64)
     choice, hall_objects = numpy.zeros(persons, numpy.uint32), numpy.zeros(persons, numpy.uint32)
     prices, found = numpy.zeros(objects, numpy.int64), Found()
-    status = _library.sigdorf_solve(persons, objects, *_passed(arcs, start), bids, *_passed(choice, prices, hall_objects), ctypes.byref(found))
+    status = call_waiting(len(arcs), _solve, persons, objects, (arcs, start), bids, (choice, prices, hall_objects), found)
     if status not in (OPTIMAL, INFEASIBLE, BRACKET):
         _refuse(status, found)
     return status, choice, prices, hall_objects, found
+
+
+def _solve(persons, objects, given, bids, places, found):
+    return _library.sigdorf_solve(persons, objects, *_passed(*given), bids, *_passed(*places), ctypes.byref(found))
 
 
 def check_arcs(persons, objects, arcs, choice, prices, cost):

@@ -6,6 +6,7 @@ from .costs import KINDS, look_at_rounding
 from .faults import Mistyped
 from .library import LIST_FAULTS
 from .problem import look_at_sides
+from .tables import NUMBERS
 
 # The sparse formats that store what the caller has put there; others fill up with zeros, or leave some out.
 FORMATS = ("coo", "csc", "csr", "dok", "lil")
@@ -16,13 +17,16 @@ def is_sparse(matrix):
     return attempt(lambda given: given.tocoo, matrix) is not None
 
 
-def entries_of(matrix, maximize):
-    """Rows, columns, costs and shape of a matrix: of a sparse one what is stored, of a dense one all, and of both what isn't infinite."""
+def entries_of(matrix, maximize, names=NUMBERS):
+    """Rows, columns, costs and shape of a matrix: of a sparse one what is stored, of a dense one all, and of both what isn't infinite.
+
+    A ValueError tells a row and a column by these names.
+    """
     none = -numpy.inf if truth(maximize, "maximize") else numpy.inf
-    return _stored(matrix, none) if is_sparse(matrix) else _dense(matrix, none)
+    return _stored(matrix, none, names) if is_sparse(matrix) else _dense(matrix, none, names)
 
 
-def _stored(matrix, none):
+def _stored(matrix, none, names):
     """The entries of a sparse matrix, whose parts are looked at as those of any caller. One that is stored twice is the sum."""
     if attempt(lambda given: given.format in FORMATS, matrix) is not True:
         raise ValueError(f"a sparse matrix must be of a format that stores its entries alone: {', '.join(FORMATS)}")
@@ -39,7 +43,7 @@ def _stored(matrix, none):
     if costs.ndim != 1 or not len(rows) == len(columns) == len(costs):
         raise ValueError("the sparse matrix must have a number for each of its entries")
     rows, columns, costs = _summed(rows, columns, costs)
-    is_entry = _are_entries(costs, none, lambda place: (rows[place], columns[place]))
+    is_entry = _are_entries(costs, none, lambda place: names.told(rows[place], columns[place]))
     return (rows, columns, costs, shape) if is_entry is None else (rows[is_entry], columns[is_entry], costs[is_entry], shape)
 
 
@@ -63,7 +67,7 @@ def _wide(costs):
     return costs.astype(numpy.int64)
 
 
-def _dense(matrix, none):
+def _dense(matrix, none, names):
     numbers = array_of(matrix, "the matrix", MOST_OBJECTS)
     if numbers.dtype.kind not in KINDS:
         raise Mistyped(f"Cannot cast array data from {numbers.dtype!r} to dtype('float64') according to the rule 'safe'")
@@ -71,7 +75,7 @@ def _dense(matrix, none):
         raise ValueError(f"expected a matrix (2-D array), got a {numbers.ndim} array")
     look_at_sides(numbers.shape)
     look_at_rounding(matrix, numbers)
-    is_entry = _are_entries(numbers, none, lambda place: numpy.unravel_index(place, numbers.shape))
+    is_entry = _are_entries(numbers, none, lambda place: names.told(*divmod(place, numbers.shape[1])))
     # Lists of entries take far more memory than a matrix may.
     if (numbers.size if is_entry is None else numpy.count_nonzero(is_entry)) > MOST_ENTRIES:
         raise ValueError(LIST_FAULTS[3])
@@ -82,7 +86,7 @@ def _dense(matrix, none):
     return rows, columns, numbers[rows, columns], numbers.shape
 
 
-def _are_entries(costs, none, pair_of):
+def _are_entries(costs, none, told):
     """Which costs are entries, or None where all are: those of floats that aren't the infinite one. A ValueError names the first that is none at all."""
     if costs.dtype.kind != "f":
         return None
@@ -91,6 +95,5 @@ def _are_entries(costs, none, pair_of):
         is_number = (costs != -none) & (costs == costs)
     if not is_number.all():
         place = int(numpy.argmin(is_number))
-        row, column = pair_of(place)
-        raise ValueError(f"matrix contains invalid numeric entries: row {row}, column {column} has {costs.ravel()[place]}")
+        raise ValueError(f"matrix contains invalid numeric entries: {told(place)} has {costs.ravel()[place]}")
     return None if is_entry.all() else is_entry

@@ -7,6 +7,7 @@ from .exact import combined, solve_costs
 from .faults import Infeasible
 from .library import LIST_FAULTS
 from .solution import Solution
+from .tables import NUMBERS
 from .whole import NoAssignment, arcs_of
 
 
@@ -17,10 +18,11 @@ class Problem:
     is sought.
     """
 
-    def __init__(self, rows, columns, costs, shape, maximize, decimals, is_matrix=False):
+    def __init__(self, rows, columns, costs, shape, maximize, decimals, names=None):
+        """`names` are those of a matrix; a caller's lists have none, and their faults tell the entry too."""
         decimals = None if decimals is None else number(decimals, "decimals", 0, MOST_DECIMALS)
         maximize = truth(maximize, "maximize")
-        self.is_matrix = is_matrix
+        self._names, self._is_matrix = names or NUMBERS, names is not None
         self.rows, self.columns = (whole_numbers(side, name, 0, MOST_INDEX) for side, name in ((rows, "rows"), (columns, "columns")))
         self._given = _numbers(costs)
         if not len(self.rows) == len(self.columns) == len(self._given):
@@ -40,13 +42,16 @@ class Problem:
         outside = (self.rows >= sides[0]) | (self.columns >= sides[1])
         if outside.any():
             place = int(numpy.argmax(outside))
-            raise ValueError(f"{LIST_FAULTS[4].format(place=place)}: row {self.rows[place]}, column {self.columns[place]}")
+            raise ValueError(f"{LIST_FAULTS[4].format(place=place)}: {self._told(place)}")
         return sides
 
     def _fault(self, place, sentence):
         """The fault of the cost at a place: what is said of it follows its row and column."""
-        name = "" if self.is_matrix else f" of entry {place}"
-        return ValueError(f"row {self.rows[place]}, column {self.columns[place]}: the cost {self._given[place]}{name} {sentence}")
+        entry = "" if self._is_matrix else f" of entry {place}"
+        return ValueError(f"{self._told(place)}: the cost {self._given[place]}{entry} {sentence}")
+
+    def _told(self, place):
+        return self._names.told(self.rows[place], self.columns[place])
 
     @property
     def has_whole_costs(self):
@@ -58,13 +63,19 @@ class Problem:
         """How many units of the costs are one of the caller's, where costs have decimals."""
         return 10**self.costs.decimals if isinstance(self.costs, DecimalCosts) else 1
 
-    def answered(self, start, bids):
-        """The :class:`~.exact.Answer` of the solver. Raises Infeasible."""
+    def answered(self, start, bids, words="no full assignment exists"):
+        """The :class:`~.exact.Answer` of the solver. Raises Infeasible, with these words."""
         try:
             return solve_costs(self.persons, self.objects, self.arcs, self.costs, start, bids)
         except NoAssignment as fault:
             persons, objects = fault.persons, fault.objects
-        raise Infeasible(objects, persons, True) if self.by_columns else Infeasible(persons, objects)
+        rows, columns = (objects, persons) if self.by_columns else (persons, objects)
+        raise Infeasible(rows, columns, self.by_columns, words, self._names.of(rows, columns))
+
+    def labels(self, rows, columns):
+        """The names of pairs, or None."""
+        named = self._names.of(rows, columns)
+        return named and list(zip(*named))
 
     def pairs(self, choice):
         """Rows, columns and entries of an arc for each person, by rising rows."""
@@ -82,7 +93,7 @@ class Problem:
         shown = self.costs.shown(cost)
         told = self.costs.shown_bound(bound) if answer.gap else shown
         prices, scale = self.priced(answer)
-        return Solution(rows, columns, entries, shown, told, prices, scale, cost, answer.gap or 0)
+        return Solution(rows, columns, entries, shown, told, prices, scale, cost, answer.gap or 0, self.labels(rows, columns))
 
     def priced(self, answer):
         """The prices of an answer on their scale, of which persons + 1 are one of the least units."""

@@ -1,16 +1,20 @@
 """Calls with the names, answers, faults and words of SciPy's, for programs that change an import alone. Their costs count exactly."""
+import typing
 import warnings
 
 import numpy
 
 from .assignment import answer_of
-from .faults import Infeasible, Mistyped, Unsettled
+from .faults import Mistyped, Unsettled
 from .library import USUAL_BIDS
 from .matrices import entries_of, is_sparse
 from .problem import Problem
+from .tables import NUMBERS
 
 
-def linear_sum_assignment(cost_matrix, maximize=False, *, decimals=None, bids=USUAL_BIDS):
+def linear_sum_assignment(
+    cost_matrix: typing.Any, maximize: bool = False, *, decimals: int | None = None, bids: int = USUAL_BIDS
+) -> tuple[numpy.ndarray, numpy.ndarray]:
     """As SciPy's call of this name: row_ind and col_ind of the assignment of least cost, and of no other.
 
     cost_matrix: an array of two dimensions, in which an infinite cost is no entry, or a sparse matrix or array (coo, csc, csr, dok, lil), in
@@ -23,7 +27,9 @@ def linear_sum_assignment(cost_matrix, maximize=False, *, decimals=None, bids=US
     return _pairs(entries_of(cost_matrix, maximize), maximize, decimals, bids, "cost matrix is infeasible")
 
 
-def min_weight_full_bipartite_matching(biadjacency, maximize=False, *, decimals=None, bids=USUAL_BIDS):
+def min_weight_full_bipartite_matching(
+    biadjacency: typing.Any, maximize: bool = False, *, decimals: int | None = None, bids: int = USUAL_BIDS
+) -> tuple[numpy.ndarray, numpy.ndarray]:
     """As SciPy's call of this name, for a sparse matrix or array: row_ind and col_ind of the full matching of least weight, and of no other.
 
     Stored zeros are no entries here, and a warning says so; to :func:`solve` and :func:`linear_sum_assignment` they are. Stored infinities are
@@ -41,11 +47,8 @@ def min_weight_full_bipartite_matching(biadjacency, maximize=False, *, decimals=
 
 def _pairs(entries, maximize, decimals, bids, words):
     """Rows and columns of the least pairs. Where there are none, these words begin the fault."""
-    problem = Problem(*entries, maximize, decimals, is_matrix=True)
-    try:
-        answer = answer_of(problem, numpy.zeros(0, numpy.int64), bids)
-    except Infeasible as fault:
-        raise Infeasible(fault.rows, fault.columns, fault.by_columns, words) from None
+    problem = Problem(*entries, maximize, decimals, NUMBERS)
+    answer = answer_of(problem, numpy.zeros(0, numpy.int64), bids, words)
     if answer.gap:
         raise Unsettled(problem.solution(answer))
     return problem.pairs(answer.choice)[:2]

@@ -30,13 +30,15 @@ class Solution(typing.NamedTuple):
     """The sum of the costs, exactly."""
     gap: fractions.Fraction | int = 0
     """What the cost is above the least one at most (below the greatest), exactly: 0, unless the bids didn't suffice."""
+    labels: list[tuple] | None = None
+    """The names of each pair's row and column, where the problem was a table that has names, such as a DataFrame; `dict(labels)` gives each its own."""
 
     @property
-    def is_optimal(self):
+    def is_optimal(self) -> bool:
         """Whether the cost is the least (or the most)."""
         return self.cost == self.bound and self.gap == 0
 
-    def exact_prices(self):
+    def exact_prices(self) -> list[fractions.Fraction]:
         """A price of each column (or row), in the unit of the costs: Fractions at which no entry is better for its row than the row's own pair at all.
 
         So the costs of the pairs are exactly the sum of what is best for each row, less the sum of the prices, and nothing is below that.

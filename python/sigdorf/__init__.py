@@ -4,6 +4,9 @@
     check(solution, rows, columns, costs)           whether a solution holds, whoever found it
     linear_sum_assignment(cost_matrix)              as SciPy's call of this name, dense or sparse
     min_weight_full_bipartite_matching(matrix)      as SciPy's call of this name
+    match(costs, limit)                             the best pairs of at most a limit; whoever has none stays free
+    lapjv(cost, cost_limit=limit)                   the same as the package `lap` has it
+    solve_many(problems, threads)                   solves many problems, over threads
 
 Costs count exactly as they stand, floats too (docs/EXACT.md). Where there is no full assignment, each raises Infeasible, which names the rows
 that together know too few columns. Where a limit ended the search, `solve` answers a solution whose `is_optimal` is False, and the two calls of
@@ -12,20 +15,26 @@ call; this module itself is only tested.
 """
 from .assignment import check, solve
 from .faults import Infeasible, Mistyped, Refused, Unsettled
+from .gated import Match, lapjv, match
 from .library import USUAL_BIDS
+from .many import solve_many
 from .scipy_calls import linear_sum_assignment, min_weight_full_bipartite_matching
 from .solution import Solution
 
 __version__ = "1.0"
 __all__ = [
     "Infeasible",
+    "Match",
     "Mistyped",
     "Refused",
     "Solution",
     "USUAL_BIDS",
     "Unsettled",
     "check",
+    "lapjv",
     "linear_sum_assignment",
+    "match",
     "min_weight_full_bipartite_matching",
     "solve",
+    "solve_many",
 ]

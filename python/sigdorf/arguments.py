@@ -19,6 +19,11 @@ def number(value, name, least, most):
     return found
 
 
+def is_whole(value):
+    """Whether a value is a whole number of Python's or numpy's, and no bool."""
+    return isinstance(value, (int, numpy.integer)) and not isinstance(value, (bool, numpy.timedelta64))
+
+
 def truth(value, name):
     """True or False; 0 and 1 stand for them."""
     if isinstance(value, (bool, numpy.bool_)):

@@ -9,7 +9,7 @@ from .claims import check_claim
 from .exact import Answer
 from .library import START_FAULTS, USUAL_BIDS
 from .matrices import entries_of
-from .problem import Problem
+from .problem import Lists, Problem
 from .solution import Solution
 from .tables import named
 
@@ -60,12 +60,17 @@ def solve(
 
 def _problem_of(rows, columns, costs, shape, maximize, decimals):
     """The problem of a caller's lists, or of a table alone."""
+    return Problem(lists_of(rows, columns, costs, shape, maximize), maximize, decimals)
+
+
+def lists_of(rows, columns, costs, shape, maximize):
+    """The Lists of a caller, or those of a table alone."""
     if columns is not None or costs is not None:
-        return Problem(rows, columns, costs, shape, maximize, decimals)
+        return Lists(rows, columns, costs, shape)
     if shape is not None:
         raise ValueError("a table has a shape of its own")
     table, names = named(rows)
-    return Problem(*entries_of(table, maximize, names), maximize, decimals, names)
+    return Lists(*entries_of(table, maximize, names), names)
 
 
 def answer_of(problem, start, bids, words="no full assignment exists"):

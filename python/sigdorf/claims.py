@@ -9,7 +9,7 @@ import fractions
 import numpy
 
 from .amounts import FINEST, in_units, unit_of
-from .arguments import INT64, attempt, whole_numbers
+from .arguments import INT64, attempt, is_whole, whole_numbers
 from .faults import Refused
 from .library import CLAIM_FAULTS, OTHER_SIZE, check_arcs
 from .solution import Solution
@@ -48,7 +48,7 @@ def _choice_of(problem, solution):
     """The place of an arc of each person, of a solution whose pairs are entries of the problem."""
     fault = "the solution names an entry that the problem doesn't have"
     entries = _listed(solution.entries, "entries", (0, len(problem.arcs) - 1), problem.persons, fault)
-    for name, side in (("rows", problem.rows), ("columns", problem.columns)):
+    for name, side in (("rows", problem.lists.rows), ("columns", problem.lists.columns)):
         places = _listed(getattr(solution, name), name, INT64, problem.persons, OTHER_SIZE)
         if not numpy.array_equal(places, side[entries]):
             raise Refused("the rows and columns of the solution are not those of its entries")
@@ -142,7 +142,7 @@ class Slacks:
 
 def _unit_of(scale, step):
     """The unit of prices of this scale, which is a power of two times the step."""
-    times, rest = divmod(scale, step) if _is_whole(scale) else (0, 0)
+    times, rest = divmod(scale, step) if is_whole(scale) else (0, 0)
     if times < 1 or rest or times & (times - 1) or times.bit_length() > MOST_UNIT:
         raise Refused(f"the scale of the prices is not {step} times a power of two")
     return int(times).bit_length() - 1
@@ -154,7 +154,7 @@ def _whole_list(value, count):
         return _listed(value, "prices", INT64, count, CLAIM_FAULTS[2]).astype(object)
     if len(value) != count:
         raise Refused(OTHER_SIZE)
-    if not all(map(_is_whole, value)):
+    if not all(map(is_whole, value)):
         raise Refused("prices of the solution must be one list of whole numbers")
     listed = numpy.empty(count, object)
     listed[:] = [int(number) for number in value]
@@ -176,14 +176,10 @@ def _listed(value, name, limits, count, fault):
     return listed
 
 
-def _is_whole(value):
-    return isinstance(value, (int, numpy.integer)) and not isinstance(value, (bool, numpy.timedelta64))
-
-
 def _amount(value):
     """A number as solutions have them: an int, a float, a Fraction or a finite Decimal; None of anything else."""
     if isinstance(value, decimal.Decimal):
         return value if value.is_finite() else None
-    if _is_whole(value):
+    if is_whole(value):
         return int(value)
     return value if isinstance(value, fractions.Fraction) or isinstance(value, float) and value == value else None

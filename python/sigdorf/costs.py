@@ -101,8 +101,11 @@ def common_twos(numbers):
 
 def look_at_rounding(given, numbers):
     """A ValueError where numpy had to round whole numbers of a caller's list, since a negative one or a fraction stands beside a long one."""
-    if isinstance(given, numpy.ndarray) or numbers.dtype != numpy.float64 or not numbers.size or not numpy.nanmax(numpy.abs(numbers)) >= 2.0**53:
+    if isinstance(given, numpy.ndarray) or numbers.dtype != numpy.float64:
         return
+    with numpy.errstate(all="ignore"):
+        if not (numpy.abs(numbers) >= 2.0**53).any():
+            return
     for number, value in zip(numpy.array(given, object).ravel().tolist(), numbers.ravel().tolist()):
         if isinstance(number, int) and number != value:
             raise ValueError(f"costs must be all whole numbers of 64 bits, of one sign where they are beyond 63, or all floats: {number} would be rounded")

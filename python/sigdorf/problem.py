@@ -11,27 +11,17 @@ from .tables import NUMBERS
 from .whole import NoAssignment, arcs_of
 
 
-class Problem:
-    """The arcs of a caller's lists, numbers of persons and of objects, and how to tell what is found in the caller's terms.
+class Lists:
+    """A caller's lists: which row may have which column at which cost. A ValueError says what is at fault."""
 
-    Where there are more rows than columns (`by_columns`), the columns are the persons. Costs of arcs are whole units of `costs`, and the least
-    is sought.
-    """
-
-    def __init__(self, rows, columns, costs, shape, maximize, decimals, names=None):
+    def __init__(self, rows, columns, costs, shape, names=None):
         """`names` are those of a matrix; a caller's lists have none, and their faults tell the entry too."""
-        decimals = None if decimals is None else number(decimals, "decimals", 0, MOST_DECIMALS)
-        maximize = truth(maximize, "maximize")
         self._names, self._is_matrix = names or NUMBERS, names is not None
         self.rows, self.columns = (whole_numbers(side, name, 0, MOST_INDEX) for side, name in ((rows, "rows"), (columns, "columns")))
-        self._given = _numbers(costs)
-        if not len(self.rows) == len(self.columns) == len(self._given):
+        self.costs = _numbers(costs)
+        if not len(self.rows) == len(self.columns) == len(self.costs):
             raise ValueError("rows and columns must be as many as the costs")
-        sides = self._sides(shape)
-        self.costs = costs_of(self._given, decimals, maximize, self._fault)
-        self.by_columns, self.sign = sides[0] > sides[1], -1 if maximize else 1
-        self.persons, self.objects = sorted(sides)
-        self.arcs = arcs_of(*((self.columns, self.rows) if self.by_columns else (self.rows, self.columns)), self.costs.whole)
+        self.sides = self._sides(shape)
 
     def _sides(self, shape):
         """The numbers of rows and of columns. A ValueError names an entry that isn't within them."""
@@ -45,13 +35,34 @@ class Problem:
             raise ValueError(f"{LIST_FAULTS[4].format(place=place)}: {self._told(place)}")
         return sides
 
-    def _fault(self, place, sentence):
+    def fault(self, place, sentence):
         """The fault of the cost at a place: what is said of it follows its row and column."""
         entry = "" if self._is_matrix else f" of entry {place}"
-        return ValueError(f"{self._told(place)}: the cost {self._given[place]}{entry} {sentence}")
+        return ValueError(f"{self._told(place)}: the cost {self.costs[place]}{entry} {sentence}")
 
     def _told(self, place):
         return self._names.told(self.rows[place], self.columns[place])
+
+    def named(self, rows, columns):
+        """The names of some rows and of some columns, or None where there are no names."""
+        return self._names.of(rows, columns)
+
+
+class Problem:
+    """The arcs of a caller's lists, numbers of persons and of objects, and how to tell what is found in the caller's terms.
+
+    Where there are more rows than columns (`by_columns`), the columns are the persons. Costs of arcs are whole units of `costs`, and the least
+    is sought.
+    """
+
+    def __init__(self, lists, maximize, decimals):
+        decimals = None if decimals is None else number(decimals, "decimals", 0, MOST_DECIMALS)
+        maximize = truth(maximize, "maximize")
+        self.lists, self.sign = lists, -1 if maximize else 1
+        self.costs = costs_of(lists.costs, decimals, maximize, lists.fault)
+        self.by_columns = lists.sides[0] > lists.sides[1]
+        self.persons, self.objects = sorted(lists.sides)
+        self.arcs = arcs_of(*((lists.columns, lists.rows) if self.by_columns else (lists.rows, lists.columns)), self.costs.whole)
 
     @property
     def has_whole_costs(self):
@@ -70,11 +81,11 @@ class Problem:
         except NoAssignment as fault:
             persons, objects = fault.persons, fault.objects
         rows, columns = (objects, persons) if self.by_columns else (persons, objects)
-        raise Infeasible(rows, columns, self.by_columns, words, self._names.of(rows, columns))
+        raise Infeasible(rows, columns, self.by_columns, words, self.lists.named(rows, columns))
 
     def labels(self, rows, columns):
         """The names of pairs, or None."""
-        named = self._names.of(rows, columns)
+        named = self.lists.named(rows, columns)
         return named and list(zip(*named))
 
     def pairs(self, choice):

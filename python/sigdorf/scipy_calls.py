@@ -8,7 +8,7 @@ from .assignment import answer_of
 from .faults import Mistyped, Unsettled
 from .library import USUAL_BIDS
 from .matrices import entries_of, is_sparse
-from .problem import Problem
+from .problem import Lists, Problem
 from .tables import NUMBERS
 
 
@@ -47,7 +47,7 @@ def min_weight_full_bipartite_matching(
 
 def _pairs(entries, maximize, decimals, bids, words):
     """Rows and columns of the least pairs. Where there are none, these words begin the fault."""
-    problem = Problem(*entries, maximize, decimals, NUMBERS)
+    problem = Problem(Lists(*entries, NUMBERS), maximize, decimals)
     answer = answer_of(problem, numpy.zeros(0, numpy.int64), bids, words)
     if answer.gap:
         raise Unsettled(problem.solution(answer))

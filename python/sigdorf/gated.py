@@ -1,0 +1,128 @@
+"""The best pairs under a limit: whoever has no good pair stays free. What trackers ask for."""
+import math
+import typing
+
+import numpy
+from numpy.typing import ArrayLike
+
+from .arguments import MOST_OBJECTS, attempt, is_whole, truth
+from .assignment import answer_of, lists_of
+from .costs import costs_of
+from .faults import Unsettled
+from .library import USUAL_BIDS
+from .problem import Lists, Problem
+from .scipy_calls import linear_sum_assignment
+
+
+class Match(typing.NamedTuple):
+    """Pairs of rows and columns, and those that stay free."""
+
+    rows: numpy.ndarray
+    """The rows that have a column, rising: int64."""
+    columns: numpy.ndarray
+    """The column of each of these rows: int64."""
+    free_rows: numpy.ndarray
+    """The rows without a column, rising: int64."""
+    free_columns: numpy.ndarray
+    """The columns without a row, rising: int64."""
+    costs: numpy.ndarray
+    """The cost of each pair, as the caller gave it."""
+    labels: list[tuple] | None = None
+    """The names of each pair's row and column, where the table has names."""
+
+
+def match(
+    costs: typing.Any,
+    limit: float,
+    *,
+    rows: ArrayLike | None = None,
+    columns: ArrayLike | None = None,
+    shape: typing.Sequence[int] | None = None,
+    maximize: bool = False,
+    bids: int = USUAL_BIDS,
+) -> Match:
+    """The pairs whose costs, less the limit each, have the least sum: as if each pair that isn't made cost the limit.
+
+    So no pair dearer than the limit is made, and one more pair is made only where the others don't pay more than it gains. A pair of just the
+    limit counts as much as none. The sum is exact, of floats too: no other pairs have a smaller one.
+
+    costs: a table as :func:`solve` takes it (a matrix, dense or sparse, or a DataFrame), or with `rows` and `columns` one list. Of a matrix
+        what is infinite is no pair.
+    limit: a finite number. Where costs are whole numbers beyond 2^53, it is whole.
+    rows, columns, shape: those of :func:`solve`. Rows and columns number 20,000 at most together.
+    maximize: whether the most is wanted: then no pair of less than the limit is made.
+    bids: that of :func:`solve`.
+
+    Raises ValueError where an argument is at fault, and Unsettled where a limit of the search ended it.
+    """
+    lists = lists_of(costs, None, None, shape, maximize) if rows is None and columns is None else lists_of(rows, columns, costs, shape, maximize)
+    if sum(lists.sides) > MOST_OBJECTS:
+        raise ValueError(f"rows and columns must number {MOST_OBJECTS:,} at most together")
+    # What isn't finite is refused before some costs are left out.
+    costs_of(lists.costs, None, maximize, lists.fault)
+    values, limit = _of_one_kind(lists.costs, limit)
+    some = numpy.flatnonzero(values >= limit if truth(maximize, "maximize") else values <= limit)
+    problem = Problem(_with_outlets(lists, some, values, limit), maximize, None)
+    answer = answer_of(problem, numpy.zeros(0, numpy.int64), bids)
+    if answer.gap:
+        raise Unsettled(problem.solution(answer))
+    return _without_outlets(lists, some[answer.choice[answer.choice < len(some)]])
+
+
+def _of_one_kind(costs, limit):
+    """The costs, and the limit as a number of their type; neither is rounded."""
+    if costs.dtype.kind != "f" and is_whole(limit):
+        wide = costs.astype(numpy.uint64 if costs.dtype == numpy.uint64 else numpy.int64)
+        if not numpy.iinfo(wide.dtype).min <= limit <= numpy.iinfo(wide.dtype).max:
+            raise ValueError(f"limit must be within the type of the costs, {wide.dtype}")
+        return wide, wide.dtype.type(limit)
+    near = attempt(float, limit)
+    if isinstance(limit, (str, bytes)) or near is None or not math.isfinite(near) or near != limit:
+        raise ValueError("limit must be a finite number, that a float of 64 bits is")
+    if costs.dtype.kind != "f" and costs.size and max(-int(costs.min()), int(costs.max())) > 2**53:
+        raise ValueError("limit must be a whole number where costs are whole numbers beyond 2^53")
+    return costs.astype(numpy.float64), near
+
+
+def _with_outlets(lists, some, values, limit):
+    """The lists of these entries, with a way out for each of the smaller side that is its own and costs the limit."""
+    by_columns = lists.sides[0] > lists.sides[1]
+    persons, objects = (lists.columns, lists.rows) if by_columns else (lists.rows, lists.columns)
+    mine = numpy.arange(min(lists.sides))
+    return Lists(
+        numpy.concatenate([persons[some], mine]),
+        numpy.concatenate([objects[some], max(lists.sides) + mine]),
+        numpy.concatenate([values[some], numpy.full(len(mine), limit, values.dtype)]),
+        (len(mine), sum(lists.sides)),
+    )
+
+
+def _without_outlets(lists, entries):
+    """The pairs of these entries, by rising rows, and who stays free."""
+    entries = entries[numpy.argsort(lists.rows[entries])]
+    rows, columns = lists.rows[entries], lists.columns[entries]
+    free = (numpy.setdiff1d(numpy.arange(side), held) for side, held in zip(lists.sides, (rows, columns)))
+    named = lists.named(rows, columns)
+    return Match(rows, columns, *free, lists.costs[entries], named and list(zip(*named)))
+
+
+def lapjv(cost: ArrayLike, extend_cost: bool = False, cost_limit: float = math.inf, return_cost: bool = True) -> tuple:
+    """As the call of this name of the package `lap`: the sum, the column of each row, and the row of each column, -1 for none.
+
+    cost: a matrix; as many rows as columns, unless `extend_cost` is True. What is infinite is no pair.
+    cost_limit: no pair dearer than this is made; see :func:`match`.
+    return_cost: whether the sum is wanted; else the two arrays of int32 alone are answered.
+
+    Raises Infeasible where there is no limit and no full assignment, and what :func:`match` does.
+    """
+    matrix = numpy.asarray(cost)
+    if matrix.ndim != 2:
+        raise ValueError("2-dimensional array expected")
+    if matrix.shape[0] != matrix.shape[1] and not truth(extend_cost, "extend_cost"):
+        raise ValueError("Square cost array expected. If cost is intentionally non-square, pass extend_cost=True.")
+    rows, columns = linear_sum_assignment(matrix) if cost_limit == math.inf else match(matrix, cost_limit)[:2]
+    of_row, of_column = numpy.full(matrix.shape[0], -1, numpy.int32), numpy.full(matrix.shape[1], -1, numpy.int32)
+    of_row[rows], of_column[columns] = columns, rows
+    if not truth(return_cost, "return_cost"):
+        return of_row, of_column
+    return math.fsum(matrix[rows, columns].tolist()), of_row, of_column

@@ -34,13 +34,13 @@ class Costs:
     def __init__(self, given, sign):
         self._given, self._sign = given, sign
         are_small = _are_small(given)
-        self.unit, whole = (0, given.astype(numpy.int64)) if are_small else _in_units(given)
+        self.unit, whole = (0, given.astype(numpy.int64, copy=False)) if are_small else _in_units(given)
         self.is_whole = are_small or not _tails(given, whole, self.unit).any()
         if self.is_whole and not are_small:
             # The smaller the numbers, the fewer the bids: units as great as all costs allow.
             spare = common_twos(whole)
             self.unit, whole = self.unit - spare, whole >> spare
-        self.whole = sign * whole
+        self.whole = whole if sign > 0 else -whole
 
     def tails(self, places):
         """What is left of the costs at these places beside their whole units: floats of 64 bits, exact, in the unit of the costs."""

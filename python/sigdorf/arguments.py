@@ -63,7 +63,8 @@ def whole_numbers(value, name, least, most):
     if array.ndim != 1 or array.dtype.kind not in "iu":
         raise ValueError(f"{name} must be one list of whole numbers")
     if array.size and not least <= int(array.min()) <= int(array.max()) <= most:
-        raise ValueError(f"{name} must not be below {least}, nor above {most}")
+        place = int(numpy.argmin(array) if array.min() < least else numpy.argmax(array))
+        raise ValueError(f"{name} must not be below {least}, nor above {most}: number {place} is {array[place]}")
     return array.astype(numpy.int64, copy=False)
 
 

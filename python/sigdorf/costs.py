@@ -80,9 +80,11 @@ class DecimalCosts:
         self.whole, self.decimals, self._sign = sign * whole, decimals, sign
 
     def total(self, places):
+        """The sum of the caller's costs at these places: a Fraction."""
         return self.amount(int(self.whole[places].sum()))
 
     def amount(self, units):
+        """What so many units are of the caller's costs: a Fraction."""
         return fractions.Fraction(self._sign * units, 10**self.decimals)
 
     def shown(self, amount):
@@ -99,13 +101,16 @@ def common_twos(numbers):
     return (bits & -bits).bit_length() - 1 if bits else 0
 
 
+def may_be_rounded(numbers):
+    """Whether there are floats of 64 bits that several whole numbers of 64 bits are next to."""
+    with numpy.errstate(all="ignore"):
+        return numbers.dtype == numpy.float64 and bool((numpy.abs(numbers) >= 2.0**53).any())
+
+
 def look_at_rounding(given, numbers):
     """A ValueError where numpy had to round whole numbers of a caller's list, since a negative one or a fraction stands beside a long one."""
-    if isinstance(given, numpy.ndarray) or numbers.dtype != numpy.float64:
+    if isinstance(given, numpy.ndarray) or not may_be_rounded(numbers):
         return
-    with numpy.errstate(all="ignore"):
-        if not (numpy.abs(numbers) >= 2.0**53).any():
-            return
     for number, value in zip(numpy.array(given, object).ravel().tolist(), numbers.ravel().tolist()):
         if isinstance(number, int) and number != value:
             raise ValueError(f"costs must be all whole numbers of 64 bits, of one sign where they are beyond 63, or all floats: {number} would be rounded")

@@ -51,9 +51,9 @@ def _refined(level, prices, bids):
     return Answer(level.place[level.pick], levels, 1, gap)
 
 
-def combined(levels, least_unit=0):
-    """The sums of levels as Python's whole numbers of 2^-unit, and this unit, which isn't below the least one."""
-    unit = max(least_unit, *(unit for _, unit in levels))
+def combined(levels):
+    """The sums of levels as Python's whole numbers of 2^-unit, and this unit, from 0."""
+    unit = max(0, *(unit for _, unit in levels))
     total = numpy.zeros(len(levels[0][0]), object)
     for numbers, own in levels:
         some = numpy.flatnonzero(numbers)

@@ -35,7 +35,7 @@ class Level:
         mine = self.person[nearest]
         return len(numpy.unique(mine[self.tail[nearest] < self.tail[self.pick[mine]]]))
 
-    def drop_far(self):
+    def _drop_far(self):
         """Leaves out arcs that no later round brings near: they all together move a slack by less than 4 persons + 16 of this unit."""
         keep = self.slack <= most_slack(self.persons)
         if not keep.all():
@@ -44,7 +44,7 @@ class Level:
 
     def finer(self, bids):
         """The next level, and by how much it changes prices: objects, and whole numbers of its unit. Raises OutOfBids."""
-        self.drop_far()
+        self._drop_far()
         unit, slack, tail = self._in_finer_unit()
         price = _scaled(self.price, unit - self.unit)
         near = Near(self.person, self.object, slack, self.pick, price, self.persons == self.objects)
@@ -79,11 +79,15 @@ class Level:
 
 
 def most_slack(persons):
+    """Beyond what slack an arc is far."""
     return 4 * persons + 16
 
 
 def _scaled(price, by):
-    """Prices in a unit that is finer by powers of two; PLENTY stays what stands for any that is greater."""
+    """Prices in a unit that is finer by powers of two; PLENTY stays what stands for any that is greater.
+
+    Negative ones, which there are of as many objects as persons alone, may run over: nobody looks at prices there.
+    """
     return numpy.where(price > PLENTY >> by, PLENTY, price << by)
 
 

@@ -2,6 +2,7 @@
 import typing
 
 from .arguments import attempt
+from .costs import look_at_rounding, may_be_rounded
 
 
 class Names(typing.NamedTuple):
@@ -29,4 +30,7 @@ def named(table):
     parts = attempt(lambda given: (given.to_numpy(), list(given.index), list(given.columns)), table)
     if parts is None or getattr(parts[0], "shape", None) != (len(parts[1]), len(parts[2])):
         return table, NUMBERS
+    if may_be_rounded(parts[0]):
+        # Columns of whole numbers beside others of floats have become floats.
+        look_at_rounding(attempt(lambda given: given.to_numpy(object).tolist(), table) or [], parts[0])
     return parts[0], Names(*parts[1:])

@@ -15,12 +15,17 @@ def call_waiting(count, call, *arguments):
         return call(*arguments)
     done, answers = threading.Event(), []
 
-    def run():
-        try:
-            answers.append(call(*arguments))
-        finally:
-            done.set()
-
-    threading.Thread(target=run, name="sigdorf", daemon=True).start()
+    threading.Thread(target=_run, args=(call, arguments, answers, done), name="sigdorf", daemon=True).start()
     done.wait()
-    return answers.pop()
+    answer, fault = answers.pop()
+    if fault is not None:
+        raise fault
+    return answer
+
+
+def _run(call, arguments, answers, done):
+    try:
+        answers.append((call(*arguments), None))
+    except BaseException as fault:
+        answers.append((None, fault))
+    done.set()

@@ -84,6 +84,14 @@ class Named(Limited):
                 sigdorf.solve(*arguments)
 
     @unittest.skipUnless(pandas, "pandas is not there")
+    def test_columns_of_several_types(self):
+        table = pandas.DataFrame({"roof": [1, 2**53 + 1], "wall": [0.5, 1.5]})
+        with self.assertRaisesRegex(ValueError, "9007199254740993 would be rounded"):
+            sigdorf.solve(table)
+        table["roof"] = [1, 2]
+        self.assertEqual(sigdorf.solve(table).cost, 2.5)
+
+    @unittest.skipUnless(pandas, "pandas is not there")
     def test_other_names(self):
         table = pandas.DataFrame([[3, 1], [1, 9]], pandas.to_datetime(["2026-11-26", "2026-11-27"]), pandas.MultiIndex.from_tuples([("a", 1), ("a", 2)]))
         self.assertEqual([column for _, column in sigdorf.solve(table).labels], [("a", 2), ("a", 1)])

@@ -33,10 +33,10 @@ class Costs:
 
     def __init__(self, given, sign):
         self._given, self._sign = given, sign
-        are_small = _are_small(given)
-        self.unit, whole = (0, given.astype(numpy.int64, copy=False)) if are_small else _in_units(given)
-        self.is_whole = are_small or not _tails(given, whole, self.unit).any()
-        if self.is_whole and not are_small:
+        is_small = are_small(given)
+        self.unit, whole = (0, given.astype(numpy.int64, copy=False)) if is_small else _in_units(given)
+        self.is_whole = is_small or not _tails(given, whole, self.unit).any()
+        if self.is_whole and not is_small:
             # The smaller the numbers, the fewer the bids: units as great as all costs allow.
             spare = common_twos(whole)
             self.unit, whole = self.unit - spare, whole >> spare
@@ -129,7 +129,7 @@ def _finite(given, fault):
     return wide
 
 
-def _are_small(given):
+def are_small(given):
     """Whether all costs are whole numbers to 10^9."""
     if not given.size:
         return True

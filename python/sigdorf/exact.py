@@ -53,7 +53,7 @@ def _refined(level, prices, bids):
 
 def combined(levels):
     """The sums of levels as Python's whole numbers of 2^-unit, and this unit, from 0."""
-    unit = max(0, *(unit for _, unit in levels))
+    unit = max(0, max(unit for _, unit in levels))
     total = numpy.zeros(len(levels[0][0]), object)
     for numbers, own in levels:
         some = numpy.flatnonzero(numbers)

@@ -114,7 +114,7 @@ class Problem:
             if self.persons == self.objects:
                 numbers = numbers - min(numbers)
         numbers = numbers * ((self.persons + 1) // answer.scale)
-        return _narrow(numbers), (self.persons + 1) * self.decimal_scale << unit
+        return narrow(numbers), (self.persons + 1) * self.decimal_scale << unit
 
 
 def look_at_sides(sides):
@@ -133,7 +133,7 @@ def _numbers(costs):
     return numbers
 
 
-def _narrow(numbers):
+def narrow(numbers):
     """Whole numbers as int64 where they are all within it, else as they are."""
     if numbers.dtype != object or numbers.size and not -(2**63) <= min(numbers) <= max(numbers) < 2**63:
         return numbers

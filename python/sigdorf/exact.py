@@ -33,7 +33,9 @@ def solve_costs(persons, objects, arcs, costs, start, bids):
     prices = whole_prices(persons, found.prices, arcs["object"][found.choice])
     if costs.is_whole:
         return Answer(found.choice, [(prices, unit)], 1, fractions.Fraction(0))
-    return _refined(first_level(arcs, objects, costs, found.choice, prices), prices, bids)
+    # Floats that run under are next to nothing in a unit: a caller who has numpy raise that has no use of it here.
+    with numpy.errstate(all="ignore"):
+        return _refined(first_level(arcs, objects, costs, found.choice, prices), prices, bids)
 
 
 def _refined(level, prices, bids):

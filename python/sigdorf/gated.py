@@ -5,6 +5,7 @@ import typing
 import numpy
 from numpy.typing import ArrayLike
 
+from .amounts import exact_sum, nearest_float
 from .arguments import MOST_OBJECTS, attempt, is_whole, truth
 from .assignment import answer_of, lists_of
 from .costs import costs_of
@@ -125,4 +126,5 @@ def lapjv(cost: ArrayLike, extend_cost: bool = False, cost_limit: float = math.i
     of_row[rows], of_column[columns] = columns, rows
     if not truth(return_cost, "return_cost"):
         return of_row, of_column
-    return math.fsum(matrix[rows, columns].tolist()), of_row, of_column
+    costs = matrix[rows, columns]
+    return nearest_float(exact_sum(costs.astype(numpy.float64) if costs.dtype.kind == "f" else costs)), of_row, of_column

@@ -54,7 +54,8 @@ class Blocks:
         self.persons = _firsts(min(shape) for shape in self.shapes)
         self.objects = _firsts(max(shape) for shape in self.shapes)
         self.entries = _firsts(rows * columns for rows, columns in self.shapes)
-        self.is_entry = self.costs != none
+        with numpy.errstate(all="ignore"):
+            self.is_entry = self.costs != none
         self.before = numpy.concatenate([[0], numpy.cumsum(self.is_entry)])
 
     def lists(self):

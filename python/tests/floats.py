@@ -147,13 +147,14 @@ def floats(seed, most=(6, 8)):
     source.shuffle(pairs)
     rows, columns = (numpy.array(side) for side in zip(*pairs))
     lists = rows, columns, matrix[rows, columns], shape
-    solution = sigdorf.solve(*lists, maximize=maximize, bids=BIDS)
-    if is_ended(solution, shape):
-        return "ended by a limit"
-    assert_least(solution, lists, maximize)
-    sigdorf.check(solution, *lists, maximize=maximize)
-    assert_others_refused(source, solution, lists, maximize)
-    assert_as_matrix(solution, lists, matrix, maximize)
+    with numpy.errstate(all=source.choice(["raise", "warn"])):
+        solution = sigdorf.solve(*lists, maximize=maximize, bids=BIDS)
+        if is_ended(solution, shape):
+            return "ended by a limit"
+        assert_least(solution, lists, maximize)
+        sigdorf.check(solution, *lists, maximize=maximize)
+        assert_others_refused(source, solution, lists, maximize)
+        assert_as_matrix(solution, lists, matrix, maximize)
     return kind.__name__
 
 

@@ -87,6 +87,11 @@ class Lap(Limited):
         self.assertEqual((total, sorted(of_row)), (10.5, [0, 1, 2]))
         self.assertEqual([side.tolist() for side in sigdorf.lapjv(cost, cost_limit=2.0, return_cost=False)], [[0, 1, -1], [0, 1, -1]])
 
+    def test_sums_beyond_floats(self):
+        self.assertEqual(sigdorf.lapjv([[1.7e308, 1.0], [1.0, 1.7e308]], cost_limit=0.5)[0], 0)
+        self.assertEqual(sigdorf.lapjv(numpy.eye(2) * -1.7e308)[0], -math.inf)
+        self.assertEqual(sigdorf.lapjv(numpy.eye(2, dtype=bool))[0], 0)
+
     def test_other_shapes(self):
         total, of_row, of_column = sigdorf.lapjv([[3, 1, 2]], extend_cost=True)
         self.assertEqual((total, of_row.tolist(), of_column.tolist()), (1, [1], [-1, 0, -1]))

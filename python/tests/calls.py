@@ -143,10 +143,10 @@ def call_check(source, problem):
 
 def odd_part(source, name, part):
     """Another value in place of a part of a solution."""
-    if name in ("cost", "bound", "scale"):
+    if name in ("cost", "bound", "scale", "exact_cost", "gap"):
         return source.choice([*guises.ODD_NUMBERS, guises.Broken(), -2])
     is_list = isinstance(part, list) or isinstance(part, numpy.ndarray) and part.ndim > 0
-    numbers = [number for number in part[:9] if isinstance(number, (int, numpy.integer))] if is_list else [0]
+    numbers = [number for number in part[:9] if isinstance(number, (int, numpy.integer)) and not isinstance(number, numpy.timedelta64)] if is_list else [0]
     if source.random() < 0.2:
         return guises.same(source, [int(number) for number in numbers], guises.INTEGERS)
     if source.random() < 0.2:

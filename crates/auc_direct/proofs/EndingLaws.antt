@@ -17,19 +17,11 @@ limit_earlier r bids begun after Reason.Posts prices le h = h
 limit_earlier r bids begun after Reason.Trail prices le h = h
 limit_earlier r bids begun after Reason.Mail prices le h = h
 
-pub ended_left : (r : Shorts) (bids : ℕ) (begun eps : ℤ) (ending : Ending) (prices : List ℤ) (holders : List ℕ) (owns : List ShortArc) → Stands r eps prices holders owns → IsEnding r bids begun ending prices owns → (ending ≡ Ending.Sold → eps ≡ pos 1) → IsLeft r ending prices holders owns
-ended_left r bids begun eps Ending.Sold prices holders owns stands is last = (subst (λ (e : ℤ). Stands r e prices holders owns) (last refl) stands, is)
-ended_left r bids begun eps (Ending.Stopped reason) prices holders owns stands is last = (eps, stands)
-
 pub ended_stopped : (r : Shorts) (bids : ℕ) (begun after : ℤ) (ending : Ending) (prices : List ℤ) (owns : List ShortArc) → begun ≤ℤ after → IsEnding r bids after ending prices owns → IsStopped r bids begun ending prices
 ended_stopped r bids begun after Ending.Sold prices owns le is = tt
 ended_stopped r bids begun after (Ending.Stopped reason) prices owns le is = limit_earlier r bids begun after reason prices le is
 
--- where all is sold, each person has an object
-pub ended_sold : (r : Shorts) (bids : ℕ) (begun : ℤ) (ending : Ending) (prices : List ℤ) (owns : List ShortArc) → IsEnding r bids begun ending prices owns → IsSold r ending owns
-ended_sold r bids begun Ending.Sold prices owns is = is
-ended_sold r bids begun (Ending.Stopped reason) prices owns is = tt
-
+-- what a phase leaves is what all leave, where it was the last
 pub sold_left : (r : Shorts) (eps : ℤ) (ending : Ending) (prices : List ℤ) (holders : List ℕ) (owns : List ShortArc) → Stands r eps prices holders owns → IsSold r ending owns → (ending ≡ Ending.Sold → eps ≡ pos 1) → IsLeft r ending prices holders owns
 sold_left r eps Ending.Sold prices holders owns stands is last = (subst (λ (e : ℤ). Stands r e prices holders owns) (last refl) stands, is)
 sold_left r eps (Ending.Stopped reason) prices holders owns stands is last = (eps, stands)

@@ -110,9 +110,10 @@ fn solve_rows_from<W: Watch>(
 ///
 /// The answer is right as that of `auc_world::solve_serial` is, but of several least assignments it may be another one.
 ///
-/// Takes the time of the search for an assignment of any cost ([`auc_hall::complete`]), of the bids, each O(arcs of the person), of the paths, each at most
-/// O(arcs * log arcs), and of one check; and 20 bytes of memory an arc and some 60 an object beside the problem's own, and 16 for each label that waits in a search,
-/// of which there are at most as many as arcs. That paths are taken at all no clause says. The method is the auction with epsilon scaling
+/// Takes the time of the search for an assignment of any cost ([`auc_hall::complete`]), of the bids, each O(arcs of the person), or O(1) where the list of a long
+/// row tells it, of the paths, each at most O(arcs * log arcs), and of one check; and 20 bytes of memory an arc and some 60 an object beside the problem's own, 184 a person
+/// where some row has 48 arcs and more, and 16 for each label that waits in a search, of which there are at most as many as arcs. That paths are taken at all no
+/// clause says, nor that lists are. The method is the auction with epsilon scaling
 /// (Bertsekas, 1979; Bertsekas and Eckstein, 1988), where whoever is displaced bids next, and successive shortest paths (Edmonds and Karp, 1972) where that goes far.
 ///
 /// # Errors

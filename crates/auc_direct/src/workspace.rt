@@ -10,7 +10,8 @@ use crate::rows::ShortRows;
 use crate::search::Search;
 use std::alloc::{AllocError, Global};
 
-/// The lists of candidates, which stay through all phases; room for searches; and how many bids have gone by since nobody was displaced.
+/// The lists of candidates, which stay through all phases; room for searches; and how many bids in a row have displaced somebody, behind the last
+/// search for a path.
 #[derive(Drop)]
 pub(crate) struct Workspace {
     pub(crate) lists: Lists,

@@ -44,7 +44,7 @@ fn outlets() -> [Arc; 12] {
 
 /// What a solve of them has told, and what stands in the caller's memory then.
 #[derive(Clone, Copy)]
-struct Told {
+struct Behind {
     status: i32,
     choice: [u32; 3],
     prices: [i64; 4],
@@ -53,7 +53,7 @@ struct Told {
 }
 
 /// Solves them in one hand.
-fn told(rt: &HostRuntime, start: &[i64], bids: u64) -> Told {
+fn solved(rt: &HostRuntime, start: &[i64], bids: u64) -> Behind {
     let (mut choice, mut prices, mut objects, mut found) = ([7; 3], [7; 4], [7; 3], NOTHING);
     let status = solve_call(
         rt.alloc(),
@@ -67,7 +67,7 @@ fn told(rt: &HostRuntime, start: &[i64], bids: u64) -> Told {
         &mut objects,
         &mut found,
     );
-    Told {
+    Behind {
         status,
         choice,
         prices,
@@ -83,9 +83,18 @@ fn least_from_any_start(rt: HostRuntime) {
     let some: &[i64] = &[0, 7, 0, MOST];
     let highest: &[i64] = &[MOST, MOST, MOST, MOST];
     for start in [none, some, highest] {
-        let told = told(&rt, start, 1000);
-        assert_eq!(rt; (told.status, told.objects, told.choice[1]), (OPTIMAL, [7, 7, 7], 7));
-        assert_eq!(rt; told.found, Found { cost: 100_000_000, ..NOTHING });
+        let told = solved(&rt, start, 1000);
+        assert_eq!(rt;
+            (told.status, told.objects, told.choice[1]),
+            (OPTIMAL, [7, 7, 7], 7)
+        );
+        assert_eq!(rt;
+            told.found,
+            Found {
+                cost: 100_000_000,
+                ..NOTHING
+            }
+        );
         let mut found = NOTHING;
         let status = check_call(
             rt.alloc(),
@@ -107,7 +116,7 @@ fn no_bids(rt: HostRuntime) {
     let none: &[i64] = &[];
     let some: &[i64] = &[0, 0, MOST, MOST];
     for start in [none, some] {
-        let told = told(&rt, start, 0);
+        let told = solved(&rt, start, 0);
         assert_eq!(rt; (told.status, told.found.kind), (BRACKET, 1));
         assert!(rt; told.found.lower <= 100_000_000 && 100_000_000 <= told.found.cost);
     }
@@ -120,9 +129,22 @@ fn refused_starts(rt: HostRuntime) {
     let below: &[i64] = &[0, 0, -1, 0];
     let above: &[i64] = &[0, 0, 0, MOST + 1];
     for (start, kind, place) in [(few, 2, 0), (below, 3, 2), (above, 3, 3)] {
-        let told = told(&rt, start, 1000);
-        assert_eq!(rt; (told.status, told.found), (START, Found { kind, place, ..NOTHING }));
-        assert_eq!(rt; (told.choice, told.prices, told.objects), ([7; 3], [7; 4], [7; 3]));
+        let told = solved(&rt, start, 1000);
+        assert_eq!(rt;
+            (told.status, told.found),
+            (
+                START,
+                Found {
+                    kind,
+                    place,
+                    ..NOTHING
+                }
+            )
+        );
+        let choice = told.choice;
+        let prices = told.prices;
+        let objects = told.objects;
+        assert_eq!(rt; (choice, prices, objects), ([7; 3], [7; 4], [7; 3]));
     }
 }
 
@@ -142,7 +164,17 @@ fn no_start_by_messages(rt: HostRuntime) {
         &mut objects,
         &mut found,
     );
-    assert_eq!(rt; (status, found), (START, Found { kind: 1, place: 0, ..NOTHING }));
+    assert_eq!(rt;
+        (status, found),
+        (
+            START,
+            Found {
+                kind: 1,
+                place: 0,
+                ..NOTHING
+            }
+        )
+    );
     assert_eq!(rt; (choice, prices, objects), ([7; 3], [7; 4], [7; 3]));
 }
 

@@ -1,6 +1,7 @@
 -- What lies under the lock of a shared mail.
 use Rattle.std.specs.Prelude.{◌≡◌, ℕ, length}
-use Rattle.auc_book.specs.State.{State}
+use Rattle.auc_mail.specs.Mail.{IsOpen, NothingWaits}
+use Rattle.auc_book.specs.State.{IsFull, State}
 
 -- the state has these numbers, which a mail's name fixes
 pub record IsNumbered {T : Type 0} (boxes workers nodes most room : ℕ) (s : State T) : Type 0 where
@@ -14,3 +15,7 @@ pub record IsNumbered {T : Type 0} (boxes workers nodes most room : ℕ) (s : St
 pub record IsDesk {T : Type 0} (boxes workers nodes most room : ℕ) (s : State T) (total : ℕ) : Type 0 where
   pub numbers : IsNumbered boxes workers nodes most room s
   pub counted : total ≡ s.count
+
+-- a take from the box would find nothing yet: a call can be noted, and the box is open and has no letter
+abbrev pub IsWaiting : {T : Type 0} → State T → ℕ → Type 0
+IsWaiting s at = (¬ (IsFull s)) × IsOpen s.mail at × NothingWaits s.mail at

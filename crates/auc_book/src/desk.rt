@@ -1,14 +1,14 @@
 //! What lies under the lock of a shared mail, and the calls that are made there.
 
 ghost use Rattle.std.specs.Prelude.{◌≡◌, ◌<◌, ◌↔◌, false, true, All, IsTrue};
-ghost use Rattle.auc_mail.specs.Mail.{NothingWaits, IsOpen, empty_mail};
+ghost use Rattle.auc_mail.specs.Mail.{empty_mail};
 ghost use Rattle.auc_mail.specs.Run.{Run};
 ghost use Rattle.auc_mail.specs.Step.{FitsIn};
 ghost use Rattle.auc_book.specs.Trail.{events_of, IsOwn};
 ghost use Rattle.auc_book.specs.Replies.{close_reply, post_reply, take_reply};
-ghost use Rattle.auc_book.specs.State.{Calls, IsFull};
+ghost use Rattle.auc_book.specs.State.{Calls};
 ghost use Rattle.auc_book.specs.Seat.{SeatCalls};
-ghost use Rattle.auc_book.specs.Desk.{IsNumbered};
+ghost use Rattle.auc_book.specs.Desk.{IsNumbered, IsWaiting};
 
 use crate::brand::MailBrand;
 use crate::error::{CallRefused, TrailFull};
@@ -138,7 +138,7 @@ impl<T: Copy, N: MailBrand> Desk<T, N> {
     // Whether a take would find nothing yet. Not where it would be refused.
     pub(crate) fn is_waiting(&self, at: u32) -> bool
         requires { at < N.boxes }
-        ensures { IsTrue result ↔ (¬ (IsFull self.now)) × IsOpen self.now.mail at × NothingWaits self.now.mail at }
+        ensures { IsTrue result ↔ IsWaiting self.now at }
     {
         let pool = self.state.pool();
         if self.state.is_full() || pool.is_closed(at) {

@@ -3,6 +3,7 @@
 ghost use Rattle.std.specs.Prelude.{◌≡◌, ◌<◌};
 ghost use Rattle.auc_mail.specs.declared.call.Call.TheVariants as Call;
 ghost use Rattle.auc_book.specs.Replies.{close_reply, post_reply, take_reply};
+ghost use Rattle.auc_book.specs.State.{Calls};
 ghost use Rattle.auc_book.specs.Seat.{SeatCalls};
 
 use crate::bell::Bell;
@@ -11,11 +12,12 @@ use crate::desk::Desk;
 use crate::error::{CallRefused, TrailFull};
 use crate::seat::Seat;
 use auc_mail::Taken;
+use std::marker::Model;
 use std::sync::MutexGuard;
 
 /// A shared mail while a worker has its lock: he makes calls one after another, each a step with a line of its own, and nobody else calls in between.
 ///
-/// It can't be dropped: [`HeldMail::release`] gives the lock up.
+/// It can't be dropped: [`HeldMail::release`] gives the lock up. Contracts see it as the `State` that lies under the lock.
 pub struct HeldMail<'b, T: Copy, N: MailBrand> {
     desk: MutexGuard<'b, Desk<T, N>>,
     bells: &'b [Bell],
@@ -24,9 +26,19 @@ pub struct HeldMail<'b, T: Copy, N: MailBrand> {
     end: usize,
 }
 
+impl<'b, T: Copy, N: MailBrand> Model for HeldMail<'b, T, N> {
+    ghost use Rattle.auc_book.specs.State.{State};
+
+    ghost Value = { State T };
+
+    ghost view = { λ h. h.desk.value };
+}
+
 impl<'b, T: Copy, N: MailBrand> HeldMail<'b, T, N> {
     // The mail while its lock is held.
-    pub(crate) fn new(desk: MutexGuard<'b, Desk<T, N>>, bells: &'b [Bell]) -> HeldMail<'b, T, N> {
+    pub(crate) fn new(desk: MutexGuard<'b, Desk<T, N>>, bells: &'b [Bell]) -> HeldMail<'b, T, N>
+        ensures { result ≡ desk.entry.value }
+    {
         HeldMail {
             desk,
             bells,
@@ -36,7 +48,9 @@ impl<'b, T: Copy, N: MailBrand> HeldMail<'b, T, N> {
     }
 
     // This box is to be rung.
-    fn ring(&mut self, at: u32) {
+    fn ring(&mut self, at: u32)
+        ensures { self.new ≡ self.old }
+    {
         let place = at as usize;
         if place < self.first {
             self.first = place;
@@ -44,12 +58,6 @@ impl<'b, T: Copy, N: MailBrand> HeldMail<'b, T, N> {
         if place >= self.end {
             self.end = place + 1;
         }
-    }
-
-    // All boxes are to be rung.
-    pub(crate) fn ring_all(&mut self) {
-        self.first = 0;
-        self.end = self.bells.len();
     }
 
     /// Posts as `SharedMail::post` does.
@@ -61,13 +69,12 @@ impl<'b, T: Copy, N: MailBrand> HeldMail<'b, T, N> {
         reserve: u32,
     ) -> Result<u64, CallRefused>
         requires { to < N.boxes }
-        ensures { SeatCalls N.room seat.old (Call.Post seat.old.worker to item reserve) (post_reply result) seat.new }
+        ensures calls { Calls self.old seat.old.worker (Call.Post seat.old.worker to item reserve) (post_reply result) self.new }
+        ensures seat { SeatCalls N.room seat.old (Call.Post seat.old.worker to item reserve) (post_reply result) seat.new }
     {
         let answer = self.desk.post(seat, to, item, reserve);
-        match &answer {
-            Ok(_) => self.ring(to),
-            Err(CallRefused::TrailFull) => self.ring_all(),
-            Err(_) => {}
+        if answer.is_ok() {
+            self.ring(to);
         }
         answer
     }
@@ -75,31 +82,25 @@ impl<'b, T: Copy, N: MailBrand> HeldMail<'b, T, N> {
     /// Takes as `SharedMail::try_take` does.
     pub fn take(&mut self, seat: &mut Seat<T, N>, at: u32) -> Result<Taken<T>, TrailFull>
         requires { at < N.boxes }
-        ensures { SeatCalls N.room seat.old (Call.Take at) (take_reply result) seat.new }
+        ensures calls { Calls self.old seat.old.worker (Call.Take at) (take_reply result) self.new }
+        ensures seat { SeatCalls N.room seat.old (Call.Take at) (take_reply result) seat.new }
     {
-        let answer = self.desk.take(seat, at);
-        if answer.is_err() {
-            self.ring_all();
-        }
-        answer
+        self.desk.take(seat, at)
     }
 
     /// Closes as `SharedMail::close` does.
     pub fn close(&mut self, seat: &mut Seat<T, N>, at: u32) -> Result<bool, TrailFull>
         requires { at < N.boxes }
-        ensures { SeatCalls N.room seat.old (Call.Close at) (close_reply result) seat.new }
+        ensures calls { Calls self.old seat.old.worker (Call.Close at) (close_reply result) self.new }
+        ensures seat { SeatCalls N.room seat.old (Call.Close at) (close_reply result) seat.new }
     {
         let answer = self.desk.close(seat, at);
-        if answer.is_err() {
-            self.ring_all();
-        } else {
-            self.ring(at);
-        }
+        self.ring(at);
         answer
     }
 
-    /// Gives the lock up, and then wakes those for whom there is something: who waits at a box that was posted to or closed, and, after a refusal for want
-    /// of places in the trail, all.
+    /// Gives the lock up, and then wakes those for whom there is something: who waits at a box that was posted to or closed; and all who wait at this mail,
+    /// where no more calls can be noted, since that ends each wait.
     pub fn release(self) {
         let HeldMail {
             desk,
@@ -107,7 +108,13 @@ impl<'b, T: Copy, N: MailBrand> HeldMail<'b, T, N> {
             first,
             end,
         } = self;
+        let is_full = desk.state().is_full();
         drop(desk);
+        let (first, end) = if is_full {
+            (0, bells.len())
+        } else {
+            (first, end)
+        };
         for place in first..end {
             if let Some(bell) = bells.get(place) {
                 bell.ring();

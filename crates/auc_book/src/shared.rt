@@ -8,7 +8,7 @@ ghost use Rattle.auc_mail.specs.Limits.{LanesFit, NodesFit};
 ghost use Rattle.auc_book.specs.Limits.{RoomFits, IsRefusedWithRoom};
 ghost use Rattle.auc_book.specs.Replies.{close_reply, post_reply, take_reply};
 ghost use Rattle.auc_book.specs.Seat.{new_account, SeatCalls};
-ghost use Rattle.auc_book.specs.Desk.{IsNumbered};
+ghost use Rattle.auc_book.specs.Desk.{IsNumbered, IsWaiting};
 ghost use Rattle.auc_book.specs.Settling.{IsSettled, IsUnsettled};
 
 use crate::bell::{Bell, new_bells};
@@ -107,8 +107,13 @@ impl<T: Copy, N: MailBrand> SharedMail<T, N> {
 
     /// Takes the lock, for any number of calls. They are made when [`HeldMail::release`] is called, which gives the lock up; till then all others wait.
     /// This is no call.
-    pub fn hold<'b, R: Wait>(&'b self, rt: &R) -> HeldMail<'b, T, N> {
-        HeldMail::new(self.desk.lock(rt), self.bells.as_slice())
+    pub fn hold<'b, R: Wait>(&'b self, rt: &R) -> HeldMail<'b, T, N>
+        ensures { IsNumbered N.boxes N.workers N.nodes N.most N.room result }
+    {
+        let desk = self.desk.lock(rt);
+        // Read here, so that the proof knows what lies under the lock.
+        let _ = desk.state();
+        HeldMail::new(desk, self.bells.as_slice())
     }
 
     /// Takes the lock once a take from the box would give a letter, or say that none will come, or be refused. To wait is no call.
@@ -116,19 +121,21 @@ impl<T: Copy, N: MailBrand> SharedMail<T, N> {
     /// It looks for a while before it sleeps.
     pub fn hold_for<'b, R: Wait>(&'b self, rt: &R, at: u32) -> HeldMail<'b, T, N>
         requires { at < N.boxes }
+        ensures numbers { IsNumbered N.boxes N.workers N.nodes N.most N.room result }
+        ensures ready { ¬ (IsWaiting result at) }
     {
         let desk = self.lock_for(rt, at);
         let desk = self.bells[at as usize]
             .changed
-            .wait_while(rt, desk, |state| state.is_waiting(at));
+            .wait_while(rt, desk, |desk| desk.is_waiting(at));
+        let _ = desk.state();
         HeldMail::new(desk, self.bells.as_slice())
     }
 
     /// Posts `item` to the box `to` in the name of the seat's worker, and answers the letter's number in its lane, from 1. Wakes who waits at this
-    /// box.
+    /// box, and all who wait at this mail where the trail has no place left for more calls.
     ///
-    /// Refused as by `MailState::post`; after `TrailFull` the seat is unchanged, and all who wait at this mail are woken. Takes O(1) time under the lock, and
-    /// no memory.
+    /// Refused as by `MailState::post`; after `TrailFull` the seat is unchanged. Takes O(1) time under the lock, and no memory.
     pub fn post<R: Wait>(
         &self,
         rt: &R,
@@ -180,15 +187,8 @@ impl<T: Copy, N: MailBrand> SharedMail<T, N> {
         ensures seat { SeatCalls N.room seat.old (Call.Take at) (take_reply result) seat.new }
         ensures waited { result ≢ Ok Taken.Empty }
     {
-        let desk = self.lock_for(rt, at);
-        let mut desk = self.bells[at as usize]
-            .changed
-            .wait_while(rt, desk, |desk| desk.is_waiting(at));
-        let answer = desk.take(seat, at);
-        let mut held = HeldMail::new(desk, self.bells.as_slice());
-        if answer.is_err() {
-            held.ring_all();
-        }
+        let mut held = self.hold_for(rt, at);
+        let answer = held.take(seat, at);
         held.release();
         answer
     }

@@ -3,10 +3,12 @@ use Rattle.std.proofs.Common.{◌≡◌, ◌≢◌, ℕ, zero, suc, ◌+◌, ◌
 use Rattle.std.specs.Prelude.{ℤ, pos, Option, IfSome, IsTrue, ◌↔◌}
 use Rattle.std.proofs.lemmas.Bool.{cases_lt}
 use Rattle.std.proofs.lemmas.List.Elements.{All-cons, All-head, All-nil, All-tail}
-use Rattle.auc_graph.specs.Table.{Table}
 use Rattle.auc_persons.specs.Persons.{Persons}
 use Rattle.auc_threads.specs.Hearing.{Falls, SomebodyStuck}
-use Rattle.auc_threads.specs.Counting.{Counts, firsts_in}
+use Rattle.std.proofs.lemmas.List.{length-map}
+use Rattle.auc_threads.specs.Counting.{Closes, Counts, firsts_in}
+use Rattle.auc_threads.specs.Worked.{AreWorked, IsHub, end_by, first_some}
+use Rattle.auc_threads.proofs.WorkedLaws.{buyer_told, seller_told}
 use Rattle.auc_letters.specs.declared.letter.Letter.{Letter}
 use Rattle.auc_letters.specs.declared.letter.Why.{Why}
 use Rattle.auc_letters.specs.declared.state.Held.{Held}
@@ -29,7 +31,7 @@ use Rattle.auc_model.specs.declared.turn.End.{End}
 use Rattle.auc_letters.specs.Award.{Sale, award_all, bids_on}
 use Rattle.auc_threads.specs.Starts.{IsObjectResult, IsPersonResult}
 use Rattle.auc_threads.specs.Taking.{letters_in}
-use Rattle.auc_threads.proofs.PlacedLaws.{placed_at, placed_weaker}
+use Rattle.auc_threads.proofs.PlacedLaws.{placed_at, placed_some, placed_weaker}
 
 All-front : {X : Type 0} (P : X → Type 0) (xs ys : List X) → All P (xs ++ ys) → All P xs
 All-front P [] ys all = All-nil P
@@ -51,14 +53,6 @@ owns_at f shards objects xs q j x all known e is low =
 pub collect_more : {X Y : Type 0} (f : X → Y) (xs ys : List Y) (x : X) (old rest : List X) (whole : List Y) → ys ≡ xs ++ f x ∷ [] → old ≡ x ∷ rest → xs ++ map f old ≡ whole → ys ++ map f rest ≡ whole
 collect_more f xs ys x old rest whole e step all =
     ap (λ w. w ++ map f rest) e ∙ (append_assoc xs (f x ∷ []) (map f rest) ∙ (ap (λ w. xs ++ map f w) (sym step) ∙ all))
-
--- an element by its place
-pub placed_some : {X : Type 0} (P : ℕ → X → Type 0) (k : ℕ) (xs : List X) (i : ℕ) → Placed P k xs → i < length xs → (x : X) × P (k + i) x × ((d : X) → get_or xs i d ≡ x)
-placed_some P k [] i all l = absurd (omega (arith, l))
-placed_some P k (x ∷ xs) zero all l = (x, subst (λ (m : ℕ). P m x) (omega arith) all.0, (λ d. refl))
-placed_some P k (x ∷ xs) (suc i) all l =
-    let rest = placed_some P (suc k) xs i all.1 (omega (arith, l)) in
-    (rest.0, subst (λ (m : ℕ). P m rest.0) (omega arith) rest.1, rest.2)
 
 pub placed_all : {X : Type 0} (P : ℕ → X → Type 0) (Q : X → Type 0) (xs : List X) → ((k : ℕ) (x : X) → P k x → Q x) → Placed P 0 xs → All Q xs
 placed_all P Q xs f all k d l = f (0 + k) (get_or xs k d) (placed_at P 0 xs k d all l)
@@ -102,7 +96,7 @@ module _ {X : Type 0} (f : X → Persons) (a p h : X → Account Letter) (y : X 
   pub stuck_told : (k : ℕ) × (k < length xs) × ((d : X) → y (get_or xs k d) ≡ Some Why.Stuck) → SomebodyStuck task.rows.now
   stuck_told s =
       let at = placed_some (λ k w. IsPersonResult task r₁ r₂ r₃ k (f w) (a w) (p w) (h w) (y w)) 0 xs s.0 results s.1 in
-      at.1.stuck (ap y (sym (at.2 at.0)) ∙ s.2 at.0)
+      at.1.work.stuck (ap y (sym (at.2 at.0)) ∙ s.2 at.0)
 
   pub fell_told : (trail : List (TrailLine Letter)) → 0 < r₂ → All (λ w. Agrees trail (p w)) xs → length xs ≡ task.limits.now.shards
       → (k : ℕ) × (k < length xs) × ((d : X) → y (get_or xs k d) ≡ Some Why.Fell)
@@ -111,16 +105,16 @@ module _ {X : Type 0} (f : X → Persons) (a p h : X → Account Letter) (y : X 
       let at = placed_some (λ k w. IsPersonResult task r₁ r₂ r₃ k (f w) (a w) (p w) (h w) (y w)) 0 xs s.0 results s.1 in
       let x = at.0 in
       let r : IsPersonResult task r₁ r₂ r₃ s.0 (f x) (a x) (p x) (h x) (y x) = subst (λ (m : ℕ). IsPersonResult task r₁ r₂ r₃ m (f x) (a x) (p x) (h x) (y x)) (omega arith) at.1 in
-      let told : letters_in (p x).lines ≡ r.hears.letters = r.hears.took.told room in
+      let told : letters_in (p x).lines ≡ r.work.hears.letters = r.work.hears.took.told room in
       let lines : lines_of s.0 trail ≡ (p x).lines = ap (λ (m : ℕ). lines_of m trail) (sym r.seat) ∙ subst (λ w. Agrees trail (p w)) (at.2 x) (agree s.0 x s.1) in
-      let falls : Falls (price_in task.prices.now) r.hears.letters = r.hears.hears.falls (ap y (sym (at.2 x)) ∙ s.2 x) in
+      let falls : Falls (price_in task.prices.now) r.work.hears.letters = r.work.hears.hears.falls (ap y (sym (at.2 x)) ∙ s.2 x) in
       (s.0, omega (arith, s.1, many), subst (λ ls. Falls (price_in task.prices.now) ls) (sym told ∙ ap letters_in (sym lines)) falls)
 
 -- the hub's
-pub all_told : (room persons w : ℕ) (is_all : Bool) (b : Account Letter) (trail : List (TrailLine Letter)) → 0 < room → Counts room persons (new_account w) is_all b → Agrees trail b
+pub all_told : (room persons w : ℕ) (is_all : Bool) (why : Option Why) (b : Account Letter) (trail : List (TrailLine Letter)) → 0 < room → Counts room persons (new_account w) is_all why b → Agrees trail b
     → IsTrue is_all ↔ (firsts_in (taken_by w trail) ≡ persons)
-all_told room persons w is_all b trail some c agrees =
-    let told : letters_in (lines_of w trail) ≡ c.letters = ap (λ (m : ℕ). letters_in (lines_of m trail)) (sym c.took.worker) ∙ (ap letters_in agrees ∙ c.took.told some) in
+all_told room persons w is_all why b trail some c agrees =
+    let told : letters_in (lines_of w trail) ≡ c.letters ++ c.last = ap (λ (m : ℕ). letters_in (lines_of m trail)) (sym c.took.worker) ∙ (ap letters_in agrees ∙ c.took.told some) in
     ((λ e. ap firsts_in told ∙ c.all.0 e), (λ e. c.all.1 (sym (ap firsts_in told) ∙ e)))
 
 -- of all seats together: those of the persons, of the objects, of the hub
@@ -187,7 +181,7 @@ module _ {X Z : Type 0} (f : X → Persons) (a p h : X → Account Letter) (y : 
     (bought : Placed (λ k w. IsPersonResult task ro rp rh k (f w) (a w) (p w) (h w) (y w)) 0 xs)
     (sold : Placed (λ k w. IsObjectResult task ro rp rh k (g w) (b w) (q w) (i w) (z w)) 0 zs)
     (persons_many : length xs ≡ task.limits.now.shards) (objects_many : length zs ≡ task.limits.now.shards) (some : 0 < task.limits.now.shards) (each : length task.prices.now ≡ task.rows.now.objects)
-    (is_all : Bool) (hub_objects hub_persons hub : Account Letter) (counts : Counts rh (length task.rows.now.rows) (new_account (2 * task.limits.now.shards)) is_all hub)
+    (is_all : Bool) (hub_why : Option Why) (hub_objects hub_persons hub : Account Letter) (counts : Counts rh (length task.rows.now.rows) (new_account (2 * task.limits.now.shards)) is_all hub_why hub)
     (e : PhaseEnd)
     (gathers : (j : ℕ) (d : Z) → j < task.rows.now.objects → Gathers (g (get_or zs (j % task.limits.now.shards) d)) j (price_in e.gathered.prices.items j) (get_or e.gathered.holders.items j None))
     (ends : (e.end ≡ Some End.All) ↔ IsTrue is_all)
@@ -195,10 +189,50 @@ module _ {X Z : Type 0} (f : X → Persons) (a p h : X → Account Letter) (y : 
     (bo wo no mo bp wp np mp bh wh nh mh : ℕ) (named_o : IsNamed bo wo no mo ro task.limits.now.shards (objects_nodes task.limits.now (length task.rows.now.rows)) task.limits.now) (named_p : IsNamed bp wp np mp rp task.limits.now.shards (persons_nodes task.limits.now (length task.rows.now.rows)) task.limits.now)
     (named_h : IsNamed bh wh nh mh rh 1 (hub_nodes task.limits.now (length task.rows.now.rows)) task.limits.now)
     (so sp sh : List (Account Letter)) (eo : so ≡ (map a xs ++ map b zs) ++ hub_objects ∷ []) (ep : sp ≡ (map p xs ++ map q zs) ++ hub_persons ∷ []) (eh : sh ≡ (map h xs ++ map i zs) ++ hub ∷ [])
+    (closed_o : Closes ro bo (new_account (2 * task.limits.now.shards)) hub_objects) (closed_p : Closes rp bp (new_account (2 * task.limits.now.shards)) hub_persons)
+    (end_is : e.end ≡ end_by is_all (first_some ((map y xs ++ map z zs) ++ hub_why ∷ [])))
     (trails : Trails) where
+  hub_is : Agrees trails.objects hub_objects → Agrees trails.persons hub_persons → Agrees trails.hub hub → IsHub task.rows.now task.limits.now trails is_all hub_why
+  hub_is agree_o agree_p agree_h =
+      let w : Account Letter = new_account (2 * task.limits.now.shards) in
+      record {
+        objects = hub_objects;
+        persons = hub_persons;
+        hub = hub;
+        counts = subst (λ (n : ℕ). Counts n (length task.rows.now.rows) w is_all hub_why hub) named_h.room_is counts;
+        objects_closed = subst (λ (n : ℕ). Closes task.limits.now.audit n w hub_objects) named_o.boxes_are (subst (λ (n : ℕ). Closes n bo w hub_objects) named_o.room_is closed_o);
+        persons_closed = subst (λ (n : ℕ). Closes task.limits.now.audit n w hub_persons) named_p.boxes_are (subst (λ (n : ℕ). Closes n bp w hub_persons) named_p.room_is closed_p);
+        told = record {
+          objects_worker = closed_o.lined.worker;
+          persons_worker = closed_p.lined.worker;
+          hub_worker = counts.took.worker;
+          objects_lines = agree_o;
+          persons_lines = agree_p;
+          hub_lines = agree_h;
+        };
+      }
+
+  worked : IsSettled bo wo no mo ro so trails.objects → IsSettled bp wp np mp rp sp trails.persons → IsSettled bh wh nh mh rh sh trails.hub → AreWorked task.rows.now task.limits.now task.eps task.prices.now trails e.end
+  worked o u v = record {
+    person_reasons = map y xs;
+    object_reasons = map z zs;
+    hub_reason = hub_why;
+    is_all = is_all;
+    buyers =
+        buyer_told f a p h y task ro rp rh xs bought o.kept named_o.room_is named_p.room_is named_h.room_is trails
+        (all_first (Agrees trails.objects) a b xs zs hub_objects so eo o.agree) (all_first (Agrees trails.persons) p q xs zs hub_persons sp ep u.agree) (all_first (Agrees trails.hub) h i xs zs hub sh eh v.agree) persons_many;
+    sellers =
+        seller_told g b q i z task ro rp rh zs sold named_o.room_is named_p.room_is named_h.room_is trails
+        (all_second (Agrees trails.objects) a b xs zs hub_objects so eo o.agree) (all_second (Agrees trails.persons) p q xs zs hub_persons sp ep u.agree) (all_second (Agrees trails.hub) h i xs zs hub sh eh v.agree) objects_many;
+    hub = hub_is (all_last (Agrees trails.objects) a b xs zs hub_objects so eo o.agree) (all_last (Agrees trails.persons) p q xs zs hub_persons sp ep u.agree) (all_last (Agrees trails.hub) h i xs zs hub sh eh v.agree);
+    person_many = length-map xs y ∙ persons_many;
+    object_many = length-map zs z ∙ objects_many;
+    end_is = end_is;
+  }
+
   pub told_phase : IsSettled bo wo no mo ro so trails.objects → IsSettled bp wp np mp rp sp trails.persons → IsSettled bh wh nh mh rh sh trails.hub → IsToldBy task.rows.now task.limits.now task.eps task.prices.now e trails
   told_phase o u v =
-      let hub_told = all_told rh (length task.rows.now.rows) (2 * task.limits.now.shards) is_all hub trails.hub v.kept counts (all_last (Agrees trails.hub) h i xs zs hub sh eh v.agree) in
+      let hub_told = all_told rh (length task.rows.now.rows) (2 * task.limits.now.shards) is_all hub_why hub trails.hub v.kept counts (all_last (Agrees trails.hub) h i xs zs hub sh eh v.agree) in
       record {
         kept = subst (λ (x : ℕ). 0 < x) named_o.room_is o.kept;
         objects_run = run_of bo wo no mo ro task.limits.now.shards (objects_nodes task.limits.now (length task.rows.now.rows)) task.limits.now so trails.objects named_o o;
@@ -208,6 +242,7 @@ module _ {X Z : Type 0} (f : X → Persons) (a p h : X → Account Letter) (y : 
             sold_told g b q i z task ro rp rh zs sold trails.objects j (price_in e.gathered.prices.items j) (get_or e.gathered.holders.items j None) o.kept (all_second (Agrees trails.objects) a b xs zs hub_objects so eo o.agree) objects_many some (omega (arith, low, each)) (λ d. gathers j d low);
         all = ((λ x. hub_told.0 (ends.0 x)), (λ x. ends.1 (hub_told.1 x)));
         fell = λ x. fell_told f a p h y task ro rp rh xs bought trails.persons u.kept (all_first (Agrees trails.persons) p q xs zs hub_persons sp ep u.agree) persons_many (falls x);
+        worked = worked o u v;
       }
 
 pub told_map : {T : Type 0} (o : Option T) (P Q R S : T → Type 0) → IfSome o P → IfSome o Q → IfSome o R → ((t : T) → P t → Q t → R t → S t) → IfSome o S

@@ -1,71 +1,85 @@
--- What the award rule makes of an object, letter by letter.
-use Rattle.std.proofs.Common.{◌≡◌, ◌%◌, ◌<◌, ℕ, List, [], ◌++◌, refl, ap, sym, ◌∙◌, subst, arith}
+-- What the award rule makes of the objects of a shard, by the letters that its worker took.
+use Rattle.std.proofs.Common.{◌≡◌, ◌≢◌, ◌%◌, ◌<◌, ℕ, List, [], ◌∷◌, ◌++◌, length, map, refl, ap, sym, ◌∙◌, subst, inl, inr, arith}
 use Rattle.std.specs.Prelude.{ℤ, All}
-use Rattle.std.proofs.lemmas.List.Elements.{All-weaker, filter_map-append}
+use Rattle.std.proofs.lemmas.Bool.{cases_eq, eq-eqb, ne_eqb}
+use Rattle.std.proofs.lemmas.List.{append-nil}
+use Rattle.std.proofs.lemmas.List.Elements.{All-head, All-tail, All-weaker, filter_map-append}
 use Rattle.std.proofs.lemmas.List.Sums.{fold-append}
 use Rattle.auc_letters.specs.declared.letter.Letter.{Letter}
 use Rattle.auc_letters.specs.declared.letter.Offer.{Offer}
+use Rattle.auc_letters.specs.declared.letter.Why.{Why}
 use Rattle.auc_letters.specs.declared.out.Out.{Out}
-use Rattle.auc_letters.specs.declared.out.To.{To}
-use Rattle.auc_letters.specs.Award.{Sale, answers, award, award_all, bid_on, bids_on}
-use Rattle.auc_objects.specs.Objects.{Objects, Owns, SameShape, sale_of}
+use Rattle.auc_letters.specs.Award.{Sale, award, award_all, bid_letter, bid_on, bids_on}
+use Rattle.auc_letters.specs.Price.{IsPrice}
+use Rattle.auc_letters.proofs.Award.{price_is_amount}
+use Rattle.auc_objects.specs.Objects.{Objects, Owns, SameShape, after_bid, sale_of}
+use Rattle.auc_objects.proofs.Letters.{stray as stray_letter}
+use Rattle.auc_objects.proofs.Sales.{sale_here, sale_other, shape_sold}
 use Rattle.auc_book.specs.Seat.{Account}
-use Rattle.auc_model.specs.Mails.{box_of}
-use Rattle.auc_answers.specs.Boxes.{Reaches, boxes_in, name_of}
-use Rattle.auc_answers.proofs.ShardLaws.{answers_reach}
-use Rattle.auc_threads.specs.Taking.{GoesWithin, TookMore}
+use Rattle.auc_threads.specs.declared.calls.Step.{Step}
+use Rattle.auc_threads.specs.Dealing.{AfterLetters, Deals, Fits, after_bids}
 use Rattle.auc_threads.specs.Sales.{Sells}
-use Rattle.auc_threads.proofs.TakingLaws.{took_then}
+use Rattle.auc_threads.proofs.DealingLaws.{deals_shape}
 
-pub same_shape : (s : Objects) → SameShape s s
-same_shape s = record { shard = refl; of = refl; person_shards = refl; persons = refl; objects = refl; holders = refl }
-
-shape_then : (s t u : Objects) → SameShape s t → SameShape t u → SameShape s u
-shape_then s t u f g = record {
-  shard = g.shard ∙ f.shard;
-  of = g.of ∙ f.of;
-  person_shards = g.person_shards ∙ f.person_shards;
-  persons = g.persons ∙ f.persons;
-  objects = g.objects ∙ f.objects;
-  holders = g.holders ∙ f.holders;
-}
-
-pub owns_then : (s t : Objects) (j : ℕ) → SameShape s t → Owns s j → Owns t j
+owns_then : (s t : Objects) (j : ℕ) → SameShape s t → Owns s j → Owns t j
 owns_then s t j e o = record { known = subst (λ (n : ℕ). j < n) (sym e.objects) o.known; own = ap (λ (n : ℕ). j % n) e.of ∙ (o.own ∙ sym e.shard) }
+
+fits_then : (s t : Objects) (b : Offer) → SameShape s t → Fits s b → Fits t b
+fits_then s t b e f = record { owns = owns_then s t b.object e f.owns; amount = f.amount }
 
 bids_append : (j : ℕ) (xs ys : List Letter) → bids_on j (xs ++ ys) ≡ bids_on j xs ++ bids_on j ys
 bids_append j xs ys = filter_map-append (bid_on j) xs ys
 
--- nothing taken
-pub sells_none : (eps : ℤ) (room : ℕ) (s : Objects) (a b : Account Letter) → TookMore room a [] b → Sells eps room s a s b
-sells_none eps room s a b took = record { shape = same_shape s; letters = []; took = took; sold = λ j o. refl }
+bids_here : (j : ℕ) (bid : Offer) → bid.object ≡ j → IsPrice bid.amount → bids_on j (bid_letter bid ∷ []) ≡ bid ∷ []
+bids_here j bid e p = rw (eq-eqb bid.object j e, price_is_amount bid.amount p) refl
 
--- one letter taken, and dealt with
-pub sells_one : (eps : ℤ) (room : ℕ) (s t : Objects) (a b : Account Letter) (letters : List Letter) → SameShape s t → TookMore room a letters b
-    → ((j : ℕ) → Owns s j → sale_of t j ≡ award_all eps (sale_of s j) (bids_on j letters)) → Sells eps room s a t b
-sells_one eps room s t a b letters same took sold = record { shape = same; letters = letters; took = took; sold = sold }
+bids_there : (j : ℕ) (bid : Offer) → bid.object ≢ j → bids_on j (bid_letter bid ∷ []) ≡ []
+bids_there j bid ne = rw (ne_eqb bid.object j ne) refl
 
--- one after another
-pub sells_then : (eps : ℤ) (room : ℕ) (s : Objects) (a : Account Letter) (t : Objects) (b : Account Letter) (u : Objects) (c : Account Letter)
-    → Sells eps room s a t b → Sells eps room t b u c → Sells eps room s a u c
-sells_then eps room s a t b u c f g = record {
-  shape = shape_then s t u f.shape g.shape;
-  letters = f.letters ++ g.letters;
-  took = took_then room a b c f.letters g.letters f.took g.took;
-  sold = λ j o.
-      g.sold j (owns_then s t j f.shape o)
-      ∙ (ap (λ (x : Sale). award_all eps x (bids_on j g.letters)) (f.sold j o)
-      ∙ (sym (fold-append (award eps) (sale_of s j) (bids_on j f.letters) (bids_on j g.letters)) ∙ ap (award_all eps (sale_of s j)) (sym (bids_append j f.letters g.letters))));
-}
+-- a bid that fits
+sold_one : (eps : ℤ) (s : Objects) (bid : Offer) (j : ℕ) → length s.holders ≡ length s.prices → Fits s bid → sale_of (after_bid s eps bid) j ≡ award_all eps (sale_of s j) (bids_on j (bid_letter bid ∷ []))
+sold_one eps s bid j each fits =
+    let known = fits.owns.known in
+    let held : bid.object < length s.holders = omega (arith, known, each) in
+    elim (cases_eq bid.object j) [
+      | inl e ↦ (
+          let sold : sale_of (after_bid s eps bid) j ≡ award eps (sale_of s j) bid = subst (λ (k : ℕ). sale_of (after_bid s eps bid) k ≡ award eps (sale_of s k) bid) e (sale_here s eps bid known held) in
+          sold ∙ ap (award_all eps (sale_of s j)) (sym (bids_here j bid e fits.amount)))
+      | inr ne ↦ sale_other s eps bid j ne ∙ ap (award_all eps (sale_of s j)) (sym (bids_there j bid ne))
+    ]
 
--- each letter of a shard that is there goes to a box that is there
-goes_within : (n : ℕ) (o : Out) → 0 < n → Reaches n o → GoesWithin n o
-goes_within n o some reach = by o.to reach
-  where
-    by : (to : To) → box_of to < boxes_in n (name_of to) → box_of to < n
-    by (To.Person s) lt = lt
-    by (To.Object q) lt = lt
-    by To.Hub lt = omega (arith, some)
+sold_all : (eps : ℤ) (s : Objects) (bids : List Offer) (j : ℕ) → length s.holders ≡ length s.prices → All (Fits s) bids → sale_of (after_bids eps s bids) j ≡ award_all eps (sale_of s j) (bids_on j (map bid_letter bids))
+sold_all eps s [] j each fit = refl
+sold_all eps s (b ∷ bs) j each fit =
+    let shape : SameShape s (after_bid s eps b) = shape_sold s b.object _ in
+    let later : All (Fits (after_bid s eps b)) bs = All-weaker (Fits s) (Fits (after_bid s eps b)) (λ x f. fits_then s (after_bid s eps b) x shape f) bs (All-tail (Fits s) b bs fit) in
+    sold_all eps (after_bid s eps b) bs j (shape.holders ∙ (each ∙ sym shape.objects)) later
+    ∙ (ap (λ (x : Sale). award_all eps x (bids_on j (map bid_letter bs))) (sold_one eps s b j each (All-head (Fits s) b bs fit))
+    ∙ (sym (fold-append (award eps) (sale_of s j) (bids_on j (bid_letter b ∷ [])) (bids_on j (map bid_letter bs))) ∙ ap (award_all eps (sale_of s j)) (sym (bids_append j (bid_letter b ∷ []) (map bid_letter bs)))))
 
-pub answers_go : (n : ℕ) (eps : ℤ) (sale : Sale) (bid : Offer) → 0 < n → All (GoesWithin n) (answers n eps sale bid)
-answers_go n eps sale bid some = All-weaker (Reaches n) (GoesWithin n) (λ o r. goes_within n o some r) (answers n eps sale bid) (answers_reach n eps sale bid some)
+-- what doesn't fit is no bid on an object of the shard
+no_bids : (t : Objects) (stray : List Letter) (step : Step) (j : ℕ) → AfterLetters t stray step → Owns t j → bids_on j stray ≡ []
+no_bids t stray Step.On j after own = ap (bids_on j) after
+no_bids t stray Step.Over j after own = ap (bids_on j) after
+no_bids t stray (Step.Stop Why.Trail) j after own = ap (bids_on j) after
+no_bids t stray (Step.Stop Why.Stray) j after own = ap (bids_on j) after.1 ∙ stray_letter t after.0 j own after.2
+no_bids t stray (Step.Stop Why.Bids) j after own = absurd after
+no_bids t stray (Step.Stop Why.Ceiling) j after own = absurd after
+no_bids t stray (Step.Stop Why.Stuck) j after own = absurd after
+no_bids t stray (Step.Stop Why.Posts) j after own = absurd after
+no_bids t stray (Step.Stop Why.Mail) j after own = absurd after
+no_bids t stray (Step.Stop Why.Fell) j after own = absurd after
+
+pub sells_of : (eps : ℤ) (room : ℕ) (s t : Objects) (a b : Account Letter) (said : List Out) (step : Step) → length s.holders ≡ length s.prices → Deals eps room s a said t b step → Sells eps room s a t b
+sells_of eps room s t a b said step each f =
+    let shape : SameShape s t = deals_shape eps room s t a b said step f in
+    let d = f.dealt in
+    record {
+      shape = shape;
+      letters = f.letters;
+      took = f.took;
+      sold = λ j own.
+          let stray : bids_on j d.stray ≡ [] = no_bids t d.stray step j d.after (owns_then s t j shape own) in
+          let bids : bids_on j f.letters ≡ bids_on j (map bid_letter d.bids) = ap (bids_on j) d.letters_are ∙ (bids_append j (map bid_letter d.bids) d.stray ∙ (ap (λ w. bids_on j (map bid_letter d.bids) ++ w) stray ∙ append-nil (bids_on j (map bid_letter d.bids)))) in
+          ap (λ (x : Objects). sale_of x j) d.left ∙ (sold_all eps s d.bids j each d.fit ∙ ap (award_all eps (sale_of s j)) (sym bids));
+    }

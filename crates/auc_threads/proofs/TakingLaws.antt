@@ -1,18 +1,15 @@
 -- What the lines of a seat tell after one call more.
-use Rattle.std.proofs.Common.{◌≡◌, ℕ, ◌==◌, Bool, false, cond, List, [], ◌∷◌, ◌++◌, Some, refl, ap, sym, ◌∙◌, subst, arith, append_assoc}
+use Rattle.std.proofs.Common.{◌≡◌, ℕ, ◌==◌, false, cond, List, [], ◌∷◌, ◌++◌, Some, refl, ap, sym, ◌∙◌, subst, arith, append_assoc}
 use Rattle.std.specs.Prelude.{Result, Ok, Err}
 use Rattle.std.proofs.lemmas.List.{append-nil}
 use Rattle.auc_mail.specs.declared.call.Taken.{Taken}
 use Rattle.auc_mail.specs.declared.call.Call.{Call}
-use Rattle.auc_mail.specs.declared.call.Call.TheVariants.{Post, Take, Close}
-use Rattle.auc_mail.specs.declared.call.PostRefused.TheVariants as refused
+use Rattle.auc_mail.specs.declared.call.Call.TheVariants.{Take}
 use Rattle.auc_mail.specs.declared.call.Reply.{Reply}
-use Rattle.auc_mail.specs.declared.call.Reply.TheVariants.{Posted, Refused, Took, WasOpen}
+use Rattle.auc_mail.specs.declared.call.Reply.TheVariants.{Took}
 use Rattle.auc_book.specs.declared.error.TrailFull.{TrailFull}
-use Rattle.auc_book.specs.declared.error.CallRefused.{CallRefused}
-use Rattle.auc_book.specs.declared.error.CallRefused.TheVariants as call_refused
 use Rattle.auc_book.specs.declared.line.TrailLine.{TrailLine}
-use Rattle.auc_book.specs.Replies.{close_reply, post_reply, take_reply}
+use Rattle.auc_book.specs.Replies.{take_reply}
 use Rattle.auc_book.specs.Seat.{Account, SeatCalls}
 use Rattle.std.proofs.lemmas.Bool.{ne_eqb}
 use Rattle.auc_threads.specs.Taking.{TookMore, letter_by, letter_of, letters_in}
@@ -44,26 +41,12 @@ took_take room a b at (Ok Taken.Empty) h = took_line room a b (Take at) (Took Ta
 took_take room a b at (Ok Taken.Over) h = took_line room a b (Take at) (Took Taken.Over) h
 took_take room a b at (Err e) h = took_none room a b h
 
-pub took_close : {T : Type 0} (room : ℕ) (a b : Account T) (at : ℕ) (r : Result Bool TrailFull) → SeatCalls room a (Close at) (close_reply r) b → TookMore room a [] b
-took_close room a b at (Ok w) h = took_line room a b (Close at) (WasOpen w) h
-took_close room a b at (Err e) h = took_none room a b h
-
-pub took_post : {T : Type 0} (room : ℕ) (a b : Account T) (s to : ℕ) (x : T) (reserve : ℕ) (r : Result ℕ CallRefused) → SeatCalls room a (Post s to x reserve) (post_reply r) b → TookMore room a [] b
-took_post room a b s to x reserve (Ok n) h = took_line room a b (Post s to x reserve) (Posted n) h
-took_post room a b s to x reserve (Err call_refused.TrailFull) h = took_none room a b h
-took_post room a b s to x reserve (Err call_refused.Closed) h = took_line room a b (Post s to x reserve) (Refused refused.Closed) h
-took_post room a b s to x reserve (Err call_refused.Spent) h = took_line room a b (Post s to x reserve) (Refused refused.Spent) h
-took_post room a b s to x reserve (Err call_refused.Full) h = took_line room a b (Post s to x reserve) (Refused refused.Full) h
-
 -- one after another
 pub took_then : {T : Type 0} (room : ℕ) (a b c : Account T) (xs ys : List T) → TookMore room a xs b → TookMore room b ys c → TookMore room a (xs ++ ys) c
 took_then room a b c xs ys f g = record {
   worker = g.worker ∙ f.worker;
   told = λ some. g.told some ∙ (ap (λ w. w ++ ys) (f.told some) ∙ append_assoc (letters_in a.lines) xs ys);
 }
-
-pub took_still : {T : Type 0} (room : ℕ) (a b c : Account T) → TookMore room a [] b → TookMore room b [] c → TookMore room a [] c
-took_still room a b c f g = took_then room a b c [] [] f g
 
 pub took_nil : {T : Type 0} (room : ℕ) (a : Account T) → TookMore room a [] a
 took_nil room a = took_none room a a refl

@@ -1,4 +1,7 @@
 pub mod Taking
+pub mod Posting
+pub mod Dealing
+pub mod Buying
 pub mod Sales
 pub mod Hearing
 pub mod Counting
@@ -6,6 +9,7 @@ pub mod Naming
 pub mod Placed
 pub mod Starts
 pub mod Gathering
+pub mod Worked
 pub mod Phase
 pub mod Verdict
 pub mod Solved

@@ -1,5 +1,5 @@
 -- What the threads begin with, and what they give back.
-use Rattle.std.specs.Prelude.{◌≡◌, ◌≢◌, ◌+◌, ℕ, ℤ, List, length, [], Option, Some}
+use Rattle.std.specs.Prelude.{◌≡◌, ◌≢◌, ◌+◌, ℕ, ℤ, List, length, Option, Some}
 use Rattle.auc_letters.specs.declared.letter.Letter.{Letter}
 use Rattle.auc_letters.specs.declared.letter.Why.{Why}
 use Rattle.auc_objects.specs.Objects.{Objects}
@@ -10,7 +10,10 @@ use Rattle.auc_persons.specs.Persons.{Persons}
 use Rattle.auc_answers.specs.Shards.{new_objects, new_persons}
 use Rattle.auc_threads.specs.declared.task.Task.{Task}
 use Rattle.auc_threads.specs.Hearing.{Hears, SomebodyStuck}
-use Rattle.auc_threads.specs.Taking.{TookMore}
+use Rattle.auc_threads.specs.declared.calls.Step.{Step}
+use Rattle.auc_threads.specs.Posting.{Ends, why_of}
+use Rattle.auc_threads.specs.Dealing.{Serves}
+use Rattle.auc_threads.specs.Buying.{Buys}
 use Rattle.auc_threads.specs.Sales.{Sells}
 
 -- the new seats of a worker
@@ -24,12 +27,14 @@ pub record IsObjectStart (task : Task) (k : ℕ) (s : Objects) (a p h : Account 
   pub shard : s ≡ new_objects task.limits.now.shards (length task.rows.now.rows) task.prices.now k
   pub seats : AreNewSeats (task.limits.now.shards + k) a p h
 
--- what comes of a worker of the objects
+-- What comes of a worker of the objects: it dealt with bids and said what it had to, and at its end tells the hub why.
 pub record IsObjectWork (eps : ℤ) (objects_room persons_room hub_room : ℕ) (s : Objects) (a p h : Account Letter) (t : Objects) (a' p' h' : Account Letter) (why : Option Why) : Type 0 where
-  pub sells : Sells eps objects_room s a t a'
-  pub persons_seat : TookMore persons_room p [] p'
-  pub hub_seat : TookMore hub_room h [] h'
-  pub no_guard : (why ≢ Some Why.Stuck) × (why ≢ Some Why.Fell)
+  pub step : Step
+  pub before : Account Letter
+  pub serves : Serves eps objects_room persons_room hub_room s a p h t a' p' before step
+  pub ended : step ≢ Step.On
+  pub ends : Ends hub_room before step h'
+  pub why_is : why ≡ why_of step
 
 -- what the thread number k of the objects promises: it works at eps, from such a beginning
 pub record IsObjectPromise (task : Task) (k : ℕ) (eps : ℤ) (s : Objects) (a p h : Account Letter) : Type 0 where
@@ -43,6 +48,7 @@ pub record IsObjectResult (task : Task) (objects_room persons_room hub_room : �
   pub hub_seat : h.worker ≡ task.limits.now.shards + k
   pub sells : Sells task.eps objects_room (new_objects task.limits.now.shards (length task.rows.now.rows) task.prices.now k) (new_account (task.limits.now.shards + k)) t a
   pub no_guard : (why ≢ Some Why.Stuck) × (why ≢ Some Why.Fell)
+  pub work : IsObjectWork task.eps objects_room persons_room hub_room (new_objects task.limits.now.shards (length task.rows.now.rows) task.prices.now k) (new_account (task.limits.now.shards + k)) (new_account (task.limits.now.shards + k)) (new_account (task.limits.now.shards + k)) t a p h why
 
 -- the same of the persons
 pub record IsPersonStart (task : Task) (k : ℕ) (s : Persons) (a p h : Account Letter) : Type 0 where
@@ -54,13 +60,18 @@ pub record IsBuyerStart (task : Task) (k : ℕ) (s : Persons) (lists : List List
   pub begins : IsPersonStart task k s a p h
   pub kept : (copies : List ℤ) → Kept task.rows.now copies lists
 
-pub record IsPersonWork (t : Table) (objects_room persons_room hub_room : ℕ) (s : Persons) (a p h : Account Letter) (n : Persons) (a' p' h' : Account Letter) (why : Option Why) : Type 0 where
+-- What comes of a worker of the persons: it bid and heard, and at its end tells the hub why.
+pub record IsPersonWork (t : Table) (eps : ℤ) (objects_room persons_room hub_room : ℕ) (s : Persons) (a p h : Account Letter) (n : Persons) (a' p' h' : Account Letter) (why : Option Why) : Type 0 where
+  pub step : Step
+  pub buys : Buys t eps objects_room persons_room s a p n a' p' step
+  pub ended : step ≢ Step.On
+  pub ends : Ends hub_room h step h'
+  pub why_is : why ≡ why_of step
   pub hears : Hears persons_room s p n p' (why ≡ Some Why.Fell)
-  pub objects_seat : TookMore objects_room a [] a'
-  pub hub_seat : TookMore hub_room h [] h'
   pub stuck : why ≡ Some Why.Stuck → SomebodyStuck t
 
-pub record IsPersonPromise (task : Task) (k : ℕ) (t : Table) (s : Persons) (a p h : Account Letter) : Type 0 where
+pub record IsPersonPromise (task : Task) (k : ℕ) (eps : ℤ) (t : Table) (s : Persons) (a p h : Account Letter) : Type 0 where
+  pub at_eps : eps ≡ task.eps
   pub same_table : t ≡ task.rows.now
   pub begins : IsPersonStart task k s a p h
 
@@ -68,5 +79,4 @@ pub record IsPersonResult (task : Task) (objects_room persons_room hub_room : �
   pub seat : p.worker ≡ k
   pub objects_seat : a.worker ≡ k
   pub hub_seat : h.worker ≡ k
-  pub hears : Hears persons_room (new_persons task.limits.now.shards (length task.rows.now.rows) task.limits.now.bids task.prices.now k) (new_account k) n p (why ≡ Some Why.Fell)
-  pub stuck : why ≡ Some Why.Stuck → SomebodyStuck task.rows.now
+  pub work : IsPersonWork task.rows.now task.eps objects_room persons_room hub_room (new_persons task.limits.now.shards (length task.rows.now.rows) task.limits.now.bids task.prices.now k) (new_account k) (new_account k) (new_account k) n a p h why

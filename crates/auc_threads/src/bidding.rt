@@ -1,13 +1,16 @@
 //! What a worker of the persons bids.
 
-ghost use Rattle.std.specs.Prelude.{◌≡◌, ◌≢◌, ◌<◌, [], All};
+ghost use Rattle.std.specs.Prelude.{◌≡◌, ◌≢◌, ◌<◌, All};
 ghost use Rattle.auc_letters.specs.declared.letter.Why.{Why};
 ghost use Rattle.auc_persons.specs.Candidates.{Kept};
+ghost use Rattle.auc_persons.specs.Persons.{NextBid};
 ghost use Rattle.auc_answers.specs.Shards.{IsPersonShard};
-ghost use Rattle.auc_threads.specs.Taking.{GoesWithin, TookMore};
+ghost use Rattle.auc_threads.specs.Taking.{GoesWithin};
+ghost use Rattle.auc_threads.specs.Buying.{Asks};
 ghost use Rattle.auc_threads.specs.Hearing.{SomebodyStuck};
+ghost use Rattle.auc_threads.specs.Posting.{PostsAt};
 
-use crate::calls::{BATCH, Calls, Step};
+use crate::calls::{BATCH, Step, hold, post_all};
 use crate::gate::Gate;
 use crate::task::Task;
 use arrayvec::ArrayVec;
@@ -31,21 +34,19 @@ fn ask(task: &Task, number: u32, buyer: &mut Buyer) -> Bidding
     ensures is { IsPersonShard task.now.rows.now task.now.limits.now.shards number buyer.new.shard }
     ensures kept { Kept task.now.rows.now buyer.new.shard.copies buyer.new.lists }
     ensures copies { buyer.new.shard.copies ≡ buyer.old.shard.copies }
-    ensures stuck { result ≡ Bidding.Stop Why.Stuck → SomebodyStuck task.now.rows.now }
-    ensures why { result ≢ Bidding.Stop Why.Fell }
+    ensures next { NextBid task.now.rows.now task.now.eps buyer.old.shard result buyer.new.shard }
     ensures reach { (o : _) → result ≡ Bidding.Out o → GoesWithin task.now.limits.now.shards o }
 {
     let lists = &mut buyer.lists;
     buyer.shard.next_bid_by(task.rows, task.eps, lists)
 }
 
-/// Asks for bids until nobody is free, but no more than `most`, nor more than find a place.
+/// Asks for bids until nobody is free, but no more than find a place.
 pub(crate) fn ask_all(
     task: &Task,
     number: u32,
     buyer: &mut Buyer,
     bids: &mut ArrayVec<Out, BATCH>,
-    most: usize,
 ) -> Step
     requires shard { IsPersonShard task.now.rows.now task.now.limits.now.shards number buyer.old.shard }
     requires kept { Kept task.now.rows.now buyer.old.shard.copies buyer.old.lists }
@@ -54,11 +55,12 @@ pub(crate) fn ask_all(
     ensures is { IsPersonShard task.now.rows.now task.now.limits.now.shards number buyer.new.shard }
     ensures kept { Kept task.now.rows.now buyer.new.shard.copies buyer.new.lists }
     ensures copies { buyer.new.shard.copies ≡ buyer.old.shard.copies }
+    ensures asks { Asks task.now.rows.now task.now.eps buyer.old.shard bids.old.items buyer.new.shard bids.new.items result }
     ensures stuck { result ≡ Step.Stop Why.Stuck → SomebodyStuck task.now.rows.now }
     ensures why { result ≢ Step.Stop Why.Fell }
     ensures reach { All (GoesWithin task.now.limits.now.shards) bids.new.items }
 {
-    for _ in 0..most {
+    for _ in 0..BATCH {
         if bids.is_full() {
             return Step::On;
         }
@@ -80,11 +82,13 @@ pub(crate) fn send_bids<N: MailBrand, R: Wait, G: Gate>(
     bids: &[Out],
 ) -> Step
     requires { All (GoesWithin N.boxes) bids.now }
-    ensures took { TookMore N.room seat.old [] seat.new }
-    ensures why { (result ≢ Step.Stop Why.Stuck) × (result ≢ Step.Stop Why.Fell) }
+    ensures { PostsAt N.room seat.old bids.now seat.new result }
 {
-    let mut calls = Calls::begin(rt, gate, mail);
-    let step = calls.post_all(seat, bids);
-    calls.end();
+    if bids.is_empty() {
+        return Step::On;
+    }
+    let mut held = hold(rt, gate, mail, seat.worker());
+    let step = post_all(&mut held, seat, bids);
+    held.release();
     step
 }

@@ -1,16 +1,16 @@
-//! A worker's calls of one mail.
+//! A worker's calls of one mail, under one lock.
 
-ghost use Rattle.std.specs.Prelude.{◌≡◌, ◌≢◌, ◌<◌, [], All};
-ghost use Rattle.auc_letters.specs.declared.letter.Why.{Why};
+ghost use Rattle.std.specs.Prelude.{◌≡◌, ◌<◌, [], ◌∷◌, All, Ok};
+ghost use Rattle.auc_book.specs.Desk.{IsWaiting};
 ghost use Rattle.auc_model.specs.Mails.{box_of};
 ghost use Rattle.auc_threads.specs.Taking.{GoesWithin, TookMore, letter_of};
+ghost use Rattle.auc_threads.specs.Posting.{IsOver, PostsAt, step_after, step_without};
+ghost use Rattle.auc_mail.specs.declared.call.Taken.{Taken};
 
 use crate::gate::Gate;
-use crate::taking::{post, post_held, take_held, try_take};
-use auc_answers::reason_to_stop;
 use auc_book::{CallRefused, HeldMail, MailBrand, Seat, SharedMail, TrailFull};
 use auc_letters::{Letter, Out, To, Why};
-use auc_mail::{PostRefused, Taken};
+use auc_mail::Taken;
 use std::sync::Wait;
 
 /// How many bids are posted, or taken, under one lock, at most. With more of them the bids would be made at older prices.
@@ -27,26 +27,31 @@ pub(crate) enum Step {
     Stop { why: Why },
 }
 
-/// How a worker goes on where the mail has refused its letter, for another reason than that the box is closed.
-fn step_refused(refused: PostRefused, letter: Letter) -> Step
-    ensures { (result ≢ Step.Stop Why.Stuck) × (result ≢ Step.Stop Why.Fell) }
+/// How a worker goes on where a letter isn't accepted: a price may be dropped, and for any other one it stops.
+fn step_without(letter: Letter, why: Why) -> Step
+    ensures { result ≡ step_without letter why }
 {
-    match reason_to_stop(refused, letter) {
-        Some(why) => Step::Stop { why },
-        None => Step::On,
+    match letter {
+        Letter::Price { .. } => Step::On,
+        Letter::Bid { .. }
+        | Letter::Award { .. }
+        | Letter::Refused { .. }
+        | Letter::Outbid { .. }
+        | Letter::First { .. }
+        | Letter::Stop { .. } => Step::Stop { why },
     }
 }
 
 /// How a worker goes on after a post. A closed box means that the phase is over.
-fn step_after(posted: Result<u64, CallRefused>, letter: Letter) -> Step
-    ensures { (result ≢ Step.Stop Why.Stuck) × (result ≢ Step.Stop Why.Fell) }
+fn step_after(letter: Letter, posted: Result<u64, CallRefused>) -> Step
+    ensures { result ≡ step_after letter posted }
 {
     match posted {
         Ok(_) => Step::On,
         Err(CallRefused::TrailFull) => Step::Stop { why: Why::Trail },
         Err(CallRefused::Closed) => Step::Over,
-        Err(CallRefused::Spent) => step_refused(PostRefused::Spent, letter),
-        Err(CallRefused::Full) => step_refused(PostRefused::Full, letter),
+        Err(CallRefused::Spent) => step_without(letter, Why::Posts),
+        Err(CallRefused::Full) => step_without(letter, Why::Mail),
     }
 }
 
@@ -61,111 +66,72 @@ fn box_of(to: To) -> u32
     }
 }
 
-/// A worker's calls of one mail: where the gate is open, all under one lock, and else each under its own, behind the gate.
-pub(crate) struct Calls<'b, N: MailBrand, R: Wait, G: Gate> {
-    rt: &'b R,
-    gate: &'b G,
+/// Passes the gate, and takes the lock of a mail, for several calls.
+pub(crate) fn hold<'b, N: MailBrand, R: Wait, G: Gate>(
+    rt: &R,
+    gate: &G,
     mail: &'b SharedMail<Letter, N>,
-    held: Option<HeldMail<'b, Letter, N>>,
+    worker: u32,
+) -> HeldMail<'b, Letter, N> {
+    gate.pass(worker);
+    mail.hold(rt)
 }
 
-impl<'b, N: MailBrand, R: Wait, G: Gate> Calls<'b, N, R, G> {
-    /// The calls of a mail begin. They are made when [`Calls::end`] is called.
-    pub(crate) fn begin(rt: &'b R, gate: &'b G, mail: &'b SharedMail<Letter, N>) -> Self {
-        let held = if gate.is_open() {
-            Some(mail.hold(rt))
-        } else {
-            None
-        };
-        Calls {
-            rt,
-            gate,
-            mail,
-            held,
+/// The same, once a take from the box gives a letter, or says that none will come, or is refused.
+pub(crate) fn hold_for<'b, N: MailBrand, R: Wait, G: Gate>(
+    rt: &R,
+    gate: &G,
+    mail: &'b SharedMail<Letter, N>,
+    worker: u32,
+    at: u32,
+) -> HeldMail<'b, Letter, N>
+    requires { at < N.boxes }
+    ensures { ¬ (IsWaiting result at) }
+{
+    gate.pass(worker);
+    mail.hold_for(rt, at)
+}
+
+/// Takes a letter, if one waits.
+pub(crate) fn take<N: MailBrand>(
+    held: &mut HeldMail<'_, Letter, N>,
+    seat: &mut Seat<Letter, N>,
+    at: u32,
+) -> Result<Taken<Letter>, TrailFull>
+    requires { at < N.boxes }
+    ensures took { TookMore N.room seat.old (letter_of result) seat.new }
+    ensures over { result ≡ Ok Taken.Over → 0 < N.room → IsOver seat.new.lines }
+{
+    held.take(seat, at)
+}
+
+/// Posts a letter to where it goes.
+pub(crate) fn post<N: MailBrand>(
+    held: &mut HeldMail<'_, Letter, N>,
+    seat: &mut Seat<Letter, N>,
+    out: Out,
+) -> Step
+    requires { GoesWithin N.boxes out }
+    ensures { PostsAt N.room seat.old (out ∷ []) seat.new result }
+{
+    let posted = held.post(seat, box_of(out.to), out.letter, out.reserve);
+    step_after(out.letter, posted)
+}
+
+/// Posts letters in order, until one of them ends the worker.
+pub(crate) fn post_all<N: MailBrand>(
+    held: &mut HeldMail<'_, Letter, N>,
+    seat: &mut Seat<Letter, N>,
+    letters: &[Out],
+) -> Step
+    requires { All (GoesWithin N.boxes) letters.now }
+    ensures { PostsAt N.room seat.old letters.now seat.new result }
+{
+    for out in letters {
+        let step = post(held, seat, *out);
+        if step != Step::On {
+            return step;
         }
     }
-
-    /// The calls of a mail begin whose lock is held.
-    pub(crate) fn with(
-        rt: &'b R,
-        gate: &'b G,
-        mail: &'b SharedMail<Letter, N>,
-        held: HeldMail<'b, Letter, N>,
-    ) -> Self {
-        Calls {
-            rt,
-            gate,
-            mail,
-            held: Some(held),
-        }
-    }
-
-    /// Takes a letter, if one waits.
-    pub(crate) fn take(
-        &mut self,
-        seat: &mut Seat<Letter, N>,
-        at: u32,
-    ) -> Result<Taken<Letter>, TrailFull>
-        requires { at < N.boxes }
-        ensures { TookMore N.room seat.old (letter_of result) seat.new }
-    {
-        match &mut self.held {
-            Some(held) => take_held(held, seat, at),
-            None => try_take(self.rt, self.gate, self.mail, seat, at),
-        }
-    }
-
-    /// Posts a letter to a box.
-    pub(crate) fn post_to(&mut self, seat: &mut Seat<Letter, N>, to: u32, out: Out) -> Step
-        requires { to < N.boxes }
-        ensures took { TookMore N.room seat.old [] seat.new }
-        ensures why { (result ≢ Step.Stop Why.Stuck) × (result ≢ Step.Stop Why.Fell) }
-    {
-        let posted = match &mut self.held {
-            Some(held) => post_held(held, seat, to, out),
-            None => {
-                self.gate.pass(seat.worker());
-                post(self.rt, self.mail, seat, to, out)
-            }
-        };
-        step_after(posted, out.letter)
-    }
-
-    /// Posts a letter to where it goes.
-    pub(crate) fn post(&mut self, seat: &mut Seat<Letter, N>, out: Out) -> Step
-        requires { GoesWithin N.boxes out }
-        ensures took { TookMore N.room seat.old [] seat.new }
-        ensures why { (result ≢ Step.Stop Why.Stuck) × (result ≢ Step.Stop Why.Fell) }
-    {
-        self.post_to(seat, box_of(out.to), out)
-    }
-
-    /// Posts letters in order, until one of them ends the worker.
-    pub(crate) fn post_all(&mut self, seat: &mut Seat<Letter, N>, letters: &[Out]) -> Step
-        requires { All (GoesWithin N.boxes) letters.now }
-        ensures took { TookMore N.room seat.old [] seat.new }
-        ensures why { (result ≢ Step.Stop Why.Stuck) × (result ≢ Step.Stop Why.Fell) }
-    {
-        for out in letters {
-            let step = self.post(seat, *out);
-            if step != Step::On {
-                return step;
-            }
-        }
-        Step::On
-    }
-
-    /// The calls end: the lock is given up, and who has to be is woken.
-    pub(crate) fn end(self) {
-        let Calls {
-            rt: _,
-            gate: _,
-            mail: _,
-            held,
-        } = self;
-        match held {
-            Some(held) => held.release(),
-            None => {}
-        }
-    }
+    Step::On
 }

@@ -1,73 +1,99 @@
 //! How a worker of the objects deals with bids.
 
-ghost use Rattle.std.specs.Prelude.{ℕ, ◌≡◌, ◌≢◌, ◌<◌, [], ◌∷◌, All, IfSome};
+ghost use Rattle.std.specs.Prelude.{◌≡◌, ◌≢◌, ◌≤◌, ◌<◌, ◌+◌, ◌++◌, ◌↔◌, [], ◌∷◌, List, Ok, IsTrue, length};
 ghost use Rattle.arrayvec.specs.ArrayVec.{array_vec_len};
-ghost use Rattle.auc_letters.specs.declared.letter.Why.{Why};
-ghost use Rattle.auc_letters.specs.Award.{award_all, bids_on};
-ghost use Rattle.auc_objects.specs.Objects.{Owns, SameShape, sale_of};
+ghost use Rattle.auc_objects.specs.Objects.{Owns};
 ghost use Rattle.auc_objects.specs.Answers.{letters_of};
-ghost use Rattle.auc_threads.specs.Taking.{GoesWithin, letter_of};
-ghost use Rattle.auc_threads.specs.Sales.{Sells};
+ghost use Rattle.auc_letters.specs.declared.out.Out.{Out as AnOut};
+ghost use Rattle.auc_mail.specs.declared.call.Taken.{Taken as ATaken};
+ghost use Rattle.auc_threads.specs.Taking.{letter_of};
+ghost use Rattle.auc_threads.specs.Dealing.{Deals, DealsWith, prices_told};
+ghost use Rattle.auc_threads.specs.declared.calls.Step.{Step as AStep};
 
-use crate::calls::{BATCH, Calls, Step};
+use crate::calls::{BATCH, Step, hold_for, take};
 use crate::gate::Gate;
 use crate::object_worker::ObjectWorker;
-use crate::taking::take;
 use crate::task::{PhaseRun, Task};
-use crate::telling::Said;
 use arrayvec::ArrayVec;
-use auc_book::{MailBrand, Seat, TrailFull};
-use auc_letters::{Letter, Offer, Why, shard_of};
+use auc_book::{HeldMail, MailBrand, Seat, TrailFull};
+use auc_letters::{Letter, Out, Why, shard_of};
 use auc_mail::Taken;
-use auc_objects::{Answers, ObjectShard, letters_sell_by_their_bids};
+use auc_objects::{Answers, ObjectShard};
 use std::sync::Wait;
 
-/// A bid that was dealt with, and its answers.
-#[derive(Clone, Copy)]
-struct Dealt {
-    offer: Offer,
-    answers: Answers,
-}
+/// How many letters are said of one bid, at most: two answers, and a price to each of 16 shards of the persons.
+const MOST_SAID: usize = 18;
 
-/// Deals with a letter. None where it is no bid that fits the shard; then nothing is changed.
-fn answer(task: &Task, shard: &mut ObjectShard, letter: Letter) -> Option<Dealt>
-    requires { shard.old.person_shards ≡ task.now.limits.now.shards }
-    ensures shape { SameShape shard.old shard.new }
-    ensures sold { (j : ℕ) → Owns shard.old j → sale_of shard.new j ≡ award_all task.now.eps (sale_of shard.old j) (bids_on j (letter ∷ [])) }
-    ensures reach { IfSome result (λ x. All (GoesWithin task.now.limits.now.shards) (letters_of x.answers)) }
-    ensures own { IfSome result (λ x. Owns shard.new x.offer.object) }
+/// How many letters are said of the bids that are taken under one lock, at most: so many of each of a batch.
+pub(crate) const ROOM: usize = 288;
+
+/// Notes the answers to a bid, in order.
+fn note_answers(said: &mut ArrayVec<Out, ROOM>, answers: Answers)
+    requires { array_vec_len said.old + 2 ≤ ROOM }
+    ensures { said.new.items ≡ said.old.items ++ letters_of answers }
 {
-    letters_sell_by_their_bids();
-    let offer = shard.offer_in(letter)?;
-    let answers = shard.answer(offer, task.eps);
-    Some(Dealt { offer, answers })
+    match answers {
+        Answers::Refused { refused } => said.push(refused),
+        Answers::First { award, first } => {
+            said.push(award);
+            said.push(first);
+        }
+        Answers::Outbid { outbid, award } => {
+            said.push(outbid);
+            said.push(award);
+        }
+    }
 }
 
-/// Deals with a letter, and notes what is to be said of it.
+/// Notes the price of an object for each shard of the persons but one.
+fn note_prices(
+    said: &mut ArrayVec<Out, ROOM>,
+    shard: &ObjectShard,
+    shards: u32,
+    object: u32,
+    knowing: u32,
+)
+    requires object { Owns shard.now object }
+    requires shards { shard.now.person_shards ≡ shards }
+    requires room { array_vec_len said.old + shards ≤ ROOM }
+    ensures { said.new.items ≡ said.old.items ++ prices_told shard.now shards knowing object }
+{
+    for other in 0..shards {
+        if other != knowing {
+            said.push(shard.tell(object, other));
+        }
+    }
+}
+
+/// Whether a bid was accepted, by its answers.
+fn is_accepted(answers: &Answers) -> bool
+    ensures { IsTrue result ↔ (length (letters_of answers.now) ≡ 2) }
+{
+    !matches!(answers, Answers::Refused { .. })
+}
+
+/// Deals with a letter, and notes what is to be said of it. It stops where that is no bid that fits the shard; then nothing is changed.
 fn deal_letter(
     task: &Task,
     shard: &mut ObjectShard,
-    said: &mut ArrayVec<Said, BATCH>,
+    said: &mut ArrayVec<Out, ROOM>,
     letter: Letter,
 ) -> Step
-    requires tells { shard.old.person_shards ≡ task.now.limits.now.shards }
-    requires place { array_vec_len said.old < BATCH }
-    requires reach { All (λ a. All (GoesWithin task.now.limits.now.shards) (letters_of a.answers)) said.old.items }
-    ensures shape { SameShape shard.old shard.new }
-    ensures sold { (j : ℕ) → Owns shard.old j → sale_of shard.new j ≡ award_all task.now.eps (sale_of shard.old j) (bids_on j (letter ∷ [])) }
-    ensures reach { All (λ a. All (GoesWithin task.now.limits.now.shards) (letters_of a.answers)) said.new.items }
-    ensures why { (result ≢ Step.Stop Why.Stuck) × (result ≢ Step.Stop Why.Fell) }
+    requires shards { shard.old.person_shards ≡ task.now.limits.now.shards }
+    requires room { array_vec_len said.old + MOST_SAID ≤ ROOM }
+    ensures deals { (more : List AnOut) × (said.new.items ≡ said.old.items ++ more) × DealsWith task.now.eps shard.old (letter ∷ []) more shard.new result }
+    ensures goes { result ≢ AStep.Over }
 {
-    let Some(dealt) = answer(task, shard, letter) else {
+    let Some(offer) = shard.offer_in(letter) else {
         return Step::Stop { why: Why::Stray };
     };
-    let knowing = shard_of(dealt.offer.person, task.limits.shards);
-    let price = shard.tell(dealt.offer.object, knowing);
-    said.push(Said {
-        answers: dealt.answers,
-        price,
-        knowing,
-    });
+    let answers = shard.answer(offer, task.eps);
+    note_answers(said, answers);
+    if is_accepted(&answers) {
+        let shards = task.limits.shards;
+        let knowing = shard_of(offer.person, shards);
+        note_prices(said, shard, shards, offer.object, knowing);
+    }
     Step::On
 }
 
@@ -75,16 +101,14 @@ fn deal_letter(
 fn deal(
     task: &Task,
     shard: &mut ObjectShard,
-    said: &mut ArrayVec<Said, BATCH>,
+    said: &mut ArrayVec<Out, ROOM>,
     taken: Result<Taken<Letter>, TrailFull>,
 ) -> Step
-    requires tells { shard.old.person_shards ≡ task.now.limits.now.shards }
-    requires place { array_vec_len said.old < BATCH }
-    requires reach { All (λ a. All (GoesWithin task.now.limits.now.shards) (letters_of a.answers)) said.old.items }
-    ensures shape { SameShape shard.old shard.new }
-    ensures sold { (j : ℕ) → Owns shard.old j → sale_of shard.new j ≡ award_all task.now.eps (sale_of shard.old j) (bids_on j (letter_of taken)) }
-    ensures reach { All (λ a. All (GoesWithin task.now.limits.now.shards) (letters_of a.answers)) said.new.items }
-    ensures why { (result ≢ Step.Stop Why.Stuck) × (result ≢ Step.Stop Why.Fell) }
+    requires shards { shard.old.person_shards ≡ task.now.limits.now.shards }
+    requires room { array_vec_len said.old + MOST_SAID ≤ ROOM }
+    requires some { taken ≢ Ok ATaken.Empty }
+    ensures deals { (more : List AnOut) × (said.new.items ≡ said.old.items ++ more) × DealsWith task.now.eps shard.old (letter_of taken) more shard.new result }
+    ensures over { result ≡ AStep.Over → taken ≡ Ok ATaken.Over }
 {
     match taken {
         Ok(Taken::Letter { item, .. }) => deal_letter(task, shard, said, item),
@@ -93,27 +117,25 @@ fn deal(
     }
 }
 
-/// Takes the bids that wait, as many as find a place, and deals with them.
-fn deal_each<N: MailBrand, R: Wait, G: Gate>(
-    calls: &mut Calls<'_, N, R, G>,
+/// Takes the bids that wait, as many as are posted under one lock, and deals with them.
+fn deal_each<N: MailBrand>(
+    held: &mut HeldMail<'_, Letter, N>,
     task: &Task,
     number: u32,
     shard: &mut ObjectShard,
     seat: &mut Seat<Letter, N>,
-    said: &mut ArrayVec<Said, BATCH>,
+    said: &mut ArrayVec<Out, ROOM>,
 ) -> Step
-    requires tells { shard.old.person_shards ≡ task.now.limits.now.shards }
+    requires shards { shard.old.person_shards ≡ task.now.limits.now.shards }
     requires known { number < N.boxes }
-    requires reach { All (λ a. All (GoesWithin task.now.limits.now.shards) (letters_of a.answers)) said.old.items }
-    ensures sells { Sells task.now.eps N.room shard.old seat.old shard.new seat.new }
-    ensures reach { All (λ a. All (GoesWithin task.now.limits.now.shards) (letters_of a.answers)) said.new.items }
-    ensures why { (result ≢ Step.Stop Why.Stuck) × (result ≢ Step.Stop Why.Fell) }
+    requires none { said.old.items ≡ [] }
+    ensures { Deals task.now.eps N.room shard.old seat.old said.new.items shard.new seat.new result }
 {
     for _ in 0..BATCH {
-        if said.is_full() {
+        if said.remaining_capacity() < MOST_SAID {
             return Step::On;
         }
-        let taken = calls.take(seat, number);
+        let taken = take(held, seat, number);
         if matches!(&taken, Ok(Taken::Empty)) {
             return Step::On;
         }
@@ -125,35 +147,26 @@ fn deal_each<N: MailBrand, R: Wait, G: Gate>(
     Step::On
 }
 
-/// Waits for a bid, and deals with it; where the gate is open, with all bids that wait.
+/// Waits for a bid, and deals with all that wait, but no more than a batch.
 pub(crate) fn deal_next<O: MailBrand, P: MailBrand, H: MailBrand, R: Wait, G: Gate>(
     rt: &R,
     gate: &G,
     run: &PhaseRun<'_, O, P, H>,
     number: u32,
     worker: &mut ObjectWorker<O, P, H>,
-    said: &mut ArrayVec<Said, BATCH>,
+    said: &mut ArrayVec<Out, ROOM>,
 ) -> Step
-    requires tells { worker.old.shard.person_shards ≡ run.now.task.limits.now.shards }
+    requires shards { worker.old.shard.person_shards ≡ run.now.task.limits.now.shards }
     requires known { number < run.now.task.limits.now.shards }
-    requires place { array_vec_len said.old < BATCH }
-    requires reach { All (λ a. All (GoesWithin run.now.task.limits.now.shards) (letters_of a.answers)) said.old.items }
-    ensures sells { Sells run.now.task.eps O.room worker.old.shard worker.old.seats.objects worker.new.shard worker.new.seats.objects }
+    requires none { said.old.items ≡ [] }
+    ensures deals { Deals run.now.task.eps O.room worker.old.shard worker.old.seats.objects said.new.items worker.new.shard worker.new.seats.objects result }
     ensures persons { worker.new.seats.persons ≡ worker.old.seats.persons }
     ensures hub { worker.new.seats.hub ≡ worker.old.seats.hub }
-    ensures reach { All (λ a. All (GoesWithin run.now.task.limits.now.shards) (letters_of a.answers)) said.new.items }
-    ensures why { (result ≢ Step.Stop Why.Stuck) × (result ≢ Step.Stop Why.Fell) }
 {
-    let mail = &run.mails.objects;
     let shard = &mut worker.shard;
     let seat = &mut worker.seats.objects;
-    if gate.is_open() {
-        let held = mail.hold_for(rt, number);
-        let mut calls = Calls::with(rt, gate, mail, held);
-        let step = deal_each(&mut calls, &run.task, number, shard, seat, said);
-        calls.end();
-        return step;
-    }
-    let taken = take(rt, gate, mail, seat, number);
-    deal(&run.task, shard, said, taken)
+    let mut held = hold_for(rt, gate, &run.mails.objects, seat.worker(), number);
+    let step = deal_each(&mut held, &run.task, number, shard, seat, said);
+    held.release();
+    step
 }

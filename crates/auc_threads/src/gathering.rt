@@ -1,11 +1,12 @@
 //! What the workers of a phase gave back: holders and prices from the shards of the objects, and the reason for which it ended.
 
-ghost use Rattle.std.specs.Prelude.{ℕ, ◌≡◌, ◌≢◌, ◌<◌, ◌%◌, ◌↔◌, length, pos, Some, None, IsTrue, IfOk, IfSome, All, slice_index_or};
+ghost use Rattle.std.specs.Prelude.{ℕ, ◌≡◌, ◌≢◌, ◌<◌, ◌%◌, ◌↔◌, ◌++◌, [], ◌∷◌, map, length, pos, Some, None, IsTrue, IfOk, IfSome, All, slice_index_or};
 ghost use Rattle.auc_letters.specs.declared.letter.Why.{Why};
 ghost use Rattle.auc_letters.specs.Price.{IsPrice};
 ghost use Rattle.auc_model.specs.declared.turn.End.{End};
 ghost use Rattle.auc_threads.specs.Gathering.{Gathers, IsOwnShard};
 ghost use Rattle.auc_threads.specs.Placed.{Placed};
+ghost use Rattle.auc_threads.specs.Worked.{end_by, first_some};
 
 use crate::object_worker::ObjectWork;
 use crate::person_worker::PersonWork;
@@ -45,7 +46,8 @@ pub(crate) fn gather<O: MailBrand, P: MailBrand, H: MailBrand>(
 fn persons_reason<O: MailBrand, P: MailBrand, H: MailBrand>(
     works: &[PersonWork<O, P, H>],
 ) -> Option<Why>
-    ensures { IfSome result (λ y. (k : ℕ) × (k < length works.now) × ((d : _) → (slice_index_or works.now k d).why ≡ Some y)) }
+    ensures first { result ≡ first_some (map (λ w. w.why) works.now) }
+    ensures whose { IfSome result (λ y. (k : ℕ) × (k < length works.now) × ((d : _) → (slice_index_or works.now k d).why ≡ Some y)) }
 {
     for work in works {
         if let Some(why) = work.why {
@@ -60,7 +62,8 @@ fn objects_reason<O: MailBrand, P: MailBrand, H: MailBrand>(
     works: &[ObjectWork<O, P, H>],
 ) -> Option<Why>
     requires { All (λ w. (w.why ≢ Some Why.Stuck) × (w.why ≢ Some Why.Fell)) works.now }
-    ensures { (result ≢ Some Why.Stuck) × (result ≢ Some Why.Fell) }
+    ensures first { result ≡ first_some (map (λ w. w.why) works.now) }
+    ensures no_guard { (result ≢ Some Why.Stuck) × (result ≢ Some Why.Fell) }
 {
     for work in works {
         if let Some(why) = work.why {
@@ -74,6 +77,7 @@ fn objects_reason<O: MailBrand, P: MailBrand, H: MailBrand>(
 fn reason<O: MailBrand, P: MailBrand, H: MailBrand>(works: &Works<O, P, H>) -> Option<Why>
     requires objects { All (λ w. (w.why ≢ Some Why.Stuck) × (w.why ≢ Some Why.Fell)) works.now.objects.items }
     requires hub { (works.now.hub.why ≢ Some Why.Stuck) × (works.now.hub.why ≢ Some Why.Fell) }
+    ensures first { result ≡ first_some ((map (λ w. w.why) works.now.persons.items ++ map (λ w. w.why) works.now.objects.items) ++ works.now.hub.why ∷ []) }
     ensures stuck { result ≡ Some Why.Stuck → (k : ℕ) × (k < length works.now.persons.items) × ((d : _) → (slice_index_or works.now.persons.items k d).why ≡ Some Why.Stuck) }
     ensures fell { result ≡ Some Why.Fell → (k : ℕ) × (k < length works.now.persons.items) × ((d : _) → (slice_index_or works.now.persons.items k d).why ≡ Some Why.Fell) }
 {
@@ -92,6 +96,7 @@ pub(crate) fn end_of<O: MailBrand, P: MailBrand, H: MailBrand>(
 ) -> Option<End>
     requires objects { All (λ w. (w.why ≢ Some Why.Stuck) × (w.why ≢ Some Why.Fell)) works.now.objects.items }
     requires hub { (works.now.hub.why ≢ Some Why.Stuck) × (works.now.hub.why ≢ Some Why.Fell) }
+    ensures is { result ≡ end_by works.now.hub.is_all (first_some ((map (λ w. w.why) works.now.persons.items ++ map (λ w. w.why) works.now.objects.items) ++ works.now.hub.why ∷ [])) }
     ensures all { result ≡ Some End.All ↔ IsTrue works.now.hub.is_all }
     ensures stuck { result ≡ Some (End.Stopped Why.Stuck) → (k : ℕ) × (k < length works.now.persons.items) × ((d : _) → (slice_index_or works.now.persons.items k d).why ≡ Some Why.Stuck) }
     ensures fell { result ≡ Some (End.Stopped Why.Fell) → (k : ℕ) × (k < length works.now.persons.items) × ((d : _) → (slice_index_or works.now.persons.items k d).why ≡ Some Why.Fell) }

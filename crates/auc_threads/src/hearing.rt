@@ -1,17 +1,18 @@
 //! What a worker of the persons hears.
 
-ghost use Rattle.std.specs.Prelude.{◌≡◌, ◌≢◌, ◌<◌, [], ◌∷◌};
+ghost use Rattle.std.specs.Prelude.{◌≡◌, ◌≢◌, ◌<◌, [], ◌∷◌, Ok};
 ghost use Rattle.auc_letters.specs.declared.letter.Why.{Why};
+ghost use Rattle.auc_mail.specs.declared.call.Taken.{Taken as ATaken};
 ghost use Rattle.auc_answers.specs.Shards.{IsPersonShard};
 ghost use Rattle.auc_threads.specs.Taking.{letter_of};
+ghost use Rattle.auc_threads.specs.Buying.{Listens, ListensTo};
 ghost use Rattle.auc_threads.specs.Hearing.{Hears, HearsOf};
 
-use crate::calls::{Calls, Step};
+use crate::calls::{Step, hold, hold_for, take};
 use crate::gate::Gate;
-use crate::taking::take;
 use crate::task::{PhaseRun, Task};
 use auc_answers::reason_for;
-use auc_book::{MailBrand, Seat, TrailFull};
+use auc_book::{HeldMail, MailBrand, Seat, TrailFull};
 use auc_letters::{Letter, Why};
 use auc_mail::Taken;
 use auc_persons::PersonShard;
@@ -22,7 +23,8 @@ fn hear_letter(task: &Task, number: u32, shard: &mut PersonShard, letter: Letter
     requires { IsPersonShard task.now.rows.now task.now.limits.now.shards number shard.old }
     ensures is { IsPersonShard task.now.rows.now task.now.limits.now.shards number shard.new }
     ensures hears { HearsOf shard.old (letter ∷ []) shard.new (result ≡ Step.Stop Why.Fell) }
-    ensures why { result ≢ Step.Stop Why.Stuck }
+    ensures listens { ListensTo task.now.rows.now task.now.eps shard.old (letter ∷ []) shard.new result }
+    ensures why { (result ≢ Step.Stop Why.Stuck) × (result ≢ Step.Over) }
 {
     match shard.on_letter(letter) {
         Ok(()) => Step::On,
@@ -39,9 +41,12 @@ fn hear(
     shard: &mut PersonShard,
     taken: Result<Taken<Letter>, TrailFull>,
 ) -> Step
-    requires { IsPersonShard task.now.rows.now task.now.limits.now.shards number shard.old }
+    requires shard { IsPersonShard task.now.rows.now task.now.limits.now.shards number shard.old }
+    requires some { taken ≢ Ok ATaken.Empty }
     ensures is { IsPersonShard task.now.rows.now task.now.limits.now.shards number shard.new }
     ensures hears { HearsOf shard.old (letter_of taken) shard.new (result ≡ Step.Stop Why.Fell) }
+    ensures listens { ListensTo task.now.rows.now task.now.eps shard.old (letter_of taken) shard.new result }
+    ensures over { result ≡ Step.Over → taken ≡ Ok ATaken.Over }
     ensures why { result ≢ Step.Stop Why.Stuck }
 {
     match taken {
@@ -52,8 +57,8 @@ fn hear(
 }
 
 /// Hears what waits, but no more than two letters for each person.
-fn hear_each<N: MailBrand, R: Wait, G: Gate>(
-    calls: &mut Calls<'_, N, R, G>,
+fn hear_each<N: MailBrand>(
+    held: &mut HeldMail<'_, Letter, N>,
     task: &Task,
     number: u32,
     shard: &mut PersonShard,
@@ -63,10 +68,11 @@ fn hear_each<N: MailBrand, R: Wait, G: Gate>(
     requires known { number < N.boxes }
     ensures is { IsPersonShard task.now.rows.now task.now.limits.now.shards number shard.new }
     ensures hears { Hears N.room shard.old seat.old shard.new seat.new (result ≡ Step.Stop Why.Fell) }
+    ensures listens { Listens task.now.rows.now task.now.eps N.room shard.old seat.old shard.new seat.new result }
     ensures why { result ≢ Step.Stop Why.Stuck }
 {
     for _ in 0..2 * task.rows.persons() {
-        let taken = calls.take(seat, number);
+        let taken = take(held, seat, number);
         if matches!(&taken, Ok(Taken::Empty)) {
             return Step::On;
         }
@@ -78,27 +84,7 @@ fn hear_each<N: MailBrand, R: Wait, G: Gate>(
     Step::On
 }
 
-/// Hears what waits, by calls that then end.
-pub(crate) fn hear_waiting<N: MailBrand, R: Wait, G: Gate>(
-    calls: Calls<'_, N, R, G>,
-    task: &Task,
-    number: u32,
-    shard: &mut PersonShard,
-    seat: &mut Seat<Letter, N>,
-) -> Step
-    requires shard { IsPersonShard task.now.rows.now task.now.limits.now.shards number shard.old }
-    requires known { number < N.boxes }
-    ensures is { IsPersonShard task.now.rows.now task.now.limits.now.shards number shard.new }
-    ensures hears { Hears N.room shard.old seat.old shard.new seat.new (result ≡ Step.Stop Why.Fell) }
-    ensures why { result ≢ Step.Stop Why.Stuck }
-{
-    let mut calls = calls;
-    let step = hear_each(&mut calls, task, number, shard, seat);
-    calls.end();
-    step
-}
-
-/// Waits for a letter and hears it, and what else waits.
+/// Hears what waits; where the worker has nothing else to do, waits for a letter first.
 pub(crate) fn hear_next<O: MailBrand, P: MailBrand, H: MailBrand, R: Wait, G: Gate>(
     rt: &R,
     gate: &G,
@@ -106,24 +92,22 @@ pub(crate) fn hear_next<O: MailBrand, P: MailBrand, H: MailBrand, R: Wait, G: Ga
     number: u32,
     shard: &mut PersonShard,
     seat: &mut Seat<Letter, P>,
+    is_waiting: bool,
 ) -> Step
     requires shard { IsPersonShard run.now.task.rows.now run.now.task.limits.now.shards number shard.old }
     requires known { number < run.now.task.limits.now.shards }
     ensures is { IsPersonShard run.now.task.rows.now run.now.task.limits.now.shards number shard.new }
     ensures hears { Hears P.room shard.old seat.old shard.new seat.new (result ≡ Step.Stop Why.Fell) }
+    ensures listens { Listens run.now.task.rows.now run.now.task.eps P.room shard.old seat.old shard.new seat.new result }
     ensures why { result ≢ Step.Stop Why.Stuck }
 {
     let mail = &run.mails.persons;
-    if gate.is_open() {
-        let held = mail.hold_for(rt, number);
-        let calls = Calls::with(rt, gate, mail, held);
-        return hear_waiting(calls, &run.task, number, shard, seat);
-    }
-    let taken = take(rt, gate, mail, seat, number);
-    let step = hear(&run.task, number, shard, taken);
-    if step != Step::On {
-        return step;
-    }
-    let calls = Calls::begin(rt, gate, mail);
-    hear_waiting(calls, &run.task, number, shard, seat)
+    let mut held = if is_waiting {
+        hold_for(rt, gate, mail, seat.worker(), number)
+    } else {
+        hold(rt, gate, mail, seat.worker())
+    };
+    let step = hear_each(&mut held, &run.task, number, shard, seat);
+    held.release();
+    step
 }

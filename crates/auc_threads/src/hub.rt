@@ -1,13 +1,12 @@
 //! The hub: it counts the objects that have their first holder, and ends the phase.
 
-ghost use Rattle.std.specs.Prelude.{◌≡◌, ◌≢◌, ◌<◌, [], ◌∷◌, None, Some};
-ghost use Rattle.auc_letters.specs.declared.letter.Why.{Why};
-ghost use Rattle.auc_threads.specs.Counting.{Counted, Counts};
-ghost use Rattle.auc_threads.specs.Taking.{TookMore, letter_of};
+ghost use Rattle.std.specs.Prelude.{◌≡◌, ◌≢◌, ◌<◌, [], ◌∷◌, None, Ok};
+ghost use Rattle.auc_mail.specs.declared.call.Taken.{Taken as ATaken};
+ghost use Rattle.auc_threads.specs.declared.hub.Heard.{Heard as AHeard};
+ghost use Rattle.auc_threads.specs.Counting.{Closes, Counted, Counts};
+ghost use Rattle.auc_threads.specs.Taking.{letter_of};
 
-use crate::gate::FreeGate;
 use crate::mails::{Mails, WorkerSeats};
-use crate::taking::{close, take};
 use auc_answers::Hub;
 use auc_book::{MailBrand, TrailFull};
 use auc_letters::{Letter, Why};
@@ -61,7 +60,9 @@ fn hear_letter(hub: &mut Hub, persons: u32, letter: Letter) -> Heard
 fn hear(hub: &mut Hub, persons: u32, taken: Result<Taken<Letter>, TrailFull>) -> Heard
     requires going { hub.old.end ≡ None }
     requires fewer { hub.old.count < persons }
-    ensures { Counted persons hub.old (letter_of taken) result hub.new }
+    requires some { taken ≢ Ok ATaken.Empty }
+    ensures counted { Counted persons hub.old (letter_of taken) result hub.new }
+    ensures over { result ≡ AHeard.End None → letter_of taken ≡ [] → taken ≡ Ok ATaken.Over }
 {
     match taken {
         Ok(Taken::Letter { item, .. }) => hear_letter(hub, persons, item),
@@ -73,21 +74,20 @@ fn hear(hub: &mut Hub, persons: u32, taken: Result<Taken<Letter>, TrailFull>) ->
 }
 
 /// Closes every box, the hub's last. A close that can't be noted is passed over, since all who wait are woken then too.
-#[tactic(auto, using(crate::proofs::TakingLaws::took_still))]
 pub(crate) fn close_all<O: MailBrand, P: MailBrand, H: MailBrand, R: Wait>(
     rt: &R,
     mails: &Mails<O, P, H>,
     seats: &mut WorkerSeats<O, P, H>,
 )
-    ensures objects { TookMore O.room seats.old.objects [] seats.new.objects }
-    ensures persons { TookMore P.room seats.old.persons [] seats.new.persons }
-    ensures hub { TookMore H.room seats.old.hub [] seats.new.hub }
+    ensures objects { Closes O.room O.boxes seats.old.objects seats.new.objects }
+    ensures persons { Closes P.room P.boxes seats.old.persons seats.new.persons }
+    ensures hub { Closes H.room 1 seats.old.hub seats.new.hub }
 {
     for at in 0..mails.shards {
-        let _ = close(rt, &mails.objects, &mut seats.objects, at);
-        let _ = close(rt, &mails.persons, &mut seats.persons, at);
+        let _ = mails.objects.close(rt, &mut seats.objects, at);
+        let _ = mails.persons.close(rt, &mut seats.persons, at);
     }
-    let _ = close(rt, &mails.hub, &mut seats.hub, 0);
+    let _ = mails.hub.close(rt, &mut seats.hub, 0);
 }
 
 /// Counts until each person has an object, or the phase is to end, and then closes all boxes.
@@ -98,15 +98,14 @@ pub(crate) fn count<O: MailBrand, P: MailBrand, H: MailBrand, R: Wait>(
     seats: WorkerSeats<O, P, H>,
 ) -> HubWork<O, P, H>
     requires { 0 < persons }
-    ensures counts { Counts H.room persons seats.hub result.is_all result.seats.hub }
-    ensures objects { TookMore O.room seats.objects [] result.seats.objects }
-    ensures persons { TookMore P.room seats.persons [] result.seats.persons }
-    ensures why { (result.why ≢ Some Why.Stuck) × (result.why ≢ Some Why.Fell) }
+    ensures counts { Counts H.room persons seats.hub result.is_all result.why result.seats.hub }
+    ensures objects { Closes O.room O.boxes seats.objects result.seats.objects }
+    ensures persons { Closes P.room P.boxes seats.persons result.seats.persons }
 {
     let mut seats = seats;
     let mut hub = Hub::new();
     for _ in rt.forever() {
-        let taken = take(rt, &FreeGate, &mails.hub, &mut seats.hub, 0);
+        let taken = mails.hub.take(rt, &mut seats.hub, 0);
         match hear(&mut hub, persons, taken) {
             Heard::On => {}
             Heard::All => {

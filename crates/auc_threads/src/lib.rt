@@ -19,7 +19,6 @@ mod running;
 mod settling;
 mod solving;
 mod stopping;
-mod taking;
 mod task;
 mod telling;
 mod verdict;

@@ -1,20 +1,20 @@
 //! A worker of the objects: it deals with bids until the phase is over.
 
-ghost use Rattle.std.specs.Prelude.{◌≡◌, ◌≢◌, ◌<◌, [], Some};
-ghost use Rattle.auc_letters.specs.declared.letter.Why.{Why};
-ghost use Rattle.auc_threads.specs.Taking.{TookMore};
-ghost use Rattle.auc_threads.specs.Sales.{Sells};
+ghost use Rattle.std.specs.Prelude.{◌≡◌, ◌<◌};
+ghost use Rattle.auc_objects.specs.Objects.{SameShape};
+ghost use Rattle.auc_threads.specs.Dealing.{Serves};
+ghost use Rattle.auc_threads.specs.Starts.{IsObjectWork};
 
-use crate::calls::{BATCH, Step};
-use crate::dealing::deal_next;
+use crate::calls::Step;
+use crate::dealing::{ROOM, deal_next};
 use crate::gate::Gate;
 use crate::mails::WorkerSeats;
 use crate::stopping::end;
 use crate::task::PhaseRun;
-use crate::telling::{Said, tell};
+use crate::telling::tell;
 use arrayvec::ArrayVec;
 use auc_book::MailBrand;
-use auc_letters::Why;
+use auc_letters::{Out, Why};
 use auc_objects::ObjectShard;
 use std::sync::Wait;
 
@@ -33,29 +33,28 @@ pub(crate) struct ObjectWork<O: MailBrand, P: MailBrand, H: MailBrand> {
     pub(crate) why: Option<Why>,
 }
 
-/// Waits for bids, deals with those that wait, and says what is to be said of them, also where it then ends.
+/// Waits for bids, deals with those that wait, and says what is to be said of them, also where it then ends. What a refused post is to the worker comes before
+/// what it took later.
 fn serve<O: MailBrand, P: MailBrand, H: MailBrand, R: Wait, G: Gate>(
     rt: &R,
     gate: &G,
     run: &PhaseRun<'_, O, P, H>,
     number: u32,
     worker: &mut ObjectWorker<O, P, H>,
-    said: &mut ArrayVec<Said, BATCH>,
+    said: &mut ArrayVec<Out, ROOM>,
 ) -> Step
-    requires tells { worker.old.shard.person_shards ≡ run.now.task.limits.now.shards }
+    requires shards { worker.old.shard.person_shards ≡ run.now.task.limits.now.shards }
     requires known { number < run.now.task.limits.now.shards }
-    ensures sells { Sells run.now.task.eps O.room worker.old.shard worker.old.seats.objects worker.new.shard worker.new.seats.objects }
-    ensures persons { TookMore P.room worker.old.seats.persons [] worker.new.seats.persons }
-    ensures hub { TookMore H.room worker.old.seats.hub [] worker.new.seats.hub }
-    ensures why { (result ≢ Step.Stop Why.Stuck) × (result ≢ Step.Stop Why.Fell) }
+    ensures serves { Serves run.now.task.eps O.room P.room H.room worker.old.shard worker.old.seats.objects worker.old.seats.persons worker.old.seats.hub worker.new.shard worker.new.seats.objects worker.new.seats.persons worker.new.seats.hub result }
+    ensures shape { SameShape worker.old.shard worker.new.shard }
 {
     said.clear();
-    let step = deal_next(rt, gate, run, number, worker, said);
+    let took = deal_next(rt, gate, run, number, worker, said);
     let told = tell(rt, gate, run, &mut worker.seats, said.as_slice());
-    if step != Step::On {
-        return step;
+    if told != Step::On {
+        return told;
     }
-    told
+    took
 }
 
 /// Deals with bids until the phase is over, or it must stop.
@@ -66,12 +65,9 @@ pub(crate) fn sell<O: MailBrand, P: MailBrand, H: MailBrand, R: Wait, G: Gate>(
     number: u32,
     worker: ObjectWorker<O, P, H>,
 ) -> ObjectWork<O, P, H>
-    requires tells { worker.shard.person_shards ≡ run.now.task.limits.now.shards }
+    requires shards { worker.shard.person_shards ≡ run.now.task.limits.now.shards }
     requires known { number < run.now.task.limits.now.shards }
-    ensures sells { Sells run.now.task.eps O.room worker.shard worker.seats.objects result.shard result.seats.objects }
-    ensures persons { TookMore P.room worker.seats.persons [] result.seats.persons }
-    ensures hub { TookMore H.room worker.seats.hub [] result.seats.hub }
-    ensures why { (result.why ≢ Some Why.Stuck) × (result.why ≢ Some Why.Fell) }
+    ensures { IsObjectWork run.now.task.eps O.room P.room H.room worker.shard worker.seats.objects worker.seats.persons worker.seats.hub result.shard result.seats.objects result.seats.persons result.seats.hub result.why }
 {
     let mut worker = worker;
     let mut said = ArrayVec::new();

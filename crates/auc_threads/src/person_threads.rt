@@ -15,9 +15,10 @@ use std::snapshot::Snapshot;
 use std::sync::Wait;
 use std::thread::{Promise, PromisedHandle, Scope, Threads};
 
-/// What a thread of the persons promises: it falls only where its seat tells of a fall, and is stuck only where a person has no arc.
+/// What a thread of the persons promises: it bid and heard, falls only where its seat tells of a fall, and is stuck only where a person has no arc.
 #[derive(Drop)]
 pub(crate) struct Bought<O: MailBrand, P: MailBrand, H: MailBrand> {
+    pub(crate) eps: i64,
     pub(crate) rows: Snapshot<Rows>,
     pub(crate) start: Snapshot<PersonWorker<O, P, H>>,
 }
@@ -25,7 +26,7 @@ pub(crate) struct Bought<O: MailBrand, P: MailBrand, H: MailBrand> {
 impl<O: MailBrand, P: MailBrand, H: MailBrand> Promise<PersonWork<O, P, H>> for Bought<O, P, H> {
     ghost use Rattle.auc_threads.specs.Starts.{IsPersonWork};
 
-    ghost kept_by = { λ p r. IsPersonWork p.rows.value O.room P.room H.room p.start.value.buyer.shard p.start.value.seats.objects p.start.value.seats.persons p.start.value.seats.hub r.shard r.seats.objects r.seats.persons r.seats.hub r.why };
+    ghost kept_by = { λ p r. IsPersonWork p.rows.value p.eps O.room P.room H.room p.start.value.buyer.shard p.start.value.seats.objects p.start.value.seats.persons p.start.value.seats.hub r.shard r.seats.objects r.seats.persons r.seats.hub r.why };
 }
 
 /// Starts a thread for each shard of the persons. False where one couldn't be started; then no more are.
@@ -49,13 +50,14 @@ pub(crate) fn start_persons<
     requires starts { Placed (λ k x. IsBuyerStart run.now.task k x.buyer.shard x.buyer.lists x.seats.objects x.seats.persons x.seats.hub) 0 starts.items }
     requires none { handles.old.items ≡ [] }
     requires room { vec_len starts ≤ vec_capacity handles.old }
-    ensures promised { Placed (λ k h. IsPersonPromise run.now.task k h.promise.rows.value h.promise.start.value.buyer.shard h.promise.start.value.seats.objects h.promise.start.value.seats.persons h.promise.start.value.seats.hub) 0 handles.new.items }
+    ensures promised { Placed (λ k h. IsPersonPromise run.now.task k h.promise.eps h.promise.rows.value h.promise.start.value.buyer.shard h.promise.start.value.seats.objects h.promise.start.value.seats.persons h.promise.start.value.seats.hub) 0 handles.new.items }
     ensures few { vec_len handles.new ≤ run.now.task.limits.now.shards }
     ensures all { IsTrue result → vec_len handles.new ≡ run.now.task.limits.now.shards }
 {
     let mut number: u32 = 0;
     for start in starts {
         let promise = Bought {
+            eps: run.task.eps,
             rows: Snapshot::of(run.task.rows),
             start: Snapshot::of(&start),
         };
@@ -84,7 +86,7 @@ pub(crate) fn join_persons<
     handles: Vec<PromisedHandle<PersonWork<O, P, H>, Bought<O, P, H>>>,
     works: &mut Vec<PersonWork<O, P, H>>,
 )
-    requires promised { Placed (λ k h. IsPersonPromise task.now k h.promise.rows.value h.promise.start.value.buyer.shard h.promise.start.value.seats.objects h.promise.start.value.seats.persons h.promise.start.value.seats.hub) 0 handles.items }
+    requires promised { Placed (λ k h. IsPersonPromise task.now k h.promise.eps h.promise.rows.value h.promise.start.value.buyer.shard h.promise.start.value.seats.objects h.promise.start.value.seats.persons h.promise.start.value.seats.hub) 0 handles.items }
     requires none { works.old.items ≡ [] }
     requires room { vec_len handles ≤ vec_capacity works.old }
     ensures many { vec_len works.new ≡ vec_len handles }

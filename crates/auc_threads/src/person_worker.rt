@@ -1,16 +1,17 @@
 //! A worker of the persons: it hears letters and bids until the phase is over.
 
-ghost use Rattle.std.specs.Prelude.{◌≡◌, ◌≢◌, ◌<◌, [], All, Some};
+ghost use Rattle.std.specs.Prelude.{◌≡◌, ◌<◌};
 ghost use Rattle.auc_letters.specs.declared.letter.Why.{Why};
 ghost use Rattle.auc_persons.specs.Candidates.{Kept};
 ghost use Rattle.auc_answers.specs.Shards.{IsPersonShard};
-ghost use Rattle.auc_threads.specs.Taking.{GoesWithin, TookMore};
+ghost use Rattle.auc_threads.specs.Buying.{Buys};
 ghost use Rattle.auc_threads.specs.Hearing.{Hears, SomebodyStuck};
+ghost use Rattle.auc_threads.specs.Starts.{IsPersonWork};
 
 use crate::bidding::{Buyer, ask_all, send_bids};
-use crate::calls::{BATCH, Calls, Step};
+use crate::calls::{BATCH, Step};
 use crate::gate::Gate;
-use crate::hearing::{hear_next, hear_waiting};
+use crate::hearing::hear_next;
 use crate::mails::WorkerSeats;
 use crate::stopping::end;
 use crate::task::PhaseRun;
@@ -35,45 +36,8 @@ pub(crate) struct PersonWork<O: MailBrand, P: MailBrand, H: MailBrand> {
     pub(crate) why: Option<Why>,
 }
 
-/// Posts the bids and hears what waits; where there are none, waits for a letter.
-fn exchange<O: MailBrand, P: MailBrand, H: MailBrand, R: Wait, G: Gate>(
-    rt: &R,
-    gate: &G,
-    run: &PhaseRun<'_, O, P, H>,
-    number: u32,
-    worker: &mut PersonWorker<O, P, H>,
-    bids: &[Out],
-) -> Step
-    requires shard { IsPersonShard run.now.task.rows.now run.now.task.limits.now.shards number worker.old.buyer.shard }
-    requires known { number < run.now.task.limits.now.shards }
-    requires reach { All (GoesWithin run.now.task.limits.now.shards) bids.now }
-    ensures is { IsPersonShard run.now.task.rows.now run.now.task.limits.now.shards number worker.new.buyer.shard }
-    ensures lists { worker.new.buyer.lists ≡ worker.old.buyer.lists }
-    ensures hears { Hears P.room worker.old.buyer.shard worker.old.seats.persons worker.new.buyer.shard worker.new.seats.persons (result ≡ Step.Stop Why.Fell) }
-    ensures objects { TookMore O.room worker.old.seats.objects [] worker.new.seats.objects }
-    ensures hub { worker.new.seats.hub ≡ worker.old.seats.hub }
-    ensures why { result ≢ Step.Stop Why.Stuck }
-{
-    let shard = &mut worker.buyer.shard;
-    let heard = &mut worker.seats.persons;
-    if bids.is_empty() {
-        return hear_next(rt, gate, run, number, shard, heard);
-    }
-    let step = send_bids(
-        rt,
-        gate,
-        &run.mails.objects,
-        &mut worker.seats.objects,
-        bids,
-    );
-    if step != Step::On {
-        return step;
-    }
-    let calls = Calls::begin(rt, gate, &run.mails.persons);
-    hear_waiting(calls, &run.task, number, shard, heard)
-}
-
-/// Asks for bids, posts them, and hears what waits.
+/// Asks for bids, posts them, also where the next person can't bid, and hears what waits; where there are none, waits for a letter. What a refused post is to
+/// the worker comes first.
 fn serve<O: MailBrand, P: MailBrand, H: MailBrand, R: Wait, G: Gate>(
     rt: &R,
     gate: &G,
@@ -88,26 +52,23 @@ fn serve<O: MailBrand, P: MailBrand, H: MailBrand, R: Wait, G: Gate>(
     ensures is { IsPersonShard run.now.task.rows.now run.now.task.limits.now.shards number worker.new.buyer.shard }
     ensures kept { Kept run.now.task.rows.now worker.new.buyer.shard.copies worker.new.buyer.lists }
     ensures hears { Hears P.room worker.old.buyer.shard worker.old.seats.persons worker.new.buyer.shard worker.new.seats.persons (result ≡ Step.Stop Why.Fell) }
-    ensures objects { TookMore O.room worker.old.seats.objects [] worker.new.seats.objects }
+    ensures buys { Buys run.now.task.rows.now run.now.task.eps O.room P.room worker.old.buyer.shard worker.old.seats.objects worker.old.seats.persons worker.new.buyer.shard worker.new.seats.objects worker.new.seats.persons result }
     ensures hub { worker.new.seats.hub ≡ worker.old.seats.hub }
     ensures stuck { result ≡ Step.Stop Why.Stuck → SomebodyStuck run.now.task.rows.now }
 {
     bids.clear();
-    let most = if gate.is_open() { BATCH } else { 1 };
-    let asked = ask_all(&run.task, number, &mut worker.buyer, bids, most);
-    let bids = bids.as_slice();
+    let asked = ask_all(&run.task, number, &mut worker.buyer, bids);
+    let mail = &run.mails.objects;
+    let sent = send_bids(rt, gate, mail, &mut worker.seats.objects, bids.as_slice());
+    if sent != Step::On {
+        return sent;
+    }
     if asked != Step::On {
-        // The bids made before are posted all the same, so that a stop at the limit of bids has what they bought.
-        let _ = send_bids(
-            rt,
-            gate,
-            &run.mails.objects,
-            &mut worker.seats.objects,
-            bids,
-        );
         return asked;
     }
-    exchange(rt, gate, run, number, worker, bids)
+    let shard = &mut worker.buyer.shard;
+    let seat = &mut worker.seats.persons;
+    hear_next(rt, gate, run, number, shard, seat, bids.is_empty())
 }
 
 /// Hears and bids until the phase is over, or it must stop.
@@ -121,10 +82,7 @@ pub(crate) fn buy<O: MailBrand, P: MailBrand, H: MailBrand, R: Wait, G: Gate>(
     requires shard { IsPersonShard run.now.task.rows.now run.now.task.limits.now.shards number worker.buyer.shard }
     requires kept { Kept run.now.task.rows.now worker.buyer.shard.copies worker.buyer.lists }
     requires known { number < run.now.task.limits.now.shards }
-    ensures hears { Hears P.room worker.buyer.shard worker.seats.persons result.shard result.seats.persons (result.why ≡ Some Why.Fell) }
-    ensures objects { TookMore O.room worker.seats.objects [] result.seats.objects }
-    ensures hub { TookMore H.room worker.seats.hub [] result.seats.hub }
-    ensures stuck { result.why ≡ Some Why.Stuck → SomebodyStuck run.now.task.rows.now }
+    ensures { IsPersonWork run.now.task.rows.now run.now.task.eps O.room P.room H.room worker.buyer.shard worker.seats.objects worker.seats.persons worker.seats.hub result.shard result.seats.objects result.seats.persons result.seats.hub result.why }
 {
     let mut worker = worker;
     let mut bids = ArrayVec::new();

@@ -1,11 +1,10 @@
 //! One phase in threads, on new mails.
 
-ghost use Rattle.std.specs.Prelude.{ℕ, ◌≡◌, ◌≢◌, ◌*◌, length, Some, IfOk, vec_len};
-ghost use Rattle.auc_letters.specs.declared.letter.Why.{Why};
+ghost use Rattle.std.specs.Prelude.{ℕ, ◌≡◌, ◌*◌, length, IfOk, vec_len};
 ghost use Rattle.auc_letters.specs.Price.{IsEps};
 ghost use Rattle.auc_book.specs.Seat.{new_account};
 ghost use Rattle.auc_answers.specs.Begins.{ArePrices};
-ghost use Rattle.auc_threads.specs.Counting.{Counts};
+ghost use Rattle.auc_threads.specs.Counting.{Closes, Counts};
 ghost use Rattle.auc_threads.specs.Naming.{AreThreadLimits, IsNamed, IsUnopened, hub_nodes, objects_nodes, persons_nodes, workers_of};
 ghost use Rattle.auc_threads.specs.Phase.{IsPhase};
 ghost use Rattle.auc_threads.specs.Placed.{Placed};
@@ -50,8 +49,9 @@ fn finish<O: MailBrand, P: MailBrand, H: MailBrand>(
     requires persons_many { vec_len works.persons ≡ task.now.limits.now.shards }
     requires objects { Placed (λ k w. IsObjectResult task.now O.room P.room H.room k w.shard w.seats.objects w.seats.persons w.seats.hub w.why) 0 works.objects.items }
     requires objects_many { vec_len works.objects ≡ task.now.limits.now.shards }
-    requires counts { Counts H.room (length task.now.rows.now.rows) (new_account (2 * task.now.limits.now.shards)) works.hub.is_all works.hub.seats.hub }
-    requires hub_why { (works.hub.why ≢ Some Why.Stuck) × (works.hub.why ≢ Some Why.Fell) }
+    requires counts { Counts H.room (length task.now.rows.now.rows) (new_account (2 * task.now.limits.now.shards)) works.hub.is_all works.hub.why works.hub.seats.hub }
+    requires hub_objects { Closes O.room O.boxes (new_account (2 * task.now.limits.now.shards)) works.hub.seats.objects }
+    requires hub_persons { Closes P.room P.boxes (new_account (2 * task.now.limits.now.shards)) works.hub.seats.persons }
     requires objects_name { IsNamed O.boxes O.workers O.nodes O.most O.room task.now.limits.now.shards (objects_nodes task.now.limits.now (length task.now.rows.now.rows)) task.now.limits.now }
     requires persons_name { IsNamed P.boxes P.workers P.nodes P.most P.room task.now.limits.now.shards (persons_nodes task.now.limits.now (length task.now.rows.now.rows)) task.now.limits.now }
     requires hub_name { IsNamed H.boxes H.workers H.nodes H.most H.room 1 (hub_nodes task.now.limits.now (length task.now.rows.now.rows)) task.now.limits.now }
@@ -98,7 +98,7 @@ fn named_phase<
 /// One phase in threads, on new mails: a thread for each shard, and the hub on the caller's.
 ///
 /// `prices` are in scaled costs, from 0 to 2^61, indexed by object; `eps` is in scaled costs, from 1 to 2^60. Every worker of a shard passes the gate
-/// before each time it takes the lock of a mail. `limits.audit` is the number of calls that each mail, and each seat at it, has places for; the trails are
+/// before each time it takes the lock of a mail, for one call or for several. `limits.audit` is the number of calls that each mail, and each seat at it, has places for; the trails are
 /// given where it is above 0 and all three mails settled with their seats.
 ///
 /// Nothing is said of whether it ends.

@@ -1,12 +1,10 @@
 //! One phase in threads: a thread for each shard, and the hub on the caller's.
 
-ghost use Rattle.std.specs.Prelude.{◌≡◌, ◌≢◌, ◌<◌, ◌*◌, [], length, Some, IfOk, vec_len};
-ghost use Rattle.auc_letters.specs.declared.letter.Why.{Why};
+ghost use Rattle.std.specs.Prelude.{◌≡◌, ◌<◌, ◌*◌, length, IfOk, IsTrue, vec_len};
 ghost use Rattle.auc_threads.specs.Naming.{workers_of};
-ghost use Rattle.auc_threads.specs.Counting.{Counts};
+ghost use Rattle.auc_threads.specs.Counting.{Closes, Counts};
 ghost use Rattle.auc_threads.specs.Placed.{Placed};
 ghost use Rattle.auc_threads.specs.Starts.{AreNewSeats, IsBuyerStart, IsObjectResult, IsObjectStart, IsPersonResult};
-ghost use Rattle.auc_threads.specs.Taking.{TookMore};
 
 use crate::bidding::Buyer;
 use crate::error::RunError;
@@ -128,10 +126,9 @@ fn hub_work<O: MailBrand, P: MailBrand, H: MailBrand, R: Wait>(
     is_counting: bool,
 ) -> HubWork<O, P, H>
     requires { 0 < persons }
-    ensures counts { Counts H.room persons seats.hub result.is_all result.seats.hub }
-    ensures objects { TookMore O.room seats.objects [] result.seats.objects }
-    ensures persons { TookMore P.room seats.persons [] result.seats.persons }
-    ensures why { (result.why ≢ Some Why.Stuck) × (result.why ≢ Some Why.Fell) }
+    ensures counts { IsTrue is_counting → Counts H.room persons seats.hub result.is_all result.why result.seats.hub }
+    ensures objects { Closes O.room O.boxes seats.objects result.seats.objects }
+    ensures persons { Closes P.room P.boxes seats.persons result.seats.persons }
 {
     if is_counting {
         return count(rt, mails, persons, seats);
@@ -170,10 +167,9 @@ fn run_all<
     ensures persons_many { IfOk result (λ r. vec_len r.persons ≡ run.now.task.limits.now.shards) }
     ensures objects { IfOk result (λ r. Placed (λ k w. IsObjectResult run.now.task O.room P.room H.room k w.shard w.seats.objects w.seats.persons w.seats.hub w.why) 0 r.objects.items) }
     ensures objects_many { IfOk result (λ r. vec_len r.objects ≡ run.now.task.limits.now.shards) }
-    ensures counts { IfOk result (λ r. Counts H.room (length run.now.task.rows.now.rows) starts.hub.hub r.hub.is_all r.hub.seats.hub) }
-    ensures hub_objects { IfOk result (λ r. TookMore O.room starts.hub.objects [] r.hub.seats.objects) }
-    ensures hub_persons { IfOk result (λ r. TookMore P.room starts.hub.persons [] r.hub.seats.persons) }
-    ensures hub_why { IfOk result (λ r. (r.hub.why ≢ Some Why.Stuck) × (r.hub.why ≢ Some Why.Fell)) }
+    ensures counts { IfOk result (λ r. Counts H.room (length run.now.task.rows.now.rows) starts.hub.hub r.hub.is_all r.hub.why r.hub.seats.hub) }
+    ensures hub_objects { IfOk result (λ r. Closes O.room O.boxes starts.hub.objects r.hub.seats.objects) }
+    ensures hub_persons { IfOk result (λ r. Closes P.room P.boxes starts.hub.persons r.hub.seats.persons) }
 {
     let shards = run.task.limits.shards as usize;
     let persons_count = run.task.rows.persons();
@@ -224,8 +220,9 @@ pub(crate) fn run_in_scope<
     ensures persons_many { IfOk result (λ r. vec_len r.persons ≡ run.now.task.limits.now.shards) }
     ensures objects { IfOk result (λ r. Placed (λ k w. IsObjectResult run.now.task O.room P.room H.room k w.shard w.seats.objects w.seats.persons w.seats.hub w.why) 0 r.objects.items) }
     ensures objects_many { IfOk result (λ r. vec_len r.objects ≡ run.now.task.limits.now.shards) }
-    ensures counts { IfOk result (λ r. Counts H.room (length run.now.task.rows.now.rows) starts.hub.hub r.hub.is_all r.hub.seats.hub) }
-    ensures hub_why { IfOk result (λ r. (r.hub.why ≢ Some Why.Stuck) × (r.hub.why ≢ Some Why.Fell)) }
+    ensures counts { IfOk result (λ r. Counts H.room (length run.now.task.rows.now.rows) starts.hub.hub r.hub.is_all r.hub.why r.hub.seats.hub) }
+    ensures hub_objects { IfOk result (λ r. Closes O.room O.boxes starts.hub.objects r.hub.seats.objects) }
+    ensures hub_persons { IfOk result (λ r. Closes P.room P.boxes starts.hub.persons r.hub.seats.persons) }
 {
     thread::scope(
         thread::scope_env(),
@@ -239,8 +236,9 @@ pub(crate) fn run_in_scope<
             ensures persons_many { IfOk result (λ r. vec_len r.persons ≡ run.entry.now.task.limits.now.shards) }
             ensures objects { IfOk result (λ r. Placed (λ k w. IsObjectResult run.entry.now.task O.room P.room H.room k w.shard w.seats.objects w.seats.persons w.seats.hub w.why) 0 r.objects.items) }
             ensures objects_many { IfOk result (λ r. vec_len r.objects ≡ run.entry.now.task.limits.now.shards) }
-            ensures counts { IfOk result (λ r. Counts H.room (length run.entry.now.task.rows.now.rows) starts.hub.hub r.hub.is_all r.hub.seats.hub) }
-            ensures hub_why { IfOk result (λ r. (r.hub.why ≢ Some Why.Stuck) × (r.hub.why ≢ Some Why.Fell)) }
+            ensures counts { IfOk result (λ r. Counts H.room (length run.entry.now.task.rows.now.rows) starts.hub.hub r.hub.is_all r.hub.why r.hub.seats.hub) }
+            ensures hub_objects { IfOk result (λ r. Closes O.room O.boxes starts.hub.objects r.hub.seats.objects) }
+            ensures hub_persons { IfOk result (λ r. Closes P.room P.boxes starts.hub.persons r.hub.seats.persons) }
         { run_all(scope, alloc, rt, gate, run, starts) },
     )
 }

@@ -1,16 +1,17 @@
-//! What a worker does at its end.
+//! How a worker stops the phase.
 
-ghost use Rattle.std.specs.Prelude.{◌≡◌, ◌<◌, [], IfSome};
-ghost use Rattle.auc_threads.specs.Taking.{TookMore};
+ghost use Rattle.std.specs.Prelude.{◌≡◌, ◌<◌};
+ghost use Rattle.auc_letters.specs.declared.letter.Why.{Why as AWhy};
+ghost use Rattle.auc_threads.specs.Posting.{Ends, why_of};
+ghost use Rattle.auc_threads.specs.declared.calls.Step.{Step as AStep};
 
 use crate::calls::Step;
 use crate::gate::Gate;
-use crate::taking::{close, post};
 use auc_book::{MailBrand, Seat, SharedMail};
-use auc_letters::{Letter, Out, To, Why};
+use auc_letters::{Letter, Why};
 use std::sync::Wait;
 
-/// Tells the hub why a worker stops; where that can't be posted, closes the hub's box.
+/// Tells the hub why a worker stops; where that can't be posted, for whatever reason, closes the hub's box.
 fn tell_stop<N: MailBrand, R: Wait, G: Gate>(
     rt: &R,
     gate: &G,
@@ -19,17 +20,12 @@ fn tell_stop<N: MailBrand, R: Wait, G: Gate>(
     why: Why,
 )
     requires { 0 < N.boxes }
-    ensures { TookMore N.room seat.old [] seat.new }
+    ensures { Ends N.room seat.old (AStep.Stop why) seat.new }
 {
-    let out = Out {
-        letter: Letter::Stop { why },
-        to: To::Hub,
-        reserve: 0,
-    };
     gate.pass(seat.worker());
-    if post(rt, mail, seat, 0, out).is_err() {
+    if mail.post(rt, seat, 0, Letter::Stop { why }, 0).is_err() {
         gate.pass(seat.worker());
-        let _ = close(rt, mail, seat, 0);
+        let _ = mail.close(rt, seat, 0);
     }
 }
 
@@ -42,8 +38,8 @@ pub(crate) fn end<N: MailBrand, R: Wait, G: Gate>(
     step: Step,
 ) -> Option<Why>
     requires { 0 < N.boxes }
-    ensures took { TookMore N.room seat.old [] seat.new }
-    ensures why { IfSome result (λ y. step ≡ Step.Stop y) }
+    ensures ends { Ends N.room seat.old step seat.new }
+    ensures why { result ≡ why_of step }
 {
     match step {
         Step::Stop { why } => {

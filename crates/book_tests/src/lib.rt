@@ -17,4 +17,6 @@ mod states;
 #[cfg(test)]
 mod threads;
 #[cfg(test)]
+mod waking;
+#[cfg(test)]
 mod worked;

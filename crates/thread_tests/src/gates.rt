@@ -1,6 +1,6 @@
 //! Gates that hold workers: all shards are at work at once.
 
-use crate::problems::{TWO, run};
+use crate::problems::{ONE, TWO, run};
 use auc_threads::Gate;
 use std::alloc::Global;
 use std::process::Abort;
@@ -120,4 +120,16 @@ fn all_four_are_inside_at_once(rt: HostRuntime) -> Result<(), Fail> {
 #[test]
 fn shards_of_the_objects_come_late(rt: HostRuntime) -> Result<(), Fail> {
     solves_behind(&rt, rt.alloc(), &HoldingGate::new(2, 2, 3), 0)
+}
+
+// The worker of the one object takes a bid, says what comes of it at the persons' mail and at the hub's, and then hears that the phase is over.
+#[test]
+fn the_gate_is_passed_before_each_lock(rt: HostRuntime) -> Result<(), Fail> {
+    for audit in [0, 1000] {
+        let gate = HoldingGate::new(2, 0, 0);
+        let solved = run(&rt, rt.alloc(), ONE, 1, audit, &gate)?;
+        assert_eq!(rt; solved.phases.len(), 1);
+        assert_eq!(rt; gate.visits.of(1).load(SeqCst), 4);
+    }
+    Ok(())
 }

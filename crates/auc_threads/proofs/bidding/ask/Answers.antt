@@ -15,3 +15,9 @@ returns-clause-reach c =
     let fits : FitsSigned w64 c.args.task.now.eps = search rules in
     let said = simp to_z-of_z at c.next_bid_by.ensures in
     asked_reach c.args.task.now.rows.now c.args.task.now.eps c.args.task.now.limits.now.shards c.args.number c.args.buyer.now.shard c.next_bid_by.new.self c.next_bid_by.result c.requires.shard c.requires.known said.exact
+
+pub returns-clause-next : goal.returns-clause-next
+returns-clause-next c =
+    let fits : FitsSigned w64 c.args.task.now.eps = search rules in
+    let said = simp to_z-of_z at c.next_bid_by.ensures in
+    said.exact

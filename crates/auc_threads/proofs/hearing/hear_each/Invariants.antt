@@ -1,4 +1,6 @@
 use Rattle.auc_answers.specs.Shards.{IsPersonShard}
+use Rattle.auc_threads.specs.declared.calls.Step.{Step}
+use Rattle.auc_threads.specs.Buying.{Listens}
 use Rattle.auc_threads.specs.Hearing.{Hears}
 use Rattle.auc_threads.proofs.hearing.hear_each.Given as goal
 
@@ -6,4 +8,5 @@ abbrev pub invariant-loop : goal.invariant-loop
 invariant-loop g l = record {
   is : IsPersonShard l.task.rows.now l.task.limits.now.shards l.number l.shard;
   hears : Hears g.N.MailBrand.room l.fn.shard l.fn.seat l.shard l.seat ⊥;
+  listens : Listens l.task.rows.now l.task.eps g.N.MailBrand.room l.fn.shard l.fn.seat l.shard l.seat Step.On;
 }

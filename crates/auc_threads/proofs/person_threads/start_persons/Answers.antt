@@ -1,4 +1,6 @@
-use Rattle.std.proofs.Common.{rules, arith, ◌≡◌, ◌<◌, refl}
+use Rattle.std.proofs.Common.{rules, arith, ◌≡◌, ◌<◌, refl, of_z, to_z, w64}
+use Rattle.std.specs.Prelude.{FitsSigned}
+use Rattle.std.proofs.lemmas.Int.{to_z-of_z}
 use Rattle.std.specs.Vec.Iter.{into_iter_items}
 use Rattle.auc_persons.specs.Candidates.{Kept}
 use Rattle.auc_answers.specs.Shards.{IsPersonShard}
@@ -23,13 +25,15 @@ loop-start-preserved g c =
     let step = c.in-Some.ensures.steps in
     let ok = c.in-Ok.ensures.ok in
     let pushed = c.push_reserved.ensures in
+    let fits : FitsSigned w64 c.args.run.now.task.eps = search rules in
+    let same : to_z w64 (of_z w64 c.args.run.now.task.eps) ≡ c.args.run.now.task.eps = to_z-of_z w64 c.args.run.now.task.eps fits in
     let left = placed_uncons _ c.loop-start.number (into_iter_items c.loop-start.start-iterator) c.in-Some.start (into_iter_items c.next.new.self) step.0 inv.left in
     record {
       left = left.1;
       many = omega (arith, inv.many, step.1);
       so_far = omega (arith, inv.so_far, pushed.len);
       room = omega (arith, inv.room, pushed.capacity);
-      promised = placed_more _ c.loop-start.number c.loop-start.handles.items c.push_reserved.new.self.items c.in-Ok.handle inv.promised (search rules) pushed.items (rw (ok, c.of.ensures, c.of-in-loop-start.ensures) (person_promised _ _ _ _ _ _ _ refl left.0.begins));
+      promised = placed_more _ c.loop-start.number c.loop-start.handles.items c.push_reserved.new.self.items c.in-Ok.handle inv.promised (search rules) pushed.items (rw (ok, c.of.ensures, c.of-in-loop-start.ensures) (person_promised _ _ _ _ _ _ _ _ same refl left.0.begins));
     }
 
 pub spawn_with-requires-clause-runs : goal.spawn_with-requires-clause-runs

@@ -1,7 +1,8 @@
-use Rattle.std.proofs.Common.{◌≡◌, []}
+use Rattle.std.proofs.Common.{◌≡◌}
 use Rattle.auc_persons.specs.Candidates.{Kept}
 use Rattle.auc_answers.specs.Shards.{IsPersonShard}
-use Rattle.auc_threads.specs.Taking.{TookMore}
+use Rattle.auc_threads.specs.declared.calls.Step.{Step}
+use Rattle.auc_threads.specs.Buying.{Buys}
 use Rattle.auc_threads.specs.Hearing.{Hears}
 use Rattle.auc_threads.proofs.person_worker.buy.Given as goal
 
@@ -10,6 +11,6 @@ invariant-loop g l = record {
   is : IsPersonShard l.run.task.rows.now l.run.task.limits.now.shards l.number l.worker.buyer.shard;
   kept : Kept l.run.task.rows.now l.worker.buyer.shard.copies l.worker.buyer.lists;
   hears : Hears g.P.MailBrand.room l.fn.worker.buyer.shard l.fn.worker.seats.persons l.worker.buyer.shard l.worker.seats.persons ⊥;
-  objects : TookMore g.O.MailBrand.room l.fn.worker.seats.objects [] l.worker.seats.objects;
+  buys : Buys l.run.task.rows.now l.run.task.eps g.O.MailBrand.room g.P.MailBrand.room l.fn.worker.buyer.shard l.fn.worker.seats.objects l.fn.worker.seats.persons l.worker.buyer.shard l.worker.seats.objects l.worker.seats.persons Step.On;
   hub : l.worker.seats.hub ≡ l.fn.worker.seats.hub;
 }

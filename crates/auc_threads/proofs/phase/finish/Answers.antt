@@ -1,4 +1,5 @@
 use Rattle.std.proofs.Common.{rules, arith, sym, ◌∙◌, ◌≡◌, ◌<◌, length}
+use Rattle.auc_threads.proofs.CountingLaws.{hub_guard}
 use Rattle.auc_threads.proofs.PhaseLaws.{no_guards, own_of, stuck_told, told_map, told_phase}
 use Rattle.auc_threads.proofs.phase.finish.Goals as goal
 
@@ -25,6 +26,9 @@ returns g c =
       told =
           told_map _ _ _ _ _ settled.objects settled.persons settled.hub
           (λ t o u v.
-          told_phase (λ w. w.shard) (λ w. w.seats.objects) (λ w. w.seats.persons) (λ w. w.seats.hub) (λ w. w.why) (λ w. w.shard) (λ w. w.seats.objects) (λ w. w.seats.persons) (λ w. w.seats.hub) (λ w. w.why) _ _ _ _ _ _ c.requires.persons c.requires.objects persons objects some c.args.task.now.prices_are.each _ _ _ _ c.requires.counts
-          _ each c.end_of-end.ensures.all c.end_of-end.ensures.fell _ _ _ _ _ _ _ _ _ _ _ _ c.requires.objects_name c.requires.persons_name c.requires.hub_name _ _ _ all.objects all.persons all.hub t o u v);
+          told_phase (λ w. w.shard) (λ w. w.seats.objects) (λ w. w.seats.persons) (λ w. w.seats.hub) (λ w. w.why) (λ w. w.shard) (λ w. w.seats.objects) (λ w. w.seats.persons) (λ w. w.seats.hub) (λ w. w.why) _ _ _ _ _ _ c.requires.persons c.requires.objects persons objects some c.args.task.now.prices_are.each _ _ _ _ _ c.requires.counts
+          _ each c.end_of-end.ensures.all c.end_of-end.ensures.fell _ _ _ _ _ _ _ _ _ _ _ _ c.requires.objects_name c.requires.persons_name c.requires.hub_name _ _ _ all.objects all.persons all.hub c.requires.hub_objects c.requires.hub_persons c.end_of-end.ensures.is t o u v);
     }
+
+pub end_of-end-requires-clause-hub : goal.end_of-end-requires-clause-hub
+end_of-end-requires-clause-hub g c = hub_guard _ _ _ _ _ _ c.requires.counts

@@ -1,0 +1,226 @@
+-- What a worker of the persons bids and hears, one after another.
+use Rattle.std.proofs.Common.{◌≡◌, ◌≢◌, ℕ, ◌+◌, ◌-◌, ◌≤◌, ◌<◌, List, [], ◌∷◌, ◌++◌, length, refl, ap, sym, ◌∙◌, subst, inl, inr, arith, append_assoc}
+use Rattle.std.specs.Prelude.{ℤ, Ok, Err}
+use Rattle.std.proofs.lemmas.List.{append-nil}
+use Rattle.auc_graph.specs.Table.{Table}
+use Rattle.auc_letters.specs.declared.letter.Letter.{Letter}
+use Rattle.auc_letters.specs.declared.letter.Why.{Why}
+use Rattle.auc_letters.specs.declared.out.Out.{Out}
+use Rattle.auc_persons.specs.declared.bidding.Bidding.{Bidding}
+use Rattle.auc_persons.specs.declared.bidding.PersonFault.{PersonFault}
+use Rattle.auc_persons.specs.Persons.{NextBid, OnLetter, Persons}
+use Rattle.auc_book.specs.Seat.{Account}
+use Rattle.auc_answers.specs.Reasons.{reason_for}
+use Rattle.auc_threads.specs.declared.calls.Step.{Step}
+use Rattle.auc_threads.specs.Taking.{TookMore}
+use Rattle.auc_threads.specs.Posting.{IsOver, Posts, PostsAt, first_step, lines_sent}
+use Rattle.auc_threads.specs.Buying.{Act, AfterActs, AfterAsks, Asks, Buys, Hear, Listens, ListensTo, Make, Plays, heard_in, made_in}
+use Rattle.auc_threads.proofs.TakingLaws.{took_nil, took_then}
+use Rattle.auc_threads.proofs.PostingLaws.{at_none, at_then, posts_bids, posts_long, sent_full, sent_long}
+
+pub plays_then : (t : Table) (eps : ℤ) (s m n : Persons) (xs ys : List Act) → Plays t eps s xs m → Plays t eps m ys n → Plays t eps s (xs ++ ys) n
+plays_then t eps s m n [] ys f g = subst (λ (z : Persons). Plays t eps z ys n) f g
+plays_then t eps s m n (Hear x ∷ xs) ys f g = (f.0, f.1, plays_then t eps f.0 m n xs ys f.2 g)
+plays_then t eps s m n (Make o ∷ xs) ys f g = (f.0, f.1, plays_then t eps f.0 m n xs ys f.2 g)
+
+heard_append : (xs ys : List Act) → heard_in (xs ++ ys) ≡ heard_in xs ++ heard_in ys
+heard_append [] ys = refl
+heard_append (Hear x ∷ xs) ys = ap (λ w. x ∷ w) (heard_append xs ys)
+heard_append (Make o ∷ xs) ys = heard_append xs ys
+
+made_append : (xs ys : List Act) → made_in (xs ++ ys) ≡ made_in xs ++ made_in ys
+made_append [] ys = refl
+made_append (Hear x ∷ xs) ys = made_append xs ys
+made_append (Make o ∷ xs) ys = ap (λ w. o ∷ w) (made_append xs ys)
+
+pub fault_same : (s n : Persons) (x : Letter) (f : PersonFault) → OnLetter s x (Err f) n → n ≡ s
+fault_same s n (Letter.Award i j p) PersonFault.Stray h = h.1
+fault_same s n (Letter.Award i j p) PersonFault.Fell h = h.2
+fault_same s n (Letter.Refused i j p) PersonFault.Stray h = h.1
+fault_same s n (Letter.Refused i j p) PersonFault.Fell h = h.2
+fault_same s n (Letter.Outbid i j p) PersonFault.Stray h = h.1
+fault_same s n (Letter.Outbid i j p) PersonFault.Fell h = h.2
+fault_same s n (Letter.Price j p) PersonFault.Stray h = h.1
+fault_same s n (Letter.Price j p) PersonFault.Fell h = h.2
+fault_same s n (Letter.Bid i a j p) f h = h.1
+fault_same s n (Letter.First j) f h = h.1
+fault_same s n (Letter.Stop y) f h = h.1
+
+-- ---- bids that are left
+
+heard_bids : (s n : Persons) (x : Letter) → OnLetter s x (Ok tt) n → n.bids ≡ s.bids
+heard_bids s n (Letter.Award i j p) h = ap (λ (z : Persons). z.bids) h.2
+heard_bids s n (Letter.Refused i j p) h = ap (λ (z : Persons). z.bids) h.2
+heard_bids s n (Letter.Outbid i j p) h = ap (λ (z : Persons). z.bids) h.2
+heard_bids s n (Letter.Price j p) h = ap (λ (z : Persons). z.bids) h.2
+heard_bids s n (Letter.Bid i a j p) h = absurd (let e = h.0 in cc)
+heard_bids s n (Letter.First j) h = absurd (let e = h.0 in cc)
+heard_bids s n (Letter.Stop y) h = absurd (let e = h.0 in cc)
+
+plays_bids : (t : Table) (eps : ℤ) (s n : Persons) (acts : List Act) → Plays t eps s acts n → n.bids + length (made_in acts) ≡ s.bids
+plays_bids t eps s n [] f = omega (arith, ap (λ (z : Persons). z.bids) f)
+plays_bids t eps s n (Hear x ∷ acts) f = omega (arith, plays_bids t eps f.0 n acts f.2, heard_bids s f.0 x f.1)
+plays_bids t eps s n (Make o ∷ acts) f =
+    let some = f.1.1 in
+    let used : f.0.bids ≡ s.bids - 1 = ap (λ (z : Persons). z.bids) f.1.2.5 in
+    omega (arith, plays_bids t eps f.0 n acts f.2, some, used)
+
+-- no more bids were posted than are allowed, and where they were all accepted just as many as were made
+pub bids_few : (t : Table) (eps : ℤ) (ro rp : ℕ) (s n : Persons) (a a' p p' : Account Letter) (step : Step) → Buys t eps ro rp s a p n a' p' step → 0 < ro → a.lines ≡ [] → length a'.lines ≤ s.bids
+bids_few t eps ro rp s n a a' p p' step f some none =
+    let lines : a'.lines ≡ lines_sent a.worker f.posts.posts = f.posts.lined.told some ∙ ap (λ w. w ++ lines_sent a.worker f.posts.posts) none in
+    omega (arith, ap length lines, sent_long a.worker f.posts.posts, posts_long (made_in f.acts) f.posts.posts f.posts_step f.posts.posted, plays_bids t eps s n f.acts f.plays)
+
+bids_stop : (x y : Step) → Step.Stop Why.Bids ≡ first_step x y → (x ≢ Step.Stop Why.Bids) → (x ≡ Step.On) × (y ≡ Step.Stop Why.Bids)
+bids_stop Step.On y e ne = (refl, sym e)
+bids_stop Step.Over y e ne = absurd cc
+bids_stop (Step.Stop why) y e ne = absurd (ne (sym e))
+
+none_left : (t : Table) (eps : ℤ) (n : Persons) (fault : List Letter) → AfterActs t eps n fault (Step.Stop Why.Bids) → n.bids ≡ 0
+none_left t eps n fault h =
+    elim h [
+      | inl cant ↦ cant.1.1
+      | inr other ↦
+          elim other [
+            | inl trail ↦ absurd (let e = trail.1 in cc)
+            | inr heard ↦ absurd (no_fault heard.1 heard.3)
+          ]
+    ]
+  where
+    no_fault : (f : PersonFault) → Why.Bids ≡ reason_for f → ⊥
+    no_fault PersonFault.Stray e = cc
+    no_fault PersonFault.Fell e = cc
+
+pub bids_spent : (t : Table) (eps : ℤ) (ro rp : ℕ) (s n : Persons) (a a' p p' : Account Letter) (step : Step) → Buys t eps ro rp s a p n a' p' step → 0 < ro → a.lines ≡ [] → step ≡ Step.Stop Why.Bids → length a'.lines ≡ s.bids
+bids_spent t eps ro rp s n a a' p p' step f some none stop =
+    let both = bids_stop f.posts_step f.acts_step (sym stop ∙ f.is) (posts_bids (made_in f.acts) f.posts.posts f.posts_step f.posts.posted) in
+    let lines : a'.lines ≡ lines_sent a.worker f.posts.posts = f.posts.lined.told some ∙ ap (λ w. w ++ lines_sent a.worker f.posts.posts) none in
+    let posted : Posts (made_in f.acts) f.posts.posts Step.On = subst (λ (x : Step). Posts (made_in f.acts) f.posts.posts x) both.0 f.posts.posted in
+    let left : n.bids ≡ 0 = none_left t eps n f.fault (subst (λ (x : Step). AfterActs t eps n f.fault x) both.1 f.after) in
+    omega (arith, ap length lines, sent_full a.worker (made_in f.acts) f.posts.posts posted, plays_bids t eps s n f.acts f.plays, left)
+
+-- ---- asking
+
+-- it goes on to ask, and nothing more comes of it
+pub asks_end : (t : Table) (eps : ℤ) (s m n : Persons) (old bids : List Out) (step : Step) → Asks t eps s old m bids Step.On → n ≡ m → AfterAsks t eps n step → Asks t eps s old n bids step
+asks_end t eps s m n old bids step f e after = record { acts = f.acts; plays = subst (λ (z : Persons). Plays t eps s f.acts z) (sym e) f.plays; heard = f.heard; made = f.made; after = after }
+
+pub asks_more : (t : Table) (eps : ℤ) (s m n : Persons) (old bids new : List Out) (o : Out) → Asks t eps s old m bids Step.On → NextBid t eps m (Bidding.Out o) n → new ≡ bids ++ o ∷ [] → Asks t eps s old n new Step.On
+asks_more t eps s m n old bids new o f next pushed =
+    let one : Plays t eps m (Make o ∷ []) n = (n, next, refl) in
+    record {
+      acts = f.acts ++ Make o ∷ [];
+      plays = plays_then t eps s m n f.acts (Make o ∷ []) f.plays one;
+      heard = heard_append f.acts (Make o ∷ []) ∙ (append-nil (heard_in f.acts) ∙ f.heard);
+      made = pushed ∙ (ap (λ w. w ++ o ∷ []) f.made ∙ (append_assoc old (made_in f.acts) (o ∷ []) ∙ ap (λ w. old ++ w) (sym (made_append f.acts (Make o ∷ [])))));
+      after = tt;
+    }
+
+-- ---- listening
+
+pub listens_ok : (t : Table) (eps : ℤ) (s n : Persons) (x : Letter) (u : Unit {0}) → OnLetter s x (Ok u) n → ListensTo t eps s (x ∷ []) n Step.On
+listens_ok t eps s n x u on = record { acts = Hear x ∷ []; fault = []; plays = (n, on, refl); made = refl; letters_are = refl; after = refl }
+
+pub listens_fault : (t : Table) (eps : ℤ) (s n : Persons) (x : Letter) (f : PersonFault) (why : Why) → OnLetter s x (Err f) n → n ≡ s → why ≡ reason_for f → ListensTo t eps s (x ∷ []) n (Step.Stop why)
+listens_fault t eps s n x f why on e is = record {
+  acts = [];
+  fault = x ∷ [];
+  plays = e;
+  made = refl;
+  letters_are = refl;
+  after = inr (inr (x, f, refl, is, subst (λ (z : Persons). OnLetter z x (Err f) n) (sym e) on));
+}
+
+pub listens_then : (t : Table) (eps : ℤ) (s m n : Persons) (xs ys : List Letter) (step : Step) → ListensTo t eps s xs m Step.On → ListensTo t eps m ys n step → ListensTo t eps s (xs ++ ys) n step
+listens_then t eps s m n xs ys step f g =
+    let first : xs ≡ heard_in f.acts = f.letters_are ∙ (ap (λ w. heard_in f.acts ++ w) f.after ∙ append-nil (heard_in f.acts)) in
+    record {
+      acts = f.acts ++ g.acts;
+      fault = g.fault;
+      plays = plays_then t eps s m n f.acts g.acts f.plays g.plays;
+      made = made_append f.acts g.acts ∙ (ap (λ w. w ++ made_in g.acts) f.made ∙ g.made);
+      letters_are =
+          ap (λ w. w ++ ys) first
+          ∙ (ap (λ w. heard_in f.acts ++ w) g.letters_are ∙ (sym (append_assoc (heard_in f.acts) (heard_in g.acts) g.fault) ∙ ap (λ w. w ++ g.fault) (sym (heard_append f.acts g.acts))));
+      after = g.after;
+    }
+
+pub hearkens_more : (t : Table) (eps : ℤ) (room : ℕ) (s m n : Persons) (a b c : Account Letter) (letters : List Letter) (step : Step)
+    → Listens t eps room s a m b Step.On → TookMore room b letters c → ListensTo t eps m letters n step → (step ≡ Step.Over → 0 < room → IsOver c.lines) → Listens t eps room s a n c step
+hearkens_more t eps room s m n a b c letters step f took g over = record {
+  letters = f.letters ++ letters;
+  took = took_then room a b c f.letters letters f.took took;
+  listens = listens_then t eps s m n f.letters letters step f.listens g;
+  over = over;
+}
+
+-- ---- bidding and hearing
+
+pub buys_none : (t : Table) (eps : ℤ) (ro rp : ℕ) (s : Persons) (a p : Account Letter) → Buys t eps ro rp s a p s a p Step.On
+buys_none t eps ro rp s a p = record { acts = []; fault = []; posts_step = Step.On; acts_step = Step.On; plays = refl; posts = at_none ro a; took = took_nil rp p; after = refl; over = λ e. absurd cc; is = refl }
+
+asked_after : (t : Table) (eps : ℤ) (n : Persons) (step : Step) → AfterAsks t eps n step → AfterActs t eps n [] step
+asked_after t eps n Step.On h = refl
+asked_after t eps n Step.Over h = absurd h
+asked_after t eps n (Step.Stop why) h = inl (refl, h)
+
+not_over : (t : Table) (eps : ℤ) (n : Persons) (step : Step) → AfterAsks t eps n step → step ≡ Step.Over → ⊥
+not_over t eps n Step.On h e = cc
+not_over t eps n Step.Over h e = h
+not_over t eps n (Step.Stop why) h e = cc
+
+-- bids were made and posted, and nothing was heard behind them
+module _ (t : Table) (eps : ℤ) (ro rp : ℕ) (s m : Persons) (a b p : Account Letter) (old bids sliced : List Out) (asked posted : Step) (f : Asks t eps s old m bids asked) (none : old ≡ []) (same : sliced ≡ bids) (g : PostsAt ro a sliced b posted) where
+  made_posts : PostsAt ro a (made_in f.acts) b posted
+  made_posts = subst (λ w. PostsAt ro a w b posted) (same ∙ (f.made ∙ ap (λ w. w ++ made_in f.acts) none)) g
+
+  none_heard : TookMore rp p (heard_in f.acts ++ []) p
+  none_heard = subst (λ w. TookMore rp p (w ++ []) p) (sym f.heard) (took_nil rp p)
+
+  pub buys_asked : (step : Step) → step ≡ first_step posted asked → Buys t eps ro rp s a p m b p step
+  buys_asked step is = record { acts = f.acts; fault = []; posts_step = posted; acts_step = asked; plays = f.plays; posts = made_posts; took = none_heard; after = asked_after t eps m asked f.after; over = λ e. absurd (not_over t eps m asked f.after e); is = is }
+
+  -- or letters were
+  pub buys_heard : (n : Persons) (q : Account Letter) (step : Step) → posted ≡ Step.On → Listens t eps rp m p n q step → Buys t eps ro rp s a p n b q step
+  buys_heard n q step on l =
+      let acts : List Act = f.acts ++ l.listens.acts in
+      let made : made_in acts ≡ made_in f.acts = made_append f.acts l.listens.acts ∙ (ap (λ w. made_in f.acts ++ w) l.listens.made ∙ append-nil (made_in f.acts)) in
+      let heard : heard_in acts ≡ heard_in l.listens.acts = heard_append f.acts l.listens.acts ∙ ap (λ w. w ++ heard_in l.listens.acts) f.heard in
+      record {
+        acts = acts;
+        fault = l.listens.fault;
+        posts_step = posted;
+        acts_step = step;
+        plays = plays_then t eps s m n f.acts l.listens.acts f.plays l.listens.plays;
+        posts = subst (λ w. PostsAt ro a w b posted) (sym made) made_posts;
+        took = subst (λ w. TookMore rp p w q) (l.listens.letters_are ∙ ap (λ w. w ++ l.listens.fault) (sym heard)) l.took;
+        after = l.listens.after;
+        over = l.over;
+        is = ap (λ (x : Step). first_step x step) (sym on);
+      }
+
+on_both : (x y : Step) → Step.On ≡ first_step x y → (x ≡ Step.On) × (y ≡ Step.On)
+on_both Step.On y e = (refl, sym e)
+on_both Step.Over y e = absurd cc
+on_both (Step.Stop why) y e = absurd cc
+
+pub buys_then : (t : Table) (eps : ℤ) (ro rp : ℕ) (s m n : Persons) (a b c p q r : Account Letter) (step : Step) → Buys t eps ro rp s a p m b q Step.On → Buys t eps ro rp m b q n c r step → Buys t eps ro rp s a p n c r step
+buys_then t eps ro rp s m n a b c p q r step f g =
+    let on = on_both f.posts_step f.acts_step f.is in
+    let none : f.fault ≡ [] = subst (λ (x : Step). AfterActs t eps m f.fault x) on.1 f.after in
+    let posts : PostsAt ro a (made_in f.acts) b Step.On = subst (λ (x : Step). PostsAt ro a (made_in f.acts) b x) on.0 f.posts in
+    let first : TookMore rp p (heard_in f.acts) q = subst (λ w. TookMore rp p w q) (ap (λ w. heard_in f.acts ++ w) none ∙ append-nil (heard_in f.acts)) f.took in
+    record {
+      acts = f.acts ++ g.acts;
+      fault = g.fault;
+      posts_step = g.posts_step;
+      acts_step = g.acts_step;
+      plays = plays_then t eps s m n f.acts g.acts f.plays g.plays;
+      posts = subst (λ w. PostsAt ro a w c g.posts_step) (sym (made_append f.acts g.acts)) (at_then ro a b c (made_in f.acts) (made_in g.acts) g.posts_step posts g.posts);
+      took =
+          subst (λ w. TookMore rp p w r) (sym (append_assoc (heard_in f.acts) (heard_in g.acts) g.fault) ∙ ap (λ w. w ++ g.fault) (sym (heard_append f.acts g.acts)))
+          (took_then rp p q r (heard_in f.acts) (heard_in g.acts ++ g.fault) first g.took);
+      after = g.after;
+      over = g.over;
+      is = g.is;
+    }

@@ -1,0 +1,284 @@
+-- What a worker posts, one letter after another.
+use Rattle.std.proofs.Common.{◌≡◌, ◌≢◌, ◌⊎◌, ℕ, ◌<◌, ◌==◌, not, Bool, true, false, cond, List, [], ◌∷◌, ◌++◌, length, length-append, ◌≤◌, Some, None, refl, ap, sym, ◌∙◌, subst, inl, inr, arith, append_assoc}
+use Rattle.std.specs.Prelude.{Option, Result, Ok, Err, is_err}
+use Rattle.std.proofs.lemmas.Bool.{ne_eqb}
+use Rattle.std.proofs.lemmas.List.{append-nil}
+use Rattle.std.proofs.lemmas.List.Elements.{filter-append}
+use Rattle.auc_letters.specs.declared.letter.Letter.{Letter}
+use Rattle.auc_letters.specs.declared.letter.Why.{Why}
+use Rattle.auc_letters.specs.declared.out.Out.{Out}
+use Rattle.auc_letters.specs.Routing.{to_hub}
+use Rattle.auc_mail.specs.declared.call.Call.{Call}
+use Rattle.auc_mail.specs.declared.call.Reply.{Reply}
+use Rattle.auc_mail.specs.declared.call.Taken.{Taken}
+use Rattle.auc_book.specs.declared.error.CallRefused.{CallRefused}
+use Rattle.auc_book.specs.declared.error.CallRefused.TheVariants as refused
+use Rattle.auc_book.specs.declared.error.TrailFull.{TrailFull}
+use Rattle.auc_book.specs.declared.line.TrailLine.{TrailLine}
+use Rattle.auc_book.specs.Replies.{close_reply, post_reply, take_reply}
+use Rattle.auc_book.specs.Seat.{Account, SeatCalls}
+use Rattle.auc_threads.specs.declared.calls.Step.{Step}
+use Rattle.auc_threads.specs.Posting.{Ends, IsOver, Lined, Posts, PostsAt, Says, Sent, is_to_hub, lines_by, lines_sent, lines_stopped, post_of, step_after, step_of, step_without, to_shards, to_the_hub}
+
+-- ---- lines
+
+pub lined_none : (room : ℕ) (a : Account Letter) → Lined room a [] a
+lined_none room a = record { worker = refl; told = λ some. sym (append-nil a.lines) }
+
+pub lined_call : (room : ℕ) (a b : Account Letter) (c : Call Letter) (r : Option (Reply Letter)) → SeatCalls room a c r b → Lined room a (lines_by a.worker c r) b
+lined_call room a b c None h = record { worker = ap (λ (x : Account Letter). x.worker) h; told = λ some. ap (λ (x : Account Letter). x.lines) h ∙ sym (append-nil a.lines) }
+lined_call room a b c (Some r) h =
+    let line : TrailLine Letter = record { worker = a.worker; call = c; reply = r } in
+    record {
+      worker = h.0;
+      told = λ some.
+          let test : (room == 0) ≡ false = ne_eqb room 0 (λ e. absurd (omega (arith, e, some))) in
+          h.2 ∙ ap (λ q. cond q a.lines (a.lines ++ line ∷ [])) test;
+    }
+
+pub lined_then : (room : ℕ) (a b c : Account Letter) (xs ys : List (TrailLine Letter)) → Lined room a xs b → Lined room b ys c → Lined room a (xs ++ ys) c
+lined_then room a b c xs ys f g = record {
+  worker = g.worker ∙ f.worker;
+  told = λ some. g.told some ∙ (ap (λ w. w ++ ys) (f.told some) ∙ append_assoc a.lines xs ys);
+}
+
+pub lined_as : (room : ℕ) (a b : Account Letter) (xs ys : List (TrailLine Letter)) → xs ≡ ys → Lined room a xs b → Lined room a ys b
+lined_as room a b xs ys e f = subst (λ ls. Lined room a ls b) e f
+
+pub sent_append : (k : ℕ) (xs ys : List Sent) → lines_sent k (xs ++ ys) ≡ lines_sent k xs ++ lines_sent k ys
+sent_append k [] ys = refl
+sent_append k (x ∷ xs) ys = ap (λ w. lines_by k (post_of k x.out) (post_reply x.answer) ++ w) (sent_append k xs ys) ∙ sym (append_assoc (lines_by k (post_of k x.out) (post_reply x.answer)) (lines_sent k xs) (lines_sent k ys))
+
+-- posts of the same worker, one after another
+pub lined_sent : (room : ℕ) (a b c : Account Letter) (xs ys : List Sent) → Lined room a (lines_sent a.worker xs) b → Lined room b (lines_sent b.worker ys) c → Lined room a (lines_sent a.worker (xs ++ ys)) c
+lined_sent room a b c xs ys f g =
+    let more : Lined room b (lines_sent a.worker ys) c = subst (λ (k : ℕ). Lined room b (lines_sent k ys) c) f.worker g in
+    lined_as room a c (lines_sent a.worker xs ++ lines_sent a.worker ys) (lines_sent a.worker (xs ++ ys)) (sym (sent_append a.worker xs ys)) (lined_then room a b c (lines_sent a.worker xs) (lines_sent a.worker ys) f more)
+
+-- ---- posts
+
+-- whether one post ends the worker
+abbrev no_posts : List Sent
+no_posts = []
+
+abbrev OneEnd : Sent → Step → Type 0
+OneEnd x step = ((step_of x ≡ Step.On) × (step ≡ Step.On)) ⊎ ((step_of x ≢ Step.On) × (no_posts ≡ []) × (step ≡ step_of x))
+
+on_or_not : (x : Sent) (step s : Step) → step ≡ step_of x → step_of x ≡ s → OneEnd x step
+on_or_not x step Step.On is h = inl (h, is ∙ h)
+on_or_not x step Step.Over is h = inr ((λ on. (let e : Step.Over ≡ Step.On = sym h ∙ on in cc)), refl, is)
+on_or_not x step (Step.Stop why) is h = inr ((λ on. (let e : Step.Stop why ≡ Step.On = sym h ∙ on in cc)), refl, is)
+
+pub posts_one : (o : Out) (x : Sent) (step : Step) → x.out ≡ o → step ≡ step_of x → Posts (o ∷ []) (x ∷ []) step
+posts_one o x step e is = (e, on_or_not x step (step_of x) is refl)
+
+pub posts_then : (os ps : List Out) (xs ys : List Sent) (step : Step) → Posts os xs Step.On → Posts ps ys step → Posts (os ++ ps) (xs ++ ys) step
+posts_then [] ps [] ys step f g = g
+posts_then [] ps (x ∷ xs) ys step f g = absurd f
+posts_then (o ∷ os) ps [] ys step f g = absurd f
+posts_then (o ∷ os) ps (x ∷ xs) ys step f g = (
+  f.0,
+  elim f.1 [
+    | inl on ↦ inl (on.0, posts_then os ps xs ys step on.1 g)
+    | inr end ↦ absurd (end.0 (sym end.2))
+  ],
+)
+
+pub posts_ended : (os ps : List Out) (xs : List Sent) (step : Step) → step ≢ Step.On → Posts os xs step → Posts (os ++ ps) xs step
+posts_ended [] ps [] step ne f = absurd (ne f)
+posts_ended [] ps (x ∷ xs) step ne f = absurd f
+posts_ended (o ∷ os) ps [] step ne f = absurd f
+posts_ended (o ∷ os) ps (x ∷ xs) step ne f = (
+  f.0,
+  elim f.1 [
+    | inl on ↦ inl (on.0, posts_ended os ps xs step ne on.1)
+    | inr end ↦ inr end
+  ],
+)
+
+-- ---- how many
+
+pub posts_long : (os : List Out) (xs : List Sent) (step : Step) → Posts os xs step → length xs ≤ length os
+posts_long [] [] step f = omega arith
+posts_long [] (x ∷ xs) step f = absurd f
+posts_long (o ∷ os) [] step f = absurd f
+posts_long (o ∷ os) (x ∷ xs) step f = elim f.1 [
+  | inl on ↦ (let h = posts_long os xs step on.1 in omega (arith, h))
+  | inr end ↦ omega (arith, ap length end.1)
+]
+
+line_few : (k : ℕ) (c : Call Letter) (r : Option (Reply Letter)) → length (lines_by k c r) ≤ 1
+line_few k c None = omega arith
+line_few k c (Some r) = omega arith
+
+pub sent_long : (k : ℕ) (xs : List Sent) → length (lines_sent k xs) ≤ length xs
+sent_long k [] = omega arith
+sent_long k (x ∷ xs) =
+    let h = sent_long k xs in
+    omega (arith, h, line_few k (post_of k x.out) (post_reply x.answer), length-append (lines_by k (post_of k x.out) (post_reply x.answer)) (lines_sent k xs))
+
+one_line : (k : ℕ) (c : Call Letter) (x : Letter) (r : Result ℕ CallRefused) → step_after x r ≡ Step.On → length (lines_by k c (post_reply r)) ≡ 1
+one_line k c x (Ok n) e = refl
+one_line k c x (Err refused.TrailFull) e = absurd cc
+one_line k c x (Err refused.Closed) e = refl
+one_line k c x (Err refused.Spent) e = refl
+one_line k c x (Err refused.Full) e = refl
+
+-- where the worker goes on, each post has its line
+pub sent_full : (k : ℕ) (os : List Out) (xs : List Sent) → Posts os xs Step.On → length (lines_sent k xs) ≡ length os
+sent_full k [] [] f = refl
+sent_full k [] (x ∷ xs) f = absurd f
+sent_full k (o ∷ os) [] f = absurd f
+sent_full k (o ∷ os) (x ∷ xs) f = elim f.1 [
+  | inl on ↦ (
+      let h = sent_full k os xs on.1 in
+      omega (arith, h, one_line k (post_of k x.out) x.out.letter x.answer on.0, length-append (lines_by k (post_of k x.out) (post_reply x.answer)) (lines_sent k xs)))
+  | inr end ↦ absurd (end.0 (sym end.2))
+]
+
+-- no post is refused for the limit of bids
+bids_without : (y : Letter) (why : Why) → why ≢ Why.Bids → step_without y why ≢ Step.Stop Why.Bids
+bids_without (Letter.Price j p) why ne e = cc
+bids_without (Letter.Bid i a j p) why ne e = ne (let f : Step.Stop why ≡ Step.Stop Why.Bids = e in cc)
+bids_without (Letter.Award i j p) why ne e = ne (let f : Step.Stop why ≡ Step.Stop Why.Bids = e in cc)
+bids_without (Letter.Refused i j p) why ne e = ne (let f : Step.Stop why ≡ Step.Stop Why.Bids = e in cc)
+bids_without (Letter.Outbid i j p) why ne e = ne (let f : Step.Stop why ≡ Step.Stop Why.Bids = e in cc)
+bids_without (Letter.First j) why ne e = ne (let f : Step.Stop why ≡ Step.Stop Why.Bids = e in cc)
+bids_without (Letter.Stop y) why ne e = ne (let f : Step.Stop why ≡ Step.Stop Why.Bids = e in cc)
+
+bids_after : (x : Letter) (r : Result ℕ CallRefused) → step_after x r ≢ Step.Stop Why.Bids
+bids_after x (Ok n) e = cc
+bids_after x (Err refused.TrailFull) e = cc
+bids_after x (Err refused.Closed) e = cc
+bids_after x (Err refused.Spent) e = bids_without x Why.Posts (λ f. cc) e
+bids_after x (Err refused.Full) e = bids_without x Why.Mail (λ f. cc) e
+
+pub posts_bids : (os : List Out) (xs : List Sent) (step : Step) → Posts os xs step → step ≢ Step.Stop Why.Bids
+posts_bids [] [] step f e = (let g : Step.On ≡ Step.Stop Why.Bids = sym f ∙ e in cc)
+posts_bids [] (x ∷ xs) step f e = absurd f
+posts_bids (o ∷ os) [] step f e = absurd f
+posts_bids (o ∷ os) (x ∷ xs) step f e = elim f.1 [
+  | inl on ↦ posts_bids os xs step on.1 e
+  | inr end ↦ bids_after x.out.letter x.answer (sym end.2 ∙ e)
+]
+
+-- ---- at one mail
+
+pub at_none : (room : ℕ) (a : Account Letter) → PostsAt room a [] a Step.On
+at_none room a = record { posts = []; posted = refl; lined = lined_none room a }
+
+pub at_one : (room : ℕ) (a b : Account Letter) (o : Out) (answer : Result ℕ CallRefused) (step : Step) → SeatCalls room a (post_of a.worker o) (post_reply answer) b → step ≡ step_after o.letter answer → PostsAt room a (o ∷ []) b step
+at_one room a b o answer step h is =
+    let x : Sent = record { out = o; answer = answer } in
+    let call = lined_call room a b (post_of a.worker o) (post_reply answer) h in
+    record {
+      posts = x ∷ [];
+      posted = posts_one o x step refl is;
+      lined = lined_as room a b (lines_by a.worker (post_of a.worker o) (post_reply answer)) (lines_sent a.worker (x ∷ [])) (sym (append-nil (lines_by a.worker (post_of a.worker o) (post_reply answer)))) call;
+    }
+
+pub at_then : (room : ℕ) (a b c : Account Letter) (os ps : List Out) (step : Step) → PostsAt room a os b Step.On → PostsAt room b ps c step → PostsAt room a (os ++ ps) c step
+at_then room a b c os ps step f g = record {
+  posts = f.posts ++ g.posts;
+  posted = posts_then os ps f.posts g.posts step f.posted g.posted;
+  lined = lined_sent room a b c f.posts g.posts f.lined g.lined;
+}
+
+pub at_ended : (room : ℕ) (a b : Account Letter) (os ps : List Out) (step : Step) → step ≢ Step.On → PostsAt room a os b step → PostsAt room a (os ++ ps) b step
+at_ended room a b os ps step ne f = record { posts = f.posts; posted = posts_ended os ps f.posts step ne f.posted; lined = f.lined }
+
+pub at_as : (room : ℕ) (a b : Account Letter) (os ps : List Out) (step : Step) → os ≡ ps → PostsAt room a os b step → PostsAt room a ps b step
+at_as room a b os ps step e f = subst (λ ws. PostsAt room a ws b step) e f
+
+-- ---- at the persons' mail and the hub's
+
+pub says_none : (rp rh : ℕ) (p h : Account Letter) → Says rp rh p h [] p h Step.On
+says_none rp rh p h = record { posts = []; posted = refl; persons = lined_none rp p; hub = lined_none rh h }
+
+one_post : (o : Out) (xs : List Sent) (step : Step) → Posts (o ∷ []) xs step → (x : Sent) × (xs ≡ x ∷ []) × (x.out ≡ o)
+one_post o [] step f = absurd f
+one_post o (x ∷ xs) step f = (x, elim f.1 [ inl on ↦ ap (λ w. x ∷ w) (none xs on.1) | inr end ↦ ap (λ w. x ∷ w) end.1 ], f.0)
+  where
+    none : (ys : List Sent) → Posts [] ys step → ys ≡ []
+    none [] g = refl
+    none (y ∷ ys) g = absurd g
+
+pub says_persons : (rp rh : ℕ) (p h p' : Account Letter) (o : Out) (step : Step) → is_to_hub o.to ≡ false → PostsAt rp p (o ∷ []) p' step → Says rp rh p h (o ∷ []) p' h step
+says_persons rp rh p h p' o step other f =
+    let one = one_post o f.posts step f.posted in
+    let test : is_to_hub one.0.out.to ≡ false = ap (λ (u : Out). is_to_hub u.to) one.2 ∙ other in
+    let kept : to_shards f.posts ≡ f.posts = ap to_shards one.1 ∙ (ap (λ b. cond (not b) (one.0 ∷ []) []) test ∙ sym one.1) in
+    let gone : to_the_hub f.posts ≡ [] = ap to_the_hub one.1 ∙ ap (λ b. cond b (one.0 ∷ []) []) test in
+    record {
+      posts = f.posts;
+      posted = f.posted;
+      persons = lined_as rp p p' (lines_sent p.worker f.posts) (lines_sent p.worker (to_shards f.posts)) (ap (lines_sent p.worker) (sym kept)) f.lined;
+      hub = lined_as rh h h [] (lines_sent h.worker (to_the_hub f.posts)) (ap (lines_sent h.worker) (sym gone)) (lined_none rh h);
+    }
+
+pub says_hub : (rp rh : ℕ) (p h h' : Account Letter) (o : Out) (step : Step) → is_to_hub o.to ≡ true → PostsAt rh h (o ∷ []) h' step → Says rp rh p h (o ∷ []) p h' step
+says_hub rp rh p h h' o step hub f =
+    let one = one_post o f.posts step f.posted in
+    let test : is_to_hub one.0.out.to ≡ true = ap (λ (u : Out). is_to_hub u.to) one.2 ∙ hub in
+    let kept : to_the_hub f.posts ≡ f.posts = ap to_the_hub one.1 ∙ (ap (λ b. cond b (one.0 ∷ []) []) test ∙ sym one.1) in
+    let gone : to_shards f.posts ≡ [] = ap to_shards one.1 ∙ ap (λ b. cond (not b) (one.0 ∷ []) []) test in
+    record {
+      posts = f.posts;
+      posted = f.posted;
+      persons = lined_as rp p p [] (lines_sent p.worker (to_shards f.posts)) (ap (lines_sent p.worker) (sym gone)) (lined_none rp p);
+      hub = lined_as rh h h' (lines_sent h.worker f.posts) (lines_sent h.worker (to_the_hub f.posts)) (ap (lines_sent h.worker) (sym kept)) f.lined;
+    }
+
+pub says_then : (rp rh : ℕ) (p h q i r j : Account Letter) (os ps : List Out) (step : Step) → Says rp rh p h os q i Step.On → Says rp rh q i ps r j step → Says rp rh p h (os ++ ps) r j step
+says_then rp rh p h q i r j os ps step f g =
+    let shards : to_shards (f.posts ++ g.posts) ≡ to_shards f.posts ++ to_shards g.posts = filter-append (λ x. not (is_to_hub x.out.to)) f.posts g.posts in
+    let hubs : to_the_hub (f.posts ++ g.posts) ≡ to_the_hub f.posts ++ to_the_hub g.posts = filter-append (λ x. is_to_hub x.out.to) f.posts g.posts in
+    record {
+      posts = f.posts ++ g.posts;
+      posted = posts_then os ps f.posts g.posts step f.posted g.posted;
+      persons = lined_as rp p r (lines_sent p.worker (to_shards f.posts ++ to_shards g.posts)) (lines_sent p.worker (to_shards (f.posts ++ g.posts))) (ap (lines_sent p.worker) (sym shards)) (lined_sent rp p q r (to_shards f.posts) (to_shards g.posts) f.persons g.persons);
+      hub = lined_as rh h j (lines_sent h.worker (to_the_hub f.posts ++ to_the_hub g.posts)) (lines_sent h.worker (to_the_hub (f.posts ++ g.posts))) (ap (lines_sent h.worker) (sym hubs)) (lined_sent rh h i j (to_the_hub f.posts) (to_the_hub g.posts) f.hub g.hub);
+    }
+
+pub says_ended : (rp rh : ℕ) (p h q i : Account Letter) (os ps : List Out) (step : Step) → step ≢ Step.On → Says rp rh p h os q i step → Says rp rh p h (os ++ ps) q i step
+says_ended rp rh p h q i os ps step ne f = record { posts = f.posts; posted = posts_ended os ps f.posts step ne f.posted; persons = f.persons; hub = f.hub }
+
+pub says_as : (rp rh : ℕ) (p h q i : Account Letter) (os ps : List Out) (step : Step) → os ≡ ps → Says rp rh p h os q i step → Says rp rh p h ps q i step
+says_as rp rh p h q i os ps step e f = subst (λ ws. Says rp rh p h ws q i step) e f
+
+-- ---- the end
+
+pub ends_told : (room : ℕ) (a b : Account Letter) (why : Why) (n : ℕ) → SeatCalls room a (post_of a.worker (to_hub (Letter.Stop why))) (post_reply (Ok n)) b → Ends room a (Step.Stop why) b
+ends_told room a b why n h = record {
+  lines = lines_stopped a.worker why (Ok n) (Ok false);
+  lined = lined_call room a b (post_of a.worker (to_hub (Letter.Stop why))) (post_reply (Ok n)) h;
+  are = (Ok n, Ok false, refl);
+}
+
+pub ends_closed : (room : ℕ) (a b c : Account Letter) (why : Why) (e : CallRefused) (closed : Result Bool TrailFull) → SeatCalls room a (post_of a.worker (to_hub (Letter.Stop why))) (post_reply (Err e)) b → SeatCalls room b (Call.Close 0) (close_reply closed) c → Ends room a (Step.Stop why) c
+ends_closed room a b c why e closed f g =
+    let posted = lined_call room a b (post_of a.worker (to_hub (Letter.Stop why))) (post_reply (Err e)) f in
+    let shut = lined_call room b c (Call.Close 0) (close_reply closed) g in
+    let lines : List (TrailLine Letter) = lines_by a.worker (post_of a.worker (to_hub (Letter.Stop why))) (post_reply (Err e)) in
+    record {
+      lines = lines_stopped a.worker why (Err e) closed;
+      lined = lined_then room a b c lines (lines_by a.worker (Call.Close 0) (close_reply closed)) posted (subst (λ (k : ℕ). Lined room b (lines_by k (Call.Close 0) (close_reply closed)) c) posted.worker shut);
+      are = (Err e, closed, refl);
+    }
+
+-- ---- a take that says that no letter will come
+
+pub over_taken : (room : ℕ) (a b : Account Letter) (at : ℕ) (r : Result (Taken Letter) TrailFull) → SeatCalls room a (Call.Take at) (take_reply r) b → r ≡ Ok Taken.Over → 0 < room → IsOver b.lines
+over_taken room a b at r h over some =
+    let call : SeatCalls room a (Call.Take at) (Some (Reply.Took Taken.Over)) b = subst (λ (t : Result (Taken Letter) TrailFull). SeatCalls room a (Call.Take at) (take_reply t) b) over h in
+    (a.lines, a.worker, at, (lined_call room a b (Call.Take at) (Some (Reply.Took Taken.Over)) call).told some)
+
+-- ---- whether the post of a Stop was refused
+
+pub ends_ok : (room : ℕ) (a b : Account Letter) (why : Why) (r : Result ℕ CallRefused) → is_err r ≡ false → SeatCalls room a (post_of a.worker (to_hub (Letter.Stop why))) (post_reply r) b → Ends room a (Step.Stop why) b
+ends_ok room a b why (Ok n) e h = ends_told room a b why n h
+ends_ok room a b why (Err x) e h = absurd cc
+
+pub ends_err : (room : ℕ) (a b c : Account Letter) (why : Why) (r : Result ℕ CallRefused) (closed : Result Bool TrailFull) → is_err r ≡ true → SeatCalls room a (post_of a.worker (to_hub (Letter.Stop why))) (post_reply r) b → SeatCalls room b (Call.Close 0) (close_reply closed) c → Ends room a (Step.Stop why) c
+ends_err room a b c why (Ok n) closed e f g = absurd cc
+ends_err room a b c why (Err x) closed e f g = ends_closed room a b c why x closed f g

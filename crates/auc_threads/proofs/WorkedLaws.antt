@@ -1,0 +1,130 @@
+-- The first reason of all workers, and what the trails tell of each of them.
+use Rattle.std.proofs.Common.{◌≡◌, ℕ, zero, suc, ◌+◌, ◌<◌, List, [], ◌∷◌, ◌++◌, map, take, length, get_or, Some, None, refl, ap, sym, ◌∙◌, subst, arith, All}
+use Rattle.std.specs.Prelude.{Option}
+use Rattle.std.proofs.lemmas.List.{get_or-map}
+use Rattle.auc_letters.specs.declared.letter.Letter.{Letter}
+use Rattle.auc_letters.specs.declared.letter.Why.{Why}
+use Rattle.auc_objects.specs.Objects.{Objects}
+use Rattle.auc_persons.specs.Persons.{Persons}
+use Rattle.auc_book.specs.Seat.{Account, new_account}
+use Rattle.auc_book.specs.Settling.{Agrees}
+use Rattle.auc_answers.specs.Shards.{new_objects, new_persons}
+use Rattle.auc_threads.specs.declared.settling.Trails.{Trails}
+use Rattle.auc_threads.specs.declared.task.Task.{Task}
+use Rattle.auc_threads.specs.Placed.{Placed}
+use Rattle.auc_threads.specs.Starts.{IsObjectResult, IsObjectWork, IsPersonResult, IsPersonWork}
+use Rattle.auc_threads.specs.Worked.{IsBuyer, IsSeller, first_some}
+use Rattle.auc_threads.proofs.BuyingLaws.{bids_few, bids_spent}
+use Rattle.auc_threads.proofs.PlacedLaws.{placed_some}
+use Rattle.auc_threads.proofs.StepLaws.{why_stop}
+
+-- ---- the first reason
+
+head_none : (o : Option Why) (whys : List (Option Why)) → first_some (o ∷ whys) ≡ None → (o ≡ None) × (first_some whys ≡ None)
+head_none None whys h = (refl, h)
+head_none (Some y) whys h = absurd cc
+
+pub first_found : {X : Type 0} (f : X → Option Why) (xs : List X) (i : ℕ) (x : X) (why : Why) → i < length xs → first_some (map f (take i xs)) ≡ None → x ≡ get_or xs i x → f x ≡ Some why → first_some (map f xs) ≡ Some why
+first_found f [] i x why l none is e = absurd (omega (arith, l))
+first_found f (y ∷ xs) zero x why l none is e = ap (λ o. first_some (o ∷ map f xs)) (ap f (sym is) ∙ e)
+first_found f (y ∷ xs) (suc i) x why l none is e =
+    let both = head_none (f y) (map f (take i xs)) none in
+    ap (λ o. first_some (o ∷ map f xs)) both.0 ∙ first_found f xs i x why (omega (arith, l)) both.1 is e
+
+pub first_more : {X : Type 0} (f : X → Option Why) (xs : List X) (i : ℕ) (x : X) → i < length xs → first_some (map f (take i xs)) ≡ None → x ≡ get_or xs i x → f x ≡ None → first_some (map f (take (i + 1) xs)) ≡ None
+first_more f [] i x l none is e = absurd (omega (arith, l))
+first_more f (y ∷ xs) zero x l none is e = ap (λ o. first_some (o ∷ [])) (ap f (sym is) ∙ e)
+first_more f (y ∷ xs) (suc i) x l none is e =
+    let both = head_none (f y) (map f (take i xs)) none in
+    let e' : suc i + 1 ≡ suc (i + 1) = omega arith in
+    ap (λ (n : ℕ). first_some (map f (take n (y ∷ xs)))) e' ∙ (ap (λ o. first_some (o ∷ map f (take (i + 1) xs))) both.0 ∙ first_more f xs i x (omega (arith, l)) both.1 is e)
+
+pub first_here : (xs ys : List (Option Why)) (why : Why) → first_some xs ≡ Some why → first_some (xs ++ ys) ≡ Some why
+first_here [] ys why e = absurd cc
+first_here (None ∷ xs) ys why e = first_here xs ys why e
+first_here (Some w ∷ xs) ys why e = e
+
+pub first_later : (xs ys : List (Option Why)) → first_some xs ≡ None → first_some (xs ++ ys) ≡ first_some ys
+first_later [] ys e = refl
+first_later (None ∷ xs) ys e = first_later xs ys e
+first_later (Some w ∷ xs) ys e = absurd cc
+
+pub first_one : (why : Option Why) → first_some (why ∷ []) ≡ why
+first_one None = refl
+first_one (Some w) = refl
+
+-- ---- what the trails tell
+
+reason_at : {X : Type 0} (y : X → Option Why) (xs : List X) (k : ℕ) (x : X) → k < length xs → ((d : X) → get_or xs k d ≡ x) → y x ≡ get_or (map y xs) k None
+reason_at y xs k x known at = sym (get_or-map y xs k x None known ∙ ap y (at x))
+
+module _ {X : Type 0} (f : X → Objects) (a p h : X → Account Letter) (y : X → Option Why) (task : Task) (r₁ r₂ r₃ : ℕ) (xs : List X)
+    (results : Placed (λ k w. IsObjectResult task r₁ r₂ r₃ k (f w) (a w) (p w) (h w) (y w)) 0 xs)
+    (e₁ : r₁ ≡ task.limits.now.audit) (e₂ : r₂ ≡ task.limits.now.audit) (e₃ : r₃ ≡ task.limits.now.audit) (trails : Trails)
+    (objects : All (λ w. Agrees trails.objects (a w)) xs) (persons : All (λ w. Agrees trails.persons (p w)) xs) (hub : All (λ w. Agrees trails.hub (h w)) xs)
+    (many : length xs ≡ task.limits.now.shards) where
+  pub seller_told : (k : ℕ) → k < task.limits.now.shards → IsSeller task.rows.now task.limits.now task.eps task.prices.now trails k (get_or (map y xs) k None)
+  seller_told k low =
+      let known : k < length xs = omega (arith, low, many) in
+      let at = placed_some (λ k w. IsObjectResult task r₁ r₂ r₃ k (f w) (a w) (p w) (h w) (y w)) 0 xs k results known in
+      let x = at.0 in
+      let r : IsObjectResult task r₁ r₂ r₃ k (f x) (a x) (p x) (h x) (y x) = subst (λ (m : ℕ). IsObjectResult task r₁ r₂ r₃ m (f x) (a x) (p x) (h x) (y x)) (omega arith) at.1 in
+      let seat : Account Letter = new_account (task.limits.now.shards + k) in
+      let begun : Objects = new_objects task.limits.now.shards (length task.rows.now.rows) task.prices.now k in
+      let n = task.limits.now.audit in
+      record {
+        left = f x;
+        objects = a x;
+        persons = p x;
+        hub = h x;
+        work =
+            subst (λ (o : Option Why). IsObjectWork task.eps n n n begun seat seat seat (f x) (a x) (p x) (h x) o) (reason_at y xs k x known at.2)
+            (subst (λ (m : ℕ). IsObjectWork task.eps n n m begun seat seat seat (f x) (a x) (p x) (h x) (y x)) e₃
+            (subst (λ (m : ℕ). IsObjectWork task.eps n m r₃ begun seat seat seat (f x) (a x) (p x) (h x) (y x)) e₂
+            (subst (λ (m : ℕ). IsObjectWork task.eps m r₂ r₃ begun seat seat seat (f x) (a x) (p x) (h x) (y x)) e₁ r.work)));
+        told = record {
+          objects_worker = r.seat;
+          persons_worker = r.persons_seat;
+          hub_worker = r.hub_seat;
+          objects_lines = subst (λ w. Agrees trails.objects (a w)) (at.2 x) (objects k x known);
+          persons_lines = subst (λ w. Agrees trails.persons (p w)) (at.2 x) (persons k x known);
+          hub_lines = subst (λ w. Agrees trails.hub (h w)) (at.2 x) (hub k x known);
+        };
+      }
+
+module _ {X : Type 0} (f : X → Persons) (a p h : X → Account Letter) (y : X → Option Why) (task : Task) (r₁ r₂ r₃ : ℕ) (xs : List X)
+    (results : Placed (λ k w. IsPersonResult task r₁ r₂ r₃ k (f w) (a w) (p w) (h w) (y w)) 0 xs) (some : 0 < r₁)
+    (e₁ : r₁ ≡ task.limits.now.audit) (e₂ : r₂ ≡ task.limits.now.audit) (e₃ : r₃ ≡ task.limits.now.audit) (trails : Trails)
+    (objects : All (λ w. Agrees trails.objects (a w)) xs) (persons : All (λ w. Agrees trails.persons (p w)) xs) (hub : All (λ w. Agrees trails.hub (h w)) xs)
+    (many : length xs ≡ task.limits.now.shards) where
+  pub buyer_told : (k : ℕ) → k < task.limits.now.shards → IsBuyer task.rows.now task.limits.now task.eps task.prices.now trails k (get_or (map y xs) k None)
+  buyer_told k low =
+      let known : k < length xs = omega (arith, low, many) in
+      let at = placed_some (λ k w. IsPersonResult task r₁ r₂ r₃ k (f w) (a w) (p w) (h w) (y w)) 0 xs k results known in
+      let x = at.0 in
+      let r : IsPersonResult task r₁ r₂ r₃ k (f x) (a x) (p x) (h x) (y x) = subst (λ (m : ℕ). IsPersonResult task r₁ r₂ r₃ m (f x) (a x) (p x) (h x) (y x)) (omega arith) at.1 in
+      let seat : Account Letter = new_account k in
+      let begun : Persons = new_persons task.limits.now.shards (length task.rows.now.rows) task.limits.now.bids task.prices.now k in
+      let n = task.limits.now.audit in
+      let is = reason_at y xs k x known at.2 in
+      record {
+        left = f x;
+        objects = a x;
+        persons = p x;
+        hub = h x;
+        work =
+            subst (λ (o : Option Why). IsPersonWork task.rows.now task.eps n n n begun seat seat seat (f x) (a x) (p x) (h x) o) is
+            (subst (λ (m : ℕ). IsPersonWork task.rows.now task.eps n n m begun seat seat seat (f x) (a x) (p x) (h x) (y x)) e₃
+            (subst (λ (m : ℕ). IsPersonWork task.rows.now task.eps n m r₃ begun seat seat seat (f x) (a x) (p x) (h x) (y x)) e₂
+            (subst (λ (m : ℕ). IsPersonWork task.rows.now task.eps m r₂ r₃ begun seat seat seat (f x) (a x) (p x) (h x) (y x)) e₁ r.work)));
+        told = record {
+          objects_worker = r.objects_seat;
+          persons_worker = r.seat;
+          hub_worker = r.hub_seat;
+          objects_lines = subst (λ w. Agrees trails.objects (a w)) (at.2 x) (objects k x known);
+          persons_lines = subst (λ w. Agrees trails.persons (p w)) (at.2 x) (persons k x known);
+          hub_lines = subst (λ w. Agrees trails.hub (h w)) (at.2 x) (hub k x known);
+        };
+        few = bids_few task.rows.now task.eps r₁ r₂ begun (f x) seat (a x) seat (p x) r.work.step r.work.buys some refl;
+        spent = λ e. bids_spent task.rows.now task.eps r₁ r₂ begun (f x) seat (a x) seat (p x) r.work.step r.work.buys some refl (why_stop r.work.step (y x) Why.Bids r.work.why_is (is ∙ e));
+      }

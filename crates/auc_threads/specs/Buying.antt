@@ -1,0 +1,92 @@
+-- What a worker of the persons does: it hears letters, and bids at the copies of prices that they have made.
+use Rattle.std.specs.Prelude.{◌≡◌, ◌≢◌, ◌⊎◌, ℕ, ◌<◌, ℤ, List, [], ◌∷◌, ◌++◌, Ok, Err}
+use Rattle.auc_graph.specs.Table.{Table}
+use Rattle.auc_letters.specs.declared.letter.Letter.{Letter}
+use Rattle.auc_letters.specs.declared.letter.Why.{Why}
+use Rattle.auc_letters.specs.declared.out.Out.{Out}
+use Rattle.auc_persons.specs.declared.bidding.Bidding.{Bidding}
+use Rattle.auc_persons.specs.declared.bidding.PersonFault.{PersonFault}
+use Rattle.auc_persons.specs.Persons.{NextBid, OnLetter, Persons, Stops, first_idle}
+use Rattle.auc_book.specs.Seat.{Account}
+use Rattle.auc_answers.specs.Reasons.{reason_for}
+use Rattle.auc_threads.specs.declared.calls.Step.{Step}
+use Rattle.auc_threads.specs.Taking.{TookMore}
+use Rattle.auc_threads.specs.Posting.{IsOver, PostsAt, first_step}
+
+-- what a shard of the persons does: it hears a letter, or makes a bid
+pub data Act : Type 0 where
+  Hear : Letter → Act
+  Make : Out → Act
+
+-- From s on the shard does this, one after another, and is left as n: each letter fits, and each bid is its next one.
+abbrev pub Plays : Table → ℤ → Persons → List Act → Persons → Type 0
+Plays t eps s [] n = n ≡ s
+Plays t eps s (Hear x ∷ acts) n = (m : Persons) × OnLetter s x (Ok tt) m × Plays t eps m acts n
+Plays t eps s (Make o ∷ acts) n = (m : Persons) × NextBid t eps s (Bidding.Out o) m × Plays t eps m acts n
+
+-- the letters that were heard, and the bids that were made, in order
+abbrev pub heard_in : List Act → List Letter
+heard_in [] = []
+heard_in (Hear x ∷ acts) = x ∷ heard_in acts
+heard_in (Make o ∷ acts) = heard_in acts
+
+abbrev pub made_in : List Act → List Out
+made_in [] = []
+made_in (Hear x ∷ acts) = made_in acts
+made_in (Make o ∷ acts) = o ∷ made_in acts
+
+-- How the worker goes on that asked for a bid, or took a letter, and left its shard so: its next person can't bid, for this reason; or no call could be
+-- noted; or a letter doesn't fit, or tells a lower price.
+abbrev pub CantBid : Table → ℤ → Persons → Why → Type 0
+CantBid t eps n why = (n.idle ≢ []) × Stops t eps n (first_idle n) why
+
+abbrev pub CantHear : Persons → List Letter → Why → Type 0
+CantHear n fault why = (x : Letter) × (f : PersonFault) × (fault ≡ x ∷ []) × (why ≡ reason_for f) × OnLetter n x (Err f) n
+
+abbrev pub AfterActs : Table → ℤ → Persons → List Letter → Step → Type 0
+AfterActs t eps n fault Step.On = fault ≡ []
+AfterActs t eps n fault Step.Over = fault ≡ []
+AfterActs t eps n fault (Step.Stop why) = ((fault ≡ []) × CantBid t eps n why) ⊎ (((fault ≡ []) × (why ≡ Why.Trail)) ⊎ CantHear n fault why)
+
+-- The worker asked for bids, and these more were made; then nobody was free, or it had enough of them, or the next person can't bid.
+abbrev pub AfterAsks : Table → ℤ → Persons → Step → Type 0
+AfterAsks t eps n Step.On = Unit {0}
+AfterAsks t eps n Step.Over = ⊥
+AfterAsks t eps n (Step.Stop why) = CantBid t eps n why
+
+pub record Asks (t : Table) (eps : ℤ) (s : Persons) (old : List Out) (n : Persons) (new : List Out) (step : Step) : Type 0 where
+  pub acts : List Act
+  pub plays : Plays t eps s acts n
+  pub heard : heard_in acts ≡ []
+  pub made : new ≡ old ++ made_in acts
+  pub after : AfterAsks t eps n step
+
+-- Its shard heard the letters, but for the last one where that doesn't fit.
+pub record ListensTo (t : Table) (eps : ℤ) (s : Persons) (letters : List Letter) (n : Persons) (step : Step) : Type 0 where
+  pub acts : List Act
+  pub fault : List Letter
+  pub plays : Plays t eps s acts n
+  pub made : made_in acts ≡ []
+  pub letters_are : letters ≡ heard_in acts ++ fault
+  pub after : AfterActs t eps n fault step
+
+-- and the worker took them
+pub record Listens (t : Table) (eps : ℤ) (room : ℕ) (s : Persons) (a : Account Letter) (n : Persons) (b : Account Letter) (step : Step) : Type 0 where
+  pub letters : List Letter
+  pub took : TookMore room a letters b
+  pub listens : ListensTo t eps s letters n step
+  pub over : step ≡ Step.Over → 0 < room → IsOver b.lines
+
+-- It bid and heard: it took just these letters, and posted the bids in order, up to the first post that ends it.
+pub record Buys (t : Table) (eps : ℤ) (objects_room persons_room : ℕ) (s : Persons) (a p : Account Letter) (n : Persons) (a' p' : Account Letter) (step : Step) : Type 0 where
+  pub acts : List Act
+  pub fault : List Letter
+  pub posts_step : Step
+  pub acts_step : Step
+  pub plays : Plays t eps s acts n
+  pub posts : PostsAt objects_room a (made_in acts) a' posts_step
+  pub took : TookMore persons_room p (heard_in acts ++ fault) p'
+  pub after : AfterActs t eps n fault acts_step
+  pub over : acts_step ≡ Step.Over → 0 < persons_room → IsOver p'.lines
+  -- a post that ends the worker comes before what it asked for or took later
+  pub is : step ≡ first_step posts_step acts_step

@@ -1,0 +1,84 @@
+-- What a worker of the objects makes of the letters that it takes, and what it has to say of them.
+use Rattle.std.specs.Prelude.{◌≡◌, ◌==◌, ℕ, ◌<◌, ◌%◌, ℤ, not, List, [], ◌∷◌, ◌++◌, map, filter, All, if◌then◌else◌}
+use Rattle.std.specs.List.{range_with_len}
+use Rattle.auc_letters.specs.declared.letter.Letter.{Letter}
+use Rattle.auc_letters.specs.declared.letter.Offer.{Offer}
+use Rattle.auc_letters.specs.declared.letter.Why.{Why}
+use Rattle.auc_letters.specs.declared.out.Out.{Out}
+use Rattle.auc_letters.specs.Award.{answers, bid_letter, is_accepted}
+use Rattle.auc_letters.specs.Price.{IsPrice}
+use Rattle.auc_letters.specs.Routing.{price_told}
+use Rattle.auc_objects.specs.Objects.{IsOffer, Objects, Owns, after_bid, price_of, sale_of}
+use Rattle.auc_book.specs.Seat.{Account}
+use Rattle.auc_threads.specs.declared.calls.Step.{Step}
+use Rattle.auc_threads.specs.Taking.{TookMore}
+use Rattle.auc_threads.specs.Posting.{IsOver, Says, first_step}
+
+-- the shards below n but one, in rising order
+abbrev pub others : ℕ → ℕ → List ℕ
+others n one = filter (λ q. not (q == one)) (range_with_len 0 n)
+
+-- the present price of an object, told to those of the first n shards of the persons
+abbrev pub prices_told : Objects → ℕ → ℕ → ℕ → List Out
+prices_told s n one object = map (λ q. price_told s.persons q object (price_of s object)) (others n one)
+
+-- What a shard says of a bid: its answers in order, and then, where it was accepted, the new price to each shard of the persons but the bidder's.
+abbrev pub says : ℤ → Objects → Offer → List Out
+says eps s bid =
+    answers s.person_shards eps (sale_of s bid.object) bid
+    ++ (if is_accepted eps (sale_of s bid.object) bid then prices_told (after_bid s eps bid) s.person_shards (bid.person % s.person_shards) bid.object else [])
+
+-- the shard when bids were dealt with, one after another, and what it says of them
+abbrev pub after_bids : ℤ → Objects → List Offer → Objects
+after_bids eps s [] = s
+after_bids eps s (bid ∷ bids) = after_bids eps (after_bid s eps bid) bids
+
+abbrev pub says_all : ℤ → Objects → List Offer → List Out
+says_all eps s [] = []
+says_all eps s (bid ∷ bids) = says eps s bid ++ says_all eps (after_bid s eps bid) bids
+
+-- the bid fits the shard
+pub record Fits (s : Objects) (bid : Offer) : Type 0 where
+  pub owns : Owns s bid.object
+  pub amount : IsPrice bid.amount
+
+-- How a worker goes on behind letters of which the last ones don't fit: where there is none it goes on, or none will come any more, or no call could be
+-- noted; and it stops at the first one.
+abbrev pub AfterLetters : Objects → List Letter → Step → Type 0
+AfterLetters t stray Step.On = stray ≡ []
+AfterLetters t stray Step.Over = stray ≡ []
+AfterLetters t stray (Step.Stop Why.Trail) = stray ≡ []
+AfterLetters t stray (Step.Stop Why.Stray) = (x : Letter) × (stray ≡ x ∷ []) × ((bid : Offer) → IsOffer t x bid → ⊥)
+AfterLetters t stray (Step.Stop Why.Bids) = ⊥
+AfterLetters t stray (Step.Stop Why.Ceiling) = ⊥
+AfterLetters t stray (Step.Stop Why.Stuck) = ⊥
+AfterLetters t stray (Step.Stop Why.Posts) = ⊥
+AfterLetters t stray (Step.Stop Why.Mail) = ⊥
+AfterLetters t stray (Step.Stop Why.Fell) = ⊥
+
+-- The letters are bids that fit the shard, which dealt with them one after another, and then perhaps one that is none. This is what it has to say.
+pub record DealsWith (eps : ℤ) (s : Objects) (letters : List Letter) (said : List Out) (t : Objects) (step : Step) : Type 0 where
+  pub bids : List Offer
+  pub stray : List Letter
+  pub letters_are : letters ≡ map bid_letter bids ++ stray
+  pub fit : All (Fits s) bids
+  pub left : t ≡ after_bids eps s bids
+  pub said_are : said ≡ says_all eps s bids
+  pub after : AfterLetters t stray step
+
+-- and the worker took them
+pub record Deals (eps : ℤ) (room : ℕ) (s : Objects) (a : Account Letter) (said : List Out) (t : Objects) (b : Account Letter) (step : Step) : Type 0 where
+  pub letters : List Letter
+  pub took : TookMore room a letters b
+  pub dealt : DealsWith eps s letters said t step
+  pub over : step ≡ Step.Over → 0 < room → IsOver b.lines
+
+-- It dealt with letters, and posted what it had to say of them.
+pub record Serves (eps : ℤ) (objects_room persons_room hub_room : ℕ) (s : Objects) (a p h : Account Letter) (t : Objects) (a' p' h' : Account Letter) (step : Step) : Type 0 where
+  pub said : List Out
+  pub took_step : Step
+  pub said_step : Step
+  pub deals : Deals eps objects_room s a said t a' took_step
+  pub tells : Says persons_room hub_room p h said p' h' said_step
+  -- a post that ends the worker comes before what it took later
+  pub is : step ≡ first_step said_step took_step

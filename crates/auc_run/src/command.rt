@@ -200,10 +200,11 @@ fn perform_plainly<R: Read, Q: Read, W: Write>(
 /// Where the status is [`crate::status::UNWRITTEN`] a write failed, or took no bytes: a beginning of the answer was written, and not all of it.
 ///
 /// A problem is read piece by piece; a certificate and a script are read whole. A solve takes the time of the auction, by
-/// [`auc_world::solve_serial`], and of one check, and 28 bytes of memory an arc and what its shards and mails take, which is linear in the
-/// persons. A check takes O(bytes) time, and 16 bytes of memory an arc and that of the certificate's text. A hall takes the time
-/// of its search, see [`auc_hall::complete`], and 28 bytes of memory an arc. A mail takes the time of its calls, and memory for its script, its
-/// lanes, its letters and a reply for each call.
+/// [`auc_world::solve_serial`], or in one hand by [`auc_direct::solve_direct`], and of one check. It takes 28 bytes of memory an arc and
+/// what its shards and mails take, which is linear in the persons; in one hand what [`auc_direct::solve_direct`] tells. A check takes
+/// O(bytes) time, and 16 bytes of memory an arc and that of the certificate's text. A hall takes the time of its search, see
+/// [`auc_hall::complete`], and 28 bytes of memory an arc. A mail takes the time of its calls, and memory for its script, its lanes, its
+/// letters and a reply for each call.
 pub fn run_plain<R: Read, Q: Read, W: Write>(
     alloc: Global,
     job: &Job,

@@ -25,9 +25,9 @@ extern "C" {
 #endif
 
 /* Of this header; `c/link` gives the shared object's name the first number. */
-#define SIGDORF_VERSION "1.0"
+#define SIGDORF_VERSION "1.1"
 #define SIGDORF_VERSION_MAJOR 1
-#define SIGDORF_VERSION_MINOR 0
+#define SIGDORF_VERSION_MINOR 1
 
 #define SIGDORF_MOST_PERSONS 10000u
 #define SIGDORF_MOST_OBJECTS 20000u

@@ -21,7 +21,7 @@ from .many import solve_many
 from .scipy_calls import linear_sum_assignment, min_weight_full_bipartite_matching
 from .solution import Solution
 
-__version__ = "1.0"
+__version__ = "1.1"
 __all__ = [
     "Infeasible",
     "Match",

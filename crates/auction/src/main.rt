@@ -233,7 +233,7 @@ fn refuse_words<R: Eprint + AllocGlobal, E: Write>(
 fn show<R: Print + Eprint>(rt: &R, page: Page) -> u8 {
     let shown = match page {
         Page::Usage => println!(rt; "{}", USAGE_PAGE),
-        Page::Version => println!(rt; "auction 1.0 (Sigdorf)"),
+        Page::Version => println!(rt; "auction 1.1 (Sigdorf)"),
     };
     if shown.is_err() {
         let _ = eprintln!(rt; "auction: standard output was not written, or not all of it");

@@ -70,8 +70,8 @@ def call_solve(source, problem):
     given, words = problem.lists(source), problem.words(source)
     given.append(problem.shape)
     words["bids"] = source.choice([0, 1, 50, MOST_BIDS, numpy.int32(MOST_BIDS)])
-    if problem.shape[0] == problem.shape[1] and source.random() < 0.2:
-        words["start"] = guises.same(source, [source.randrange(2**60) for _ in range(problem.shape[0])], ("i8", "u8"))
+    if source.random() < 0.2:
+        words["start"] = guises.same(source, [source.randrange(2**60) for _ in range(max(problem.shape))], ("i8", "u8"))
     is_odd = source.random() < 0.6
     for _ in range(source.choice([1, 1, 2, 3]) if is_odd else 0):
         spoil(source, given, words, problem)

@@ -1,7 +1,7 @@
 """A round of a refinement: the arcs that are near enough to be in a least assignment, solved as a problem of their own."""
 import numpy
 
-from .arguments import MOST_OBJECTS, MOST_PERSONS
+from .arguments import MOST_OBJECTS
 from .whole import arcs_of, solve_whole, whole_prices
 
 NO_START = numpy.zeros(0, numpy.int64)
@@ -18,9 +18,9 @@ class Near:
     and its slacks are `gap` together, so that no least assignment takes an arc beyond that, or leaves an object of a greater price.
     """
 
-    def __init__(self, person, object, slack, pick, price, is_square):
+    def __init__(self, person, object, slack, pick, price):
         self.person, self.object, self.slack, self.pick, self.price = person, object, slack, pick, price
-        self.is_square, self.gap = is_square, int(slack[pick].sum())
+        self.gap = int(slack[pick].sum())
 
     def solved(self, bids):
         """The places of a least choice, a worth of each person, and a change of each object's price: whole numbers at which slack + change - worth
@@ -29,17 +29,11 @@ class Near:
         pick = self.pick
         if self.gap > 0:
             pick = pick.copy()
-            self._solve(bids, pick, worth, change)
+            near = self._within(2 * (self.gap + 1))
+            persons, person = numpy.unique(self.person[near], return_inverse=True)
+            objects, object = numpy.unique(self.object[near], return_inverse=True)
+            pick[persons], worth[persons], change[objects] = self._solve(near, person, object, len(persons), objects, bids)
         return pick, worth, change
-
-    def _solve(self, bids, pick, worth, change):
-        way_out, window = (self._hub, 2 * (self.gap // 2 + 1)) if self.is_square else (self._outlet, 2 * (self.gap + 1))
-        near = self._within(window)
-        persons, person = numpy.unique(self.person[near], return_inverse=True)
-        objects, object = numpy.unique(self.object[near], return_inverse=True)
-        if self.is_square and len(persons) == MOST_PERSONS:
-            way_out = self._outlet
-        pick[persons], worth[persons], change[objects] = way_out(near, person, object, len(persons), objects, bids)
 
     def _within(self, window):
         """The places of arcs below a slack, but for a person's only one to an object's only one: he keeps it, at the price that it has."""
@@ -48,26 +42,15 @@ class Near:
         of_object = numpy.bincount(self.object[near], minlength=len(self.price))
         return numpy.flatnonzero(near & ((of_person[self.person] > 1) | (of_object[self.object] > 1)))
 
-    def _outlet(self, near, person, object, persons, objects, bids):
-        """By one object more, which everybody may have at a cost that no least choice pays."""
+    def _solve(self, near, person, object, persons, objects, bids):
+        """Choice, worths and changes of these arcs alone, with one object more, which everybody may have at a cost that no least choice pays."""
         count, cost = len(objects), self.gap + 1
-        cap = numpy.zeros(count, numpy.int64) if self.is_square else numpy.minimum(self.price[objects], cost)
+        cap = numpy.minimum(self.price[objects], cost)
         arcs = arcs_of(person, object, self.slack[near] - cap[object])
         outlet = count if count < MOST_OBJECTS else _left_over(persons, count, arcs, bids)
         ways_out = arcs_of(numpy.arange(persons), numpy.full(persons, outlet), numpy.full(persons, cost))
         choice, worth, prices = _solved(persons, max(count, outlet + 1), numpy.concatenate([arcs, ways_out]), bids)
         return near[choice], worth, prices[:count] - cap
-
-    def _hub(self, near, person, object, persons, objects, bids):
-        """By one more person and object, which go together for nothing, and are a way from everybody to every object at a cost that no least choice pays."""
-        count, cost = len(objects), self.gap // 2 + 1
-        arcs = arcs_of(
-            numpy.concatenate([person, numpy.arange(persons), numpy.full(count + 1, persons)]),
-            numpy.concatenate([object, numpy.full(persons, count), numpy.arange(count + 1)]),
-            numpy.concatenate([self.slack[near], numpy.full(persons + count, cost), [0]]),
-        )
-        choice, worth, prices = _solved(persons + 1, count + 1, arcs, bids)
-        return near[choice[:persons]], worth[:persons] - prices[count], prices[:count] - prices[count]
 
 
 def _left_over(persons, objects, arcs, bids):

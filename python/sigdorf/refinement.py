@@ -20,8 +20,8 @@ PLENTY = 1 << 31
 class Level:
     """A level of a problem: its arcs that may matter yet, by rising persons, and the choice of each person.
 
-    `place` has their places in the problem, `pick` the place among them of each person's choice, `price` a price of each object, or PLENTY.
-    Tails are in the unit of the costs.
+    `place` has their places in the problem, `pick` the place among them of each person's choice, `price` a price of each object, or PLENTY; with as
+    many objects as persons all are taken, so that prices don't count, and are 0 here. Tails are in the unit of the costs.
     """
 
     def __init__(self, objects, unit, arcs, pick, price):
@@ -47,11 +47,11 @@ class Level:
         self._drop_far()
         unit, slack, tail = self._in_finer_unit()
         price = _scaled(self.price, unit - self.unit)
-        near = Near(self.person, self.object, slack, self.pick, price, self.persons == self.objects)
-        pick, worth, change = near.solved(bids)
+        pick, worth, change = Near(self.person, self.object, slack, self.pick, price).solved(bids)
         slack = slack + change[self.object] - worth[self.person]
-        level = Level(self.objects, unit, (self.place, self.person, self.object, slack, tail), pick, numpy.minimum(price + change, PLENTY))
-        return level, change
+        if self.objects > self.persons:
+            price = numpy.minimum(price + change, PLENTY)
+        return Level(self.objects, unit, (self.place, self.person, self.object, slack, tail), pick, price), change
 
     def _in_finer_unit(self):
         """A finer unit, slacks in it that are 0 for the best arc of each person, and what is left: the choice's slacks are 5 * 10^8 at most together."""
@@ -84,10 +84,7 @@ def most_slack(persons):
 
 
 def _scaled(price, by):
-    """Prices in a unit that is finer by powers of two; PLENTY stays what stands for any that is greater.
-
-    Negative ones, which there are of as many objects as persons alone, may run over: nobody looks at prices there.
-    """
+    """Prices in a unit that is finer by powers of two; PLENTY stays what stands for any that is greater."""
     return numpy.where(price > PLENTY >> by, PLENTY, price << by)
 
 
@@ -102,4 +99,5 @@ def first_level(arcs, objects, costs, choice, prices):
     where = numpy.full(len(person), -1)
     where[place] = numpy.arange(len(place))
     kept = place, person[place], taken[place], slack[place], costs.tails(place)
-    return Level(objects, costs.unit, kept, where[choice], numpy.minimum(prices, PLENTY))
+    price = numpy.minimum(prices, PLENTY) if objects > len(choice) else numpy.zeros(objects, numpy.int64)
+    return Level(objects, costs.unit, kept, where[choice], price)

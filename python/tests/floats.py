@@ -6,7 +6,6 @@ import random
 import exact
 import numpy
 import sigdorf
-from sigdorf import near
 
 try:
     import scipy.optimize
@@ -129,18 +128,11 @@ KINDS = [uniform, plane, grid, overlap, likeness, any_exponents, powers, denorma
          long_whole, long_ties, ends_of_int64, ends_of_uint64, long_natural, past_whole]
 
 
-# So many bids a phase may take, so that one that would take billions is told soon.
-BIDS = 1_000_000
-
-
-def floats(seed, most=(6, 8)):
-    """A problem of a few rows and columns: its answer is least of all assignments, and its prices show that; or a limit ended the search."""
+def floats(seed, shape=None):
+    """A problem of a few rows and columns, or of this shape: its answer is least of all assignments, and its prices show that."""
     source = random.Random(seed)
     kind, maximize = source.choice(KINDS), source.random() < 0.5
-    shape = source.randint(1, most[0]), source.randint(1, most[1])
-    if source.random() < 0.4:
-        shape = (shape[0], shape[0])
-    shape = shape if source.random() < 0.5 else shape[::-1]
+    shape = shape or any_shape(source)
     matrix = kind(numpy.random.default_rng(source.randrange(2**32)), shape)
     # The diagonal stays, so that there is an assignment.
     pairs = [pair for pair in itertools.product(*map(range, shape)) if pair[0] == pair[1] or source.random() < source.choice([0.6, 1, 1])]
@@ -148,9 +140,7 @@ def floats(seed, most=(6, 8)):
     rows, columns = (numpy.array(side) for side in zip(*pairs))
     lists = rows, columns, matrix[rows, columns], shape
     with numpy.errstate(all=source.choice(["raise", "warn"])):
-        solution = sigdorf.solve(*lists, maximize=maximize, bids=BIDS)
-        if is_ended(solution, shape):
-            return "ended by a limit"
+        solution = sigdorf.solve(*lists, maximize=maximize)
         assert_least(solution, lists, maximize)
         sigdorf.check(solution, *lists, maximize=maximize)
         assert_others_refused(source, solution, lists, maximize)
@@ -158,10 +148,10 @@ def floats(seed, most=(6, 8)):
     return kind.__name__
 
 
-def is_ended(solution, shape):
-    """Whether a limit ended the search, as it may where sizes are unequal, or where rounds of equal ones are made unequal by smaller limits."""
-    assert solution.is_optimal or shape[0] != shape[1] or near.MOST_PERSONS < 10_000, "ended by a limit"
-    return not solution.is_optimal
+def any_shape(source):
+    """At most 6 and 8, in any order; often as many rows as columns."""
+    rows, columns = source.randint(1, 6), source.randint(1, 8)
+    return source.choice([(rows, columns), (columns, rows), (rows, rows)])
 
 
 def assert_least(solution, lists, maximize):
@@ -237,11 +227,7 @@ def assert_as_matrix(solution, lists, matrix, maximize):
     if costs.dtype.kind == "f":
         dense = numpy.full(shape, -numpy.inf if maximize else numpy.inf, matrix.dtype)
         dense[rows, columns] = costs
-    try:
-        found = dense[sigdorf.linear_sum_assignment(dense, maximize, bids=BIDS)]
-    except sigdorf.Unsettled:
-        assert shape[0] != shape[1] or near.MOST_PERSONS < 10_000
-        return
+    found = dense[sigdorf.linear_sum_assignment(dense, maximize)]
     assert sum(map(fractions.Fraction, found.tolist())) == solution.exact_cost
     other = sum(map(fractions.Fraction, dense[others(dense, maximize)].tolist()))
     assert (other <= solution.exact_cost) if maximize else (other >= solution.exact_cost)
@@ -252,7 +238,7 @@ def others(dense, maximize):
     try:
         return scipy.optimize.linear_sum_assignment(dense, maximize)
     except (AttributeError, ValueError):
-        return sigdorf.linear_sum_assignment(dense, maximize, bids=BIDS)
+        return sigdorf.linear_sum_assignment(dense, maximize)
 
 
 def greater(seed):
@@ -264,9 +250,7 @@ def greater(seed):
     matrix = kind(numpy.random.default_rng(source.randrange(2**32)), shape)
     rows, columns = numpy.indices(shape).reshape(2, -1)
     lists = rows, columns, matrix.ravel(), shape
-    solution = sigdorf.solve(*lists, maximize=maximize, bids=BIDS)
-    if is_ended(solution, shape):
-        return "ended by a limit"
+    solution = sigdorf.solve(*lists, maximize=maximize)
     sigdorf.check(solution, *lists, maximize=maximize)
     assert_prices(solution, [(row, column, fractions.Fraction(cost)) for row, column, cost in zip(rows.tolist(), columns.tolist(), matrix.ravel().tolist())], shape, maximize)
     assert_as_matrix(solution, lists, matrix, maximize)

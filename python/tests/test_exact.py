@@ -2,6 +2,7 @@
 import fractions
 import math
 import unittest
+import unittest.mock
 
 from limited import Limited, numpy, sigdorf
 
@@ -13,26 +14,26 @@ TWO = [0, 0, 1, 1], [0, 1, 0, 1]
 
 
 class Random(Limited):
-    def assert_answers(self, make, name, first, last):
-        """Few of these problems are ended by a limit, and none of as many rows as columns is."""
-        outcomes = [make(f"{name} {number}") for number in range(first, last)]
-        self.assertLessEqual(outcomes.count("ended by a limit"), len(outcomes) // 10)
-
     def test_greater(self):
-        self.assert_answers(floats.greater, "greater", 0, 100)
+        for number in range(100):
+            floats.greater(f"greater {number}")
 
     def test_where_there_is_no_room_for_one_more(self):
-        """The ways that problems of 10,000 persons or 20,000 objects take, with smaller limits."""
-        kept = near.MOST_PERSONS, near.MOST_OBJECTS
-        try:
-            for near.MOST_PERSONS, near.MOST_OBJECTS in [(3, 5), (5, 6), (6, 8)]:
-                self.assert_answers(floats.floats, "limits", 0, 100)
-        finally:
-            near.MOST_PERSONS, near.MOST_OBJECTS = kept
+        """The way that a problem of 20,000 objects takes, with a smaller limit."""
+        with unittest.mock.patch.object(near, "_left_over", wraps=near._left_over) as left_over:
+            for columns in range(3, 9):
+                with unittest.mock.patch.object(near, "MOST_OBJECTS", columns):
+                    for number in range(60):
+                        floats.floats(f"limits {number}", (number % (columns - 1) + 1, columns))
+        self.assertGreater(left_over.call_count, 10)
 
 
 def small(first):
-    return lambda test: test.assert_answers(floats.floats, "small", first, first + 200)
+    def test(_):
+        for number in range(first, first + 200):
+            floats.floats(f"small {number}")
+
+    return test
 
 
 # One test of all would take too long on a busy machine.

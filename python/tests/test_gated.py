@@ -9,8 +9,6 @@ from limited import Limited, numpy, scipy, sigdorf
 if numpy:
     import floats
 
-BIDS = 1_000_000
-
 
 def least_of_all(matrix, limit, maximize):
     """The least (or the greatest) sum of pairs, each less the limit, over all choices, in Fractions."""
@@ -25,16 +23,12 @@ def least_of_all(matrix, limit, maximize):
 
 class Match(Limited):
     def test_random(self):
-        random, ended = numpy.random.default_rng(1), 0
+        random = numpy.random.default_rng(1)
         for number in range(400):
             shape, maximize = random.integers(1, 4, 2), bool(random.integers(2))
             matrix = floats.KINDS[number % len(floats.KINDS)](random, shape)
             limit = random.choice(matrix.ravel()).item() if number % 3 else 1
-            try:
-                found = sigdorf.match(matrix, limit, maximize=maximize, bids=BIDS)
-            except sigdorf.Unsettled:
-                ended += 1
-                continue
+            found = sigdorf.match(matrix, limit, maximize=maximize)
             costs = matrix[found.rows, found.columns]
             self.assertEqual(found.costs.tolist(), costs.tolist())
             self.assertTrue((costs >= limit).all() if maximize else (costs <= limit).all())
@@ -42,7 +36,6 @@ class Match(Limited):
             self.assertEqual(total, least_of_all(matrix, limit, maximize))
             for side, held, free in zip(shape, (found.rows, found.columns), (found.free_rows, found.free_columns)):
                 self.assertEqual(sorted([*held, *free]), list(range(side)))
-        self.assertLessEqual(ended, 40)
 
     def test_sparse_and_lists(self):
         rows, columns, costs = [0, 1, 1, 2], [0, 0, 2, 2], [0.5, 0.25, 0.75, 0.125]

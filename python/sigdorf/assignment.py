@@ -45,7 +45,7 @@ def solve(
     decimals: 0 to 9, for floats that stand for decimal numbers: what counts is costs * 10^decimals, which must be whole numbers to 10^9 in
         magnitude, and a float must be the one nearest to such a number, of its own type.
     start: the prices of an earlier solution of as many rows and columns, from which a run may be shorter, on the scale of whole costs times
-        rows + 1 (of decimals, 10^decimals times that). They may be wrong: any from 0 to 2^60.
+        the smaller side + 1 (of decimals, 10^decimals times that). They may be wrong: any from 0 to 2^60.
     bids: how many bids a phase may take, from 0 to 2^64 - 1.
 
     In place of the lists there may be one table: a matrix, dense (what is infinite is no entry) or sparse (what isn't stored is none), or a

@@ -15,7 +15,7 @@ TWO = [0, 0, 1, 1], [0, 1, 0, 1]
 
 class Random(Limited):
     def test_greater(self):
-        for number in range(100):
+        for number in range(60):
             floats.greater(f"greater {number}")
 
     def test_where_there_is_no_room_for_one_more(self):
@@ -23,21 +23,21 @@ class Random(Limited):
         with unittest.mock.patch.object(near, "_left_over", wraps=near._left_over) as left_over:
             for columns in range(3, 9):
                 with unittest.mock.patch.object(near, "MOST_OBJECTS", columns):
-                    for number in range(60):
+                    for number in range(30):
                         floats.floats(f"limits {number}", (number % (columns - 1) + 1, columns))
-        self.assertGreater(left_over.call_count, 10)
+        self.assertGreater(left_over.call_count, 5)
 
 
 def small(first):
     def test(_):
-        for number in range(first, first + 200):
+        for number in range(first, first + 100):
             floats.floats(f"small {number}")
 
     return test
 
 
 # One test of all would take too long on a busy machine.
-for first in range(0, 1600, 200):
+for first in range(0, 1600, 100):
     setattr(Random, f"test_small_from_{first}", small(first))
 
 

@@ -19,7 +19,7 @@ fn half_of_mean(rows: &ShortRows) -> usize {
         .unwrap_or(0)
 }
 
-/// The scaled spread of the costs divided by half of the mean row, by a power of 2 from 8 to 64, and at least 1. Where there are more objects than persons it is 1, so that there is one phase: a later one would
+/// The scaled spread of the costs divided by half of the mean row, by a power of 2 from 8 to 32, and at least 1. Where there are more objects than persons it is 1, so that there is one phase: a later one would
 /// leave prices to objects that nobody holds.
 pub(crate) fn first_eps(rows: &ShortRows) -> i64
     ensures range { IsEps result }
@@ -30,7 +30,6 @@ pub(crate) fn first_eps(rows: &ShortRows) -> i64
     }
     let eighth = rows.scale() * rows.spread() / STEP;
     let eps = match half_of_mean(rows) {
-        64.. => eighth / 8,
         32.. => eighth / 4,
         16.. => eighth / 2,
         _ => eighth,

@@ -10,7 +10,7 @@ COMMANDS = ["solve", "check", "hall", "mail"]
 
 def usage():
     """The lines of the usage, by command, as the program's source has them."""
-    text = (ROOT / "crates/auction/src/words_error.rt").read_text()
+    text = (ROOT / "crates/auction/src/usage.rt").read_text()
     return {name: re.search(rf"auction {name}\b.*", text)[0] for name in COMMANDS}
 
 

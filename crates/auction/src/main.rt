@@ -9,6 +9,7 @@ mod asked;
 mod grammar;
 mod numbers;
 mod usage;
+mod word_fault;
 mod words;
 mod words_error;
 mod wrong_words;

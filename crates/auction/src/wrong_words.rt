@@ -1,27 +1,10 @@
-//! Which of some words that are no job is at fault, and what was wanted, in a sentence. Whether words are a job, the parser tells
-//! (`words.rt`); this tells why not.
+//! Which of some words that are no job is at fault, and what was wanted. Whether words are a job, the parser tells (`words.rt`); this tells
+//! why not.
 
 use crate::numbers::{MOST_AUDIT, MOST_OBJECTS, MOST_WORKERS, number_in};
-use auc_messages::write_name;
+use crate::word_fault::{WordFault, nearest};
 use auc_run::MOST_BIDS;
 use std::alloc::{AllocError, Global};
-use std::io::Write;
-use strsim::jaro;
-
-/// How alike a wrong word and a right one are at least that is told beside it, from 0 to 1: that of `clap`.
-const ALIKE: f64 = 0.7;
-
-/// What is wrong with some words.
-#[derive(Debug, Drop)]
-pub(crate) struct WordFault<'a> {
-    // What stands before the word in the sentence, the word, and what stands behind it where no right word is near.
-    before: &'static str,
-    word: Option<&'a str>,
-    behind: &'static str,
-    // The right word that is like it, without its hyphens, and these.
-    nearest: Option<&'static str>,
-    hyphens: &'static str,
-}
 
 /// A command.
 #[derive(Clone, Copy, Debug, PartialEq, Eq)]
@@ -53,77 +36,6 @@ struct Walk<'a> {
     is_plain: bool,
     // The option before this word, where its value is to come.
     awaited: Option<(&'a str, Wanted)>,
-}
-
-impl<'a> WordFault<'a> {
-    fn alone(before: &'static str) -> WordFault<'a> {
-        WordFault {
-            before,
-            word: None,
-            behind: "",
-            nearest: None,
-            hyphens: "",
-        }
-    }
-
-    fn about(before: &'static str, word: &'a str, behind: &'static str) -> WordFault<'a> {
-        WordFault {
-            before,
-            word: Some(word),
-            behind,
-            nearest: None,
-            hyphens: "",
-        }
-    }
-
-    /// Writes it in one sentence, with no control character of the word.
-    pub fn write<W: Write>(&self, writer: &mut W) {
-        let _ = writer.write_all(b"auction: ");
-        let _ = writer.write_all(self.before.as_bytes());
-        if let Some(word) = self.word {
-            let _ = writer.write_all(b"`");
-            let _ = write_name(writer, word);
-            let _ = writer.write_all(b"`");
-        }
-        match self.nearest {
-            Some(nearest) => {
-                let _ = writer.write_all(b"; did you mean `");
-                let _ = writer.write_all(self.hyphens.as_bytes());
-                let _ = writer.write_all(nearest.as_bytes());
-                let _ = writer.write_all(b"`?\n");
-            }
-            None => {
-                let _ = writer.write_all(self.behind.as_bytes());
-                let _ = writer.write_all(b"\n");
-            }
-        }
-    }
-}
-
-/// How alike two words are, from 0 to 1; in capitals a word is as right.
-fn likeness(alloc: Global, word: &str, other: &str) -> Result<f64, AllocError> {
-    if word.eq_ignore_ascii_case(other) {
-        return Ok(1.0);
-    }
-    jaro(alloc, word, other)
-}
-
-/// The right word that is most like a wrong one, where one is like it.
-fn nearest(
-    alloc: Global,
-    word: &str,
-    right: &[&'static str],
-) -> Result<Option<&'static str>, AllocError> {
-    let mut found = None;
-    let mut most = ALIKE;
-    for other in right {
-        let alike = likeness(alloc, word, other)?;
-        if alike > most {
-            most = alike;
-            found = Some(*other);
-        }
-    }
-    Ok(found)
 }
 
 fn command_of(word: &str) -> Option<Command> {
@@ -288,14 +200,13 @@ impl<'a> Walk<'a> {
         }
         let option = parts_of(word).0;
         let Some(wanted) = wanted_of(self.command, option) else {
-            let mut fault = WordFault::about(
+            let nearest = nearest_option(alloc, self.command, option)?;
+            let fault = WordFault::about(
                 "this command has no option ",
                 option,
                 "; see auction --help",
             );
-            fault.nearest = nearest_option(alloc, self.command, option)?;
-            fault.hyphens = "--";
-            return Ok(Some(fault));
+            return Ok(Some(fault.with_nearest("--", nearest)));
         };
         if is_among(earlier, option) {
             return Ok(Some(WordFault::about("an option stands twice, ", option, "; give it once")));
@@ -352,9 +263,8 @@ fn fault_of_command<'a>(alloc: Global, word: &'a str) -> Result<WordFault<'a>, A
         ));
     }
     let behind = "; there are solve, check, hall and mail, and auction --help";
-    let mut fault = WordFault::about("no command ", word, behind);
-    fault.nearest = nearest(alloc, word, ["solve", "check", "hall", "mail"].as_slice())?;
-    Ok(fault)
+    let nearest = nearest(alloc, word, ["solve", "check", "hall", "mail"].as_slice())?;
+    Ok(WordFault::about("no command ", word, behind).with_nearest("", nearest))
 }
 
 /// What is wrong with words that are no job: the first word at fault, and the right one that is most like it, if one is.

@@ -1,12 +1,13 @@
 -- What a worker posts, one letter after another.
-use Rattle.std.proofs.Common.{◌≡◌, ◌≢◌, ◌⊎◌, ℕ, ◌<◌, ◌==◌, not, Bool, true, false, cond, List, [], ◌∷◌, ◌++◌, length, length-append, ◌≤◌, Some, None, refl, ap, sym, ◌∙◌, subst, inl, inr, arith, append_assoc}
+use Rattle.std.proofs.Common.{◌≡◌, ◌≢◌, ◌⊎◌, ℕ, ◌<◌, ◌==◌, not, Bool, true, false, cond, List, [], ◌∷◌, ◌++◌, length, length-append, ◌≤◌, Some, None, refl, ap, sym, ◌∙◌, subst, inl, inr, arith, append_assoc, All, get_or}
 use Rattle.std.specs.Prelude.{Option, Result, Ok, Err, is_err}
 use Rattle.std.proofs.lemmas.Bool.{ne_eqb}
 use Rattle.std.proofs.lemmas.List.{append-nil}
-use Rattle.std.proofs.lemmas.List.Elements.{filter-append}
+use Rattle.std.proofs.lemmas.List.Elements.{All-head, All-tail, filter-append}
 use Rattle.auc_letters.specs.declared.letter.Letter.{Letter}
 use Rattle.auc_letters.specs.declared.letter.Why.{Why}
 use Rattle.auc_letters.specs.declared.out.Out.{Out}
+use Rattle.auc_letters.specs.declared.out.To.{To}
 use Rattle.auc_letters.specs.Routing.{to_hub}
 use Rattle.auc_mail.specs.declared.call.Call.{Call}
 use Rattle.auc_mail.specs.declared.call.Reply.{Reply}
@@ -17,7 +18,10 @@ use Rattle.auc_book.specs.declared.error.TrailFull.{TrailFull}
 use Rattle.auc_book.specs.declared.line.TrailLine.{TrailLine}
 use Rattle.auc_book.specs.Replies.{close_reply, post_reply, take_reply}
 use Rattle.auc_book.specs.Seat.{Account, SeatCalls}
+use Rattle.auc_model.specs.Mails.{box_of}
+use Rattle.auc_answers.specs.Boxes.{Reaches, boxes_in, name_of}
 use Rattle.auc_threads.specs.declared.calls.Step.{Step}
+use Rattle.auc_threads.specs.Taking.{GoesWithin}
 use Rattle.auc_threads.specs.Posting.{Ends, IsOver, Lined, Posts, PostsAt, Says, Sent, is_to_hub, lines_by, lines_sent, lines_stopped, post_of, step_after, step_of, step_without, to_shards, to_the_hub}
 
 -- ---- lines
@@ -228,6 +232,40 @@ says_hub rp rh p h h' o step hub f =
       persons = lined_as rp p p [] (lines_sent p.worker (to_shards f.posts)) (ap (lines_sent p.worker) (sym gone)) (lined_none rp p);
       hub = lined_as rh h h' (lines_sent h.worker f.posts) (lines_sent h.worker (to_the_hub f.posts)) (ap (lines_sent h.worker) (sym kept)) f.lined;
     }
+
+-- letters of which none goes to the hub
+shards_only : (os : List Out) (xs : List Sent) (step : Step) → All (λ o. is_to_hub o.to ≡ false) os → Posts os xs step → (to_shards xs ≡ xs) × (to_the_hub xs ≡ [])
+shards_only [] [] step others f = (refl, refl)
+shards_only [] (x ∷ xs) step others f = absurd f
+shards_only (o ∷ os) [] step others f = absurd f
+shards_only (o ∷ os) (x ∷ xs) step others f =
+    let test : is_to_hub x.out.to ≡ false = ap (λ (u : Out). is_to_hub u.to) f.0 ∙ All-head (λ (u : Out). is_to_hub u.to ≡ false) o os others in
+    let rest : (to_shards xs ≡ xs) × (to_the_hub xs ≡ []) =
+    elim f.1 [
+      | inl on ↦ shards_only os xs step (All-tail (λ (u : Out). is_to_hub u.to ≡ false) o os others) on.1
+      | inr end ↦ (ap to_shards end.1 ∙ sym end.1, ap to_the_hub end.1)
+    ] in (
+      ap (λ b. cond (not b) (x ∷ to_shards xs) (to_shards xs)) test ∙ ap (λ w. x ∷ w) rest.0,
+      ap (λ b. cond b (x ∷ to_the_hub xs) (to_the_hub xs)) test ∙ rest.1,
+    )
+
+pub says_shards : (rp rh : ℕ) (p h p' : Account Letter) (os : List Out) (step : Step) → All (λ o. is_to_hub o.to ≡ false) os → PostsAt rp p os p' step → Says rp rh p h os p' h step
+says_shards rp rh p h p' os step others f =
+    let only = shards_only os f.posts step others f.posted in
+    record {
+      posts = f.posts;
+      posted = f.posted;
+      persons = lined_as rp p p' (lines_sent p.worker f.posts) (lines_sent p.worker (to_shards f.posts)) (ap (lines_sent p.worker) (sym only.0)) f.lined;
+      hub = lined_as rh h h [] (lines_sent h.worker (to_the_hub f.posts)) (ap (lines_sent h.worker) (sym only.1)) (lined_none rh h);
+    }
+
+within_to : (shards : ℕ) (to : To) → is_to_hub to ≡ false → box_of to < boxes_in shards (name_of to) → box_of to < shards
+within_to shards To.Hub e l = absurd cc
+within_to shards (To.Person s) e l = l
+within_to shards (To.Object q) e l = l
+
+pub within_shards : (boxes shards : ℕ) (os : List Out) → boxes ≡ shards → All (Reaches shards) os → All (λ o. is_to_hub o.to ≡ false) os → All (GoesWithin boxes) os
+within_shards boxes shards os e reach others k d l = subst (λ (n : ℕ). box_of (get_or os k d).to < n) (sym e) (within_to shards (get_or os k d).to (others k d l) (reach k d l))
 
 pub says_then : (rp rh : ℕ) (p h q i r j : Account Letter) (os ps : List Out) (step : Step) → Says rp rh p h os q i Step.On → Says rp rh q i ps r j step → Says rp rh p h (os ++ ps) r j step
 says_then rp rh p h q i r j os ps step f g =

@@ -8,16 +8,12 @@ ghost use Rattle.auc_answers.specs.Shards.{IsPersonShard};
 ghost use Rattle.auc_threads.specs.Taking.{GoesWithin};
 ghost use Rattle.auc_threads.specs.Buying.{Asks};
 ghost use Rattle.auc_threads.specs.Hearing.{SomebodyStuck};
-ghost use Rattle.auc_threads.specs.Posting.{PostsAt};
 
-use crate::calls::{BATCH, Step, hold, post_all};
-use crate::gate::Gate;
+use crate::calls::{BATCH, Step};
 use crate::task::Task;
 use arrayvec::ArrayVec;
-use auc_book::{MailBrand, Seat, SharedMail};
-use auc_letters::{Letter, Out, Why};
+use auc_letters::{Out, Why};
 use auc_persons::{Bidding, Candidates, PersonShard};
-use std::sync::Wait;
 
 /// A shard of the persons, and the lists by which it bids.
 #[derive(Drop)]
@@ -71,24 +67,4 @@ pub(crate) fn ask_all(
         }
     }
     Step::On
-}
-
-/// Posts the bids in order.
-pub(crate) fn send_bids<N: MailBrand, R: Wait, G: Gate>(
-    rt: &R,
-    gate: &G,
-    mail: &SharedMail<Letter, N>,
-    seat: &mut Seat<Letter, N>,
-    bids: &[Out],
-) -> Step
-    requires { All (GoesWithin N.boxes) bids.now }
-    ensures { PostsAt N.room seat.old bids.now seat.new result }
-{
-    if bids.is_empty() {
-        return Step::On;
-    }
-    let mut held = hold(rt, gate, mail, seat.worker());
-    let step = post_all(&mut held, seat, bids);
-    held.release();
-    step
 }

@@ -135,3 +135,23 @@ pub(crate) fn post_all<N: MailBrand>(
     }
     Step::On
 }
+
+/// Posts letters in order under one lock, until one of them ends the worker.
+pub(crate) fn send<N: MailBrand, R: Wait, G: Gate>(
+    rt: &R,
+    gate: &G,
+    mail: &SharedMail<Letter, N>,
+    seat: &mut Seat<Letter, N>,
+    letters: &[Out],
+) -> Step
+    requires { All (GoesWithin N.boxes) letters.now }
+    ensures { PostsAt N.room seat.old letters.now seat.new result }
+{
+    if letters.is_empty() {
+        return Step::On;
+    }
+    let mut held = hold(rt, gate, mail, seat.worker());
+    let step = post_all(&mut held, seat, letters);
+    held.release();
+    step
+}

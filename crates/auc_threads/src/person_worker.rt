@@ -8,8 +8,8 @@ ghost use Rattle.auc_threads.specs.Buying.{Buys};
 ghost use Rattle.auc_threads.specs.Hearing.{Hears, SomebodyStuck};
 ghost use Rattle.auc_threads.specs.Starts.{IsPersonWork};
 
-use crate::bidding::{Buyer, ask_all, send_bids};
-use crate::calls::{BATCH, Step};
+use crate::bidding::{Buyer, ask_all};
+use crate::calls::{BATCH, Step, send};
 use crate::gate::Gate;
 use crate::hearing::hear_next;
 use crate::mails::WorkerSeats;
@@ -59,7 +59,7 @@ fn serve<O: MailBrand, P: MailBrand, H: MailBrand, R: Wait, G: Gate>(
     bids.clear();
     let asked = ask_all(&run.task, number, &mut worker.buyer, bids);
     let mail = &run.mails.objects;
-    let sent = send_bids(rt, gate, mail, &mut worker.seats.objects, bids.as_slice());
+    let sent = send(rt, gate, mail, &mut worker.seats.objects, bids.as_slice());
     if sent != Step::On {
         return sent;
     }

@@ -1,16 +1,23 @@
 //! What a worker of the objects says of the bids that it has dealt with.
 
-ghost use Rattle.std.specs.Prelude.{◌≡◌, ◌<◌, [], ◌∷◌, All};
+ghost use Rattle.std.specs.Prelude.{◌≡◌, ◌<◌, [], ◌∷◌, false, All};
 ghost use Rattle.auc_answers.specs.Boxes.{Reaches};
-ghost use Rattle.auc_threads.specs.Posting.{Says};
+ghost use Rattle.auc_threads.specs.Posting.{Says, is_to_hub};
 
-use crate::calls::{Step, hold, post};
+use crate::calls::{Step, hold, post, send};
 use crate::gate::Gate;
 use crate::mails::WorkerSeats;
 use crate::task::PhaseRun;
 use auc_book::{HeldMail, MailBrand};
 use auc_letters::{Letter, Out, To};
 use std::sync::Wait;
+
+/// Whether a letter goes to the hub.
+fn is_to_hub(to: To) -> bool
+    ensures { result ≡ is_to_hub to }
+{
+    matches!(to, To::Hub)
+}
 
 /// Posts a letter to the persons or to the hub.
 fn post_one<O: MailBrand, P: MailBrand, H: MailBrand>(
@@ -25,7 +32,7 @@ fn post_one<O: MailBrand, P: MailBrand, H: MailBrand>(
     ensures objects { seats.new.objects ≡ seats.old.objects }
     ensures says { Says P.room H.room seats.old.persons seats.old.hub (out ∷ []) seats.new.persons seats.new.hub result }
 {
-    if matches!(&out.to, To::Hub) {
+    if is_to_hub(out.to) {
         return post(hub, &mut seats.hub, out);
     }
     post(persons, &mut seats.persons, out)
@@ -53,8 +60,20 @@ fn post_each<O: MailBrand, P: MailBrand, H: MailBrand>(
     Step::On
 }
 
-/// Says what is to be said of the bids that were dealt with, in order. The gate is passed for both mails before either is locked, and the hub's lock is
-/// always taken behind the persons'.
+/// Whether some letter goes to the hub.
+fn has_first(said: &[Out]) -> bool
+    ensures { result ≡ false → All (λ o. is_to_hub o.to ≡ false) said.now }
+{
+    for out in said {
+        if is_to_hub(out.to) {
+            return true;
+        }
+    }
+    false
+}
+
+/// Says what is to be said of the bids that were dealt with, in order. The hub's lock is taken only where something goes to it. Then the gate is passed for both
+/// mails before either is locked, and the hub's lock is always taken behind the persons'; that one is given up first, since the persons wait for it.
 pub(crate) fn tell<O: MailBrand, P: MailBrand, H: MailBrand, R: Wait, G: Gate>(
     rt: &R,
     gate: &G,
@@ -66,15 +85,15 @@ pub(crate) fn tell<O: MailBrand, P: MailBrand, H: MailBrand, R: Wait, G: Gate>(
     ensures objects { seats.new.objects ≡ seats.old.objects }
     ensures says { Says P.room H.room seats.old.persons seats.old.hub said.now seats.new.persons seats.new.hub result }
 {
-    if said.is_empty() {
-        return Step::On;
+    if !has_first(said) {
+        return send(rt, gate, &run.mails.persons, &mut seats.persons, said);
     }
     let worker = seats.objects.worker();
     gate.pass(worker);
     let mut persons = hold(rt, gate, &run.mails.persons, worker);
     let mut hub = run.mails.hub.hold(rt);
     let step = post_each(&mut persons, &mut hub, seats, said);
-    hub.release();
     persons.release();
+    hub.release();
     step
 }

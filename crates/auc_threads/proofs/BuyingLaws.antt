@@ -16,7 +16,8 @@ use Rattle.auc_threads.specs.Taking.{TookMore}
 use Rattle.auc_threads.specs.Posting.{IsOver, Posts, PostsAt, first_step, lines_sent}
 use Rattle.auc_threads.specs.Buying.{Act, AfterActs, AfterAsks, Asks, Buys, Hear, Listens, ListensTo, Make, Plays, heard_in, made_in}
 use Rattle.auc_threads.proofs.TakingLaws.{took_nil, took_then}
-use Rattle.auc_threads.proofs.PostingLaws.{at_none, at_then, posts_bids, posts_long, sent_full, sent_long}
+use Rattle.auc_threads.proofs.PostingLaws.{at_none, at_then, posts_long, sent_full, sent_long}
+use Rattle.auc_threads.proofs.StepLaws.{posts_bids}
 
 pub plays_then : (t : Table) (eps : ℤ) (s m n : Persons) (xs ys : List Act) → Plays t eps s xs m → Plays t eps m ys n → Plays t eps s (xs ++ ys) n
 plays_then t eps s m n [] ys f g = subst (λ (z : Persons). Plays t eps z ys n) f g
@@ -65,11 +66,10 @@ plays_bids t eps s n (Make o ∷ acts) f =
     let used : f.0.bids ≡ s.bids - 1 = ap (λ (z : Persons). z.bids) f.1.2.5 in
     omega (arith, plays_bids t eps f.0 n acts f.2, some, used)
 
--- no more bids were posted than are allowed, and where they were all accepted just as many as were made
-pub bids_few : (t : Table) (eps : ℤ) (ro rp : ℕ) (s n : Persons) (a a' p p' : Account Letter) (step : Step) → Buys t eps ro rp s a p n a' p' step → 0 < ro → a.lines ≡ [] → length a'.lines ≤ s.bids
-bids_few t eps ro rp s n a a' p p' step f some none =
-    let lines : a'.lines ≡ lines_sent a.worker f.posts.posts = f.posts.lined.told some ∙ ap (λ w. w ++ lines_sent a.worker f.posts.posts) none in
-    omega (arith, ap length lines, sent_long a.worker f.posts.posts, posts_long (made_in f.acts) f.posts.posts f.posts_step f.posts.posted, plays_bids t eps s n f.acts f.plays)
+-- where the worker had made no call of that mail, its seat there counts no more bids than are allowed
+pub bids_few : (t : Table) (eps : ℤ) (ro rp : ℕ) (s n : Persons) (a a' p p' : Account Letter) (step : Step) → Buys t eps ro rp s a p n a' p' step → a.count ≡ 0 → a'.count ≤ s.bids
+bids_few t eps ro rp s n a a' p p' step f none =
+    omega (arith, none, f.posts.lined.counted, sent_long a.worker f.posts.posts, posts_long (made_in f.acts) f.posts.posts f.posts_step f.posts.posted, plays_bids t eps s n f.acts f.plays)
 
 bids_stop : (x y : Step) → Step.Stop Why.Bids ≡ first_step x y → (x ≢ Step.Stop Why.Bids) → (x ≡ Step.On) × (y ≡ Step.Stop Why.Bids)
 bids_stop Step.On y e ne = (refl, sym e)
@@ -91,13 +91,19 @@ none_left t eps n fault h =
     no_fault PersonFault.Stray e = cc
     no_fault PersonFault.Fell e = cc
 
-pub bids_spent : (t : Table) (eps : ℤ) (ro rp : ℕ) (s n : Persons) (a a' p p' : Account Letter) (step : Step) → Buys t eps ro rp s a p n a' p' step → 0 < ro → a.lines ≡ [] → step ≡ Step.Stop Why.Bids → length a'.lines ≡ s.bids
-bids_spent t eps ro rp s n a a' p p' step f some none stop =
+-- and just so many where they ended it
+pub bids_spent : (t : Table) (eps : ℤ) (ro rp : ℕ) (s n : Persons) (a a' p p' : Account Letter) (step : Step) → Buys t eps ro rp s a p n a' p' step → a.count ≡ 0 → step ≡ Step.Stop Why.Bids → a'.count ≡ s.bids
+bids_spent t eps ro rp s n a a' p p' step f none stop =
     let both = bids_stop f.posts_step f.acts_step (sym stop ∙ f.is) (posts_bids (made_in f.acts) f.posts.posts f.posts_step f.posts.posted) in
-    let lines : a'.lines ≡ lines_sent a.worker f.posts.posts = f.posts.lined.told some ∙ ap (λ w. w ++ lines_sent a.worker f.posts.posts) none in
     let posted : Posts (made_in f.acts) f.posts.posts Step.On = subst (λ (x : Step). Posts (made_in f.acts) f.posts.posts x) both.0 f.posts.posted in
     let left : n.bids ≡ 0 = none_left t eps n f.fault (subst (λ (x : Step). AfterActs t eps n f.fault x) both.1 f.after) in
-    omega (arith, ap length lines, sent_full a.worker (made_in f.acts) f.posts.posts posted, plays_bids t eps s n f.acts f.plays, left)
+    omega (arith, none, f.posts.lined.counted, sent_full a.worker (made_in f.acts) f.posts.posts posted, plays_bids t eps s n f.acts f.plays, left)
+
+-- where there is room for lines, each call has its line
+pub bids_lined : (t : Table) (eps : ℤ) (ro rp : ℕ) (s n : Persons) (a a' p p' : Account Letter) (step : Step) → Buys t eps ro rp s a p n a' p' step → 0 < ro → a.count ≡ 0 → a.lines ≡ [] → length a'.lines ≡ a'.count
+bids_lined t eps ro rp s n a a' p p' step f some fresh none =
+    let lines : a'.lines ≡ lines_sent a.worker f.posts.posts = f.posts.lined.told some ∙ ap (λ w. w ++ lines_sent a.worker f.posts.posts) none in
+    omega (arith, ap length lines, f.posts.lined.counted, fresh)
 
 -- ---- asking
 

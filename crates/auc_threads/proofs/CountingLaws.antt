@@ -126,3 +126,15 @@ hub_guard room persons a false why b c =
             | inr stray ↦ ((λ e. (let f = sym stray.0 ∙ e in cc)), (λ e. (let f = sym stray.0 ∙ e in cc)))
           ]
     ]
+
+pub hub_bids : (room persons : ℕ) (a : Account Letter) (is_all : Bool) (why : Option Why) (b : Account Letter) → Counts room persons a is_all why b → why ≢ Some Why.Bids
+hub_bids room persons a true why b c e = (let f = sym (c.quiet refl) ∙ e in cc)
+hub_bids room persons a false why b c e =
+    elim (c.ends refl) [
+      | inl none ↦ (let f = sym none.0 ∙ e in cc)
+      | inr some ↦
+          elim some [
+            | inl trail ↦ (let f = sym trail.0 ∙ e in cc)
+            | inr stray ↦ (let f = sym stray.0 ∙ e in cc)
+          ]
+    ]

@@ -1,5 +1,5 @@
 -- What a phase comes to, of what its workers gave back.
-use Rattle.std.proofs.Common.{◌≡◌, ◌≢◌, ℕ, zero, suc, ◌+◌, ◌*◌, ◌%◌, ◌<◌, List, [], ◌∷◌, ◌++◌, Some, None, length, map, get_or, Bool, refl, ap, sym, ◌∙◌, subst, arith, append_assoc, All, inl, inr}
+use Rattle.std.proofs.Common.{◌≡◌, ◌≢◌, ℕ, zero, suc, ◌+◌, ◌*◌, ◌%◌, ◌<◌, ◌≤◌, List, [], ◌∷◌, ◌++◌, Some, None, length, map, get_or, Bool, refl, ap, sym, ◌∙◌, subst, arith, append_assoc, All, inl, inr}
 use Rattle.std.specs.Prelude.{ℤ, pos, Option, IfSome, IsTrue, ◌↔◌}
 use Rattle.std.proofs.lemmas.Bool.{cases_lt}
 use Rattle.std.proofs.lemmas.List.Elements.{All-cons, All-head, All-nil, All-tail}
@@ -8,7 +8,9 @@ use Rattle.auc_threads.specs.Hearing.{Falls, SomebodyStuck}
 use Rattle.std.proofs.lemmas.List.{length-map}
 use Rattle.auc_threads.specs.Counting.{Closes, Counts, firsts_in}
 use Rattle.auc_threads.specs.Worked.{AreWorked, IsHub, end_by, first_some}
-use Rattle.auc_threads.proofs.WorkedLaws.{buyer_told, seller_told}
+use Rattle.auc_threads.proofs.BuyingLaws.{bids_few, bids_spent}
+use Rattle.auc_threads.proofs.StepLaws.{why_stop}
+use Rattle.auc_threads.proofs.WorkedLaws.{buyer_told, first_whose, seller_told, stopped_for, value_at}
 use Rattle.auc_letters.specs.declared.letter.Letter.{Letter}
 use Rattle.auc_letters.specs.declared.letter.Why.{Why}
 use Rattle.auc_letters.specs.declared.state.Held.{Held}
@@ -22,7 +24,7 @@ use Rattle.auc_answers.specs.declared.limits.Limits.{Limits}
 use Rattle.auc_answers.proofs.NewShards.{replicate_default}
 use Rattle.auc_threads.specs.Placed.{Placed}
 use Rattle.auc_threads.specs.Gathering.{Gathers, IsOwnShard}
-use Rattle.auc_threads.specs.Phase.{IsRun, IsToldBy, price_in, taken_by, unsold}
+use Rattle.auc_threads.specs.Phase.{AreCounted, IsRun, IsToldBy, price_in, taken_by, unsold}
 use Rattle.auc_threads.specs.Naming.{IsNamed, hub_nodes, objects_nodes, persons_nodes, workers_of}
 use Rattle.auc_threads.specs.declared.phase.PhaseEnd.{PhaseEnd}
 use Rattle.auc_threads.specs.declared.task.Task.{Task}
@@ -70,6 +72,9 @@ module _ {X : Type 0} (f : X → Objects) (a p h : X → Account Letter) (y : X 
       placed_all (λ k w. IsObjectResult task r₁ r₂ r₃ k (f w) (a w) (p w) (h w) (y w)) (λ w. (y w ≢ Some Why.Stuck) × (y w ≢ Some Why.Fell)) xs
       (λ k w r. r.no_guard) results
 
+  pub no_bids : All (λ w. y w ≢ Some Why.Bids) xs
+  no_bids = placed_all (λ k w. IsObjectResult task r₁ r₂ r₃ k (f w) (a w) (p w) (h w) (y w)) (λ w. y w ≢ Some Why.Bids) xs (λ k w r. r.no_bids) results
+
   -- each object's price and holder, by the trail
   pub sold_told : (trail : List (TrailLine Letter)) (j : ℕ) (price : ℤ) (holder : Option Held) → 0 < r₁ → All (λ w. Agrees trail (a w)) xs → length xs ≡ task.limits.now.shards → 0 < task.limits.now.shards → j < length task.prices.now
       → ((d : X) → Gathers (f (get_or xs (j % task.limits.now.shards) d)) j price holder)
@@ -109,6 +114,34 @@ module _ {X : Type 0} (f : X → Persons) (a p h : X → Account Letter) (y : X 
       let lines : lines_of s.0 trail ≡ (p x).lines = ap (λ (m : ℕ). lines_of m trail) (sym r.seat) ∙ subst (λ w. Agrees trail (p w)) (at.2 x) (agree s.0 x s.1) in
       let falls : Falls (price_in task.prices.now) r.work.hears.letters = r.work.hears.hears.falls (ap y (sym (at.2 x)) ∙ s.2 x) in
       (s.0, omega (arith, s.1, many), subst (λ ls. Falls (price_in task.prices.now) ls) (sym told ∙ ap letters_in (sym lines)) falls)
+
+  -- the bids that they posted, by their seats at the objects' mail
+  pub counted_told : (bids : List ℕ) (whys : List (Option Why)) (last : Option Why) (is_all : Bool) (end : Option End) → bids ≡ map (λ w. (a w).count) xs → length xs ≡ task.limits.now.shards
+      → end ≡ end_by is_all (first_some ((map y xs ++ whys) ++ last ∷ [])) → first_some whys ≢ Some Why.Bids → last ≢ Some Why.Bids → AreCounted task.limits.now bids end
+  counted_told bids whys last is_all end is many ends others here =
+      let count : X → ℕ = λ w. (a w).count in
+      record {
+        many = ap length is ∙ (length-map xs count ∙ many);
+        few = subst (λ ns. All (λ n. n ≤ task.limits.now.bids) ns) (sym is) few;
+        spent = λ e. (
+            let s = first_whose y xs whys last Why.Bids (stopped_for is_all _ end Why.Bids ends e) others here in
+            let known = s.1 in
+            let at = placed_some (λ k w. IsPersonResult task r₁ r₂ r₃ k (f w) (a w) (p w) (h w) (y w)) 0 xs s.0 results known in
+            let x = at.0 in
+            let r = at.1 in
+            let stop = why_stop r.work.step (y x) Why.Bids r.work.why_is (ap y (sym (at.2 x)) ∙ s.2 x) in
+            let all : (a x).count ≡ task.limits.now.bids = bids_spent _ _ _ _ _ _ _ _ _ _ _ r.work.buys refl stop in
+            (s.0, omega (arith, known, many), ap (λ ns. get_or ns s.0 0) is ∙ (sym (value_at count 0 xs s.0 x known at.2) ∙ all)));
+      }
+    where
+      few : All (λ n. n ≤ task.limits.now.bids) (map (λ w. (a w).count) xs)
+      few k d low =
+          let known : k < length xs = omega (arith, low, length-map xs (λ w. (a w).count)) in
+          let at = placed_some (λ k w. IsPersonResult task r₁ r₂ r₃ k (f w) (a w) (p w) (h w) (y w)) 0 xs k results known in
+          let x = at.0 in
+          let r = at.1 in
+          let one : (a x).count ≤ task.limits.now.bids = bids_few _ _ _ _ _ _ _ _ _ _ _ r.work.buys refl in
+          subst (λ (n : ℕ). n ≤ task.limits.now.bids) (value_at (λ w. (a w).count) d xs k x known at.2) one
 
 -- the hub's
 pub all_told : (room persons w : ℕ) (is_all : Bool) (why : Option Why) (b : Account Letter) (trail : List (TrailLine Letter)) → 0 < room → Counts room persons (new_account w) is_all why b → Agrees trail b
@@ -191,7 +224,7 @@ module _ {X Z : Type 0} (f : X → Persons) (a p h : X → Account Letter) (y : 
     (so sp sh : List (Account Letter)) (eo : so ≡ (map a xs ++ map b zs) ++ hub_objects ∷ []) (ep : sp ≡ (map p xs ++ map q zs) ++ hub_persons ∷ []) (eh : sh ≡ (map h xs ++ map i zs) ++ hub ∷ [])
     (closed_o : Closes ro bo (new_account (2 * task.limits.now.shards)) hub_objects) (closed_p : Closes rp bp (new_account (2 * task.limits.now.shards)) hub_persons)
     (end_is : e.end ≡ end_by is_all (first_some ((map y xs ++ map z zs) ++ hub_why ∷ [])))
-    (trails : Trails) where
+    (counted : e.bids.items ≡ map (λ w. (a w).count) xs) (trails : Trails) where
   hub_is : Agrees trails.objects hub_objects → Agrees trails.persons hub_persons → Agrees trails.hub hub → IsHub task.rows.now task.limits.now trails is_all hub_why
   hub_is agree_o agree_p agree_h =
       let w : Account Letter = new_account (2 * task.limits.now.shards) in
@@ -212,7 +245,7 @@ module _ {X Z : Type 0} (f : X → Persons) (a p h : X → Account Letter) (y : 
         };
       }
 
-  worked : IsSettled bo wo no mo ro so trails.objects → IsSettled bp wp np mp rp sp trails.persons → IsSettled bh wh nh mh rh sh trails.hub → AreWorked task.rows.now task.limits.now task.eps task.prices.now trails e.end
+  worked : IsSettled bo wo no mo ro so trails.objects → IsSettled bp wp np mp rp sp trails.persons → IsSettled bh wh nh mh rh sh trails.hub → AreWorked task.rows.now task.limits.now task.eps task.prices.now trails e.bids.items e.end
   worked o u v = record {
     person_reasons = map y xs;
     object_reasons = map z zs;
@@ -220,7 +253,7 @@ module _ {X Z : Type 0} (f : X → Persons) (a p h : X → Account Letter) (y : 
     is_all = is_all;
     buyers =
         buyer_told f a p h y task ro rp rh xs bought o.kept named_o.room_is named_p.room_is named_h.room_is trails
-        (all_first (Agrees trails.objects) a b xs zs hub_objects so eo o.agree) (all_first (Agrees trails.persons) p q xs zs hub_persons sp ep u.agree) (all_first (Agrees trails.hub) h i xs zs hub sh eh v.agree) persons_many;
+        (all_first (Agrees trails.objects) a b xs zs hub_objects so eo o.agree) (all_first (Agrees trails.persons) p q xs zs hub_persons sp ep u.agree) (all_first (Agrees trails.hub) h i xs zs hub sh eh v.agree) persons_many e.bids.items counted;
     sellers =
         seller_told g b q i z task ro rp rh zs sold named_o.room_is named_p.room_is named_h.room_is trails
         (all_second (Agrees trails.objects) a b xs zs hub_objects so eo o.agree) (all_second (Agrees trails.persons) p q xs zs hub_persons sp ep u.agree) (all_second (Agrees trails.hub) h i xs zs hub sh eh v.agree) objects_many;

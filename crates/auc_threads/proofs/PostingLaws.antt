@@ -22,19 +22,20 @@ use Rattle.auc_model.specs.Mails.{box_of}
 use Rattle.auc_answers.specs.Boxes.{Reaches, boxes_in, name_of}
 use Rattle.auc_threads.specs.declared.calls.Step.{Step}
 use Rattle.auc_threads.specs.Taking.{GoesWithin}
-use Rattle.auc_threads.specs.Posting.{Ends, IsOver, Lined, Posts, PostsAt, Says, Sent, is_to_hub, lines_by, lines_sent, lines_stopped, post_of, step_after, step_of, step_without, to_shards, to_the_hub}
+use Rattle.auc_threads.specs.Posting.{Ends, IsOver, Lined, Posts, PostsAt, Says, Sent, is_to_hub, lines_by, lines_sent, lines_stopped, post_of, step_after, step_of, to_shards, to_the_hub}
 
 -- ---- lines
 
 pub lined_none : (room : ℕ) (a : Account Letter) → Lined room a [] a
-lined_none room a = record { worker = refl; told = λ some. sym (append-nil a.lines) }
+lined_none room a = record { worker = refl; counted = omega arith; told = λ some. sym (append-nil a.lines) }
 
 pub lined_call : (room : ℕ) (a b : Account Letter) (c : Call Letter) (r : Option (Reply Letter)) → SeatCalls room a c r b → Lined room a (lines_by a.worker c r) b
-lined_call room a b c None h = record { worker = ap (λ (x : Account Letter). x.worker) h; told = λ some. ap (λ (x : Account Letter). x.lines) h ∙ sym (append-nil a.lines) }
+lined_call room a b c None h = record { worker = ap (λ (x : Account Letter). x.worker) h; counted = omega (arith, ap (λ (x : Account Letter). x.count) h); told = λ some. ap (λ (x : Account Letter). x.lines) h ∙ sym (append-nil a.lines) }
 lined_call room a b c (Some r) h =
     let line : TrailLine Letter = record { worker = a.worker; call = c; reply = r } in
     record {
       worker = h.0;
+      counted = h.1;
       told = λ some.
           let test : (room == 0) ≡ false = ne_eqb room 0 (λ e. absurd (omega (arith, e, some))) in
           h.2 ∙ ap (λ q. cond q a.lines (a.lines ++ line ∷ [])) test;
@@ -43,6 +44,7 @@ lined_call room a b c (Some r) h =
 pub lined_then : (room : ℕ) (a b c : Account Letter) (xs ys : List (TrailLine Letter)) → Lined room a xs b → Lined room b ys c → Lined room a (xs ++ ys) c
 lined_then room a b c xs ys f g = record {
   worker = g.worker ∙ f.worker;
+  counted = omega (arith, f.counted, g.counted, length-append xs ys);
   told = λ some. g.told some ∙ (ap (λ w. w ++ ys) (f.told some) ∙ append_assoc a.lines xs ys);
 }
 
@@ -138,32 +140,6 @@ sent_full k (o ∷ os) (x ∷ xs) f = elim f.1 [
       let h = sent_full k os xs on.1 in
       omega (arith, h, one_line k (post_of k x.out) x.out.letter x.answer on.0, length-append (lines_by k (post_of k x.out) (post_reply x.answer)) (lines_sent k xs)))
   | inr end ↦ absurd (end.0 (sym end.2))
-]
-
--- no post is refused for the limit of bids
-bids_without : (y : Letter) (why : Why) → why ≢ Why.Bids → step_without y why ≢ Step.Stop Why.Bids
-bids_without (Letter.Price j p) why ne e = cc
-bids_without (Letter.Bid i a j p) why ne e = ne (let f : Step.Stop why ≡ Step.Stop Why.Bids = e in cc)
-bids_without (Letter.Award i j p) why ne e = ne (let f : Step.Stop why ≡ Step.Stop Why.Bids = e in cc)
-bids_without (Letter.Refused i j p) why ne e = ne (let f : Step.Stop why ≡ Step.Stop Why.Bids = e in cc)
-bids_without (Letter.Outbid i j p) why ne e = ne (let f : Step.Stop why ≡ Step.Stop Why.Bids = e in cc)
-bids_without (Letter.First j) why ne e = ne (let f : Step.Stop why ≡ Step.Stop Why.Bids = e in cc)
-bids_without (Letter.Stop y) why ne e = ne (let f : Step.Stop why ≡ Step.Stop Why.Bids = e in cc)
-
-bids_after : (x : Letter) (r : Result ℕ CallRefused) → step_after x r ≢ Step.Stop Why.Bids
-bids_after x (Ok n) e = cc
-bids_after x (Err refused.TrailFull) e = cc
-bids_after x (Err refused.Closed) e = cc
-bids_after x (Err refused.Spent) e = bids_without x Why.Posts (λ f. cc) e
-bids_after x (Err refused.Full) e = bids_without x Why.Mail (λ f. cc) e
-
-pub posts_bids : (os : List Out) (xs : List Sent) (step : Step) → Posts os xs step → step ≢ Step.Stop Why.Bids
-posts_bids [] [] step f e = (let g : Step.On ≡ Step.Stop Why.Bids = sym f ∙ e in cc)
-posts_bids [] (x ∷ xs) step f e = absurd f
-posts_bids (o ∷ os) [] step f e = absurd f
-posts_bids (o ∷ os) (x ∷ xs) step f e = elim f.1 [
-  | inl on ↦ posts_bids os xs step on.1 e
-  | inr end ↦ bids_after x.out.letter x.answer (sym end.2 ∙ e)
 ]
 
 -- ---- at one mail

@@ -4,7 +4,7 @@ use Rattle.std.specs.Prelude.{ℤ, Option}
 use Rattle.std.proofs.lemmas.List.{length-replicate}
 use Rattle.auc_threads.specs.declared.calls.Step.{Step}
 use Rattle.auc_threads.specs.Dealing.{AfterLetters}
-use Rattle.auc_threads.proofs.StepLaws.{GuardFree, free_first, free_posts, free_why}
+use Rattle.auc_threads.proofs.StepLaws.{GuardFree, free_bids, free_first, free_posts, free_why}
 use Rattle.auc_threads.proofs.SalesLaws.{sells_of}
 use Rattle.auc_letters.specs.declared.letter.Letter.{Letter}
 use Rattle.auc_letters.specs.declared.letter.Why.{Why}
@@ -54,12 +54,14 @@ object_result task r₁ r₂ r₃ k eps s a p h t a' p' h' why promise work =
     let seat : Account Letter = new_account (task.limits.now.shards + k) in
     let done = begun_objects task r₁ r₂ r₃ k eps s a p h t a' p' h' why promise work in
     let serves = done.serves in
+    let free : GuardFree done.step = subst GuardFree (sym serves.is) (free_first serves.said_step serves.took_step (free_posts serves.said serves.tells.posts serves.said_step serves.tells.posted) (free_letters t serves.deals.dealt.stray serves.took_step serves.deals.dealt.after)) in
     record {
       seat = serves.deals.took.worker;
       persons_seat = serves.tells.persons.worker;
       hub_seat = done.ends.lined.worker ∙ serves.tells.hub.worker;
       sells = sells_of task.eps r₁ begun t seat a' serves.said serves.took_step (length-replicate (length task.prices.now) None) serves.deals;
-      no_guard = free_why done.step why (subst GuardFree (sym serves.is) (free_first serves.said_step serves.took_step (free_posts serves.said serves.tells.posts serves.said_step serves.tells.posted) (free_letters t serves.deals.dealt.stray serves.took_step serves.deals.dealt.after))) done.why_is;
+      no_guard = free_why done.step why free done.why_is;
+      no_bids = free_bids done.step why free done.why_is;
       work = done;
     }
 

@@ -14,7 +14,7 @@ use Rattle.auc_threads.specs.Posting.{Posts, PostsAt, Sent, first_step, step_aft
 abbrev pub GuardFree : Step → Type 0
 GuardFree Step.On = Unit {0}
 GuardFree Step.Over = Unit {0}
-GuardFree (Step.Stop Why.Bids) = Unit {0}
+GuardFree (Step.Stop Why.Bids) = ⊥
 GuardFree (Step.Stop Why.Ceiling) = Unit {0}
 GuardFree (Step.Stop Why.Stuck) = ⊥
 GuardFree (Step.Stop Why.Posts) = Unit {0}
@@ -56,7 +56,7 @@ free_first (Step.Stop why) y f g = f
 pub free_why : (step : Step) (why : Option Why) → GuardFree step → why ≡ why_of step → (why ≢ Some Why.Stuck) × (why ≢ Some Why.Fell)
 free_why Step.On why h e = ((λ f. (let g = sym e ∙ f in cc)), (λ f. (let g = sym e ∙ f in cc)))
 free_why Step.Over why h e = ((λ f. (let g = sym e ∙ f in cc)), (λ f. (let g = sym e ∙ f in cc)))
-free_why (Step.Stop Why.Bids) why h e = ((λ f. (let g = sym e ∙ f in cc)), (λ f. (let g = sym e ∙ f in cc)))
+free_why (Step.Stop Why.Bids) why h e = absurd h
 free_why (Step.Stop Why.Ceiling) why h e = ((λ f. (let g = sym e ∙ f in cc)), (λ f. (let g = sym e ∙ f in cc)))
 free_why (Step.Stop Why.Stuck) why h e = absurd h
 free_why (Step.Stop Why.Posts) why h e = ((λ f. (let g = sym e ∙ f in cc)), (λ f. (let g = sym e ∙ f in cc)))
@@ -68,6 +68,9 @@ free_why (Step.Stop Why.Stray) why h e = ((λ f. (let g = sym e ∙ f in cc)), (
 not_guard : (step : Step) → GuardFree step → (step ≢ Step.Stop Why.Stuck) × (step ≢ Step.Stop Why.Fell)
 not_guard step free = ((λ e. subst GuardFree e free), (λ e. subst GuardFree e free))
 
+pub posts_bids : (os : List Out) (xs : List Sent) (step : Step) → Posts os xs step → step ≢ Step.Stop Why.Bids
+posts_bids os xs step f e = subst GuardFree e (free_posts os xs step f)
+
 pub at_guard : (room : ℕ) (a b : Account Letter) (os : List Out) (step : Step) → PostsAt room a os b step → (step ≢ Step.Stop Why.Stuck) × (step ≢ Step.Stop Why.Fell)
 at_guard room a b os step f = not_guard step (free_posts os f.posts step f.posted)
 
@@ -77,6 +80,9 @@ pub why_stop : (step : Step) (why : Option Why) (y : Why) → why ≡ why_of ste
 why_stop Step.On why y e is = absurd (let g = sym e ∙ is in cc)
 why_stop Step.Over why y e is = absurd (let g = sym e ∙ is in cc)
 why_stop (Step.Stop w) why y e is = let g = sym e ∙ is in cc
+
+pub free_bids : (step : Step) (why : Option Why) → GuardFree step → why ≡ why_of step → why ≢ Some Why.Bids
+free_bids step why free e is = subst GuardFree (why_stop step why Why.Bids e is) free
 
 pub first_ended : (x y : Step) → x ≢ Step.On → x ≡ first_step x y
 first_ended Step.On y ne = absurd (ne refl)

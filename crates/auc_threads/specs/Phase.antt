@@ -1,5 +1,5 @@
 -- What a phase in threads comes to, and what its trails tell of it.
-use Rattle.std.specs.Prelude.{◌≡◌, ◌<◌, ◌+◌, ◌*◌, ◌%◌, ◌↔◌, ℕ, ℤ, pos, List, Some, None, length, IfSome, slice_index_or}
+use Rattle.std.specs.Prelude.{◌≡◌, ◌<◌, ◌≤◌, ◌+◌, ◌*◌, ◌%◌, ◌↔◌, ℕ, ℤ, pos, List, Option, Some, None, length, All, IfSome, slice_index_or}
 use Rattle.auc_graph.specs.Table.{Table}
 use Rattle.auc_letters.specs.declared.letter.Letter.{Letter}
 use Rattle.auc_letters.specs.declared.letter.Why.{Why}
@@ -40,6 +40,12 @@ unsold prices j = record { price = price_in prices j; holder = None }
 abbrev pub left_in : Gathered → ℕ → Sale
 left_in gathered j = record { price = price_in gathered.prices.items j; holder = slice_index_or gathered.holders.items j None }
 
+-- How many bids each shard of the persons has posted: no more than the limit, and just so many by one of them where the phase was stopped for that.
+pub record AreCounted (limits : Limits) (bids : List ℕ) (end : Option End) : Type 0 where
+  pub many : length bids ≡ limits.shards
+  pub few : All (λ n. n ≤ limits.bids) bids
+  pub spent : end ≡ Some (End.Stopped Why.Bids) → (k : ℕ) × (k < limits.shards) × (slice_index_or bids k 0 ≡ limits.bids)
+
 -- What the trails tell of a phase.
 pub record IsToldBy (t : Table) (limits : Limits) (eps : ℤ) (start : List ℤ) (p : PhaseEnd) (trails : Trails) : Type 0 where
   -- they are kept only where they have room
@@ -55,7 +61,7 @@ pub record IsToldBy (t : Table) (limits : Limits) (eps : ℤ) (start : List ℤ)
   -- a price fell only where a worker of the persons took one below the start price, or below an earlier one that he took
   pub fell : p.end ≡ Some (End.Stopped Why.Fell) → (k : ℕ) × (k < limits.shards) × Falls (price_in start) (taken_by k trails.persons)
   -- each worker did what it has to by the letters that it took, and the phase ended for the first of their reasons
-  pub worked : AreWorked t limits eps start trails p.end
+  pub worked : AreWorked t limits eps start trails p.bids.items p.end
 
 -- A phase at this eps, from these prices.
 pub record IsPhase (t : Table) (limits : Limits) (eps : ℤ) (start : List ℤ) (p : PhaseEnd) : Type 0 where
@@ -63,4 +69,6 @@ pub record IsPhase (t : Table) (limits : Limits) (eps : ℤ) (start : List ℤ) 
   pub prices : ArePrices t p.gathered.prices.items
   -- a person has no arc, where it was stopped for that
   pub stuck : p.end ≡ Some (End.Stopped Why.Stuck) → SomebodyStuck t
+  -- with trails or without
+  pub counted : AreCounted limits p.bids.items p.end
   pub told : IfSome p.trails (IsToldBy t limits eps start p)

@@ -1,5 +1,5 @@
 -- What a worker posts, what it is answered, and how it goes on.
-use Rattle.std.specs.Prelude.{◌≡◌, ◌≢◌, ◌⊎◌, ℕ, ◌<◌, Bool, true, false, not, List, [], ◌∷◌, ◌++◌, filter, Option, Some, None, Result, Ok, Err}
+use Rattle.std.specs.Prelude.{◌≡◌, ◌≢◌, ◌⊎◌, ℕ, ◌<◌, ◌+◌, Bool, true, false, not, List, [], ◌∷◌, ◌++◌, length, filter, Option, Some, None, Result, Ok, Err}
 use Rattle.auc_letters.specs.declared.letter.Letter.{Letter}
 use Rattle.auc_letters.specs.declared.letter.Why.{Why}
 use Rattle.auc_letters.specs.declared.out.Out.{Out}
@@ -64,9 +64,10 @@ abbrev pub lines_sent : ℕ → List Sent → List (TrailLine Letter)
 lines_sent k [] = []
 lines_sent k (x ∷ xs) = lines_by k (post_of k x.out) (post_reply x.answer) ++ lines_sent k xs
 
--- the worker stays, and where there is room for lines, it has these more
+-- the worker stays, and has made as many calls more; where there is room for lines, it has these more
 pub record Lined (room : ℕ) (a : Account Letter) (lines : List (TrailLine Letter)) (b : Account Letter) : Type 0 where
   pub worker : b.worker ≡ a.worker
+  pub counted : b.count ≡ a.count + length lines
   pub told : 0 < room → b.lines ≡ a.lines ++ lines
 
 -- The worker posted to one mail what had to be posted, and so goes on.

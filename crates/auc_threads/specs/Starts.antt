@@ -48,6 +48,7 @@ pub record IsObjectResult (task : Task) (objects_room persons_room hub_room : �
   pub hub_seat : h.worker ≡ task.limits.now.shards + k
   pub sells : Sells task.eps objects_room (new_objects task.limits.now.shards (length task.rows.now.rows) task.prices.now k) (new_account (task.limits.now.shards + k)) t a
   pub no_guard : (why ≢ Some Why.Stuck) × (why ≢ Some Why.Fell)
+  pub no_bids : why ≢ Some Why.Bids
   pub work : IsObjectWork task.eps objects_room persons_room hub_room (new_objects task.limits.now.shards (length task.rows.now.rows) task.prices.now k) (new_account (task.limits.now.shards + k)) (new_account (task.limits.now.shards + k)) (new_account (task.limits.now.shards + k)) t a p h why
 
 -- the same of the persons

@@ -23,14 +23,15 @@ pub record AreTold (trails : Trails) (w : ℕ) (objects persons hub : Account Le
   pub persons_lines : Agrees trails.persons persons
   pub hub_lines : Agrees trails.hub hub
 
--- The worker of the shard number k of the persons began with nothing, and this is its work. It posted no more bids than the limit.
-pub record IsBuyer (t : Table) (limits : Limits) (eps : ℤ) (start : List ℤ) (trails : Trails) (k : ℕ) (why : Option Why) : Type 0 where
+-- The worker of the shard number k of the persons began with nothing, and this is its work. It posted so many bids, and no more than the limit.
+pub record IsBuyer (t : Table) (limits : Limits) (eps : ℤ) (start : List ℤ) (trails : Trails) (bids k : ℕ) (why : Option Why) : Type 0 where
   pub left : Persons
   pub objects : Account Letter
   pub persons : Account Letter
   pub hub : Account Letter
   pub work : IsPersonWork t eps limits.audit limits.audit limits.audit (new_persons limits.shards (length t.rows) limits.bids start k) (new_account k) (new_account k) (new_account k) left objects persons hub why
   pub told : AreTold trails k objects persons hub
+  pub counted : length objects.lines ≡ bids
   pub few : length objects.lines ≤ limits.bids
   pub spent : why ≡ Some Why.Bids → length objects.lines ≡ limits.bids
 
@@ -66,12 +67,12 @@ end_by false None = None
 end_by false (Some why) = Some (End.Stopped why)
 
 -- What the trails tell of the workers, each with its reason to stop, if it has one; the first of these counts, of the persons, the objects and the hub.
-pub record AreWorked (t : Table) (limits : Limits) (eps : ℤ) (start : List ℤ) (trails : Trails) (end : Option End) : Type 0 where
+pub record AreWorked (t : Table) (limits : Limits) (eps : ℤ) (start : List ℤ) (trails : Trails) (bids : List ℕ) (end : Option End) : Type 0 where
   pub person_reasons : List (Option Why)
   pub object_reasons : List (Option Why)
   pub hub_reason : Option Why
   pub is_all : Bool
-  pub buyers : (k : ℕ) → k < limits.shards → IsBuyer t limits eps start trails k (slice_index_or person_reasons k None)
+  pub buyers : (k : ℕ) → k < limits.shards → IsBuyer t limits eps start trails (slice_index_or bids k 0) k (slice_index_or person_reasons k None)
   pub sellers : (k : ℕ) → k < limits.shards → IsSeller t limits eps start trails k (slice_index_or object_reasons k None)
   pub hub : IsHub t limits trails is_all hub_reason
   pub person_many : length person_reasons ≡ limits.shards

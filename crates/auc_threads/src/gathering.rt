@@ -42,6 +42,20 @@ pub(crate) fn gather<O: MailBrand, P: MailBrand, H: MailBrand>(
     Ok(Gathered { holders, prices })
 }
 
+/// How many bids each worker of the persons has posted: he makes no other call at the objects' mail, and his seat there counts them, with trails or without.
+pub(crate) fn bids_of<O: MailBrand, P: MailBrand, H: MailBrand>(
+    alloc: Global,
+    works: &[PersonWork<O, P, H>],
+) -> Result<Vec<u64>, AllocError>
+    ensures { IfOk result (λ v. v.items ≡ map (λ w. w.seats.objects.count) works.now) }
+{
+    let mut bids = Vec::with_capacity(alloc, works.len())?;
+    for work in works {
+        bids.push_reserved(work.seats.objects.count());
+    }
+    Ok(bids)
+}
+
 /// The reason of the first worker of the persons who stopped.
 fn persons_reason<O: MailBrand, P: MailBrand, H: MailBrand>(
     works: &[PersonWork<O, P, H>],

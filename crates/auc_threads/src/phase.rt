@@ -12,7 +12,7 @@ ghost use Rattle.auc_threads.specs.Starts.{IsObjectResult, IsPersonResult};
 
 use crate::error::RunError;
 use crate::gate::Gate;
-use crate::gathering::{end_of, gather};
+use crate::gathering::{bids_of, end_of, gather};
 use crate::mails::{Ledgers, Mails};
 use crate::running::{Works, run_in_scope, starts_of};
 use crate::settling::{Trails, seats_of, settle_all};
@@ -32,6 +32,8 @@ use std::thread::Threads;
 pub struct PhaseEnd {
     /// Who holds each object, and its price.
     pub gathered: Gathered,
+    /// How many bids each shard of the persons has posted, in order, those that were refused too.
+    pub bids: Vec<u64>,
     /// How it ended; None where nothing was said.
     pub end: Option<End>,
     /// The trails, where all three mails settled.
@@ -59,11 +61,13 @@ fn finish<O: MailBrand, P: MailBrand, H: MailBrand>(
 {
     let shards = task.limits.shards;
     let gathered = gather(alloc, task.rows.objects(), shards, works.objects.as_slice())?;
+    let bids = bids_of(alloc, works.persons.as_slice())?;
     let end = end_of(&works);
     let all = seats_of(alloc, works)?;
     let trails = settle_all(mails, all);
     Ok(PhaseEnd {
         gathered,
+        bids,
         end,
         trails,
     })

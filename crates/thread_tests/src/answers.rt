@@ -2,8 +2,9 @@
 
 use crate::problems::{ONE, ONE_OBJECT, THREE, TWO, limits_of, problem_of, run, run_from};
 use auc_graph::Rows;
+use auc_letters::Why;
 use auc_threads::{FreeGate, phase_threads};
-use auc_world::End;
+use auc_world::{End, Limits};
 use std::test::*;
 
 const SHARDS: [u32; 3] = [1, 2, 16];
@@ -110,5 +111,30 @@ fn a_phase_of_two_persons(rt: HostRuntime) -> Result<(), Fail> {
     assert_eq!(rt; ended.end, Some(End::All));
     assert_eq!(rt; ended.gathered.prices.as_slice(), [7i64, 5].as_slice());
     assert!(rt; ended.trails.is_some());
+    assert_eq!(rt; ended.bids.len(), 2);
+    Ok(())
+}
+
+#[test]
+fn no_more_bids_than_allowed(rt: HostRuntime) -> Result<(), Fail> {
+    let rows = Rows::build(rt.alloc(), &problem_of(rt.alloc(), TWO)?)?;
+    let prices = vec![in rt.alloc(); 0; rows.objects() as usize]?;
+    for audit in [0, 1000] {
+        let limits = Limits {
+            bids: 1,
+            ..limits_of(1, audit)?
+        };
+        let ended = phase_threads(
+            &rt,
+            rt.alloc(),
+            &rows,
+            &limits,
+            prices.as_slice(),
+            1,
+            &FreeGate,
+        )?;
+        assert_eq!(rt; ended.end, Some(End::Stopped { why: Why::Bids }));
+        assert_eq!(rt; ended.bids.as_slice(), [1u64].as_slice());
+    }
     Ok(())
 }

@@ -1,6 +1,8 @@
-use Rattle.std.proofs.Common.{rules, arith, sym, ◌∙◌, ◌≡◌, ◌<◌, length}
-use Rattle.auc_threads.proofs.CountingLaws.{hub_guard}
-use Rattle.auc_threads.proofs.PhaseLaws.{no_guards, own_of, stuck_told, told_map, told_phase}
+use Rattle.std.proofs.Common.{rules, arith, sym, ◌∙◌, ◌≡◌, ◌<◌, length, map}
+use Rattle.auc_letters.specs.declared.letter.Why.{Why}
+use Rattle.auc_threads.proofs.CountingLaws.{hub_bids, hub_guard}
+use Rattle.auc_threads.proofs.PhaseLaws.{counted_told, no_bids, no_guards, own_of, stuck_told, told_map, told_phase}
+use Rattle.auc_threads.proofs.WorkedLaws.{first_never}
 use Rattle.auc_threads.proofs.phase.finish.Goals as goal
 
 pub gather-requires-clause-works : goal.gather-requires-clause-works
@@ -19,15 +21,19 @@ returns g c =
     let some : 0 < c.args.task.now.limits.now.shards = omega (arith, c.args.task.now.limits_are.world.some) in
     let settled = c.settle_all-trails.ensures in
     let all = c.in_ok-all.ensures in
+    let counted : c.in_ok-bids.bids.items ≡ map (λ w. w.seats.objects.count) c.args.works.persons.items = search rules in
     record {
       holders = got.holders ∙ c.objects.ensures.objects;
       prices = record { each = got.prices ∙ c.objects.ensures.objects; within = got.range };
       stuck = λ e. stuck_told (λ w. w.shard) (λ w. w.seats.objects) (λ w. w.seats.persons) (λ w. w.seats.hub) (λ w. w.why) _ _ _ _ _ c.requires.persons (c.end_of-end.ensures.stuck e);
+      counted =
+          counted_told (λ w. w.shard) (λ w. w.seats.objects) (λ w. w.seats.persons) (λ w. w.seats.hub) (λ w. w.why) _ _ _ _ _ c.requires.persons _ _ _ _ _ counted persons c.end_of-end.ensures.is
+          (first_never (λ w. w.why) _ Why.Bids (no_bids (λ w. w.shard) (λ w. w.seats.objects) (λ w. w.seats.persons) (λ w. w.seats.hub) (λ w. w.why) _ _ _ _ _ c.requires.objects)) (hub_bids _ _ _ _ _ _ c.requires.counts);
       told =
           told_map _ _ _ _ _ settled.objects settled.persons settled.hub
           (λ t o u v.
           told_phase (λ w. w.shard) (λ w. w.seats.objects) (λ w. w.seats.persons) (λ w. w.seats.hub) (λ w. w.why) (λ w. w.shard) (λ w. w.seats.objects) (λ w. w.seats.persons) (λ w. w.seats.hub) (λ w. w.why) _ _ _ _ _ _ c.requires.persons c.requires.objects persons objects some c.args.task.now.prices_are.each _ _ _ _ _ c.requires.counts
-          _ each c.end_of-end.ensures.all c.end_of-end.ensures.fell _ _ _ _ _ _ _ _ _ _ _ _ c.requires.objects_name c.requires.persons_name c.requires.hub_name _ _ _ all.objects all.persons all.hub c.requires.hub_objects c.requires.hub_persons c.end_of-end.ensures.is t o u v);
+          _ each c.end_of-end.ensures.all c.end_of-end.ensures.fell _ _ _ _ _ _ _ _ _ _ _ _ c.requires.objects_name c.requires.persons_name c.requires.hub_name _ _ _ all.objects all.persons all.hub c.requires.hub_objects c.requires.hub_persons c.end_of-end.ensures.is counted t o u v);
     }
 
 pub end_of-end-requires-clause-hub : goal.end_of-end-requires-clause-hub

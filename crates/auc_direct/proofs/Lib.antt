@@ -17,3 +17,4 @@ mod Moves
 mod Slackness
 mod Walks
 mod PathLaws
+mod Ways

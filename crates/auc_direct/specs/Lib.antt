@@ -4,6 +4,7 @@ pub mod Bid
 pub mod Market
 pub mod Shortlist
 pub mod Starts
+pub mod Way
 pub mod Endings
 pub mod Held
 pub mod Path

@@ -6,6 +6,7 @@
 mod arc;
 mod best;
 mod bid;
+mod early;
 mod ending;
 mod eps;
 mod gathering;
@@ -20,11 +21,15 @@ mod rows;
 mod scan;
 mod search;
 mod shortlist;
+mod slack;
 mod solving;
 mod starts;
+mod table_path;
+mod table_search;
 mod walk;
 mod watch;
 mod watched;
+mod way;
 mod wipe;
 mod workspace;
 

@@ -10,7 +10,7 @@ ghost use Rattle.auc_direct.specs.Path.{IsClean};
 ghost use Rattle.auc_direct.specs.Shortlist.{Kept};
 
 use crate::bid::bid_of;
-use crate::ending::{Chain, Ending, PathStep};
+use crate::ending::{Chain, Ending};
 use crate::lists::Lists;
 use crate::market::{Market, NOBODY};
 use crate::rows::ShortRows;
@@ -96,9 +96,9 @@ impl Market {
                 continue;
             }
             work.walked = 0;
-            match self.path(rows, eps, person, &mut work.search)? {
-                PathStep::Placed => return Ok(Chain::Placed),
-                PathStep::Stayed => {}
+            person = self.find_way(rows, eps, person, work)?;
+            if person == NOBODY {
+                return Ok(Chain::Placed);
             }
         }
         Ok(Chain::Bids)
@@ -136,5 +136,43 @@ impl Market {
             }
         }
         Ok(Ending::Sold)
+    }
+
+    /// Plays a phase as [`Market::play`] does, but gives it up, with what it has come to, once searches in the table have looked at more than so many arcs: None then.
+    pub(crate) fn play_within(
+        &mut self,
+        rows: &ShortRows,
+        eps: i64,
+        bids: u64,
+        patience: u64,
+        looks: u64,
+        work: &mut Workspace,
+    ) -> Result<Option<Ending>, AllocError>
+        requires arcs { EachHasArc rows.now }
+        requires eps { IsEps eps }
+        requires stands { Stands rows.now eps self.old.prices.items self.old.holders.items self.old.owns.items }
+        requires clean { IsClean rows.now.objects work.old.search.labels.items work.old.search.line.items (heap_items work.old.search.heap) }
+        requires kept { Kept rows.now self.old.prices.items work.old.lists.lists.items }
+        ensures stands { OnOk result (Stands rows.now eps self.new.prices.items self.new.holders.items self.new.owns.items) }
+        ensures ending { IfOk result (λ o. IfSome o (λ e. IsEnding rows.now bids (total self.old.prices.items) e self.new.prices.items self.new.owns.items)) }
+        ensures risen { OnOk result (total self.old.prices.items ≤ℤ total self.new.prices.items) }
+        ensures clean { OnOk result (IsClean rows.now.objects work.new.search.labels.items work.new.search.line.items (heap_items work.new.search.heap)) }
+        ensures kept { OnOk result (Kept rows.now self.new.prices.items work.new.lists.lists.items) }
+    {
+        let mut left = bids;
+        for first in 0..rows.persons() {
+            if self.owns[first as usize].object != NOBODY {
+                continue;
+            }
+            if work.table.looked > looks {
+                return Ok(None);
+            }
+            match self.chain(rows, eps, first, &mut left, patience, work)? {
+                Chain::Placed => {}
+                Chain::Bids => return Ok(Some(Ending::Stopped(Reason::Bids))),
+                Chain::Ceiling => return Ok(Some(Ending::Stopped(Reason::Ceiling))),
+            }
+        }
+        Ok(Some(Ending::Sold))
     }
 }

@@ -1,10 +1,13 @@
 //! All phases of a run: epsilon scaling.
 
 ghost use Rattle.std.specs.Prelude.{true, ◌≡◌, ◌⊎◌, pos, length, IfOk};
+ghost use Rattle.std.specs.BinaryHeap.{heap_items};
 ghost use Rattle.auc_graph.specs.Assignment.{total};
 ghost use Rattle.auc_letters.specs.Price.{IsEps};
 ghost use Rattle.auc_direct.specs.Endings.{IsLeft, IsOutcomeFrom, IsStart, IsStopped};
 ghost use Rattle.auc_direct.specs.Market.{EachHasArc};
+ghost use Rattle.auc_direct.specs.Path.{IsClean};
+ghost use Rattle.auc_direct.specs.Shortlist.{Kept};
 ghost use Rattle.auc_direct.specs.Starts.{AreKept, ArePricesOf};
 
 use crate::ending::Ending;
@@ -22,13 +25,21 @@ const SOON: u64 = 16;
 /// a search.
 const LATE: u64 = 10_000;
 
+/// The same in a full table, where a search for a path costs little.
+const AT_ONCE: u64 = 4;
+
 /// How many arcs a search may look at in the time of one bid.
 const LOOKS: usize = 100;
+
+/// Behind how many bids of a chain a path is looked for in a phase at the last eps that no other comes before.
+pub(crate) fn patience_in_one(rows: &ShortRows) -> u64 {
+    if rows.is_table() { AT_ONCE } else { SOON }
+}
 
 /// Behind how many bids of a chain a path is looked for in a run that begins at this eps.
 fn patience_at(rows: &ShortRows, eps: i64) -> u64 {
     if eps == LAST_EPS {
-        return SOON;
+        return patience_in_one(rows);
     }
     LATE.max((rows.many() / LOOKS) as u64)
 }
@@ -40,8 +51,45 @@ pub(crate) struct Outcome {
     pub(crate) market: Market,
 }
 
-/// A phase at this eps from these prices, and then one at each next eps, from the prices of the one before: up to the last one, or the first that a limit stops. Each
-/// may make so many bids.
+/// A phase at this eps from the prices of the market, and then one at each next eps, from the prices of the one before: up to the last one, or the first that a limit
+/// stops. Each may make so many bids.
+fn play_phases<W: Watch>(
+    rows: &ShortRows,
+    bids: u64,
+    eps: i64,
+    market: Market,
+    work: Workspace,
+    watch: &mut W,
+) -> Result<Outcome, AllocError>
+    requires arcs { EachHasArc rows.now }
+    requires eps { IsEps eps }
+    requires start { IsStart rows.now eps market.prices.items }
+    requires holders { length market.holders.items ≡ rows.now.objects }
+    requires owns { length market.owns.items ≡ length rows.now.rows }
+    requires clean { IsClean rows.now.objects work.search.labels.items work.search.line.items (heap_items work.search.heap) }
+    requires kept { Kept rows.now market.prices.items work.lists.lists.items }
+    ensures left { IfOk result (λ o. IsLeft rows.now o.ending o.market.prices.items o.market.holders.items o.market.owns.items) }
+    ensures stopped { IfOk result (λ o. (W.has_stopped watch.new ≡ true) ⊎ IsStopped rows.now bids (total market.prices.items) o.ending o.market.prices.items) }
+{
+    let patience = patience_at(rows, eps);
+    let mut market = market;
+    let mut work = work;
+    let mut eps = eps;
+    loop {
+        market.open();
+        let ending = market.play_watched(rows, eps, bids, patience, &mut work, watch)?;
+        match ending {
+            Ending::Stopped(_) => return Ok(Outcome { ending, market }),
+            Ending::Sold => {}
+        }
+        let Some(next) = next_eps(eps) else {
+            return Ok(Outcome { ending, market });
+        };
+        eps = next;
+    }
+}
+
+/// All phases from this eps and these prices on, each of at most so many bids. In a full table one at the last eps comes before them, which mostly is the only one.
 pub(crate) fn play_all<W: Watch>(
     alloc: Global,
     rows: &ShortRows,
@@ -56,21 +104,14 @@ pub(crate) fn play_all<W: Watch>(
     ensures left { IfOk result (λ o. IsLeft rows.now o.ending o.market.prices.items o.market.holders.items o.market.owns.items) }
     ensures stopped { IfOk result (λ o. (W.has_stopped watch.new ≡ true) ⊎ IsStopped rows.now bids (total prices.items) o.ending o.market.prices.items) }
 {
-    let patience = patience_at(rows, eps);
     let mut work = Workspace::new(alloc, rows)?;
     let mut market = Market::new(alloc, rows.persons(), prices)?;
-    let mut eps = eps;
-    loop {
-        market.open();
-        let ending = market.play_watched(rows, eps, bids, patience, &mut work, watch)?;
-        match ending {
-            Ending::Stopped(_) => return Ok(Outcome { ending, market }),
-            Ending::Sold => {}
-        }
-        let Some(next) = next_eps(eps) else {
-            return Ok(Outcome { ending, market });
-        };
-        eps = next;
+    if eps == LAST_EPS {
+        return play_phases(rows, bids, eps, market, work, watch);
+    }
+    match market.play_early(rows, bids, &mut work, watch)? {
+        Some(ending) => Ok(Outcome { ending, market }),
+        None => play_phases(rows, bids, eps, market, work, watch),
     }
 }
 
@@ -105,6 +146,7 @@ pub(crate) fn play_from<W: Watch>(
     let prices = prices_before(alloc, rows, start)?;
     let mut market = Market::new(alloc, rows.persons(), prices)?;
     market.open_at(rows, LAST_EPS, start);
-    let ending = market.play_watched(rows, LAST_EPS, bids, SOON, &mut work, watch)?;
+    let patience = patience_in_one(rows);
+    let ending = market.play_watched(rows, LAST_EPS, bids, patience, &mut work, watch)?;
     Ok(Outcome { ending, market })
 }

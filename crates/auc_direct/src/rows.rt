@@ -10,7 +10,7 @@ use std::marker::Model;
 
 /// The arcs of each person, in the order of the problem's list, with no place in it; and the spread of all costs.
 ///
-/// All rows lie behind one another in one vector.
+/// All rows lie behind one another in one vector. Whether they are a full table is found once, since another order of phases is faster there; no clause needs it.
 #[derive(Drop)]
 pub(crate) struct ShortRows {
     spread: i64,
@@ -18,6 +18,7 @@ pub(crate) struct ShortRows {
     objects: u32,
     starts: Vec<usize>,
     arcs: Vec<ShortArc>,
+    is_table: bool,
 }
 
 impl Model for ShortRows {
@@ -50,6 +51,15 @@ fn push_row(arcs: &mut Vec<ShortArc>, row: &[RowArc]) -> Result<(), AllocError>
     Ok(())
 }
 
+/// Whether a row has an arc to each of so many objects, one each, in order.
+fn is_full(row: &[RowArc], objects: u32) -> bool {
+    row.len() == objects as usize
+        && row
+            .iter()
+            .enumerate()
+            .all(|(place, arc)| arc.object as usize == place)
+}
+
 /// One of the rows that lie behind one another.
 #[inline(always)]
 fn part_of<'a>(starts: &[usize], arcs: &'a [ShortArc], persons: u32, person: u32) -> &'a [ShortArc]
@@ -75,19 +85,23 @@ impl ShortRows {
         ensures { IfOk result (AreShortsOf rows.now) }
     {
         let persons = rows.persons();
+        let objects = rows.objects();
         let mut starts = Vec::with_capacity(alloc, persons as usize + 1)?;
         let mut arcs = Vec::with_capacity(alloc, many)?;
+        let mut is_table = true;
         for person in 0..persons {
             starts.push(arcs.len())?;
             push_row(&mut arcs, rows.row(person))?;
+            is_table &= is_full(rows.row(person), objects);
         }
         starts.push(arcs.len())?;
         Ok(ShortRows {
             spread: rows.cost_spread(),
             persons,
-            objects: rows.objects(),
+            objects,
             starts,
             arcs,
+            is_table,
         })
     }
 
@@ -134,6 +148,12 @@ impl ShortRows {
     #[inline]
     pub(crate) fn many(&self) -> usize {
         self.arcs.len()
+    }
+
+    /// Whether each person has an arc to each object, one each, in order.
+    #[inline]
+    pub(crate) fn is_table(&self) -> bool {
+        self.is_table
     }
 
     /// The arcs of a person. O(1).

@@ -8,14 +8,16 @@ ghost use Rattle.auc_direct.specs.Shortlist.{Kept};
 use crate::lists::Lists;
 use crate::rows::ShortRows;
 use crate::search::Search;
+use crate::table_search::TableSearch;
 use std::alloc::{AllocError, Global};
 
-/// The lists of candidates, which stay through all phases; room for searches; and how many bids in a row have displaced somebody, behind the last
+/// The lists of candidates, which stay through all phases; room for searches, and for those in a full table; and how many bids in a row have displaced somebody, behind the last
 /// search for a path.
 #[derive(Drop)]
 pub(crate) struct Workspace {
     pub(crate) lists: Lists,
     pub(crate) search: Search,
+    pub(crate) table: TableSearch,
     pub(crate) walked: u64,
 }
 
@@ -27,9 +29,11 @@ impl Workspace {
     {
         let lists = Lists::new(alloc, rows)?;
         let search = Search::new(alloc, rows)?;
+        let table = TableSearch::new(alloc, rows)?;
         Ok(Workspace {
             lists,
             search,
+            table,
             walked: 0,
         })
     }

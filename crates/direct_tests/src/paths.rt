@@ -89,3 +89,15 @@ fn a_war_in_all_phases(rt: HostRuntime) -> Result<(), Fail> {
     );
     Ok(())
 }
+
+/// As many objects as persons, and five of them at the greatest cost: the phase that comes first in a full table needs no more bids than four a person.
+#[test]
+fn penalties_in_a_full_table(rt: HostRuntime) -> Result<(), Fail> {
+    let problem = crowd(&rt, 20, 20, 15, 1_000_000_000)?;
+    let told = answered(&rt, &problem, &DirectLimits { bids: 80 })?;
+    assert!(rt;
+        told.as_slice()
+            .starts_with(b"auction 1\noptimal 20 5000000000\n")
+    );
+    Ok(())
+}

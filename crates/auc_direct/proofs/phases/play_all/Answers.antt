@@ -1,50 +1,15 @@
-use Rattle.std.proofs.Common.{◌∙◌, ap, arith, length, rules, sym, subst, to_z, w64}
-use Rattle.std.specs.Prelude.{FitsSigned}
-use Rattle.std.proofs.lemmas.Int.{ints, to_z-of_z}
-use Rattle.std.proofs.lemmas.List.{length-replicate}
-use Rattle.auc_graph.specs.Assignment.{total}
-use Rattle.auc_direct.specs.declared.market.TheConstants.{NOBODY}
+use Rattle.std.proofs.Common.{length, pos, sym, subst}
 use Rattle.auc_direct.specs.Endings.{IsStart}
-use Rattle.auc_direct.specs.Market.{no_own}
-use Rattle.auc_direct.proofs.Opening.{stands_opened, start_next}
+use Rattle.auc_direct.proofs.Opening.{stands_opened}
 use Rattle.auc_direct.proofs.phases.play_all.Goals as goal
 
-pub play_watched-requires-clause-stands : goal.play_watched-requires-clause-stands
-play_watched-requires-clause-stands g c =
-    let inv = c.loop-market.invariant in
-    let eps = to_z w64 c.loop-market.eps-bits in
-    let start : IsStart c.args.rows.now eps c.open.new.self.prices.items = subst (IsStart c.args.rows.now eps) (sym c.open.ensures.prices) inv.start in
-    stands_opened c.args.rows.now eps eps c.open.new.self.prices.items c.open.new.self.holders.items c.open.new.self.owns.items (length c.loop-market.market.holders.items) (length c.loop-market.market.owns.items) start inv.holders inv.owns c.open.ensures.holders c.open.ensures.owns
+pub play_phases-requires-clause-kept : goal.play_phases-requires-clause-kept
+play_phases-requires-clause-kept g c = c.in_ok-work.ensures.kept c.in_ok-market.market.prices.items
 
-pub loop-market-preserved : goal.loop-market-preserved
-loop-market-preserved g c =
-    let f : FitsSigned w64 c.in-Some.next = search rules in
-    let inv = c.loop-market.invariant in
-    let eps = to_z w64 c.loop-market.eps-bits in
-    let after = c.in_ok-ending.ensures in
-    let range = c.in-Some.ensures.range in
-    let less = c.in-Some.ensures.less in
-    simp to_z-of_z (record {
-      eps_is = range;
-      start = start_next c.args.rows.now eps c.in-Some.next c.loop-market.market.prices.items c.play_watched.new.self.prices.items c.play_watched.new.self.holders.items c.play_watched.new.self.owns.items range less inv.start after.stands;
-      holders = after.stands.holders_are;
-      clean = after.clean;
-      kept = after.kept;
-      owns = after.stands.owns_are;
-      risen = (let o = ap total c.open.ensures.prices in let a = inv.risen in let b = after.risen in omega (arith, ints, o, a, b));
-    })
+pub play_early-requires-clause-stands : goal.play_early-requires-clause-stands
+play_early-requires-clause-stands g c =
+    let start = subst (IsStart c.args.rows.now c.args.eps) (sym c.in_ok-market.ensures.prices) c.requires.start in
+    stands_opened c.args.rows.now c.args.eps (pos 1) c.in_ok-market.market.prices.items c.in_ok-market.market.holders.items c.in_ok-market.market.owns.items (length c.args.prices.items) c.persons.result start c.requires.start.each c.persons.ensures.persons c.in_ok-market.ensures.holders c.in_ok-market.ensures.owns
 
-pub loop-market-init : goal.loop-market-init
-loop-market-init g c =
-    let f : FitsSigned w64 c.args.eps = c.ranges.eps in
-    let e = c.in_ok-market.ensures.prices in
-    let start = c.requires.start in
-    simp to_z-of_z (record {
-      eps_is = c.requires.eps;
-      start = rw e start;
-      holders = ap length c.in_ok-market.ensures.holders ∙ (length-replicate (length c.args.prices.items) NOBODY ∙ start.each);
-      clean = c.in_ok-work.ensures.clean;
-      kept = c.in_ok-work.ensures.kept c.in_ok-market.market.prices.items;
-      owns = ap length c.in_ok-market.ensures.owns ∙ (length-replicate c.persons.result no_own ∙ c.persons.ensures.persons);
-      risen = (let t = ap total e in omega (arith, ints, t));
-    })
+pub play_early-requires-clause-kept : goal.play_early-requires-clause-kept
+play_early-requires-clause-kept g c = c.in_ok-work.ensures.kept c.in_ok-market.market.prices.items

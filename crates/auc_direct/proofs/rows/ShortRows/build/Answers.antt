@@ -22,8 +22,8 @@ invariant_of-result c =
     let all : c.loop-person.person ≡ length c.args.rows.now.rows = search rules in
     let starts : c.push-2.new.self.items ≡ c.loop-person.starts.items ++ length c.loop-person.arcs.items ∷ [] = search rules in
     let laid : IsLaid c.args.rows.now (length c.args.rows.now.rows) c.loop-person.starts.items c.loop-person.arcs.items = subst (λ (n : ℕ). IsLaid c.args.rows.now n c.loop-person.starts.items c.loop-person.arcs.items) all c.loop-person.invariant in
-    let table = c.objects.ensures.table in
-    simp to_z-of_z (rw (starts, c.persons-persons.ensures.persons, c.objects.ensures.objects, c.cost_spread.ensures.spread) (laid_out c.args.rows.now c.loop-person.starts.items c.loop-person.arcs.items laid, are_shorts c.args.rows.now c.loop-person.starts.items c.loop-person.arcs.items table laid))
+    let table = c.objects-objects.ensures.table in
+    simp to_z-of_z (rw (starts, c.persons-persons.ensures.persons, c.objects-objects.ensures.objects, c.cost_spread.ensures.spread) (laid_out c.args.rows.now c.loop-person.starts.items c.loop-person.arcs.items laid, are_shorts c.args.rows.now c.loop-person.starts.items c.loop-person.arcs.items table laid))
 
 pub returns : goal.returns
 returns c =
@@ -31,5 +31,5 @@ returns c =
     let all : c.loop-person.person ≡ length c.args.rows.now.rows = search rules in
     let starts : c.push-2.new.self.items ≡ c.loop-person.starts.items ++ length c.loop-person.arcs.items ∷ [] = search rules in
     let laid : IsLaid c.args.rows.now (length c.args.rows.now.rows) c.loop-person.starts.items c.loop-person.arcs.items = subst (λ (n : ℕ). IsLaid c.args.rows.now n c.loop-person.starts.items c.loop-person.arcs.items) all c.loop-person.invariant in
-    let table = c.objects.ensures.table in
-    simp to_z-of_z (rw (starts, c.persons-persons.ensures.persons, c.objects.ensures.objects, c.cost_spread.ensures.spread) (are_its c.args.rows.now c.loop-person.starts.items c.loop-person.arcs.items table laid))
+    let table = c.objects-objects.ensures.table in
+    simp to_z-of_z (rw (starts, c.persons-persons.ensures.persons, c.objects-objects.ensures.objects, c.cost_spread.ensures.spread) (are_its c.args.rows.now c.loop-person.starts.items c.loop-person.arcs.items table laid))

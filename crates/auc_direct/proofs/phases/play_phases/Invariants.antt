@@ -6,18 +6,18 @@ use Rattle.std.specs.BinaryHeap.{heap_items}
 use Rattle.auc_direct.specs.Endings.{IsStart}
 use Rattle.auc_direct.specs.Path.{IsClean}
 use Rattle.auc_direct.specs.Shortlist.{Kept}
-use Rattle.auc_direct.proofs.phases.play_all.Given as goal
+use Rattle.auc_direct.proofs.phases.play_phases.Given as goal
 
-abbrev pub invariant-loop-market : goal.invariant-loop-market
-invariant-loop-market g l = record {
+abbrev pub invariant-loop-work : goal.invariant-loop-work
+invariant-loop-work g l = record {
   eps_is : IsEps l.eps;
   start : IsStart l.rows l.eps l.market.prices.items;
   holders : length l.market.holders.items ≡ l.rows.objects;
   clean : IsClean l.rows.objects l.work.search.labels.items l.work.search.line.items (heap_items l.work.search.heap);
   kept : Kept l.rows l.market.prices.items l.work.lists.lists.items;
   owns : length l.market.owns.items ≡ length l.rows.rows;
-  risen : total l.fn.prices.items ≤ℤ total l.market.prices.items;
+  risen : total l.fn.market.prices.items ≤ℤ total l.market.prices.items;
 }
 
-abbrev pub decreases-loop-market : goal.decreases-loop-market
-decreases-loop-market g l = unsigned_abs l.eps
+abbrev pub decreases-loop-work : goal.decreases-loop-work
+decreases-loop-work g l = unsigned_abs l.eps

@@ -1,0 +1,129 @@
+-- Prices that are proposed, and steps that are tried.
+use Rattle.std.proofs.Common.{ℕ, ℤ, pos, ◌<◌, ◌≤◌, ◌^◌, ◌≡◌, ◌≢◌, refl, arith, Contains, List, length, get_or, set, inl, inr, ap, sym, subst, ◌∙◌}
+use Rattle.std.specs.Prelude.{All, ◌-ℤ◌, ◌≤ℤ◌}
+use Rattle.std.proofs.lemmas.Bool.{cases_lt}
+use Rattle.std.proofs.lemmas.Int.{ints}
+use Rattle.std.proofs.lemmas.List.{get_or_past, set-get_or}
+use Rattle.std.proofs.lemmas.List.Elements.{All-from_get_or, All-get_or}
+use Rattle.auc_graph.specs.Assignment.{total}
+use Rattle.auc_graph.specs.Dual.{price_at}
+use Rattle.auc_letters.specs.Price.{IsPrice}
+use Rattle.auc_direct.specs.declared.arc.ShortArc.{ShortArc}
+use Rattle.auc_direct.specs.declared.market.TheConstants.{NOBODY}
+use Rattle.auc_direct.specs.Market.{AreHigher, AreSpare, HaveAllBut, IsSlack, Stands, holder_at, no_own, own_at, scale_in}
+use Rattle.auc_direct.specs.Rows.{AreShorts, Shorts, shorts_of}
+use Rattle.auc_direct.specs.Scan.{short_value}
+use Rattle.auc_direct.specs.Way.{AreProposed, IsWay}
+use Rattle.auc_direct.proofs.MarketLaws as market
+use Rattle.auc_direct.proofs.PathLaws.{have_after_path}
+use Rattle.auc_direct.proofs.Walks.{total_rises}
+
+-- ---- prices
+
+-- one price may be taken
+pub record MayRise (prices : List ℤ) (holders : List ℕ) (new : List ℤ) (k : ℕ) : Type 0 where
+  pub up : price_at prices k ≤ℤ price_at new k
+  pub high : price_at new k ≤ℤ pos (2 ^ 61)
+  pub free : holder_at holders k ≡ NOBODY → price_at new k ≡ price_at prices k
+
+pub proposed_of : (r : Shorts) (prices : List ℤ) (holders : List ℕ) (new : List ℤ) → length prices ≡ r.objects → length new ≡ length prices → All IsPrice prices → ((k : ℕ) → k < length new → MayRise prices holders new k) → AreProposed r prices holders new
+proposed_of r prices holders new many same within all = record {
+  each = same ∙ many;
+  within = All-from_get_or IsPrice new (pos 0) price;
+  higher = up;
+  free = free;
+}
+  where
+    price : (k : ℕ) → k < length new → IsPrice (get_or new k (pos 0))
+    price k lt =
+        let m = all k lt in
+        let p = All-get_or IsPrice prices k (pos 0) (omega (arith, lt, same)) within in
+        record { low = (let l = p.low in let u = m.up in omega (arith, ints, l, u)); high = m.high }
+
+    past : (k : ℕ) → length new ≤ k → price_at new k ≡ price_at prices k
+    past k over = get_or_past new k (pos 0) over ∙ sym (get_or_past prices k (pos 0) (omega (arith, over, same)))
+
+    up : AreHigher prices new
+    up k = elim (cases_lt k (length new)) [ inl lt ↦ (all k lt).up | inr over ↦ (let e = past k over in omega (arith, ints, e)) ]
+
+    free : (j : ℕ) → holder_at holders j ≡ NOBODY → price_at new j ≡ price_at prices j
+    free j e = elim (cases_lt j (length new)) [ inl lt ↦ (all j lt).free e | inr over ↦ past j over ]
+
+-- at prices that may be taken, where all who have an object stay slack
+pub stands_at : (r : Shorts) (eps : ℤ) (prices : List ℤ) (holders : List ℕ) (owns : List ShortArc) (new : List ℤ) → AreShorts r → Stands r eps prices holders owns → AreProposed r prices holders new → ((i : ℕ) → i < length r.rows → (own_at owns i).object ≢ NOBODY → IsSlack r eps new i (own_at owns i)) → Stands r eps new holders owns
+stands_at r eps prices holders owns new sound stands are slack = record {
+  prices_are = are.each;
+  holders_are = stands.holders_are;
+  owns_are = stands.owns_are;
+  within = are.within;
+  spare = spare stands.spare;
+  held = stands.held;
+  holds = stands.holds;
+  slack = λ i some. slack i (market.owner_below r eps prices holders owns sound stands i some) some;
+}
+  where
+    spare : AreSpare r prices holders → AreSpare r new holders
+    spare (inl square) = inl square
+    spare (inr none) = inr (λ j e. are.free j e ∙ none j e)
+
+-- by a pass over his row that found nothing worth less than this
+pub slack_of : (r : Shorts) (eps : ℤ) (prices : List ℤ) (i : ℕ) (s : ShortArc) (scale least : ℤ) (row : List ShortArc) → scale ≡ scale_in r → row ≡ shorts_of r i → Contains (shorts_of r i) s → least ≡ (short_value scale prices s -ℤ eps) → All (λ b. least ≤ℤ short_value scale prices b) row → IsSlack r eps prices i s
+slack_of r eps prices i s scale least row e f listed l all =
+    let mine : All (λ b. least ≤ℤ short_value (scale_in r) prices b) (shorts_of r i) = subst (λ (xs : List ShortArc). All (λ b. least ≤ℤ short_value (scale_in r) prices b) xs) f (subst (λ (z : ℤ). All (λ b. least ≤ℤ short_value z prices b) row) e all) in
+    let own : least ≡ (short_value (scale_in r) prices s -ℤ eps) = l ∙ ap (λ (z : ℤ). short_value z prices s -ℤ eps) e in
+    record { listed = listed; least = λ k d lt. (let a = mine k d lt in omega (arith, ints, a, own)) }
+
+-- ---- who is free
+
+higher_same : (prices : List ℤ) → AreHigher prices prices
+higher_same prices k = omega (arith, ints)
+
+pub way_on : (r : Shorts) (eps : ℤ) (person free next : ℕ) (prices mid new : List ℤ) (held sold : List ℕ) (owns had left : List ShortArc) → IsWay r eps person prices mid held owns had free → IsWay r eps free mid new sold had left next → IsWay r eps person prices new sold owns left next
+way_on r eps person free next prices mid new held sold owns had left a b = record {
+  stands = b.stands;
+  higher = λ k. (let x = a.higher k in let y = b.higher k in omega (arith, ints, x, y));
+  none = b.none;
+  below = b.below;
+  but = λ n h. b.but n (a.but n h);
+}
+
+pub way_from : (r : Shorts) (eps : ℤ) (person free : ℕ) (prices mid new : List ℤ) (sold : List ℕ) (owns left : List ShortArc) → AreHigher prices mid → IsWay r eps person mid new sold owns left free → IsWay r eps person prices new sold owns left free
+way_from r eps person free prices mid new sold owns left up a = record {
+  stands = a.stands;
+  higher = λ k. (let x = up k in let y = a.higher k in omega (arith, ints, x, y));
+  none = a.none;
+  below = a.below;
+  but = a.but;
+}
+
+-- a person takes an object at its price
+pub way_passed : (r : Shorts) (eps : ℤ) (person : ℕ) (prices new : List ℤ) (holders sold : List ℕ) (owns left : List ShortArc) (d : ℕ) (s : ShortArc) → AreShorts r → Stands r eps prices holders owns → person < length r.rows → (own_at owns person).object ≡ NOBODY → IsSlack r eps prices person s → new ≡ set prices s.object (price_at prices s.object) → sold ≡ set holders s.object person → left ≡ set (set owns person s) (holder_at holders s.object) no_own → d ≡ holder_at holders s.object → IsWay r eps person prices new sold owns left d
+way_passed r eps person prices new holders sold owns left d s sound stands known none slack e f g h =
+    let same : set prices s.object (price_at prices s.object) ≡ prices = set-get_or prices s.object (pos 0) in
+    let up : price_at prices s.object ≤ℤ price_at prices s.object = omega (arith, ints) in
+    let fits : IsSlack r eps (set prices s.object (price_at prices s.object)) person s = subst (λ (ps : List ℤ). IsSlack r eps ps person s) (sym same) slack in
+    let inside : s.object < length prices = market.price_in r eps prices holders owns person s (price_at prices s.object) sound stands known none up fits in
+    let high : price_at prices s.object ≤ℤ pos (2 ^ 61) = (All-get_or IsPrice prices s.object (pos 0) inside stands.within).high in
+    record {
+      stands = market.stands_by r eps (set prices s.object (price_at prices s.object)) new (set holders s.object person) sold (set (set owns person s) (holder_at holders s.object) no_own) left e f g (market.stands_after r eps prices holders owns person s (price_at prices s.object) sound stands known none up fits high);
+      higher = subst (AreHigher prices) (sym (e ∙ same)) (higher_same prices);
+      none = subst (λ (os : List ShortArc). (own_at os d).object ≡ NOBODY) (sym g) (subst (λ (m : ℕ). (own_at (set (set owns person s) (holder_at holders s.object) no_own) m).object ≡ NOBODY) (sym h) (market.gone r eps prices holders owns person s (price_at prices s.object) sound stands known none up fits));
+      below = λ some. (let l = market.displaced_below r eps prices holders owns person s (price_at prices s.object) sound stands known none up fits (λ z. some (h ∙ z)) in omega (arith, l, h));
+      but = λ n b. subst (λ (os : List ShortArc). HaveAllBut n os d) (sym g) (subst (HaveAllBut n (set (set owns person s) (holder_at holders s.object) no_own)) (sym h) (market.all_but r eps prices holders owns person s (price_at prices s.object) sound stands known none up fits n b));
+    }
+
+-- a person who has gone by a path whole: nobody is free in his place
+pub way_placed : (r : Shorts) (eps : ℤ) (person : ℕ) (prices new : List ℤ) (sold : List ℕ) (owns left : List ShortArc) → AreShorts r → Stands r eps new sold left → AreHigher prices new → (own_at left person).object ≢ NOBODY → ((i : ℕ) → (own_at owns i).object ≢ NOBODY → (own_at left i).object ≢ NOBODY) → IsWay r eps person prices new sold owns left NOBODY
+way_placed r eps person prices new sold owns left sound stands up placed have =
+    let none : (own_at left NOBODY).object ≡ NOBODY = ap (λ (s : ShortArc). s.object) (get_or_past left NOBODY no_own (let m = sound.most in let e = stands.owns_are in omega (arith, m, e))) in
+    record {
+      stands = stands;
+      higher = up;
+      none = none;
+      below = λ some. absurd (some refl);
+      but = λ n h. record { none = none; others = λ i l ne. have_after_path n owns left person h placed have i l };
+    }
+
+-- the sum of prices doesn't fall
+pub way_total : (r : Shorts) (eps other : ℤ) (person free : ℕ) (prices new : List ℤ) (holders sold : List ℕ) (owns left these : List ShortArc) → Stands r other prices holders these → IsWay r eps person prices new sold owns left free → total prices ≤ℤ total new
+way_total r eps other person free prices new holders sold owns left these stands way = total_rises prices new (let a = stands.prices_are in let b = way.stands.prices_are in omega (arith, a, b)) way.higher

@@ -1,0 +1,58 @@
+//! The phase of a full table that comes before all others: at the last eps, with a path as soon as a few bids of a chain have displaced somebody.
+
+ghost use Rattle.std.specs.Prelude.{true, ◌≡◌, ◌⊎◌, pos, ◌≤ℤ◌, IfOk, IfSome, OnOk};
+ghost use Rattle.std.specs.BinaryHeap.{heap_items};
+ghost use Rattle.auc_graph.specs.Assignment.{total};
+ghost use Rattle.auc_direct.specs.Endings.{IsEnding, IsSold};
+ghost use Rattle.auc_direct.specs.Market.{EachHasArc, Stands};
+ghost use Rattle.auc_direct.specs.Path.{IsClean};
+ghost use Rattle.auc_direct.specs.Shortlist.{Kept};
+
+use crate::ending::Ending;
+use crate::eps::LAST_EPS;
+use crate::market::Market;
+use crate::phases::patience_in_one;
+use crate::rows::ShortRows;
+use crate::watch::{Progress, Watch};
+use crate::workspace::Workspace;
+use auc_cert::Reason;
+use std::alloc::AllocError;
+
+/// How many arcs its searches may look at: as many as take some tens of milliseconds. Where it takes more, phases are faster.
+const LOOKS: u64 = 8_388_608;
+
+impl Market {
+    /// Plays it where the rows are a full table, and asks the watch before it. None where they aren't, or where it was given up.
+    pub(crate) fn play_early<W: Watch>(
+        &mut self,
+        rows: &ShortRows,
+        bids: u64,
+        work: &mut Workspace,
+        watch: &mut W,
+    ) -> Result<Option<Ending>, AllocError>
+        requires arcs { EachHasArc rows.now }
+        requires stands { Stands rows.now (pos 1) self.old.prices.items self.old.holders.items self.old.owns.items }
+        requires clean { IsClean rows.now.objects work.old.search.labels.items work.old.search.line.items (heap_items work.old.search.heap) }
+        requires kept { Kept rows.now self.old.prices.items work.old.lists.lists.items }
+        ensures stands { OnOk result (Stands rows.now (pos 1) self.new.prices.items self.new.holders.items self.new.owns.items) }
+        ensures sold { IfOk result (λ o. IfSome o (λ e. IsSold rows.now e self.new.owns.items)) }
+        ensures ending { IfOk result (λ o. IfSome o (λ e. (W.has_stopped watch.new ≡ true) ⊎ IsEnding rows.now bids (total self.old.prices.items) e self.new.prices.items self.new.owns.items)) }
+        ensures risen { OnOk result (total self.old.prices.items ≤ℤ total self.new.prices.items) }
+        ensures clean { OnOk result (IsClean rows.now.objects work.new.search.labels.items work.new.search.line.items (heap_items work.new.search.heap)) }
+        ensures kept { OnOk result (Kept rows.now self.new.prices.items work.new.lists.lists.items) }
+    {
+        if !rows.is_table() {
+            return Ok(None);
+        }
+        let progress = Progress {
+            eps: LAST_EPS,
+            held: 0,
+            bids: 0,
+        };
+        if !watch.goes_on(progress) {
+            return Ok(Some(Ending::Stopped(Reason::Bids)));
+        }
+        let patience = patience_in_one(rows);
+        self.play_within(rows, LAST_EPS, bids, patience, LOOKS, work)
+    }
+}

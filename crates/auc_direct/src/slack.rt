@@ -1,0 +1,50 @@
+//! Whether an arc of a person is within eps of his best, by a pass that ends at the first one that is better.
+
+ghost use Rattle.std.specs.Prelude.{◌≡◌, ◌<◌, pos, ◌≤ℤ◌, All, Contains, IsTrue, length};
+ghost use Rattle.auc_letters.specs.Price.{IsEps, IsPrice};
+ghost use Rattle.auc_direct.specs.declared.arc.ShortArc.{ShortArc};
+ghost use Rattle.auc_direct.specs.Market.{IsSlack};
+ghost use Rattle.auc_direct.specs.Rows.{IsShort, shorts_of};
+ghost use Rattle.auc_direct.specs.Scan.{short_value};
+
+use crate::arc::ShortArc;
+use crate::rows::ShortRows;
+use crate::scan::value_of;
+
+/// Whether no arc of a row is worth less than this.
+#[inline(never)]
+fn none_below(scale: i64, row: &[ShortArc], prices: &[i64], least: i64) -> bool
+    requires scale_low { pos 1 ≤ℤ scale }
+    requires scale_high { scale ≤ℤ pos 10001 }
+    requires row { All (IsShort (length prices.now)) row.now }
+    requires prices { All IsPrice prices.now }
+    ensures { IsTrue result → All (λ b. least ≤ℤ short_value scale prices.now b) row.now }
+{
+    for arc in row {
+        if value_of(scale, *arc, prices) < least {
+            return false;
+        }
+    }
+    true
+}
+
+/// Whether an arc of a person's row is within eps of his best at these prices.
+pub(crate) fn is_slack(
+    rows: &ShortRows,
+    eps: i64,
+    prices: &[i64],
+    person: u32,
+    arc: ShortArc,
+) -> bool
+    requires person { person < length rows.now.rows }
+    requires listed { Contains (shorts_of rows.now person) arc }
+    requires many { length prices.now ≡ rows.now.objects }
+    requires prices { All IsPrice prices.now }
+    requires eps { IsEps eps }
+    ensures { IsTrue result → IsSlack rows.now eps prices.now person arc }
+{
+    let scale = rows.scale();
+    let row = rows.row(person);
+    let least = value_of(scale, arc, prices) - eps;
+    none_below(scale, row, prices, least)
+}

@@ -37,4 +37,4 @@ pub use solving::{
     DirectLimits, solve_direct, solve_direct_from, solve_direct_watched, solve_direct_watched_from,
 };
 pub use starts::may_start;
-pub use watch::{Progress, Watch};
+pub use watch::{Onward, Progress, Watch};

@@ -25,7 +25,7 @@ pub trait Watch {
 
 /// Lets every run go on.
 #[derive(Clone, Copy, Debug, PartialEq, Eq)]
-pub(crate) struct Onward;
+pub struct Onward;
 
 impl Watch for Onward {
     ghost has_stopped = { λ _. false };

@@ -7,3 +7,4 @@ mod CompletionLaws
 mod PriceLaws
 mod StartLaws
 mod OutcomeLaws
+mod WatchLaws

@@ -22,11 +22,6 @@ module _ (a b : Option (List ℕ)) where
       → IsOutcome (Solve workers bids audit objects from direct) a b (reported Solved answer)
   solved workers bids audit objects from direct answer h = (h.0, h.1, h.2, h.3, (answer, h.4, refl))
 
-  -- without workers, of which the answer says that there are none
-  pub solved_plainly : (workers bids audit objects : ℕ) (from direct : Bool) (answer : Result Answer Refusal) → workers ≡ 0 → ((trail : ℕ) → IsSolvingIn direct from objects 0 bids trail a b answer)
-      → IsOutcome (Solve workers bids audit objects from direct) a b (reported Solved answer)
-  solved_plainly workers bids audit objects from direct answer none h = rw none (solved 0 bids audit objects from direct answer (h audit))
-
   pub judged : (objects : ℕ) (verdict : Result Valid Refusal) → IsVerdict objects a b verdict → IsOutcome (Check objects) a b (reported Judged verdict)
   judged objects verdict h = (h.0, h.1, h.2, h.3, (verdict, h.4, refl))
 

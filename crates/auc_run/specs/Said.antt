@@ -51,7 +51,3 @@ pub record EndsBy (before after : Option (List ℕ)) (outcome : Result Report Re
   pub whole : ending.status ≢ 8 → Appends before after (outcome_text outcome) × (ending.status ≡ outcome_status outcome)
   pub cut : ending.status ≡ 8 → Begins before after (outcome_text outcome)
   pub refusal : ending.refusal ≡ refusal_of outcome
-
--- a job ended so, by an outcome on what the two readers had
-abbrev pub Ended : Job → Option (List ℕ) → Option (List ℕ) → Option (List ℕ) → Option (List ℕ) → Ending → Type 0
-Ended job first second before after ending = (outcome : Result Report Refusal) × IsOutcome job first second outcome × EndsBy before after outcome ending

@@ -6,7 +6,8 @@ ghost use Rattle.auc_cert.specs.Spelled.{IsSpelled};
 ghost use Rattle.auc_run.specs.Verdicts.{Judges, IsVerdict, said_by};
 ghost use Rattle.auc_run.specs.Jobs.{IsInRange, IsPlain, has_second, objects_of, solve_by};
 ghost use Rattle.auc_run.specs.Reports.{IsWritable};
-ghost use Rattle.auc_run.specs.Said.{Ended, IsOutcome, Said, SaidInPart};
+ghost use Rattle.auc_run.specs.Said.{IsOutcome, Said, SaidInPart};
+ghost use Rattle.auc_run.specs.Watched.{EndedUnless, IsOutcomeUnless};
 
 use crate::direct::answer_alone;
 use crate::ending::Ending;
@@ -19,6 +20,7 @@ use crate::report::{Report, tell};
 use crate::solve::answer_in_threads;
 use crate::valid::Valid;
 use auc_cert::{Cert, CertParts, check, read_cert};
+use auc_direct::{Onward, Watch};
 use auc_graph::{ArcList, MOST_ARCS, MOST_READS};
 use auc_threads::Gate;
 use std::alloc::Global;
@@ -123,15 +125,16 @@ fn verdict_of<R: Read, Q: Read>(
 }
 
 /// What the job comes to on what the readers have.
-fn outcome_of<R: Read, Q: Read>(
+fn outcome_of<R: Read, Q: Read, V: Watch>(
     alloc: Global,
     job: &Job,
     reader: &mut R,
     second: &mut Q,
+    watch: &mut V,
 ) -> Result<Report, Refusal>
     requires range { IsInRange job.now }
     requires plain { IsPlain job.now }
-    ensures outcome { IsOutcome job.now (R.remaining reader.old) (Q.remaining second.old) result }
+    ensures outcome { IsOutcomeUnless (V.has_stopped watch.new) job.now (R.remaining reader.old) (Q.remaining second.old) result }
     ensures writable { IfOk result IsWritable }
     ensures unread { IfSome (R.remaining reader.old) (λ file. IsErr (reading MOST_ARCS (objects_of job.now) file) → second.new ≡ second.old) }
     ensures alone { has_second job.now ≡ false → second.new ≡ second.old }
@@ -144,7 +147,9 @@ fn outcome_of<R: Read, Q: Read>(
             direct,
             ..
         } => {
-            let answer = answer_alone(alloc, reader, second, *objects, *bids, *from, *direct)?;
+            let answer = answer_alone(
+                alloc, reader, second, *objects, *bids, *from, *direct, watch,
+            )?;
             Ok(Report::Solved(answer))
         }
         Job::Check { objects } => {
@@ -176,20 +181,21 @@ fn outcome_by_threads<H: Threads + Wait + Sync, R: Read, Q: Read, G: Gate + Sync
 }
 
 /// Does a job that starts no thread, as [`run_plain`] does, and says how it ended.
-fn perform_plainly<R: Read, Q: Read, W: Write>(
+fn perform_plainly<R: Read, Q: Read, W: Write, V: Watch>(
     alloc: Global,
     job: &Job,
     reader: &mut R,
     second: &mut Q,
     writer: &mut W,
+    watch: &mut V,
 ) -> Ending
     requires range { IsInRange job.now }
     requires plain { IsPlain job.now }
-    ensures ended { Ended job.now (R.remaining reader.old) (Q.remaining second.old) (W.contents writer.old) (W.contents writer.new) result }
+    ensures ended { EndedUnless (V.has_stopped watch.new) job.now (R.remaining reader.old) (Q.remaining second.old) (W.contents writer.old) (W.contents writer.new) result }
     ensures unread { IfSome (R.remaining reader.old) (λ file. IsErr (reading MOST_ARCS (objects_of job.now) file) → second.new ≡ second.old) }
     ensures alone { has_second job.now ≡ false → second.new ≡ second.old }
 {
-    let outcome = outcome_of(alloc, job, reader, second);
+    let outcome = outcome_of(alloc, job, reader, second, watch);
     tell(writer, outcome)
 }
 
@@ -225,11 +231,13 @@ pub fn run_plain<R: Read, Q: Read, W: Write>(
     // Only a check, and a solve that starts from a certificate, has a second input.
     ensures alone { has_second job.now ≡ false → second.new ≡ second.old }
 {
-    perform_plainly(alloc, job, reader, second, writer).status
+    perform_plainly(alloc, job, reader, second, writer, &mut Onward).status
 }
 
-/// Does a job, as [`run_command`] does, and says how it ended: with its status, and why it was refused, where it was.
-pub fn perform<H: Threads + Wait + Sync, R: Read, Q: Read, W: Write, G: Gate + Sync>(
+/// Does a job, as [`run_command`] does, and says how it ended: with its status, and why it was refused, where it was. A solve in one hand asks the watch whether it
+/// goes on, see [`auc_direct::solve_direct_watched`], and no other job does. Where it has said no, an answer is as right as any other: it may be an assignment and a
+/// bound that no limit has made.
+pub fn perform<H: Threads + Wait + Sync, R: Read, Q: Read, W: Write, G: Gate + Sync, V: Watch>(
     rt: &H,
     alloc: Global,
     job: &Job,
@@ -237,11 +245,12 @@ pub fn perform<H: Threads + Wait + Sync, R: Read, Q: Read, W: Write, G: Gate + S
     second: &mut Q,
     writer: &mut W,
     gate: &G,
+    watch: &mut V,
 ) -> Ending
     // The job's numbers are those that its fields allow.
     requires range { IsInRange job.now }
     // What was written, the status and the refusal are those of one outcome, which is right for the bytes that were read.
-    ensures ended { Ended job.now (R.remaining reader.old) (Q.remaining second.old) (W.contents writer.old) (W.contents writer.new) result }
+    ensures ended { EndedUnless (V.has_stopped watch.new) job.now (R.remaining reader.old) (Q.remaining second.old) (W.contents writer.old) (W.contents writer.new) result }
     // A certificate for what is no problem is left unread.
     ensures unread { IfSome (R.remaining reader.old) (λ file. IsErr (reading MOST_ARCS (objects_of job.now) file) → second.new ≡ second.old) }
     // Only a check, and a solve that starts from a certificate, has a second input.
@@ -268,7 +277,7 @@ pub fn perform<H: Threads + Wait + Sync, R: Read, Q: Read, W: Write, G: Gate + S
             return tell(writer, outcome);
         }
     }
-    perform_plainly(alloc, job, reader, second, writer)
+    perform_plainly(alloc, job, reader, second, writer, watch)
 }
 
 /// Does a job, as [`run_plain`] does; but a solve with workers by threads, see [`auc_threads::solve_threads`]: a thread for each worker in each phase,
@@ -295,5 +304,6 @@ pub fn run_command<H: Threads + Wait + Sync, R: Read, Q: Read, W: Write, G: Gate
     // Only a check, and a solve that starts from a certificate, has a second input.
     ensures alone { has_second job.now ≡ false → second.new ≡ second.old }
 {
-    perform(rt, alloc, job, reader, second, writer, gate).status
+    let watch = &mut Onward;
+    perform(rt, alloc, job, reader, second, writer, gate, watch).status
 }

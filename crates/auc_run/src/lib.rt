@@ -27,6 +27,7 @@ mod start;
 pub mod status;
 mod valid;
 
+pub use auc_direct::{Onward, Progress, Watch};
 pub use auc_threads::{
     FreeGate, Gate, Ledgers, Mails, PhaseEnd, RunError, Solved, Trails, WorkerSeats, phase_threads,
     solve_threads, solve_threads_from,

@@ -3,3 +3,4 @@ mod CommandFits
 mod GrammarLaws
 mod WalkLaws
 mod WordLaws
+mod WrongLines

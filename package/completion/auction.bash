@@ -8,11 +8,11 @@ _auction() {
     fi
     case $before in
     # A number stands here, and nobody but the user knows which.
-    --workers | --bids | --audit | --objects) return ;;
+    --workers | --bids | --audit | --objects | --seconds) return ;;
     --from) ;;
     *)
         case $command in
-        solve) options="--workers --bids --audit --objects --from --direct --help" ;;
+        solve) options="--workers --bids --audit --objects --from --direct --seconds --progress --help" ;;
         check | hall) options="--objects --help" ;;
         mail) options="--help" ;;
         esac

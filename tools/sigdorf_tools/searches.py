@@ -50,7 +50,7 @@ class Plans:
                 continue
             answer = self.answer(model.without(change.pair, change.stays), best.certificate)
             if answer.claim.kind == "bracket":
-                raise Fault(f"{self.name}: the search for the second best plan was stopped by --bids; say more of them")
+                raise Fault(f"{self.name}: the search for the second best plan was stopped by --bids or --seconds; say more of them")
             if answer.claim.kind == "optimal" and (found is None or answer.claim.cost < found.claim.cost):
                 found = answer
         return found

@@ -26,9 +26,9 @@ class Answer(NamedTuple):
 class Solver:
     """The program, the limits of its search, and whether the second checker is asked whatever the size. It solves in one hand, unless threads are asked for."""
 
-    def __init__(self, program, bids=None, workers=None, has_second=False):
+    def __init__(self, program, bids=None, workers=None, has_second=False, seconds=None):
         self.program, self.has_second = program, has_second
-        self.limits = [f"--{name}={value}" for name, value in (("bids", bids), ("workers", workers)) if value is not None]
+        self.limits = [f"--{name}={value}" for name, value in (("bids", bids), ("workers", workers), ("seconds", seconds)) if value is not None]
         if workers is None:
             self.limits.append("--direct")
 

@@ -73,6 +73,12 @@ class Plans(ToolTest):
         self.assertIn("The search was stopped early", output)
         self.assertRegex(said, "^plan: 2 pairs, total [0-9]+, proved at most [0-9]+ from the best by ")
 
+    def test_search_with_time_enough(self):
+        self.write("table.csv", "a,x,1\na,y,2\nb,x,1\nb,y,9\n")
+        status, output, said = self.call("plan", "table.csv", "--seconds", "1000")
+        self.assertEqual(status, 0)
+        self.assertRegex(said, "^plan: 2 pairs, total 3, proved least by ")
+
     def test_unequal_numbers(self):
         self.assertEqual(self.planned(",x,y,z\na,5,4,3\nb,1,2,\n"), "person,object,cost\na,z,3\nb,x,1\n,y,\ntotal,,4\n")
         table = ",x,y,\na,5,1,\nb,4,2,\nc,3,,\n".replace(",\n", "\n")
@@ -86,9 +92,10 @@ class Plans(ToolTest):
 
     def test_words_of_the_solver_that_are_at_fault(self):
         self.write("table.csv", "a,x,1\n")
-        status, output, said = self.call("plan", "table.csv", "--bids", "0")
-        self.assertEqual((status, output), (2, ""))
-        self.assertNotIn("Traceback", said)
+        for words in ("--bids", "0"), ("--seconds", "0"), ("--seconds", "5", "--workers", "2"):
+            status, output, said = self.call("plan", "table.csv", *words)
+            self.assertEqual((status, output), (2, ""))
+            self.assertNotIn("Traceback", said)
 
     def test_second_checker(self):
         """Above 200,000 arcs it judges where that is said."""

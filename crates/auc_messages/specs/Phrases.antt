@@ -86,7 +86,7 @@ phrase_of_refusal NoThreads = codes "a thread couldn't be started; give --worker
 unfoldable pub phrase_of_status : ℕ → List ℕ
 phrase_of_status status =
     if status == 3 then codes "there is no assignment: the persons that the answer names know fewer objects than they are; give them more arcs, or leave some out" else
-    (if status == 4 then codes "a limit ended the search: the answer is an assignment, and a bound below which none costs; for a least cost raise --bids" else
+    (if status == 4 then codes "a limit ended the search: the answer is an assignment, and a bound below which none costs; for a least cost raise --bids, or --seconds where it is given" else
     (if status == 7 then codes "a guard of the solver was hit, and there is no answer; solve without --workers" else
     (if status == 8 then codes "standard output was not written, or not all of it; see that its disk has room, and that its reader reads on" else
     (if status == 6 then out_of_memory else

@@ -208,7 +208,7 @@ pub(crate) fn of_status(status: u8) -> &'static [u8]
             b"there is no assignment: the persons that the answer names know fewer objects than they are; give them more arcs, or leave some out"
         }
         BRACKET => {
-            b"a limit ended the search: the answer is an assignment, and a bound below which none costs; for a least cost raise --bids"
+            b"a limit ended the search: the answer is an assignment, and a bound below which none costs; for a least cost raise --bids, or --seconds where it is given"
         }
         BROKEN => b"a guard of the solver was hit, and there is no answer; solve without --workers",
         UNWRITTEN => {

@@ -1,17 +1,18 @@
 -- What the matches of a command ask for.
 use Rattle.std.proofs.Common.{◌≡◌, ◌<◌, ◌⊎◌, ℕ, Bool, true, false, List, Option, Some, None, Result, Ok, Err, arith, codes, is_some, refl, sym, ap, subst, ◌∙◌, inl, inr}
-use Rattle.std.specs.Prelude.{IsErrAnd}
+use Rattle.std.specs.Prelude.{IfOk, IsErrAnd}
 use Rattle.clap.specs.Words.{Row, Text, first_of, first_value, rows_of}
 use Rattle.clap.specs.declared.parser.matches.Found.{Found}
 use Rattle.clap.proofs.WalkLemmas.{first_value-rows}
 use Rattle.auc_run.specs.declared.command.Job.{Job}
 use Rattle.auc_run.specs.declared.command.Job.TheVariants.{Solve, Check, Hall}
+use Rattle.auction.specs.declared.asked.Watching.{Watching}
 use Rattle.auction.specs.declared.asked.Words.{Words}
 use Rattle.auction.specs.declared.words_error.WordsError.{WordsError}
-use Rattle.auction.specs.declared.words_error.WordsError.TheVariants.{AuditAlone, DirectThreads, FromObjects, NoMemory, Usage}
+use Rattle.auction.specs.declared.words_error.WordsError.TheVariants.{AuditAlone, DirectThreads, FromObjects, NoMemory, Usage, WatchAlone}
 use Rattle.auction.specs.Arguments.{value_in}
-use Rattle.auction.specs.CommandLine.{AsksFor, IsAuditAlone, IsDirectThreads, IsFromObjects, IsUsage}
-use Rattle.auction.specs.Options.{AreNumbers, AskWrongly, AsksToSolve, GoTogether, HasBoth, HasCheckOf, HasHallOf, HasNumber, HasObjects, HasObjectsJob, HasSolveOf, HasThreads, is_direct}
+use Rattle.auction.specs.CommandLine.{AsksFor, IsAuditAlone, IsDirectThreads, IsFromObjects, IsUsage, IsWatchAlone}
+use Rattle.auction.specs.Options.{AreNumbers, AskWrongly, AsksToSolve, GoTogether, HasBoth, HasCheckOf, HasHallOf, HasNumber, HasObjects, HasObjectsJob, HasSeconds, HasSolveOf, HasThreads, HasWatch, IsWatchedBy, is_direct}
 
 -- the parser was refused memory, and so is its caller
 pub no_memory : (r : Result Words WordsError) (e : WordsError) → IsErrAnd r (λ x. x ≡ e) → e ≡ NoMemory → r ≡ Err NoMemory
@@ -57,6 +58,7 @@ same_numbers same workers bids audit objects h = record {
   of_bids = subst (λ (v : Option Text). HasNumber 1 1000000000000 100000000 v bids) (same (codes "bids")) h.of_bids;
   of_audit = subst (λ (v : Option Text). HasNumber 0 1000000 0 v audit) (same (codes "audit")) h.of_audit;
   of_objects = subst (λ (v : Option Text). HasObjects v objects) (same (codes "objects")) h.of_objects;
+  of_seconds = (h.of_seconds.0, subst (λ (v : Option Text). HasSeconds v h.of_seconds.0) (same (codes "seconds")) h.of_seconds.1);
 }
 
 module _ {f g : Text → Option Text} (same : (name : Text) → f name ≡ g name) where
@@ -65,6 +67,16 @@ module _ {f g : Text → Option Text} (same : (name : Text) → f name ≡ g nam
 
   same_direct : is_direct f ≡ is_direct g
   same_direct = ap is_some (same (codes "direct"))
+
+  same_watch : HasWatch f → HasWatch g
+  same_watch (inl h) = inl (ap is_some (sym (same (codes "seconds"))) ∙ h)
+  same_watch (inr h) = inr (ap is_some (sym (same (codes "progress"))) ∙ h)
+
+  pub same_watched : (w : Watching) → IsWatchedBy f w → IsWatchedBy g w
+  same_watched w h = record {
+    seconds = subst (λ (v : Option Text). HasSeconds v w.seconds) (same (codes "seconds")) h.seconds;
+    progress = h.progress ∙ ap is_some (same (codes "progress"));
+  }
 
   same_threads : HasThreads f → HasThreads g
   same_threads (inl h) = inl (ap is_some (sym (same (codes "workers"))) ∙ h)
@@ -102,6 +114,7 @@ module _ {f g : Text → Option Text} (same : (name : Text) → f name ≡ g nam
     direct = λ is threads. h.direct (same_direct same ∙ is) (same_threads back threads);
     trail = λ is none. h.trail (same_direct same ∙ is) none;
     start = λ is both. h.start (same_direct same ∙ is) (same_both back both);
+    watch = λ is watch. h.watch (same_direct same ∙ is) (same_watch back watch);
   }
 
   pub same_asked : (job : Job) → AsksToSolve f job → AsksToSolve g job
@@ -145,6 +158,17 @@ module _ {f g : Text → Option Text} (same : (name : Text) → f name ≡ g nam
     direct = same_direct back ∙ h.direct;
     threads = same_threads same h.threads;
   }
+  same_wrong WatchAlone h = record {
+    workers = h.workers;
+    bids = h.bids;
+    audit = h.audit;
+    objects = h.objects;
+    numbers = same_numbers same h.workers h.bids h.audit h.objects h.numbers;
+    direct = same_direct back ∙ h.direct;
+    trail = h.trail;
+    apart = λ both. h.apart (same_both back both);
+    watch = same_watch same h.watch;
+  }
 
 -- options that ask for these numbers
 module _ (values : Text → Option Text) (workers bids audit objects : ℕ) (are : AreNumbers values workers bids audit objects) where
@@ -168,6 +192,7 @@ module _ (values : Text → Option Text) (workers bids audit objects : ℕ) (are
   not_wrongly h NoMemory wrong = wrong
   not_wrongly h FromObjects wrong = h.start wrong.direct wrong.both
   not_wrongly h DirectThreads wrong = h.direct wrong.direct wrong.threads
+  not_wrongly h WatchAlone wrong = h.watch wrong.direct wrong.watch
 
   -- the solver in one hand with threads is at fault for that
   wants_threads : is_direct values ≡ true → (e : WordsError) → AskWrongly values e → e ≡ DirectThreads
@@ -176,6 +201,7 @@ module _ (values : Text → Option Text) (workers bids audit objects : ℕ) (are
   wants_threads is NoMemory wrong = absurd wrong
   wants_threads is FromObjects wrong = let k = sym is ∙ wrong.direct in absurd cc
   wants_threads is DirectThreads wrong = refl
+  wants_threads is WatchAlone wrong = let k = sym is ∙ wrong.direct in absurd cc
 
   -- another one with a trail and no threads for that
   wants_trail : is_direct values ≡ false → workers ≡ 0 → 0 < audit → (e : WordsError) → AskWrongly values e → e ≡ AuditAlone
@@ -186,16 +212,31 @@ module _ (values : Text → Option Text) (workers bids audit objects : ℕ) (are
       let no_trail = wrong.trail (one_workers wrong.workers wrong.bids wrong.audit wrong.objects wrong.numbers ∙ none) in
       absurd (omega (arith, no_trail, one_audit wrong.workers wrong.bids wrong.audit wrong.objects wrong.numbers, some))
   wants_trail is none some DirectThreads wrong = let k = sym is ∙ wrong.direct in absurd cc
+  wants_trail is none some WatchAlone wrong =
+      let no_trail = wrong.trail (one_workers wrong.workers wrong.bids wrong.audit wrong.objects wrong.numbers ∙ none) in
+      absurd (omega (arith, no_trail, one_audit wrong.workers wrong.bids wrong.audit wrong.objects wrong.numbers, some))
 
   -- and then one with a start and a number of objects for that
-  wants_both : is_direct values ≡ false → (workers ≡ 0 → audit ≡ 0) → (e : WordsError) → AskWrongly values e → (GoTogether values workers audit → ⊥) → e ≡ FromObjects
-  wants_both is trail Usage wrong apart = absurd (wrong workers bids audit objects are)
-  wants_both is trail AuditAlone wrong apart =
+  wants_both : is_direct values ≡ false → (workers ≡ 0 → audit ≡ 0) → HasBoth values → (e : WordsError) → AskWrongly values e → e ≡ FromObjects
+  wants_both is trail both Usage wrong = absurd (wrong workers bids audit objects are)
+  wants_both is trail both AuditAlone wrong =
       let none = trail (sym (one_workers 0 wrong.bids wrong.audit wrong.objects wrong.numbers)) in
       absurd (omega (arith, none, one_audit 0 wrong.bids wrong.audit wrong.objects wrong.numbers, wrong.some))
-  wants_both is trail NoMemory wrong apart = absurd wrong
-  wants_both is trail FromObjects wrong apart = refl
-  wants_both is trail DirectThreads wrong apart = let k = sym wrong.direct ∙ is in absurd cc
+  wants_both is trail both NoMemory wrong = absurd wrong
+  wants_both is trail both FromObjects wrong = refl
+  wants_both is trail both DirectThreads wrong = let k = sym wrong.direct ∙ is in absurd cc
+  wants_both is trail both WatchAlone wrong = absurd (wrong.apart both)
+
+  -- and then one that is to be watched for that
+  wants_watch : is_direct values ≡ false → (workers ≡ 0 → audit ≡ 0) → (HasBoth values → ⊥) → (e : WordsError) → AskWrongly values e → e ≡ WatchAlone
+  wants_watch is trail apart Usage wrong = absurd (wrong workers bids audit objects are)
+  wants_watch is trail apart AuditAlone wrong =
+      let none = trail (sym (one_workers 0 wrong.bids wrong.audit wrong.objects wrong.numbers)) in
+      absurd (omega (arith, none, one_audit 0 wrong.bids wrong.audit wrong.objects wrong.numbers, wrong.some))
+  wants_watch is trail apart NoMemory wrong = absurd wrong
+  wants_watch is trail apart FromObjects wrong = absurd (apart wrong.both)
+  wants_watch is trail apart DirectThreads wrong = let k = sym wrong.direct ∙ is in absurd cc
+  wants_watch is trail apart WatchAlone wrong = refl
 
 -- numbers of which there are none
 is_no_number : (values : Text → Option Text) → ((workers bids audit objects : ℕ) → AreNumbers values workers bids audit objects → ⊥) → (e : WordsError) → AskWrongly values e → e ≡ Usage
@@ -204,6 +245,7 @@ is_no_number values none AuditAlone wrong = absurd (none 0 wrong.bids wrong.audi
 is_no_number values none NoMemory wrong = absurd wrong
 is_no_number values none FromObjects wrong = absurd (none wrong.workers wrong.bids wrong.audit wrong.objects wrong.numbers)
 is_no_number values none DirectThreads wrong = absurd (none wrong.workers wrong.bids wrong.audit wrong.objects wrong.numbers)
+is_no_number values none WatchAlone wrong = absurd (none wrong.workers wrong.bids wrong.audit wrong.objects wrong.numbers)
 
 module _ (rows : List Row) (given : List (Text × Text)) (same : (name : Text) → first_of name rows ≡ value_in given name) where
   -- the job that was read, and the numbers with which it goes together
@@ -241,15 +283,25 @@ module _ (rows : List Row) (given : List (Text × Text)) (same : (name : Text) �
   asks_both (Ok w) workers bids audit objects h are is trail both = let a = asked w h in absurd (a.5.start is both)
   asks_both (Err e) workers bids audit objects (inl out) are is trail both = inr out
   asks_both (Err e) workers bids audit objects (inr wrong) are is trail both =
-      inl (wants_both (value_in given) workers bids audit objects are is trail e (same_wrong same e wrong) (λ together. together.start is both))
+      inl (wants_both (value_in given) workers bids audit objects are is trail both e (same_wrong same e wrong))
+
+  pub asks_watch : (r : Result Words WordsError) (workers bids audit objects : ℕ) → HasSolveOf r rows → AreNumbers (value_in given) workers bids audit objects → is_direct (value_in given) ≡ false
+      → (workers ≡ 0 → audit ≡ 0) → (HasBoth (value_in given) → ⊥) → HasWatch (value_in given) → IsWatchAlone r
+  asks_watch (Ok w) workers bids audit objects h are is trail apart watch = let a = asked w h in absurd (a.5.watch is watch)
+  asks_watch (Err e) workers bids audit objects (inl out) are is trail apart watch = inr out
+  asks_watch (Err e) workers bids audit objects (inr wrong) are is trail apart watch = inl (wants_watch (value_in given) workers bids audit objects are is trail apart e (same_wrong same e wrong))
+
+  pub asks_watched : (r : Result Words WordsError) → HasSolveOf r rows → IfOk r (λ w. IsWatchedBy (value_in given) w.watching)
+  asks_watched (Ok w) h = same_watched same w.watching h.2
+  asks_watched (Err e) h = tt
 
 -- ---- the matches' first values are those of their rows
 
--- the job that the options ask for, with the files
-pub with_files : (r : Result Words WordsError) (rows : List Row) (job : Job) → AsksToSolve (λ name. first_of name rows) job → AsksFor job r (first_of (codes "file") rows) (first_of (codes "from") rows)
-    → HasSolveOf r rows
-with_files (Ok w) rows job asked names = (rw names.0 asked, (refl, names.1, names.2))
-with_files (Err e) rows job asked names = inl names
+-- the job that the options ask for, with the files, watched so
+pub with_files : (r : Result Words WordsError) (rows : List Row) (job : Job) (watching : Watching) → AsksToSolve (λ name. first_of name rows) job → IsWatchedBy (λ name. first_of name rows) watching
+    → AsksFor job r (first_of (codes "file") rows) (first_of (codes "from") rows) → IfOk r (λ w. w.watching ≡ watching) → HasSolveOf r rows
+with_files (Ok w) rows job watching asked watched names is = (rw names.0 asked, (refl, names.1, names.2), rw is watched)
+with_files (Err e) rows job watching asked watched names is = inl names
 
 -- the options ask for no job
 pub without_job : (r : Result Words WordsError) (rows : List Row) (e : WordsError) → IsErrAnd r (λ x. x ≡ e) → AskWrongly (λ name. first_of name rows) e → HasSolveOf r rows
@@ -259,6 +311,9 @@ without_job (Err x) rows e same wrong = inr (rw same wrong)
 module _ (found : Found) where
   pub by_rows : (job : Job) → AsksToSolve (λ name. first_value found name) job → AsksToSolve (λ name. first_of name (rows_of found)) job
   by_rows job h = same_asked (first_value-rows found) job h
+
+  pub watched_by_rows : (w : Watching) → IsWatchedBy (λ name. first_value found name) w → IsWatchedBy (λ name. first_of name (rows_of found)) w
+  watched_by_rows w h = same_watched (first_value-rows found) w h
 
   pub wrong_by_rows : (e : WordsError) → AskWrongly (λ name. first_value found name) e → AskWrongly (λ name. first_of name (rows_of found)) e
   wrong_by_rows e h = same_wrong (first_value-rows found) e h

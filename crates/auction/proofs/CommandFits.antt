@@ -1,5 +1,5 @@
 -- What the grammar makes of the words of each command, by the walk over them.
-use Rattle.std.proofs.Common.{◌≡◌, ◌∙◌, ◌&&◌, ◌||◌, Bool, true, false, not, List, [], ◌∷◌, ◌++◌, Option, Some, None, codes, map, cond, find, is_some, refl, rules as obvious, sym, ap, ap₂, inl, inr}
+use Rattle.std.proofs.Common.{◌≡◌, ◌∙◌, ◌⊎◌, ◌&&◌, ◌||◌, Bool, true, false, not, List, [], ◌∷◌, ◌++◌, Option, Some, None, codes, map, cond, find, is_some, refl, rules as obvious, sym, ap, ap₂, inl, inr}
 use Rattle.std.specs.List.{IsDistinct, list_all}
 use Rattle.std.specs.Str.{bytes_eq}
 use Rattle.std.proofs.lemmas.Bool.{cases_Bool}
@@ -31,7 +31,7 @@ mail_rules = built_rule (codes "script") None (Some 1) false ∷ []
 
 abbrev solve_rules : List Rule
 solve_rules = built_rule (codes "file") None (Some 1) false ∷ option_built (codes "workers") ∷ option_built (codes "bids") ∷ option_built (codes "audit")
-    ∷ option_built (codes "objects") ∷ option_built (codes "from") ∷ built_flag (codes "direct") ∷ []
+    ∷ option_built (codes "objects") ∷ option_built (codes "from") ∷ option_built (codes "seconds") ∷ built_flag (codes "direct") ∷ built_flag (codes "progress") ∷ []
 
 -- the arguments have no defaults
 either_way : (b : Bool) (rows : List Row) → cond b rows rows ≡ rows
@@ -54,6 +54,12 @@ objects_long = record { alone = refl; valued = λ value. refl; is_more = refl; i
 
 from_long : IsLong (codes "from")
 from_long = record { alone = refl; valued = λ value. refl; is_more = refl; is_more_valued = λ value. refl }
+
+seconds_long : IsLong (codes "seconds")
+seconds_long = record { alone = refl; valued = λ value. refl; is_more = refl; is_more_valued = λ value. refl }
+
+progress_long : IsLong (codes "progress")
+progress_long = record { alone = refl; valued = λ value. refl; is_more = refl; is_more_valued = λ value. refl }
 
 direct_long : IsLong (codes "direct")
 direct_long = record { alone = refl; valued = λ value. refl; is_more = refl; is_more_valued = λ value. refl }
@@ -96,11 +102,14 @@ solve_are = record {
       record { by_long = refl; by_id = refl; is_long = bids_long },
       (
         record { by_long = refl; by_id = refl; is_long = audit_long },
-        (record { by_long = refl; by_id = refl; is_long = objects_long }, (record { by_long = refl; by_id = refl; is_long = from_long }, tt)),
+        (
+          record { by_long = refl; by_id = refl; is_long = objects_long },
+          (record { by_long = refl; by_id = refl; is_long = from_long }, (record { by_long = refl; by_id = refl; is_long = seconds_long }, tt)),
+        ),
       ),
     ),
   );
-  flags_known = (record { by_long = refl; is_long = direct_long }, tt);
+  flags_known = (record { by_long = refl; is_long = direct_long }, (record { by_long = refl; is_long = progress_long }, tt));
   files_known = (record { required = false; by_index = refl; by_id = refl }, tt);
   no_defaults = refl;
   free = refl;
@@ -229,13 +238,18 @@ pub not_direct : (file : Option Text) → is_direct (value_in (named (codes "fil
 not_direct None = refl
 not_direct (Some file) = refl
 
+-- nothing of a watch is given
+no_watch : (false ≡ true) ⊎ (false ≡ true) → ⊥
+no_watch (inl h) = absurd cc
+no_watch (inr h) = absurd cc
+
 pub usual_together : (file : Option Text) → GoTogether (value_in (named (codes "file") file)) 0 0
-usual_together None = record { direct = λ e. absurd cc; trail = λ e none. refl; start = λ e both. absurd cc }
-usual_together (Some file) = record { direct = λ e. absurd cc; trail = λ e none. refl; start = λ e both. absurd cc }
+usual_together None = record { direct = λ e. absurd cc; trail = λ e none. refl; start = λ e both. absurd cc; watch = λ e watch. no_watch watch }
+usual_together (Some file) = record { direct = λ e. absurd cc; trail = λ e none. refl; start = λ e both. absurd cc; watch = λ e watch. no_watch watch }
 
 pub usual_numbers : (file : Option Text) → AreNumbers (value_in (named (codes "file") file)) 0 100000000 0 0
-usual_numbers None = record { of_workers = refl; of_bids = refl; of_audit = refl; of_objects = refl }
-usual_numbers (Some file) = record { of_workers = refl; of_bids = refl; of_audit = refl; of_objects = refl }
+usual_numbers None = record { of_workers = refl; of_bids = refl; of_audit = refl; of_objects = refl; of_seconds = (0, refl) }
+usual_numbers (Some file) = record { of_workers = refl; of_bids = refl; of_audit = refl; of_objects = refl; of_seconds = (0, refl) }
 
 only_named : (command : Text) (options flags : List Text) (id : Text) (words : List Text) (name : Option Text) → AreJob command words name → AreCommand command options flags (id ∷ []) words (named id name)
 unfolding IsDistinct
@@ -311,7 +325,7 @@ example_words = (
 
 example_numbers : AreNumbers (value_in example_given) 2 100000000 5 0
 unfolding example_given
-example_numbers = record { of_workers = search obvious; of_bids = refl; of_audit = search obvious; of_objects = refl }
+example_numbers = record { of_workers = search obvious; of_bids = refl; of_audit = search obvious; of_objects = refl; of_seconds = (0, refl) }
 
 direct_given : List (Text × Text)
 direct_given = (codes "bids", codes "9") ∷ (codes "direct", codes "true") ∷ (codes "file", codes "problem") ∷ []

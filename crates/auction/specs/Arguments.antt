@@ -43,11 +43,11 @@ value_in given name = lookup (λ key. bytes_eq key name) given
 
 -- the options of a solve
 abbrev pub solve_options : List (List ℕ)
-solve_options = codes "workers" ∷ codes "bids" ∷ codes "audit" ∷ codes "objects" ∷ codes "from" ∷ []
+solve_options = codes "workers" ∷ codes "bids" ∷ codes "audit" ∷ codes "objects" ∷ codes "from" ∷ codes "seconds" ∷ []
 
 -- its flags
 abbrev pub solve_flags : List (List ℕ)
-solve_flags = codes "direct" ∷ []
+solve_flags = codes "direct" ∷ codes "progress" ∷ []
 
 -- `solve [FILE]` with options and flags
 abbrev pub AreSolve : List (List ℕ) → List (List ℕ × List ℕ) → Type 0

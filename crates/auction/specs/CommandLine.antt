@@ -4,7 +4,7 @@ use Rattle.std.specs.String.{string_bytes}
 use Rattle.auc_run.specs.declared.command.Job.{Job}
 use Rattle.auction.specs.declared.asked.Words.{Words}
 use Rattle.auction.specs.declared.words_error.WordsError.{WordsError}
-use Rattle.auction.specs.declared.words_error.WordsError.TheVariants.{Usage, AuditAlone, NoMemory, FromObjects, DirectThreads}
+use Rattle.auction.specs.declared.words_error.WordsError.TheVariants.{Usage, AuditAlone, NoMemory, FromObjects, DirectThreads, WatchAlone}
 
 -- the words were read as this job on these files, unless memory ran out
 abbrev pub AsksFor : Job → Result Words WordsError → Option (List ℕ) → Option (List ℕ) → Type 0
@@ -31,6 +31,11 @@ abbrev pub IsDirectThreads : Result Words WordsError → Type 0
 IsDirectThreads (Ok w) = ⊥
 IsDirectThreads (Err e) = (e ≡ DirectThreads) ⊎ (e ≡ NoMemory)
 
+-- the words ask that another solver be watched, unless memory ran out
+abbrev pub IsWatchAlone : Result Words WordsError → Type 0
+IsWatchAlone (Ok w) = ⊥
+IsWatchAlone (Err e) = (e ≡ WatchAlone) ⊎ (e ≡ NoMemory)
+
 -- the status where the words are no job: 2, or 6 where memory ran out
 abbrev pub words_status : WordsError → ℕ
 words_status Usage = 2
@@ -38,3 +43,4 @@ words_status AuditAlone = 2
 words_status NoMemory = 6
 words_status FromObjects = 2
 words_status DirectThreads = 2
+words_status WatchAlone = 2

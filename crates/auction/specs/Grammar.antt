@@ -32,9 +32,9 @@ abbrev pub optioned_grammar : App
 optioned_grammar = with_rule (with_rule (with_rule (with_rule (with_rule (with_rule (on_top (λ s. record s { disable_help_flag = true }) (new_app (codes "solve"))) (new_rule (codes "file")))
     (option_rule (codes "workers"))) (option_rule (codes "bids"))) (option_rule (codes "audit"))) (option_rule (codes "objects"))) (option_rule (codes "from"))
 
--- the same with `[--direct]`
+-- the same with `[--seconds T] [--direct] [--progress]`
 abbrev pub solve_grammar : App
-solve_grammar = with_rule optioned_grammar (flag_rule (codes "direct"))
+solve_grammar = with_rule (with_rule (with_rule optioned_grammar (option_rule (codes "seconds"))) (flag_rule (codes "direct"))) (flag_rule (codes "progress"))
 
 -- no help, no version, and a command has to be named
 abbrev pub bare_grammar : App

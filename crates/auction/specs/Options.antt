@@ -5,9 +5,11 @@ use Rattle.clap.specs.Words.{Row, first_of}
 use Rattle.auc_run.specs.declared.command.Job.{Job}
 use Rattle.auc_run.specs.declared.command.Job.TheVariants.{Solve, Check, Hall}
 use Rattle.auction.specs.CommandLine.{AsksFor}
+use Rattle.auction.specs.declared.asked.Solve.{Solve as SolveAsked}
+use Rattle.auction.specs.declared.asked.Watching.{Watching}
 use Rattle.auction.specs.declared.asked.Words.{Words}
 use Rattle.auction.specs.declared.words_error.WordsError.{WordsError}
-use Rattle.auction.specs.declared.words_error.WordsError.TheVariants.{Usage, AuditAlone, NoMemory, FromObjects, DirectThreads}
+use Rattle.auction.specs.declared.words_error.WordsError.TheVariants.{Usage, AuditAlone, NoMemory, FromObjects, DirectThreads, WatchAlone}
 
 -- the text is read as this number by `from_str` of the numbers of 64 bits
 abbrev pub IsNumber : List ℕ → ℕ → Type 0
@@ -27,12 +29,22 @@ HasNumber least most usual (Some value) n = IsNumber value n × (least ≤ n) ×
 abbrev pub HasObjects : Option (List ℕ) → ℕ → Type 0
 HasObjects value n = HasNumber 1 20000 0 value n
 
--- the numbers that the options' values give
+-- the number of seconds that the option's value gives; without a value 0, which stands for any number
+abbrev pub HasSeconds : Option (List ℕ) → ℕ → Type 0
+HasSeconds value n = HasNumber 1 1000000 0 value n
+
+-- The numbers that the options' values give. That of the seconds isn't part of the job.
 pub record AreNumbers (values : List ℕ → Option (List ℕ)) (workers bids audit objects : ℕ) : Type 0 where
   pub of_workers : HasNumber 0 16 0 (values (codes "workers")) workers
   pub of_bids : HasNumber 1 1000000000000 100000000 (values (codes "bids")) bids
   pub of_audit : HasNumber 0 1000000 0 (values (codes "audit")) audit
   pub of_objects : HasObjects (values (codes "objects")) objects
+  pub of_seconds : (seconds : ℕ) × HasSeconds (values (codes "seconds")) seconds
+
+-- how the options' values ask that the solve be watched
+pub record IsWatchedBy (values : List ℕ → Option (List ℕ)) (watching : Watching) : Type 0 where
+  pub seconds : HasSeconds (values (codes "seconds")) watching.seconds
+  pub progress : watching.progress ≡ is_some (values (codes "progress"))
 
 -- a certificate to start from and a number of objects are both given
 abbrev pub HasBoth : (List ℕ → Option (List ℕ)) → Type 0
@@ -46,14 +58,19 @@ is_direct values = is_some (values (codes "direct"))
 abbrev pub HasThreads : (List ℕ → Option (List ℕ)) → Type 0
 HasThreads values = (is_some (values (codes "workers")) ≡ true) ⊎ (is_some (values (codes "audit")) ≡ true)
 
--- What goes together: the solver in one hand has no threads and no trail; the other one has a trail only where there are threads, and starts from a certificate only without a number of
--- objects.
+-- a number of seconds is given, or the flag for progress
+abbrev pub HasWatch : (List ℕ → Option (List ℕ)) → Type 0
+HasWatch values = (is_some (values (codes "seconds")) ≡ true) ⊎ (is_some (values (codes "progress")) ≡ true)
+
+-- What goes together: the solver in one hand has no threads and no trail; the other one has a trail only where there are threads, starts from a certificate only without a number of
+-- objects, and isn't watched.
 pub record GoTogether (values : List ℕ → Option (List ℕ)) (workers audit : ℕ) : Type 0 where
   pub direct : is_direct values ≡ true → ¬ HasThreads values
   pub trail : is_direct values ≡ false → workers ≡ 0 → audit ≡ 0
   pub start : is_direct values ≡ false → ¬ HasBoth values
+  pub watch : is_direct values ≡ false → ¬ HasWatch values
 
--- whether they go together, or why not, where a fault of a solve in one hand is told alone, and a trail before a start
+-- whether they go together, or why not, where a fault of a solve in one hand is told alone, and a trail before a start, and that before a watch
 abbrev pub AreTogether : (List ℕ → Option (List ℕ)) → ℕ → ℕ → Result ⊤ WordsError → Type 0
 AreTogether values workers audit (Ok _) = GoTogether values workers audit
 AreTogether values workers audit (Err Usage) = ⊥
@@ -61,6 +78,7 @@ AreTogether values workers audit (Err AuditAlone) = (is_direct values ≡ false)
 AreTogether values workers audit (Err NoMemory) = ⊥
 AreTogether values workers audit (Err FromObjects) = (is_direct values ≡ false) × (workers ≡ 0 → audit ≡ 0) × HasBoth values
 AreTogether values workers audit (Err DirectThreads) = (is_direct values ≡ true) × HasThreads values
+AreTogether values workers audit (Err WatchAlone) = (is_direct values ≡ false) × (workers ≡ 0 → audit ≡ 0) × (¬ HasBoth values) × HasWatch values
 
 -- the solve that the options' values ask for: with their numbers, where these go together
 abbrev pub AsksToSolve : (List ℕ → Option (List ℕ)) → Job → Type 0
@@ -97,6 +115,18 @@ pub record WantBoth (values : List ℕ → Option (List ℕ)) : Type 0 where
   pub trail : workers ≡ 0 → audit ≡ 0
   pub both : HasBoth values
 
+-- or, with none of these faults, that another solver be watched
+pub record WantWatch (values : List ℕ → Option (List ℕ)) : Type 0 where
+  pub workers : ℕ
+  pub bids : ℕ
+  pub audit : ℕ
+  pub objects : ℕ
+  pub numbers : AreNumbers values workers bids audit objects
+  pub direct : is_direct values ≡ false
+  pub trail : workers ≡ 0 → audit ≡ 0
+  pub apart : ¬ HasBoth values
+  pub watch : HasWatch values
+
 -- why the options' values ask for no solve
 abbrev pub AskWrongly : (List ℕ → Option (List ℕ)) → WordsError → Type 0
 AskWrongly values Usage = (workers bids audit objects : ℕ) → ¬ AreNumbers values workers bids audit objects
@@ -104,15 +134,16 @@ AskWrongly values AuditAlone = WantTrail values
 AskWrongly values NoMemory = ⊥
 AskWrongly values FromObjects = WantBoth values
 AskWrongly values DirectThreads = WantThreads values
+AskWrongly values WatchAlone = WantWatch values
 
--- the options' values ask for this solve, or for none
-abbrev pub IsSolveOf : (List ℕ → Option (List ℕ)) → Result Job WordsError → Type 0
-IsSolveOf values (Ok job) = AsksToSolve values job
+-- the options' values ask for this solve, watched so, or for none
+abbrev pub IsSolveOf : (List ℕ → Option (List ℕ)) → Result SolveAsked WordsError → Type 0
+IsSolveOf values (Ok solve) = AsksToSolve values solve.job × IsWatchedBy values solve.watching
 IsSolveOf values (Err e) = AskWrongly values e
 
--- the words were read as the solve that a subcommand's matches ask for, of the files that they name; or refused, where they ask for none, or memory ran out
+-- the words were read as the solve that a subcommand's matches ask for, of the files that they name, and watched so; or refused, where they ask for none, or memory ran out
 abbrev pub HasSolveOf : Result Words WordsError → List Row → Type 0
-HasSolveOf (Ok w) rows = AsksToSolve (λ name. first_of name rows) w.job × AsksFor w.job (Ok w) (first_of (codes "file") rows) (first_of (codes "from") rows)
+HasSolveOf (Ok w) rows = AsksToSolve (λ name. first_of name rows) w.job × AsksFor w.job (Ok w) (first_of (codes "file") rows) (first_of (codes "from") rows) × IsWatchedBy (λ name. first_of name rows) w.watching
 HasSolveOf (Err e) rows = (e ≡ NoMemory) ⊎ AskWrongly (λ name. first_of name rows) e
 
 -- the words were read as the job with the number of objects that this value gives, on these files; or refused, where it gives none, or memory ran out

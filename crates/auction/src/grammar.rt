@@ -85,13 +85,15 @@ fn solve_with_options<'a>(alloc: Global) -> Result<Command<'a>, AllocError>
     with_option(alloc, with_objects, "from")
 }
 
-/// The same with `[--direct]`. The numbers are read behind the parser, by [`crate::numbers`].
+/// The same with `[--seconds T] [--direct] [--progress]`. The numbers are read behind the parser, by [`crate::numbers`].
 fn solve_command<'a>(alloc: Global) -> Result<Command<'a>, AllocError>
     ensures shape { IfOk result (λ c. app_of c ≡ solve_grammar) }
     ensures local { IfOk result (λ c. (fields_of c).has_globals ≡ false) }
 {
     let with_options = solve_with_options(alloc)?;
-    with_flag(alloc, with_options, "direct")
+    let with_seconds = with_option(alloc, with_options, "seconds")?;
+    let with_direct = with_flag(alloc, with_seconds, "direct")?;
+    with_flag(alloc, with_direct, "progress")
 }
 
 /// No command yet. Words that ask for help or for the version are at fault like others.

@@ -8,6 +8,7 @@ ghost use Rattle.auction.specs.CommandLine.{words_status};
 mod asked;
 mod grammar;
 mod numbers;
+mod timer;
 mod usage;
 mod word_fault;
 mod words;
@@ -23,9 +24,10 @@ use std::fs::File;
 use std::io;
 use std::io::{BufWriter, ErrorKind, Read, Seek, SeekFrom, Write};
 use std::process::ExitCode;
-use std::rt::{Env, Files};
+use std::rt::{Clock, Env, Files};
 use std::sync::Wait;
 use std::thread::Threads;
+use timer::Timer;
 use usage::USAGE_PAGE;
 use words::read_words;
 use words_error::WordsError;
@@ -53,21 +55,31 @@ fn given_words<R: Env + AllocGlobal>(rt: &R) -> Result<Vec<String>, WordsError> 
     Ok(all.skip(1).collect(rt.alloc())?)
 }
 
-/// Does the job with these readers, and writes to standard output.
-fn answer<R: Print + Eprint + AllocGlobal + Threads + Wait + Sync, A: Read, B: Read>(
+/// Does the job with these readers, watched as the words ask, and writes to standard output.
+fn answer<R: Print + Eprint + Clock + AllocGlobal + Threads + Wait + Sync, A: Read, B: Read>(
     rt: &R,
-    job: &Job,
+    words: &Words,
     first: &mut A,
     second: &mut B,
 ) -> Ended
-    requires { IsInRange job.now }
+    requires { IsInRange words.now.job }
 {
     let alloc = rt.alloc();
     let Ok(mut writer) = BufWriter::new(alloc, io::writer(rt)) else {
         let _ = eprintln!(rt; "{}", WordsError::NoMemory);
         return Err(NO_MEMORY);
     };
-    let ending = perform(rt, alloc, job, first, second, &mut writer, &FreeGate);
+    let mut timer = Timer::start(rt, words.watching);
+    let ending = perform(
+        rt,
+        alloc,
+        &words.job,
+        first,
+        second,
+        &mut writer,
+        &FreeGate,
+        &mut timer,
+    );
     if writer.flush().is_err() {
         return Ok(Ending {
             status: UNWRITTEN,
@@ -92,7 +104,7 @@ fn open<R: Files + Eprint, E: Write>(rt: &R, errors: &mut E, name: &str) -> Opti
 
 /// Opens the second file, and does the job.
 fn with_second<
-    R: Files + Input + Print + Eprint + AllocGlobal + Threads + Wait + Sync,
+    R: Files + Input + Print + Eprint + Clock + AllocGlobal + Threads + Wait + Sync,
     E: Write,
     A: Read,
 >(rt: &R, errors: &mut E, words: &Words, first: &mut A) -> Ended
@@ -100,10 +112,10 @@ fn with_second<
 {
     match &words.second {
         Some(name) => match open(rt, errors, name.as_str()) {
-            Some(mut second) => answer(rt, &words.job, first, &mut second),
+            Some(mut second) => answer(rt, words, first, &mut second),
             None => Err(REFUSED),
         },
-        None => answer(rt, &words.job, first, &mut rt.reader()),
+        None => answer(rt, words, first, &mut rt.reader()),
     }
 }
 
@@ -165,7 +177,10 @@ fn is_standard_input_open<R: Input>(rt: &R) -> bool {
 }
 
 /// Opens the first file, then the second, before anything is read, and does the job.
-fn with_files<R: Files + Input + Print + Eprint + AllocGlobal + Threads + Wait + Sync, E: Write>(
+fn with_files<
+    R: Files + Input + Print + Eprint + Clock + AllocGlobal + Threads + Wait + Sync,
+    E: Write,
+>(
     rt: &R,
     errors: &mut E,
     words: &Words,
@@ -196,7 +211,8 @@ fn status_of(error: WordsError) -> u8
         WordsError::Usage
         | WordsError::AuditAlone
         | WordsError::FromObjects
-        | WordsError::DirectThreads => USAGE,
+        | WordsError::DirectThreads
+        | WordsError::WatchAlone => USAGE,
         WordsError::NoMemory => NO_MEMORY,
     }
 }
@@ -244,7 +260,10 @@ fn show<R: Print + Eprint>(rt: &R, page: Page) -> u8 {
 }
 
 /// Reads the words, opens the files that they name, does the job, and gives the status.
-fn run<R: Env + Files + Input + Print + Eprint + AllocGlobal + Threads + Wait + Sync, E: Write>(
+fn run<
+    R: Env + Files + Input + Print + Eprint + Clock + AllocGlobal + Threads + Wait + Sync,
+    E: Write,
+>(
     rt: &R,
     errors: &mut E,
 ) -> u8 {

@@ -3,8 +3,9 @@
 ghost use Rattle.std.specs.Prelude.{◌≡◌, ◌≤◌, ℕ, IfErr, IfOk, codes, is_some};
 ghost use Rattle.clap.specs.Words.{first_value, found_of};
 ghost use Rattle.auc_run.specs.Jobs.{IsInRange};
-ghost use Rattle.auction.specs.Options.{AreTogether, HasNumber, HasObjects, IsNumberIn, IsSolveOf, is_direct};
+ghost use Rattle.auction.specs.Options.{AreTogether, HasNumber, HasObjects, HasSeconds, IsNumberIn, IsSolveOf, IsWatchedBy, is_direct};
 
+use crate::asked::{Solve, Watching};
 use crate::words_error::WordsError;
 use auc_run::{Job, MOST_BIDS, USUAL_BIDS};
 use clap::ArgMatches;
@@ -17,6 +18,9 @@ pub(crate) const MOST_AUDIT: u64 = 1_000_000;
 
 /// The most objects that a problem may have.
 pub(crate) const MOST_OBJECTS: u64 = 20_000;
+
+/// The most seconds that a solve may be given.
+pub(crate) const MOST_SECONDS: u64 = 1_000_000;
 
 /// The number that a text spells, where it is from `least` to `most`.
 pub(crate) fn number_in(text: &str, least: u64, most: u64) -> Result<u64, WordsError>
@@ -62,8 +66,20 @@ fn is_given(matches: &ArgMatches<'_>, id: &str) -> bool
     matches.get_str(id).is_some()
 }
 
-/// Looks whether the options go together: a solve in one hand has no threads and no trail; another one has a trail only with threads, and
-/// starts from a certificate only without a number of objects.
+/// How the solve is to be watched.
+fn watching_of(matches: &ArgMatches<'_>) -> Result<Watching, WordsError>
+    ensures given { IfOk result (IsWatchedBy (λ name. first_value (found_of matches.now) name)) }
+    ensures refused { IfErr result (λ e. (e ≡ WordsError.Usage) × ((n : ℕ) → ¬ HasSeconds (first_value (found_of matches.now) (codes "seconds")) n)) }
+{
+    let seconds = number_of(matches, "seconds", 1, MOST_SECONDS, 0)?;
+    Ok(Watching {
+        seconds,
+        progress: is_given(matches, "progress"),
+    })
+}
+
+/// Looks whether the options go together: a solve in one hand has no threads and no trail; another one has a trail only with threads, starts from
+/// a certificate only without a number of objects, and isn't watched.
 fn look_together(
     matches: &ArgMatches<'_>,
     workers: u64,
@@ -85,26 +101,31 @@ fn look_together(
     if is_given(matches, "from") && is_given(matches, "objects") {
         return Err(WordsError::FromObjects);
     }
+    if is_given(matches, "seconds") || is_given(matches, "progress") {
+        return Err(WordsError::WatchAlone);
+    }
     Ok(())
 }
 
 /// The solve that the options ask for. A number that is wrong is told before options that don't go together.
-pub(crate) fn solve_of_options(matches: &ArgMatches<'_>) -> Result<Job, WordsError>
+pub(crate) fn solve_of_options(matches: &ArgMatches<'_>) -> Result<Solve, WordsError>
     ensures solve { IsSolveOf (λ name. first_value (found_of matches.now) name) result }
-    ensures range { IfOk result IsInRange }
+    ensures range { IfOk result (λ s. IsInRange s.job) }
 {
     let workers = number_of(matches, "workers", 0, MOST_WORKERS, 0)?;
     let bids = number_of(matches, "bids", 1, MOST_BIDS, USUAL_BIDS)?;
     let audit = number_of(matches, "audit", 0, MOST_AUDIT, 0)?;
     let objects = objects_of(matches)?;
+    let watching = watching_of(matches)?;
     let direct = is_given(matches, "direct");
     look_together(matches, workers, audit, direct)?;
-    Ok(Job::Solve {
+    let job = Job::Solve {
         workers: workers as u32,
         bids,
         audit: audit as u32,
         objects,
         from: is_given(matches, "from"),
         direct,
-    })
+    };
+    Ok(Solve { job, watching })
 }

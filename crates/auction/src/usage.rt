@@ -2,7 +2,7 @@
 
 /// How the program is used: what `auction --help` writes.
 pub(crate) const USAGE_PAGE: &str =
-    "usage: auction solve [FILE] [--workers K] [--bids N] [--audit ROOM] [--objects M] [--from CERT] [--direct]
+    "usage: auction solve [FILE] [--workers K] [--bids N] [--audit ROOM] [--objects M] [--from CERT] [--direct [--seconds T] [--progress]]
        auction check FILE [CERT] [--objects M]
        auction hall [FILE] [--objects M]
        auction mail [SCRIPT]
@@ -17,6 +17,8 @@ Each mail keeps a trail of at most ROOM calls, by which the phases are judged: 0
 With --from the prices begin at those of the certificate CERT, of a problem with as many persons, and as many objects; without, at 0.
 With --direct one hand does all, without messages: as right, mostly sooner, and far sooner with more objects than persons; of several
 least assignments it may find another one. It takes the prices of any CERT with one for each object, and no --workers and no --audit.
+Such a solve ends soon behind T seconds, 1 to 1000000, where they don't do, as it does where bids don't; with --progress it tells on
+standard error once a second how far it has come.
 
 check says whether the claim of the certificate CERT holds of the problem FILE: a least-cost assignment, or that there is none.
 Without CERT the certificate is read from standard input.

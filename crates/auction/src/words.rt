@@ -5,11 +5,11 @@ ghost use Rattle.std.specs.String.{string_bytes};
 ghost use Rattle.clap.specs.Words.{Row, fault_of, first_of, first_value, found_of, rows_of, subcommand_of, subcommand_rows_of, takes};
 ghost use Rattle.auc_run.specs.Jobs.{IsInRange};
 ghost use Rattle.auction.specs.Arguments.{AreCheck, AreCheckOf, AreHallOf, AreJob, AreSolve, value_in};
-ghost use Rattle.auction.specs.CommandLine.{AsksFor, IsAuditAlone, IsDirectThreads, IsFromObjects, IsUsage};
+ghost use Rattle.auction.specs.CommandLine.{AsksFor, IsAuditAlone, IsDirectThreads, IsFromObjects, IsUsage, IsWatchAlone};
 ghost use Rattle.auction.specs.Grammar.{grammar};
-ghost use Rattle.auction.specs.Options.{AreNumbers, GoTogether, HasBoth, HasCheckOf, HasHallOf, HasObjects, HasSolveOf, HasThreads, is_direct};
+ghost use Rattle.auction.specs.Options.{AreNumbers, GoTogether, HasBoth, HasCheckOf, HasHallOf, HasObjects, HasSolveOf, HasThreads, HasWatch, IsWatchedBy, is_direct};
 
-use crate::asked::Words;
+use crate::asked::{UNWATCHED, Watching, Words};
 use crate::grammar::all_commands;
 use crate::numbers::{objects_of, solve_of_options};
 use crate::words_error::WordsError;
@@ -52,18 +52,21 @@ fn job_of(alloc: Global, matches: &ArgMatches<'_>, job: Job, id: &str) -> Result
         job,
         first: name_of(alloc, matches, id)?,
         second: None,
+        watching: UNWATCHED,
     })
 }
 
-/// A job with two inputs, those that these arguments name.
+/// A job with two inputs, those that these arguments name, watched so.
 fn job_of_two(
     alloc: Global,
     matches: &ArgMatches<'_>,
     job: Job,
     first: &str,
     second: &str,
+    watching: Watching,
 ) -> Result<Words, WordsError>
     requires { IsInRange job }
+    ensures watching { IfOk result (λ w. w.watching ≡ watching) }
     ensures names { AsksFor job result (first_of first.now (rows_of (found_of matches.now))) (first_of second.now (rows_of (found_of matches.now))) }
     ensures range { IfOk result (λ w. IsInRange w.job) }
 {
@@ -71,6 +74,7 @@ fn job_of_two(
         job,
         first: name_of(alloc, matches, first)?,
         second: name_of(alloc, matches, second)?,
+        watching,
     })
 }
 
@@ -80,7 +84,8 @@ fn check_of(alloc: Global, matches: &ArgMatches<'_>) -> Result<Words, WordsError
     ensures range { IfOk result (λ w. IsInRange w.job) }
 {
     let objects = objects_of(matches)?;
-    job_of_two(alloc, matches, Job::Check { objects }, "file", "cert")
+    let check = Job::Check { objects };
+    job_of_two(alloc, matches, check, "file", "cert", UNWATCHED)
 }
 
 /// A hall of the file that is named.
@@ -98,7 +103,7 @@ fn solve_of(alloc: Global, matches: &ArgMatches<'_>) -> Result<Words, WordsError
     ensures range { IfOk result (λ w. IsInRange w.job) }
 {
     let solve = solve_of_options(matches)?;
-    job_of_two(alloc, matches, solve, "file", "from")
+    job_of_two(alloc, matches, solve.job, "file", "from", solve.watching)
 }
 
 /// What the command that was found asks for.
@@ -124,7 +129,7 @@ fn words_of(alloc: Global, matches: &ArgMatches<'_>) -> Result<Words, WordsError
 ///
 /// [`WordsError::Usage`] where the words are no job, or a number is out of its range; then [`WordsError::DirectThreads`] where a solve in one
 /// hand is to have threads or a trail; then, of another one, [`WordsError::AuditAlone`] where it has no threads and is to keep a trail; then
-/// [`WordsError::FromObjects`] where it is to start from a certificate and has a number of objects.
+/// [`WordsError::FromObjects`] where it is to start from a certificate and has a number of objects; then [`WordsError::WatchAlone`] where it is to be watched.
 pub fn read_words(alloc: Global, words: &[String]) -> Result<Words, WordsError>
     // A check that is asked for without options is read as that check, of as many objects as persons, unless memory runs out.
     ensures check { (file : List ℕ) (cert : Option (List ℕ)) → AreCheck (map string_bytes words.now) file cert → AsksFor (Job.Check 0) result (Some file) cert }
@@ -159,6 +164,11 @@ pub fn read_words(alloc: Global, words: &[String]) -> Result<Words, WordsError>
     // Behind it, so is a start from a certificate with a number of objects.
     ensures from_objects { (given : List (List ℕ × List ℕ)) (workers bids audit objects : ℕ) → AreSolve (map string_bytes words.now) given → AreNumbers (value_in given) workers bids audit objects
         → is_direct (value_in given) ≡ false → (workers ≡ 0 → audit ≡ 0) → HasBoth (value_in given) → IsFromObjects result }
+    // Behind these, so is one that is to be watched.
+    ensures watch_alone { (given : List (List ℕ × List ℕ)) (workers bids audit objects : ℕ) → AreSolve (map string_bytes words.now) given → AreNumbers (value_in given) workers bids audit objects
+        → is_direct (value_in given) ≡ false → (workers ≡ 0 → audit ≡ 0) → ¬ HasBoth (value_in given) → HasWatch (value_in given) → IsWatchAlone result }
+    // A solve is watched as its options ask: for so many seconds, and with or without progress.
+    ensures watched { (given : List (List ℕ × List ℕ)) → AreSolve (map string_bytes words.now) given → IfOk result (λ w. IsWatchedBy (value_in given) w.watching) }
     // Words that the grammar does not take are a fault of usage, unless memory runs out.
     ensures unfit { fault_of grammar (map string_bytes words.now) ≢ [] → IsUsage result }
     // The numbers of the job are those that it may have.

@@ -25,6 +25,9 @@ pub enum WordsError {
     /// They ask for the solver in one hand, and for threads or a trail.
     #[error("auction: --direct goes without --workers K and --audit ROOM: a solve in one hand has no threads and no trail")]
     DirectThreads,
+    /// They ask for another solver, and that it be watched.
+    #[error("auction: --seconds T and --progress want --direct: a solve by messages has its limits by --bids N alone")]
+    WatchAlone,
 }
 
 impl From<AllocError> for WordsError {

@@ -1,7 +1,7 @@
 //! Which of some words that are no job is at fault, and what was wanted. Whether words are a job, the parser tells (`words.rt`); this tells
 //! why not.
 
-use crate::numbers::{MOST_AUDIT, MOST_OBJECTS, MOST_WORKERS, number_in};
+use crate::numbers::{MOST_AUDIT, MOST_OBJECTS, MOST_SECONDS, MOST_WORKERS, number_in};
 use crate::word_fault::{WordFault, nearest};
 use auc_run::MOST_BIDS;
 use std::alloc::{AllocError, Global};
@@ -22,6 +22,7 @@ enum Wanted {
     Bids,
     Audit,
     Objects,
+    Seconds,
     Name,
     Nothing,
 }
@@ -61,7 +62,8 @@ fn wanted_of(command: Command, option: &str) -> Option<Wanted> {
         "--bids" => Some(Wanted::Bids),
         "--audit" => Some(Wanted::Audit),
         "--from" => Some(Wanted::Name),
-        "--direct" => Some(Wanted::Nothing),
+        "--seconds" => Some(Wanted::Seconds),
+        "--direct" | "--progress" => Some(Wanted::Nothing),
         _ => None,
     }
 }
@@ -75,7 +77,9 @@ fn nearest_option(
     let name = option.trim_start_matches('-');
     match command {
         Command::Solve => {
-            let right = ["workers", "bids", "audit", "objects", "from", "direct"];
+            let right = [
+                "workers", "bids", "audit", "objects", "from", "direct", "seconds", "progress",
+            ];
             nearest(alloc, name, right.as_slice())
         }
         Command::Check | Command::Hall => nearest(alloc, name, ["objects"].as_slice()),
@@ -126,6 +130,11 @@ fn fault_of_value<'a>(wanted: Wanted, value: &'a str) -> Option<WordFault<'a>> {
             1,
             MOST_OBJECTS,
             "--objects wants a whole number from 1 to 20000, and not ",
+        ),
+        Wanted::Seconds => (
+            1,
+            MOST_SECONDS,
+            "--seconds wants a whole number from 1 to 1000000, and not ",
         ),
         Wanted::Name | Wanted::Nothing => return None,
     };

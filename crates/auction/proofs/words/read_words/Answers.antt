@@ -1,6 +1,6 @@
 use Rattle.std.proofs.Common.{◌∙◌, codes, inl, inr, refl}
 use Rattle.auc_run.specs.declared.command.Job.TheVariants.{Mail}
-use Rattle.auction.proofs.AskLaws.{at_fault, no_memory, asks_alone, asks_both, asks_for_hall, asks_threads, asks_to_check, asks_to_solve, asks_wrongly, checks_wrongly, halls_wrongly, same_files}
+use Rattle.auction.proofs.AskLaws.{at_fault, no_memory, asks_alone, asks_both, asks_for_hall, asks_threads, asks_to_check, asks_to_solve, asks_watch, asks_watched, asks_wrongly, checks_wrongly, halls_wrongly, same_files}
 use Rattle.auction.proofs.CommandFits.{both_file, both_named, check_fits, hall_fits, mail_fits, named, named_file, named_script, no_certificate, no_objects, not_direct, plain_check_fits, plain_hall_fits, plain_solve_fits, solve_fits, usual_numbers, usual_together}
 use Rattle.auction.proofs.words.read_words.Goals as goal
 
@@ -37,6 +37,13 @@ returns-in_err-matches-clause-audit_alone c = λ given bids audit objects h are 
 pub returns-in_err-matches-clause-from_objects : goal.returns-in_err-matches-clause-from_objects
 returns-in_err-matches-clause-from_objects c = λ given workers bids audit objects h are is trail both.
     rw (no_memory _ _ c.from_residual.ensures.1 (c.in_err-matches.ensures.taken (solve_fits _ given h).taken)) (inr refl)
+
+pub returns-in_err-matches-clause-watch_alone : goal.returns-in_err-matches-clause-watch_alone
+returns-in_err-matches-clause-watch_alone c = λ given workers bids audit objects h are is trail apart watch.
+    rw (no_memory _ _ c.from_residual.ensures.1 (c.in_err-matches.ensures.taken (solve_fits _ given h).taken)) (inr refl)
+
+pub returns-in_err-matches-clause-watched : goal.returns-in_err-matches-clause-watched
+returns-in_err-matches-clause-watched c = λ given h. rw (no_memory _ _ c.from_residual.ensures.1 (c.in_err-matches.ensures.taken (solve_fits _ given h).taken)) tt
 
 pub returns-in_err-matches-clause-wrong_number : goal.returns-in_err-matches-clause-wrong_number
 returns-in_err-matches-clause-wrong_number c = λ given h none. at_fault _ _ c.from_residual.ensures.1 c.in_err-matches.ensures.refused
@@ -114,3 +121,13 @@ pub returns-clause-from_objects : goal.returns-clause-from_objects
 returns-clause-from_objects c = λ given workers bids audit objects h are is trail both.
     let fits = solve_fits _ given h in
     asks_both fits.rows given fits.values c.words_of.result workers bids audit objects (c.words_of.ensures.solve fits.rows (c.in_ok-matches.ensures.found ∙ fits.found)) are is trail both
+
+pub returns-clause-watch_alone : goal.returns-clause-watch_alone
+returns-clause-watch_alone c = λ given workers bids audit objects h are is trail apart watch.
+    let fits = solve_fits _ given h in
+    asks_watch fits.rows given fits.values c.words_of.result workers bids audit objects (c.words_of.ensures.solve fits.rows (c.in_ok-matches.ensures.found ∙ fits.found)) are is trail apart watch
+
+pub returns-clause-watched : goal.returns-clause-watched
+returns-clause-watched c = λ given h.
+    let fits = solve_fits _ given h in
+    asks_watched fits.rows given fits.values c.words_of.result (c.words_of.ensures.solve fits.rows (c.in_ok-matches.ensures.found ∙ fits.found))

@@ -1,6 +1,6 @@
 //! A phase in slices, before each of which somebody is asked whether it goes on.
 
-ghost use Rattle.std.specs.Prelude.{ℕ, ℤ, List, true, false, ◌≡◌, ◌⊎◌, ◌<◌, ◌≤ℤ◌, length, IfOk, OnOk};
+ghost use Rattle.std.specs.Prelude.{ℕ, ℤ, List, true, false, ◌≡◌, ◌⊎◌, ◌<◌, ◌≤◌, ◌≤ℤ◌, length, IfOk, OnOk};
 ghost use Rattle.std.specs.BinaryHeap.{heap_items};
 ghost use Rattle.auc_cert.specs.declared.reason.Reason.{Reason};
 ghost use Rattle.auc_graph.specs.Assignment.{total};
@@ -23,6 +23,16 @@ use std::alloc::AllocError;
 
 /// How many bids a phase makes between two questions at most: as many as take some milliseconds.
 const SLICE: u64 = 16_384;
+
+/// How many searches for a path it makes between them at most, each of which may look at all arcs.
+const SEARCHES: u64 = 64;
+
+/// How many bids a slice of a phase makes at most that looks for a path behind so many bids of a chain.
+fn slice_of(patience: u64) -> u64
+    ensures { 1 ≤ result }
+{
+    SLICE.min(patience.saturating_mul(SEARCHES)).max(1)
+}
 
 /// Whether bids have run out. Any other ending of a slice is one of its phase.
 fn ran_out(ending: Ending) -> bool
@@ -85,7 +95,7 @@ impl Market {
             if !watch.goes_on(progress) {
                 return Ok(Ending::Stopped(Reason::Bids));
             }
-            let slice = left.min(SLICE);
+            let slice = left.min(slice_of(patience));
             let ending = self.play(rows, eps, slice, patience, work)?;
             if !ran_out(ending) {
                 return Ok(ending);

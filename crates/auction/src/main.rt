@@ -180,11 +180,7 @@ fn is_standard_input_open<R: Input>(rt: &R) -> bool {
 fn with_files<
     R: Files + Input + Print + Eprint + Clock + AllocGlobal + Threads + Wait + Sync,
     E: Write,
->(
-    rt: &R,
-    errors: &mut E,
-    words: &Words,
-) -> u8
+>(rt: &R, errors: &mut E, words: &Words) -> u8
     requires { IsInRange words.now.job }
 {
     match &words.first {
@@ -263,10 +259,7 @@ fn show<R: Print + Eprint>(rt: &R, page: Page) -> u8 {
 fn run<
     R: Env + Files + Input + Print + Eprint + Clock + AllocGlobal + Threads + Wait + Sync,
     E: Write,
->(
-    rt: &R,
-    errors: &mut E,
-) -> u8 {
+>(rt: &R, errors: &mut E) -> u8 {
     let given = match given_words(rt) {
         Ok(given) => given,
         Err(error) => return refuse(rt, error),

@@ -73,7 +73,21 @@ slack_of r eps prices i s scale least row e f listed l all =
     let own : least ≡ (short_value (scale_in r) prices s -ℤ eps) = l ∙ ap (λ (z : ℤ). short_value z prices s -ℤ eps) e in
     record { listed = listed; least = λ k d lt. (let a = mine k d lt in omega (arith, ints, a, own)) }
 
+-- an arc that is worth no more than one that is slack
+pub slack_below : (r : Shorts) (eps : ℤ) (prices : List ℤ) (i : ℕ) (s had : ShortArc) (scale a b : ℤ) → scale ≡ scale_in r → a ≡ short_value scale prices s → b ≡ short_value scale prices had → a ≤ℤ b → Contains (shorts_of r i) s → IsSlack r eps prices i had → IsSlack r eps prices i s
+slack_below r eps prices i s had scale a b e f g le listed slack =
+    let mine : a ≡ short_value (scale_in r) prices s = f ∙ ap (λ (z : ℤ). short_value z prices s) e in
+    let his : b ≡ short_value (scale_in r) prices had = g ∙ ap (λ (z : ℤ). short_value z prices had) e in
+    record { listed = listed; least = λ k d lt. (let l = slack.least k d lt in omega (arith, ints, l, le, mine, his)) }
+
 -- ---- who is free
+
+-- the arc by which he held his object is slack still
+pub freed_slack : (r : Shorts) (eps : ℤ) (prices new : List ℤ) (holders : List ℕ) (owns : List ShortArc) (j person : ℕ) (had : ShortArc) → Stands r eps prices holders owns → new ≡ set prices j (price_at prices j) → (person ≢ NOBODY → had ≡ own_at owns person) → (person ≡ NOBODY → had.object ≡ NOBODY) → had.object ≢ NOBODY → IsSlack r eps new person had
+freed_slack r eps prices new holders owns j person had stands e is none has =
+    let same : had ≡ own_at owns person = is (λ z. has (none z)) in
+    let own : (own_at owns person).object ≢ NOBODY = λ z. has (ap (λ (s : ShortArc). s.object) same ∙ z) in
+    subst (λ (ps : List ℤ). IsSlack r eps ps person had) (sym (e ∙ set-get_or prices j (pos 0))) (subst (IsSlack r eps prices person) (sym same) (stands.slack person own))
 
 higher_same : (prices : List ℤ) → AreHigher prices prices
 higher_same prices k = omega (arith, ints)

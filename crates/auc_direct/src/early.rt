@@ -11,7 +11,7 @@ ghost use Rattle.auc_direct.specs.Shortlist.{Kept};
 use crate::ending::Ending;
 use crate::eps::LAST_EPS;
 use crate::market::Market;
-use crate::phases::patience_in_one;
+use crate::phases::patience_at;
 use crate::rows::ShortRows;
 use crate::watch::{Progress, Watch};
 use crate::workspace::Workspace;
@@ -52,7 +52,7 @@ impl Market {
         if !watch.goes_on(progress) {
             return Ok(Some(Ending::Stopped(Reason::Bids)));
         }
-        let patience = patience_in_one(rows);
+        let patience = patience_at(rows, LAST_EPS);
         self.play_within(rows, LAST_EPS, bids, patience, LOOKS, work)
     }
 }

@@ -11,7 +11,7 @@ use std::alloc::{AllocError, Global};
 pub(crate) const NOBODY: u32 = 4_294_967_295;
 
 /// Stands for the arc of a person who holds no object.
-const NO_OWN: ShortArc = ShortArc {
+pub(crate) const NO_OWN: ShortArc = ShortArc {
     object: NOBODY,
     cost: 0,
 };

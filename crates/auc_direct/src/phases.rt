@@ -31,15 +31,10 @@ const AT_ONCE: u64 = 4;
 /// How many arcs a search may look at in the time of one bid.
 const LOOKS: usize = 100;
 
-/// Behind how many bids of a chain a path is looked for in a phase at the last eps that no other comes before.
-pub(crate) fn patience_in_one(rows: &ShortRows) -> u64 {
-    if rows.is_table() { AT_ONCE } else { SOON }
-}
-
 /// Behind how many bids of a chain a path is looked for in a run that begins at this eps.
-fn patience_at(rows: &ShortRows, eps: i64) -> u64 {
+pub(crate) fn patience_at(rows: &ShortRows, eps: i64) -> u64 {
     if eps == LAST_EPS {
-        return patience_in_one(rows);
+        return if rows.is_table() { AT_ONCE } else { SOON };
     }
     LATE.max((rows.many() / LOOKS) as u64)
 }
@@ -146,7 +141,7 @@ pub(crate) fn play_from<W: Watch>(
     let prices = prices_before(alloc, rows, start)?;
     let mut market = Market::new(alloc, rows.persons(), prices)?;
     market.open_at(rows, LAST_EPS, start);
-    let patience = patience_in_one(rows);
+    let patience = patience_at(rows, LAST_EPS);
     let ending = market.play_watched(rows, LAST_EPS, bids, patience, &mut work, watch)?;
     Ok(Outcome { ending, market })
 }

@@ -1,20 +1,47 @@
 //! A path in a full table: a search of which nothing is proved proposes prices and steps, and each is tried before it is taken.
 
-ghost use Rattle.std.specs.Prelude.{◌≡◌, ◌<◌, ◌≢◌, ℕ, All, IsTrue, IfOk, length};
+ghost use Rattle.std.specs.Prelude.{◌≡◌, ◌<◌, ◌≢◌, ℕ, All, Contains, IsTrue, IfOk, length};
 ghost use Rattle.auc_letters.specs.Price.{IsEps, IsPrice};
 ghost use Rattle.auc_direct.specs.declared.market.TheConstants.{NOBODY};
-ghost use Rattle.auc_direct.specs.Market.{AreHigher, EachHasArc, IsSlack, Stands, own_at};
-ghost use Rattle.auc_direct.specs.Rows.{AreShorts};
+ghost use Rattle.auc_direct.specs.Market.{AreHigher, EachHasArc, IsSlack, Stands, holder_at, own_at};
+ghost use Rattle.auc_direct.specs.Rows.{AreShorts, shorts_of};
 ghost use Rattle.auc_direct.specs.Way.{AreProposed, IsWay};
 
+use crate::arc::ShortArc;
 use crate::bid::Bid;
-use crate::market::{Market, NOBODY};
+use crate::market::{Market, NO_OWN, NOBODY};
 use crate::rows::ShortRows;
+use crate::scan::value_of;
 use crate::slack::is_slack;
 use crate::table_search::{Step, TableSearch};
 use auc_letters::MOST_PRICE;
 use std::alloc::AllocError;
 use std::mem;
+
+/// Who is free, and the arc by which he held an object until then: none of his row is better by more than eps. Its object is nobody's where he held none.
+#[derive(Clone, Copy)]
+struct Freed {
+    person: u32,
+    had: ShortArc,
+}
+
+/// Whether an arc of a free person is within eps of his best. Where he had an object by an arc that is, no pass over his row is needed for one that is worth no more.
+fn suits(rows: &ShortRows, eps: i64, prices: &[i64], freed: Freed, arc: ShortArc) -> bool
+    requires person { freed.person < length rows.now.rows }
+    requires listed { Contains (shorts_of rows.now freed.person) arc }
+    requires had { freed.had.object ≢ NOBODY → IsSlack rows.now eps prices.now freed.person freed.had }
+    requires many { length prices.now ≡ rows.now.objects }
+    requires prices { All IsPrice prices.now }
+    requires sound { AreShorts rows.now }
+    requires eps { IsEps eps }
+    ensures { IsTrue result → IsSlack rows.now eps prices.now freed.person arc }
+{
+    if freed.had.object == NOBODY {
+        return is_slack(rows, eps, prices, freed.person, arc);
+    }
+    let scale = rows.scale();
+    value_of(scale, arc, prices) <= value_of(scale, freed.had, prices)
+}
 
 impl Market {
     /// Whether these may be prices: none is lower than it was or above the greatest, and what nobody holds keeps its own.
@@ -105,27 +132,52 @@ impl Market {
         true
     }
 
+    /// Who holds an object, and by which arc.
+    fn freed_from(&self, object: u32) -> Freed
+        requires holder { object < length self.now.holders.items }
+        requires owner { holder_at self.now.holders.items object ≢ NOBODY → holder_at self.now.holders.items object < length self.now.owns.items }
+        ensures person { result.person ≡ holder_at self.now.holders.items object }
+        ensures had { result.person ≢ NOBODY → result.had ≡ own_at self.now.owns.items result.person }
+        ensures none { result.person ≡ NOBODY → result.had.object ≡ NOBODY }
+    {
+        let person = self.holders[object as usize];
+        if person == NOBODY {
+            return Freed {
+                person,
+                had: NO_OWN,
+            };
+        }
+        Freed {
+            person,
+            had: self.owns[person as usize],
+        }
+    }
+
     /// A free person takes the object at this place of his row at its price, where that is within eps of his best; gives who is free then.
-    fn pass(&mut self, rows: &ShortRows, eps: i64, person: u32, place: usize) -> u32
-        requires person { person < length rows.now.rows }
+    fn pass(&mut self, rows: &ShortRows, eps: i64, freed: Freed, place: usize) -> Freed
+        requires person { freed.person < length rows.now.rows }
+        requires had { freed.had.object ≢ NOBODY → IsSlack rows.now eps self.old.prices.items freed.person freed.had }
         requires arcs { EachHasArc rows.now }
         requires eps { IsEps eps }
         requires sound { AreShorts rows.now }
         requires stands { Stands rows.now eps self.old.prices.items self.old.holders.items self.old.owns.items }
-        requires none { (own_at self.old.owns.items person).object ≡ NOBODY }
-        ensures { IsWay rows.now eps person self.old.prices.items self.new.prices.items self.new.holders.items self.old.owns.items self.new.owns.items result }
+        requires none { (own_at self.old.owns.items freed.person).object ≡ NOBODY }
+        ensures way { IsWay rows.now eps freed.person self.old.prices.items self.new.prices.items self.new.holders.items self.old.owns.items self.new.owns.items result.person }
+        ensures had { result.had.object ≢ NOBODY → IsSlack rows.now eps self.new.prices.items result.person result.had }
     {
-        let row = rows.row(person);
+        let row = rows.row(freed.person);
         if place >= row.len() {
-            return person;
+            return freed;
         }
         let arc = row[place];
         let prices = self.prices.as_slice();
-        if !is_slack(rows, eps, prices, person, arc) {
-            return person;
+        if !suits(rows, eps, prices, freed, arc) {
+            return freed;
         }
         let amount = prices[arc.object as usize];
-        self.award(person, Bid { amount, arc })
+        let next = self.freed_from(arc.object);
+        self.award(freed.person, Bid { amount, arc });
+        next
     }
 
     /// Takes steps in order, each where it is the free person's; gives who is free then.
@@ -138,17 +190,20 @@ impl Market {
         requires none { (own_at self.old.owns.items start).object ≡ NOBODY }
         ensures { IsWay rows.now eps start self.old.prices.items self.new.prices.items self.new.holders.items self.old.owns.items self.new.owns.items result }
     {
-        let mut free = start;
+        let mut freed = Freed {
+            person: start,
+            had: NO_OWN,
+        };
         for step in route {
-            if free == NOBODY {
+            if freed.person == NOBODY {
                 continue;
             }
-            if step.person != free {
+            if step.person != freed.person {
                 continue;
             }
-            free = self.pass(rows, eps, free, step.object);
+            freed = self.pass(rows, eps, freed, step.object);
         }
-        free
+        freed.person
     }
 
     /// A free person of a full table goes by a cheapest path; gives who is free then. That is he himself where the rows are no table or no path is found.

@@ -8,5 +8,8 @@ pub loop-step-preserved : goal.loop-step-preserved
 loop-step-preserved c =
     let f1 : FitsSigned w64 c.args.eps = c.ranges.eps in
     let before = simp to_z-of_z at c.loop-step.invariant in
-    let after = simp to_z-of_z at c.pass-free.ensures in
-    simp to_z-of_z (way_on c.args.rows.now c.args.eps c.args.start c.loop-step.free c.pass-free.result c.args.self.now.prices.items c.loop-step.self.prices.items c.pass-free.new.self.prices.items c.loop-step.self.holders.items c.pass-free.new.self.holders.items c.args.self.now.owns.items c.loop-step.self.owns.items c.pass-free.new.self.owns.items before after)
+    let after = simp to_z-of_z at c.pass-freed.ensures in
+    simp to_z-of_z (record {
+      way = way_on c.args.rows.now c.args.eps c.args.start c.loop-step.freed.person c.pass-freed.result.person c.args.self.now.prices.items c.loop-step.self.prices.items c.pass-freed.new.self.prices.items c.loop-step.self.holders.items c.pass-freed.new.self.holders.items c.args.self.now.owns.items c.loop-step.self.owns.items c.pass-freed.new.self.owns.items before.way after.way;
+      had = after.had;
+    })

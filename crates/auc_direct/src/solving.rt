@@ -160,7 +160,8 @@ pub fn solve_direct_from(
 /// Solves a problem as [`solve_direct`] does, and asks between bids whether the run goes on: before each phase, and behind 16,384 bids of one, or 64 searches for a path. Where it doesn't, the answer is
 /// a bracket with the reason `Bids`: a bracket stands only behind a limit, or where `watch` has said no: clause `limit`. To ask takes O(persons) time, and that of `goes_on`.
 ///
-/// Nothing is asked before the rows are laid out and an assignment of any cost is found, within a search for a path, or while the answer is checked.
+/// Nothing is asked before the rows are laid out and an assignment of any cost is found, within a search for a path, within the phase that comes first in a full table, which takes
+/// some tens of milliseconds beside its bids, or while the answer is checked.
 ///
 /// # Errors
 ///

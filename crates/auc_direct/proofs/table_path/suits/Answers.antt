@@ -1,4 +1,4 @@
-use Rattle.std.proofs.Common.{arith, length, rules, refl, subst, sym, w64}
+use Rattle.std.proofs.Common.{arith, rules, w64}
 use Rattle.std.specs.Prelude.{FitsSigned, ◌≤ℤ◌}
 use Rattle.std.proofs.lemmas.Int.{ints, to_z-of_z}
 use Rattle.std.proofs.lemmas.List.Elements.{All-contains}

@@ -1,6 +1,6 @@
 -- A shard stays one of its phase where it has bid, heard or answered, and its letters go to boxes that are there.
 use Rattle.std.proofs.Common.{ℕ, ◌%◌, ◌<◌, ◌≡◌, Bool, true, false, cond, List, [], ◌∷◌, ap, sym, subst, ◌∙◌, arith}
-use Rattle.std.specs.Prelude.{IfSome, ℤ, Option, Some, None, All, Result, Ok, Err}
+use Rattle.std.specs.Prelude.{ℤ, Option, Some, None, All, Result, Ok, Err}
 use Rattle.auc_graph.specs.Table.{Table}
 use Rattle.auc_letters.specs.declared.letter.Letter.{Letter}
 use Rattle.auc_letters.specs.declared.out.Out.{Out}
@@ -13,7 +13,7 @@ use Rattle.std.proofs.lemmas.List.Elements.{All-weaker, All-drop, All-push}
 use Rattle.auc_letters.specs.declared.state.PersonState.{PersonState}
 use Rattle.auc_persons.specs.declared.bidding.Bidding.{Bidding}
 use Rattle.auc_persons.specs.declared.bidding.PersonFault.{PersonFault}
-use Rattle.auc_persons.specs.Persons.{Persons, SameShape as SamePersons, Owns as OwnsPerson, BidsAtOnce, NextBid, OnLetter, Answered, free_after}
+use Rattle.auc_persons.specs.Persons.{Persons, SameShape as SamePersons, Owns as OwnsPerson, NextBid, OnLetter, Answered, free_after}
 use Rattle.auc_answers.specs.Boxes.{Reaches}
 use Rattle.auc_answers.specs.Shards.{IsObjectShard, IsPersonShard}
 
@@ -35,14 +35,6 @@ pub next_bid_own : (t : Table) (eps : ℤ) (x y : Persons) (r : Bidding) → Nex
 next_bid_own t eps x y Bidding.Idle h same own = unchanged_own x y h.1 own
 next_bid_own t eps x y (Bidding.Stop why) h same own = unchanged_own x y h.2 own
 next_bid_own t eps x y (Bidding.Out o) h same own = own_idle y _ (ap (λ (z : Persons). z.idle) h.2.5) (All-drop (OwnsPerson y) 1 x.idle (own_shape x y same x.idle own))
-
-pub at_once_own : (t : Table) (eps : ℤ) (x y : Persons) (o : Option Out) → BidsAtOnce t eps x o y → SamePersons x y → All (OwnsPerson x) x.idle → All (OwnsPerson y) y.idle
-at_once_own t eps x y (Some o) h same own = next_bid_own t eps x y (Bidding.Out o) h same own
-at_once_own t eps x y None h same own = unchanged_own x y h.0 own
-
-pub bids_at_once : (t : Table) (eps : ℤ) (x y : Persons) (o : Option Out) → BidsAtOnce t eps x o y → IfSome o (λ out. NextBid t eps x (Bidding.Out out) y)
-bids_at_once t eps x y (Some o) h = h
-bids_at_once t eps x y None h = tt
 
 freed_own : (x y : Persons) (i j : ℕ) (p : ℤ) (wanted : PersonState) (r : Result (Unit {0}) PersonFault) → Answered x i j p wanted (free_after x i j p) r y → SamePersons x y → All (OwnsPerson x) x.idle → All (OwnsPerson y) y.idle
 freed_own x y i j p wanted (Ok u) h same own =

@@ -1,8 +1,7 @@
 -- Blocks of a shard, seen as lists of candidates.
-use Rattle.std.proofs.Common.{◌≡◌, ◌+◌, inr, inl, List, [], ◌∷◌, ◌++◌, length, get_or, refl, ap, arith, pos}
+use Rattle.std.proofs.Common.{◌≡◌, ◌+◌, inr, inl, List, [], ◌∷◌, ◌++◌, length, get_or, refl, arith, pos}
 use Rattle.std.specs.Prelude.{ℤ, All, map}
 use Rattle.std.specs.List.{AllByRecursion}
-use Rattle.std.proofs.lemmas.List.{length-append}
 use Rattle.std.proofs.lemmas.List.Elements.{All-append, All-contains, All-contains_itself, All-from_recursion, All-map, All-weaker, Contains-append_left, Contains-append_right, Contains-get_or, recursion_from_All}
 use Rattle.auc_graph.specs.declared.rows.RowArc.{RowArc}
 use Rattle.auc_graph.specs.Bid.{value}
@@ -22,10 +21,6 @@ front P xs ys h k d lt = All-contains P (xs ++ ys) (get_or xs k d) h (Contains-a
 
 pub behind : {X : Type 0} (P : X → Type 0) (xs ys : List X) → All P (xs ++ ys) → All P ys
 behind P xs ys h k d lt = All-contains P (xs ++ ys) (get_or ys k d) h (Contains-append_right xs ys (get_or ys k d) (Contains-get_or ys k d lt))
-
-pub nil_front : {X : Type 0} (xs ys : List X) → xs ++ ys ≡ [] → xs ≡ []
-nil_front [] ys e = refl
-nil_front (x ∷ xs) ys e = absurd (omega (arith, ap length e))
 
 seen_by : {X Y : Type 0} (P : X → Type 0) (f : Y → X) (ys : List Y) → AllByRecursion P (map f ys) → AllByRecursion (λ y. P (f y)) ys
 seen_by P f [] h = h
@@ -60,13 +55,3 @@ none_is made t copies least = none_keeps (value (pos (length t.rows + 1)) (copy_
 
 pub own_new : (t : Table) (copies : List ℤ) (persons : List Blocked) → All (λ b. Rises (row_of t b.person)) persons → All (λ b. KeepsListed t copies (of_blocked t b)) persons
 own_new t copies persons rises = All-weaker (λ b. Rises (row_of t b.person)) (λ b. KeepsListed t copies (of_blocked t b)) (λ b r. whole_keeps (value (pos (length t.rows + 1)) (copy_in copies)) (row_of t b.person) (pos 0) r) persons rises
-
--- ---- there are none
-
-pub nobody : (made : Table) (persons : List Blocked) (bounds : List Bound) → map (of_blocked made) persons ++ map (of_bound made) bounds ≡ [] → persons ≡ []
-nobody made [] bounds e = refl
-nobody made (b ∷ persons) bounds e = absurd (omega (arith, ap length e))
-
-pub nothing : (made : Table) (persons : List Blocked) (bounds : List Bound) → map (of_blocked made) persons ++ map (of_bound made) bounds ≡ [] → bounds ≡ []
-nothing made persons [] e = refl
-nothing made persons (b ∷ bounds) e = absurd (omega (arith, ap length e, length-append (map (of_blocked made) persons) (map (of_bound made) (b ∷ bounds))))

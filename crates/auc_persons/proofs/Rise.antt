@@ -1,12 +1,9 @@
--- What no call changes: copies never fall, and the numbers of persons and objects stay. And where no bid is made nothing changes.
-use Rattle.std.proofs.Common.{◌≡◌, ◌≢◌, ℕ, ◌<◌, ◌⊎◌, inl, inr, List, [], length, get_or, set, refl, arith, pos, get_or-set_same, get_or-set_other}
-use Rattle.std.specs.Prelude.{ℤ, ◌≤ℤ◌, None}
+-- What no call changes: copies never fall, and the numbers of persons and objects stay.
+use Rattle.std.proofs.Common.{◌≡◌, ℕ, ◌<◌, ◌⊎◌, inl, inr, List, length, get_or, set, refl, arith, pos, get_or-set_same, get_or-set_other}
+use Rattle.std.specs.Prelude.{ℤ, ◌≤ℤ◌}
 use Rattle.std.proofs.lemmas.Int.{ints}
 use Rattle.std.proofs.lemmas.Bool.{cases_eq}
-use Rattle.auc_graph.specs.Table.{Table, row_of}
-use Rattle.auc_letters.specs.declared.letter.Why.{Why}
-use Rattle.auc_persons.specs.declared.bidding.Bidding.{Bidding}
-use Rattle.auc_persons.specs.Persons.{Persons, BidsAtOnce, NextBid, Rising, SameShape, held_after, free_after, after_bid, first_idle}
+use Rattle.auc_persons.specs.Persons.{Persons, Rising, SameShape, held_after, free_after, after_bid}
 use Rattle.auc_letters.specs.declared.state.PersonState.TheVariants.{Free, Waits, Holds}
 use Rattle.std.proofs.lemmas.List.{length-set}
 
@@ -34,12 +31,3 @@ shape_free s i j p = record { shard = refl; of = refl; object_shards = refl; per
 
 pub shape_bid : (s : Persons) (i j : ℕ) → SameShape s (after_bid s i j)
 shape_bid s i j = record { shard = refl; of = refl; object_shards = refl; persons = length-set s.states i (Waits j); objects = refl }
-
-pub no_bid : (t : Table) (eps : ℤ) (s n : Persons) (b : Bidding) → NextBid t eps s b n → (b ≡ Bidding.Idle) ⊎ ((why : Why) × (b ≡ Bidding.Stop why)) → BidsAtOnce t eps s None n
-no_bid t eps s n b next (inl e) = let idle = rw e at next in (idle.1, inl idle.0)
-no_bid t eps s n b next (inr (why, e)) = let stop = rw e at next in (stop.2, inr (inl (why, stop.1)))
-
--- a row in which nothing was found at once
-pub none_at_once : (t : Table) (eps : ℤ) (s : Persons) → s.bids ≢ 0 → (row_of t (first_idle s) ≡ []) ⊎ (40 < length (row_of t (first_idle s))) → BidsAtOnce t eps s None s
-none_at_once t eps s left (inl none) = (refl, inr (inl (Why.Stuck, (left, none))))
-none_at_once t eps s left (inr long) = (refl, inr (inr long))

@@ -1,5 +1,5 @@
 -- A shard of the persons, as callers see it, and what each call leaves of it.
-use Rattle.std.specs.Prelude.{◌≡◌, ◌≢◌, ◌<◌, ◌≤◌, ◌+◌, ◌-◌, ◌%◌, ◌^◌, ◌⊎◌, ℕ, ℤ, pos, ◌≤ℤ◌, ◌<ℤ◌, List, [], ◌∷◌, ◌++◌, Option, Some, None, Result, Ok, Err, length, drop, All, slice_index_or, slice_set, count_by}
+use Rattle.std.specs.Prelude.{◌≡◌, ◌≢◌, ◌<◌, ◌≤◌, ◌+◌, ◌-◌, ◌%◌, ◌^◌, ℕ, ℤ, pos, ◌≤ℤ◌, ◌<ℤ◌, List, [], ◌∷◌, ◌++◌, Result, Ok, Err, length, drop, All, slice_index_or, slice_set, count_by}
 use Rattle.auc_graph.specs.declared.rows.RowArc.{RowArc}
 use Rattle.auc_graph.specs.Table.{Table, row_of}
 use Rattle.auc_letters.specs.declared.letter.Letter.{Letter}
@@ -87,11 +87,6 @@ abbrev pub NextBid : Table → ℤ → Persons → Bidding → Persons → Type 
 NextBid t eps s Bidding.Idle n = (s.idle ≡ []) × (n ≡ s)
 NextBid t eps s (Bidding.Stop why) n = (s.idle ≢ []) × Stops t eps s (first_idle s) why × (n ≡ s)
 NextBid t eps s (Bidding.Out out) n = (s.idle ≢ []) × (s.bids ≢ 0) × ((arc : RowArc) × (amount : ℤ) × Bids t eps s (first_idle s) arc amount × (amount ≤ℤ pos (2 ^ 61)) × (out ≡ bid_letter s (first_idle s) arc amount) × (n ≡ after_bid s (first_idle s) arc.object))
-
--- The next bid; or none, where nobody is free, or he can't bid, or his row has more than 40 arcs, and nothing has changed.
-abbrev pub BidsAtOnce : Table → ℤ → Persons → Option Out → Persons → Type 0
-BidsAtOnce t eps s (Some out) n = NextBid t eps s (Bidding.Out out) n
-BidsAtOnce t eps s None n = (n ≡ s) × ((s.idle ≡ []) ⊎ ((why : Why) × Stops t eps s (first_idle s) why) ⊎ (40 < length (row_of t (first_idle s))))
 
 -- an answer to a person about an object fits where he stands as it wants
 abbrev pub FitsAnswer : Persons → ℕ → ℕ → ℤ → PersonState → Type 0

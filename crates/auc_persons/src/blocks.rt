@@ -1,6 +1,6 @@
 //! The blocks of the long rows of a shard's persons.
 
-ghost use Rattle.std.specs.Prelude.{◌≡◌, ◌<◌, ◌≤◌, ◌+◌, List, ℤ, pos, length, All, IfOk, IfSome, IsTrue, ◌↔◌, []};
+ghost use Rattle.std.specs.Prelude.{◌≡◌, ◌<◌, ◌≤◌, ◌+◌, List, ℤ, pos, length, All, IfOk, IfSome};
 ghost use Rattle.auc_graph.specs.Bid.{value};
 ghost use Rattle.auc_graph.specs.Table.{row_of};
 ghost use Rattle.auc_letters.specs.Price.{IsPrice};
@@ -86,13 +86,6 @@ impl Blocks {
         }))
     }
 
-    /// Whether there is nobody.
-    pub(crate) fn is_empty(&self) -> bool
-        ensures { IsTrue result ↔ (self.now ≡ []) }
-    {
-        self.persons.is_empty() && self.bounds.is_empty()
-    }
-
     /// The best arc of a person who has blocks; they make the list of a very long row anew, where one is wanted. `place` is where he
     /// stands among the persons of the shard.
     pub(crate) fn scan(
@@ -106,6 +99,7 @@ impl Blocks {
         requires person { person < length rows.now.rows }
         requires objects { rows.now.objects ≡ length copies.now }
         requires copies { All IsPrice copies.now }
+        requires long { 256 < length (row_of rows.now person) }
         requires kept { Kept rows.now copies.now self.old }
         requires lists { Kept rows.now copies.now lists.old }
         ensures some { IfSome result (λ f. IsScan (value (pos (length rows.now.rows + 1)) (copy_in copies.now)) (row_of rows.now person) f) }
@@ -119,7 +113,7 @@ impl Blocks {
         }
         let blocked = self.persons[place];
         let arcs = rows.row(person).len();
-        if blocked.person != person || blocked.arcs as usize != arcs || arcs <= LONG {
+        if blocked.person != person || blocked.arcs as usize != arcs {
             return None;
         }
         let list = &mut lists[place];

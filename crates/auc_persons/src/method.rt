@@ -1,22 +1,57 @@
-//! How long the rows are that each way to look a row over is for. Which way a bid takes is told by the length of its own row, and by whether
-//! the objects of that row rise; all ways find the same arc.
+//! The ways to look a row over for a bid. The way is told once a bid, by the length of the person's own row, and by whether arcs of that row are known
+//! whose objects rise; all ways find the same arc.
+
+ghost use Rattle.std.specs.Prelude.{◌≡◌, ◌<◌};
 
 use auc_graph::Rows;
 
-/// A row of up to so many arcs is looked at from nothing, in one pass with no branch by values (`sorted_row`), of a copy of the row (`short`) where
-/// not all such rows rise; where there is no copy, with selects (`scan`). With some 30 arcs a list, or two remembered arcs, took a tenth more
-/// instructions (`uniform 32`, `plane 32`: 1.11 and 1.12), and in a price war they are old at each bid (`levels 32`: 1.16).
+/// The most arcs of a short row. With some 30 arcs a list, or two remembered arcs, took a tenth more instructions than a pass over the row
+/// (`uniform 32`, `plane 32`: 1.11 and 1.12), and in a price war they are old at each bid (`levels 32`: 1.16).
 pub(crate) const SHORT: usize = 40;
 
-/// A longer row has a list of candidates (`shortlist`), and where that doesn't tell the bid, the pass begins with two remembered arcs (`search`). At 128
-/// arcs lists take 0.83 of the instructions without (`uniform 128`), at 501 arcs 0.64 (`share 10` of 5,000 persons). One of more than so many arcs has
-/// blocks too, of which the pass leaves most out (`bounded`): at 1,000 arcs 0.29 of the instructions with lists alone where lists are of no use
-/// (`products`), and 0.71 where they are (`share 20`); at 128 arcs they would take 1.01 (`uniform 128`).
+/// The most arcs of a row without blocks. With blocks 1,000 arcs take 0.29 of the instructions of lists alone where lists are of no use (`products`),
+/// and 0.71 where they are (`share 20`); 128 arcs would take 1.01 (`uniform 128`).
 pub(crate) const LONG: usize = 256;
 
-/// Of a row of more than so many arcs the blocks make the list (`listing`): at 1,000 arcs in 0.95 of the time of a pass over all of it (`share 20` of
-/// 5,000 persons), at 2,000 in 0.86 (dense). At 300 arcs they take 1.37 of it (`share 20` of 1,500), since such a pass is guessed well.
+/// The most arcs of a row whose list is made by a pass over all of it; that of a longer one is made by its blocks (`listing`). At 1,000 arcs they take
+/// 0.95 of the time of such a pass (`share 20` of 5,000 persons), at 2,000 0.86 (dense); at 300 arcs 1.37 (`share 20` of 1,500), since such a pass is
+/// guessed well.
 pub(crate) const VERY_LONG: usize = 640;
+
+/// A way to look a row over.
+#[derive(Clone, Copy)]
+pub(crate) enum Method {
+    /// Short, and it rises, or there is a copy that does: one pass with no branch by values (`sorted_row`). Rows in any order take 0.86 of
+    /// the instructions by copies that they took by the next way (`shuffled 32`).
+    Sorted,
+    /// Short, and nothing is known of it: a pass with selects (`scan`).
+    Short,
+    /// At most 256 arcs: a list of candidates (`shortlist`); where that doesn't tell the bid, a pass over the row (`search`). 128 arcs take 0.83 of the
+    /// instructions without lists (`uniform 128`), 501 arcs 0.64 (`share 10` of 5,000 persons).
+    List,
+    /// Longer: a list; where that doesn't tell the bid, a pass over the row by blocks with bounds, which leaves most of them out (`bounded`).
+    Blocks,
+}
+
+impl Method {
+    /// The way for a row of so many arcs, of which rising ones may be known.
+    #[inline(always)]
+    pub(crate) fn of(arcs: usize, is_sorted: bool) -> Method
+        ensures { result ≡ Method.Blocks → 256 < arcs }
+    {
+        if arcs > LONG {
+            return Method::Blocks;
+        }
+        if arcs > SHORT {
+            return Method::List;
+        }
+        if is_sorted {
+            Method::Sorted
+        } else {
+            Method::Short
+        }
+    }
+}
 
 /// Whether some row has more than so many arcs. O(persons).
 pub(crate) fn has_row_above(rows: &Rows, arcs: usize) -> bool {

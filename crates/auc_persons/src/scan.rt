@@ -86,6 +86,25 @@ impl Scan {
     }
 }
 
+/// The same. What a call has answered in memory is told anew by its numbers, so that what was found in line stays in registers.
+#[inline(always)]
+pub(crate) fn retold(found: Option<Scan>) -> Option<Scan>
+    ensures { result ≡ found }
+{
+    let Scan {
+        value,
+        second,
+        best,
+    } = found?;
+    let RowArc { cost, object, arc } = best;
+    let best = RowArc { cost, object, arc };
+    Some(Scan {
+        value,
+        second,
+        best,
+    })
+}
+
 /// One more than the persons, by which costs are scaled.
 pub(crate) fn scale_of(persons: u32) -> i64
     requires { persons ≤ MOST_PERSONS }

@@ -51,19 +51,6 @@ impl Scan {
         }
         arc.arc < self.best.arc
     }
-
-    /// Above which value an arc changes nothing: at the second where the best is as good, else below it.
-    #[inline]
-    fn limit(self) -> i64
-        requires low { neg_ℤ (pos (2 ^ 44)) ≤ℤ self.second }
-        ensures { IsLimit self result }
-    {
-        if self.value < self.second {
-            self.second - 1
-        } else {
-            self.second
-        }
-    }
 }
 
 impl Search {
@@ -74,9 +61,15 @@ impl Search {
         ensures scan { result.scan ≡ scan }
         ensures limit { IsLimit result.scan result.limit }
     {
+        // Where the best is as good as the second, an arc of the same value may still go before it.
+        let limit = if scan.value < scan.second {
+            scan.second - 1
+        } else {
+            scan.second
+        };
         Search {
             scan,
-            limit: scan.limit(),
+            limit,
             hint: Hint { best, next },
         }
     }
@@ -161,17 +154,17 @@ pub(crate) fn begun(row: PricedRow, hint: Hint) -> Option<Search>
     Some(Search::by(alone, best, best).with(row.arcs[next as usize], value, next))
 }
 
-/// The best arc of a row, in one pass that begins with the two remembered arcs; nothing where the row has no arc.
-pub(crate) fn scan_from(row: PricedRow, hint: Hint) -> Option<Search>
-    ensures some { IfSome result (λ s. IsScan (value_in row.entry) row.entry.arcs.now s.scan) }
+/// The best arc of a row, in one pass with a branch by values; nothing where the row has no arc.
+pub(crate) fn scan_from(row: PricedRow) -> Option<Scan>
+    ensures some { IfSome result (IsScan (value_in row.entry) row.entry.arcs.now) }
     ensures none { IfNone result (row.entry.arcs.now ≡ []) }
 {
-    let mut search = begun(row, hint)?;
+    let mut search = begun(row, Hint::NONE)?;
     for place in 0..row.arcs.len() {
         let value = row.value(place);
         if value <= search.limit {
             search = search.with(row.arcs[place], value, place as u32);
         }
     }
-    Some(search)
+    Some(search.scan)
 }

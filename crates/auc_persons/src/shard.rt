@@ -11,7 +11,6 @@ ghost use Rattle.auc_persons.specs.Persons.{Persons, Owns, copy_of, first_idle, 
 mod hearing;
 mod next_bid;
 
-use crate::search::Hint;
 use auc_graph::MOST_PERSONS;
 use auc_letters::PersonState;
 use std::alloc::{AllocError, Global};
@@ -48,8 +47,6 @@ pub struct PersonShard {
     copies: Vec<i64>,
     states: Vec<PersonState>,
     idle: VecDeque<u32>,
-    // By person. Of no importance to what is bid, so no contract speaks of it.
-    hints: Vec<Hint>,
 }
 
 impl Model for PersonShard {
@@ -61,7 +58,7 @@ impl Model for PersonShard {
 
     ghost view = { λ s. record { shard = s.shard; of = s.of; object_shards = s.object_shards; bids = s.bids; copies = s.copies.items; states = s.states.items; idle = s.idle.items } };
 
-    ghost invariant = { λ s. (length s.states.items ≤ deque_capacity s.idle) × ArePersons (record { shard = s.shard; of = s.of; object_shards = s.object_shards; bids = s.bids; copies = s.copies.items; states = s.states.items; idle = s.idle.items }) × (length s.hints.items ≡ length s.states.items) };
+    ghost invariant = { λ s. (length s.states.items ≤ deque_capacity s.idle) × ArePersons (record { shard = s.shard; of = s.of; object_shards = s.object_shards; bids = s.bids; copies = s.copies.items; states = s.states.items; idle = s.idle.items }) };
 }
 
 impl PersonShard {
@@ -94,7 +91,6 @@ impl PersonShard {
         let copies = prices.to_vec(alloc)?;
         let states = vec![in alloc; PersonState::Free; persons as usize]?;
         let idle = idle_of(alloc, shard, of, persons)?;
-        let hints = vec![in alloc; Hint::NONE; persons as usize]?;
         Ok(PersonShard {
             shard,
             of,
@@ -103,7 +99,6 @@ impl PersonShard {
             copies,
             states,
             idle,
-            hints,
         })
     }
 

@@ -15,7 +15,7 @@ use crate::method::VERY_LONG;
 use crate::priced_row::PricedRow;
 use crate::rising::scan_short;
 use crate::scan::Scan;
-use crate::search::{Hint, scan_from};
+use crate::search::scan_from;
 use crate::shortlist::making::delta_within;
 use auc_graph::RowArc;
 use std::marker::Model;
@@ -33,7 +33,7 @@ pub(crate) struct Shortlist {
     person: u32,
     count: u8,
     // How many lists in a row were of no use, and how many bids from now on are made without one.
-    useless: u8,
+    failures: u8,
     rest: u16,
 }
 
@@ -63,7 +63,7 @@ impl Shortlist {
             }; ROOM],
             person,
             count: 0,
-            useless: 0,
+            failures: 0,
             rest: 0,
         }
     }
@@ -103,14 +103,6 @@ impl Shortlist {
         self.count as usize == ROOM
     }
 
-    /// No arc, so that nothing is said.
-    #[inline]
-    fn clear(&mut self)
-        ensures { self.new ≡ record self.old { arcs = [] } }
-    {
-        self.count = 0;
-    }
-
     /// Whether what a pass over the list has found is what one over the row would find: no arc left out is as good as the best
     /// or better than the second.
     #[inline]
@@ -122,10 +114,10 @@ impl Shortlist {
 
     /// The list was of use.
     #[inline]
-    fn praise(&mut self)
+    fn note_use(&mut self)
         ensures { self.new ≡ self.old }
     {
-        self.useless = 0;
+        self.failures = 0;
     }
 
     /// What a pass over the list finds, which is what one over the row would find where it decides; nothing where the list has no
@@ -172,11 +164,11 @@ impl Shortlist {
             // To make a list takes fewer steps than a pass that finds the best arc, and about as many as blocks take. So it was of
             // use where it decides this bid.
             if found.is_some() {
-                self.praise();
+                self.note_use();
             }
             return found;
         }
-        let whole = scan_from(row, Hint::NONE)?.scan;
+        let whole = scan_from(row)?;
         if whole.second < i64::MAX {
             self.remake(row, whole.second);
         }
@@ -195,7 +187,7 @@ impl Shortlist {
             return self.scan_anew(row, i64::MAX);
         };
         if self.decides(scan) {
-            self.praise();
+            self.note_use();
             return Some(scan);
         }
         self.scan_anew(row, scan.second)

@@ -24,11 +24,9 @@ pub(crate) fn is_rising(row: &[RowArc]) -> bool
     true
 }
 
-/// Whether each row of at most 40 arcs leads to rising objects, as those of a sorted file do: then
-/// [`PersonShard::next_bid_at_once`](crate::PersonShard::next_bid_at_once) can make the bids of such rows.
-///
-/// Takes one pass over these rows, up to the first that doesn't, and no memory.
-pub fn rows_rise(rows: &Rows) -> bool
+/// Whether each row of at most 40 arcs leads to rising objects, as those of a sorted file do. Takes one pass over these rows, up to the
+/// first that doesn't.
+pub(crate) fn rows_rise(rows: &Rows) -> bool
     ensures { IsTrue result ↔ AreRising rows.now }
 {
     for person in 0..rows.persons() {

@@ -13,13 +13,13 @@ use crate::calls::{BATCH, Step};
 use crate::task::Task;
 use arrayvec::ArrayVec;
 use auc_letters::{Out, Why};
-use auc_persons::{Bidding, Candidates, PersonShard};
+use auc_persons::{Bidder, Bidding, PersonShard};
 
-/// A shard of the persons, and the lists by which it bids.
+/// A shard of the persons, and what its bids are found by.
 #[derive(Drop)]
 pub(crate) struct Buyer {
     pub(crate) shard: PersonShard,
-    pub(crate) lists: Candidates,
+    pub(crate) lists: Bidder,
 }
 
 /// Asks for the next bid.

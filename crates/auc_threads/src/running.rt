@@ -18,7 +18,7 @@ use crate::person_worker::{PersonWork, PersonWorker};
 use crate::task::{PhaseRun, Task};
 use auc_book::MailBrand;
 use auc_objects::ObjectShard;
-use auc_persons::{Candidates, PersonShard};
+use auc_persons::{Bidder, PersonShard};
 use std::alloc::{AllocError, Global};
 use std::sync::Wait;
 use std::thread;
@@ -40,7 +40,7 @@ pub(crate) struct Works<O: MailBrand, P: MailBrand, H: MailBrand> {
     pub(crate) hub: HubWork<O, P, H>,
 }
 
-/// The workers of the persons, by their seats, each with empty lists of candidates. In a phase no copy of a price falls, so what is put into them stays right.
+/// The workers of the persons, by their seats, each with what its bids are found by, made anew. In a phase no copy of a price falls, so what is put into them stays right.
 fn person_starts<O: MailBrand, P: MailBrand, H: MailBrand>(
     alloc: Global,
     task: &Task,
@@ -58,7 +58,7 @@ fn person_starts<O: MailBrand, P: MailBrand, H: MailBrand>(
     let mut number: u32 = 0;
     for seats in seats {
         let shard = PersonShard::make(alloc, number, shards, shards, persons, task.prices, bids)?;
-        let lists = Candidates::make(alloc, task.rows, number, shards)?;
+        let lists = Bidder::make(alloc, task.rows, number, shards)?;
         let buyer = Buyer { shard, lists };
         starts.push_reserved(PersonWorker { buyer, seats });
         number += 1;

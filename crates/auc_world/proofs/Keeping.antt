@@ -15,11 +15,11 @@ use Rattle.auc_letters.specs.Award.{Sale, answers}
 use Rattle.auc_objects.specs.Objects.{Objects, SameShape as SameObjects, sale_of}
 use Rattle.auc_persons.specs.declared.bidding.Bidding.{Bidding}
 use Rattle.auc_persons.specs.declared.bidding.PersonFault.{PersonFault}
-use Rattle.auc_persons.specs.Persons.{Persons, SameShape as SamePersons, BidsAtOnce, NextBid, OnLetter}
+use Rattle.auc_persons.specs.Persons.{Persons, SameShape as SamePersons, NextBid, OnLetter}
 use Rattle.auc_model.specs.declared.turn.MailName.{MailName}
 use Rattle.auc_answers.specs.Boxes.{Reaches, boxes_in}
 use Rattle.auc_answers.specs.Shards.{IsObjectShard, IsPersonShard, no_objects, no_persons}
-use Rattle.auc_answers.proofs.ShardLaws.{answers_reach, at_once_own, hears_own, next_bid_own, objects_shape, persons_shape}
+use Rattle.auc_answers.proofs.ShardLaws.{answers_reach, hears_own, next_bid_own, objects_shape, persons_shape}
 use Rattle.auc_world.specs.declared.mails.Mails.{Mails}
 use Rattle.auc_world.specs.Mails.{named, with_named}
 use Rattle.auc_world.specs.Parts.{AreMails, AreParts, IsMail, Parts, objects_at, persons_at}
@@ -69,11 +69,6 @@ module _ (p : Parts) (are : AreParts p) where
   next_bid_keeps s x new r known e next same =
       let is : IsPersonShard p.table p.shards s x = rw e (are.each_persons s known) in
       keeps_persons s new known (persons_shape p.table p.shards s x new same (next_bid_own p.table p.eps x new r next same is.idle_own) is)
-
-  pub at_once_keeps : (s : ℕ) (x new : Persons) (o : Option Out) → s < p.shards → x ≡ persons_at p s → BidsAtOnce p.table p.eps x o new → SamePersons x new → AreParts (record p { persons = set p.persons s new })
-  at_once_keeps s x new o known e next same =
-      let is : IsPersonShard p.table p.shards s x = rw e (are.each_persons s known) in
-      keeps_persons s new known (persons_shape p.table p.shards s x new same (at_once_own p.table p.eps x new o next same is.idle_own) is)
 
   pub hearing_keeps : (s : ℕ) (x new : Persons) (l : Letter) (r : Result (Unit {0}) PersonFault) → s < p.shards → x ≡ persons_at p s → OnLetter x l r new → SamePersons x new → AreParts (record p { persons = set p.persons s new })
   hearing_keeps s x new l r known e hears same =

@@ -19,14 +19,11 @@ use Rattle.auc_world.specs.Lists.{AreKept, MayKeep}
 use Rattle.auc_world.specs.Making.{IsMade}
 use Rattle.auc_world.specs.Parts.{AreParts, Parts, phase, seen}
 
-pub none_may : (t : Table) (shards : ℕ) (prices : List ℤ) → MayKeep t shards prices []
-none_may t shards prices = record { few = omega arith; each = All-nil (Kept t prices) }
-
 pub kept_made : (t : Table) (limits : Limits) (prices : List ℤ) (eps : ℤ) (p : Parts) (lists : List (List Listed)) → IsMade t limits prices eps p → MayKeep t limits.shards prices lists → AreKept p.table p.persons lists
 kept_made t limits prices eps p lists made may = record {
-  few = let f = may.few in omega (arith, f, made.persons_are);
+  many = let m = may.many in omega (arith, m, made.persons_are);
   each = λ s lt. (
-      let known : s < limits.shards = (let f = may.few in omega (arith, f, lt)) in
+      let known : s < limits.shards = (let m = may.many in omega (arith, m, lt)) in
       rw (made.table, made.each_persons s known) (All-get_or (Kept t prices) lists s [] lt may.each));
 }
 
@@ -41,7 +38,7 @@ set_by t persons lists s k new lt rise kept (inr ne) = rw (get_or-set_other pers
 
 pub kept_set : (t : Table) (persons : List Persons) (lists : List (List Listed)) (s : ℕ) (x new : Persons) → s < length persons → x ≡ get_or persons s no_persons → Rising x.copies new.copies → AreKept t persons lists → AreKept t (set persons s new) lists
 kept_set t persons lists s x new lt is rise are = record {
-  few = let f = are.few in omega (arith, f, length-set persons s new);
+  many = let m = are.many in omega (arith, m, length-set persons s new);
   each = λ k l. set_by t persons lists s k new lt (subst (λ (y : Persons). Rising y.copies new.copies) is rise) (are.each k l) (cases_eq k s);
 }
 
@@ -56,7 +53,7 @@ both_by t persons lists s k new list lt in_lists now kept (inr ne) = rw (get_or-
 
 pub kept_both : (t : Table) (persons : List Persons) (lists : List (List Listed)) (s : ℕ) (new : Persons) (list : List Listed) → s < length persons → s < length lists → Kept t new.copies list → AreKept t persons lists → AreKept t (set persons s new) (set lists s list)
 kept_both t persons lists s new list lt in_lists now are = record {
-  few = let f = are.few in omega (arith, f, length-set persons s new, length-set lists s list);
+  many = let m = are.many in omega (arith, m, length-set persons s new, length-set lists s list);
   each = λ k l. both_by t persons lists s k new list lt in_lists now (are.each k (omega (arith, l, length-set lists s list))) (cases_eq k s);
 }
 
@@ -67,7 +64,7 @@ kept_at t persons lists s x list lt is is_list are = rw (is, is_list) (are.each 
 -- no copy is above the price that the phase has left
 pub kept_left : (g : Phase) (p : Parts) (shards : ℕ) (holders : List (Option Held)) (prices : List ℤ) (lists : List (List Listed)) → Reached g (seen p) → length p.persons ≡ shards → IsGathered p holders prices → AreKept p.table p.persons lists → MayKeep p.table shards prices lists
 kept_left g p shards holders prices lists reached many gathered are = record {
-  few = let f = are.few in omega (arith, f, many);
+  many = let m = are.many in omega (arith, m, many);
   each = All-from_get_or (Kept p.table prices) lists [] (λ s lt.
       kept_rises p.table (get_or p.persons s no_persons).copies prices (get_or lists s [])
       (λ j. (let low = (of_every_schedule g (seen p) reached).1 s j in let is = gathered.price_is j in rw is low))
@@ -88,6 +85,6 @@ left_for t shards eps v holders prices lists parts same reached gathered are =
     let persons : length v.table.rows ≡ length t.rows = ap (λ (g : Phase). g.persons) same in
     let left = kept_left (phase_of t shards eps) v shards holders prices lists reached (parts.persons_are ∙ many) gathered are in
     record {
-      few = left.few;
+      many = left.many;
       each = All-weaker (Kept v.table prices) (Kept t prices) (λ list kept. kept_rows v.table t prices list persons (λ i. ap (λ (g : Phase). g.row i) same) kept) lists left.each;
     }

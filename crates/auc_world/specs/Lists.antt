@@ -1,5 +1,5 @@
 -- The lists of candidates that a world keeps beside its shards of the persons.
-use Rattle.std.specs.Prelude.{ℕ, ◌<◌, ◌≤◌, ℤ, List, [], ⊤, length, All, slice_index_or}
+use Rattle.std.specs.Prelude.{ℕ, ◌<◌, ◌≡◌, ℤ, List, [], ⊤, length, All, slice_index_or}
 use Rattle.auc_graph.specs.Table.{Table}
 use Rattle.auc_persons.specs.Candidates.{Kept, Listed}
 use Rattle.auc_persons.specs.Persons.{Persons}
@@ -8,12 +8,12 @@ use Rattle.auc_world.specs.declared.solving.Outcome.{Outcome}
 
 -- the lists of each shard are right at its copies
 pub record AreKept (t : Table) (persons : List Persons) (lists : List (List Listed)) : Type 0 where
-  pub few : length lists ≤ length persons
+  pub many : length lists ≡ length persons
   pub each : (s : ℕ) → s < length lists → Kept t (slice_index_or persons s no_persons).copies (slice_index_or lists s [])
 
--- the lists of at most so many shards are right at these prices
+-- the lists of so many shards are right at these prices
 pub record MayKeep (t : Table) (shards : ℕ) (prices : List ℤ) (lists : List (List Listed)) : Type 0 where
-  pub few : length lists ≤ shards
+  pub many : length lists ≡ shards
   pub each : All (Kept t prices) lists
 
 -- after a phase that has sold all the lists are right at the prices that it left

@@ -28,18 +28,6 @@ pub(crate) enum Asked {
     Sends { out: Out },
 }
 
-/// The same. What a call has answered in memory is told anew, so that a bid that was made in line stays in registers.
-#[inline(always)]
-fn retold(bidding: Bidding) -> Bidding
-    ensures { result ≡ bidding }
-{
-    match bidding {
-        Bidding::Idle => Bidding::Idle,
-        Bidding::Stop { why } => Bidding::Stop { why },
-        Bidding::Out { out } => Bidding::Out { out },
-    }
-}
-
 /// What the only shard of the persons has to send to the only one of the objects. A bid is told by its numbers, so that they stay in registers
 /// wherever they come from.
 #[derive(Clone, Copy)]
@@ -122,65 +110,8 @@ impl<'a> World<'a> {
         let eps = self.eps;
         let place = shard as usize;
         let persons = &mut self.persons[place];
-        if place < self.candidates.len() {
-            let candidates = &mut self.candidates[place];
-            return retold(persons.next_bid_by(rows, eps, candidates));
-        }
-        persons.next_bid(rows, eps)
-    }
-
-    /// Asks the only shard of the persons for its next bid, where the rows are known to lead to rising objects, so that it is found at once.
-    #[inline(always)]
-    fn bid_at_once(&mut self) -> Option<Out>
-        requires { self.old.shards ≡ 1 }
-        ensures some { IfSome result (λ out. NextBid self.old.table self.old.eps (persons_at self.old 0) (Bidding.Out out) (persons_at self.new 0)) }
-        ensures none { IfNone result (self.new ≡ self.old) }
-        ensures rest { self.new ≡ record self.old { persons = slice_set self.old.persons 0 (persons_at self.new 0) } }
-    {
-        if !self.rising {
-            return None;
-        }
-        let rows = self.rows;
-        let eps = self.eps;
-        let persons = &mut self.persons[0];
-        persons.next_bid_at_once(rows, eps)
-    }
-
-    /// The next bid of the only shard of the persons, where it may bid, and the bid is found at once. None has changed nothing, and
-    /// says nothing.
-    #[inline(always)]
-    pub(crate) fn ask_at_once(&mut self) -> Option<Out>
-        requires { self.old.shards ≡ 1 }
-        ensures some { IfSome result (λ out. Asks self.old 0 (Asked.Sends out) self.new) }
-        ensures none { IfNone result (self.new ≡ self.old) }
-        ensures phase { SamePhase self.old self.new }
-    {
-        if !self.may_bid(0) {
-            return None;
-        }
-        match self.bid_at_once() {
-            Some(out) => Some(out),
-            None => None,
-        }
-    }
-
-    /// Whether the only shard of the persons may bid, and nobody of it is free: were it asked, it would have nothing to send.
-    #[inline(always)]
-    pub(crate) fn nobody_bids(&self) -> bool
-        requires { self.now.shards ≡ 1 }
-        ensures idle { IsTrue result → Asks self.now 0 Asked.Idle self.now }
-    {
-        self.may_bid(0) && self.nobody_is_free()
-    }
-
-    /// Whether nobody of the only shard of the persons is free.
-    #[inline(always)]
-    fn nobody_is_free(&self) -> bool
-        requires { self.now.shards ≡ 1 }
-        ensures { IsTrue result ↔ ((persons_at self.now 0).idle ≡ []) }
-    {
-        let persons = &self.persons[0];
-        persons.is_idle()
+        let bidder = &mut self.bidders[place];
+        persons.next_bid_by(rows, eps, bidder)
     }
 
     /// A shard of the persons has made a Stop.
@@ -217,42 +148,14 @@ impl<'a> World<'a> {
         }
     }
 
-    /// Does what [`World::ask`] says of the only shard of the persons. Where rows rise it is seldom needed, so it stays out of the round.
-    #[inline(never)]
-    fn ask_apart(&mut self) -> Asked
-        ensures asks { Asks self.old 0 result self.new }
-        ensures phase { SamePhase self.old self.new }
-    {
-        self.ask(0)
-    }
-
-    /// What the only shard of the persons has to send, as [`World::ask_apart`] tells it.
-    // The memory that a call answers in is set to zero where the function that makes the call begins: so this call has a function by itself,
-    // or each round would pay for it.
-    #[inline(always)]
-    fn ask_seldom(&mut self) -> Order
-        requires { self.old.shards ≡ 1 }
-        ensures asks { Asks self.old 0 (asked_of result) self.new }
-        ensures phase { SamePhase self.old self.new }
-    {
-        order_for(self.ask_apart())
-    }
-
     /// Asks the only shard of the persons for what it has to send.
-    // In most rounds nobody is free, or a bid is found at once.
     #[inline(always)]
     pub(crate) fn ask_only(&mut self) -> Order
         requires { self.old.shards ≡ 1 }
         ensures asks { Asks self.old 0 (asked_of result) self.new }
         ensures phase { SamePhase self.old self.new }
     {
-        if self.nobody_bids() {
-            return Order::Idle;
-        }
-        if let Some(out) = self.ask_at_once() {
-            return order_of(out);
-        }
-        self.ask_seldom()
+        order_for(self.ask(0))
     }
 
     /// A shard of the persons puts its next bid, or why there is none, into its outbox.

@@ -10,7 +10,7 @@ ghost use Rattle.auc_world.specs.Lists.{MayKeep};
 use crate::outbox::Outbox;
 use auc_graph::Rows;
 use auc_objects::ObjectShard;
-use auc_persons::{Candidates, PersonShard};
+use auc_persons::{Bidder, PersonShard};
 use std::alloc::{AllocError, Global};
 
 /// New shards of the persons.
@@ -35,22 +35,19 @@ pub(crate) fn new_person_shards(
     Ok(made)
 }
 
-/// Lists of candidates for the shards of the persons, by shard: for those that have persons, which are the first ones, or for
-/// none where no row is long, so that bids then don't look for a list.
-pub(crate) fn new_candidates(
+/// What the bids of the shards of the persons are found by, by shard.
+pub(crate) fn new_bidders(
     alloc: Global,
     shards: u32,
     rows: &Rows,
-) -> Result<Vec<Candidates>, AllocError>
+) -> Result<Vec<Bidder>, AllocError>
     requires some { 0 < shards }
     ensures { IfOk result (λ v. (prices : List ℤ) → MayKeep rows.now shards prices v.items) }
 {
     let mut made = Vec::with_capacity(alloc, shards as usize)?;
     for shard in 0..shards {
-        let one = Candidates::make(alloc, rows, shard, shards)?;
-        if !one.is_empty() {
-            made.push(one)?;
-        }
+        let one = Bidder::make(alloc, rows, shard, shards)?;
+        made.push(one)?;
     }
     Ok(made)
 }

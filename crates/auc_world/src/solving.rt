@@ -1,7 +1,6 @@
 //! The serial solver: epsilon scaling over phases, each a world of its own that is played in whole rounds.
 
-ghost use Rattle.std.specs.Prelude.{◌≡◌, IfOk, IsTrue, List, ℤ, Option, Some, None};
-ghost use Rattle.auc_persons.specs.Rising.{AreRising};
+ghost use Rattle.std.specs.Prelude.{◌≡◌, IfOk, List, ℤ, Option, Some, None};
 ghost use Rattle.auc_graph.specs.Table.{IsTableOf};
 ghost use Rattle.auc_cert.specs.Start.{AreStart};
 ghost use Rattle.auc_letters.specs.Price.{IsEps};
@@ -13,7 +12,7 @@ ghost use Rattle.auc_world.specs.Chain.{IsOfRun};
 ghost use Rattle.auc_world.specs.Lists.{MayKeep, StayKept};
 ghost use Rattle.auc_world.specs.Phases.{ComesOf};
 
-use crate::making::new_candidates;
+use crate::making::new_bidders;
 use crate::world::World;
 use auc_answers::finish::{bracket, optimal, stop_of};
 use auc_answers::{
@@ -22,7 +21,7 @@ use auc_answers::{
 use auc_cert::Reason;
 use auc_graph::{ArcList, Rows};
 use auc_model::End;
-use auc_persons::{Candidates, rows_rise};
+use auc_persons::Bidder;
 use std::alloc::{AllocError, Global};
 use std::mem;
 
@@ -37,32 +36,29 @@ pub(crate) enum Outcome {
     Broken(Guard),
 }
 
-/// Plays one phase in whole rounds, by lists of candidates that outlast it where all is sold. `rising` says that the rows lead to rising
-/// objects.
+/// Plays one phase in whole rounds; what its bids are found by outlasts it where all is sold.
 fn play_phase(
     alloc: Global,
     rows: &Rows,
     limits: &Limits,
     prices: &[i64],
     eps: i64,
-    candidates: &mut Vec<Candidates>,
-    rising: bool,
+    bidders: &mut Vec<Bidder>,
 ) -> Result<Outcome, AllocError>
     requires limits { AreLimits limits.now }
     requires prices { ArePrices rows.now prices.now }
     requires eps { IsEps eps }
     requires arcs { NobodyStuck rows.now }
-    requires kept { MayKeep rows.now limits.now.shards prices.now candidates.old.items }
-    requires rising { IsTrue rising → AreRising rows.now }
+    requires kept { MayKeep rows.now limits.now.shards prices.now bidders.old.items }
     ensures comes { IfOk result (ComesOf rows.now limits.now prices.now eps) }
-    ensures kept { IfOk result (StayKept rows.now limits.now.shards candidates.new.items) }
+    ensures kept { IfOk result (StayKept rows.now limits.now.shards bidders.new.items) }
 {
-    let lists = mem::replace(candidates, Vec::new(alloc));
-    let mut world = World::make_with(alloc, rows, limits, prices, eps, lists, rising)?;
+    let kept = mem::replace(bidders, Vec::new(alloc));
+    let mut world = World::make_with(alloc, rows, limits, prices, eps, kept)?;
     match world.run() {
         Some(End::All) => {
             let gathered = world.gather(alloc)?;
-            *candidates = world.into_candidates();
+            *bidders = world.into_bidders();
             Ok(Outcome::Sold(gathered))
         }
         Some(End::Stopped { why }) => match stop_of(why) {
@@ -101,18 +97,9 @@ fn solve_rows(
     let _ = rows.objects();
     let mut prices = prices;
     let mut eps = eps;
-    let mut candidates = new_candidates(alloc, limits.shards, rows)?;
-    let rising = rows_rise(rows);
+    let mut bidders = new_bidders(alloc, limits.shards, rows)?;
     loop {
-        let played = play_phase(
-            alloc,
-            rows,
-            limits,
-            prices.as_slice(),
-            eps,
-            &mut candidates,
-            rising,
-        )?;
+        let played = play_phase(alloc, rows, limits, prices.as_slice(), eps, &mut bidders)?;
         let gathered = match played {
             Outcome::Sold(gathered) => gathered,
             Outcome::Stopped { reason, gathered } => {

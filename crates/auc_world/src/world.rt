@@ -12,20 +12,19 @@ ghost use Rattle.auc_answers.specs.Boxes.{boxes_in};
 ghost use Rattle.auc_answers.specs.Limits.{AreLimits};
 ghost use Rattle.auc_answers.specs.Begins.{ArePrices};
 ghost use Rattle.auc_world.specs.Mails.{TakesOne, named, with_named};
-ghost use Rattle.auc_persons.specs.Rising.{AreRising};
 ghost use Rattle.auc_world.specs.Lists.{AreKept, MayKeep};
 ghost use Rattle.auc_world.specs.Making.{IsMade};
 ghost use Rattle.auc_world.specs.Parts.{AreParts, OwnsObject, phase, seen};
 
 use crate::mails::{Mails, new_mail};
-use crate::making::{new_object_shards, new_outboxes, new_person_shards};
+use crate::making::{new_bidders, new_object_shards, new_outboxes, new_person_shards};
 use crate::outbox::Outbox;
 use auc_answers::{Hub, Limits, nodes_or};
 use auc_graph::Rows;
 use auc_letters::{Held, Letter, shard_of};
 use auc_model::{End, MailName};
 use auc_objects::ObjectShard;
-use auc_persons::{Candidates, PersonShard};
+use auc_persons::{Bidder, PersonShard};
 use std::alloc::{AllocError, Global};
 use std::marker::Model;
 
@@ -42,16 +41,11 @@ pub struct World<'a> {
     pub(crate) outboxes: Vec<Outbox>,
     pub(crate) stopped: Vec<bool>,
     pub(crate) mails: Mails,
-    // By shard of the persons, for the first of them or for none; of no importance to what any turn does, so no contract of a
-    // turn speaks of it.
-    pub(crate) candidates: Vec<Candidates>,
-    // Whether the rows are known to lead to rising objects; of no importance to any turn, too.
-    pub(crate) rising: bool,
+    // By shard of the persons; of no importance to what any turn does, so no contract of a turn speaks of it.
+    pub(crate) bidders: Vec<Bidder>,
 }
 
 impl<'a> Model for World<'a> {
-    ghost use Rattle.std.specs.Prelude.{IsTrue};
-    ghost use Rattle.auc_persons.specs.Rising.{AreRising};
     ghost use Rattle.auc_world.specs.Lists.{AreKept};
     ghost use Rattle.auc_world.specs.Parts.{AreParts, Parts};
 
@@ -59,7 +53,7 @@ impl<'a> Model for World<'a> {
 
     ghost view = { λ w. record { table = w.rows.now; shards = w.shards; eps = w.eps; persons = w.persons.items; objects = w.objects.items; outboxes = w.outboxes.items; stopped = w.stopped.items; mails = w.mails; hub = w.hub } };
 
-    ghost invariant = { λ w. AreParts (record { table = w.rows.now; shards = w.shards; eps = w.eps; persons = w.persons.items; objects = w.objects.items; outboxes = w.outboxes.items; stopped = w.stopped.items; mails = w.mails; hub = w.hub }) × AreKept w.rows.now w.persons.items w.candidates.items × (IsTrue w.rising → AreRising w.rows.now) };
+    ghost invariant = { λ w. AreParts (record { table = w.rows.now; shards = w.shards; eps = w.eps; persons = w.persons.items; objects = w.objects.items; outboxes = w.outboxes.items; stopped = w.stopped.items; mails = w.mails; hub = w.hub }) × AreKept w.rows.now w.persons.items w.bidders.items };
 }
 
 impl<'a> World<'a> {
@@ -68,7 +62,7 @@ impl<'a> World<'a> {
     ///
     /// `prices` are in scaled costs, indexed by object; `eps` is in scaled costs. `limits.audit` isn't looked at.
     ///
-    /// Takes O((persons + objects) * shards + nodes) time and memory, and is the only call that takes memory.
+    /// Takes O((persons + objects) * shards + nodes + arcs) time and memory, and is the only call that takes memory.
     ///
     /// # Errors
     ///
@@ -93,43 +87,44 @@ impl<'a> World<'a> {
         ensures prices { IfOk result (λ w. (j : ℕ) → (seen w).price j ≡ slice_index_or prices.now j (pos 0)) }
         ensures copies { IfOk result (λ w. (s j : ℕ) → s < limits.now.shards → (seen w).copy s j ≡ slice_index_or prices.now j (pos 0)) }
     {
-        let world = World::assemble(alloc, rows, limits, prices, eps, Vec::new(alloc), false)?;
+        // Read here, so that the proof knows what all rows keep.
+        let _ = rows.persons();
+        let bidders = new_bidders(alloc, limits.shards, rows)?;
+        let world = World::assemble(alloc, rows, limits, prices, eps, bidders)?;
         Ok(world)
     }
 
-    /// The same world, whose shards of the persons bid by these lists of candidates, by shard: those of the worlds before, of
-    /// lower prices, or new ones. `rising` says that the rows lead to rising objects.
+    /// The same world, whose shards of the persons find their bids by these, by shard: those of the worlds before, of lower prices, or
+    /// new ones.
     pub(crate) fn make_with(
         alloc: Global,
         rows: &'a Rows,
         limits: &Limits,
         prices: &[i64],
         eps: i64,
-        candidates: Vec<Candidates>,
-        rising: bool,
+        bidders: Vec<Bidder>,
     ) -> Result<World<'a>, AllocError>
         requires limits { AreLimits limits.now }
         requires prices { ArePrices rows.now prices.now }
         requires eps { IsEps eps }
-        requires kept { MayKeep rows.now limits.now.shards prices.now candidates.items }
-        requires rising { IsTrue rising → AreRising rows.now }
+        requires kept { MayKeep rows.now limits.now.shards prices.now bidders.items }
         ensures made { IfOk result (IsMade rows.now limits.now prices.now eps) }
         ensures phase { IfOk result (λ w. phase w ≡ phase_of rows.now limits.now.shards eps) }
         ensures table { IsTable rows.now }
         ensures lawful { IfOk result (λ w. Lawful (phase w)) }
         ensures starts { IfOk result (λ w. Starts (phase w) (seen w)) }
     {
-        let world = World::assemble(alloc, rows, limits, prices, eps, candidates, rising)?;
+        let world = World::assemble(alloc, rows, limits, prices, eps, bidders)?;
         Ok(world)
     }
 
-    /// The lists of candidates, for the world of the next phase.
-    pub(crate) fn into_candidates(self) -> Vec<Candidates>
+    /// What the bids are found by, for the world of the next phase.
+    pub(crate) fn into_bidders(self) -> Vec<Bidder>
         ensures kept { AreKept self.entry.table self.entry.persons result.items }
         ensures sound { AreParts self.entry }
     {
-        let World { candidates, .. } = self;
-        candidates
+        let World { bidders, .. } = self;
+        bidders
     }
 
     /// The parts of a new world.
@@ -139,14 +134,12 @@ impl<'a> World<'a> {
         limits: &Limits,
         prices: &[i64],
         eps: i64,
-        candidates: Vec<Candidates>,
-        rising: bool,
+        bidders: Vec<Bidder>,
     ) -> Result<World<'a>, AllocError>
         requires limits { AreLimits limits.now }
         requires prices { ArePrices rows.now prices.now }
         requires eps { IsEps eps }
-        requires kept { MayKeep rows.now limits.now.shards prices.now candidates.items }
-        requires rising { IsTrue rising → AreRising rows.now }
+        requires kept { MayKeep rows.now limits.now.shards prices.now bidders.items }
         ensures made { IfOk result (IsMade rows.now limits.now prices.now eps) }
         ensures table { IsTable rows.now }
     {
@@ -176,8 +169,7 @@ impl<'a> World<'a> {
             outboxes: new_outboxes(alloc, 2 * shards)?,
             stopped: vec![in alloc; false; shards as usize]?,
             mails,
-            candidates,
-            rising,
+            bidders,
         })
     }
 

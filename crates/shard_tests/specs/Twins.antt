@@ -1,4 +1,4 @@
--- Two shards of the same persons, and lists of candidates for one of them.
+-- Two shards of the same persons, and what one of them finds its bids by.
 use Rattle.std.specs.Prelude.{List}
 use Rattle.auc_graph.specs.Table.{Table}
 use Rattle.auc_persons.specs.Candidates.{Kept, Listed}

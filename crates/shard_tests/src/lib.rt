@@ -10,8 +10,6 @@ mod persons;
 #[cfg(test)]
 mod placing;
 #[cfg(test)]
-mod rising;
-#[cfg(test)]
 mod rows;
 #[cfg(test)]
 mod stall;

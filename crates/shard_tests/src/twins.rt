@@ -1,4 +1,4 @@
-//! Two shards of the same persons, one of which bids by lists and blocks.
+//! Two shards of the same persons, one of which bids by what is kept beside it.
 
 ghost use Rattle.std.specs.Prelude.{IfSome};
 ghost use Rattle.auc_letters.specs.Price.{IsEps};
@@ -7,7 +7,7 @@ ghost use Rattle.shard_tests.specs.Twins.{AreTwins};
 
 use auc_graph::Rows;
 use auc_letters::Letter;
-use auc_persons::{Bidding, Candidates, PersonShard};
+use auc_persons::{Bidder, Bidding, PersonShard};
 use std::test::*;
 
 /// How many shards there are, of which these are the first.
@@ -18,7 +18,7 @@ const SHARDS: u32 = 75;
 pub struct Twins {
     pub whole: PersonShard,
     pub listed: PersonShard,
-    pub lists: Candidates,
+    pub bidder: Bidder,
 }
 
 /// The first of the shards, at prices of 0.
@@ -39,37 +39,37 @@ fn first_shard(rt: &HostRuntime, rows: &Rows) -> Option<PersonShard>
 }
 
 impl Twins {
-    /// Two shards for these rows, and lists for one of them.
+    /// Two shards for these rows, and a bidder for one of them.
     pub fn new(rt: &HostRuntime, rows: &Rows) -> Option<Twins>
-        ensures { IfSome result (λ t. AreTwins rows.now t.whole t.listed t.lists) }
+        ensures { IfSome result (λ t. AreTwins rows.now t.whole t.listed t.bidder) }
     {
         let whole = first_shard(rt, rows)?;
         let listed = first_shard(rt, rows)?;
-        let Ok(lists) = Candidates::make(rt.alloc(), rows, 0, SHARDS) else {
+        let Ok(bidder) = Bidder::make(rt.alloc(), rows, 0, SHARDS) else {
             return None;
         };
         Some(Twins {
             whole,
             listed,
-            lists,
+            bidder,
         })
     }
 
-    /// What is bid next after a whole pass, where it is the same by lists and blocks.
+    /// What is bid next after a whole pass, where it is the same by the bidder.
     pub fn asks(&mut self, rows: &Rows, eps: i64) -> Option<Bidding>
-        requires twins { AreTwins rows.now self.old.whole self.old.listed self.old.lists }
+        requires twins { AreTwins rows.now self.old.whole self.old.listed self.old.bidder }
         requires eps { IsEps eps }
-        ensures { AreTwins rows.now self.new.whole self.new.listed self.new.lists }
+        ensures { AreTwins rows.now self.new.whole self.new.listed self.new.bidder }
     {
         let whole = self.whole.next_bid(rows, eps);
-        let listed = self.listed.next_bid_by(rows, eps, &mut self.lists);
+        let listed = self.listed.next_bid_by(rows, eps, &mut self.bidder);
         if whole == listed { Some(whole) } else { None }
     }
 
     /// Tells both a letter; whether they answer the same.
     pub fn hears(&mut self, _rows: &Rows, letter: Letter) -> bool
-        requires { AreTwins _rows.now self.old.whole self.old.listed self.old.lists }
-        ensures { AreTwins _rows.now self.new.whole self.new.listed self.new.lists }
+        requires { AreTwins _rows.now self.old.whole self.old.listed self.old.bidder }
+        ensures { AreTwins _rows.now self.new.whole self.new.listed self.new.bidder }
     {
         let whole = self.whole.on_letter(letter);
         let listed = self.listed.on_letter(letter);

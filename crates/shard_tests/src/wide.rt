@@ -1,4 +1,4 @@
-//! Bids by lists and blocks are those of a whole pass, for rows of each length that has a way of its own.
+//! Bids by what is kept beside a shard are those of a whole pass, for rows of each length that has a way of its own, in any order and rising.
 
 ghost use Rattle.std.specs.Prelude.{◌<◌};
 ghost use Rattle.auc_letters.specs.Price.{IsEps};
@@ -14,9 +14,11 @@ use std::test::*;
 
 /// How many arcs the persons of the first shard have.
 const LENGTHS: [u32; 8] = [1, 2, 3, 40, 41, 256, 257, 600];
+/// The way in which each row rises.
+const RISING: u32 = 4;
 
-/// What the arc of a person at a place of his row costs, in one of four ways: all arcs cost the same; there are a few levels;
-/// costs are products; they look like drawn.
+/// What the arc of a person at a place of his row costs, in one of five ways: all arcs cost the same; there are a few levels;
+/// costs are products; they look like drawn, for objects in any order or in rising order.
 fn cost_of(way: u32, person: u32, place: u32) -> u32 {
     match way {
         0 => 5,
@@ -26,24 +28,38 @@ fn cost_of(way: u32, person: u32, place: u32) -> u32 {
     }
 }
 
-/// To which object the arc at a place leads: places and objects are in different orders. With levels two arcs each lead to one.
+/// To which object the arc at a place leads: places and objects are in different orders, but in the last way. With levels two arcs each lead to one.
 fn object_of(way: u32, place: u32) -> u32
     ensures { result < 600 }
 {
+    if way == RISING {
+        return place % 600;
+    }
     let place = if way == 1 { place / 2 } else { place };
     place.wrapping_mul(367) % 600
 }
 
-/// The text of a problem of 600 persons, of whom each 75th has arcs.
+/// How many arcs a person has: those of the first shard differ, all others have one.
+fn arcs_of(person: u32) -> u32
+    requires { person < 600 }
+{
+    if person % 75 == 0 {
+        LENGTHS[(person / 75) as usize]
+    } else {
+        1
+    }
+}
+
+/// The text of a problem of 600 persons.
 fn text_of(rt: &HostRuntime, way: u32) -> Result<String, AllocError> {
     let mut text = String::new(rt.alloc());
     text.push_str("600\n")?;
-    for turn in 0..8 {
-        let person = turn as u32 * 75 + 1;
-        for place in 0..LENGTHS[turn] {
+    for person in 0..600 {
+        let number = person + 1;
+        for place in 0..arcs_of(person) {
             let object = object_of(way, place) + 1;
-            let cost = cost_of(way, person, place);
-            let line = format!(in rt.alloc(); "{person} {object} {cost}\n")?;
+            let cost = cost_of(way, number, place);
+            let line = format!(in rt.alloc(); "{number} {object} {cost}\n")?;
             text.push_str(line.as_str())?;
         }
     }
@@ -52,9 +68,9 @@ fn text_of(rt: &HostRuntime, way: u32) -> Result<String, AllocError> {
 
 /// Whether a bid of each is the same; it is refused, and another price rises to its amount.
 fn bids_alike(rows: &Rows, twins: &mut Twins, eps: i64, other: u32) -> bool
-    requires twins { AreTwins rows.now twins.old.whole twins.old.listed twins.old.lists }
+    requires twins { AreTwins rows.now twins.old.whole twins.old.listed twins.old.bidder }
     requires eps { IsEps eps }
-    ensures { AreTwins rows.now twins.new.whole twins.new.listed twins.new.lists }
+    ensures { AreTwins rows.now twins.new.whole twins.new.listed twins.new.bidder }
 {
     let Some(Bidding::Out { out }) = twins.asks(rows, eps) else {
         return false;
@@ -82,7 +98,7 @@ fn bids_alike(rows: &Rows, twins: &mut Twins, eps: i64, other: u32) -> bool
 
 /// Whether 400 bids of each are the same.
 fn stay_alike(rows: &Rows, twins: &mut Twins) -> bool
-    requires { AreTwins rows.now twins.old.whole twins.old.listed twins.old.lists }
+    requires { AreTwins rows.now twins.old.whole twins.old.listed twins.old.bidder }
 {
     for round in 0..400 {
         if !bids_alike(rows, twins, 1 + round as i64, object_of(0, round + 11)) {
@@ -103,7 +119,7 @@ fn are_alike(rt: &HostRuntime, way: u32) -> bool {
     let Some(mut twins) = Twins::new(rt, &rows) else {
         return false;
     };
-    !twins.lists.is_empty() && stay_alike(&rows, &mut twins)
+    stay_alike(&rows, &mut twins)
 }
 
 #[test]
@@ -124,4 +140,9 @@ fn same_bids_at_products(rt: HostRuntime) {
 #[test]
 fn same_bids_at_costs_like_drawn(rt: HostRuntime) {
     assert!(rt; are_alike(&rt, 3), "costs like drawn");
+}
+
+#[test]
+fn same_bids_where_rows_rise(rt: HostRuntime) {
+    assert!(rt; are_alike(&rt, RISING), "rising");
 }

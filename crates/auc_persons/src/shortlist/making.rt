@@ -15,11 +15,11 @@ const MANY: u32 = 9;
 /// How far above the second a bound lies at most.
 const MOST_DELTA: i64 = 1 << 60;
 /// After so many lists in a row that were of no use, none is made for a while.
-const MOST_USELESS: u8 = 8;
+const MOST_FAILURES: u8 = 8;
 
 /// For how many bids no list is made, after so many in a row that were of no use.
-fn rest_after(useless: u8) -> u16 {
-    match useless {
+fn rest_after(failures: u8) -> u16 {
+    match failures {
         0 | 1 | 2 | 3 => 0,
         4 => 4,
         5 => 8,
@@ -50,7 +50,7 @@ impl Shortlist {
         requires { bound ≤ℤ pos (2 ^ 62) }
         ensures { self.new ≡ record self.old { bound = bound; arcs = [] } }
     {
-        self.clear();
+        self.count = 0;
         self.bound = bound;
     }
 
@@ -66,7 +66,7 @@ impl Shortlist {
     {
         if row.value(place) < bound {
             if self.is_full() {
-                self.clear();
+                self.count = 0;
                 return false;
             }
             self.push(row.arcs[place]);
@@ -158,10 +158,10 @@ impl Shortlist {
             self.rest -= 1;
             return false;
         }
-        if self.useless < MOST_USELESS {
-            self.useless += 1;
+        if self.failures < MOST_FAILURES {
+            self.failures += 1;
         }
-        self.rest = rest_after(self.useless);
+        self.rest = rest_after(self.failures);
         true
     }
 }

@@ -42,4 +42,4 @@ returns-in-Some-All-clause-kept c =
     let made = c.in_ok-world.ensures in
     let begins = simp to_z-of_z at made.phase in
     let reached = is_reached c.args.rows.now c.args.limits.now c.args.prices.now c.args.eps c.make_with.ensures.table c.requires.arcs c.in_ok-world.world c.run.new.self (simp to_z-of_z at made.made) begins made.lawful made.starts c.run.ensures.rounds c.run.ensures.phase in
-    left_for c.args.rows.now c.args.limits.now.shards c.args.eps c.run.new.self c.in_ok-gathered-in-Some-All.gathered.holders.items c.in_ok-gathered-in-Some-All.gathered.prices.items _ c.into_candidates.ensures.sound same reached c.in_ok-gathered-in-Some-All.ensures.gathered c.into_candidates.ensures.kept
+    left_for c.args.rows.now c.args.limits.now.shards c.args.eps c.run.new.self c.in_ok-gathered-in-Some-All.gathered.holders.items c.in_ok-gathered-in-Some-All.gathered.prices.items _ c.into_bidders.ensures.sound same reached c.in_ok-gathered-in-Some-All.ensures.gathered c.into_bidders.ensures.kept

@@ -20,5 +20,4 @@ invariant_of-self c =
         idle_are = All-weaker (λ i. i < length c.self.inside.states.items) (λ i. i < length (set c.self.inside.states.items c.in-Some.person (Waits c.args.object))) (λ i h. omega (arith, same, h)) c.pop_front.new.self.items (All-rest (λ i. i < length c.self.inside.states.items) c.in-Some.person c.pop_front.new.self.items c.self.inside.idle.items e old.idle_are);
         room = omega (arith, less, ap length e, old.room);
       },
-      omega (arith, same, c.self.invariant.2),
     )

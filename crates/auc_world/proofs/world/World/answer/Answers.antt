@@ -10,7 +10,6 @@ pub invariant_of-self : goal.invariant_of-self
 invariant_of-self c = (
   answer_keeps _ c.self.invariant.0 c.args.shard c.index_mut-objects.result.now _ (grind (arith, common_steps)) (grind (arith, common_steps)) c.answer.ensures.shape,
   c.self.invariant.1,
-  c.self.invariant.2,
 )
 
 pub returns-clause-letters : goal.returns-clause-letters

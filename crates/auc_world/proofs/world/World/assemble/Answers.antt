@@ -38,6 +38,5 @@ returns-clause-made c =
 pub invariant_of-result : goal.invariant_of-result
 invariant_of-result c = (
   made_are c.args.rows.now c.args.limits.now c.args.prices.now c.args.eps _ (returns-clause-made c) c.persons-persons.ensures.table c.requires.limits c.requires.prices c.requires.eps,
-  kept_made c.args.rows.now c.args.limits.now c.args.prices.now c.args.eps _ c.args.candidates.items (returns-clause-made c) c.requires.kept,
-  c.requires.rising,
+  kept_made c.args.rows.now c.args.limits.now c.args.prices.now c.args.eps _ c.args.bidders.items (returns-clause-made c) c.requires.kept,
 )

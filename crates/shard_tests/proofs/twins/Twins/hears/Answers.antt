@@ -12,5 +12,5 @@ returns c = record {
     persons = c.requires.made_listed.persons ∙ sym c.on_letter-listed.ensures.shape.persons;
     objects = c.requires.made_listed.objects ∙ sym c.on_letter-listed.ensures.shape.objects;
   };
-  kept = kept_rises c.args._rows.now c.args.self.now.listed.copies c.on_letter-listed.new.self.copies c.args.self.now.lists c.on_letter-listed.ensures.rise c.requires.kept;
+  kept = kept_rises c.args._rows.now c.args.self.now.listed.copies c.on_letter-listed.new.self.copies c.args.self.now.bidder c.on_letter-listed.ensures.rise c.requires.kept;
 }

@@ -1,17 +1,17 @@
-//! The candidates of the persons of a shard.
+//! What a shard's bids are found by: lists of candidates, blocks, and what is known of short rows.
 
-ghost use Rattle.std.specs.Prelude.{◌≡◌, ◌<◌, ◌+◌, ◌↔◌, [], List, ℤ, pos, length, All, IfOk, IfSome, IsTrue};
+ghost use Rattle.std.specs.Prelude.{◌≡◌, ◌<◌, ◌+◌, List, ℤ, pos, length, All, IfOk, IfSome};
 ghost use Rattle.auc_graph.specs.Bid.{value};
 ghost use Rattle.auc_graph.specs.Table.{Table, row_of};
-ghost use Rattle.auc_persons.specs.Blocks.{or_none};
 ghost use Rattle.auc_persons.specs.Candidates.{Kept, Listed};
+ghost use Rattle.auc_persons.specs.declared.method.Method.{Method};
 ghost use Rattle.auc_persons.specs.Persons.{Rising};
 ghost use Rattle.auc_persons.specs.Scan.{copy_in, IsScan};
 ghost use Rattle.auc_letters.specs.Price.{IsPrice};
 
 use crate::amount::scaled;
 use crate::blocks::Blocks;
-use crate::method::{SHORT, has_row_above};
+use crate::method::{Method, SHORT, has_row_above};
 use crate::priced_row::PricedRow;
 use crate::scan::{Scan, scale_of};
 use crate::short::ShortRows;
@@ -27,14 +27,14 @@ const WANTED: i64 = 7;
 /// of more than 40 arcs look at a few arcs alone, and bounds of blocks for rows of more than 256; and of shorter rows that they rise, or copies that
 /// do. All are of the rows that they were made for, and stay right as long as no copy of a price falls.
 #[derive(Drop)]
-pub struct Candidates {
+pub struct Bidder {
     lists: Vec<Shortlist>,
     short: ShortRows,
     // Where some row is long enough for blocks.
     blocks: Option<Blocks>,
 }
 
-impl Model for Candidates {
+impl Model for Bidder {
     ghost use Rattle.std.specs.Prelude.{List, ◌++◌};
     ghost use Rattle.auc_persons.specs.Blocks.{or_none};
     ghost use Rattle.auc_persons.specs.Candidates.{Listed};
@@ -74,9 +74,6 @@ fn scan_list(
         return None;
     }
     let row = PricedRow::of(rows, person, copies);
-    if row.arcs.len() <= SHORT {
-        return None;
-    }
     let list = &mut lists[place];
     if list.person() != person {
         return None;
@@ -102,17 +99,7 @@ fn lists_of(alloc: Global, rows: &Rows, shard: u32, of: u32) -> Result<Vec<Short
     Ok(lists)
 }
 
-/// Whether there are no blocks.
-fn has_no_blocks(blocks: &Option<Blocks>) -> bool
-    ensures { IsTrue result ↔ (or_none blocks.now ≡ []) }
-{
-    match blocks {
-        Some(blocks) => blocks.is_empty(),
-        None => true,
-    }
-}
-
-impl Candidates {
+impl Bidder {
     /// Empty lists for the persons of shard number `shard` of `of`, none where no row has more than 40 arcs; and what is known of shorter rows.
     ///
     /// Takes O(persons + arcs) time, and where some row has more than 40 arcs, 216 bytes of memory for each person of the shard. Where some row
@@ -122,37 +109,44 @@ impl Candidates {
     /// # Errors
     ///
     /// Only where memory was refused.
-    pub fn make(alloc: Global, rows: &Rows, shard: u32, of: u32) -> Result<Candidates, AllocError>
+    pub fn make(alloc: Global, rows: &Rows, shard: u32, of: u32) -> Result<Bidder, AllocError>
         requires { shard < of }
         ensures kept { IfOk result (λ c. (copies : List ℤ) → Kept rows.now copies c) }
     {
         let lists = lists_of(alloc, rows, shard, of)?;
         let blocks = Blocks::make(alloc, rows, shard, of)?;
         let short = ShortRows::make(alloc, rows, shard, of)?;
-        Ok(Candidates {
+        Ok(Bidder {
             lists,
             short,
             blocks,
         })
     }
 
-    /// Whether there is nothing: no list, no block, and no row known. O(1).
-    pub fn is_empty(&self) -> bool
-        ensures { IsTrue result ↔ (self.now ≡ []) }
+    /// The way to look the row of a person over.
+    #[inline(always)]
+    pub(crate) fn method(&self, rows: &Rows, person: u32) -> Method
+        requires { person < length rows.now.rows }
+        ensures { result ≡ Method.Blocks → 256 < length (row_of rows.now person) }
     {
-        if !self.lists.is_empty() {
-            return false;
-        }
-        if !has_no_blocks(&self.blocks) {
-            return false;
-        }
-        self.short.is_empty()
+        Method::of(rows.row(person).len(), self.short.knows(person))
     }
 
-    /// The best arc of a person: of a short row by what is known of it; else by his list where that tells it, and else by his blocks where he
-    /// has some, which make the list of a very long row anew. `place` is where these stand, if anywhere.
+    /// The best arc of a person with a short row, by what is known of it.
+    #[inline(always)]
+    pub(crate) fn best_sorted(&self, rows: &Rows, person: u32, copies: &[i64]) -> Option<Scan>
+        requires person { person < length rows.now.rows }
+        requires objects { rows.now.objects ≡ length copies.now }
+        requires copies { All IsPrice copies.now }
+        requires kept { Kept rows.now copies.now self.now }
+        ensures { IfSome result (IsScan (value (pos (length rows.now.rows + 1)) (copy_in copies.now)) (row_of rows.now person)) }
+    {
+        self.short.best(rows, person, copies)
+    }
+
+    /// The best arc of a person, where his list tells it. `place` is where the list stands, if anywhere.
     #[inline]
-    pub(crate) fn scan(
+    pub(crate) fn best_listed(
         &mut self,
         rows: &Rows,
         person: u32,
@@ -166,9 +160,28 @@ impl Candidates {
         ensures some { IfSome result (λ f. IsScan (value (pos (length rows.now.rows + 1)) (copy_in copies.now)) (row_of rows.now person) f) }
         ensures kept { Kept rows.now copies.now self.new }
     {
-        if let Some(scan) = self.short.best(rows, person, copies) {
-            return Some(scan);
-        }
+        let lists = self.lists.as_mut_slice();
+        scan_list(lists, rows, person, place, copies)
+    }
+
+    /// The best arc of a person with a long row: by his list where that tells it, and else by his blocks, which make the list of a very long row
+    /// anew. `place` is where these stand, if anywhere.
+    #[inline]
+    pub(crate) fn best_blocked(
+        &mut self,
+        rows: &Rows,
+        person: u32,
+        place: u32,
+        copies: &[i64],
+    ) -> Option<Scan>
+        requires person { person < length rows.now.rows }
+        requires objects { rows.now.objects ≡ length copies.now }
+        requires copies { All IsPrice copies.now }
+        requires long { 256 < length (row_of rows.now person) }
+        requires kept { Kept rows.now copies.now self.old }
+        ensures some { IfSome result (λ f. IsScan (value (pos (length rows.now.rows + 1)) (copy_in copies.now)) (row_of rows.now person) f) }
+        ensures kept { Kept rows.now copies.now self.new }
+    {
         let lists = self.lists.as_mut_slice();
         if let Some(scan) = scan_list(lists, rows, person, place, copies) {
             return Some(scan);

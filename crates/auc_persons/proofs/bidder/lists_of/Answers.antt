@@ -1,8 +1,8 @@
 use Rattle.std.proofs.lemmas.List.Elements.{All-push}
 use Rattle.auc_persons.specs.Candidates.{KeepsListed, no_list}
 use Rattle.auc_persons.proofs.Shortlists.{keeps_new}
-use Rattle.auc_persons.proofs.candidates.lists_of.Goals as goal
-use Rattle.auc_persons.proofs.candidates.lists_of.Goals.{then-person-of+in_ok-push, else-person-of}
+use Rattle.auc_persons.proofs.bidder.lists_of.Goals as goal
+use Rattle.auc_persons.proofs.bidder.lists_of.Goals.{then-person-of+in_ok-push, else-person-of}
 
 pub loop-person-preserved : goal.loop-person-preserved
 loop-person-preserved c = λ copies.

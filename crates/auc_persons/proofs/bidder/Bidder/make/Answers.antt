@@ -1,7 +1,7 @@
 use Rattle.std.proofs.lemmas.List.Elements.{All-append}
 use Rattle.auc_persons.specs.Blocks.{or_none}
 use Rattle.auc_persons.specs.Candidates.{KeepsListed}
-use Rattle.auc_persons.proofs.candidates.Candidates.make.Goals as goal
+use Rattle.auc_persons.proofs.bidder.Bidder.make.Goals as goal
 
 pub returns : goal.returns
 returns c = record {

@@ -5,7 +5,7 @@ use Rattle.std.proofs.lemmas.List.Elements.{All-append, All-same}
 use Rattle.auc_persons.specs.Blocks.{or_none}
 use Rattle.auc_persons.specs.Candidates.{KeepsListed}
 use Rattle.auc_persons.proofs.KeptBlocks.{behind, front}
-use Rattle.auc_persons.proofs.candidates.Candidates.scan.Goals as goal
+use Rattle.auc_persons.proofs.bidder.Bidder.best_blocked.Goals as goal
 
 pub scan_list-requires-clause-kept : goal.scan_list-requires-clause-kept
 scan_list-requires-clause-kept c =
@@ -13,8 +13,8 @@ scan_list-requires-clause-kept c =
     let kept = All-same P (c.self.inside.lists.items ++ (or_none c.self.inside.blocks ++ c.self.inside.short)) c.args.self.now c.self.view_is c.requires.kept in
     rw c.as_mut_slice-lists.ensures.value (front P c.self.inside.lists.items (or_none c.self.inside.blocks ++ c.self.inside.short) kept)
 
-pub returns-in-Some-scan_list-clause-kept : goal.returns-in-Some-scan_list-clause-kept
-returns-in-Some-scan_list-clause-kept c =
+pub returns-in-Some-clause-kept : goal.returns-in-Some-clause-kept
+returns-in-Some-clause-kept c =
     let P = KeepsListed c.args.rows.now c.args.copies.now in
     let kept = All-same P (c.self.inside.lists.items ++ (or_none c.self.inside.blocks ++ c.self.inside.short)) c.args.self.now c.self.view_is c.requires.kept in
     let len : length c.scan_list.new.lists ≡ c.self.inside.lists.len = omega (arith, c.scan_list.ensures.length, c.as_mut_slice-lists.ensures.len, ap length c.as_mut_slice-lists.ensures.value) in
@@ -40,9 +40,3 @@ returns-clause-kept c =
     let short = behind P (or_none c.self.inside.blocks) c.self.inside.short (behind P c.self.inside.lists.items (or_none c.self.inside.blocks ++ c.self.inside.short) kept) in
     let len : length c.scan.new.lists ≡ c.self.inside.lists.len = omega (arith, c.scan.ensures.length, c.scan_list.ensures.length, c.as_mut_slice-lists.ensures.len, ap length c.as_mut_slice-lists.ensures.value) in
     rw (with_items_is c.self.inside.lists c.scan.new.lists len) (All-append P c.scan.new.lists (or_none (Some c.scan.new.self) ++ c.self.inside.short) c.scan.ensures.lists (All-append P (or_none (Some c.scan.new.self)) c.self.inside.short c.scan.ensures.kept short))
-
-pub best-requires-clause-kept : goal.best-requires-clause-kept
-best-requires-clause-kept c =
-    let P = KeepsListed c.args.rows.now c.args.copies.now in
-    let kept = All-same P (c.self.inside.lists.items ++ (or_none c.self.inside.blocks ++ c.self.inside.short)) c.args.self.now c.self.view_is c.requires.kept in
-    behind P (or_none c.self.inside.blocks) c.self.inside.short (behind P c.self.inside.lists.items (or_none c.self.inside.blocks ++ c.self.inside.short) kept)

@@ -23,7 +23,8 @@ try:
     print("begun", flush=True)
     sigdorf.linear_sum_assignment(numpy.ones((100, 100)))
 except KeyboardInterrupt:
-    print(time.monotonic())
+    # At once, since the thread that still sleeps may end the interpreter's end early, where the signal woke it.
+    print(time.monotonic(), flush=True)
 """
 
 

@@ -1,6 +1,6 @@
 //! What a person bids at the present prices.
 
-ghost use Rattle.std.specs.Prelude.{◌≡◌, ◌<◌, ◌+◌, ◌*◌, ◌^◌, pos, ◌+ℤ◌, ◌-ℤ◌, ◌*ℤ◌, ◌≤ℤ◌, ◌<ℤ◌, All, length};
+ghost use Rattle.std.specs.Prelude.{true, false, ◌≡◌, ◌<◌, ◌+◌, ◌*◌, ◌^◌, pos, ◌+ℤ◌, ◌-ℤ◌, ◌*ℤ◌, ◌≤ℤ◌, ◌<ℤ◌, All, length};
 ghost use Rattle.auc_letters.specs.Price.{IsEps, IsPrice};
 ghost use Rattle.auc_direct.specs.Bid.{IsRaise};
 ghost use Rattle.auc_direct.specs.Rows.{IsShort};
@@ -9,12 +9,24 @@ ghost use Rattle.auc_direct.specs.Shortlist.{IsBest};
 
 use crate::arc::ShortArc;
 use crate::best::Best;
+use auc_letters::MOST_PRICE;
 
 /// What is bid: an amount, in scaled costs, which the object's price is then; and the arc that it is bid by.
 #[derive(Clone, Copy)]
 pub(crate) struct Bid {
     pub(crate) amount: i64,
     pub(crate) arc: ShortArc,
+}
+
+impl Bid {
+    /// Whether its amount is above the greatest price.
+    #[inline(always)]
+    pub(crate) fn is_too_high(self) -> bool
+        ensures above { result ≡ true → pos (2 ^ 61) <ℤ self.amount }
+        ensures within { result ≡ false → self.amount ≤ℤ pos (2 ^ 61) }
+    {
+        self.amount > MOST_PRICE
+    }
 }
 
 /// The spread of the costs, scaled.

@@ -16,7 +16,6 @@ use crate::market::{Market, NOBODY};
 use crate::rows::ShortRows;
 use crate::workspace::Workspace;
 use auc_cert::Reason;
-use auc_letters::MOST_PRICE;
 use std::alloc::AllocError;
 
 impl Market {
@@ -46,7 +45,7 @@ impl Market {
         let prices = self.prices.as_slice();
         let best = lists.best(rows, scale, person, prices);
         let bid = bid_of(scale, spread, eps, rows.row(person), best, prices);
-        if bid.amount > MOST_PRICE {
+        if bid.is_too_high() {
             return None;
         }
         Some(self.award(person, bid))

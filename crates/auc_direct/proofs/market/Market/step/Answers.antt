@@ -1,6 +1,6 @@
 use Rattle.std.proofs.Common.{ℕ, pos, ◌≡◌, ◌<◌, ◌^◌, arith, refl, rules, set, List, Contains, w64}
 use Rattle.std.specs.Prelude.{All, FitsSigned, ◌≤ℤ◌}
-use Rattle.std.proofs.lemmas.Int.{ints, to_z-of_z}
+use Rattle.std.proofs.lemmas.Int.{to_z-of_z}
 use Rattle.std.proofs.lemmas.List.Elements.{All-contains}
 use Rattle.auc_direct.specs.declared.arc.ShortArc.{ShortArc}
 use Rattle.auc_direct.specs.Market.{IsAwarded}
@@ -32,8 +32,8 @@ award-requires-clause-earlier c = λ some. (
     omega (arith, l, e)
     )
 
-pub returns-then-bid-gt-MOST_PRICE-clause-high : goal.returns-then-bid-gt-MOST_PRICE-clause-high
-returns-then-bid-gt-MOST_PRICE-clause-high c =
+pub returns-then-is_too_high-clause-high : goal.returns-then-is_too_high-clause-high
+returns-then-is_too_high-clause-high c =
     let f1 : FitsSigned w64 c.args.eps = c.ranges.eps in
     let f2 : FitsSigned w64 c.args.scale = c.ranges.scale in
     let f3 : FitsSigned w64 c.bid_of-bid.result.amount = search rules in
@@ -49,12 +49,12 @@ returns-then-bid-gt-MOST_PRICE-clause-high c =
         arc = c.bid_of-bid.result.arc;
         amount = c.bid_of-bid.result.amount;
         raise = raise;
-        above = (let t = simp to_z-of_z at c.if-bid-gt-MOST_PRICE.true in omega (arith, ints, t));
+        above = c.if-is_too_high.ensures.above refl;
       };
     }
 
-pub returns-then-bid-gt-MOST_PRICE-clause-kept : goal.returns-then-bid-gt-MOST_PRICE-clause-kept
-returns-then-bid-gt-MOST_PRICE-clause-kept c = rw c.as_slice-prices.ensures.value at c.best-best.ensures.kept
+pub returns-then-is_too_high-clause-kept : goal.returns-then-is_too_high-clause-kept
+returns-then-is_too_high-clause-kept c = rw c.as_slice-prices.ensures.value at c.best-best.ensures.kept
 
 awarded_here : (c : After-award) → IsAwarded c.args.rows.now c.args.eps c.args.person c.args.self.now.prices.items c.award.new.self.prices.items c.award.new.self.holders.items c.args.self.now.owns.items c.award.new.self.owns.items c.award.result
 awarded_here c =
@@ -63,7 +63,7 @@ awarded_here c =
     let f3 : FitsSigned w64 c.bid_of-bid.result.amount = search rules in
     let bid = simp to_z-of_z at c.bid_of-bid.ensures in
     let raise = raise_by c.args.rows.now c.args.scale c.args.eps c.args.person c.args.self.now.prices.items c.as_slice-prices.result.now c.row.result.now c.bid_of-bid.result.arc c.bid_of-bid.result.amount c.requires.scale c.as_slice-prices.ensures.value c.row.ensures.row bid in
-    let high : c.bid_of-bid.result.amount ≤ℤ pos (2 ^ 61) = (let t = simp to_z-of_z at c.if-bid-gt-MOST_PRICE.false in omega (arith, ints, t)) in
+    let high : c.bid_of-bid.result.amount ≤ℤ pos (2 ^ 61) = c.if-is_too_high.ensures.within refl in
     let prices : c.award.new.self.prices.items ≡ set c.args.self.now.prices.items c.bid_of-bid.result.arc.object c.bid_of-bid.result.amount = search rules in
     awarded c.args.rows.now c.args.eps c.args.person c.args.self.now.prices.items c.award.new.self.prices.items c.args.self.now.holders.items c.award.new.self.holders.items c.args.self.now.owns.items c.award.new.self.owns.items c.award.result c.bid_of-bid.result.arc c.bid_of-bid.result.amount
     c.row.ensures.sound c.requires.eps c.requires.stands c.requires.person c.requires.none raise high prices c.award.ensures.holders c.award.ensures.owns c.award.ensures.earlier

@@ -1,10 +1,15 @@
 -- How large the values are.
-use Rattle.std.proofs.Common.{◌≡◌, ℕ, ◌+◌, ◌*◌, ◌≤◌, ◌^◌, arith, w64, pos}
-use Rattle.std.specs.Prelude.{ℤ, ◌+ℤ◌, ◌-ℤ◌, ◌*ℤ◌, ◌≤ℤ◌, neg_ℤ, FitsSigned, unsigned_abs}
+use Rattle.std.proofs.Common.{◌≡◌, ℕ, ◌+◌, ◌*◌, ◌≤◌, ◌^◌, arith, length, List, w64, pos}
+use Rattle.std.specs.Prelude.{All, ℤ, ◌+ℤ◌, ◌-ℤ◌, ◌*ℤ◌, ◌≤ℤ◌, neg_ℤ, FitsSigned, unsigned_abs}
 use Rattle.std.proofs.lemmas.Int.{ints, unsigned_abs-mul}
+use Rattle.std.proofs.lemmas.List.Elements.{All-get_or}
 use Rattle.std.proofs.Math.Nat.{mul-le-mul_left}
+use Rattle.auc_graph.specs.Dual.{price_at}
 use Rattle.auc_letters.specs.Price.{IsPrice}
-use Rattle.auc_direct.specs.Scan.{IsValue}
+use Rattle.auc_direct.specs.declared.arc.ShortArc.{ShortArc}
+use Rattle.auc_direct.specs.Market.{scale_in}
+use Rattle.auc_direct.specs.Rows.{AreShorts, IsShort, Shorts}
+use Rattle.auc_direct.specs.Scan.{IsValue, short_value}
 
 pub product_abs : (s c : ℤ) (m n : ℕ) → unsigned_abs s ≤ m → unsigned_abs c ≤ n → unsigned_abs (s *ℤ c) ≤ m * n
 product_abs s c m n a b =
@@ -48,3 +53,11 @@ next_fits p b a e h i j k l = omega (arith, ints, h.low, h.high, i.low, i.high, 
 
 pub price_fits : (p : ℤ) → IsPrice p → FitsSigned w64 p
 price_fits p h = omega (arith, ints, h.low, h.high)
+
+-- what an arc is worth
+pub value_in : (r : Shorts) (prices : List ℤ) (s : ShortArc) → AreShorts r → All IsPrice prices → length prices ≡ r.objects → IsShort r.objects s → IsValue (short_value (scale_in r) prices s)
+value_in r prices s sound within many is =
+    let p = All-get_or IsPrice prices s.object (pos 0) (let o = is.object in omega (arith, o, many)) within in
+    let m = sound.most in
+    let below = product_below (scale_in r) s.cost (omega (arith, ints)) (omega (arith, ints, m)) is.low is.high in
+    record { low = value_low (scale_in r) s.cost (price_at prices s.object) below p; high = value_high (scale_in r) s.cost (price_at prices s.object) below p }

@@ -18,7 +18,7 @@ use Rattle.auc_hall.proofs.Membership.{behind, first_or_behind}
 use Rattle.auc_letters.specs.declared.state.Held.{Held}
 use Rattle.auc_answers.specs.Claims.{holder_at}
 use Rattle.auc_direct.specs.declared.label.Label.{Label}
-use Rattle.auc_direct.specs.Path.{AreLabels, AreLeft, Grows, IsAsNear, IsChain, IsClean, IsEnd, IsEntry, IsFrom, IsLabel, IsLine, IsNoNearer, IsOwn, IsSearch, Reaches, blank, compare, label_of, near_of, pays, place_of, settled_at}
+use Rattle.auc_direct.specs.Path.{AreLabels, AreLeft, Grows, IsAsNear, IsChain, IsClean, IsEnd, IsEntry, IsFrom, IsLabel, IsLine, IsNoNearer, IsSearch, Reaches, blank, compare, label_of, near_of, own_value, pays, place_of, settled_at}
 
 -- ---- lists
 
@@ -68,13 +68,11 @@ nearer : (own : ℤ) (n : ℕ) (v : ℤ) (m more : ℕ) → m ≤ more → IsAsN
 nearer own n v m more le (inl p) = inl (omega (arith, p, le))
 nearer own n v m more le (inr p) = inr (omega (arith, ints, p, le))
 
-module _ (t : Shorts) (eps : ℤ) (prices : List ℤ) (holders : List (Option Held)) (start : ℕ) where
-  label_kept : (labels new : List Label) → ((j : ℕ) → 1 ≤ place_of labels j → (1 ≤ place_of new j) × (near_of new j ≡ near_of labels j)) → (k : ℕ) (l : Label) → IsLabel t eps prices holders start labels k l → IsLabel t eps prices holders start new k l
+module _ (t : Shorts) (owns : List ShortArc) (prices : List ℤ) (holders : List (Option Held)) (start : ℕ) where
+  label_kept : (labels new : List Label) → ((j : ℕ) → 1 ≤ place_of labels j → (1 ≤ place_of new j) × (near_of new j ≡ near_of labels j)) → (k : ℕ) (l : Label) → IsLabel t owns prices holders start labels k l → IsLabel t owns prices holders start new k l
   label_kept labels new kept k l x = record {
     at = x.at;
     from = from_kept holders start labels new kept l.before l.held.person x.at x.from;
-    own = x.own;
-    is = x.is;
     arc = x.arc;
     listed = x.listed;
     leads = x.leads;
@@ -82,12 +80,12 @@ module _ (t : Shorts) (eps : ℤ) (prices : List ℤ) (holders : List (Option He
     no_nearer = x.no_nearer;
   }
 
-  pub reaches_more : (labels new : List Label) (i n : ℕ) → ((k : ℕ) → near_of labels k ≤ near_of new k) → Reaches t eps prices labels i n → Reaches t eps prices new i n
-  reaches_more labels new i n more r = record { own = r.own; is = r.is; all = λ k d lt. nearer r.own n (pays t prices (get_or (shorts_of t i) k d)) (near_of labels (get_or (shorts_of t i) k d).object) (near_of new (get_or (shorts_of t i) k d).object) (more (get_or (shorts_of t i) k d).object) (r.all k d lt) }
+  pub reaches_more : (labels new : List Label) (i n : ℕ) → ((k : ℕ) → near_of labels k ≤ near_of new k) → Reaches t owns prices labels i n → Reaches t owns prices new i n
+  reaches_more labels new i n more r = λ k d lt. nearer (own_value t owns prices i) n (pays t prices (get_or (shorts_of t i) k d)) (near_of labels (get_or (shorts_of t i) k d).object) (near_of new (get_or (shorts_of t i) k d).object) (more (get_or (shorts_of t i) k d).object) (r k d lt)
 
   -- ---- nothing is labelled yet
 
-  pub fresh : (labels : List Label) (line : List ℕ) (heap : List (ℕ × ℕ)) → IsClean t.objects labels line heap → AreLabels t eps prices holders start labels line heap (2 ^ 62)
+  pub fresh : (labels : List Label) (line : List ℕ) (heap : List (ℕ × ℕ)) → IsClean t.objects labels line heap → AreLabels t owns prices holders start labels line heap (2 ^ 62)
   fresh labels line heap clean =
       let none = clean.none in
       let unplaced : (k : ℕ) → 1 ≤ place_of labels k → ⊥ = λ k up. (let e = (none k).1 in omega (arith, e, up)) in
@@ -110,7 +108,7 @@ module _ (t : Shorts) (eps : ℤ) (prices : List ℤ) (holders : List (Option He
 
   -- ---- an object comes nearer
 
-  module _ (labels : List Label) (line : List ℕ) (heap : List (ℕ × ℕ)) (now : ℕ) (are : AreLabels t eps prices holders start labels line heap now) where
+  module _ (labels : List Label) (line : List ℕ) (heap : List (ℕ × ℕ)) (now : ℕ) (are : AreLabels t owns prices holders start labels line heap now) where
     module _ (k c : ℕ) (whose : Held) (left : Option ℕ) (inside : k < length labels) (closer : near_of labels k < c) (below : c ≤ now) where
       abbrev l : Label
       l = record { near = c; held = whose; before = left; place = 0 }
@@ -160,14 +158,14 @@ module _ (t : Shorts) (eps : ℤ) (prices : List ℤ) (holders : List (Option He
       was_up : (j : ℕ) → 1 ≤ place_of new j → 1 ≤ place_of labels j
       was_up j up = let e = place_same j in omega (arith, e, up)
 
-      module _ (heap2 : List (ℕ × ℕ)) (perm : IsPermutation ((c, k) ∷ heap) heap2) (keeps : KeepsHeap compare heap heap2) (mine : IsLabel t eps prices holders start labels k l) where
-        label_new : (j : ℕ) → 1 ≤ near_of new j → IsLabel t eps prices holders start new j (label_of new j)
+      module _ (heap2 : List (ℕ × ℕ)) (perm : IsPermutation ((c, k) ∷ heap) heap2) (keeps : KeepsHeap compare heap heap2) (mine : IsLabel t owns prices holders start labels k l) where
+        label_new : (j : ℕ) → 1 ≤ near_of new j → IsLabel t owns prices holders start new j (label_of new j)
         label_new j up =
             elim (cases_eq j k) [
-              | inl e ↦ subst (IsLabel t eps prices holders start new j) (sym (here j e)) (subst (λ (i : ℕ). IsLabel t eps prices holders start new i l) (sym e) (label_kept labels new kept k l mine))
+              | inl e ↦ subst (IsLabel t owns prices holders start new j) (sym (here j e)) (subst (λ (i : ℕ). IsLabel t owns prices holders start new i l) (sym e) (label_kept labels new kept k l mine))
               | inr ne ↦ (
                   let old : 1 ≤ near_of labels j = (let x = ap (λ (y : Label). y.near) (off j ne) in omega (arith, x, up)) in
-                  subst (IsLabel t eps prices holders start new j) (sym (off j ne)) (label_kept labels new kept j (label_of labels j) (are.labelled j old))
+                  subst (IsLabel t owns prices holders start new j) (sym (off j ne)) (label_kept labels new kept j (label_of labels j) (are.labelled j old))
                   )
             ]
 
@@ -190,7 +188,7 @@ module _ (t : Shorts) (eps : ℤ) (prices : List ℤ) (holders : List (Option He
                   )
             ])
 
-        pub relabelled : AreLabels t eps prices holders start new line heap2 now
+        pub relabelled : AreLabels t owns prices holders start new line heap2 now
         relabelled = record {
           some = are.some;
           most = are.most;
@@ -210,7 +208,7 @@ module _ (t : Shorts) (eps : ℤ) (prices : List ℤ) (holders : List (Option He
 
     -- ---- an object leaves the heap
 
-    with_heap : (heap2 : List (ℕ × ℕ)) (x : ℕ) → 1 ≤ x → x ≤ now → IsHeap compare heap2 → All (IsEntry t.objects x) heap2 → ((k : ℕ) → 1 ≤ near_of labels k → place_of labels k ≡ 0 → Contains heap2 (near_of labels k, k)) → AreLabels t eps prices holders start labels line heap2 x
+    with_heap : (heap2 : List (ℕ × ℕ)) (x : ℕ) → 1 ≤ x → x ≤ now → IsHeap compare heap2 → All (IsEntry t.objects x) heap2 → ((k : ℕ) → 1 ≤ near_of labels k → place_of labels k ≡ 0 → Contains heap2 (near_of labels k, k)) → AreLabels t owns prices holders start labels line heap2 x
     with_heap heap2 x some below order entries waiting = record {
       some = some;
       most = (let m = are.most in omega (arith, below, m));
@@ -257,7 +255,7 @@ module _ (t : Shorts) (eps : ℤ) (prices : List ℤ) (holders : List (Option He
           ]
 
       -- it was settled before, or has come nearer since
-      pub dropped : ((near_of labels k ≡ n) → (place_of labels k ≡ 0) → ⊥) → AreLabels t eps prices holders start labels line rest n
+      pub dropped : ((near_of labels k ≡ n) → (place_of labels k ≡ 0) → ⊥) → AreLabels t owns prices holders start labels line rest n
       dropped stale = with_heap rest n popped.some popped.most (pops are.order).0 rest_entries
           (λ j up un. other_waits j (λ same e. stale (sym (ap (near_of labels) e) ∙ same) (sym (ap (place_of labels) e) ∙ un)) up un)
 
@@ -270,7 +268,7 @@ module _ (t : Shorts) (eps : ℤ) (prices : List ℤ) (holders : List (Option He
           ]
 
       -- it is put back
-      pub put_back : (heap2 : List (ℕ × ℕ)) → IsPermutation ((n, k) ∷ rest) heap2 → KeepsHeap compare rest heap2 → AreLabels t eps prices holders start labels line heap2 n
+      pub put_back : (heap2 : List (ℕ × ℕ)) → IsPermutation ((n, k) ∷ rest) heap2 → KeepsHeap compare rest heap2 → AreLabels t owns prices holders start labels line heap2 n
       put_back heap2 back keeps = with_heap heap2 n popped.some popped.most (keeps (pops are.order).0)
           (All-permutation (IsEntry t.objects n) ((n, k) ∷ rest) heap2 back (All-cons (IsEntry t.objects n) (n, k) rest (record { some = popped.some; most = omega arith; object = popped.object }) rest_entries))
           (λ j up un. Contains-permutation ((n, k) ∷ rest) heap2 (near_of labels j, j) back (Contains-permutation heap ((n, k) ∷ rest) (near_of labels j, j) perm (are.waiting j up un)))
@@ -340,19 +338,17 @@ module _ (t : Shorts) (eps : ℤ) (prices : List ℤ) (holders : List (Option He
               | inr last ↦ (place_here j (sym last.1) ∙ (let x = last.0 in omega (arith, x)))
             ]
 
-        label_same : (j : ℕ) (l : Label) → l.near ≡ near_of labels j → l.held ≡ (label_of labels j).held → l.before ≡ (label_of labels j).before → IsLabel t eps prices holders start labels j (label_of labels j) → IsLabel t eps prices holders start next j l
+        label_same : (j : ℕ) (l : Label) → l.near ≡ near_of labels j → l.held ≡ (label_of labels j).held → l.before ≡ (label_of labels j).before → IsLabel t owns prices holders start labels j (label_of labels j) → IsLabel t owns prices holders start next j l
         label_same j l e f g x =
             let y = label_kept labels next still_settled j (label_of labels j) x in
             record {
               at = y.at;
               from = subst (λ (h : Held). IsFrom holders start next l.before h.person y.at) (sym f) (subst (λ (b : Option ℕ). IsFrom holders start next b (label_of labels j).held.person y.at) (sym g) y.from);
-              own = y.own;
-              is = subst (λ (h : Held). IsOwn t eps prices h.person y.own) (sym f) y.is;
               arc = y.arc;
               listed = subst (λ (h : Held). Contains (shorts_of t h.person) y.arc) (sym f) y.listed;
               leads = y.leads;
               stands = subst (λ (h : Held). slice_get (shorts_of t h.person) h.arc ≡ Some y.arc) (sym f) y.stands;
-              no_nearer = subst (λ (m : ℕ). IsNoNearer y.own y.at (pays t prices y.arc) m) (sym e) y.no_nearer;
+              no_nearer = subst (λ (h : Held). IsNoNearer (own_value t owns prices h.person) y.at (pays t prices y.arc) l.near) (sym f) (subst (λ (m : ℕ). IsNoNearer (own_value t owns prices (label_of labels j).held.person) y.at (pays t prices y.arc) m) (sym e) y.no_nearer);
             }
 
         earlier_next : (i j : ℕ) → 1 ≤ place_of next j → (label_of next j).before ≡ Some i → place_of next i < place_of next j
@@ -379,7 +375,7 @@ module _ (t : Shorts) (eps : ℤ) (prices : List ℤ) (holders : List (Option He
                   )
             ]
 
-        pub settled_next : AreLabels t eps prices holders start next longer rest n
+        pub settled_next : AreLabels t owns prices holders start next longer rest n
         settled_next = record {
           some = popped.some;
           most = (let m = are.most in let p = popped.most in omega (arith, p, m));
@@ -405,7 +401,7 @@ module _ (t : Shorts) (eps : ℤ) (prices : List ℤ) (holders : List (Option He
         from_settled = (h, holds, refl, (let e = place_here k refl in omega (arith, e)), near_kept k ∙ as_near)
 
         -- and his row is labelled: the search goes on
-        pub searched : IsSearch t eps prices holders start labels line heap now → (new2 : List Label) (line2 : List ℕ) (heap2 : List (ℕ × ℕ)) → Grows next new2 → AreLabels t eps prices holders start new2 line2 heap2 n → Reaches t eps prices new2 h.person n → IsSearch t eps prices holders start new2 line2 heap2 n
+        pub searched : IsSearch t owns prices holders start labels line heap now → (new2 : List Label) (line2 : List ℕ) (heap2 : List (ℕ × ℕ)) → Grows next new2 → AreLabels t owns prices holders start new2 line2 heap2 n → Reaches t owns prices new2 h.person n → IsSearch t owns prices holders start new2 line2 heap2 n
         searched s new2 line2 heap2 grows found reach =
             let nearer_now : (j : ℕ) → near_of labels j ≤ near_of new2 j = λ j. (let e = near_kept j in let g = grows.near j in omega (arith, e, g)) in
             record {
@@ -418,20 +414,20 @@ module _ (t : Shorts) (eps : ℤ) (prices : List ℤ) (holders : List (Option He
                     | inl is ↦ (
                         let who : h ≡ x = same_Some h x (sym holds ∙ (ap (holder_at holders) (sym is) ∙ e)) in
                         let at_n : n ≡ near_of new2 j = sym (same_near ∙ (ap (near_of labels) is ∙ as_near)) in
-                        subst (λ (m : ℕ). Reaches t eps prices new2 x.person m) at_n (subst (λ (y : Held). Reaches t eps prices new2 y.person n) who reach)
+                        subst (λ (m : ℕ). Reaches t owns prices new2 x.person m) at_n (subst (λ (y : Held). Reaches t owns prices new2 y.person n) who reach)
                         )
-                    | inr old ↦ subst (λ (m : ℕ). Reaches t eps prices new2 x.person m) (sym same_near) (reaches_more labels new2 x.person (near_of labels j) nearer_now (s.reached j x old e))
+                    | inr old ↦ subst (λ (m : ℕ). Reaches t owns prices new2 x.person m) (sym same_near) (reaches_more labels new2 x.person (near_of labels j) nearer_now (s.reached j x old e))
                   ]
                   );
             }
 
-      pub search_dropped : IsSearch t eps prices holders start labels line heap now → ((near_of labels k ≡ n) → (place_of labels k ≡ 0) → ⊥) → IsSearch t eps prices holders start labels line rest n
+      pub search_dropped : IsSearch t owns prices holders start labels line heap now → ((near_of labels k ≡ n) → (place_of labels k ≡ 0) → ⊥) → IsSearch t owns prices holders start labels line rest n
       search_dropped s stale = record { found = dropped stale; first = s.first; reached = s.reached }
 
       -- nobody holds it: the search ends
-      pub search_ended : IsSearch t eps prices holders start labels line heap now → near_of labels k ≡ n → place_of labels k ≡ 0 → holder_at holders k ≡ None → (heap2 : List (ℕ × ℕ)) → IsPermutation ((n, k) ∷ rest) heap2 → KeepsHeap compare rest heap2 → IsEnd t eps prices holders start labels line heap2 k
+      pub search_ended : IsSearch t owns prices holders start labels line heap now → near_of labels k ≡ n → place_of labels k ≡ 0 → holder_at holders k ≡ None → (heap2 : List (ℕ × ℕ)) → IsPermutation ((n, k) ∷ rest) heap2 → KeepsHeap compare rest heap2 → IsEnd t owns prices holders start labels line heap2 k
       search_ended s as_near un none heap2 back keeps = record {
-        search = subst (IsSearch t eps prices holders start labels line heap2) (sym as_near) (record { found = put_back heap2 back keeps; first = s.first; reached = s.reached });
+        search = subst (IsSearch t owns prices holders start labels line heap2) (sym as_near) (record { found = put_back heap2 back keeps; first = s.first; reached = s.reached });
         within = popped.object;
         free = none;
         least = λ j z. (let l = none_nearer j z in omega (arith, l, as_near));
@@ -439,7 +435,7 @@ module _ (t : Shorts) (eps : ℤ) (prices : List ℤ) (holders : List (Option He
 
   -- ---- the free person's row is labelled
 
-  pub first_search : (labels new : List Label) (line : List ℕ) (heap heap2 : List (ℕ × ℕ)) (line2 : List ℕ) → IsClean t.objects labels line heap → Grows labels new → AreLabels t eps prices holders start new line2 heap2 (2 ^ 62) → Reaches t eps prices new start (2 ^ 62) → IsSearch t eps prices holders start new line2 heap2 (2 ^ 62)
+  pub first_search : (labels new : List Label) (line : List ℕ) (heap heap2 : List (ℕ × ℕ)) (line2 : List ℕ) → IsClean t.objects labels line heap → Grows labels new → AreLabels t owns prices holders start new line2 heap2 (2 ^ 62) → Reaches t owns prices new start (2 ^ 62) → IsSearch t owns prices holders start new line2 heap2 (2 ^ 62)
   first_search labels new line heap heap2 line2 clean grows found reach = record {
     found = found;
     first = reach;
@@ -448,7 +444,10 @@ module _ (t : Shorts) (eps : ℤ) (prices : List ℤ) (holders : List (Option He
 
   -- ---- an arc of a row
 
-  module _ (person : ℕ) (own : ℤ) (now : ℕ) (left : Option ℕ) (old labels : List Label) (line : List ℕ) (heap : List (ℕ × ℕ)) (are : AreLabels t eps prices holders start labels line heap now) (grows : Grows old labels) (b : ShortArc) (r at : ℕ) where
+  module _ (person : ℕ) (now : ℕ) (left : Option ℕ) (old labels : List Label) (line : List ℕ) (heap : List (ℕ × ℕ)) (are : AreLabels t owns prices holders start labels line heap now) (grows : Grows old labels) (b : ShortArc) (r at : ℕ) where
+    abbrev own : ℤ
+    own = own_value t owns prices person
+
     -- it leads to an object that is no less near already
     pub passed : IsAsNear own now (pays t prices b) r → r ≤ near_of labels b.object → IsAsNear own now (pays t prices b) (near_of labels b.object)
     passed n le = nearer own now (pays t prices b) r (near_of labels b.object) le n
@@ -467,14 +466,12 @@ module _ (t : Shorts) (eps : ℤ) (prices : List ℤ) (holders : List (Option He
         same = λ k up. step_grows.same k (let a = grows.place k in omega (arith, a, up)) ∙ grows.same k up;
       }
 
-      pub relaxed : (heap2 : List (ℕ × ℕ)) → IsPermutation ((r, b.object) ∷ heap) heap2 → KeepsHeap compare heap heap2 → IsFrom holders start old left person now → IsOwn t eps prices person own → Contains (shorts_of t person) b → slice_get (shorts_of t person) at ≡ Some b → IsNoNearer own now (pays t prices b) r → AreLabels t eps prices holders start set_new line heap2 now
-      relaxed heap2 perm keeps from is listed there no_nearer =
+      pub relaxed : (heap2 : List (ℕ × ℕ)) → IsPermutation ((r, b.object) ∷ heap) heap2 → KeepsHeap compare heap heap2 → IsFrom holders start old left person now → Contains (shorts_of t person) b → slice_get (shorts_of t person) at ≡ Some b → IsNoNearer own now (pays t prices b) r → AreLabels t owns prices holders start set_new line heap2 now
+      relaxed heap2 perm keeps from listed there no_nearer =
           relabelled labels line heap now are b.object r (record { person = person; arc = at }) left inside closer below heap2 perm keeps
           (record {
             at = now;
             from = from_kept holders start old labels (λ j up. ((let a = grows.place j in omega (arith, a, up)), ap (λ (y : Label). y.near) (grows.same j up))) left person now from;
-            own = own;
-            is = is;
             arc = b;
             listed = listed;
             leads = refl;
@@ -493,38 +490,35 @@ module _ (t : Shorts) (eps : ℤ) (prices : List ℤ) (holders : List (Option He
 
 -- ---- a row
 
--- on a scale that is one more than the persons
-pub as_pays : (t : Shorts) (prices : List ℤ) (own : ℤ) (now : ℕ) (b : ShortArc) (m : ℕ) (scale : ℤ) → scale ≡ scale_in t → IsAsNear own now (short_value scale prices b) m → IsAsNear own now (pays t prices b) m
-as_pays t prices own now b m scale e n = subst (λ (z : ℤ). IsAsNear own now (short_value z prices b) m) e n
+-- on a scale that is one more than the persons, from what a person pays for what he holds
+pub as_pays : (t : Shorts) (prices : List ℤ) (own his : ℤ) (now : ℕ) (b : ShortArc) (m : ℕ) (scale : ℤ) → scale ≡ scale_in t → own ≡ his → IsAsNear own now (short_value scale prices b) m → IsAsNear his now (pays t prices b) m
+as_pays t prices own his now b m scale e f n = subst (λ (o : ℤ). IsAsNear o now (pays t prices b) m) f (subst (λ (z : ℤ). IsAsNear own now (short_value z prices b) m) e n)
 
-pub less_pays : (t : Shorts) (prices : List ℤ) (own : ℤ) (now : ℕ) (b : ShortArc) (m : ℕ) (scale : ℤ) → scale ≡ scale_in t → IsNoNearer own now (short_value scale prices b) m → IsNoNearer own now (pays t prices b) m
-less_pays t prices own now b m scale e n = subst (λ (z : ℤ). IsNoNearer own now (short_value z prices b) m) e n
+pub less_pays : (t : Shorts) (prices : List ℤ) (own his : ℤ) (now : ℕ) (b : ShortArc) (m : ℕ) (scale : ℤ) → scale ≡ scale_in t → own ≡ his → IsNoNearer own now (short_value scale prices b) m → IsNoNearer his now (pays t prices b) m
+less_pays t prices own his now b m scale e f n = subst (λ (o : ℤ). IsNoNearer o now (pays t prices b) m) f (subst (λ (z : ℤ). IsNoNearer own now (short_value z prices b) m) e n)
 
 -- it is labelled to its end
-pub all_walked : (t : Shorts) (eps : ℤ) (prices : List ℤ) (person : ℕ) (own : ℤ) (now : ℕ) (labels : List Label) (row : List ShortArc) (at : ℕ) → row ≡ shorts_of t person → length row ≤ at → IsOwn t eps prices person own → All (λ x. IsAsNear own now (pays t prices x) (near_of labels x.object)) (take at row) → Reaches t eps prices labels person now
-all_walked t eps prices person own now labels row at is over its walked = record {
-  own = own;
-  is = its;
-  all = subst (λ (xs : List ShortArc). All (λ x. IsAsNear own now (pays t prices x) (near_of labels x.object)) xs) is (subst (λ (xs : List ShortArc). All (λ x. IsAsNear own now (pays t prices x) (near_of labels x.object)) xs) (take_all at row over) walked);
-}
+pub all_walked : (t : Shorts) (owns : List ShortArc) (prices : List ℤ) (person : ℕ) (now : ℕ) (labels : List Label) (row : List ShortArc) (at : ℕ) → row ≡ shorts_of t person → length row ≤ at → All (λ x. IsAsNear (own_value t owns prices person) now (pays t prices x) (near_of labels x.object)) (take at row) → Reaches t owns prices labels person now
+all_walked t owns prices person now labels row at is over walked =
+    subst (λ (xs : List ShortArc). All (λ x. IsAsNear (own_value t owns prices person) now (pays t prices x) (near_of labels x.object)) xs) is (subst (λ (xs : List ShortArc). All (λ x. IsAsNear (own_value t owns prices person) now (pays t prices x) (near_of labels x.object)) xs) (take_all at row over) walked)
 
 -- ---- parts of what a search keeps
 
-module _ (t : Shorts) (eps : ℤ) (prices : List ℤ) (holders : List (Option Held)) (start : ℕ) (labels : List Label) (line : List ℕ) (heap : List (ℕ × ℕ)) where
-  pub line_of : (now : ℕ) → AreLabels t eps prices holders start labels line heap now → IsLine labels line
+module _ (t : Shorts) (owns : List ShortArc) (prices : List ℤ) (holders : List (Option Held)) (start : ℕ) (labels : List Label) (line : List ℕ) (heap : List (ℕ × ℕ)) where
+  pub line_of : (now : ℕ) → AreLabels t owns prices holders start labels line heap now → IsLine labels line
   line_of now are = record { high = are.high; listed = are.listed; placed = are.placed }
 
-  covered_by : (now : ℕ) → AreLabels t eps prices holders start labels line heap now → (k : ℕ) → 1 ≤ near_of labels k → ((m : ℕ) × (0 ≤ m) × (slice_get line m ≡ Some k)) ⊎ ((m : ℕ) × (e : ℕ × ℕ) × (0 ≤ m) × (slice_get heap m ≡ Some e) × (e.1 ≡ k))
+  covered_by : (now : ℕ) → AreLabels t owns prices holders start labels line heap now → (k : ℕ) → 1 ≤ near_of labels k → ((m : ℕ) × (0 ≤ m) × (slice_get line m ≡ Some k)) ⊎ ((m : ℕ) × (e : ℕ × ℕ) × (0 ≤ m) × (slice_get heap m ≡ Some e) × (e.1 ≡ k))
   covered_by now are k up =
       elim (cases_lt 0 (place_of labels k)) [
         | inl settled ↦ (let m = are.listed k (omega (arith, settled)) in inl (m.0, omega arith, m.1))
         | inr un ↦ (let c = are.waiting k up (omega (arith, un)) in inr (c.0, (near_of labels k, k), omega arith, slice_get-get_or heap c.0 (near_of labels k, k) c.1 ∙ ap Some c.2, refl))
       ]
 
-  pub left_of : (now : ℕ) → AreLabels t eps prices holders start labels line heap now → AreLeft labels line 0 heap 0
+  pub left_of : (now : ℕ) → AreLabels t owns prices holders start labels line heap now → AreLeft labels line 0 heap 0
   left_of now are = record { covered = covered_by now are; settled = λ k up. (let s = are.settled k up in let a = are.some in omega (arith, s, a)) }
 
-  pub chain_of : (end : ℕ) → IsEnd t eps prices holders start labels line heap end → IsChain labels holders start end
+  pub chain_of : (end : ℕ) → IsEnd t owns prices holders start labels line heap end → IsChain labels holders start end
   chain_of end ended =
       let are = ended.search.found in
       record {

@@ -4,7 +4,7 @@ use Rattle.std.specs.Prelude.{◌+ℤ◌, ◌≤ℤ◌, slice_index_or}
 use Rattle.std.proofs.lemmas.Bool.{cases_eq, cases_lt}
 use Rattle.std.proofs.lemmas.Int.{ints}
 use Rattle.std.proofs.lemmas.List.{length-map}
-use Rattle.std.proofs.lemmas.List.Elements.{All-from_get_or, All-get_or}
+use Rattle.std.proofs.lemmas.List.Elements.{All-contains, All-from_get_or, All-get_or}
 use Rattle.std.proofs.lemmas.Option.{same_Some, slice_get-get_or, slice_get_within}
 use Rattle.auc_graph.specs.Assignment.{total}
 use Rattle.auc_graph.specs.Dual.{price_at}
@@ -13,8 +13,8 @@ use Rattle.auc_direct.specs.declared.arc.ShortArc.{ShortArc}
 use Rattle.auc_direct.specs.declared.label.Label.{Label}
 use Rattle.auc_direct.specs.declared.market.TheConstants.{NOBODY}
 use Rattle.auc_direct.specs.Market.{AreSpare, HaveAllBut, HaveObjects, Stands, holder_at, no_own, own_at}
-use Rattle.auc_direct.specs.Path.{Agree, AreHolders, AreRaised, AreTaken, IsEnd, IsFrom, IsLabelArc, label_of, near_of, place_of, seat, seats}
-use Rattle.auc_direct.specs.Rows.{AreShorts, Shorts, shorts_of}
+use Rattle.auc_direct.specs.Path.{Agree, AreHolders, AreOwns, AreRaised, AreTaken, IsEnd, IsFrom, IsLabelArc, label_of, near_of, place_of, seat, seats}
+use Rattle.auc_direct.specs.Rows.{AreShorts, IsShort, Shorts, shorts_of}
 use Rattle.auc_direct.proofs.MarketLaws.{holder_below, owner_below}
 use Rattle.auc_direct.proofs.Seats.{seat_is}
 use Rattle.auc_direct.proofs.Slackness.{rise, slack_after_path, unsettled_same}
@@ -35,13 +35,17 @@ module _ (t : Shorts) (eps : ℤ) (prices : List ℤ) (holders : List ℕ) (owns
   pub agree_of : Agree t holders owns
   agree_of = record { holders_are = stands.holders_are; owns_are = stands.owns_are; held = stands.held; holds = stands.holds }
 
+  -- each arc that somebody has is one of his row
+  pub owns_known : AreOwns t owns
+  owns_known = record { many = stands.owns_are; short = λ i some. All-contains (IsShort t.objects) (shorts_of t i) (own_at owns i) (sound.each i) (stands.slack i some).listed }
+
   pub holders_known : AreHolders t (seats holders)
   holders_known = record {
     many = length-map holders seat ∙ stands.holders_are;
     known = λ j h e. (let s = seat_is holders j h e in subst (λ (i : ℕ). i < length t.rows) s.0 (holder_below t eps prices holders owns sound stands j s.1));
   }
 
-  module _ (new : List ℤ) (start : ℕ) (labels : List Label) (line : List ℕ) (heap : List (ℕ × ℕ)) (end : ℕ) (ended : IsEnd t eps prices (seats holders) start labels line heap end) where
+  module _ (new : List ℤ) (start : ℕ) (labels : List Label) (line : List ℕ) (heap : List (ℕ × ℕ)) (end : ℕ) (ended : IsEnd t owns prices (seats holders) start labels line heap end) where
     -- settled objects are held
     pub seated : (j : ℕ) → 1 ≤ place_of labels j → holder_at holders j ≢ NOBODY
     seated j up = let h = ended.search.found.held j up in (seat_is holders j h.0 h.1).1
@@ -63,10 +67,10 @@ module _ (t : Shorts) (eps : ℤ) (prices : List ℤ) (holders : List ℕ) (owns
     module _ (sold : List ℕ) (left : List ShortArc) (is_eps : IsEps eps) (raised : AreRaised prices new labels (near_of labels end)) (fits : (k : ℕ) → 1 ≤ place_of labels k → (price_at prices k +ℤ pos (near_of labels k - near_of labels end)) ≤ℤ pos (2 ^ 61))
         (taken : AreTaken t labels (near_of labels end) start holders sold owns left) where
       pub total_after_path : total prices ≤ℤ total new
-      total_after_path = total_rises prices new raised.many (rise t eps prices new holders start labels line heap end ended raised is_eps)
+      total_after_path = total_rises prices new raised.many (rise t eps prices new holders owns start labels line heap end ended raised is_eps)
 
       pub higher_after_path : (k : ℕ) → price_at prices k ≤ℤ price_at new k
-      higher_after_path = rise t eps prices new holders start labels line heap end ended raised is_eps
+      higher_after_path = rise t eps prices new holders owns start labels line heap end ended raised is_eps
 
       unsettled : (j : ℕ) → holder_at holders j ≡ NOBODY → place_of labels j ≡ 0
       unsettled j e = elim (cases_lt 0 (place_of labels j)) [ inl up ↦ absurd (seated j (omega (arith, up)) e) | inr z ↦ omega (arith, z) ]
@@ -80,13 +84,13 @@ module _ (t : Shorts) (eps : ℤ) (prices : List ℤ) (holders : List ℕ) (owns
             low = (let l = p.low in omega (arith, ints, l, e));
             high = elim (cases_lt 0 (place_of labels k)) [
               | inl up ↦ (let f = fits k (omega (arith, up)) in omega (arith, ints, f, e))
-              | inr z ↦ (let s = unsettled_same t eps prices new holders start labels line heap end ended raised is_eps k (omega (arith, z)) in let h = p.high in omega (arith, ints, s, h))
+              | inr z ↦ (let s = unsettled_same t eps prices new holders owns start labels line heap end ended raised is_eps k (omega (arith, z)) in let h = p.high in omega (arith, ints, s, h))
             ];
           }
 
       spare_by : AreSpare t prices holders → AreSpare t new sold
       spare_by (inl e) = inl e
-      spare_by (inr free) = inr (λ j none. (let was = taken.kept j none in unsettled_same t eps prices new holders start labels line heap end ended raised is_eps j (unsettled j was) ∙ free j was))
+      spare_by (inr free) = inr (λ j none. (let was = taken.kept j none in unsettled_same t eps prices new holders owns start labels line heap end ended raised is_eps j (unsettled j was) ∙ free j was))
 
       not_nobody : (i : ℕ) → (own_at owns i).object ≢ NOBODY → i ≢ NOBODY
       not_nobody i some e = let l = owner_below t eps prices holders owns sound stands i some in let m = sound.most in omega (arith, l, m, e)
@@ -100,7 +104,7 @@ module _ (t : Shorts) (eps : ℤ) (prices : List ℤ) (holders : List ℕ) (owns
         spare = spare_by stands.spare;
         held = taken.held;
         holds = taken.holds;
-        slack = slack_after_path t eps prices new holders start labels line heap end ended raised is_eps sold owns left agree_of not_nobody stands.slack taken;
+        slack = slack_after_path t eps prices new holders owns start labels line heap end ended raised is_eps sound stands.within stands.prices_are sold left agree_of not_nobody stands.slack taken;
       }
 
 -- where all but one had objects, and now he has one, all have

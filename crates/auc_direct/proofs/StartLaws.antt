@@ -1,9 +1,9 @@
 -- What a run from start prices begins with.
 use Rattle.std.proofs.Common.{ℕ, ℤ, pos, ◌+◌, ◌<◌, ◌≡◌, ◌≢◌, arith, Contains, List, length, get_or, replicate, set, inl, inr, ap, sym, subst, ◌∙◌}
-use Rattle.std.specs.Prelude.{All, ◌⊎◌, ◌≤ℤ◌}
+use Rattle.std.specs.Prelude.{All, ◌⊎◌, ◌+ℤ◌, ◌≤ℤ◌}
 use Rattle.std.proofs.lemmas.Bool.{cases_eq}
 use Rattle.std.proofs.lemmas.Int.{ints}
-use Rattle.std.proofs.lemmas.List.{get_or-set_same, get_or-set_other, length-set, set-get_or}
+use Rattle.std.proofs.lemmas.List.{get_or_default, get_or-set_same, get_or-set_other, length-set, set-get_or}
 use Rattle.std.proofs.lemmas.List.Elements.{All-contains, All-get_or, All-set}
 use Rattle.auc_answers.proofs.NewShards.{replicate_default}
 use Rattle.auc_graph.specs.Dual.{price_at}
@@ -12,22 +12,15 @@ use Rattle.auc_direct.specs.declared.arc.ShortArc.{ShortArc}
 use Rattle.auc_direct.specs.declared.market.TheConstants.{NOBODY}
 use Rattle.auc_direct.specs.Endings.{IsStart}
 use Rattle.auc_direct.specs.Market.{AreSpare, IsSlack, Stands, holder_at, no_own, own_at, scale_in}
-use Rattle.auc_direct.specs.Path.{IsOwn}
 use Rattle.auc_direct.specs.Rows.{AreShorts, IsShort, Shorts, shorts_of}
-use Rattle.auc_direct.specs.Scan.{IsValue, short_value}
+use Rattle.auc_direct.specs.declared.scan.Found.{Found}
+use Rattle.auc_direct.specs.Scan.{IsFound, no_arc, short_value}
 use Rattle.auc_direct.specs.Starts.{AreKept, AreOpened, ArePricesOf, AreSeated, IsFreeWithin, any_eps}
-use Rattle.auc_direct.proofs.Bounds.{product_below, value_high, value_low}
+use Rattle.auc_direct.proofs.Bounds.{value_in}
 use Rattle.auc_direct.proofs.MarketLaws as market
 use Rattle.auc_direct.proofs.Opening.{stands_opened}
 
--- ---- what an arc is worth, and that any arc is within any eps
-
-value_in : (r : Shorts) (prices : List ℤ) (s : ShortArc) → AreShorts r → All IsPrice prices → length prices ≡ r.objects → IsShort r.objects s → IsValue (short_value (scale_in r) prices s)
-value_in r prices s sound within many is =
-    let p = All-get_or IsPrice prices s.object (pos 0) (let o = is.object in omega (arith, o, many)) within in
-    let m = sound.most in
-    let below = product_below (scale_in r) s.cost (omega (arith, ints)) (omega (arith, ints, m)) is.low is.high in
-    record { low = value_low (scale_in r) s.cost (price_at prices s.object) below p; high = value_high (scale_in r) s.cost (price_at prices s.object) below p }
+-- ---- any arc is within any eps
 
 pub any_slack : (r : Shorts) (prices : List ℤ) (i : ℕ) (s : ShortArc) → AreShorts r → All IsPrice prices → length prices ≡ r.objects → Contains (shorts_of r i) s → IsSlack r any_eps prices i s
 any_slack r prices i s sound within many listed = record {
@@ -41,15 +34,22 @@ any_slack r prices i s sound within many listed = record {
       );
 }
 
--- an arc of his that is worth what a person may pay
-pub within_own : (r : Shorts) (eps : ℤ) (prices : List ℤ) (i : ℕ) (s : ShortArc) (own : ℤ) → IsOwn r eps prices i own → Contains (shorts_of r i) s → short_value (scale_in r) prices s ≤ℤ own → IsSlack r eps prices i s
-within_own r eps prices i s own is listed le = record { listed = listed; least = λ k d lt. (let e = is.is in let l = is.least k d lt in omega (arith, ints, e, l, le)) }
+-- no arc of a row is worth less than the one that was found
+found_least : (val : ShortArc → ℤ) (row : List ShortArc) (found : Found) → IsFound val row (length row) found → All (λ b. found.value ≤ℤ val b) row
+found_least val row found f k d lt = subst (λ (b : ShortArc). found.value ≤ℤ val b) (get_or_default row k no_arc d lt) (elim (cases_eq k found.place) [
+  | inl same ↦ (let e = ap (λ (m : ℕ). val (get_or row m no_arc)) same in let v = f.is in omega (arith, ints, e, v))
+  | inr other ↦ (let o = f.others k lt other in let l = f.least in omega (arith, ints, o, l))
+])
 
-pub within_by : (r : Shorts) (eps : ℤ) (prices these : List ℤ) (i : ℕ) (s a : ShortArc) (scale value own : ℤ) → these ≡ prices → a ≡ s → scale ≡ scale_in r → IsOwn r eps these i own → value ≡ short_value scale these a → value ≤ℤ own → Contains (shorts_of r i) s → IsSlack r eps prices i s
-within_by r eps prices these i s a scale value own e f g is v le listed =
-    let own_is = subst (λ (ps : List ℤ). IsOwn r eps ps i own) e is in
-    let worth : value ≡ short_value (scale_in r) prices s = v ∙ ap (λ (z : ℤ). short_value z these a) g ∙ ap (λ (ps : List ℤ). short_value (scale_in r) ps a) e ∙ ap (λ (x : ShortArc). short_value (scale_in r) prices x) f in
-    within_own r eps prices i s own own_is listed (omega (arith, ints, worth, le))
+-- an arc of a person that is worth no more than that and eps
+pub within_found : (r : Shorts) (eps : ℤ) (prices : List ℤ) (i : ℕ) (row : List ShortArc) (s : ShortArc) (scale value : ℤ) (found : Found) → row ≡ shorts_of r i → scale ≡ scale_in r → IsFound (short_value scale prices) row (length row) found → Contains row s → value ≡ short_value scale prices s → value ≤ℤ (found.value +ℤ eps) → IsSlack r eps prices i s
+within_found r eps prices i row s scale value found e f is listed worth le =
+    let all = found_least (short_value scale prices) row found is in
+    let slack : All (λ b. short_value scale prices s ≤ℤ (short_value scale prices b +ℤ eps)) row = λ k d lt. (let l = all k d lt in omega (arith, ints, l, worth, le)) in
+    record {
+      listed = subst (λ (xs : List ShortArc). Contains xs s) e listed;
+      least = subst (λ (xs : List ShortArc). All (λ b. short_value (scale_in r) prices s ≤ℤ (short_value (scale_in r) prices b +ℤ eps)) xs) e (subst (λ (z : ℤ). All (λ b. short_value z prices s ≤ℤ (short_value z prices b +ℤ eps)) row) f slack);
+    }
 
 -- ---- prices that stay, or are 0
 

@@ -5,7 +5,7 @@ use Rattle.std.specs.declared.cmp.Ordering.{Ordering}
 use Rattle.std.specs.Ordering.{nat_cmp, ordering_then}
 use Rattle.std.specs.BinaryHeap.{IsHeap}
 use Rattle.auc_graph.specs.Dual.{price_at}
-use Rattle.auc_direct.specs.Rows.{Shorts, shorts_of}
+use Rattle.auc_direct.specs.Rows.{IsShort, Shorts, shorts_of}
 use Rattle.auc_direct.specs.declared.arc.ShortArc.{ShortArc}
 use Rattle.auc_letters.specs.declared.state.Held.{Held}
 use Rattle.auc_answers.specs.Claims.{holder_at}
@@ -40,19 +40,21 @@ settled_at labels k place = set labels k (record { near = near_of labels k; held
 abbrev pub pays : Shorts → List ℤ → ShortArc → ℤ
 pays t prices a = short_value (scale_in t) prices a
 
--- what he may pay without a loss of more than eps: eps above the least of his row
-pub record IsOwn (t : Shorts) (eps : ℤ) (prices : List ℤ) (i : ℕ) (own : ℤ) : Type 0 where
-  pub best : ShortArc
-  pub listed : Contains (shorts_of t i) best
-  pub is : own ≡ (pays t prices best +ℤ eps)
-  pub least : All (λ b. pays t prices best ≤ℤ pays t prices b) (shorts_of t i)
+-- each person who has an arc has one to an object of the problem
+pub record AreOwns (t : Shorts) (owns : List ShortArc) : Type 0 where
+  pub many : length owns ≡ length t.rows
+  pub short : (i : ℕ) → (own_at owns i).object ≢ NOBODY → IsShort t.objects (own_at owns i)
 
-pub record IsOwnValue (own : ℤ) : Type 0 where
-  pub low : neg_ℤ (pos (2 ^ 44)) ≤ℤ own
-  pub high : own ≤ℤ pos (2 ^ 61 + 2 ^ 60 + 2 ^ 44)
+-- what stands for what a person pays who holds nothing: no arc is worth less
+abbrev pub nothing : ℤ
+nothing = neg_ℤ (pos (2 ^ 44))
 
--- Who is at n and may pay own finds by an arc that he pays v for an object that is no less near than m: a hop is as long as v is above
--- own.
+-- what a person pays for what he holds
+abbrev pub own_value : Shorts → List ShortArc → List ℤ → ℕ → ℤ
+own_value t owns prices i = if (own_at owns i).object == NOBODY then nothing else pays t prices (own_at owns i)
+
+-- Who is at n and pays own for what he holds finds by an arc that he pays v for an object that is no less near than m: a hop is as long as
+-- v is above own.
 abbrev pub IsAsNear : ℤ → ℕ → ℤ → ℕ → Type 0
 IsAsNear own n v m = (n ≤ m) ⊎ ((own +ℤ pos n) ≤ℤ (v +ℤ pos m))
 
@@ -61,10 +63,8 @@ abbrev pub IsNoNearer : ℤ → ℕ → ℤ → ℕ → Type 0
 IsNoNearer own n v m = (m ≤ n) × ((v +ℤ pos m) ≤ℤ (own +ℤ pos n))
 
 -- a person at n: each object of his row is as near as a hop leads from there
-pub record Reaches (t : Shorts) (eps : ℤ) (prices : List ℤ) (labels : List Label) (i n : ℕ) : Type 0 where
-  pub own : ℤ
-  pub is : IsOwn t eps prices i own
-  pub all : All (λ b. IsAsNear own n (pays t prices b) (near_of labels b.object)) (shorts_of t i)
+abbrev pub Reaches : Shorts → List ShortArc → List ℤ → List Label → ℕ → ℕ → Type 0
+Reaches t owns prices labels i n = All (λ b. IsAsNear (own_value t owns prices i) n (pays t prices b) (near_of labels b.object)) (shorts_of t i)
 
 -- ---- the search
 
@@ -74,16 +74,14 @@ IsFrom holders start labels None person n = (person ≡ start) × (n ≡ 2 ^ 62)
 IsFrom holders start labels (Some j) person n = (h : Held) × (holder_at holders j ≡ Some h) × (h.person ≡ person) × (1 ≤ place_of labels j) × (near_of labels j ≡ n)
 
 -- an object's label says who takes it by which arc, and a hop leads to it from where he is
-pub record IsLabel (t : Shorts) (eps : ℤ) (prices : List ℤ) (holders : List (Option Held)) (start : ℕ) (labels : List Label) (k : ℕ) (l : Label) : Type 0 where
+pub record IsLabel (t : Shorts) (owns : List ShortArc) (prices : List ℤ) (holders : List (Option Held)) (start : ℕ) (labels : List Label) (k : ℕ) (l : Label) : Type 0 where
   pub at : ℕ
   pub from : IsFrom holders start labels l.before l.held.person at
-  pub own : ℤ
-  pub is : IsOwn t eps prices l.held.person own
   pub arc : ShortArc
   pub listed : Contains (shorts_of t l.held.person) arc
   pub leads : arc.object ≡ k
   pub stands : slice_get (shorts_of t l.held.person) l.held.arc ≡ Some arc
-  pub no_nearer : IsNoNearer own at (pays t prices arc) l.near
+  pub no_nearer : IsNoNearer (own_value t owns prices l.held.person) at (pays t prices arc) l.near
 
 -- pairs by their first numbers
 abbrev pub compare : ℕ × ℕ → ℕ × ℕ → Ordering
@@ -97,7 +95,7 @@ pub record IsEntry (objects now : ℕ) (e : ℕ × ℕ) : Type 0 where
 
 -- The labels, the settled objects in order, and those that wait, where all that are settled are as near as now, or nearer, and the
 -- others no nearer.
-pub record AreLabels (t : Shorts) (eps : ℤ) (prices : List ℤ) (holders : List (Option Held)) (start : ℕ) (labels : List Label) (line : List ℕ) (heap : List (ℕ × ℕ)) (now : ℕ) : Type 0 where
+pub record AreLabels (t : Shorts) (owns : List ShortArc) (prices : List ℤ) (holders : List (Option Held)) (start : ℕ) (labels : List Label) (line : List ℕ) (heap : List (ℕ × ℕ)) (now : ℕ) : Type 0 where
   pub some : 1 ≤ now
   pub most : now ≤ 2 ^ 62
   pub size : length labels ≡ t.objects
@@ -106,21 +104,21 @@ pub record AreLabels (t : Shorts) (eps : ℤ) (prices : List ℤ) (holders : Lis
   pub placed : (m k : ℕ) → slice_get line m ≡ Some k → place_of labels k ≡ m + 1
   pub settled : (k : ℕ) → 1 ≤ place_of labels k → now ≤ near_of labels k
   pub held : (k : ℕ) → 1 ≤ place_of labels k → (h : Held) × (holder_at holders k ≡ Some h)
-  pub labelled : (k : ℕ) → 1 ≤ near_of labels k → IsLabel t eps prices holders start labels k (label_of labels k)
+  pub labelled : (k : ℕ) → 1 ≤ near_of labels k → IsLabel t owns prices holders start labels k (label_of labels k)
   pub earlier : (j k : ℕ) → 1 ≤ place_of labels k → (label_of labels k).before ≡ Some j → place_of labels j < place_of labels k
   pub order : IsHeap compare heap
   pub entries : All (IsEntry t.objects now) heap
   pub waiting : (k : ℕ) → 1 ≤ near_of labels k → place_of labels k ≡ 0 → Contains heap (near_of labels k, k)
 
 -- the rows of the free person and of the holders of all settled objects are labelled
-pub record IsSearch (t : Shorts) (eps : ℤ) (prices : List ℤ) (holders : List (Option Held)) (start : ℕ) (labels : List Label) (line : List ℕ) (heap : List (ℕ × ℕ)) (now : ℕ) : Type 0 where
-  pub found : AreLabels t eps prices holders start labels line heap now
-  pub first : Reaches t eps prices labels start (2 ^ 62)
-  pub reached : (k : ℕ) (h : Held) → 1 ≤ place_of labels k → holder_at holders k ≡ Some h → Reaches t eps prices labels h.person (near_of labels k)
+pub record IsSearch (t : Shorts) (owns : List ShortArc) (prices : List ℤ) (holders : List (Option Held)) (start : ℕ) (labels : List Label) (line : List ℕ) (heap : List (ℕ × ℕ)) (now : ℕ) : Type 0 where
+  pub found : AreLabels t owns prices holders start labels line heap now
+  pub first : Reaches t owns prices labels start (2 ^ 62)
+  pub reached : (k : ℕ) (h : Held) → 1 ≤ place_of labels k → holder_at holders k ≡ Some h → Reaches t owns prices labels h.person (near_of labels k)
 
 -- it has ended at an object that nobody holds, and none that isn't settled is nearer
-pub record IsEnd (t : Shorts) (eps : ℤ) (prices : List ℤ) (holders : List (Option Held)) (start : ℕ) (labels : List Label) (line : List ℕ) (heap : List (ℕ × ℕ)) (end : ℕ) : Type 0 where
-  pub search : IsSearch t eps prices holders start labels line heap (near_of labels end)
+pub record IsEnd (t : Shorts) (owns : List ShortArc) (prices : List ℤ) (holders : List (Option Held)) (start : ℕ) (labels : List Label) (line : List ℕ) (heap : List (ℕ × ℕ)) (end : ℕ) : Type 0 where
+  pub search : IsSearch t owns prices holders start labels line heap (near_of labels end)
   pub within : end < t.objects
   pub free : holder_at holders end ≡ None
   pub least : (k : ℕ) → place_of labels k ≡ 0 → near_of labels k ≤ near_of labels end

@@ -5,7 +5,7 @@ ghost use Rattle.std.specs.BinaryHeap.{heap_items};
 ghost use Rattle.auc_letters.specs.Price.{IsEps};
 ghost use Rattle.auc_direct.specs.declared.market.TheConstants.{NOBODY};
 ghost use Rattle.auc_direct.specs.Endings.{IsPathStep};
-ghost use Rattle.auc_direct.specs.Market.{EachHasArc, Stands, own_at};
+ghost use Rattle.auc_direct.specs.Market.{Stands, own_at};
 ghost use Rattle.auc_direct.specs.Path.{IsClean};
 ghost use Rattle.auc_direct.specs.Rows.{AreShorts};
 
@@ -22,23 +22,22 @@ impl Market {
     pub(crate) fn path(
         &mut self,
         rows: &ShortRows,
-        eps: i64,
+        _eps: i64,
         start: u32,
         search: &mut Search,
     ) -> Result<PathStep, AllocError>
         requires start { start < length rows.now.rows }
-        requires arcs { EachHasArc rows.now }
-        requires eps { IsEps eps }
+        requires eps { IsEps _eps }
         requires sound { AreShorts rows.now }
-        requires stands { Stands rows.now eps self.old.prices.items self.old.holders.items self.old.owns.items }
+        requires stands { Stands rows.now _eps self.old.prices.items self.old.holders.items self.old.owns.items }
         requires none { (own_at self.old.owns.items start).object ≡ NOBODY }
         requires clean { IsClean rows.now.objects search.old.labels.items search.old.line.items (heap_items search.old.heap) }
-        ensures step { IfOk result (λ s. IsPathStep rows.now eps start s self.old.prices.items self.old.holders.items self.old.owns.items self.new.prices.items self.new.holders.items self.new.owns.items) }
+        ensures step { IfOk result (λ s. IsPathStep rows.now _eps start s self.old.prices.items self.old.holders.items self.old.owns.items self.new.prices.items self.new.holders.items self.new.owns.items) }
         ensures clean { OnOk result (IsClean rows.now.objects search.new.labels.items search.new.line.items (heap_items search.new.heap)) }
     {
         let found = search.find(
             rows,
-            eps,
+            self.owns.as_slice(),
             self.prices.as_slice(),
             self.holders.as_slice(),
             start,

@@ -2,11 +2,11 @@
 
 ghost use Rattle.std.specs.Prelude.{◌≡◌, ◌<◌, ◌+◌, ◌++◌, ◌∷◌, [], ℕ, All, length, IfOk, IfSome, OnOk};
 ghost use Rattle.std.specs.BinaryHeap.{heap_items};
-ghost use Rattle.auc_letters.specs.Price.{IsEps, IsPrice};
-ghost use Rattle.auc_direct.specs.Market.{EachHasArc};
-ghost use Rattle.auc_direct.specs.Path.{AreHolders, AreLabels, AreLeft, Grows, IsClean, IsEnd, IsFrom, IsOwn, IsOwnValue, Reaches, seats, settled_at};
+ghost use Rattle.auc_letters.specs.Price.{IsPrice};
+ghost use Rattle.auc_direct.specs.Path.{AreHolders, AreLabels, AreLeft, AreOwns, Grows, IsClean, IsEnd, IsFrom, Reaches, seats, settled_at};
 
-use crate::hop::{own_of, reach};
+use crate::arc::ShortArc;
+use crate::hop::{reach, value_of_own};
 use crate::label::{BLANK, Label};
 use crate::market::NOBODY;
 use crate::rows::ShortRows;
@@ -38,31 +38,30 @@ impl Search {
         Ok(Search { labels, line, heap })
     }
 
-    /// Labels the objects of a person's row. He is at `near`, which is no nearer than all that are settled, and may pay `own`.
+    /// Labels the objects of a person's row. He is at `near`, which is no nearer than all that are settled.
     fn relax(
         &mut self,
         rows: &ShortRows,
-        _eps: i64,
+        owns: &[ShortArc],
         prices: &[i64],
         _holders: &[u32],
         _start: u32,
         person: u32,
-        own: i64,
         near: u64,
         before: Option<u32>,
     ) -> Result<(), AllocError>
         requires person { person < length rows.now.rows }
         requires many { length prices.now ≡ rows.now.objects }
         requires prices { All IsPrice prices.now }
-        requires own { IsOwn rows.now _eps prices.now person own }
-        requires range { IsOwnValue own }
+        requires owns { AreOwns rows.now owns.now }
         requires from { IsFrom (seats _holders.now) _start self.old.labels.items before person near }
-        requires labels { AreLabels rows.now _eps prices.now (seats _holders.now) _start self.old.labels.items self.old.line.items (heap_items self.old.heap) near }
-        ensures labels { OnOk result (AreLabels rows.now _eps prices.now (seats _holders.now) _start self.new.labels.items self.new.line.items (heap_items self.new.heap) near) }
+        requires labels { AreLabels rows.now owns.now prices.now (seats _holders.now) _start self.old.labels.items self.old.line.items (heap_items self.old.heap) near }
+        ensures labels { OnOk result (AreLabels rows.now owns.now prices.now (seats _holders.now) _start self.new.labels.items self.new.line.items (heap_items self.new.heap) near) }
         ensures grows { OnOk result (Grows self.old.labels.items self.new.labels.items) }
-        ensures reaches { OnOk result (Reaches rows.now _eps prices.now self.new.labels.items person near) }
+        ensures reaches { OnOk result (Reaches rows.now owns.now prices.now self.new.labels.items person near) }
     {
         let scale = rows.scale();
+        let own = value_of_own(rows, owns, prices, person);
         let row = rows.row(person);
         for place in 0..row.len() {
             let arc = row[place];
@@ -107,23 +106,21 @@ impl Search {
     pub(crate) fn find(
         &mut self,
         rows: &ShortRows,
-        eps: i64,
+        owns: &[ShortArc],
         prices: &[i64],
         holders: &[u32],
         start: u32,
     ) -> Result<Option<u32>, AllocError>
-        requires arcs { EachHasArc rows.now }
-        requires eps { IsEps eps }
+        requires owns { AreOwns rows.now owns.now }
         requires many { length prices.now ≡ rows.now.objects }
         requires prices { All IsPrice prices.now }
         requires holders { AreHolders rows.now (seats holders.now) }
         requires start { start < length rows.now.rows }
         requires clean { IsClean rows.now.objects self.old.labels.items self.old.line.items (heap_items self.old.heap) }
-        ensures labels { OnOk result ((now : ℕ) × AreLabels rows.now eps prices.now (seats holders.now) start self.new.labels.items self.new.line.items (heap_items self.new.heap) now) }
-        ensures end { IfOk result (λ r. IfSome r (IsEnd rows.now eps prices.now (seats holders.now) start self.new.labels.items self.new.line.items (heap_items self.new.heap))) }
+        ensures labels { OnOk result ((now : ℕ) × AreLabels rows.now owns.now prices.now (seats holders.now) start self.new.labels.items self.new.line.items (heap_items self.new.heap) now) }
+        ensures end { IfOk result (λ r. IfSome r (IsEnd rows.now owns.now prices.now (seats holders.now) start self.new.labels.items self.new.line.items (heap_items self.new.heap))) }
     {
-        let own = own_of(rows, eps, prices, start);
-        self.relax(rows, eps, prices, holders, start, start, own, FAR, None)?;
+        self.relax(rows, owns, prices, holders, start, start, FAR, None)?;
         for _ in 0..u64::MAX {
             let Some((near, object)) = self.heap.pop() else {
                 return Ok(None);
@@ -141,15 +138,13 @@ impl Search {
                 return Ok(Some(object));
             }
             self.settle(object)?;
-            let own = own_of(rows, eps, prices, person);
             self.relax(
                 rows,
-                eps,
+                owns,
                 prices,
                 holders,
                 start,
                 person,
-                own,
                 near,
                 Some(object),
             )?;

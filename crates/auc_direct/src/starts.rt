@@ -3,16 +3,16 @@
 ghost use Rattle.std.specs.Prelude.{ℕ, ◌≡◌, ◌≢◌, ◌<◌, ◌↔◌, length, false, IsTrue, IfSome};
 ghost use Rattle.auc_letters.specs.Price.{IsEps};
 ghost use Rattle.auc_direct.specs.declared.market.TheConstants.{NOBODY};
-ghost use Rattle.auc_direct.specs.Market.{EachHasArc, IsSlack, Stands, own_at};
+ghost use Rattle.auc_direct.specs.Market.{EachHasArc, Stands, own_at};
 ghost use Rattle.auc_direct.specs.Rows.{AreShorts};
 ghost use Rattle.auc_direct.specs.Starts.{AreKept, AreOpened, ArePricesOf, AreSeated, AreStartPrices, IsFreeWithin, any_eps};
 
 use crate::arc::ShortArc;
 use crate::bid::Bid;
-use crate::hop::own_of;
 use crate::market::{Market, NOBODY};
 use crate::rows::ShortRows;
-use crate::scan::value_of;
+use crate::scan::{scan, value_of};
+use crate::slack::is_slack;
 use auc_graph::ArcList;
 
 /// How often all persons are passed over before the start prices are given up.
@@ -48,12 +48,13 @@ impl Market {
         ensures { IfSome result (IsFreeWithin rows.now eps start.now self.now.holders.items person) }
     {
         let scale = rows.scale();
-        let own = own_of(rows, eps, start, person);
-        for arc in rows.row(person) {
+        let row = rows.row(person);
+        let most = scan(scale, row, start).value + eps;
+        for arc in row {
             if self.holders[arc.object as usize] != NOBODY {
                 continue;
             }
-            if value_of(scale, *arc, start) <= own {
+            if value_of(scale, *arc, start) <= most {
                 return Some(*arc);
             }
         }
@@ -93,21 +94,6 @@ impl Market {
         }
     }
 
-    /// Whether a person has an object that is within eps of his best.
-    fn is_within(&self, rows: &ShortRows, eps: i64, person: u32) -> bool
-        requires person { person < length rows.now.rows }
-        requires arcs { EachHasArc rows.now }
-        requires eps { IsEps eps }
-        requires sound { AreShorts rows.now }
-        requires stands { Stands rows.now any_eps self.now.prices.items self.now.holders.items self.now.owns.items }
-        requires some { (own_at self.now.owns.items person).object ≢ NOBODY }
-        ensures { IsTrue result → IsSlack rows.now eps self.now.prices.items person (own_at self.now.owns.items person) }
-    {
-        let prices = self.prices.as_slice();
-        let value = value_of(rows.scale(), self.owns[person as usize], prices);
-        value <= own_of(rows, eps, prices, person)
-    }
-
     /// Each person in order whose object isn't within eps of his best leaves it, and it has no price then; gives whether anybody has.
     fn release(&mut self, rows: &ShortRows, eps: i64) -> bool
         requires arcs { EachHasArc rows.now }
@@ -119,10 +105,11 @@ impl Market {
     {
         let mut released = false;
         for person in 0..rows.persons() {
-            if self.owns[person as usize].object == NOBODY {
+            let own = self.owns[person as usize];
+            if own.object == NOBODY {
                 continue;
             }
-            if self.is_within(rows, eps, person) {
+            if is_slack(rows, eps, self.prices.as_slice(), person, own) {
                 continue;
             }
             self.leave(person);

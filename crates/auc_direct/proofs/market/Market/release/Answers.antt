@@ -11,27 +11,43 @@ use Rattle.auc_direct.proofs.market.Market.release.Goals as goal
 not_so : true ≡ false → ⊥
 not_so e = cc
 
-pub loop-person-preserved-then-index : goal.loop-person-preserved-then-index
-loop-person-preserved-then-index c =
+pub loop-person-preserved-then-own : goal.loop-person-preserved-then-own
+loop-person-preserved-then-own c =
     let f1 : FitsSigned w64 c.args.eps = c.ranges.eps in
     let inv = simp to_z-of_z at c.loop-person.invariant in
     let test = c.loop-person-test.true in
     let persons = c.persons-person-end.ensures.persons in
     let many = inv.stands.owns_are in
     let room : c.loop-person.person < length c.loop-person.self.owns.items = omega (arith, test, persons, many) in
-    let read = get_or_read c.loop-person.self.owns.items c.loop-person.person c.index.result.now room c.index.ensures no_own in
-    let none : (own_at c.loop-person.self.owns.items c.loop-person.person).object ≡ NOBODY = ap (λ (s : ShortArc). s.object) (sym read) ∙ c.if-index.true in
+    let read = get_or_read c.loop-person.self.owns.items c.loop-person.person c.index-own.result.now room c.index-own.ensures no_own in
+    let none : (own_at c.loop-person.self.owns.items c.loop-person.person).object ≡ NOBODY = ap (λ (s : ShortArc). s.object) (sym read) ∙ c.if-own.true in
     simp to_z-of_z (record {
       stands = inv.stands;
       kept = inv.kept;
       within = λ e. within_next c.args.rows.now c.args.eps c.loop-person.self.prices.items c.loop-person.self.owns.items c.loop-person.person (inv.within e) (λ some. absurd (some none));
     })
 
-pub loop-person-preserved-then-is_within : goal.loop-person-preserved-then-is_within
-loop-person-preserved-then-is_within c =
+pub is_slack-requires-clause-listed : goal.is_slack-requires-clause-listed
+is_slack-requires-clause-listed c =
+    let inv = c.loop-person.invariant in
+    let test = c.loop-person-test.true in
+    let persons = c.persons-person-end.ensures.persons in
+    let many = inv.stands.owns_are in
+    let room : c.loop-person.person < length c.loop-person.self.owns.items = omega (arith, test, persons, many) in
+    let read = get_or_read c.loop-person.self.owns.items c.loop-person.person c.index-own.result.now room c.index-own.ensures no_own in
+    let some : (own_at c.loop-person.self.owns.items c.loop-person.person).object ≢ NOBODY = λ z. c.if-own.false (ap (λ (s : ShortArc). s.object) read ∙ z) in
+    rw read (inv.stands.slack c.loop-person.person some).listed
+
+pub loop-person-preserved-then-is_slack : goal.loop-person-preserved-then-is_slack
+loop-person-preserved-then-is_slack c =
     let f1 : FitsSigned w64 c.args.eps = c.ranges.eps in
     let inv = simp to_z-of_z at c.loop-person.invariant in
-    let here = simp to_z-of_z at (c.if-is_within.ensures refl) in
+    let test = c.loop-person-test.true in
+    let persons = c.persons-person-end.ensures.persons in
+    let many = inv.stands.owns_are in
+    let room : c.loop-person.person < length c.loop-person.self.owns.items = omega (arith, test, persons, many) in
+    let read = get_or_read c.loop-person.self.owns.items c.loop-person.person c.index-own.result.now room c.index-own.ensures no_own in
+    let here = rw (read, c.as_slice.ensures.value) at (simp to_z-of_z at (c.if-is_slack.ensures refl)) in
     simp to_z-of_z (record {
       stands = inv.stands;
       kept = inv.kept;
@@ -45,8 +61,8 @@ loop-person-preserved c =
     let persons = c.persons-person-end.ensures.persons in
     let many = inv.stands.owns_are in
     let room : c.loop-person.person < length c.loop-person.self.owns.items = omega (arith, test, persons, many) in
-    let read = get_or_read c.loop-person.self.owns.items c.loop-person.person c.index.result.now room c.index.ensures no_own in
-    let some : (own_at c.loop-person.self.owns.items c.loop-person.person).object ≢ NOBODY = λ z. c.if-index.false (ap (λ (s : ShortArc). s.object) read ∙ z) in
+    let read = get_or_read c.loop-person.self.owns.items c.loop-person.person c.index-own.result.now room c.index-own.ensures no_own in
+    let some : (own_at c.loop-person.self.owns.items c.loop-person.person).object ≢ NOBODY = λ z. c.if-own.false (ap (λ (s : ShortArc). s.object) read ∙ z) in
     let sound = c.persons-person-end.ensures.sound in
     rw (c.leave.ensures.prices, c.leave.ensures.holders, c.leave.ensures.owns) (record {
       stands = stands_left c.args.rows.now c.loop-person.self.prices.items c.loop-person.self.holders.items c.loop-person.self.owns.items c.loop-person.person sound inv.stands some;

@@ -1,6 +1,4 @@
-use Rattle.std.proofs.Common.{◌∙◌, ◌<◌, ◌≢◌, ap, arith, get_or, heap_items, length, List, None, Some, subst, sym, w64, ◌≡◌, ℕ}
-use Rattle.std.specs.Prelude.{FitsSigned}
-use Rattle.std.proofs.lemmas.Int.{to_z-of_z}
+use Rattle.std.proofs.Common.{◌∙◌, ◌<◌, ◌≢◌, ap, arith, get_or, heap_items, length, List, None, Some, subst, sym, ◌≡◌, ℕ}
 use Rattle.std.proofs.lemmas.List.{get_or_default, get_or_read, length-map}
 use Rattle.auc_letters.specs.declared.state.Held.{Held}
 use Rattle.auc_answers.specs.Claims.{holder_at}
@@ -29,98 +27,87 @@ room_for holders k labels objects l e m = let n = length-map holders seat in ome
 
 pub returns-clause-labels : goal.returns-clause-labels
 returns-clause-labels c =
-    let f : FitsSigned w64 c.args.eps = c.ranges.eps in
-    let s = simp to_z-of_z at c.loop.invariant.1 in
+    let s = c.loop.invariant.1 in
     (c.loop.invariant.0, s.found)
 
 pub index-label-requires : goal.index-label-requires
 index-label-requires c =
-    let f : FitsSigned w64 c.args.eps = c.ranges.eps in
-    let s = simp to_z-of_z at c.loop.invariant.1 in
-    let within = popped_within c.args.rows.now c.args.eps c.args.prices.now (seats c.args.holders.now) c.args.start c.loop.self.labels.items c.loop.self.line.items (heap_items c.loop.self.heap) c.loop.invariant.0 s.found c.in-Some.near c.in-Some.object (heap_items c.pop.new.self) c.in-Some.ensures.permutation c.in-Some.ensures.heap_order in
+    let s = c.loop.invariant.1 in
+    let within = popped_within c.args.rows.now c.args.owns.now c.args.prices.now (seats c.args.holders.now) c.args.start c.loop.self.labels.items c.loop.self.line.items (heap_items c.loop.self.heap) c.loop.invariant.0 s.found c.in-Some.near c.in-Some.object (heap_items c.pop.new.self) c.in-Some.ensures.permutation c.in-Some.ensures.heap_order in
     let o = c.loop.self.labels.ok in
     omega (arith, within, o)
 
 pub loop-preserved-then-label-gt0 : goal.loop-preserved-then-label-gt0
 loop-preserved-then-label-gt0 c =
-    let f : FitsSigned w64 c.args.eps = c.ranges.eps in
-    let s = simp to_z-of_z at c.loop.invariant.1 in
-    let within = popped_within c.args.rows.now c.args.eps c.args.prices.now (seats c.args.holders.now) c.args.start c.loop.self.labels.items c.loop.self.line.items (heap_items c.loop.self.heap) c.loop.invariant.0 s.found c.in-Some.near c.in-Some.object (heap_items c.pop.new.self) c.in-Some.ensures.permutation c.in-Some.ensures.heap_order in
+    let s = c.loop.invariant.1 in
+    let within = popped_within c.args.rows.now c.args.owns.now c.args.prices.now (seats c.args.holders.now) c.args.start c.loop.self.labels.items c.loop.self.line.items (heap_items c.loop.self.heap) c.loop.invariant.0 s.found c.in-Some.near c.in-Some.object (heap_items c.pop.new.self) c.in-Some.ensures.permutation c.in-Some.ensures.heap_order in
     let same : c.index-label.result.now ≡ label_of c.loop.self.labels.items c.in-Some.object = get_or_read c.loop.self.labels.items c.in-Some.object c.index-label.result.now within c.index-label.ensures blank in
-    let r : (now : ℕ) × IsSearch c.args.rows.now c.args.eps c.args.prices.now (seats c.args.holders.now) c.args.start c.loop.self.labels.items c.loop.self.line.items (heap_items c.pop.new.self) now = (c.in-Some.near, search_dropped c.args.rows.now c.args.eps c.args.prices.now (seats c.args.holders.now) c.args.start c.loop.self.labels.items c.loop.self.line.items (heap_items c.loop.self.heap) c.loop.invariant.0 s.found c.in-Some.near c.in-Some.object (heap_items c.pop.new.self) c.in-Some.ensures.permutation c.in-Some.ensures.heap_order s (λ e z. (let t = c.if-label-gt0.true in let p = ap (λ (l : Label). l.place) same in omega (arith, t, p, z)))) in
-    simp to_z-of_z r
+    let r : (now : ℕ) × IsSearch c.args.rows.now c.args.owns.now c.args.prices.now (seats c.args.holders.now) c.args.start c.loop.self.labels.items c.loop.self.line.items (heap_items c.pop.new.self) now = (c.in-Some.near, search_dropped c.args.rows.now c.args.owns.now c.args.prices.now (seats c.args.holders.now) c.args.start c.loop.self.labels.items c.loop.self.line.items (heap_items c.loop.self.heap) c.loop.invariant.0 s.found c.in-Some.near c.in-Some.object (heap_items c.pop.new.self) c.in-Some.ensures.permutation c.in-Some.ensures.heap_order s (λ e z. (let t = c.if-label-gt0.true in let p = ap (λ (l : Label). l.place) same in omega (arith, t, p, z)))) in
+    r
 
 pub loop-preserved-then-label-near : goal.loop-preserved-then-label-near
 loop-preserved-then-label-near c =
-    let f : FitsSigned w64 c.args.eps = c.ranges.eps in
-    let s = simp to_z-of_z at c.loop.invariant.1 in
-    let within = popped_within c.args.rows.now c.args.eps c.args.prices.now (seats c.args.holders.now) c.args.start c.loop.self.labels.items c.loop.self.line.items (heap_items c.loop.self.heap) c.loop.invariant.0 s.found c.in-Some.near c.in-Some.object (heap_items c.pop.new.self) c.in-Some.ensures.permutation c.in-Some.ensures.heap_order in
+    let s = c.loop.invariant.1 in
+    let within = popped_within c.args.rows.now c.args.owns.now c.args.prices.now (seats c.args.holders.now) c.args.start c.loop.self.labels.items c.loop.self.line.items (heap_items c.loop.self.heap) c.loop.invariant.0 s.found c.in-Some.near c.in-Some.object (heap_items c.pop.new.self) c.in-Some.ensures.permutation c.in-Some.ensures.heap_order in
     let same : c.index-label.result.now ≡ label_of c.loop.self.labels.items c.in-Some.object = get_or_read c.loop.self.labels.items c.in-Some.object c.index-label.result.now within c.index-label.ensures blank in
-    let r : (now : ℕ) × IsSearch c.args.rows.now c.args.eps c.args.prices.now (seats c.args.holders.now) c.args.start c.loop.self.labels.items c.loop.self.line.items (heap_items c.pop.new.self) now = (c.in-Some.near, search_dropped c.args.rows.now c.args.eps c.args.prices.now (seats c.args.holders.now) c.args.start c.loop.self.labels.items c.loop.self.line.items (heap_items c.loop.self.heap) c.loop.invariant.0 s.found c.in-Some.near c.in-Some.object (heap_items c.pop.new.self) c.in-Some.ensures.permutation c.in-Some.ensures.heap_order s (λ e z. c.if-label-near.true (ap (λ (l : Label). l.near) same ∙ e))) in
-    simp to_z-of_z r
+    let r : (now : ℕ) × IsSearch c.args.rows.now c.args.owns.now c.args.prices.now (seats c.args.holders.now) c.args.start c.loop.self.labels.items c.loop.self.line.items (heap_items c.pop.new.self) now = (c.in-Some.near, search_dropped c.args.rows.now c.args.owns.now c.args.prices.now (seats c.args.holders.now) c.args.start c.loop.self.labels.items c.loop.self.line.items (heap_items c.loop.self.heap) c.loop.invariant.0 s.found c.in-Some.near c.in-Some.object (heap_items c.pop.new.self) c.in-Some.ensures.permutation c.in-Some.ensures.heap_order s (λ e z. c.if-label-near.true (ap (λ (l : Label). l.near) same ∙ e))) in
+    r
 
 pub bounds-holders-object : goal.bounds-holders-object
 bounds-holders-object c =
-    let f : FitsSigned w64 c.args.eps = c.ranges.eps in
-    let s = simp to_z-of_z at c.loop.invariant.1 in
-    let within = popped_within c.args.rows.now c.args.eps c.args.prices.now (seats c.args.holders.now) c.args.start c.loop.self.labels.items c.loop.self.line.items (heap_items c.loop.self.heap) c.loop.invariant.0 s.found c.in-Some.near c.in-Some.object (heap_items c.pop.new.self) c.in-Some.ensures.permutation c.in-Some.ensures.heap_order in
+    let s = c.loop.invariant.1 in
+    let within = popped_within c.args.rows.now c.args.owns.now c.args.prices.now (seats c.args.holders.now) c.args.start c.loop.self.labels.items c.loop.self.line.items (heap_items c.loop.self.heap) c.loop.invariant.0 s.found c.in-Some.near c.in-Some.object (heap_items c.pop.new.self) c.in-Some.ensures.permutation c.in-Some.ensures.heap_order in
     room_for c.args.holders.now c.in-Some.object (length c.loop.self.labels.items) c.args.rows.now.objects within s.found.size c.requires.holders.many
 
 pub returns-then-person-clause-labels : goal.returns-then-person-clause-labels
 returns-then-person-clause-labels c =
-    let f : FitsSigned w64 c.args.eps = c.ranges.eps in
-    let s = simp to_z-of_z at c.loop.invariant.1 in
-    let within = popped_within c.args.rows.now c.args.eps c.args.prices.now (seats c.args.holders.now) c.args.start c.loop.self.labels.items c.loop.self.line.items (heap_items c.loop.self.heap) c.loop.invariant.0 s.found c.in-Some.near c.in-Some.object (heap_items c.pop.new.self) c.in-Some.ensures.permutation c.in-Some.ensures.heap_order in
-    (c.in-Some.near, put_back c.args.rows.now c.args.eps c.args.prices.now (seats c.args.holders.now) c.args.start c.loop.self.labels.items c.loop.self.line.items (heap_items c.loop.self.heap) c.loop.invariant.0 s.found c.in-Some.near c.in-Some.object (heap_items c.pop.new.self) c.in-Some.ensures.permutation c.in-Some.ensures.heap_order (heap_items c.push.new.self) c.in_ok-push.ensures.permutation c.in_ok-push.ensures.heap_order)
+    let s = c.loop.invariant.1 in
+    let within = popped_within c.args.rows.now c.args.owns.now c.args.prices.now (seats c.args.holders.now) c.args.start c.loop.self.labels.items c.loop.self.line.items (heap_items c.loop.self.heap) c.loop.invariant.0 s.found c.in-Some.near c.in-Some.object (heap_items c.pop.new.self) c.in-Some.ensures.permutation c.in-Some.ensures.heap_order in
+    (c.in-Some.near, put_back c.args.rows.now c.args.owns.now c.args.prices.now (seats c.args.holders.now) c.args.start c.loop.self.labels.items c.loop.self.line.items (heap_items c.loop.self.heap) c.loop.invariant.0 s.found c.in-Some.near c.in-Some.object (heap_items c.pop.new.self) c.in-Some.ensures.permutation c.in-Some.ensures.heap_order (heap_items c.push.new.self) c.in_ok-push.ensures.permutation c.in_ok-push.ensures.heap_order)
 
 pub returns-then-person-clause-end : goal.returns-then-person-clause-end
 returns-then-person-clause-end c =
-    let f : FitsSigned w64 c.args.eps = c.ranges.eps in
-    let s = simp to_z-of_z at c.loop.invariant.1 in
-    let within = popped_within c.args.rows.now c.args.eps c.args.prices.now (seats c.args.holders.now) c.args.start c.loop.self.labels.items c.loop.self.line.items (heap_items c.loop.self.heap) c.loop.invariant.0 s.found c.in-Some.near c.in-Some.object (heap_items c.pop.new.self) c.in-Some.ensures.permutation c.in-Some.ensures.heap_order in
+    let s = c.loop.invariant.1 in
+    let within = popped_within c.args.rows.now c.args.owns.now c.args.prices.now (seats c.args.holders.now) c.args.start c.loop.self.labels.items c.loop.self.line.items (heap_items c.loop.self.heap) c.loop.invariant.0 s.found c.in-Some.near c.in-Some.object (heap_items c.pop.new.self) c.in-Some.ensures.permutation c.in-Some.ensures.heap_order in
     let room : c.in-Some.object < length c.args.holders.now = room_for c.args.holders.now c.in-Some.object (length c.loop.self.labels.items) c.args.rows.now.objects within s.found.size c.requires.holders.many in
     let same : c.index-label.result.now ≡ label_of c.loop.self.labels.items c.in-Some.object = get_or_read c.loop.self.labels.items c.in-Some.object c.index-label.result.now within c.index-label.ensures blank in
     let un : place_of c.loop.self.labels.items c.in-Some.object ≡ 0 = (let z = c.if-label-gt0.false in let e = ap (λ (l : Label). l.place) same in omega (arith, z, e)) in
     let near : near_of c.loop.self.labels.items c.in-Some.object ≡ c.in-Some.near = sym (ap (λ (l : Label). l.near) same) ∙ c.if-label-near.false in
-    search_ended c.args.rows.now c.args.eps c.args.prices.now (seats c.args.holders.now) c.args.start c.loop.self.labels.items c.loop.self.line.items (heap_items c.loop.self.heap) c.loop.invariant.0 s.found c.in-Some.near c.in-Some.object (heap_items c.pop.new.self) c.in-Some.ensures.permutation c.in-Some.ensures.heap_order s near un (free_here c.args.holders.now c.in-Some.object room c.if-person.true) (heap_items c.push.new.self) c.in_ok-push.ensures.permutation c.in_ok-push.ensures.heap_order
+    search_ended c.args.rows.now c.args.owns.now c.args.prices.now (seats c.args.holders.now) c.args.start c.loop.self.labels.items c.loop.self.line.items (heap_items c.loop.self.heap) c.loop.invariant.0 s.found c.in-Some.near c.in-Some.object (heap_items c.pop.new.self) c.in-Some.ensures.permutation c.in-Some.ensures.heap_order s near un (free_here c.args.holders.now c.in-Some.object room c.if-person.true) (heap_items c.push.new.self) c.in_ok-push.ensures.permutation c.in_ok-push.ensures.heap_order
 
-pub own_of-own-requires-in-loop-clause-person : goal.own_of-own-requires-in-loop-clause-person
-own_of-own-requires-in-loop-clause-person c =
-    let f : FitsSigned w64 c.args.eps = c.ranges.eps in
-    let s = simp to_z-of_z at c.loop.invariant.1 in
-    let within = popped_within c.args.rows.now c.args.eps c.args.prices.now (seats c.args.holders.now) c.args.start c.loop.self.labels.items c.loop.self.line.items (heap_items c.loop.self.heap) c.loop.invariant.0 s.found c.in-Some.near c.in-Some.object (heap_items c.pop.new.self) c.in-Some.ensures.permutation c.in-Some.ensures.heap_order in
+pub relax-requires-in-loop-clause-person : goal.relax-requires-in-loop-clause-person
+relax-requires-in-loop-clause-person c =
+    let s = c.loop.invariant.1 in
+    let within = popped_within c.args.rows.now c.args.owns.now c.args.prices.now (seats c.args.holders.now) c.args.start c.loop.self.labels.items c.loop.self.line.items (heap_items c.loop.self.heap) c.loop.invariant.0 s.found c.in-Some.near c.in-Some.object (heap_items c.pop.new.self) c.in-Some.ensures.permutation c.in-Some.ensures.heap_order in
     let room : c.in-Some.object < length c.args.holders.now = room_for c.args.holders.now c.in-Some.object (length c.loop.self.labels.items) c.args.rows.now.objects within s.found.size c.requires.holders.many in
     c.requires.holders.known c.in-Some.object (held_of (get_or c.args.holders.now c.in-Some.object 0)) (held_here c.args.holders.now c.in-Some.object room c.if-person.false)
 
 pub relax-requires-in-loop-clause-from : goal.relax-requires-in-loop-clause-from
 relax-requires-in-loop-clause-from c =
-    let f : FitsSigned w64 c.args.eps = c.ranges.eps in
-    let s = simp to_z-of_z at c.loop.invariant.1 in
-    let within = popped_within c.args.rows.now c.args.eps c.args.prices.now (seats c.args.holders.now) c.args.start c.loop.self.labels.items c.loop.self.line.items (heap_items c.loop.self.heap) c.loop.invariant.0 s.found c.in-Some.near c.in-Some.object (heap_items c.pop.new.self) c.in-Some.ensures.permutation c.in-Some.ensures.heap_order in
+    let s = c.loop.invariant.1 in
+    let within = popped_within c.args.rows.now c.args.owns.now c.args.prices.now (seats c.args.holders.now) c.args.start c.loop.self.labels.items c.loop.self.line.items (heap_items c.loop.self.heap) c.loop.invariant.0 s.found c.in-Some.near c.in-Some.object (heap_items c.pop.new.self) c.in-Some.ensures.permutation c.in-Some.ensures.heap_order in
     let room : c.in-Some.object < length c.args.holders.now = room_for c.args.holders.now c.in-Some.object (length c.loop.self.labels.items) c.args.rows.now.objects within s.found.size c.requires.holders.many in
     let same : c.index-label.result.now ≡ label_of c.loop.self.labels.items c.in-Some.object = get_or_read c.loop.self.labels.items c.in-Some.object c.index-label.result.now within c.index-label.ensures blank in
     let un : place_of c.loop.self.labels.items c.in-Some.object ≡ 0 = (let z = c.if-label-gt0.false in let e = ap (λ (l : Label). l.place) same in omega (arith, z, e)) in
     let near : near_of c.loop.self.labels.items c.in-Some.object ≡ c.in-Some.near = sym (ap (λ (l : Label). l.near) same) ∙ c.if-label-near.false in
     let is = c.in_ok-settle.ensures in
-    subst (λ (ls : List Label). IsFrom (seats c.args.holders.now) c.args.start ls (Some c.in-Some.object) (get_or c.args.holders.now c.in-Some.object 0) c.in-Some.near) (sym is.labels) (from_settled c.args.rows.now c.args.eps c.args.prices.now (seats c.args.holders.now) c.args.start c.loop.self.labels.items c.loop.self.line.items (heap_items c.loop.self.heap) c.loop.invariant.0 s.found c.in-Some.near c.in-Some.object (heap_items c.pop.new.self) c.in-Some.ensures.permutation c.in-Some.ensures.heap_order near un (held_of (get_or c.args.holders.now c.in-Some.object 0)) (held_here c.args.holders.now c.in-Some.object room c.if-person.false))
+    subst (λ (ls : List Label). IsFrom (seats c.args.holders.now) c.args.start ls (Some c.in-Some.object) (get_or c.args.holders.now c.in-Some.object 0) c.in-Some.near) (sym is.labels) (from_settled c.args.rows.now c.args.owns.now c.args.prices.now (seats c.args.holders.now) c.args.start c.loop.self.labels.items c.loop.self.line.items (heap_items c.loop.self.heap) c.loop.invariant.0 s.found c.in-Some.near c.in-Some.object (heap_items c.pop.new.self) c.in-Some.ensures.permutation c.in-Some.ensures.heap_order near un (held_of (get_or c.args.holders.now c.in-Some.object 0)) (held_here c.args.holders.now c.in-Some.object room c.if-person.false))
 
 pub relax-requires-in-loop-clause-labels : goal.relax-requires-in-loop-clause-labels
 relax-requires-in-loop-clause-labels c =
-    let f : FitsSigned w64 c.args.eps = c.ranges.eps in
-    let s = simp to_z-of_z at c.loop.invariant.1 in
-    let within = popped_within c.args.rows.now c.args.eps c.args.prices.now (seats c.args.holders.now) c.args.start c.loop.self.labels.items c.loop.self.line.items (heap_items c.loop.self.heap) c.loop.invariant.0 s.found c.in-Some.near c.in-Some.object (heap_items c.pop.new.self) c.in-Some.ensures.permutation c.in-Some.ensures.heap_order in
+    let s = c.loop.invariant.1 in
+    let within = popped_within c.args.rows.now c.args.owns.now c.args.prices.now (seats c.args.holders.now) c.args.start c.loop.self.labels.items c.loop.self.line.items (heap_items c.loop.self.heap) c.loop.invariant.0 s.found c.in-Some.near c.in-Some.object (heap_items c.pop.new.self) c.in-Some.ensures.permutation c.in-Some.ensures.heap_order in
     let room : c.in-Some.object < length c.args.holders.now = room_for c.args.holders.now c.in-Some.object (length c.loop.self.labels.items) c.args.rows.now.objects within s.found.size c.requires.holders.many in
     let same : c.index-label.result.now ≡ label_of c.loop.self.labels.items c.in-Some.object = get_or_read c.loop.self.labels.items c.in-Some.object c.index-label.result.now within c.index-label.ensures blank in
     let un : place_of c.loop.self.labels.items c.in-Some.object ≡ 0 = (let z = c.if-label-gt0.false in let e = ap (λ (l : Label). l.place) same in omega (arith, z, e)) in
     let near : near_of c.loop.self.labels.items c.in-Some.object ≡ c.in-Some.near = sym (ap (λ (l : Label). l.near) same) ∙ c.if-label-near.false in
     let is = c.in_ok-settle.ensures in
-    rw (is.labels, is.line, is.heap) (simp to_z-of_z (settled_next c.args.rows.now c.args.eps c.args.prices.now (seats c.args.holders.now) c.args.start c.loop.self.labels.items c.loop.self.line.items (heap_items c.loop.self.heap) c.loop.invariant.0 s.found c.in-Some.near c.in-Some.object (heap_items c.pop.new.self) c.in-Some.ensures.permutation c.in-Some.ensures.heap_order near un (held_of (get_or c.args.holders.now c.in-Some.object 0)) (held_here c.args.holders.now c.in-Some.object room c.if-person.false)))
+    rw (is.labels, is.line, is.heap) ((settled_next c.args.rows.now c.args.owns.now c.args.prices.now (seats c.args.holders.now) c.args.start c.loop.self.labels.items c.loop.self.line.items (heap_items c.loop.self.heap) c.loop.invariant.0 s.found c.in-Some.near c.in-Some.object (heap_items c.pop.new.self) c.in-Some.ensures.permutation c.in-Some.ensures.heap_order near un (held_of (get_or c.args.holders.now c.in-Some.object 0)) (held_here c.args.holders.now c.in-Some.object room c.if-person.false)))
 
 pub loop-preserved : goal.loop-preserved
 loop-preserved c =
-    let f : FitsSigned w64 c.args.eps = c.ranges.eps in
-    let s = simp to_z-of_z at c.loop.invariant.1 in
-    let within = popped_within c.args.rows.now c.args.eps c.args.prices.now (seats c.args.holders.now) c.args.start c.loop.self.labels.items c.loop.self.line.items (heap_items c.loop.self.heap) c.loop.invariant.0 s.found c.in-Some.near c.in-Some.object (heap_items c.pop.new.self) c.in-Some.ensures.permutation c.in-Some.ensures.heap_order in
+    let s = c.loop.invariant.1 in
+    let within = popped_within c.args.rows.now c.args.owns.now c.args.prices.now (seats c.args.holders.now) c.args.start c.loop.self.labels.items c.loop.self.line.items (heap_items c.loop.self.heap) c.loop.invariant.0 s.found c.in-Some.near c.in-Some.object (heap_items c.pop.new.self) c.in-Some.ensures.permutation c.in-Some.ensures.heap_order in
     let room : c.in-Some.object < length c.args.holders.now = room_for c.args.holders.now c.in-Some.object (length c.loop.self.labels.items) c.args.rows.now.objects within s.found.size c.requires.holders.many in
     let same : c.index-label.result.now ≡ label_of c.loop.self.labels.items c.in-Some.object = get_or_read c.loop.self.labels.items c.in-Some.object c.index-label.result.now within c.index-label.ensures blank in
     let un : place_of c.loop.self.labels.items c.in-Some.object ≡ 0 = (let z = c.if-label-gt0.false in let e = ap (λ (l : Label). l.place) same in omega (arith, z, e)) in
@@ -128,13 +115,12 @@ loop-preserved c =
     let is = c.in_ok-settle.ensures in
     let done = c.in_ok-relax-2.ensures in
     let grows = rw is.labels at done.grows in
-    let found = simp to_z-of_z at done.labels in
-    let reaches = simp to_z-of_z at done.reaches in
-    let r : (now : ℕ) × IsSearch c.args.rows.now c.args.eps c.args.prices.now (seats c.args.holders.now) c.args.start c.relax-in-loop.new.self.labels.items c.relax-in-loop.new.self.line.items (heap_items c.relax-in-loop.new.self.heap) now = (c.in-Some.near, searched c.args.rows.now c.args.eps c.args.prices.now (seats c.args.holders.now) c.args.start c.loop.self.labels.items c.loop.self.line.items (heap_items c.loop.self.heap) c.loop.invariant.0 s.found c.in-Some.near c.in-Some.object (heap_items c.pop.new.self) c.in-Some.ensures.permutation c.in-Some.ensures.heap_order near un (held_of (get_or c.args.holders.now c.in-Some.object 0)) (held_here c.args.holders.now c.in-Some.object room c.if-person.false) s c.relax-in-loop.new.self.labels.items c.relax-in-loop.new.self.line.items (heap_items c.relax-in-loop.new.self.heap) grows found reaches) in
-    simp to_z-of_z r
+    let found = done.labels in
+    let reaches = done.reaches in
+    let r : (now : ℕ) × IsSearch c.args.rows.now c.args.owns.now c.args.prices.now (seats c.args.holders.now) c.args.start c.relax-in-loop.new.self.labels.items c.relax-in-loop.new.self.line.items (heap_items c.relax-in-loop.new.self.heap) now = (c.in-Some.near, searched c.args.rows.now c.args.owns.now c.args.prices.now (seats c.args.holders.now) c.args.start c.loop.self.labels.items c.loop.self.line.items (heap_items c.loop.self.heap) c.loop.invariant.0 s.found c.in-Some.near c.in-Some.object (heap_items c.pop.new.self) c.in-Some.ensures.permutation c.in-Some.ensures.heap_order near un (held_of (get_or c.args.holders.now c.in-Some.object 0)) (held_here c.args.holders.now c.in-Some.object room c.if-person.false) s c.relax-in-loop.new.self.labels.items c.relax-in-loop.new.self.line.items (heap_items c.relax-in-loop.new.self.heap) grows found reaches) in
+    r
 
 pub settle-requires : goal.settle-requires
 settle-requires c =
-    let f : FitsSigned w64 c.args.eps = c.ranges.eps in
-    let s = simp to_z-of_z at c.loop.invariant.1 in
-    popped_within c.args.rows.now c.args.eps c.args.prices.now (seats c.args.holders.now) c.args.start c.loop.self.labels.items c.loop.self.line.items (heap_items c.loop.self.heap) c.loop.invariant.0 s.found c.in-Some.near c.in-Some.object (heap_items c.pop.new.self) c.in-Some.ensures.permutation c.in-Some.ensures.heap_order
+    let s = c.loop.invariant.1 in
+    popped_within c.args.rows.now c.args.owns.now c.args.prices.now (seats c.args.holders.now) c.args.start c.loop.self.labels.items c.loop.self.line.items (heap_items c.loop.self.heap) c.loop.invariant.0 s.found c.in-Some.near c.in-Some.object (heap_items c.pop.new.self) c.in-Some.ensures.permutation c.in-Some.ensures.heap_order

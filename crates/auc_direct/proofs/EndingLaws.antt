@@ -30,3 +30,9 @@ sold_left r eps (Ending.Stopped reason) prices holders owns stands is last = (ep
 pub watched_stopped : (told : Bool) (r : Shorts) (bids : ℕ) (begun after : ℤ) (ending : Ending) (prices : List ℤ) (owns : List ShortArc) → begun ≤ℤ after → (told ≡ true) ⊎ IsEnding r bids after ending prices owns → (told ≡ true) ⊎ IsStopped r bids begun ending prices
 watched_stopped told r bids begun after ending prices owns le (inl e) = inl e
 watched_stopped told r bids begun after ending prices owns le (inr is) = inr (ended_stopped r bids begun after ending prices owns le is)
+
+-- the same of a run that began earlier, with no higher prices
+pub stopped_before : (told : Bool) (r : Shorts) (bids : ℕ) (begun after : ℤ) (ending : Ending) (prices : List ℤ) → begun ≤ℤ after → (told ≡ true) ⊎ IsStopped r bids after ending prices → (told ≡ true) ⊎ IsStopped r bids begun ending prices
+stopped_before told r bids begun after ending prices le (inl e) = inl e
+stopped_before told r bids begun after Ending.Sold prices le (inr is) = inr tt
+stopped_before told r bids begun after (Ending.Stopped reason) prices le (inr is) = inr (limit_earlier r bids begun after reason prices le is)

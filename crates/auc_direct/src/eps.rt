@@ -13,7 +13,7 @@ pub(crate) const LAST_EPS: i64 = 1;
 const STEP: i64 = 8;
 
 /// Half of the arcs that a person knows in the mean.
-fn half_of_mean(rows: &ShortRows) -> usize {
+pub(crate) fn half_of_mean(rows: &ShortRows) -> usize {
     rows.many()
         .checked_div(2 * rows.persons() as usize)
         .unwrap_or(0)

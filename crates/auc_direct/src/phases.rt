@@ -11,14 +11,15 @@ ghost use Rattle.auc_direct.specs.Shortlist.{Kept};
 ghost use Rattle.auc_direct.specs.Starts.{AreKept, ArePricesOf};
 
 use crate::ending::Ending;
-use crate::eps::{LAST_EPS, next_eps};
+use crate::eps::{LAST_EPS, first_eps, half_of_mean, next_eps};
 use crate::market::Market;
 use crate::rows::ShortRows;
 use crate::watch::Watch;
 use crate::workspace::Workspace;
 use std::alloc::{AllocError, Global};
 
-/// Behind how many bids of a chain a path is looked for in a run of one phase, at the last eps, where a bid raises a price by little.
+/// Behind how many bids of a chain a path is looked for in a run of one phase, at the last eps, where a bid raises a price by little. At least so many, and where a person
+/// knows many objects half as many as he knows in the mean: a search looks at whole rows, and a bid at a list.
 const SOON: u64 = 16;
 
 /// The same in a run of more phases, where few chains are so long: those of a price war. At least so many, and in a problem of many arcs as many as may take the time of
@@ -34,7 +35,11 @@ const LOOKS: usize = 100;
 /// Behind how many bids of a chain a path is looked for in a run that begins at this eps.
 pub(crate) fn patience_at(rows: &ShortRows, eps: i64) -> u64 {
     if eps == LAST_EPS {
-        return if rows.is_table() { AT_ONCE } else { SOON };
+        return if rows.is_table() {
+            AT_ONCE
+        } else {
+            SOON.max(half_of_mean(rows) as u64)
+        };
     }
     LATE.max((rows.many() / LOOKS) as u64)
 }
@@ -125,7 +130,8 @@ fn prices_before(alloc: Global, rows: &ShortRows, start: &[i64]) -> Result<Vec<i
     Ok(none)
 }
 
-/// One phase at the last eps, from start prices, at which persons keep what they may. It may make so many bids.
+/// One phase at the last eps, from start prices, at which persons keep what they may. In a full table with as many objects as persons it is given up where it takes long, and all
+/// phases follow. Each may make so many bids.
 pub(crate) fn play_from<W: Watch>(
     alloc: Global,
     rows: &ShortRows,
@@ -141,6 +147,12 @@ pub(crate) fn play_from<W: Watch>(
     let prices = prices_before(alloc, rows, start)?;
     let mut market = Market::new(alloc, rows.persons(), prices)?;
     market.open_at(rows, LAST_EPS, start);
+    if rows.is_table() && rows.persons() == rows.objects() {
+        return match market.play_early(rows, bids, &mut work, watch)? {
+            Some(ending) => Ok(Outcome { ending, market }),
+            None => play_phases(rows, bids, first_eps(rows), market, work, watch),
+        };
+    }
     let patience = patience_at(rows, LAST_EPS);
     let ending = market.play_watched(rows, LAST_EPS, bids, patience, &mut work, watch)?;
     Ok(Outcome { ending, market })

@@ -1,9 +1,11 @@
-use Rattle.std.proofs.Common.{arith, length, pos, refl}
-use Rattle.std.specs.Prelude.{◌≤ℤ◌}
+use Rattle.std.proofs.Common.{◌≡◌, ◌⊎◌, arith, length, pos, refl, true, Err, Ok, Result}
+use Rattle.std.specs.Prelude.{◌≤ℤ◌, IfOk}
 use Rattle.std.proofs.lemmas.Int.{ints}
 use Rattle.auc_graph.specs.Assignment.{total}
-use Rattle.auc_direct.proofs.EndingLaws.{sold_left, watched_stopped}
+use Rattle.auc_direct.specs.Endings.{IsLeft, IsOutcomeFrom, IsStopped}
+use Rattle.auc_direct.proofs.EndingLaws.{sold_left, stopped_before, watched_stopped}
 use Rattle.auc_direct.proofs.StartLaws.{nothing_owned, seated_none}
+use Rattle.auc_direct.proofs.phases.play_from.Goals.{in-Some, in-None}
 use Rattle.auc_direct.proofs.phases.play_from.Goals as goal
 
 pub open_at-requires-clause-seated : goal.open_at-requires-clause-seated
@@ -18,15 +20,47 @@ open_at-requires-clause-none g c = nothing_owned c.in_ok-market.market.owns.item
 
 pub returns : goal.returns
 returns g c =
-    let after = c.in_ok-ending.ensures in
+    let after = c.in_ok-ending-2.ensures in
     let begun = c.open_at.new.self.prices.items in
     let same : total begun ≤ℤ total begun = omega (arith, ints) in
     record {
-      left = sold_left c.args.rows.now (pos 1) c.in_ok-ending.ending c.play_watched.new.self.prices.items c.play_watched.new.self.holders.items c.play_watched.new.self.owns.items after.stands after.sold (λ e. refl);
+      left = sold_left c.args.rows.now (pos 1) c.in_ok-ending-2.ending c.play_watched.new.self.prices.items c.play_watched.new.self.holders.items c.play_watched.new.self.owns.items after.stands after.sold (λ e. refl);
       begun = begun;
       opened = c.open_at.ensures.opened;
-      stopped = watched_stopped (g.W.Watch.has_stopped c.play_watched.new.watch) c.args.rows.now c.args.bids (total begun) (total begun) c.in_ok-ending.ending c.play_watched.new.self.prices.items c.play_watched.new.self.owns.items same after.ending;
+      stopped = watched_stopped (g.W.Watch.has_stopped c.play_watched.new.watch) c.args.rows.now c.args.bids (total begun) (total begun) c.in_ok-ending-2.ending c.play_watched.new.self.prices.items c.play_watched.new.self.owns.items same after.ending;
     }
 
 pub play_watched-requires-clause-kept : goal.play_watched-requires-clause-kept
 play_watched-requires-clause-kept g c = c.in_ok-work.ensures.kept c.open_at.new.self.prices.items
+
+pub play_early-requires-clause-kept : goal.play_early-requires-clause-kept
+play_early-requires-clause-kept g c = c.in_ok-work.ensures.kept c.open_at.new.self.prices.items
+
+both : {X Y : Type 0} (r : Result X Y) (P Q R : X → Type 0) → ((x : X) → P x → Q x → R x) → IfOk r P → IfOk r Q → IfOk r R
+both (Ok x) P Q R f p q = f x p q
+both (Err e) P Q R f p q = tt
+
+pub returns-then-persons-objects : goal.returns-then-persons-objects
+returns-then-persons-objects g c =
+    let after = c.in_ok-ending.ensures in
+    let begun = c.open_at.new.self.prices.items in
+    let same : total begun ≤ℤ total begun = omega (arith, ints) in
+    elim c.match-branch-5.branch [
+      | in-Some w ↦ rw (w.watch-is, w.result-is) (record {
+        left = sold_left c.args.rows.now (pos 1) w.in-Some.ending c.play_early.new.self.prices.items c.play_early.new.self.holders.items c.play_early.new.self.owns.items after.stands (rw w.in-Some.is at after.sold) (λ e. refl);
+        begun = begun;
+        opened = c.open_at.ensures.opened;
+        stopped = watched_stopped (g.W.Watch.has_stopped c.play_early.new.watch) c.args.rows.now c.args.bids (total begun) (total begun) w.in-Some.ending c.play_early.new.self.prices.items c.play_early.new.self.owns.items same (rw w.in-Some.is at after.ending);
+      })
+      | in-None w ↦ rw (w.watch-is, w.result-is) (both w.play_phases.result
+          (λ o. IsLeft c.args.rows.now o.ending o.market.prices.items o.market.holders.items o.market.owns.items)
+          (λ o. (g.W.Watch.has_stopped w.play_phases.new.watch ≡ true) ⊎ IsStopped c.args.rows.now c.args.bids (total c.play_early.new.self.prices.items) o.ending o.market.prices.items)
+          (λ o. IsOutcomeFrom c.args.rows.now c.args.bids c.args.start.now (g.W.Watch.has_stopped w.play_phases.new.watch) o.ending o.market.prices.items o.market.holders.items o.market.owns.items)
+          (λ o left stopped. record {
+            left = left;
+            begun = begun;
+            opened = c.open_at.ensures.opened;
+            stopped = stopped_before (g.W.Watch.has_stopped w.play_phases.new.watch) c.args.rows.now c.args.bids (total begun) (total c.play_early.new.self.prices.items) o.ending o.market.prices.items after.risen stopped;
+          })
+          w.play_phases.ensures.left w.play_phases.ensures.stopped)
+    ]

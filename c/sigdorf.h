@@ -52,12 +52,12 @@ typedef struct sigdorf_found {
     uint32_t objects; /* SIGDORF_INFEASIBLE */
     uint32_t kind;    /* SIGDORF_REFUSED: a sigdorf_list_fault; SIGDORF_START: a sigdorf_start_fault; SIGDORF_INVALID: a
                          sigdorf_claim_fault; SIGDORF_BRACKET: a sigdorf_limit */
-    uint32_t place;   /* of these but SIGDORF_BRACKET: the arc, person or object that is at fault, or 0 */
+    uint32_t place;   /* of these but SIGDORF_BRACKET: the arc, entry, person or object that is at fault, or 0 */
 } sigdorf_found;
 
 enum sigdorf_status {
     SIGDORF_OPTIMAL = 0,    /* of a check: the claim holds */
-    SIGDORF_SIZES = 2,      /* a length is not the number of persons, or of objects */
+    SIGDORF_SIZES = 2,      /* a length is not the number of persons, or of objects; or the table does not lie within its length */
     SIGDORF_INFEASIBLE = 3, /* there is no assignment */
     SIGDORF_INVALID = 3,    /* of a check: the claim does not pass */
     SIGDORF_BRACKET = 4,    /* the bids did not suffice: an assignment, and a bound */
@@ -66,14 +66,14 @@ enum sigdorf_status {
     SIGDORF_START = 7       /* no run can start from the prices */
 };
 
-/* The first fault of a list, looked for in this order; the last four arc by arc. */
+/* The first fault of a list, looked for in this order; the last four arc by arc. Of a table the first three and the last. */
 enum sigdorf_list_fault {
     SIGDORF_PERSONS = 1,   /* persons is not from 1 to 10,000 */
     SIGDORF_OBJECTS,       /* objects is not 0, and below persons or above 20,000 */
     SIGDORF_TOO_MANY_ARCS, /* 33,554,432 arcs are right, and one more stands behind them */
     SIGDORF_PERSON,        /* the person of arc `place` is none of the problem */
     SIGDORF_OBJECT,        /* the object of arc `place` is none of the problem */
-    SIGDORF_COST           /* the cost of arc `place` is beyond 10^9 in magnitude */
+    SIGDORF_COST           /* the cost of arc `place`, or of the entry at this place, is beyond 10^9 in magnitude */
 };
 
 enum sigdorf_start_fault {
@@ -119,6 +119,23 @@ int32_t sigdorf_solve(uint32_t persons, uint32_t objects, const sigdorf_arc *arc
 int32_t sigdorf_solve_by_messages(uint32_t persons, uint32_t objects, const sigdorf_arc *arcs, size_t arcs_len, const int64_t *start,
                                   size_t start_len, uint64_t bids, uint32_t *choice, size_t choice_len, int64_t *prices,
                                   size_t prices_len, uint32_t *hall_objects, size_t hall_objects_len, sigdorf_found *found);
+
+/* Solves as sigdorf_solve does, but the problem of a table, which has a row for each person and in it an entry for each object: the cost
+ * of person i and object j stands at costs[i * stride + j], and an entry that equals `none` is no arc, but a gap. What stands between
+ * the rows, or behind the last one, is not looked at. `objects` 0 stands for as many as persons. The arcs are those of the entries that
+ * are no gap, row by row; SIGDORF_TOO_MANY_ARCS tells of more than 33,554,432 such entries.
+ *
+ * All of sigdorf_solve's statuses and fields hold of this problem, but for three of them:
+ * SIGDORF_OPTIMAL, SIGDORF_BRACKET: choice[i] is the OBJECT of person i. His entry for it is no gap, and costs what his arc costs. The
+ *   place of that arc, by which sigdorf_check takes an answer, is the number of entries before his that are no gap: without gaps
+ *   i * objects + choice[i].
+ * SIGDORF_SIZES: also where `stride` is below the number of objects, or where not every row lies within costs_len entries: at least
+ *   (persons - 1) * stride + objects of them, and none at all where persons is 0. It comes before every other fault.
+ * SIGDORF_REFUSED: found->place of SIGDORF_COST is i * objects + j for the entry of person i and object j, whatever the stride (where
+ *   `objects` is 0, as many as persons count). */
+int32_t sigdorf_solve_dense(uint32_t persons, uint32_t objects, const int64_t *costs, size_t costs_len, size_t stride, int64_t none,
+                            const int64_t *start, size_t start_len, uint64_t bids, uint32_t *choice, size_t choice_len, int64_t *prices,
+                            size_t prices_len, uint32_t *hall_objects, size_t hall_objects_len, sigdorf_found *found);
 
 /* Checks an answer, whoever found it. SIGDORF_OPTIMAL: choice, cost and prices are as under SIGDORF_OPTIMAL above. */
 int32_t sigdorf_check(uint32_t persons, uint32_t objects, const sigdorf_arc *arcs, size_t arcs_len, const uint32_t *choice,

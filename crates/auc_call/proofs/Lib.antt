@@ -4,8 +4,15 @@ mod StartLaws
 mod RunLaws
 mod HandLaws
 mod MadeLaws
+mod RunsLaws
 mod CheckLaws
 mod ToldLaws
 mod ToldChecks
 mod LimitedLaws
 mod DriverLaws
+mod TableLaws
+mod EntryLaws
+mod FaultLaws
+mod NamingLaws
+mod ToldTables
+mod WorkedTables

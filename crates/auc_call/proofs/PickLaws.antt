@@ -7,8 +7,9 @@ use Rattle.auc_graph.specs.declared.arc.Arc.{Arc}
 use Rattle.auc_cert.specs.declared.lists.Pick.{Pick}
 use Rattle.auc_cert.specs.Claim.{arc_of, chosen, pick_of}
 use Rattle.auc_call.specs.Memory.{AreAt}
+use Rattle.auc_call.specs.Naming.{no_arc}
 use Rattle.auc_call.specs.Checking.{IsMisplaced}
-use Rattle.auc_call.proofs.PlaceLaws.{no_arc, no_pick, length_chosen, chosen_at}
+use Rattle.auc_call.proofs.PlaceLaws.{no_pick, length_chosen, chosen_at}
 
 chosen_push : (k : ℕ) (picks : List Pick) (p : Pick) → chosen k (picks ++ p ∷ []) ≡ chosen k picks ++ arc_of (k + length picks) p ∷ []
 chosen_push k [] p = let e : k ≡ k + 0 = omega arith in ap (λ (m : ℕ). arc_of m p ∷ []) e

@@ -7,9 +7,7 @@ use Rattle.auc_graph.specs.Rising.{Rises}
 use Rattle.auc_cert.specs.declared.lists.Pick.{Pick}
 use Rattle.auc_cert.specs.Claim.{arc_of, chosen}
 use Rattle.auc_call.specs.Memory.{AreAt}
-
-abbrev pub no_arc : Arc
-no_arc = record { cost = pos 0; person = 0; object = 0 }
+use Rattle.auc_call.specs.Naming.{no_arc}
 
 abbrev pub no_pick : Pick
 no_pick = record { cost = pos 0; object = 0 }

@@ -61,7 +61,7 @@ told_bracket d p start before after (Err NoMemory) old h e = absurd (omega (arit
 pub list_fault_is : (found : Option ListFault) (fault : ListFault) → found ≡ Some fault → IsListFault found (list_kind fault) (list_place fault)
 list_fault_is found fault e = subst (λ (o : Option ListFault). IsListFault o (list_kind fault) (list_place fault)) (sym e) (refl, refl)
 
-start_fault_is : (found : Option StartFault) (fault : StartFault) → found ≡ Some fault → IsStartFault found (start_kind fault) (start_place fault)
+pub start_fault_is : (found : Option StartFault) (fault : StartFault) → found ≡ Some fault → IsStartFault found (start_kind fault) (start_place fault)
 start_fault_is found fault e = subst (λ (o : Option StartFault). IsStartFault o (start_kind fault) (start_place fault)) (sym e) (refl, refl)
 
 pub told_refused : (d : Driver) (p : Problem) (start : List ℤ) (before after : Memory) (r : Result Solved Failed) (old : Found) → Solves d p start before after r → solve_status r ≡ pos 5 → IsListFault (problem_fault p) (solve_found r old).kind (solve_found r old).place

@@ -9,3 +9,7 @@ pub mod Running
 pub mod Limited
 pub mod Drivers
 pub mod Answers
+pub mod Naming
+pub mod Table
+pub mod Entries
+pub mod TableSolving

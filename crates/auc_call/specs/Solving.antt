@@ -1,5 +1,5 @@
 -- What a solve comes to.
-use Rattle.std.specs.Prelude.{◌≡◌, ℤ, List, Some, None, Result, Ok, Err}
+use Rattle.std.specs.Prelude.{◌≡◌, ℤ, List, Some, None, Result, Ok, Err, ⊤}
 use Rattle.auc_graph.specs.Problem.{Problem, IsProblem}
 use Rattle.auc_graph.specs.Listing.{problem_fault}
 use Rattle.auc_call.specs.declared.driver.Driver.{Driver}
@@ -16,6 +16,18 @@ abbrev pub IsSolved : Problem → Memory → Memory → Solved → Type 0
 IsSolved p before after (Optimal cost) = IsLeastAt p after.choice after.prices cost × (after.set ≡ before.set)
 IsSolved p before after (Infeasible persons objects) = IsHallAt p after.choice after.set persons objects × (after.prices ≡ before.prices)
 IsSolved p before after (Bracket reason lower cost) = IsBracketAt p after.choice after.prices reason lower cost × (after.set ≡ before.set)
+
+-- why there is no run of a problem
+abbrev pub IsStop : Driver → Problem → List ℤ → Failed → Type 0
+IsStop driver p start Sizes = ⊥
+IsStop driver p start (Fault fault) = ⊥
+IsStop driver p start (Start fault) = start_fault_by driver p start ≡ Some fault
+IsStop driver p start NoMemory = ⊤
+
+-- what a run of a problem came to is right; where there is none, nothing is written
+abbrev pub Runs : Driver → Problem → List ℤ → Memory → Memory → Result Solved Failed → Type 0
+Runs driver p start before after (Ok solved) = (start_fault_by driver p start ≡ None) × IsSolved p before after solved
+Runs driver p start before after (Err failed) = IsStop driver p start failed × (after ≡ before)
 
 -- the cause of a refusal; of want of memory nothing is said
 abbrev pub IsCause : Driver → Problem → List ℤ → Memory → Failed → Type 0

@@ -15,7 +15,7 @@ pub struct Found {
     /// Which limit ended a phase, or which fault there is, from 1: of [`BRACKET`](crate::BRACKET), [`REFUSED`](crate::REFUSED),
     /// [`START`](crate::START) and [`INVALID`](crate::INVALID).
     pub kind: u32,
-    /// The arc, person or object that is at fault, from 0, where the kind has one, else 0: of [`REFUSED`](crate::REFUSED),
+    /// The arc, entry, person or object that is at fault, from 0, where the kind has one, else 0: of [`REFUSED`](crate::REFUSED),
     /// [`START`](crate::START) and [`INVALID`](crate::INVALID).
     pub place: u32,
 }

@@ -6,7 +6,7 @@ ghost use Rattle.auc_answers.specs.Answers.{IsAnswer};
 ghost use Rattle.auc_call.specs.Memory.{AreSizes, memory};
 ghost use Rattle.auc_call.specs.Drivers.{IsSolvedBy};
 ghost use Rattle.auc_call.specs.Running.{IsAnswerWritten};
-ghost use Rattle.auc_call.specs.Solving.{IsSolved, Solves};
+ghost use Rattle.auc_call.specs.Solving.{IsSolved, Runs, Solves};
 
 use crate::driver::{Driver, answer_of};
 use crate::handing::{hand_bracket, hand_hall, hand_optimal};
@@ -37,6 +37,28 @@ fn hand_out(
     }
 }
 
+/// Solves a problem by this solver, and writes the answer into the caller's memory.
+pub(crate) fn solve_problem(
+    alloc: Global,
+    driver: Driver,
+    problem: &ArcList,
+    start: &[i64],
+    bids: u64,
+    choice: &mut [u32],
+    prices: &mut [i64],
+    set: &mut [u32],
+) -> Result<Solved, Failed>
+    requires sizes { AreSizes problem.now (memory choice.old prices.old set.old) }
+    ensures runs { Runs driver problem.now start.now (memory choice.old prices.old set.old) (memory choice.new prices.new set.new) result }
+    ensures run { IfOk result (IsSolvedBy driver problem.now start.now bids (memory choice.new prices.new set.new)) }
+{
+    if let Some(fault) = start_fault_by(driver, problem, start) {
+        return Err(Failed::Start(fault));
+    }
+    let answer = answer_of(alloc, driver, problem, start, bids)?;
+    Ok(hand_out(problem, &answer, choice, prices, set))
+}
+
 /// Solves the problem of these arcs by this solver, and writes the answer into the caller's memory.
 pub(crate) fn solve_into(
     alloc: Global,
@@ -60,9 +82,5 @@ pub(crate) fn solve_into(
     }
     let arcs = Vec::from_slice(alloc, arcs)?;
     let problem = ArcList::from_arcs(persons, objects, arcs)?;
-    if let Some(fault) = start_fault_by(driver, &problem, start) {
-        return Err(Failed::Start(fault));
-    }
-    let answer = answer_of(alloc, driver, &problem, start, bids)?;
-    Ok(hand_out(&problem, &answer, choice, prices, set))
+    solve_problem(alloc, driver, &problem, start, bids, choice, prices, set)
 }

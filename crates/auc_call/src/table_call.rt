@@ -1,0 +1,70 @@
+//! The call over a table, with one promise a status.
+
+ghost use Rattle.std.specs.Prelude.{◌≡◌, ◌≢◌, ◌↔◌, Contains, None, length, pos};
+ghost use Rattle.auc_call.specs.Memory.{memory};
+ghost use Rattle.auc_call.specs.Shown.{IsLeastAt, IsHallAt};
+ghost use Rattle.auc_call.specs.Start.{start_fault};
+ghost use Rattle.auc_call.specs.Codes.{IsListFault, IsStartFault};
+ghost use Rattle.auc_call.specs.Answers.{IsBracketTold};
+ghost use Rattle.auc_call.specs.Limited.{IsLimitTold};
+ghost use Rattle.auc_call.specs.Naming.{ByObjects};
+ghost use Rattle.auc_call.specs.Table.{table_fault, table_problem};
+ghost use Rattle.auc_call.specs.TableSolving.{AreTableSizes};
+ghost use Rattle.auc_call.specs.Telling.{solve_statuses, KeepsFound, KeepsMemory};
+
+use crate::found::Found;
+use crate::table_solving::solve_table_into;
+use crate::telling::tell_solved;
+use std::alloc::Global;
+
+/// Solves as [`solve_call`](crate::solve_call) does, but the problem of a table, which has a row for each person and in it an entry for
+/// each object: the cost of person `i` and object `j` stands at `costs[i * stride + j]`, and an entry that equals `none` is a gap, which is
+/// no arc. The arcs are those of the other entries, row by row. What stands between rows and behind the last one is not looked at.
+///
+/// Behind [`OPTIMAL`](crate::OPTIMAL) and [`BRACKET`](crate::BRACKET) `choice` holds for each person his object in place of his arc. Behind
+/// [`REFUSED`](crate::REFUSED) a cost's `found.place` is that of the entry in a table whose stride is the number of objects. A stride below
+/// that number, and a row that doesn't lie within `costs`, are [`SIZES`](crate::SIZES).
+///
+/// Takes the time and memory of [`solve_call`](crate::solve_call), but for its copy of the arcs, which is the only one here: 16 bytes for
+/// each entry that is no gap.
+pub fn solve_table_call(
+    alloc: Global,
+    persons: u32,
+    objects: u32,
+    costs: &[i64],
+    stride: usize,
+    none: i64,
+    start: &[i64],
+    bids: u64,
+    choice: &mut [u32],
+    prices: &mut [i64],
+    hall_objects: &mut [u32],
+    found: &mut Found,
+) -> i32
+    ensures known { Contains solve_statuses result }
+    ensures optimal { result ≡ pos 0 → ByObjects (table_problem persons objects costs.now stride none).arcs choice.new (λ places. IsLeastAt (table_problem persons objects costs.now stride none) places prices.new found.new.cost) }
+    ensures sizes { result ≡ pos 2 ↔ (AreTableSizes (table_problem persons objects costs.now stride none) stride (length costs.now) (memory choice.old prices.old hall_objects.old) → ⊥) }
+    ensures infeasible { result ≡ pos 3 → IsHallAt (table_problem persons objects costs.now stride none) choice.new hall_objects.new found.new.persons found.new.objects }
+    ensures bracket { result ≡ pos 4 → ByObjects (table_problem persons objects costs.now stride none).arcs choice.new (λ places. IsBracketTold (table_problem persons objects costs.now stride none) places prices.new found.new.kind found.new.lower found.new.cost) }
+    ensures refused { result ≡ pos 5 → IsListFault (table_fault (table_problem persons objects costs.now stride none)) found.new.kind found.new.place }
+    ensures start { result ≡ pos 7 → IsStartFault (start_fault (table_problem persons objects costs.now stride none) start.now) found.new.kind found.new.place }
+    ensures started { result ≢ pos 2 → result ≢ pos 5 → result ≢ pos 6 → result ≢ pos 7 → start_fault (table_problem persons objects costs.now stride none) start.now ≡ None }
+    ensures limit { result ≡ pos 4 → ByObjects (table_problem persons objects costs.now stride none).arcs choice.new (λ places. IsLimitTold (table_problem persons objects costs.now stride none) start.now bids places prices.new found.new.kind found.new.lower found.new.cost) }
+    ensures same { KeepsMemory result (memory choice.old prices.old hall_objects.old) (memory choice.new prices.new hall_objects.new) }
+    ensures same_found { KeepsFound result found.old found.new }
+{
+    let solved = solve_table_into(
+        alloc,
+        persons,
+        objects,
+        costs,
+        stride,
+        none,
+        start,
+        bids,
+        choice,
+        prices,
+        hall_objects,
+    );
+    tell_solved(solved, found)
+}

@@ -5,7 +5,7 @@
 //! the top of `c/sigdorf.h`.
 #![tactic(auto)]
 
-ghost use Rattle.std.specs.Prelude.{◌≡◌, ◌≢◌, ◌↔◌, Contains, None, pos};
+ghost use Rattle.std.specs.Prelude.{◌≡◌, ◌≢◌, ◌↔◌, Contains, None, length, pos};
 ghost use Rattle.auc_graph.specs.HallSet.{IsHallSet};
 ghost use Rattle.auc_graph.specs.Listing.{problem_from, list_fault};
 ghost use Rattle.auc_call.specs.Memory.{AreSizes, memory};
@@ -15,10 +15,15 @@ ghost use Rattle.auc_call.specs.Codes.{IsListFault, IsStartFault};
 ghost use Rattle.auc_call.specs.Checking.{AreClaimSizes};
 ghost use Rattle.auc_call.specs.Answers.{IsBracketTold, IsClaimFaultTold, IsHallFaultTold, IsHallShown};
 ghost use Rattle.auc_call.specs.Limited.{IsLimitTold};
+ghost use Rattle.auc_call.specs.Naming.{ByObjects};
 ghost use Rattle.auc_call.specs.Running.{IsRunTold};
+ghost use Rattle.auc_call.specs.Table.{table_fault, table_problem};
+ghost use Rattle.auc_call.specs.TableSolving.{AreTableSizes};
 ghost use Rattle.auc_call.specs.Telling.{solve_statuses, check_statuses, KeepsFound, KeepsMemory, KeepsChecked};
 
-use auc_call::{Found, check_call, check_hall_call, solve_by_messages_call, solve_call};
+use auc_call::{
+    Found, check_call, check_hall_call, solve_by_messages_call, solve_call, solve_table_call,
+};
 use auc_graph::Arc;
 use std::alloc::Global;
 
@@ -54,6 +59,51 @@ pub extern "C" fn sigdorf_solve(
         persons,
         objects,
         arcs,
+        start,
+        bids,
+        choice,
+        prices,
+        hall_objects,
+        found,
+    )
+}
+
+/// Solves as [`sigdorf_solve`] does, but the problem of a table, where an entry that equals `none` is no arc, and with objects in place of
+/// arcs: see [`auc_call::solve_table_call`].
+#[unsafe(no_mangle)]
+pub extern "C" fn sigdorf_solve_dense(
+    alloc: Global,
+    persons: u32,
+    objects: u32,
+    costs: &[i64],
+    stride: usize,
+    none: i64,
+    start: &[i64],
+    bids: u64,
+    choice: &mut [u32],
+    prices: &mut [i64],
+    hall_objects: &mut [u32],
+    found: &mut Found,
+) -> i32
+    ensures known { Contains solve_statuses result }
+    ensures optimal { result ≡ pos 0 → ByObjects (table_problem persons objects costs.now stride none).arcs choice.new (λ places. IsLeastAt (table_problem persons objects costs.now stride none) places prices.new found.new.cost) }
+    ensures sizes { result ≡ pos 2 ↔ (AreTableSizes (table_problem persons objects costs.now stride none) stride (length costs.now) (memory choice.old prices.old hall_objects.old) → ⊥) }
+    ensures infeasible { result ≡ pos 3 → IsHallAt (table_problem persons objects costs.now stride none) choice.new hall_objects.new found.new.persons found.new.objects }
+    ensures bracket { result ≡ pos 4 → ByObjects (table_problem persons objects costs.now stride none).arcs choice.new (λ places. IsBracketTold (table_problem persons objects costs.now stride none) places prices.new found.new.kind found.new.lower found.new.cost) }
+    ensures refused { result ≡ pos 5 → IsListFault (table_fault (table_problem persons objects costs.now stride none)) found.new.kind found.new.place }
+    ensures start { result ≡ pos 7 → IsStartFault (start_fault (table_problem persons objects costs.now stride none) start.now) found.new.kind found.new.place }
+    ensures started { result ≢ pos 2 → result ≢ pos 5 → result ≢ pos 6 → result ≢ pos 7 → start_fault (table_problem persons objects costs.now stride none) start.now ≡ None }
+    ensures limit { result ≡ pos 4 → ByObjects (table_problem persons objects costs.now stride none).arcs choice.new (λ places. IsLimitTold (table_problem persons objects costs.now stride none) start.now bids places prices.new found.new.kind found.new.lower found.new.cost) }
+    ensures same { KeepsMemory result (memory choice.old prices.old hall_objects.old) (memory choice.new prices.new hall_objects.new) }
+    ensures same_found { KeepsFound result found.old found.new }
+{
+    solve_table_call(
+        alloc,
+        persons,
+        objects,
+        costs,
+        stride,
+        none,
         start,
         bids,
         choice,

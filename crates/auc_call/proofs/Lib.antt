@@ -4,7 +4,7 @@ mod StartLaws
 mod RunLaws
 mod HandLaws
 mod MadeLaws
-mod RunsLaws
+mod SolvingLaws
 mod CheckLaws
 mod ToldLaws
 mod ToldChecks

@@ -7,31 +7,14 @@ use Rattle.auc_graph.specs.declared.arc.Arc.{Arc}
 use Rattle.auc_graph.specs.Problem.{Problem}
 use Rattle.auc_cert.specs.declared.lists.Pick.{Pick}
 use Rattle.auc_cert.specs.Claim.{arc_of, chosen}
-use Rattle.auc_call.specs.declared.driver.Driver.TheVariants.{Direct}
 use Rattle.auc_call.specs.declared.solved.Solved.{Solved}
 use Rattle.auc_call.specs.declared.solved.Solved.TheVariants.{Optimal, Infeasible, Bracket}
-use Rattle.auc_call.specs.declared.solved.Failed.{Failed}
-use Rattle.auc_call.specs.declared.solved.Failed.TheVariants.{Sizes, Fault, Start, NoMemory}
 use Rattle.auc_call.specs.Drivers.{IsLimitedSolve}
 use Rattle.auc_call.specs.Memory.{AreAt, Memory, memory}
-use Rattle.auc_call.specs.Solving.{IsSolved, IsStop}
-use Rattle.auc_call.specs.TableSolving.{AreNamed, AreTableSizes, IsRefused, IsTableCause, IsTableSolved, named}
+use Rattle.auc_call.specs.Solving.{IsSolved}
+use Rattle.auc_call.specs.TableSolving.{AreNamed, IsTableSolved, named}
 use Rattle.auc_call.proofs.PickLaws.{at_person}
 use Rattle.auc_call.proofs.PlaceLaws.{no_pick}
-
--- why there is no run of a table's problem
-pub stopped_table : (p : Problem) (stride entries : ℕ) (start : List ℤ) (before : Memory) (failed : Failed) → AreTableSizes p stride entries before → IsStop Direct p start failed → IsTableCause p stride entries start before failed
-stopped_table p stride entries start before Sizes sizes h = absurd h
-stopped_table p stride entries start before (Fault fault) sizes h = absurd h
-stopped_table p stride entries start before (Start fault) sizes h = (sizes, h)
-stopped_table p stride entries start before NoMemory sizes h = sizes
-
--- and why there is no such problem
-pub refused_table : (p : Problem) (stride entries : ℕ) (start : List ℤ) (before : Memory) (failed : Failed) → AreTableSizes p stride entries before → IsRefused p failed → IsTableCause p stride entries start before failed
-refused_table p stride entries start before Sizes sizes h = absurd h
-refused_table p stride entries start before (Fault fault) sizes h = (sizes, h)
-refused_table p stride entries start before (Start fault) sizes h = absurd h
-refused_table p stride entries start before NoMemory sizes h = sizes
 
 -- where arcs stand at places, each is a place of the list
 within : (arcs : List Arc) (places : List ℕ) (picks : List Pick) → AreAt arcs places (chosen 0 picks) → All (λ place. place < length arcs) places

@@ -5,3 +5,5 @@
 mod calls;
 #[cfg(test)]
 mod spare;
+#[cfg(test)]
+mod tables;

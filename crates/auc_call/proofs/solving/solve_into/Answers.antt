@@ -7,7 +7,7 @@ use Rattle.auc_call.specs.Memory.{AreSizes, memory}
 use Rattle.auc_call.specs.Drivers.{IsSolvedBy}
 use Rattle.auc_call.specs.Solving.{Runs}
 use Rattle.auc_call.proofs.MadeLaws.{made_of}
-use Rattle.auc_call.proofs.RunsLaws.{runs_solves}
+use Rattle.auc_call.proofs.SolvingLaws.{runs_solves}
 use Rattle.auc_call.proofs.solving.solve_into.Goals as goal
 
 pub solve_problem-requires : goal.solve_problem-requires

@@ -1,0 +1,306 @@
+/* The call over a table: each status, and random tables beside sigdorf_solve of the same arcs, written out here. Each array ends right before a
+ * page that nobody may touch, so that a read or a write behind it ends the program. The last line is `N passed, M failed`. */
+#define _DEFAULT_SOURCE
+#include "sigdorf.h"
+#include <inttypes.h>
+#include <stdio.h>
+#include <stdlib.h>
+#include <string.h>
+#include <sys/mman.h>
+#include <unistd.h>
+
+enum { MOST = 12, ROOM = 1 << 14 };
+
+static int passed, failed;
+
+static void want(const char *what, int64_t got, int64_t wanted) {
+    if (got == wanted) {
+        passed++;
+        return;
+    }
+    failed++;
+    printf("FAILED %s: %" PRId64 " in place of %" PRId64 "\n", what, got, wanted);
+}
+
+/* Memory that ends where this many bytes of it end. */
+typedef struct fence {
+    unsigned char *end;
+} fence;
+
+static fence fence_new(void) {
+    size_t page = (size_t)sysconf(_SC_PAGESIZE), room = (ROOM + page - 1) / page * page;
+    unsigned char *memory = mmap(NULL, room + page, PROT_READ | PROT_WRITE, MAP_PRIVATE | MAP_ANONYMOUS, -1, 0);
+    if (memory == MAP_FAILED || mprotect(memory + room, page, PROT_NONE) != 0) {
+        printf("no memory for a fence\n0 passed, 1 failed\n");
+        exit(1);
+    }
+    return (fence){memory + room};
+}
+
+static void *before(fence f, size_t bytes) { return f.end - bytes; }
+
+/* What a call is given: the problem, and lengths that may be wrong. */
+typedef struct given {
+    uint32_t persons, objects;
+    size_t stride, costs_len, start_len, choice_len, prices_len, hall_len;
+    int64_t none;
+    uint64_t bids;
+    int64_t *costs, *start;
+} given;
+
+typedef struct told {
+    int32_t status;
+    uint32_t choice[MOST], hall[MOST];
+    int64_t prices[MOST];
+    sigdorf_found found;
+} told;
+
+static fence costs_fence, start_fence, choice_fence, prices_fence, hall_fence, found_fence;
+
+static told call_table(const given *g) {
+    told t;
+    uint32_t *choice = before(choice_fence, g->choice_len * sizeof *choice), *hall = before(hall_fence, g->hall_len * sizeof *hall);
+    int64_t *prices = before(prices_fence, g->prices_len * sizeof *prices);
+    sigdorf_found *found = before(found_fence, sizeof *found);
+    memset(choice, 0x55, g->choice_len * sizeof *choice);
+    memset(hall, 0x55, g->hall_len * sizeof *hall);
+    memset(prices, 0x55, g->prices_len * sizeof *prices);
+    memset(found, 0x55, sizeof *found);
+    memset(&t, 0x55, sizeof t);
+    t.status = sigdorf_solve_dense(g->persons, g->objects, g->costs, g->costs_len, g->stride, g->none, g->start, g->start_len, g->bids, choice,
+                                   g->choice_len, prices, g->prices_len, hall, g->hall_len, found);
+    memcpy(t.choice, choice, g->choice_len * sizeof *choice);
+    memcpy(t.hall, hall, g->hall_len * sizeof *hall);
+    memcpy(t.prices, prices, g->prices_len * sizeof *prices);
+    t.found = *found;
+    return t;
+}
+
+/* The same by sigdorf_solve, with places of entries and objects in place of those of arcs. */
+static told call_list(const given *g) {
+    static sigdorf_arc arcs[MOST * MOST];
+    told t;
+    uint32_t objects = g->objects ? g->objects : g->persons, count = 0;
+    for (uint32_t i = 0; i < g->persons; i++)
+        for (uint32_t j = 0; j < objects; j++)
+            if (g->costs[i * g->stride + j] != g->none)
+                arcs[count++] = (sigdorf_arc){g->costs[i * g->stride + j], i, j};
+    memset(&t, 0x55, sizeof t);
+    t.status = sigdorf_solve(g->persons, g->objects, arcs, count, g->start, g->start_len, g->bids, t.choice, g->choice_len, t.prices, g->prices_len,
+                             t.hall, g->hall_len, &t.found);
+    if (t.status == SIGDORF_OPTIMAL || t.status == SIGDORF_BRACKET)
+        for (uint32_t i = 0; i < g->persons; i++)
+            t.choice[i] = arcs[t.choice[i]].object;
+    if (t.status == SIGDORF_REFUSED && t.found.kind == SIGDORF_COST)
+        t.found.place = arcs[t.found.place].person * objects + arcs[t.found.place].object;
+    return t;
+}
+
+/* A problem of so many persons and objects, with all lengths right. */
+static given given_new(uint32_t persons, uint32_t objects, size_t stride) {
+    static int64_t nothing;
+    uint32_t meant = objects ? objects : persons;
+    given g = {persons, objects, stride, (persons - 1) * stride + meant, 0, persons, meant, persons, INT64_MAX, SIGDORF_USUAL_BIDS, NULL, &nothing};
+    g.costs = before(costs_fence, g.costs_len * sizeof *g.costs);
+    return g;
+}
+
+static given given_of(uint32_t persons, uint32_t objects, size_t stride, const int64_t *costs) {
+    given g = given_new(persons, objects, stride);
+    memcpy(g.costs, costs, g.costs_len * sizeof *costs);
+    return g;
+}
+
+static void solves(void) {
+    const int64_t GAP = -7, FAR = INT64_MIN;
+    /* Two persons, three objects, and a place between the rows that nobody looks at. */
+    int64_t costs[] = {1, 2, GAP, FAR, 1, 4, 9};
+    given g = given_of(2, 3, 4, costs);
+    g.none = GAP;
+    told t = call_table(&g);
+    want("optimal", t.status, SIGDORF_OPTIMAL);
+    want("cost", t.found.cost, 3);
+    want("first object", t.choice[0], 1);
+    want("second object", t.choice[1], 0);
+    want("price of nobody's object", t.prices[2], 0);
+    want("untouched", t.found.kind, 0x55555555);
+    want("untouched", t.hall[0], 0x55555555);
+    int64_t start[] = {t.prices[0], t.prices[1], t.prices[2]};
+    g.start = start, g.start_len = 3;
+    want("from its prices", call_table(&g).found.cost, 3);
+    start[1] = -1;
+    t = call_table(&g);
+    want("start", t.status, SIGDORF_START);
+    want("start's fault", t.found.kind, SIGDORF_PRICE);
+    want("start's place", t.found.place, 1);
+    g.start_len = 0, g.bids = 0;
+    t = call_table(&g);
+    want("bracket", t.status, SIGDORF_BRACKET);
+    want("bound", t.found.lower <= 3 && 3 <= t.found.cost, 1);
+    want("objects of a bracket", t.choice[0] + t.choice[1] < 4 && t.choice[0] != t.choice[1] && t.choice[0] != 2, 1);
+    int64_t both[] = {GAP, 1, GAP, FAR, GAP, 1, GAP};
+    g = given_of(2, 3, 4, both);
+    g.none = GAP;
+    t = call_table(&g);
+    want("infeasible", t.status, SIGDORF_INFEASIBLE);
+    want("persons", t.found.persons, 2);
+    want("objects", t.found.objects, 1);
+    want("the object", t.hall[0], 1);
+    int64_t alone[] = {5};
+    g = given_of(1, 0, 1, alone);
+    want("as many objects as persons", call_table(&g).found.cost, 5);
+    g.none = 5;
+    want("no arc at all", call_table(&g).status, SIGDORF_INFEASIBLE);
+}
+
+static void refusals(void) {
+    int64_t costs[12] = {0};
+    given right = given_of(3, 4, 4, costs), g = right;
+    costs[6] = SIGDORF_MOST_COST + 1;
+    g = given_of(3, 4, 4, costs);
+    told t = call_table(&g);
+    want("cost", t.status, SIGDORF_REFUSED);
+    want("its kind", t.found.kind, SIGDORF_COST);
+    want("its place", t.found.place, 6);
+    g.none = SIGDORF_MOST_COST + 1;
+    want("a gap costs nothing", call_table(&g).status, SIGDORF_OPTIMAL);
+    g = given_of(3, 2, 4, costs);
+    want("few objects", call_table(&g).status, SIGDORF_REFUSED);
+    want("their kind", call_table(&g).found.kind, SIGDORF_OBJECTS);
+    g.persons = 0, g.costs_len = 0, g.choice_len = 0, g.hall_len = 0;
+    want("no persons", call_table(&g).found.kind, SIGDORF_PERSONS);
+    right = given_of(3, 4, 4, costs);
+#define SIZES(change) g = right, change, want("sizes: " #change, call_table(&g).status, SIGDORF_SIZES)
+    SIZES(g.choice_len--);
+    SIZES(g.prices_len++);
+    SIZES(g.hall_len--);
+    SIZES(g.costs_len--);
+    SIZES(g.stride++);
+    SIZES(g.stride--);
+    SIZES(g.stride = SIZE_MAX);
+    SIZES(g.stride = SIZE_MAX / 2 + 1);
+    SIZES(g.stride = 0);
+    SIZES(g.costs_len = 0);
+}
+
+static uint64_t seed = 88172645463325252;
+
+static uint32_t below(uint32_t end) {
+    seed ^= seed << 13, seed ^= seed >> 7, seed ^= seed << 17;
+    return (uint32_t)((seed >> 20) % end);
+}
+
+static int64_t some_cost(void) {
+    switch (below(4)) {
+    case 0: return below(3);
+    case 1: return (int64_t)below(200) - 100;
+    case 2: return (int64_t)below(2000000001) - SIGDORF_MOST_COST;
+    default: return below(1000);
+    }
+}
+
+/* A table with gaps of any number, and between its rows numbers that would be refused. */
+static given some_table(uint32_t most) {
+    uint32_t persons = 1 + below(most), objects = persons + (below(2) ? 0 : below(most + 1 - persons));
+    given g = given_new(persons, objects == persons && below(2) ? 0 : objects, objects + (below(2) ? 0 : below(5)));
+    const int64_t gaps[] = {0, 1, -1, INT64_MAX, INT64_MIN, 1000};
+    uint32_t many = below(3) ? 0 : below(100);
+    g.none = gaps[below(6)];
+    for (size_t k = 0; k < g.costs_len; k++)
+        g.costs[k] = k % g.stride >= objects ? INT64_MIN + 1 : below(100) < many ? g.none : some_cost();
+    return g;
+}
+
+static int64_t least;
+
+static void try_each(const given *g, uint32_t objects, uint32_t i, uint32_t taken, int64_t sum) {
+    if (i == g->persons) {
+        if (sum < least)
+            least = sum;
+        return;
+    }
+    for (uint32_t j = 0; j < objects; j++)
+        if (!(taken >> j & 1) && g->costs[i * g->stride + j] != g->none)
+            try_each(g, objects, i + 1, taken | 1u << j, sum + g->costs[i * g->stride + j]);
+}
+
+static void brute_force(int count) {
+    int bad = 0;
+    for (int n = 0; n < count; n++) {
+        given g = some_table(6);
+        told t = call_table(&g);
+        least = INT64_MAX;
+        try_each(&g, g.objects ? g.objects : g.persons, 0, 0, 0);
+        int64_t sum = 0;
+        if (t.status == SIGDORF_OPTIMAL)
+            for (uint32_t i = 0; i < g.persons; i++)
+                sum += g.costs[i * g.stride + t.choice[i]];
+        bad += least == INT64_MAX ? t.status != SIGDORF_INFEASIBLE : t.status != SIGDORF_OPTIMAL || t.found.cost != least || sum != least;
+    }
+    printf("%d small tables beside all their assignments\n", count);
+    want("small tables", bad, 0);
+}
+
+static void beside_lists(int count) {
+    int bad = 0, seen[8] = {0};
+    for (int n = 0; n < count; n++) {
+        given g = some_table(MOST);
+        int64_t *start = before(start_fence, g.prices_len * sizeof *start);
+        if (below(4) == 0) {
+            for (size_t j = 0; j < g.prices_len; j++)
+                start[j] = below(50) ? (int64_t)below(1000000) : (int64_t)below(3) - 1;
+            g.start = start, g.start_len = g.prices_len;
+        }
+        if (below(4) == 0)
+            g.bids = below(20);
+        if (below(8) == 0)
+            g.costs[below((uint32_t)g.costs_len)] = below(2) ? SIGDORF_MOST_COST + 1 : INT64_MIN;
+        told table = call_table(&g), list = call_list(&g);
+        seen[table.status & 7]++;
+        bad += memcmp(&table, &list, sizeof table) != 0;
+    }
+    printf("%d tables beside lists: %d optimal, %d infeasible, %d brackets, %d refused, %d starts\n", count, seen[SIGDORF_OPTIMAL],
+           seen[SIGDORF_INFEASIBLE], seen[SIGDORF_BRACKET], seen[SIGDORF_REFUSED], seen[SIGDORF_START]);
+    want("tables beside lists", bad, 0);
+}
+
+/* As many arcs as there may be, and one more. The start is of no size, so that nothing is solved. */
+static void limits(void) {
+    enum { ROWS = 4096, COLUMNS = 8193 };
+    size_t count = (size_t)ROWS * COLUMNS;
+    int64_t *costs = calloc(count, sizeof *costs), *prices = calloc(COLUMNS, sizeof *prices);
+    uint32_t *choice = calloc(ROWS, sizeof *choice), *hall = calloc(ROWS, sizeof *hall);
+    sigdorf_found found;
+    if (costs == NULL || prices == NULL || choice == NULL || hall == NULL) {
+        printf("skipped: the limits, for want of memory\n");
+        return;
+    }
+#define SOLVE() sigdorf_solve_dense(ROWS, COLUMNS, costs, count, COLUMNS, 1, prices, 1, 1, choice, ROWS, prices, COLUMNS, hall, ROWS, &found)
+    for (size_t k = 0; k < ROWS; k++)
+        costs[2 * k] = 1;
+    want("as many arcs", SOLVE(), SIGDORF_START);
+    costs[0] = 0;
+    want("too many arcs", SOLVE(), SIGDORF_REFUSED);
+    want("their kind", found.kind, SIGDORF_TOO_MANY_ARCS);
+    want("their place", found.place, 0);
+    costs[count - 1] = INT64_MAX;
+    want("a cost behind as many", (SOLVE(), found.kind), SIGDORF_TOO_MANY_ARCS);
+    costs[count - 2] = INT64_MAX;
+    want("a cost among as many", (SOLVE(), found.kind), SIGDORF_COST);
+    want("its place", found.place, (int64_t)count - 2);
+    free(costs), free(prices), free(choice), free(hall);
+}
+
+int main(int words, char **word) {
+    int is_small = words > 1 && strcmp(word[1], "--small") == 0;
+    costs_fence = fence_new(), start_fence = fence_new(), choice_fence = fence_new();
+    prices_fence = fence_new(), hall_fence = fence_new(), found_fence = fence_new();
+    solves();
+    refusals();
+    brute_force(2000);
+    beside_lists(is_small ? 10000 : 100000);
+    if (!is_small)
+        limits();
+    printf("%d passed, %d failed\n", passed, failed);
+    return failed != 0;
+}

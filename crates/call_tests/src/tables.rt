@@ -1,0 +1,139 @@
+//! The call over a table.
+
+use auc_call::{BRACKET, Found, INFEASIBLE, OPTIMAL, REFUSED, SIZES, START, solve_table_call};
+use std::test::*;
+
+/// No arc stands where this number does.
+const GAP: i64 = -7;
+
+/// What stands between rows, and would be refused among the entries.
+const UNSEEN: i64 = i64::MIN;
+
+const NOTHING: Found = Found {
+    cost: 9,
+    lower: 9,
+    persons: 9,
+    objects: 9,
+    kind: 9,
+    place: 9,
+};
+
+/// Two persons and three objects, with a place between their rows: the least cost is 3.
+const TABLE: [i64; 7] = [1, 2, GAP, UNSEEN, 1, 4, 9];
+
+/// What a solve of two persons has told, and what stands in the caller's memory then.
+#[derive(Clone, Copy)]
+struct Behind {
+    status: i32,
+    choice: [u32; 2],
+    prices: [i64; 3],
+    objects: [u32; 2],
+    found: Found,
+}
+
+/// Solves a table of two persons and three objects.
+fn solved(
+    rt: &HostRuntime,
+    costs: &[i64],
+    stride: usize,
+    none: i64,
+    start: &[i64],
+    bids: u64,
+) -> Behind {
+    let (mut choice, mut prices, mut objects, mut found) = ([7; 2], [7; 3], [7; 2], NOTHING);
+    let status = solve_table_call(
+        rt.alloc(),
+        2,
+        3,
+        costs,
+        stride,
+        none,
+        start,
+        bids,
+        &mut choice,
+        &mut prices,
+        &mut objects,
+        &mut found,
+    );
+    Behind {
+        status,
+        choice,
+        prices,
+        objects,
+        found,
+    }
+}
+
+/// From nothing, and from the prices that stand then.
+#[test]
+fn optimal(rt: HostRuntime) {
+    let told = solved(&rt, &TABLE, 4, GAP, &[], 1000);
+    assert_eq!(rt;
+        (told.status, told.choice[0], told.choice[1], told.objects[0]),
+        (OPTIMAL, 1, 0, 7)
+    );
+    assert_eq!(rt; (told.found.cost, told.found.kind), (3, 9));
+    let prices = told.prices;
+    let again = solved(&rt, &TABLE, 4, GAP, &prices, 1000);
+    assert_eq!(rt;
+        (again.status, again.choice[0], again.choice[1]),
+        (OPTIMAL, 1, 0)
+    );
+    assert_eq!(rt; again.found.cost, 3);
+}
+
+#[test]
+fn bracket_and_start(rt: HostRuntime) {
+    let told = solved(&rt, &TABLE, 4, GAP, &[], 0);
+    assert_eq!(rt; (told.status, told.found.kind), (BRACKET, 1));
+    assert!(rt; told.found.lower <= 3 && 3 <= told.found.cost);
+    assert!(rt; told.choice[0] < 2 && told.choice[1] < 3 && told.choice[0] != told.choice[1]);
+    let told = solved(&rt, &TABLE, 4, GAP, &[0, 0, -1], 9);
+    assert_eq!(rt;
+        (told.status, told.found.kind, told.found.place),
+        (START, 3, 2)
+    );
+}
+
+/// Both know the second object alone.
+#[test]
+fn infeasible(rt: HostRuntime) {
+    let told = solved(&rt, &[GAP, 1, GAP, GAP, 1, GAP], 3, GAP, &[], 1000);
+    assert_eq!(rt;
+        (told.status, told.choice[0], told.choice[1]),
+        (INFEASIBLE, 0, 1)
+    );
+    assert_eq!(rt; (told.found.persons, told.found.objects), (2, 1));
+    assert_eq!(rt; (told.objects[0], told.objects[1]), (1, 7));
+}
+
+/// The second entry of the second row, whatever the stride.
+#[test]
+fn refused(rt: HostRuntime) {
+    let far = 1_000_000_001;
+    let told = solved(&rt, &[1, 2, GAP, UNSEEN, 1, far, 9], 4, GAP, &[], 9);
+    assert_eq!(rt;
+        (told.status, told.found.kind, told.found.place),
+        (REFUSED, 6, 4)
+    );
+    let told = solved(&rt, &[1, 2, GAP, 1, far, 9], 3, GAP, &[], 9);
+    assert_eq!(rt;
+        (told.status, told.found.kind, told.found.place),
+        (REFUSED, 6, 4)
+    );
+    let told = solved(&rt, &[1, 2, 0, 1, far, 9], 3, far, &[], 1000);
+    assert_eq!(rt; (told.status, told.found.cost), (OPTIMAL, 1));
+    assert_eq!(rt; (told.choice[0], told.choice[1]), (2, 0));
+}
+
+#[test]
+fn sizes(rt: HostRuntime) {
+    let short = solved(&rt, &[1, 2, GAP, UNSEEN, 1, 4], 4, GAP, &[], 9);
+    assert_eq!(rt;
+        (short.status, short.choice[0], short.found.kind),
+        (SIZES, 7, 9)
+    );
+    assert_eq!(rt; solved(&rt, &TABLE, 2, GAP, &[], 9).status, SIZES);
+    assert_eq!(rt; solved(&rt, &TABLE, 5, GAP, &[], 9).status, SIZES);
+    assert_eq!(rt; solved(&rt, &TABLE, usize::MAX, GAP, &[], 9).status, SIZES);
+}

@@ -9,6 +9,7 @@ import numpy
 
 # The bits of a float's fraction, and the unit in which each float is whole.
 BITS_OF_FLOAT, FINEST = 53, 1074
+FEW = 60
 
 
 def unit_of(costs):
@@ -34,6 +35,11 @@ def in_units(costs, unit):
 
 def exact_sum(costs):
     """The sum of the costs, as a Fraction."""
+    if costs.size <= FEW and costs.dtype.kind == "f":
+        # Of few numbers Python's own arithmetic is sooner done than numpy's calls.
+        parts = [number.as_integer_ratio() for number in costs.tolist()]
+        below = max((part[1] for part in parts), default=1)
+        return fractions.Fraction(sum(part[0] * (below // part[1]) for part in parts), below)
     unit = unit_of(costs)
     return fractions.Fraction(int(in_units(costs, unit).sum()) if costs.size else 0, 1 << unit)
 

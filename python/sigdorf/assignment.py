@@ -7,6 +7,7 @@ from numpy.typing import ArrayLike
 from .arguments import INT64, MOST_BIDS, number, whole_numbers
 from .claims import check_claim
 from .exact import Answer
+from .fast import solution_of
 from .library import START_FAULTS, USUAL_BIDS
 from .matrices import entries_of
 from .problem import Lists, Problem
@@ -54,6 +55,10 @@ def solve(
     Raises Infeasible where there is no full assignment, ValueError where an argument is at fault (a masked array among them), and MemoryError.
     KeyboardInterrupt gets away from a long call at once; the search itself runs on to its end in a thread of its own, unseen.
     """
+    if columns is None and costs is None and shape is None and start is None and decimals is None and bids is USUAL_BIDS:
+        found = solution_of(rows, maximize) if maximize is True or maximize is False else None
+        if found is not None:
+            return found
     problem = _problem_of(rows, columns, costs, shape, maximize, decimals)
     return problem.solution(answer_of(problem, _start_of(problem, start), bids))
 

@@ -61,3 +61,21 @@ def combined(levels):
         some = numpy.flatnonzero(numbers)
         total[some] += numbers[some].astype(object) << (unit - own)
     return total, unit
+
+
+def priced(persons, objects, answer):
+    """The prices of an answer and their scale, of which persons + 1 are one of the least units."""
+    numbers, unit = answer.levels[0][0], 0
+    if len(answer.levels) > 1 or answer.levels[0][1] != 0:
+        numbers, unit = combined(answer.levels)
+        if persons == objects:
+            numbers = numbers - min(numbers)
+    numbers = numbers * ((persons + 1) // answer.scale)
+    return narrow(numbers), (persons + 1) << unit
+
+
+def narrow(numbers):
+    """Whole numbers as int64 where they are all within it, else as they are."""
+    if numbers.dtype != object or numbers.size and not -(2**63) <= min(numbers) <= max(numbers) < 2**63:
+        return numbers
+    return numbers.astype(numpy.int64)

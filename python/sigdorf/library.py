@@ -12,6 +12,8 @@ ARC = numpy.dtype([("cost", "<i8"), ("person", "<u4"), ("object", "<u4")])
 OPTIMAL, SIZES, INFEASIBLE, BRACKET, REFUSED, MEMORY, START = 0, 2, 3, 4, 5, 6, 7
 INVALID = INFEASIBLE
 USUAL_BIDS = 100_000_000
+# A call with fewer arcs ends so soon that a thread of its own isn't worth its time.
+FEWEST = 2_000
 LIST_FAULTS = {
     1: "the smaller side of the problem must number 1 to 10,000",
     2: "the larger side of the problem must number 20,000 at most",
@@ -66,6 +68,12 @@ def _load():
 _library = _load()
 
 
+def address_of(name):
+    """Where a call of the library is, or None where the library has none of this name."""
+    call = getattr(_library, name, None)
+    return None if call is None else ctypes.cast(call, ctypes.c_void_p).value
+
+
 def _own(numbers, kind):
     """Numbers as C takes them: one after another, of this type, and in memory that no other thread writes meanwhile."""
     return numpy.array(numbers, kind, order="C")
@@ -94,7 +102,7 @@ def solve_arcs(persons, objects, arcs, start, bids):
     start = _own(start, numpy.int64)
     choice, hall_objects = numpy.zeros(persons, numpy.uint32), numpy.zeros(persons, numpy.uint32)
     prices, found = numpy.zeros(objects, numpy.int64), Found()
-    status = call_waiting(len(arcs), _solve, persons, objects, (arcs, start), bids, (choice, prices, hall_objects), found)
+    status = call_waiting(len(arcs) >= FEWEST, _solve, persons, objects, (arcs, start), bids, (choice, prices, hall_objects), found)
     if status not in (OPTIMAL, INFEASIBLE, BRACKET):
         _refuse(status, found)
     return status, choice, prices, hall_objects, found

@@ -67,7 +67,8 @@ def _wide(costs):
     return costs.astype(numpy.int64)
 
 
-def _dense(matrix, none, names):
+def numbers_of(matrix):
+    """A dense matrix as an array of numbers."""
     numbers = array_of(matrix, "the matrix", MOST_OBJECTS)
     if numbers.dtype.kind not in KINDS:
         raise Mistyped(f"Cannot cast array data from {numbers.dtype!r} to dtype('float64') according to the rule 'safe'")
@@ -75,6 +76,11 @@ def _dense(matrix, none, names):
         raise ValueError(f"expected a matrix (2-D array), got a {numbers.ndim} array")
     look_at_sides(numbers.shape)
     look_at_rounding(matrix, numbers)
+    return numbers
+
+
+def _dense(matrix, none, names):
+    numbers = numbers_of(matrix)
     is_entry = _are_entries(numbers, none, lambda place: names.told(*divmod(place, numbers.shape[1])))
     # Lists of entries take far more memory than a matrix may.
     if (numbers.size if is_entry is None else numpy.count_nonzero(is_entry)) > MOST_ENTRIES:

@@ -3,7 +3,7 @@ import numpy
 
 from .arguments import MOST_ENTRIES, MOST_INDEX, MOST_OBJECTS, MOST_PERSONS, array_of, number, sides_of, truth, whole_numbers
 from .costs import KINDS, MOST_DECIMALS, DecimalCosts, costs_of, look_at_rounding
-from .exact import combined, solve_costs
+from .exact import priced, solve_costs
 from .faults import Infeasible
 from .library import LIST_FAULTS
 from .solution import Solution
@@ -103,18 +103,8 @@ class Problem:
         bound = cost - self.sign * answer.gap
         shown = self.costs.shown(cost)
         told = self.costs.shown_bound(bound) if answer.gap else shown
-        prices, scale = self.priced(answer)
-        return Solution(rows, columns, entries, shown, told, prices, scale, cost, answer.gap or 0, self.labels(rows, columns))
-
-    def priced(self, answer):
-        """The prices of an answer on their scale, of which persons + 1 are one of the least units."""
-        numbers, unit = answer.levels[0][0], 0
-        if len(answer.levels) > 1 or answer.levels[0][1] != 0:
-            numbers, unit = combined(answer.levels)
-            if self.persons == self.objects:
-                numbers = numbers - min(numbers)
-        numbers = numbers * ((self.persons + 1) // answer.scale)
-        return narrow(numbers), (self.persons + 1) * self.decimal_scale << unit
+        prices, scale = priced(self.persons, self.objects, answer)
+        return Solution(rows, columns, entries, shown, told, prices, scale * self.decimal_scale, cost, answer.gap or 0, self.labels(rows, columns))
 
 
 def look_at_sides(sides):
@@ -131,10 +121,3 @@ def _numbers(costs):
         raise ValueError("costs must be one list of numbers")
     look_at_rounding(costs, numbers)
     return numbers
-
-
-def narrow(numbers):
-    """Whole numbers as int64 where they are all within it, else as they are."""
-    if numbers.dtype != object or numbers.size and not -(2**63) <= min(numbers) <= max(numbers) < 2**63:
-        return numbers
-    return numbers.astype(numpy.int64)

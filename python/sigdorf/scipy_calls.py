@@ -5,9 +5,10 @@ import warnings
 import numpy
 
 from .assignment import answer_of
+from .fast import pairs_of
 from .faults import Mistyped, Unsettled
 from .library import USUAL_BIDS
-from .matrices import entries_of, is_sparse
+from .matrices import entries_of, is_sparse, numbers_of
 from .problem import Lists, Problem
 from .tables import NUMBERS
 
@@ -24,6 +25,13 @@ def linear_sum_assignment(
     Raises what :func:`solve` does, and Unsettled where a limit ended the search before the least cost was found. A cost that is NaN or
     infinite the other way is a ValueError, and a matrix of what aren't numbers a :class:`~.faults.Mistyped`.
     """
+    if decimals is None and bids is USUAL_BIDS and (maximize is True or maximize is False):
+        if type(cost_matrix) is not numpy.ndarray and not is_sparse(cost_matrix):
+            # One way for all dense matrices: of several least assignments a list is to get that of the array.
+            cost_matrix = numbers_of(cost_matrix)
+        found = pairs_of(cost_matrix, maximize)
+        if found is not None:
+            return found
     return _pairs(entries_of(cost_matrix, maximize), maximize, decimals, bids, "cost matrix is infeasible")
 
 

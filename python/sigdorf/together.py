@@ -11,8 +11,8 @@ import numpy
 from .amounts import in_units, nearest_float, unit_of
 from .assignment import answer_of
 from .costs import KINDS, are_small
-from .exact import combined
-from .problem import Lists, Problem, narrow
+from .exact import combined, narrow
+from .problem import Lists, Problem
 from .solution import Solution
 from .whole import whole_prices
 

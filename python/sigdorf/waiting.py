@@ -1,17 +1,14 @@
 """Long calls of the library, from which Ctrl-C gets its caller away at once."""
 import threading
 
-# A call with fewer arcs ends so soon that a thread of its own isn't worth its time.
-FEWEST = 2_000
 
-
-def call_waiting(count, call, *arguments):
-    """What a call answers, of so many arcs. A long one from the main thread is made by another thread, while this one waits for it.
+def call_waiting(is_long, call, *arguments):
+    """What a call answers. A long one from the main thread is made by another thread, while this one waits for it.
 
     KeyboardInterrupt is raised in the main thread alone, and not within a call of C. So it is raised here at once; the call itself can't be
     stopped, and runs on to its end, unseen, with the memory that it has. The thread holds the arguments, so that nothing is freed below it.
     """
-    if count < FEWEST or threading.current_thread() is not threading.main_thread():
+    if not is_long or threading.current_thread() is not threading.main_thread():
         return call(*arguments)
     done, answers = threading.Event(), []
 

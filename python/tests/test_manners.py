@@ -14,14 +14,19 @@ try:
 except ImportError:
     pandas = None
 
-# A search that takes three seconds of the library's, for a table that is long enough to be waited for.
+# A search that takes three seconds of the library's, for a table that is long enough to be waited for. The extension calls the library by address.
 LONG = """
 import ctypes, time, numpy, sigdorf
-from sigdorf import library
-library._library.sigdorf_solve = lambda *_: ctypes.CDLL(None).usleep(3_000_000)
+from sigdorf import fast, library
+sleep = lambda *_: ctypes.CDLL(None).usleep(3_000_000)
+library._library.sigdorf_solve = sleep
+call = ctypes.CFUNCTYPE(ctypes.c_int32)(sleep)
+address = ctypes.cast(call, ctypes.c_void_p).value
+if fast.is_there():
+    fast._extension.bind(address, address)
 try:
     print("begun", flush=True)
-    sigdorf.linear_sum_assignment(numpy.ones((100, 100)))
+    sigdorf.linear_sum_assignment(numpy.ones((300, 300)))
 except KeyboardInterrupt:
     # At once, since the thread that still sleeps may end the interpreter's end early, where the signal woke it.
     print(time.monotonic(), flush=True)

@@ -1,0 +1,188 @@
+"""The extension: the same answers as without it, from every layout and type, and what it leaves to Python."""
+import concurrent.futures
+import contextlib
+import ctypes
+import gc
+import sys
+import tracemalloc
+import unittest
+import unittest.mock
+
+from limited import Limited, numpy, sigdorf
+
+if numpy:
+    import floats
+    from sigdorf import fast
+    from sigdorf.amounts import exact_sum
+
+KINDS = ("i1", "u1", "i2", "u2", "i4", "u4", "i8", "u8", "?", "f4", "f8", ">i4", ">f8", "f2", "g")
+
+
+def layouts(matrix):
+    """The matrix in other strides, of which the last isn't aligned."""
+    yield numpy.ascontiguousarray(matrix)
+    yield numpy.asfortranarray(matrix)
+    yield matrix[::-1].copy()[::-1]
+    yield numpy.repeat(matrix, 3, 0)[::3]
+    yield numpy.repeat(matrix, 2, 1)[:, ::2]
+    yield numpy.hstack([matrix, matrix])[:, : matrix.shape[1]]
+    room = numpy.zeros(matrix.nbytes + 1, "u1")[1:].view(matrix.dtype).reshape(matrix.shape)
+    room[:] = matrix
+    yield room
+
+
+def sum_of(matrix, pairs):
+    chosen = matrix[pairs]
+    return exact_sum(chosen.astype(numpy.float64)) if chosen.dtype.kind == "f" else sum(map(int, chosen))
+
+
+@contextlib.contextmanager
+def without():
+    with unittest.mock.patch.object(fast, "_extension", None):
+        yield
+
+
+class Fast(Limited):
+    def setUp(self):
+        super().setUp()
+        if not fast.is_there():
+            self.skipTest("the extension isn't used")
+
+    def test_types_and_layouts(self):
+        random = numpy.random.default_rng(1)
+        for shape in [(1, 1), (4, 4), (3, 7), (7, 3), (50, 50), (60, 45)]:
+            for kind in KINDS:
+                matrix = random.integers(0, 100, shape).astype(kind)
+                for maximize in (False, True):
+                    with without():
+                        wanted = sum_of(matrix, sigdorf.linear_sum_assignment(matrix, maximize))
+                    for given in layouts(matrix):
+                        with self.subTest(shape=shape, kind=kind, strides=given.strides):
+                            pairs = sigdorf.linear_sum_assignment(given, maximize)
+                            self.assertEqual((sum_of(matrix, pairs), pairs[0].dtype, pairs[1].dtype), (wanted, numpy.int64, numpy.int64))
+                            self.assertTrue((numpy.diff(pairs[0]) > 0).all() and len(set(pairs[1].tolist())) == min(shape))
+                            solution = sigdorf.solve(given, maximize=maximize)
+                            self.assertEqual(solution.exact_cost, wanted)
+                            sigdorf.check(solution, matrix, maximize=maximize)
+
+    def test_kinds_of_costs(self):
+        """Solutions as without the extension: cost, exact cost and types; and a check lets them pass."""
+        random = numpy.random.default_rng(2)
+        for number in range(400):
+            matrix = floats.KINDS[number % len(floats.KINDS)](random, tuple(random.integers(1, 9, 2)))
+            if number % 3 == 0 and matrix.dtype.kind == "f":
+                matrix = numpy.where(random.random(matrix.shape) < 0.1, numpy.inf, matrix)
+            with self.subTest(number=number):
+                with without():
+                    wanted = self.outcome(matrix)
+                found = self.outcome(matrix)
+                self.assertEqual(found[:3], wanted[:3])
+                if isinstance(found[-1], sigdorf.Solution):
+                    sigdorf.check(found[-1], matrix)
+                    self.assertEqual(found[-1].prices.dtype, wanted[-1].prices.dtype)
+
+    def outcome(self, matrix):
+        try:
+            solution = sigdorf.solve(matrix)
+        except sigdorf.Infeasible as fault:
+            return str(fault), None, None
+        return solution.exact_cost, solution.cost, type(solution.cost), solution
+
+    def test_numbers_at_the_ends(self):
+        for value in (10**9, 10**9 + 1, -(10**9) - 1, 2**63 - 1, -(2**63)):
+            self.assertEqual(sigdorf.solve(numpy.array([[value, 0], [0, value]]), maximize=value < 0).cost, 0)
+        self.assertEqual(sigdorf.solve(numpy.array([[2**64 - 1, 0], [0, 2**64 - 10**9]], numpy.uint64)).cost, 0)
+        for value in (5e-324, 1e308, 1e-300, 2.0**1000):
+            self.assertEqual(sigdorf.solve(numpy.array([[value, 0.0], [value / 2, value]])).exact_cost, sum_of(numpy.array([[value / 2]]), ([0], [0])))
+
+    def test_entries_among_gaps(self):
+        matrix = numpy.array([[numpy.inf, 1.5, 2], [1, numpy.inf, 7], [numpy.inf, 3, 2.5], [9, 9, numpy.inf]])
+        for given in (matrix, matrix.T.copy(), matrix * 2, matrix.T * 2):
+            solution = sigdorf.solve(given)
+            entries = numpy.argwhere(numpy.isfinite(given))
+            self.assertEqual(entries[solution.entries].tolist(), list(map(list, zip(solution.rows.tolist(), solution.columns.tolist()))))
+            sigdorf.check(solution, given)
+
+    def test_lists_as_arrays(self):
+        """Of several least assignments a list gets that of the array."""
+        random = numpy.random.default_rng(3)
+        for _ in range(50):
+            matrix = random.integers(0, 3, (6, 6))
+            self.assertEqual(*(sigdorf.linear_sum_assignment(given)[1].tolist() for given in (matrix, matrix.tolist())))
+
+    def test_what_it_leaves(self):
+        extension = fast._extension
+        for matrix in [numpy.zeros((0, 3)), numpy.zeros(3), numpy.zeros((2, 2, 2)), numpy.zeros((2, 2), complex), numpy.zeros((2, 2), object), numpy.eye(1).view(type('Own', (numpy.ndarray,), {})), numpy.ma.array([[1]]), [[1]], None,
+                       numpy.array([[numpy.nan]]), numpy.array([[-numpy.inf]]), numpy.array([[numpy.inf]]), numpy.array([[10**9 + 1]]), numpy.zeros((1, 2), [("a", "i8")]), numpy.zeros((1, 1), "M8[s]"),
+                       numpy.broadcast_to(numpy.int8(0), (10**9, 10**9)), numpy.zeros((1, 1), "S1"), numpy.zeros((1, 1), "U1"), numpy.zeros((1, 1), "V8")]:
+            with self.subTest(kind=type(matrix), dtype=getattr(matrix, "dtype", None)):
+                self.assertIsNone(extension.pairs(matrix, False))
+                self.assertIsNone(extension.solved(matrix, False))
+                self.assertEqual(extension.solved_all([matrix], False), [None])
+        matrix = numpy.eye(2)
+        for arguments in [(), (matrix,), (matrix, 1), (matrix, None), (matrix, False, 1)]:
+            for call in (extension.pairs, extension.solved, extension.solved_all):
+                with self.assertRaises(TypeError):
+                    call(*arguments)
+        for arguments in [(), (1,), (0, 1), (1, 0), ("1", 1), (1, None)]:
+            with self.assertRaises((TypeError, ValueError)):
+                extension.bind(*arguments)
+
+    def test_other_statuses(self):
+        """Whatever the library answers but a least assignment is looked at by Python."""
+        kind = ctypes.CFUNCTYPE(ctypes.c_int32)
+        real = fast.address_of("sigdorf_solve_dense"), fast.address_of("sigdorf_solve")
+        matrix = numpy.array([[1.5, 2.25], [1.1, 4.7]])
+        for status in (2, 3, 4, 5, 6, 7, 99):
+            call = kind(lambda: status)
+            address = ctypes.cast(call, ctypes.c_void_p).value
+            for dense, arcs in ((address, real[1]), (address, address)):
+                fast._extension.bind(dense, arcs)
+                try:
+                    self.assertIsNone(fast._extension.pairs(matrix, False))
+                    self.assertEqual(sigdorf.linear_sum_assignment(matrix)[1].tolist(), [1, 0])
+                    self.assertEqual(sigdorf.solve_many([matrix] * 3, 1)[2].columns.tolist(), [1, 0])
+                finally:
+                    fast._extension.bind(*real)
+
+    def test_memory(self):
+        """Nothing is kept of what a call has seen or made."""
+        random = numpy.random.default_rng(4)
+        matrices = [random.random((9, 9)), random.integers(0, 9, (9, 9)), numpy.full((3, 3), numpy.inf), floats.levels(random, (8, 8)), floats.any_exponents(random, (6, 6)), random.random((60, 70))]
+        counts = [sys.getrefcount(matrix) for matrix in matrices]
+        tracemalloc.start()
+        try:
+            for turn in range(300):
+                if turn == 100:
+                    gc.collect()
+                    before = tracemalloc.get_traced_memory()[0]
+                for matrix in matrices:
+                    fast._extension.pairs(matrix, False)
+                    fast._extension.solved(matrix, True)
+                fast._extension.solved_all(matrices, False)
+            gc.collect()
+            self.assertLess(tracemalloc.get_traced_memory()[0] - before, 20_000)
+        finally:
+            tracemalloc.stop()
+        del matrix
+        self.assertEqual([sys.getrefcount(matrix) for matrix in matrices], counts)
+
+    def test_results_are_the_callers(self):
+        matrix = numpy.eye(3, dtype=int)
+        first = sigdorf.linear_sum_assignment(matrix)
+        for side in first:
+            self.assertTrue(side.flags.writeable and side.flags.owndata)
+            side[:] = 7
+        self.assertEqual(matrix[sigdorf.linear_sum_assignment(matrix)].sum(), 0)
+
+    def test_threads(self):
+        random = numpy.random.default_rng(5)
+        matrices = [random.random((side, side)) for side in (5, 20, 60, 300) for _ in range(6)]
+        wanted = [sigdorf.linear_sum_assignment(matrix)[1].tolist() for matrix in matrices]
+        with concurrent.futures.ThreadPoolExecutor(6) as pool:
+            for _ in range(5):
+                self.assertEqual([pairs[1].tolist() for pairs in pool.map(sigdorf.linear_sum_assignment, matrices)], wanted)
+
+
+if __name__ == "__main__":
+    unittest.main()

@@ -13,6 +13,12 @@ that together know too few columns. Where a limit ended the search, `solve` answ
 SciPy's names raise Unsettled, which holds it. An argument that is at fault is a ValueError. What is proved is the library that these functions
 call; this module itself is only tested.
 """
+try:
+    import numpy
+except ModuleNotFoundError:
+    raise ModuleNotFoundError("sigdorf wants numpy: pip install numpy, or Debian's python3-numpy", name="numpy") from None
+del numpy
+
 from .assignment import check, solve
 from .faults import Infeasible, Mistyped, Refused, Unsettled
 from .gated import Match, lapjv, match

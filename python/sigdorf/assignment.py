@@ -1,4 +1,6 @@
 """Assignments of rows to columns."""
+import functools
+import time
 import typing
 
 import numpy
@@ -11,6 +13,7 @@ from .fast import solution_of
 from .library import START_FAULTS, USUAL_BIDS
 from .matrices import entries_of
 from .problem import Lists, Problem
+from .slices import Slices, answer_in_slices, look_at_progress, seconds_of
 from .solution import Solution
 from .tables import named
 
@@ -27,8 +30,10 @@ def solve(
     decimals: int | None = None,
     start: ArrayLike | None = None,
     bids: int = USUAL_BIDS,
+    seconds: float | None = None,
+    progress: typing.Callable[[typing.Any, typing.Any], typing.Any] | None = None,
 ) -> Solution:
-    """An assignment and a bound: of least cost where `is_optimal` says so, and else the best that the bids sufficed for.
+    """An assignment and a bound: of least cost where `is_optimal` says so, and else the best that the bids or the time sufficed for.
 
     Look at `is_optimal` of the :class:`Solution`: where it is False, a limit ended the search, and another assignment may cost less, down to
     `bound`. Where it is True, the prices of the solution show that none does.
@@ -48,6 +53,10 @@ def solve(
     start: the prices of an earlier solution of as many rows and columns, from which a run may be shorter, on the scale of whole costs times
         the smaller side + 1 (of decimals, 10^decimals times that). They may be wrong: any from 0 to 2^60.
     bids: how many bids a phase may take, from 0 to 2^64 - 1.
+    seconds: a limit of time, from 0. Behind it comes what was found by then: no fault, but a solution whose `is_optimal` is False. The search is
+        made in slices, each from the beginning again with four times as many bids or more. The first answer takes as long as it takes to read
+        the entries and to find any assignment, whatever the limit. docs/LIBRARY.md says how late it may be.
+    progress: is called after each slice with the bound and the cost of the best so far, as the solution will have them.
 
     In place of the lists there may be one table: a matrix, dense (what is infinite is no entry) or sparse (what isn't stored is none), or a
     table with `index`, `columns` and `to_numpy`, such as pandas' DataFrame, whose names are in the solution's `labels` and in every fault.
@@ -55,12 +64,20 @@ def solve(
     Raises Infeasible where there is no full assignment, ValueError where an argument is at fault (a masked array among them), and MemoryError.
     KeyboardInterrupt gets away from a long call at once; the search itself runs on to its end in a thread of its own, unseen.
     """
-    if columns is None and costs is None and shape is None and start is None and decimals is None and bids is USUAL_BIDS:
+    began = time.monotonic()
+    is_sliced = not (seconds is None and progress is None)
+    if columns is None and costs is None and shape is None and start is None and decimals is None and bids is USUAL_BIDS and not is_sliced:
         found = solution_of(rows, maximize) if maximize is True or maximize is False else None
         if found is not None:
             return found
+    seconds = seconds_of(seconds)
+    look_at_progress(progress)
     problem = _problem_of(rows, columns, costs, shape, maximize, decimals)
-    return problem.solution(answer_of(problem, _start_of(problem, start), bids))
+    start, bids = _start_of(problem, start), number(bids, "bids", 0, MOST_BIDS)
+    if not is_sliced:
+        return problem.solution(answer_of(problem, start, bids))
+    slices = Slices(problem, seconds, bids, began)
+    return problem.solution(answer_in_slices(problem, functools.partial(answer_of, problem, start), slices, progress))
 
 
 def _problem_of(rows, columns, costs, shape, maximize, decimals):

@@ -129,6 +129,15 @@ class Told(Limited):
             self.assertTrue(getattr(sigdorf, name).__doc__ or name == "USUAL_BIDS")
 
 
+class Wanting(unittest.TestCase):
+    def test_without_numpy(self):
+        """One sentence says what to install."""
+        program = "import sys; sys.modules['numpy'] = None; import sigdorf"
+        done = subprocess.run([sys.executable, "-B", "-c", program], capture_output=True, text=True)
+        self.assertEqual(done.stderr.splitlines()[-1], "ModuleNotFoundError: sigdorf wants numpy: pip install numpy, or Debian's python3-numpy")
+        self.assertLess(len(done.stderr.splitlines()), 8)
+
+
 class Interrupted(Limited):
     def test_keyboard(self):
         """Ctrl-C raises at once, though the library's call goes on."""

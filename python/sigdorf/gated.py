@@ -9,10 +9,14 @@ from .amounts import exact_sum, nearest_float
 from .arguments import MOST_OBJECTS, attempt, is_whole, truth
 from .assignment import answer_of, lists_of
 from .costs import costs_of
+from .fast import is_there, pairs_of
 from .faults import Unsettled
 from .library import USUAL_BIDS
 from .problem import Lists, Problem
 from .scipy_calls import linear_sum_assignment
+
+# Types of which each number is a float of 64 bits, and up to where each whole number is.
+EXACT_AS_FLOATS, MOST_EXACT = tuple(map(numpy.dtype, ("f8", "f4", "i4", "i2", "i1", "u4", "u2", "u1"))), 2**53
 
 
 class Match(typing.NamedTuple):
@@ -56,6 +60,10 @@ def match(
 
     Raises ValueError where an argument is at fault, and Unsettled where a limit of the search ended it.
     """
+    if rows is None and columns is None and shape is None and bids is USUAL_BIDS:
+        found = _match_of_array(costs, limit, maximize)
+        if found is not None:
+            return found
     lists = lists_of(costs, None, None, shape, maximize) if rows is None and columns is None else lists_of(rows, columns, costs, shape, maximize)
     if sum(lists.sides) > MOST_OBJECTS:
         raise ValueError(f"rows and columns must number {MOST_OBJECTS:,} at most together")
@@ -68,6 +76,39 @@ def match(
     if answer.gap:
         raise Unsettled(problem.solution(answer))
     return _without_outlets(lists, some[answer.choice[answer.choice < len(some)]])
+
+
+def _match_of_array(costs, limit, maximize):
+    """The Match of an array by the extension, or None where it has to be looked at closer."""
+    is_plain = type(costs) is numpy.ndarray and costs.ndim == 2 and costs.dtype in EXACT_AS_FLOATS and 0 < costs.size and sum(costs.shape) <= MOST_OBJECTS
+    if not (is_there() and is_plain and type(limit) in (int, float) and abs(limit) <= MOST_EXACT and type(maximize) is bool):
+        return None
+    by_columns = costs.shape[0] > costs.shape[1]
+    sides = sorted(costs.shape)
+    found = pairs_of(_gated(costs.T if by_columns else costs, limit, maximize), maximize)
+    if found is None:
+        return None
+    some = found[1] < sides[1]
+    held = found[0][some], found[1][some]
+    free = [numpy.flatnonzero(numpy.bincount(numbers, minlength=side) == 0) for numbers, side in zip(held, sides)]
+    if by_columns:
+        order = numpy.argsort(held[1])
+        held, free = (held[1][order], held[0][order]), free[::-1]
+    return Match(*held, *free, costs[held])
+
+
+def _gated(costs, limit, maximize):
+    """The table of these costs without those beyond the limit, and a way out for each row that is its own and costs the limit."""
+    rows, columns = costs.shape
+    none = -math.inf if maximize else math.inf
+    table = numpy.full((rows, columns + rows), none)
+    near = table[:, :columns]
+    # What is no number stays so, and is found later.
+    with numpy.errstate(all="ignore"):
+        near[:] = costs
+        near[near < limit if maximize else near > limit] = none
+    table.ravel()[columns :: columns + rows + 1] = limit
+    return table
 
 
 def _of_one_kind(costs, limit):

@@ -54,8 +54,11 @@ def _path():
     raise ImportError("libsigdorf.so isn't there: make it by c/build, or name it in the variable SIGDORF_LIBRARY")
 
 
+PATH = _path()
+
+
 def _load():
-    library = ctypes.CDLL(_path())
+    library = ctypes.CDLL(PATH)
     number, pointer, size, found = ctypes.c_uint32, ctypes.c_void_p, ctypes.c_size_t, ctypes.POINTER(Found)
     problem = [number, number, pointer, size]
     library.sigdorf_solve.argtypes = [*problem, pointer, size, ctypes.c_uint64, *[pointer, size] * 3, found]

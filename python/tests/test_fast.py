@@ -3,6 +3,9 @@ import concurrent.futures
 import contextlib
 import ctypes
 import gc
+import os
+import pathlib
+import subprocess
 import sys
 import tracemalloc
 import unittest
@@ -12,7 +15,7 @@ from limited import Limited, numpy, sigdorf
 
 if numpy:
     import floats
-    from sigdorf import fast
+    from sigdorf import fast, library
     from sigdorf.amounts import exact_sum
 
 KINDS = ("i1", "u1", "i2", "u2", "i4", "u4", "i8", "u8", "?", "f4", "f8", ">i4", ">f8", "f2", "g")
@@ -182,6 +185,17 @@ class Fast(Limited):
         with concurrent.futures.ThreadPoolExecutor(6) as pool:
             for _ in range(5):
                 self.assertEqual([pairs[1].tolist() for pairs in pool.map(sigdorf.linear_sum_assignment, matrices)], wanted)
+
+    def test_sanitized(self):
+        """Few of the calls of `sanitized`."""
+        done = subprocess.run([sys.executable, "-B", pathlib.Path(__file__).with_name("sanitized"), "1000"], env=self.with_library(), capture_output=True, text=True)
+        told = done.stdout.splitlines()
+        if told[-1:] == ["0 passed, 0 failed"]:
+            self.skipTest(told[-2])
+        self.assertEqual((done.returncode, told[-1:]), (0, ["1000 passed, 0 failed"]), done.stdout + done.stderr)
+
+    def with_library(self):
+        return os.environ | {"SIGDORF_LIBRARY": library.PATH}
 
 
 if __name__ == "__main__":

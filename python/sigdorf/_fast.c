@@ -27,6 +27,8 @@
 #define PLENTY (INT64_C(1) << 31)
 /* With fewer entries a call holds the lock: what giving it up costs would count, and a copy. */
 #define FEWEST 2000
+/* So often a round looks for prices at which its choices stay, before it has the library look for other choices. */
+#define MOST_PASSES 32
 /* A block of working memory of this size at most is kept for the next call. */
 #define MOST_KEPT ((size_t)1 << 18)
 
@@ -491,12 +493,40 @@ static int solve_near(level *l, nearby *r, int64_t gap) {
     return 0;
 }
 
+/* Looks for prices at which the choices of a level stay the best, by lowering the price of whatever a person has while another arc is better for
+ * him: 1 where there are some, with the worths and changes that `solve_near` would have. If the choices aren't the least, something is lowered
+ * around and around, and so by more than the sum of their slacks; nothing is, where they are, since each step on the way from a price that
+ * stands lowers by one person's slack at most. */
+static int relax(const level *l, nearby *r, int64_t gap) {
+    size_t near = 0;
+    for (size_t e = 0; e < l->count; e++)
+        if (l->slack[e] <= 2 * gap && l->pick[l->person[e]] != e) r->place[near++] = (uint32_t)e;
+    memset(r->change, 0, l->objects * 8);
+    int moves = gap > 0;
+    for (int pass = 0; moves && pass < MOST_PASSES; pass++) {
+        moves = 0;
+        for (size_t k = 0; k < near; k++) {
+            uint32_t e = r->place[k], own = l->pick[l->person[e]];
+            int64_t change = l->slack[e] - l->slack[own] + r->change[l->object[e]], *mine = &r->change[l->object[own]];
+            if (change >= *mine) continue;
+            if (change < -gap) return 0;
+            *mine = change;
+            moves = 1;
+        }
+    }
+    if (moves) return 0;
+    for (size_t j = 0; l->objects > l->persons && j < l->objects; j++)
+        if (l->price[j] + r->change[j] < 0) return 0;
+    for (size_t i = 0; i < l->persons; i++) r->worth[i] = l->slack[l->pick[i]] + r->change[l->object[l->pick[i]]];
+    return 1;
+}
+
 /* Takes the next level. 1 where memory or the library doesn't. */
 static int finer(level *l, nearby *r) {
     int64_t gap;
     drop_far(l);
     refine_unit(l, r->finer, &gap);
-    if (solve_near(l, r, gap)) return 1;
+    if (!relax(l, r, gap) && solve_near(l, r, gap)) return 1;
     for (size_t e = 0; e < l->count; e++) l->slack[e] += r->change[l->object[e]] - r->worth[l->person[e]];
     for (size_t j = 0; l->objects > l->persons && j < l->objects; j++) {
         int64_t price = l->price[j] + r->change[j];
@@ -693,6 +723,9 @@ static void run(job *w) {
     int32_t status = solve_dense((uint32_t)persons, (uint32_t)objects, w->costs, (persons - 1) * w->stride + objects, w->stride, NO_ENTRY, &start, 0,
                                  SIGDORF_USUAL_BIDS, w->choice, persons, w->prices, objects, w->hall, persons, &found);
     if (status != SIGDORF_OPTIMAL) return;
+    /* What is proved of the library is no reason to trust whatever was bound in its place. */
+    for (size_t i = 0; i < persons; i++)
+        if (w->choice[i] >= objects) return;
     w->sum = found.cost;
     if (w->has_tails && refine(w)) return;
     if (w->wants_prices) {

@@ -5,6 +5,7 @@ import ctypes
 import gc
 import os
 import pathlib
+import signal
 import subprocess
 import sys
 import tracemalloc
@@ -82,7 +83,6 @@ class Fast(Limited):
                 self.assertEqual(found[:3], wanted[:3])
                 if isinstance(found[-1], sigdorf.Solution):
                     sigdorf.check(found[-1], matrix)
-                    self.assertEqual(found[-1].prices.dtype, wanted[-1].prices.dtype)
 
     def outcome(self, matrix):
         try:
@@ -187,7 +187,8 @@ class Fast(Limited):
                 self.assertEqual([pairs[1].tolist() for pairs in pool.map(sigdorf.linear_sum_assignment, matrices)], wanted)
 
     def test_sanitized(self):
-        """Few of the calls of `sanitized`."""
+        """Few of the calls of `sanitized`; with sanitizers the imports alone take some seconds."""
+        signal.alarm(300)
         done = subprocess.run([sys.executable, "-B", pathlib.Path(__file__).with_name("sanitized"), "1000"], env=self.with_library(), capture_output=True, text=True)
         told = done.stdout.splitlines()
         if told[-1:] == ["0 passed, 0 failed"]:

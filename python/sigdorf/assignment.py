@@ -9,13 +9,13 @@ from numpy.typing import ArrayLike
 from .arguments import INT64, MOST_BIDS, number, whole_numbers
 from .claims import check_claim
 from .exact import Answer
-from .fast import solution_of
+from .fast import is_there, solution_of
 from .library import START_FAULTS, USUAL_BIDS
-from .matrices import entries_of
+from .matrices import entries_of, is_sparse, numbers_of
 from .problem import Lists, Problem
 from .slices import Slices, answer_in_slices, look_at_progress, seconds_of
 from .solution import Solution
-from .tables import named
+from .tables import NUMBERS, named
 
 HIGHEST_START = 2**60
 
@@ -67,7 +67,7 @@ def solve(
     began = time.monotonic()
     is_sliced = not (seconds is None and progress is None)
     if columns is None and costs is None and shape is None and start is None and decimals is None and bids is USUAL_BIDS and not is_sliced:
-        found = solution_of(rows, maximize) if maximize is True or maximize is False else None
+        found = _quick(rows, maximize) if maximize is True or maximize is False else None
         if found is not None:
             return found
     seconds = seconds_of(seconds)
@@ -78,6 +78,20 @@ def solve(
         return problem.solution(answer_of(problem, start, bids))
     slices = Slices(problem, seconds, bids, began)
     return problem.solution(answer_in_slices(problem, functools.partial(answer_of, problem, start), slices, progress))
+
+
+def _quick(table, maximize):
+    """The Solution of a dense table by the extension, or None where it has to be looked at closer."""
+    names = NUMBERS
+    if type(table) is not numpy.ndarray:
+        if not is_there() or is_sparse(table):
+            return None
+        table, names = named(table)
+        table = numbers_of(table)
+    found = solution_of(table, maximize)
+    if found is None or names is NUMBERS:
+        return found
+    return found._replace(labels=list(zip(*names.of(found.rows, found.columns))))
 
 
 def _problem_of(rows, columns, costs, shape, maximize, decimals):

@@ -1,0 +1,71 @@
+/* A dense matrix at work: what the parts of the extension share. _fast.c says what it is; _reading.c reads a matrix, and _levels.c makes an answer of the costs as they stand. */
+#ifndef SIGDORF_FAST_H
+#define SIGDORF_FAST_H
+
+/* The first that has buffers: one file serves every later version. */
+#define Py_LIMITED_API 0x030B0000
+#define PY_SSIZE_T_CLEAN
+#include <Python.h>
+#include <stdint.h>
+
+#include "sigdorf.h"
+
+#define NO_ENTRY INT64_MIN
+
+typedef int32_t arcs_call(uint32_t, uint32_t, const sigdorf_arc *, size_t, const int64_t *, size_t, uint64_t, uint32_t *, size_t, int64_t *,
+                          size_t, uint32_t *, size_t, sigdorf_found *);
+typedef int32_t dense_call(uint32_t, uint32_t, const int64_t *, size_t, size_t, int64_t, const int64_t *, size_t, uint64_t, uint32_t *,
+                           size_t, int64_t *, size_t, uint32_t *, size_t, sigdorf_found *);
+
+/* The library's calls, where they are bound. */
+extern arcs_call *solve_arcs;
+extern dense_call *solve_dense;
+
+/* The smaller side are the persons: of more rows than columns the columns. */
+typedef struct {
+    Py_buffer view;
+    const char *start;
+    Py_ssize_t down, across; /* bytes from person to person, and from object to object */
+    size_t persons, objects;
+    char type; /* as the struct module has it */
+    int by_columns, has_view;
+} table;
+
+/* A matrix at work. Costs are whole numbers of 2^-unit, turned so that the least is wanted, and a tail of each: a double, in the caller's unit. */
+typedef struct {
+    table table;
+    void *block;
+    size_t bytes;
+    const int64_t *costs;
+    int64_t *own_costs, *prices;
+    double *tails;
+    uint32_t *choice, *hall;
+    size_t stride;
+    int sign, unit, is_float, has_gaps, has_tails, is_small; /* small: whole numbers to 10^9 */
+    int is_found, is_alone;
+    /* The sum of the choice's costs, turned: a whole number of 2^-sum_unit, where it is within 128 bits, and else `has_sum` is 0. */
+    __int128 sum;
+    int sum_unit, has_sum;
+    /* Where prices are wanted and costs have tails: for each level but the first a change of each object's price, and its unit. */
+    int64_t *changes;
+    int *units;
+    size_t levels;
+    int wants_prices;
+    /* The answer's prices, in units of which (persons + 1) * 2^unit are one of the caller's; of small costs they are `prices`. Else NULL, where Python
+     * puts the levels together, of which `prices` are the first one's, in whole units of the costs. */
+    int64_t *combined;
+} job;
+static inline size_t entries_of(const table *t) { return t->persons * t->objects; }
+
+/* Of _reading.c: each 1 where the matrix has a number that isn't taken. */
+int read_in_place(const table *t);
+int read_whole(const table *t, int sign, int64_t *to);
+int read_all_floats(job *w);
+int common_twos(const int64_t *numbers, size_t count);
+
+/* Of _levels.c: each 1 where there is no memory, or the library answers something else. */
+int refine(job *w);
+int combine(job *w);
+void sum_up(job *w);
+
+#endif

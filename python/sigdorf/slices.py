@@ -10,12 +10,12 @@ from .arguments import attempt
 from .exact import Answer
 
 # A slice has so many times the bids of the one before, and one that ends at the limit so many at least.
-TIMES, LEAST_TIMES = 4, 1.5
+TIMES, LEAST_TIMES = 4, 1.2
 # The first slice is to take this share of the time, or so long where there is no limit, if a bid takes a part of a microsecond, and more for each entry of its row.
 FIRST_SHARE, FIRST_SECONDS, SECONDS_A_BID, SECONDS_AN_ENTRY = 1 / 64, 0.25, 2e-7, 2e-9
 FEWEST_BIDS = 100
 # The last slice is to take this share of the time that is left, since bids don't all take the same.
-LAST_SHARE = 0.8
+LAST_SHARE = 0.9
 
 
 def seconds_of(value):

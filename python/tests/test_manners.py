@@ -16,8 +16,10 @@ except ImportError:
 
 # A search that takes three seconds of the library's, for a table that is long enough to be waited for. The extension calls the library by address.
 LONG = """
-import ctypes, time, numpy, sigdorf
+import ctypes, signal, time, numpy, sigdorf
 from sigdorf import fast, library
+# Whoever runs the tests in the background may have it ignored.
+signal.signal(signal.SIGINT, signal.default_int_handler)
 sleep = lambda *_: ctypes.CDLL(None).usleep(3_000_000)
 library._library.sigdorf_solve = sleep
 call = ctypes.CFUNCTYPE(ctypes.c_int32)(sleep)

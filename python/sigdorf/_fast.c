@@ -12,6 +12,8 @@
 #include <stdlib.h>
 #include <string.h>
 
+/* Rises where what Python calls changes, so that an extension of other sources isn't used: fast.py has the same. */
+#define INTERFACE 1
 /* With fewer entries a call holds the lock: what giving it up costs would count, and a copy. */
 #define FEWEST 2000
 /* A block of working memory of this size at most is kept for the next call. */
@@ -372,5 +374,7 @@ PyMODINIT_FUNC PyInit__fast(void) {
     int64_type = int64 ? PyObject_CallMethod(numpy, "dtype", "O", int64) : NULL;
     Py_XDECREF(int64);
     Py_DECREF(numpy);
-    return array_type && empty && int64_type ? PyModule_Create(&definition) : NULL;
+    PyObject *module = array_type && empty && int64_type ? PyModule_Create(&definition) : NULL;
+    if (module && PyModule_AddIntConstant(module, "INTERFACE", INTERFACE) < 0) Py_CLEAR(module);
+    return module;
 }

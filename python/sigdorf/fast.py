@@ -16,6 +16,8 @@ from .waiting import call_waiting
 
 # A call with fewer entries ends so soon that a thread of its own isn't worth its time.
 FEWEST = 1 << 16
+# That of the extension of these sources; one that was built of others isn't used.
+INTERFACE = 1
 
 
 def _bound():
@@ -26,6 +28,8 @@ def _bound():
     try:
         from . import _fast
     except ImportError:
+        return None
+    if getattr(_fast, "INTERFACE", None) != INTERFACE:
         return None
     _fast.bind(dense, arcs)
     return _fast

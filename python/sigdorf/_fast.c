@@ -13,11 +13,11 @@
 #include <string.h>
 
 /* Rises where what Python calls changes, so that an extension of other sources isn't used: fast.py has the same. */
-#define INTERFACE 1
+#define INTERFACE 2
 /* With fewer entries a call holds the lock: what giving it up costs would count, and a copy. */
 #define FEWEST 2000
 /* A block of working memory of this size at most is kept for the next call. */
-#define MOST_KEPT ((size_t)1 << 18)
+#define MOST_KEPT ((size_t)1 << 23)
 
 arcs_call *solve_arcs;
 dense_call *solve_dense;
@@ -26,21 +26,28 @@ static PyObject *array_type, *empty, *int64_type;
 /* ---- Working memory */
 
 static void *kept;
+static size_t kept_bytes;
 
-/* Memory of so many bytes, for a call that has but one block: the kept one, or a new one. With the lock held, as `give_back`. */
-static void *take(size_t bytes) {
-    void *block = bytes <= MOST_KEPT ? kept : NULL;
-    if (!block) return malloc(bytes <= MOST_KEPT ? MOST_KEPT : bytes);
+/* Memory of so many bytes at least, of which the number is told, for a call that has but one block: the kept one, or a new one. With the lock
+ * held, as `give_back`. A new one is filled by the system page by page, which would take longer than to copy a matrix into it. */
+static void *take(size_t *bytes) {
+    void *block = kept;
+    if (!block || kept_bytes < *bytes) return malloc(*bytes);
+    *bytes = kept_bytes;
     kept = NULL;
     return block;
 }
 
+/* Keeps the block in place of a smaller one. */
 static void give_back(void *block, size_t bytes) {
-    if (block && bytes <= MOST_KEPT && !kept)
+    if (block && bytes <= MOST_KEPT && (!kept || kept_bytes < bytes)) {
+        free(kept);
         kept = block;
-    else
+        kept_bytes = bytes;
+    } else
         free(block);
 }
+
 /* ---- A call */
 
 /* Looks at a matrix, and keeps its buffer: 0 where this file takes it. */
@@ -74,7 +81,7 @@ static int make_room(job *w, int copies) {
     size_t count = entries_of(t), persons = t->persons, objects = t->objects;
     w->is_float = t->type == 'd' || t->type == 'f';
     w->bytes = objects * 8 + (copies ? count * 8 : 0) + (w->is_float ? count * 8 : 0) + persons * 8;
-    w->block = w->is_alone ? take(w->bytes) : malloc(w->bytes);
+    w->block = w->is_alone ? take(&w->bytes) : malloc(w->bytes);
     if (!w->block) return 1;
     w->prices = w->block;
     w->own_costs = w->prices + objects;
@@ -242,7 +249,42 @@ static PyObject *pair_of(const job *w) {
     return pair;
 }
 
-/* The levels of an answer: a list of pairs of an array and its unit. */
+/* A whole number of 128 bits. */
+static PyObject *number_of(__int128 number) {
+    PyObject *high = PyLong_FromLongLong((long long)(number >> 64)), *low = PyLong_FromUnsignedLongLong((unsigned long long)number);
+    PyObject *bits = PyLong_FromLong(64), *shifted = high && bits ? PyNumber_Lshift(high, bits) : NULL;
+    PyObject *sum = shifted && low ? PyNumber_Add(shifted, low) : NULL;
+    Py_XDECREF(high);
+    Py_XDECREF(low);
+    Py_XDECREF(bits);
+    Py_XDECREF(shifted);
+    return sum;
+}
+
+/* The prices of all levels together: an array, or a list of Python's whole numbers where they are beyond 64 bits. */
+static PyObject *combined_of(const job *w) {
+    size_t objects = w->table.objects;
+    if (w->are_narrow) {
+        Py_buffer view;
+        int64_t *to;
+        PyObject *array = new_array(objects, &view, &to);
+        if (!array) return NULL;
+        for (size_t j = 0; j < objects; j++) to[j] = (int64_t)w->combined[j];
+        PyBuffer_Release(&view);
+        return array;
+    }
+    PyObject *list = PyList_New((Py_ssize_t)objects);
+    for (size_t j = 0; list && j < objects; j++) {
+        PyObject *number = number_of(w->combined[j]);
+        if (!number)
+            Py_CLEAR(list);
+        else
+            PyList_SetItem(list, (Py_ssize_t)j, number);
+    }
+    return list;
+}
+
+/* The levels of an answer: a tuple of pairs of an array and its unit. */
 static PyObject *levels_of(const job *w) {
     size_t objects = w->table.objects;
     PyObject *list = PyList_New(0);
@@ -252,16 +294,17 @@ static PyObject *levels_of(const job *w) {
         if (!pair || PyList_Append(list, pair) < 0) Py_CLEAR(list);
         Py_XDECREF(pair);
     }
-    return list;
+    PyObject *tuple = list ? PyList_AsTuple(list) : NULL;
+    Py_XDECREF(list);
+    return tuple;
 }
 
-/* (rows, columns, places, prices, unit, is_small, high, low, sum_unit): `prices` are an array on the scale (persons + 1) * 2^unit, or a list of levels.
+/* (rows, columns, places, prices, unit, is_small, high, low, sum_unit): `prices` are an array or a list on the scale (persons + 1) * 2^unit, or a tuple of levels.
  * The sum of the costs, turned as they are, is (high * 2^64 + low) / 2^sum_unit; `high` is None where Python has to add them. */
 static PyObject *solution_of(const job *w) {
     PyObject *arrays[3] = {0};
     if (make_pairs(w, arrays)) return NULL;
-    const int64_t *numbers = w->is_small ? w->prices : w->combined;
-    PyObject *prices = numbers ? array_of(numbers, w->table.objects) : levels_of(w);
+    PyObject *prices = w->is_small ? array_of(w->prices, w->table.objects) : w->combined ? combined_of(w) : levels_of(w);
     PyObject *high = w->has_sum ? PyLong_FromLongLong((long long)(w->sum >> 64)) : Py_NewRef(Py_None);
     if (!prices || !high) {
         for (int k = 0; k < 3; k++) Py_DECREF(arrays[k]);

@@ -375,7 +375,7 @@ void sum_up(job *w) {
     w->has_sum = 1;
 }
 
-/* Prices of all levels together, as the answer has them, where they are within 64 bits: else Python puts them together. 1 where there is no memory. */
+/* Prices of all levels together, as the answer has them, where they are within 128 bits: else Python puts them together. 1 where there is no memory. */
 int combine(job *w) {
     const table *t = &w->table;
     size_t objects = t->objects;
@@ -388,23 +388,19 @@ int combine(job *w) {
         free(seen);
     }
     if (last < 0 || last - w->unit > 60) return 0;
-    int64_t *combined = malloc(objects * 8);
+    __int128 *combined = malloc(objects * sizeof *combined);
     if (!combined) return 1;
     __int128 factor = w->has_tails ? (__int128)t->persons + 1 : 1, least = 0;
-    int fits = 1;
+    w->are_narrow = 1;
     for (int writes = 0; writes < 2; writes++)
         for (size_t j = 0; j < objects; j++) {
             __int128 price = (__int128)w->prices[j] << (last - w->unit);
             for (size_t k = 0; k < w->levels; k++) price += (__int128)w->changes[k * objects + j] * ((__int128)1 << (last - w->units[k]));
             if (!writes && (j == 0 || price < least)) least = price;
             price = (price - (t->persons == objects ? least : 0)) * factor;
-            if (writes) fits &= price >= INT64_MIN && price <= INT64_MAX;
-            combined[j] = (int64_t)price;
+            if (writes) w->are_narrow &= price >= INT64_MIN && price <= INT64_MAX;
+            combined[j] = price;
         }
-    if (!fits) {
-        free(combined);
-        return 0;
-    }
     w->unit = last;
     w->combined = combined;
     return 0;

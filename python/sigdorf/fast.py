@@ -17,7 +17,7 @@ from .waiting import call_waiting
 # A call with fewer entries ends so soon that a thread of its own isn't worth its time.
 FEWEST = 1 << 16
 # That of the extension of these sources; one that was built of others isn't used.
-INTERFACE = 1
+INTERFACE = 2
 
 
 def _bound():
@@ -78,6 +78,8 @@ def _made(matrix, maximize, parts):
         exact = fractions.Fraction(-total if maximize else total, 1 << sum_unit) if sum_unit > 0 else fractions.Fraction((-total if maximize else total) << -sum_unit)
     shown = exact.numerator if is_small else nearest_float(exact)
     if type(prices) is list:
+        prices, scale = numpy.array(prices, object), (persons + 1) << unit
+    elif type(prices) is tuple:
         prices, scale = priced(persons, max(matrix.shape), Answer(None, prices, 1, 0))
     else:
         scale = (persons + 1) << unit

@@ -31,7 +31,7 @@ class Library(PackageTest):
         library = self.prefix / "lib/libsigdorf.so"
         self.assertIn(f"[libsigdorf.so.{VERSION.partition('.')[0]}]", self.done("readelf", "-d", library))
         shown = [line.split()[-1] for line in self.done("readelf", "--dyn-syms", "-W", library).splitlines() if " GLOBAL DEFAULT " in line and " UND " not in line]
-        self.assertEqual(sorted(shown), ["sigdorf_check", "sigdorf_check_hall", "sigdorf_solve", "sigdorf_solve_by_messages"])
+        self.assertEqual(sorted(shown), ["sigdorf_check", "sigdorf_check_hall", "sigdorf_solve", "sigdorf_solve_by_messages", "sigdorf_solve_dense"])
 
     @wants("cc", "pkg-config")
     def test_pkg_config(self):

@@ -1,23 +1,13 @@
 /* More objects than persons, with costs that differ so much that bids by the smallest steps would take very long: each is solved in less than a
  * second, from nothing and from starts, and its cost is that of another method. The last line is `N passed, M failed`. */
 #include "sigdorf.h"
+#include "want.h"
 #include <inttypes.h>
 #include <stdio.h>
 #include <string.h>
 #include <time.h>
 
 enum { MOST_ROWS = 100, MOST_COLUMNS = 150 };
-
-static int passed, failed;
-
-static void want(const char *what, int64_t got, int64_t wanted) {
-    if (got == wanted) {
-        passed++;
-        return;
-    }
-    failed++;
-    printf("FAILED %s: %" PRId64 " in place of %" PRId64 "\n", what, got, wanted);
-}
 
 /* What costs that much is no arc. */
 static const int64_t NONE = INT64_C(1) << 40;

@@ -1,23 +1,13 @@
 /* Calls each export, and provokes each status and each kind of fault, so that the header's numbers are tried against the library. The last
  * line is `N passed, M failed`. */
 #include "sigdorf.h"
+#include "want.h"
 #include <inttypes.h>
 #include <stdio.h>
 #include <stdlib.h>
 #include <string.h>
 
 #define COUNT(list) (sizeof(list) / sizeof *(list))
-
-static int passed, failed;
-
-static void want(const char *what, int64_t got, int64_t wanted) {
-    if (got == wanted) {
-        passed++;
-        return;
-    }
-    failed++;
-    printf("FAILED %s: %" PRId64 " in place of %" PRId64 "\n", what, got, wanted);
-}
 
 static uint32_t choice[3], hall_objects[3];
 static int64_t prices[4], no_prices[1];

@@ -2,6 +2,7 @@
  * page that nobody may touch, so that a read or a write behind it ends the program. The last line is `N passed, M failed`. */
 #define _DEFAULT_SOURCE
 #include "sigdorf.h"
+#include "want.h"
 #include <inttypes.h>
 #include <stdio.h>
 #include <stdlib.h>
@@ -10,17 +11,6 @@
 #include <unistd.h>
 
 enum { MOST = 12, ROOM = 1 << 14 };
-
-static int passed, failed;
-
-static void want(const char *what, int64_t got, int64_t wanted) {
-    if (got == wanted) {
-        passed++;
-        return;
-    }
-    failed++;
-    printf("FAILED %s: %" PRId64 " in place of %" PRId64 "\n", what, got, wanted);
-}
 
 /* Memory that ends where this many bytes of it end. */
 typedef struct fence {

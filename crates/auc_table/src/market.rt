@@ -1,0 +1,122 @@
+//! Keys, holders and what each person has, and bids by which persons take objects from one another.
+
+use crate::passes::{least_worth, object_of_worth};
+use crate::table::{Table, row_of};
+use std::alloc::{AllocError, Global};
+
+/// Stands for the holder of an object that nobody holds, and for the object of a person who has none.
+pub(crate) const NOBODY: u32 = 4_294_967_295;
+
+/// How many bids a chain of displaced persons makes; who is displaced by the last one goes by a path.
+const CHAIN: u32 = 4;
+
+/// The object that is best for a person, its worth, and the least worth of another one.
+#[derive(Clone, Copy)]
+struct Best {
+    object: usize,
+    worth: i64,
+    second: i64,
+}
+
+/// What is best of a row; none of an empty one.
+fn best_of(row: &[i64], keys: &[i64]) -> Option<Best> {
+    let worth = least_worth(row, keys);
+    let object = object_of_worth(row, keys, worth)?;
+    let before = least_worth(&row[..object], &keys[..object]);
+    let behind = least_worth(&row[object + 1..], &keys[object + 1..]);
+    Some(Best {
+        object,
+        worth,
+        second: before.min(behind),
+    })
+}
+
+/// How much dearer the best object may be till another one is as good; nothing where there is no other one.
+fn rise_of(best: Best) -> i64 {
+    if best.second == i64::MAX {
+        return 0;
+    }
+    (best.second >> 1).wrapping_sub(best.worth >> 1)
+}
+
+/// The keys and the holders of the objects, and the object of each person. `looked` counts the entries that were looked at.
+#[derive(Drop)]
+pub(crate) struct Market {
+    pub(crate) keys: Vec<i64>,
+    pub(crate) holders: Vec<u32>,
+    pub(crate) owns: Vec<u32>,
+    pub(crate) looked: u64,
+}
+
+impl Market {
+    /// Nobody has anything, and no object has a price.
+    pub(crate) fn new(alloc: Global, persons: u32, objects: u32) -> Result<Market, AllocError> {
+        Ok(Market {
+            keys: vec![in alloc; 0; objects as usize]?,
+            holders: vec![in alloc; NOBODY; objects as usize]?,
+            owns: vec![in alloc; NOBODY; persons as usize]?,
+            looked: 0,
+        })
+    }
+
+    /// Who holds an object.
+    pub(crate) fn holder_of(&self, object: usize) -> Option<u32> {
+        if object >= self.holders.len() || self.holders[object] == NOBODY {
+            return None;
+        }
+        Some(self.holders[object])
+    }
+
+    /// A person takes an object; gives who has held it.
+    pub(crate) fn hand_over(&mut self, person: u32, object: usize) -> u32 {
+        if object >= self.holders.len() || person as usize >= self.owns.len() {
+            return NOBODY;
+        }
+        let earlier = self.holders[object];
+        self.holders[object] = person;
+        self.owns[person as usize] = u32::try_from(object).unwrap_or(NOBODY);
+        earlier
+    }
+
+    /// The object of a person is dearer by this much, and somebody holds it.
+    fn raise(&mut self, object: usize, rise: i64, earlier: u32) {
+        if object < self.keys.len() {
+            let key = self.keys[object].wrapping_add(rise.wrapping_mul(2));
+            self.keys[object] = if earlier == NOBODY {
+                key.wrapping_add(1)
+            } else {
+                key
+            };
+        }
+    }
+
+    /// A person takes what is best for him, and pays for it as much as it is better than the next best; gives whom he displaces. Where another one is as good as an object that
+    /// somebody holds, he takes nothing.
+    fn bid(&mut self, table: &Table, person: u32) -> Option<u32> {
+        let row = row_of(table, person);
+        self.looked = self.looked.saturating_add(row.len() as u64);
+        let best = best_of(row, self.keys.as_slice())?;
+        let rise = rise_of(best);
+        if rise == 0 && self.holder_of(best.object).is_some() {
+            return None;
+        }
+        let earlier = self.hand_over(person, best.object);
+        self.raise(best.object, rise, earlier);
+        if earlier as usize >= self.owns.len() {
+            return None;
+        }
+        self.owns[earlier as usize] = NOBODY;
+        Some(earlier)
+    }
+
+    /// A person bids, then whom he displaces, and so on.
+    pub(crate) fn bid_in_chain(&mut self, table: &Table, first: u32) {
+        let mut person = first;
+        for _ in 0..CHAIN {
+            match self.bid(table, person) {
+                Some(earlier) => person = earlier,
+                None => return,
+            }
+        }
+    }
+}

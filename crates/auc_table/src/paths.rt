@@ -1,0 +1,162 @@
+//! Shortest augmenting paths: a person who has nothing takes an object, its holder another one, and so on to a free object, so that together it costs least.
+//!
+//! This is the search of Dijkstra over reduced costs, with no heap, since each row that is looked at comes to every object anyway.
+
+use crate::market::{Market, NOBODY};
+use crate::passes::{FAR, come_nearer, forget, object_as_far};
+use crate::table::{Table, row_of};
+use std::alloc::{AllocError, Global};
+
+/// By how much a settled object is made dearer, so that nobody comes nearer to it.
+const DEAR: i64 = 2_305_843_009_213_693_952;
+
+/// An object, and how far it is.
+#[derive(Clone, Copy)]
+struct Settled {
+    object: usize,
+    far: i64,
+}
+
+/// Whose row is looked at, and what is added to an entry's worth, so that it says how far the object is by him.
+#[derive(Clone, Copy)]
+struct Reacher {
+    person: u32,
+    more: i64,
+}
+
+/// What a search keeps: how far each object is, and who comes to it; and the settled objects in order.
+#[derive(Drop)]
+pub(crate) struct Search {
+    fars: Vec<i64>,
+    reached_by: Vec<u64>,
+    line: Vec<Settled>,
+}
+
+impl Search {
+    /// Nothing is reached.
+    pub(crate) fn new(alloc: Global, objects: u32) -> Result<Search, AllocError> {
+        Ok(Search {
+            fars: vec![in alloc; FAR; objects as usize]?,
+            reached_by: vec![in alloc; 0; objects as usize]?,
+            line: Vec::new(alloc),
+        })
+    }
+
+    /// Looks at a row; gives the nearest object that isn't settled.
+    fn look(&mut self, table: &Table, market: &mut Market, by: Reacher) -> Option<Settled> {
+        let row = row_of(table, by.person);
+        market.looked = market.looked.saturating_add(row.len() as u64);
+        let far = come_nearer(
+            row,
+            market.keys.as_slice(),
+            by.more,
+            u64::from(by.person),
+            self.fars.as_mut_slice(),
+            self.reached_by.as_mut_slice(),
+        );
+        if far >= FAR {
+            return None;
+        }
+        let object = object_as_far(self.fars.as_slice(), far)?;
+        Some(Settled { object, far })
+    }
+
+    /// Settles an object that this person holds; gives whose row is next: his.
+    fn settle(
+        &mut self,
+        table: &Table,
+        market: &mut Market,
+        settled: Settled,
+        holder: u32,
+    ) -> Result<Reacher, AllocError> {
+        let object = settled.object;
+        self.line.push(settled)?;
+        let mut own = 0;
+        let row = row_of(table, holder);
+        if object < self.fars.len() && object < market.keys.len() && object < row.len() {
+            self.fars[object] = FAR;
+            own = row[object]
+                .wrapping_mul(2)
+                .wrapping_add(market.keys[object]);
+            market.keys[object] = market.keys[object].wrapping_add(DEAR);
+        }
+        Ok(Reacher {
+            person: holder,
+            more: settled.far.wrapping_sub(own),
+        })
+    }
+
+    /// Looks at one row behind another, till a free object is the nearest one; gives it. None where no object is left.
+    fn find(
+        &mut self,
+        table: &Table,
+        market: &mut Market,
+        start: u32,
+    ) -> Result<Option<Settled>, AllocError> {
+        let mut by = Reacher {
+            person: start,
+            more: 0,
+        };
+        for _ in 0..=table.objects {
+            let Some(nearest) = self.look(table, market, by) else {
+                return Ok(None);
+            };
+            let Some(holder) = market.holder_of(nearest.object) else {
+                return Ok(Some(nearest));
+            };
+            by = self.settle(table, market, nearest, holder)?;
+        }
+        Ok(None)
+    }
+
+    /// Takes back what has made the settled objects dearer, and raises their prices by how much nearer they are than this.
+    fn raise(&mut self, market: &mut Market, end: i64) {
+        for settled in &self.line {
+            if settled.object < market.keys.len() {
+                let rise = (end >> 1).wrapping_sub(settled.far >> 1).wrapping_mul(2);
+                let key = market.keys[settled.object].wrapping_sub(DEAR);
+                market.keys[settled.object] = key.wrapping_add(rise);
+            }
+        }
+    }
+
+    /// From the free object back, each takes the object that he came to.
+    fn hand_over(&self, market: &mut Market, start: u32, end: usize) {
+        let mut object = end;
+        for _ in 0..=self.line.len() {
+            let Some(reacher) = self.reached_by.get(object) else {
+                return;
+            };
+            let person = u32::try_from(*reacher).unwrap_or(NOBODY);
+            let Some(own) = market.owns.get(person as usize) else {
+                return;
+            };
+            let before = *own as usize;
+            market.hand_over(person, object);
+            if person == start {
+                return;
+            }
+            object = before;
+        }
+    }
+
+    /// A person who has nothing goes by a shortest path; gives whether there is one.
+    pub(crate) fn go(
+        &mut self,
+        table: &Table,
+        market: &mut Market,
+        start: u32,
+    ) -> Result<bool, AllocError> {
+        forget(self.fars.as_mut_slice());
+        self.line.clear();
+        let Some(end) = self.find(table, market, start)? else {
+            return Ok(false);
+        };
+        self.raise(market, end.far);
+        if end.object < market.keys.len() {
+            market.keys[end.object] = market.keys[end.object].wrapping_add(1);
+        }
+        self.hand_over(market, start, end.object);
+        Ok(true)
+    }
+}

@@ -1,0 +1,107 @@
+//! What the search proposes.
+
+use crate::gaps::fill_gaps;
+use crate::market::{Market, NOBODY};
+use crate::paths::Search;
+use crate::table::Table;
+use std::alloc::{AllocError, Global};
+
+/// An assignment, and prices that should show that none costs less.
+#[derive(Drop)]
+pub struct Proposal {
+    /// The object of each person.
+    pub objects: Vec<u32>,
+    /// The person who has it, for each object; some greater number where nobody does.
+    pub holders: Vec<u32>,
+    /// The price of each object, in costs of the table.
+    pub prices: Vec<i64>,
+}
+
+/// Everybody bids once in order, and whom that displaces, a few times; who has nothing then goes by a path. Gives whether everybody has an object: not where there are too few,
+/// or where more entries were looked at than are to be.
+fn assign_all(
+    table: &Table,
+    market: &mut Market,
+    search: &mut Search,
+    looks: u64,
+) -> Result<bool, AllocError> {
+    for person in 0..table.persons {
+        if looks < market.looked {
+            return Ok(false);
+        }
+        market.bid_in_chain(table, person);
+    }
+    for person in 0..table.persons {
+        if looks < market.looked {
+            return Ok(false);
+        }
+        let own = market.owns.get(person as usize);
+        if own.is_none_or(|object| *object != NOBODY) {
+            continue;
+        }
+        if !search.go(table, market, person)? {
+            return Ok(false);
+        }
+    }
+    Ok(true)
+}
+
+/// What a market comes to.
+fn proposal_of(market: Market) -> Proposal {
+    let Market {
+        keys,
+        holders,
+        owns,
+        ..
+    } = market;
+    let mut prices = keys;
+    for object in 0..prices.len() {
+        prices[object] = prices[object] >> 1;
+    }
+    Proposal {
+        objects: owns,
+        holders,
+        prices,
+    }
+}
+
+/// Searches a table without gaps.
+fn propose_full(alloc: Global, table: &Table, looks: u64) -> Result<Option<Proposal>, AllocError> {
+    let mut market = Market::new(alloc, table.persons, table.objects)?;
+    let mut search = Search::new(alloc, table.objects)?;
+    if !assign_all(table, &mut market, &mut search, looks)? {
+        return Ok(None);
+    }
+    Ok(Some(proposal_of(market)))
+}
+
+/// Searches a least assignment of a table, where an entry that equals `gap` is none. It looks at some more than so many entries at most; where that doesn't suffice, or there are
+/// fewer objects than persons, it gives None.
+///
+/// **The caller tries what it gives**, as nothing is proved of it. Where there is an assignment and costs are from -10^9 to 10^9, it should be a least one without gaps, with
+/// prices from 0 up, in costs of the table, at which no object is better for a person than his own, and where what nobody has is free.
+///
+/// The method is a row reduction, which is an auction at eps 0 that gives up early, from prices 0, and then shortest augmenting paths (Jonker and Volgenant, "A shortest
+/// augmenting path algorithm for dense and sparse linear assignment problems", Computing 38, 1987). Takes O(persons^2 * objects) time at most, and 40 bytes of
+/// memory an object, beside a copy of the table where `gap` is given.
+///
+/// # Errors
+///
+/// Only where memory was refused.
+pub fn propose(
+    alloc: Global,
+    table: &Table,
+    gap: Option<i64>,
+    looks: u64,
+) -> Result<Option<Proposal>, AllocError> {
+    let Some(gap) = gap else {
+        return propose_full(alloc, table, looks);
+    };
+    let costs = fill_gaps(alloc, table, gap)?;
+    let filled = Table {
+        stride: table.objects as usize,
+        costs: costs.as_slice(),
+        ..*table
+    };
+    propose_full(alloc, &filled, looks)
+}

@@ -76,13 +76,13 @@ at_entry_of gap person k (z ∷ row) (suc j) lt own =
     Contains-append_right (entry_arcs gap person k z) (row_arcs gap person (suc k) row) (arc_for person (k + suc j) (get_or row j (pos 0))) (subst (λ (m : ℕ). Contains (row_arcs gap person (suc k) row) (arc_for person m (get_or row j (pos 0)))) e (at_entry_of gap person (suc k) row j (omega (arith, lt)) own))
 
 -- what stands in a row
-row_len : (objects : ℕ) (costs : List ℤ) (stride person : ℕ) → person * stride + objects ≤ length costs → length (row_of objects costs stride person) ≡ objects
+pub row_len : (objects : ℕ) (costs : List ℤ) (stride person : ℕ) → person * stride + objects ≤ length costs → length (row_of objects costs stride person) ≡ objects
 row_len objects costs stride person fit =
     let d = length-drop (person * stride) costs in
     let n : person * stride + objects - person * stride ≡ objects = omega arith in
     length-take-le (person * stride + objects - person * stride) (drop (person * stride) costs) (omega (arith, d, n, fit)) ∙ n
 
-row_at : (objects : ℕ) (costs : List ℤ) (stride person j : ℕ) → j < objects → get_or (row_of objects costs stride person) j (pos 0) ≡ get_or costs (person * stride + j) (pos 0)
+pub row_at : (objects : ℕ) (costs : List ℤ) (stride person j : ℕ) → j < objects → get_or (row_of objects costs stride person) j (pos 0) ≡ get_or costs (person * stride + j) (pos 0)
 row_at objects costs stride person j lt =
     let n : person * stride + objects - person * stride ≡ objects = omega arith in
     get_or-take (person * stride + objects - person * stride) (drop (person * stride) costs) j (pos 0) (omega (arith, n, lt)) ∙ get_or-drop (person * stride) costs j (pos 0)

@@ -8,8 +8,9 @@ use Rattle.auc_graph.specs.declared.limits.TheConstants.{MOST_PERSONS, MOST_OBJE
 use Rattle.auc_graph.specs.declared.listing_fault.ListFault.{ListFault}
 use Rattle.auc_graph.specs.declared.listing_fault.ListFault.TheVariants.{Persons, Objects, TooManyArcs, Person, Object, Cost}
 use Rattle.auc_graph.specs.Listing.{counts_fault, first_fault, list_fault, listed, objects_or, problem_from, unless}
-use Rattle.auc_graph.specs.Problem.{Problem}
+use Rattle.auc_graph.specs.Problem.{IsProblem, Problem}
 use Rattle.auc_graph.specs.Reading.{is_between}
+use Rattle.auc_graph.proofs.ListingLaws.{room, sound}
 use Rattle.auc_call.specs.Naming.{no_arc}
 use Rattle.auc_call.specs.Table.{at_entry, place_in, table_fault}
 use Rattle.auc_call.specs.declared.solved.Failed.{Failed}
@@ -39,6 +40,17 @@ faults_are n w arcs e = ap (λ (x : Option ListFault). option_or x (first_fault 
 -- arcs without a fault make the problem
 pub faultless_listed : (n w : ℕ) (arcs : List Arc) → list_fault n w [] ≡ None → first_fault n (objects_or w n) 0 arcs ≡ None → listed n w arcs ≡ Ok (problem_from n w arcs)
 faultless_listed n w arcs e f = ap (unless (problem_from n w arcs)) (faults_are n w arcs e ∙ f)
+
+-- and hold to what a problem does
+pub counted_problem : (n w : ℕ) (arcs : List Arc) → IsProblem (problem_from n w []) → first_fault n (objects_or w n) 0 arcs ≡ None → IsProblem (problem_from n w arcs)
+counted_problem n w arcs counts none = record {
+  some = counts.some;
+  most = counts.most;
+  enough = counts.enough;
+  most_objects = counts.most_objects;
+  few = let all = room n (objects_or w n) 0 arcs (omega arith) none in omega (arith, all);
+  within = sound n (objects_or w n) 0 arcs none;
+}
 
 -- where a fault has a place, it is that of its arc
 by_place : (m place : ℕ) (arcs : List Arc) (a : Arc) (x y z t : Bool) (found : ListFault) → get_or arcs place no_arc ≡ a → cond x (Some TooManyArcs) (cond y (Some (Person place)) (cond z (Some (Object place)) (cond t None (Some (Cost place))))) ≡ Some found

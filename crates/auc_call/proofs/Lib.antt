@@ -11,6 +11,8 @@ mod ToldChecks
 mod LimitedLaws
 mod DriverLaws
 mod TableLaws
+mod TriedLaws
+mod ShownLaws
 mod EntryLaws
 mod FaultLaws
 mod NamingLaws

@@ -13,3 +13,5 @@ pub mod Naming
 pub mod Table
 pub mod Entries
 pub mod TableSolving
+pub mod Tried
+pub mod Quick

@@ -9,7 +9,9 @@ use Rattle.auc_call.specs.declared.solved.Failed.TheVariants.{Sizes, Fault, Star
 use Rattle.auc_call.specs.Limited.{IsLimitAt}
 use Rattle.auc_call.specs.Memory.{Memory, AreSizes}
 use Rattle.auc_call.specs.Naming.{ByObjects, objects_at}
+use Rattle.auc_call.specs.declared.driver.Driver.TheVariants.{Direct}
 use Rattle.auc_call.specs.Shown.{IsLeastAt, IsBracketAt, IsHallAt}
+use Rattle.auc_call.specs.Solving.{IsStop}
 use Rattle.auc_call.specs.Start.{start_fault}
 use Rattle.auc_call.specs.Table.{IsTable, table_fault}
 
@@ -42,6 +44,11 @@ IsRefused p Sizes = ⊥
 IsRefused p (Fault fault) = table_fault p ≡ Some fault
 IsRefused p (Start fault) = ⊥
 IsRefused p NoMemory = ⊤
+
+-- what a run by the arcs of a table came to is right; where there is none, nothing is written
+abbrev pub SolvesArcs : Problem → List ℤ → ℕ → Memory → Memory → Result Solved Failed → Type 0
+SolvesArcs p start bids before after (Ok solved) = (start_fault p start ≡ None) × IsTableSolved p start bids before after solved
+SolvesArcs p start bids before after (Err failed) = IsStop Direct p start failed × (after ≡ before)
 
 -- the cause of a refusal; of want of memory nothing is said
 abbrev pub IsTableCause : Problem → ℕ → ℕ → List ℤ → Memory → Failed → Type 0

@@ -14,6 +14,7 @@ mod handing;
 mod naming;
 mod picking;
 mod places;
+mod quick;
 mod solved;
 mod solving;
 mod start;
@@ -22,6 +23,7 @@ mod table;
 mod table_call;
 mod table_solving;
 mod telling;
+mod trying;
 
 pub use calls::{check_call, check_hall_call, solve_by_messages_call, solve_call};
 pub use found::Found;

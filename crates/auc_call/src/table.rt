@@ -28,7 +28,7 @@ pub(crate) fn is_table(persons: u32, objects: u32, stride: usize, entries: usize
 }
 
 /// The row of a person.
-fn row_of(costs: &[i64], stride: usize, objects: u32, person: u32) -> &[i64]
+pub(crate) fn row_of(costs: &[i64], stride: usize, objects: u32, person: u32) -> &[i64]
     requires { person * stride + objects ≤ length costs.now }
     ensures row { result.now ≡ row_of objects costs.now stride person }
     ensures len { length result.now ≡ objects }

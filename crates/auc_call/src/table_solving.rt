@@ -1,30 +1,32 @@
 //! A solve of a table over the caller's memory.
 
-ghost use Rattle.std.specs.Prelude.{◌≡◌, length, IfOk, IfErr};
-ghost use Rattle.auc_graph.specs.Listing.{objects_or};
-ghost use Rattle.auc_call.specs.Memory.{memory};
+ghost use Rattle.std.specs.Prelude.{◌≡◌, None, length, IfOk, IfErr};
+ghost use Rattle.auc_graph.specs.Listing.{objects_or, problem_fault};
+ghost use Rattle.auc_graph.specs.Problem.{IsProblem};
+ghost use Rattle.auc_call.specs.Memory.{AreSizes, memory};
 ghost use Rattle.auc_call.specs.Table.{IsTable, table_problem};
-ghost use Rattle.auc_call.specs.TableSolving.{IsRefused, SolvesTable};
+ghost use Rattle.auc_call.specs.TableSolving.{IsRefused, SolvesArcs, SolvesTable};
 
 use crate::driver::Driver;
 use crate::naming::name_objects;
+use crate::quick::solve_quickly;
 use crate::solved::{Failed, Solved};
 use crate::solving::solve_problem;
 use crate::table::{arcs_of_table, count_arcs, is_table};
 use auc_graph::{ArcList, list_fault, objects_or};
-use std::alloc::Global;
+use std::alloc::{AllocError, Global};
 
-/// The problem of a table, or its first fault, for which no memory is taken.
-fn problem_of_table(
-    alloc: Global,
+/// How many arcs a table has, whose problem has no fault; or its first fault, for which no memory is taken.
+fn arcs_of_problem(
     persons: u32,
     objects: u32,
     costs: &[i64],
     stride: usize,
     gap: i64,
-) -> Result<ArcList, Failed>
+) -> Result<usize, Failed>
     requires { IsTable persons (objects_or objects persons) stride (length costs.now) }
-    ensures problem { IfOk result (λ p. p ≡ table_problem persons objects costs.now stride gap) }
+    ensures problem { IfOk result (λ count. IsProblem (table_problem persons objects costs.now stride gap)) }
+    ensures faultless { IfOk result (λ count. problem_fault (table_problem persons objects costs.now stride gap) ≡ None) }
     ensures refused { IfErr result (IsRefused (table_problem persons objects costs.now stride gap)) }
 {
     if let Some(fault) = list_fault(persons, objects, &[]) {
@@ -32,6 +34,25 @@ fn problem_of_table(
     }
     let wanted = objects_or(objects, persons);
     let count = count_arcs(persons, wanted, costs, stride, gap)?;
+    Ok(count)
+}
+
+/// The problem of a table that has so many arcs, and no fault.
+fn problem_of_table(
+    alloc: Global,
+    persons: u32,
+    objects: u32,
+    costs: &[i64],
+    stride: usize,
+    gap: i64,
+    count: usize,
+) -> Result<ArcList, AllocError>
+    requires table { IsTable persons (objects_or objects persons) stride (length costs.now) }
+    requires problem { IsProblem (table_problem persons objects costs.now stride gap) }
+    requires faultless { problem_fault (table_problem persons objects costs.now stride gap) ≡ None }
+    ensures { IfOk result (λ p. p ≡ table_problem persons objects costs.now stride gap) }
+{
+    let wanted = objects_or(objects, persons);
     let arcs = arcs_of_table(alloc, persons, wanted, costs, stride, gap, count)?;
     match ArcList::from_arcs(persons, objects, arcs) {
         Ok(problem) => Ok(problem),
@@ -39,7 +60,35 @@ fn problem_of_table(
     }
 }
 
-/// Solves the problem of a table in one hand, and writes the answer into the caller's memory, with objects in place of arcs.
+/// Solves a problem of a table by its arcs, and writes objects in place of them.
+fn solve_arcs(
+    alloc: Global,
+    problem: &ArcList,
+    start: &[i64],
+    bids: u64,
+    choice: &mut [u32],
+    prices: &mut [i64],
+    set: &mut [u32],
+) -> Result<Solved, Failed>
+    requires { AreSizes problem.now (memory choice.old prices.old set.old) }
+    ensures { SolvesArcs problem.now start.now bids (memory choice.old prices.old set.old) (memory choice.new prices.new set.new) result }
+{
+    let solved = solve_problem(
+        alloc,
+        Driver::Direct,
+        problem,
+        start,
+        bids,
+        choice,
+        prices,
+        set,
+    )?;
+    name_objects(problem.arcs(), solved, choice);
+    Ok(solved)
+}
+
+/// Solves the problem of a table in one hand, and writes the answer into the caller's memory, with objects in place of arcs. Where there is no start, a search over
+/// the table itself comes first.
 pub(crate) fn solve_table_into(
     alloc: Global,
     persons: u32,
@@ -63,17 +112,13 @@ pub(crate) fn solve_table_into(
     if !is_table(persons, wanted, stride, costs.len()) {
         return Err(Failed::Sizes);
     }
-    let problem = problem_of_table(alloc, persons, objects, costs, stride, gap)?;
-    let solved = solve_problem(
-        alloc,
-        Driver::Direct,
-        &problem,
-        start,
-        bids,
-        choice,
-        prices,
-        set,
+    let count = arcs_of_problem(persons, objects, costs, stride, gap)?;
+    let found = solve_quickly(
+        alloc, persons, wanted, costs, stride, gap, count, start, bids, choice, prices,
     )?;
-    name_objects(problem.arcs(), solved, choice);
-    Ok(solved)
+    if let Some(cost) = found {
+        return Ok(Solved::Optimal { cost });
+    }
+    let problem = problem_of_table(alloc, persons, objects, costs, stride, gap, count)?;
+    solve_arcs(alloc, &problem, start, bids, choice, prices, set)
 }

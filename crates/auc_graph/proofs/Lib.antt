@@ -4,6 +4,8 @@ pub mod PriceLaws
 pub mod DualLaws
 pub mod LowerLaws
 pub mod LowerRange
+pub mod ListingLaws
+pub mod Scale
 -- for this crate
 mod TokenLaws
 mod MagnitudeLaws
@@ -13,14 +15,12 @@ mod ShortLaws
 mod WrittenLaws
 mod AlikeLaws
 mod PieceLaws
-mod ListingLaws
 mod EndLaws
 mod RowLaws
 mod CountLaws
 mod LayoutLaws
 mod LinedLaws
 mod SpreadLaws
-mod Scale
 mod LeastLaws
 mod BoundLaws
 mod PriceSums

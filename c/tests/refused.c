@@ -44,6 +44,7 @@ static sigdorf_found found;
 static int32_t solve(void) { return sigdorf_solve(2, 0, arcs, 4, nothing, 0, SIGDORF_USUAL_BIDS, choice, 2, prices, 2, objects, 2, &found); }
 static int32_t solve_from(void) { return sigdorf_solve(2, 4, arcs, 4, start, 4, SIGDORF_USUAL_BIDS, choice, 2, prices, 4, objects, 2, &found); }
 static int32_t solve_table(void) { return sigdorf_solve_dense(2, 3, table, 6, 3, -1, nothing, 0, SIGDORF_USUAL_BIDS, choice, 2, prices, 3, objects, 2, &found); }
+static int32_t stop_table(void) { return sigdorf_solve_dense(2, 3, table, 6, 3, -1, nothing, 0, 0, choice, 2, prices, 3, objects, 2, &found); }
 static int32_t stop(void) { return sigdorf_solve(2, 4, arcs, 4, nothing, 0, 0, choice, 2, prices, 4, objects, 2, &found); }
 static int32_t by_messages(void) { return sigdorf_solve_by_messages(2, 0, arcs, 4, start, 2, SIGDORF_USUAL_BIDS, choice, 2, prices, 2, objects, 2, &found); }
 static int32_t solve_both(void) { return sigdorf_solve(2, 0, both, 2, nothing, 0, SIGDORF_USUAL_BIDS, choice, 2, prices, 2, objects, 2, &found); }
@@ -77,6 +78,7 @@ int main(void) {
     refuse_each("solve", solve, SIGDORF_OPTIMAL);
     refuse_each("solve from a start", solve_from, SIGDORF_OPTIMAL);
     refuse_each("solve of a table", solve_table, SIGDORF_OPTIMAL);
+    refuse_each("solve of a table without bids", stop_table, SIGDORF_BRACKET);
     refuse_each("solve without bids", stop, SIGDORF_BRACKET);
     refuse_each("solve by messages", by_messages, SIGDORF_OPTIMAL);
     refuse_each("solve of what has no assignment", solve_both, SIGDORF_INFEASIBLE);

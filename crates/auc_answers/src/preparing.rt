@@ -6,7 +6,7 @@ ghost use Rattle.auc_answers.specs.Prepared.{IsPrepared};
 use crate::answer::Answer;
 use crate::finish::infeasible;
 use auc_graph::{ArcList, Rows};
-use auc_hall::{Matching, Partial, complete};
+use auc_hall::{Matching, Partial, complete, has_full_matching};
 use std::alloc::{AllocError, Global};
 
 /// The rows of a problem that has an assignment, or the answer where it has none.
@@ -18,8 +18,10 @@ pub enum Prepared {
     Answered(Answer),
 }
 
-/// Lays out the rows of a problem, and searches an assignment of any cost ([`auc_hall::complete`]). Takes the time of the search, and
-/// 12 bytes of memory an arc.
+/// Lays out the rows of a problem, and searches an assignment of any cost. Takes the time of the search, and 12 bytes of memory an arc.
+///
+/// A quick search, [`auc_hall::has_full_matching`], comes first. Only where it finds none, [`auc_hall::complete`] is asked, since it alone can
+/// tell that there is none, and its Hall set is the answer then.
 ///
 /// # Errors
 ///
@@ -28,6 +30,9 @@ pub fn prepare(alloc: Global, problem: &ArcList) -> Result<Prepared, AllocError>
     ensures { IfOk result (IsPrepared problem.now) }
 {
     let rows = Rows::build(alloc, problem)?;
+    if has_full_matching(alloc, &rows)? {
+        return Ok(Prepared::Rows(rows));
+    }
     let partial = Partial::new(alloc, &rows)?;
     match complete(alloc, &rows, partial)? {
         Matching::Hall { persons, objects } => {

@@ -1,5 +1,5 @@
 -- How a completion grows, and what it leaves as it was.
-use Rattle.std.proofs.Common.{◌≡◌, ℕ, ◌<◌, List, [], length, set, Option, Some, None, sym, ap, ◌∙◌, inl, inr, Contains, arith}
+use Rattle.std.proofs.Common.{◌≡◌, ℕ, ◌<◌, List, [], length, set, Option, Some, sym, ap, ◌∙◌, inl, inr, Contains, arith}
 use Rattle.std.specs.Prelude.{Result, Ok, Err, IfOk}
 use Rattle.std.proofs.lemmas.Bool.{cases_lt}
 use Rattle.std.proofs.lemmas.List.{get_or_past}
@@ -9,7 +9,6 @@ use Rattle.auc_graph.specs.Table.{Table, row_of}
 use Rattle.auc_hall.specs.declared.matching.Matching.{Matching}
 use Rattle.auc_hall.specs.declared.matching.Matching.TheVariants.{Full, Hall}
 use Rattle.auc_hall.specs.Matching.{IsHall}
-use Rattle.auc_hall.specs.Matched.{IsPlaced}
 use Rattle.auc_hall.specs.Completion.{IsExchange, IsGrown, AreAllPlaced, HasGrown}
 use Rattle.auc_hall.specs.Completion.IsExchange.{takes_free, takes_over}
 use Rattle.auc_hall.specs.Completion.IsGrown.{stays, grows}

@@ -9,7 +9,7 @@ use Rattle.auc_hall.specs.declared.search.Reached.{Reached}
 use Rattle.auc_hall.specs.Partial.{pick}
 use Rattle.auc_hall.specs.Matched.{holder_of, IsPlaced, IsMatched}
 use Rattle.auc_hall.specs.Search.{HasArc, IsTrail, Starts}
-use Rattle.auc_hall.specs.Completion.{IsUntaken, IsExchange}
+use Rattle.auc_hall.specs.Completion.{IsExchange}
 use Rattle.auc_hall.specs.Completion.IsExchange.{takes_free, takes_over}
 use Rattle.auc_hall.proofs.Options.{read_set, read_unset, is_within, other_place, same_read}
 use Rattle.auc_hall.proofs.MatchedLaws.{moved, placed, kept_set, untaken}

@@ -11,4 +11,5 @@ mod SearchLaws
 mod AnswerLaws
 pub mod ProblemLaws
 mod TooFewObjects
+mod FullLaws
 mod WorkedMatchings

@@ -26,7 +26,7 @@ pub get_pushed : (xs : List Reached) (y : Reached) → slice_get (xs ++ y ∷ []
 get_pushed [] y = refl
 get_pushed (x ∷ xs) y = get_pushed xs y
 
-pub get_cases : (xs : List Reached) (y : Reached) (m : ℕ) (e : Reached) → slice_get (xs ++ y ∷ []) m ≡ Some e → (slice_get xs m ≡ Some e) ⊎ ((m ≡ length xs) × (y ≡ e))
+pub get_cases : {A : Type 0} (xs : List A) (y : A) (m : ℕ) (e : A) → slice_get (xs ++ y ∷ []) m ≡ Some e → (slice_get xs m ≡ Some e) ⊎ ((m ≡ length xs) × (y ≡ e))
 get_cases [] y zero e h = inr (refl, same_Some y e h)
 get_cases [] y (suc m) e h = absurd (none-some e h)
 get_cases (x ∷ xs) y zero e h = inl h

@@ -8,3 +8,4 @@ pub mod Matched
 pub mod Search
 pub mod Listing
 pub mod Completion
+pub mod Full

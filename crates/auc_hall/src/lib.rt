@@ -9,13 +9,16 @@
 mod completion;
 mod exchange;
 mod free_arc;
+mod full;
 mod hall_set;
+mod labels;
 mod laws;
 mod matching;
 mod partial;
 mod search;
 
 pub use completion::complete;
+pub use full::has_full_matching;
 pub use laws::{
     full_assignments_stay, hall_sets_leave_no_assignment, matchings_hold_of_the_problem,
 };

@@ -2,7 +2,7 @@
 
 use crate::marks::refuse_one;
 use auc_graph::{ArcList, ReadError, ReadLimits, Rows, read_arcs, read_arcs_from};
-use auc_hall::{Matching, Partial, complete};
+use auc_hall::{Matching, Partial, complete, has_full_matching};
 use auc_run::{ReadFault, read_all};
 use std::alloc::Global;
 use std::test::*;
@@ -137,5 +137,24 @@ fn matchings(rt: HostRuntime) -> Result<(), Fail> {
     assert!(rt; is_full(&full, [0u32, 4, 8].as_slice()));
     let stuck = found_in(rt.alloc(), ONE_OBJECT)?;
     assert!(rt; is_hall(&stuck, [0u32, 1].as_slice(), [0u32].as_slice()));
+    Ok(())
+}
+
+/// Whether the quick search finds an assignment, where memory was refused when it is made again.
+fn finds(alloc: Global, text: &str) -> Result<bool, Fail> {
+    let rows = Rows::build(alloc, &problem_of(alloc, text)?)?;
+    let mark = refuse_one(alloc)?;
+    let found = has_full_matching(alloc, &rows);
+    drop(mark);
+    match found {
+        Ok(found) => Ok(found),
+        Err(_) => Ok(has_full_matching(alloc, &rows)?),
+    }
+}
+
+#[test]
+fn any_matchings(rt: HostRuntime) -> Result<(), Fail> {
+    assert!(rt; finds(rt.alloc(), THREE)?);
+    assert!(rt; !finds(rt.alloc(), ONE_OBJECT)?);
     Ok(())
 }

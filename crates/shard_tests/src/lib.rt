@@ -10,6 +10,8 @@ mod persons;
 #[cfg(test)]
 mod placing;
 #[cfg(test)]
+mod quick;
+#[cfg(test)]
 mod rows;
 #[cfg(test)]
 mod stall;

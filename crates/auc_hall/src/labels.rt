@@ -1,0 +1,224 @@
+//! The search for any full assignment, by labels of the objects (push and relabel).
+//!
+//! Who needs an object takes the one of his row with the lowest label, and raises that to one more than the next lowest. Whom he displaces
+//! goes on in the same way, until somebody takes a free object. A free object has the label 0, and no other label is more than the number of
+//! persons who have to move on before its holder can: so persons go where free objects are near, and what one has found out spares the others
+//! the way. Where the lowest label of a row isn't 0 and no object has the label below it, nobody who holds an object with that label or a
+//! higher one knows any other object: they and the one who needs an object are too many, and the search gives up.
+//!
+//! Goldberg and Tarjan, "A new approach to the maximum-flow problem", Journal of the ACM 35 (1988). For assignments, and with one person after
+//! the other: Kaya, Langguth, Manne and Uçar, "Push-relabel based algorithms for the maximum transversal problem", Computers and Operations
+//! Research 40 (2013). The gap below a label: Derigs and Meier, "Implementing Goldberg's max-flow-algorithm", Zeitschrift für Operations
+//! Research 33 (1989). It is the auction of Bertsekas (1988) where all costs are the same, with labels for prices.
+//!
+//! Nothing is proved of it but that it ends, since what it proposes is tried. So it tests who holds what, and its sums stop at their ends.
+
+ghost use Rattle.std.specs.Prelude.{◌≡◌, ◌<◌, ◌+◌, All, IfSome, false, length};
+
+use auc_graph::{RowArc, Rows};
+
+/// How many times as many arcs as there are the search looks at for those who find no free object at once.
+const MOST_LOOKS: usize = 16;
+
+/// More than any label.
+const NO_LABEL: u32 = u32::MAX;
+
+/// The place of who has no arc yet.
+pub(crate) const NO_PLACE: u32 = u32::MAX;
+
+/// The place in a row of the arc to the object with the lowest label, that label, and the next lowest one.
+#[derive(Clone, Copy)]
+struct Lowest {
+    place: usize,
+    label: u32,
+    next: u32,
+}
+
+/// What comes of a person who needs an object.
+enum Taken {
+    /// He takes one that was free.
+    Free,
+    /// He takes one from this person.
+    From(u32),
+    /// He takes none, since no way leads to a free one.
+    Nothing,
+}
+
+/// The place in a row of the first arc to a free object.
+fn first_free(row: &[RowArc], labels: &[u32]) -> Option<usize>
+    requires { All (λ a. a.object < length labels.now) row.now }
+    ensures { IfSome result (λ place. place < length row.now) }
+{
+    for place in 0..row.len() {
+        if labels[row[place].object as usize] == 0 {
+            return Some(place);
+        }
+    }
+    None
+}
+
+/// Each person in order takes the first free object of his row, where there is one; gives how many do.
+fn place_freely(
+    rows: &Rows,
+    labels: &mut [u32],
+    holders: &mut [Option<u32>],
+    places: &mut [u32],
+) -> u32
+    requires labels { length labels.old ≡ rows.now.objects }
+    requires holders { length holders.old ≡ rows.now.objects }
+    requires places { length places.old ≡ length rows.now.rows }
+{
+    let mut placed = 0u32;
+    for person in 0..rows.persons() {
+        let row = rows.row(person);
+        let Some(place) = first_free(row, labels) else {
+            continue;
+        };
+        let object = row[place].object as usize;
+        labels[object] = 1;
+        holders[object] = Some(person);
+        places[person as usize] = place as u32;
+        placed = placed.saturating_add(1);
+    }
+    placed
+}
+
+/// The object with the lowest label, the first of them. Of a free one, 0 stands for the next lowest label.
+fn lowest_of(row: &[RowArc], labels: &[u32]) -> Lowest
+    requires { All (λ a. a.object < length labels.now) row.now }
+{
+    let mut lowest = Lowest {
+        place: 0,
+        label: NO_LABEL,
+        next: NO_LABEL,
+    };
+    for place in 0..row.len() {
+        let label = labels[row[place].object as usize];
+        // Most arcs go no further than this test.
+        if label >= lowest.next {
+            continue;
+        }
+        if label >= lowest.label {
+            lowest.next = label;
+            continue;
+        }
+        lowest = Lowest {
+            place,
+            label,
+            next: lowest.label,
+        };
+        if label == 0 {
+            lowest.next = 0;
+            break;
+        }
+    }
+    lowest
+}
+
+/// Whether no way to a free object leads over objects with this label: as many persons as there are would have to move on, or no object has the
+/// label below. `counts` has the number of objects of each label, up to the number of persons.
+fn is_cut_off(counts: &[u32], label: u32) -> bool
+    requires { 0 < length counts.now }
+    ensures { result ≡ false → label < length counts.now }
+{
+    if label == 0 {
+        return false;
+    }
+    let label = label as usize;
+    label + 1 >= counts.len() || counts[label - 1] == 0
+}
+
+/// The person takes the object of his row with the lowest label.
+fn take(
+    rows: &Rows,
+    labels: &mut [u32],
+    counts: &mut [u32],
+    holders: &mut [Option<u32>],
+    places: &mut [u32],
+    person: u32,
+) -> Taken
+    requires person { person < length rows.now.rows }
+    requires labels { length labels.old ≡ rows.now.objects }
+    requires counts { length counts.old ≡ length rows.now.rows + 1 }
+    requires holders { length holders.old ≡ rows.now.objects }
+    requires places { length places.old ≡ length rows.now.rows }
+{
+    let row = rows.row(person);
+    let lowest = lowest_of(row, labels);
+    if lowest.place >= row.len() || is_cut_off(counts, lowest.label) {
+        return Taken::Nothing;
+    }
+    let object = row[lowest.place].object as usize;
+    let raised = lowest.next.saturating_add(1).min(rows.persons());
+    let before = lowest.label as usize;
+    counts[before] = counts[before].saturating_sub(1);
+    counts[raised as usize] = counts[raised as usize].saturating_add(1);
+    labels[object] = raised;
+    places[person as usize] = lowest.place as u32;
+    let holder = holders[object];
+    holders[object] = Some(person);
+    match holder {
+        Some(displaced) => Taken::From(displaced),
+        None => Taken::Free,
+    }
+}
+
+/// Finds an object for a person, and for whom he displaces, and so on until somebody takes a free one. False where no way leads to one, or where
+/// no looks are left.
+fn place(
+    rows: &Rows,
+    labels: &mut [u32],
+    counts: &mut [u32],
+    holders: &mut [Option<u32>],
+    places: &mut [u32],
+    start: u32,
+    looks: &mut usize,
+) -> bool
+    requires labels { length labels.old ≡ rows.now.objects }
+    requires counts { length counts.old ≡ length rows.now.rows + 1 }
+    requires holders { length holders.old ≡ rows.now.objects }
+    requires places { length places.old ≡ length rows.now.rows }
+{
+    let mut person = start;
+    while *looks > 0 && person < rows.persons() {
+        *looks = looks.saturating_sub(rows.row(person).len().max(1));
+        match take(rows, labels, counts, holders, places, person) {
+            Taken::Free => return true,
+            Taken::From(displaced) => person = displaced,
+            Taken::Nothing => return false,
+        }
+    }
+    false
+}
+
+/// Finds an object for each person; false where it gives up. It begins with labels and counts of 0, no holders, and nobody at a place. Then whoever
+/// holds an object does so by the arc at his place of his row.
+pub(crate) fn search_by_labels(
+    rows: &Rows,
+    labels: &mut [u32],
+    counts: &mut [u32],
+    holders: &mut [Option<u32>],
+    places: &mut [u32],
+) -> bool
+    requires labels { length labels.old ≡ rows.now.objects }
+    requires counts { length counts.old ≡ length rows.now.rows + 1 }
+    requires holders { length holders.old ≡ rows.now.objects }
+    requires places { length places.old ≡ length rows.now.rows }
+{
+    let placed = place_freely(rows, labels, holders, places);
+    counts[0] = rows.objects().saturating_sub(placed);
+    counts[1] = placed;
+    let mut looks = 0usize;
+    for person in 0..rows.persons() {
+        // Each person brings looks at his own arcs, so that nobody has to count the arcs before.
+        let brought = rows.row(person).len().saturating_mul(MOST_LOOKS);
+        looks = looks.saturating_add(brought);
+        if places[person as usize] != NO_PLACE {
+            continue;
+        }
+        if !place(rows, labels, counts, holders, places, person, &mut looks) {
+            return false;
+        }
+    }
+    true
+}

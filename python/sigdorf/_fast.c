@@ -80,15 +80,17 @@ static int make_room(job *w, int copies) {
     const table *t = &w->table;
     size_t count = entries_of(t), persons = t->persons, objects = t->objects;
     w->is_float = t->type == 'd' || t->type == 'f';
-    w->bytes = objects * 8 + (copies ? count * 8 : 0) + (w->is_float ? count * 8 : 0) + persons * 8;
+    int by_rows = w->is_float && !(t->type == 'd' && w->sign > 0 && t->across == 8 && (uintptr_t)t->start % 8 == 0 && t->down % 8 == 0);
+    w->bytes = objects * 8 + (copies ? count * 8 : 0) + (by_rows ? objects * 8 : 0) + persons * 8;
     w->block = w->is_alone ? take(&w->bytes) : malloc(w->bytes);
     if (!w->block) return 1;
     w->prices = w->block;
     w->own_costs = w->prices + objects;
-    w->tails = (double *)(w->own_costs + (copies ? count : 0));
-    w->choice = (uint32_t *)(w->tails + (w->is_float ? count : 0));
+    w->row = (double *)(w->own_costs + (copies ? count : 0));
+    w->choice = (uint32_t *)(w->row + (by_rows ? objects : 0));
     w->hall = w->choice + persons;
     if (!copies) w->own_costs = NULL;
+    if (!by_rows) w->row = NULL;
     return 0;
 }
 
@@ -122,8 +124,7 @@ static void run(job *w) {
     w->sum = found.cost;
     if (w->has_tails && refine(w)) return;
     if (w->wants_prices) {
-        sum_up(w);
-        if (combine(w)) return;
+        if (sum_up(w) || combine(w)) return;
     }
     w->is_found = 1;
 }

@@ -31,14 +31,17 @@ typedef struct {
     int by_columns, has_view;
 } table;
 
-/* A matrix at work. Costs are whole numbers of 2^-unit, turned so that the least is wanted, and a tail of each: a double, in the caller's unit. */
+/* A matrix at work. Costs are whole numbers of 2^-unit, turned so that the least is wanted; of floats that aren't whole they are counted from `least`, and
+ * `tail_of` tells what is left of each. */
 typedef struct {
     table table;
     void *block;
     size_t bytes;
     const int64_t *costs;
     int64_t *own_costs, *prices;
-    double *tails;
+    double *row, back; /* room for a row of floats, where it isn't read in place; the unit that costs were rounded to */
+    int64_t least;
+    int spare; /* by so many places costs were shifted, where all end in as many zeros */
     uint32_t *choice, *hall;
     size_t stride;
     int sign, unit, is_float, has_gaps, has_tails, is_small; /* small: whole numbers to 10^9 */
@@ -63,10 +66,16 @@ int read_in_place(const table *t);
 int read_whole(const table *t, int sign, int64_t *to);
 int read_all_floats(job *w);
 int common_twos(const int64_t *numbers, size_t count);
+/* What rounding to whole units has made of a float, in the caller's unit. */
+static inline double whole_of(const job *w, size_t person, size_t object) {
+    return (double)(w->own_costs[person * w->table.objects + object] * (INT64_C(1) << w->spare) + w->least) * w->back;
+}
+/* What it has left of it: 1 where that is more than half a unit, since somebody has written the matrix meanwhile. */
+int tail_of(const job *w, size_t person, size_t object, double *tail);
 
 /* Of _levels.c: each 1 where there is no memory, or the library answers something else. */
 int refine(job *w);
 int combine(job *w);
-void sum_up(job *w);
+int sum_up(job *w);
 
 #endif

@@ -8,18 +8,28 @@
 
 /* By so many powers of two a round is finer at most, and what stands for every price that is beyond all costs of a round. */
 #define MOST_FINER 44
-#define PLENTY (INT64_C(1) << 31)
+#define PLENTY (INT64_C(1) << 60)
 /* So often a round looks for prices at which its choices stay, before it has the library look for other choices. */
-#define MOST_PASSES 32
+#define MOST_PASSES 64
+/* So many entries of a row are looked at side by side. */
+#define LANES 8
 
-/* A level, as refinement.py has it: arcs by rising persons, and the place of each person's choice among them. */
+/* A level, as refinement.py has it: arcs by rising persons, of each where they begin and the place of his choice among them. There is room for `room` arcs. */
 typedef struct {
-    size_t persons, objects, count;
-    int unit;
-    uint32_t *person, *object, *pick;
+    size_t persons, objects, room;
+    int unit, is_settled;
+    uint32_t *first, *object, *pick;
     int64_t *slack, *price;
     double *tail;
 } level;
+
+/* A power of two as two factors, so that a float and its product may have any exponents. */
+typedef struct {
+    double first, second;
+} power;
+
+static power power_of(int exponent) { return (power){ldexp(1, exponent / 2), ldexp(1, exponent - exponent / 2)}; }
+static double times(double value, power by) { return value * by.first * by.second; }
 
 /* Prices in whole units at which no arc is better than a person's choice, of the library's, at which none is more than 1 better: whole.py says why. */
 static void make_whole(int64_t *prices, size_t objects, const uint32_t *picked, size_t persons, uint8_t *seen) {
@@ -31,59 +41,74 @@ static void make_whole(int64_t *prices, size_t objects, const uint32_t *picked, 
     for (size_t j = 0; j < objects; j++) prices[j] = (prices[j] + more) / scale;
 }
 
+static size_t count_of(const level *l) { return l->first[l->persons]; }
+
+/* Whether no arc of slack 0 has a smaller tail than its person's choice: then the choices are least, and the prices show it. */
 static int is_settled(const level *l) {
-    for (size_t e = 0; e < l->count; e++)
-        if (l->slack[e] == 0 && l->tail[e] < l->tail[l->pick[l->person[e]]]) return 0;
+    for (size_t i = 0; i < l->persons; i++)
+        for (size_t e = l->first[i]; e < l->first[i + 1]; e++)
+            if (l->slack[e] == 0 && l->tail[e] < l->tail[l->pick[i]]) return 0;
+    return 1;
+}
+
+/* Whether all of a person's arcs up to a slack but his choice lead to objects that are gone. */
+static int has_one(const level *l, size_t person, int64_t most, const uint8_t *is_gone) {
+    for (size_t e = l->first[person]; e < l->first[person + 1]; e++)
+        if (l->slack[e] <= most && !is_gone[l->object[e]] && e != l->pick[person]) return 0;
     return 1;
 }
 
 /* Whether the arcs of a slack up to the number of persons leave but one assignment: whoever takes a dearer one pays more, since tails make up
- * for half a unit a person on either side. `degree` has room for each person, `is_gone` for each object. */
-static int is_only(const level *l, uint32_t *degree, uint8_t *is_gone) {
-    size_t left = l->persons;
-    int64_t limit = (int64_t)l->persons;
+ * for half a unit a person on either side. `left` has room for each person, `is_gone` for each object. */
+static int is_only(const level *l, uint32_t *left, uint8_t *is_gone) {
+    size_t count = l->persons, before = 0;
     memset(is_gone, 0, l->objects);
-    for (int pass = 0; pass < 40 && left; pass++) {
-        size_t before = left;
-        memset(degree, 0, l->persons * sizeof *degree);
-        for (size_t e = 0; e < l->count; e++)
-            if (l->slack[e] <= limit && (!is_gone[l->object[e]] || l->pick[l->person[e]] == e)) degree[l->person[e]]++;
-        for (size_t i = 0; i < l->persons; i++) {
-            uint32_t object = l->object[l->pick[i]];
-            if (degree[i] == 1 && !is_gone[object]) {
-                is_gone[object] = 1;
-                left--;
-            }
+    for (size_t i = 0; i < count; i++) left[i] = (uint32_t)i;
+    while (count != before) {
+        before = count;
+        count = 0;
+        for (size_t k = 0; k < before; k++) {
+            if (has_one(l, left[k], (int64_t)l->persons, is_gone))
+                is_gone[l->object[l->pick[left[k]]]] = 1;
+            else
+                left[count++] = left[k];
         }
-        if (left == before) return 0;
+        /* Next time the other way around: most ways lead on in one of these orders. */
+        for (size_t k = 0; k < count / 2; k++) {
+            uint32_t other = left[k];
+            left[k] = left[count - 1 - k];
+            left[count - 1 - k] = other;
+        }
     }
-    return !left;
+    return !count;
 }
 
 /* Leaves out arcs that no later round brings near. */
 static void drop_far(level *l) {
     int64_t most = 4 * (int64_t)l->persons + 16;
-    size_t count = 0;
-    for (size_t e = 0; e < l->count; e++) {
-        if (l->slack[e] > most) continue;
-        uint32_t i = l->person[e];
-        if (l->pick[i] == e) l->pick[i] = (uint32_t)count;
-        l->person[count] = i;
-        l->object[count] = l->object[e];
-        l->slack[count] = l->slack[e];
-        l->tail[count++] = l->tail[e];
+    size_t count = 0, e = 0;
+    for (size_t i = 0; i < l->persons; i++) {
+        size_t end = l->first[i + 1];
+        l->first[i] = (uint32_t)count;
+        for (; e < end; e++) {
+            if (l->slack[e] > most) continue;
+            if (l->pick[i] == e) l->pick[i] = (uint32_t)count;
+            l->object[count] = l->object[e];
+            l->slack[count] = l->slack[e];
+            l->tail[count++] = l->tail[e];
+        }
     }
-    l->count = count;
+    l->first[l->persons] = (uint32_t)count;
 }
 
 /* By how many powers of two the next unit is finer: about as many as the sum of the choices' slacks allows. */
 static int step_of(const level *l) {
     double gap = 0;
-    for (size_t e = 0; e < l->count;) {
-        uint32_t i = l->person[e];
+    power units = power_of(l->unit);
+    for (size_t i = 0; i < l->persons; i++) {
         double least = INFINITY;
-        for (; e < l->count && l->person[e] == i; e++) least = fmin(least, (double)l->slack[e] + ldexp(l->tail[e], l->unit));
-        gap += ldexp(l->tail[l->pick[i]], l->unit) - least;
+        for (size_t e = l->first[i]; e < l->first[i + 1]; e++) least = fmin(least, (double)l->slack[e] + times(l->tail[e], units));
+        gap += times(l->tail[l->pick[i]], units) - least;
     }
     if (!(gap > 0)) return MOST_FINER;
     int exponent;
@@ -95,48 +120,57 @@ static int step_of(const level *l) {
 /* Slacks in a unit finer by so many powers of two, into `finer`, so that each person's least is 0; answers their sum at the choices. */
 static int64_t in_finer(const level *l, int by, int64_t *finer) {
     int64_t gap = 0;
-    for (size_t e = 0; e < l->count;) {
-        uint32_t i = l->person[e];
-        size_t first = e;
+    power units = power_of(l->unit + by);
+    for (size_t i = 0; i < l->persons; i++) {
+        size_t end = l->first[i + 1];
         int64_t least = INT64_MAX;
-        for (; e < l->count && l->person[e] == i; e++) {
-            finer[e] = (l->slack[e] << by) + (int64_t)nearbyint(ldexp(l->tail[e], l->unit + by));
-            if (finer[e] < least) least = finer[e];
+        for (size_t e = l->first[i]; e < end; e++) {
+            finer[e] = (l->slack[e] << by) + (int64_t)nearbyint(times(l->tail[e], units));
+            least = finer[e] < least ? finer[e] : least;
         }
-        for (size_t k = first; k < e; k++) finer[k] -= least;
+        for (size_t e = l->first[i]; e < end; e++) finer[e] -= least;
         gap += finer[l->pick[i]];
     }
     return gap;
 }
 
-/* Takes the next unit: slacks and tails in it. Answers by how many powers of two it is finer, and the choices' slacks in `gap`. */
-static int refine_unit(level *l, int64_t *finer, int64_t *gap) {
-    int by = step_of(l);
-    while (2 * ((*gap = in_finer(l, by, finer)) + 1) > SIGDORF_MOST_COST) by--;
-    int has_tails = 0, unit = l->unit + by;
-    for (size_t e = 0; e < l->count; e++) {
-        l->tail[e] -= ldexp(nearbyint(ldexp(l->tail[e], unit)), -unit);
+static int64_t price_in_finer(const level *l, size_t object, int by) { return l->price[object] > PLENTY >> by ? PLENTY : l->price[object] << by; }
+
+/* Takes a unit that is finer by so many powers of two, and the slacks in it: or one that is coarser than that, where nothing is lost by it. Answers by how
+ * many powers of two numbers of that unit are to be divided. */
+static int take_finer(level *l, int by, const int64_t *finer) {
+    int has_tails = 0;
+    power units = power_of(l->unit + by), back = power_of(-l->unit - by);
+    size_t count = count_of(l);
+    for (size_t e = 0; e < count; e++) {
+        l->tail[e] -= times(nearbyint(times(l->tail[e], units)), back);
         has_tails |= l->tail[e] != 0;
     }
-    int spare = has_tails ? 0 : common_twos(finer, l->count);
+    int spare = has_tails ? 0 : common_twos(finer, count);
     if (spare > by) spare = by;
-    for (size_t e = 0; e < l->count; e++) l->slack[e] = finer[e] >> spare;
-    *gap >>= spare;
+    for (size_t e = 0; e < count; e++) l->slack[e] = finer[e] >> spare;
     by -= spare;
     l->unit += by;
-    for (size_t j = 0; j < l->objects; j++) l->price[j] = l->price[j] > PLENTY >> by ? PLENTY : l->price[j] << by;
-    return by;
+    l->is_settled = !has_tails;
+    for (size_t j = 0; j < l->objects; j++) l->price[j] = price_in_finer(l, j, by);
+    return spare;
 }
 
 /* A round's arcs that are near enough, as a problem of their own: near.py. */
 typedef struct {
     size_t persons, objects, near;
-    uint32_t *of_person, *of_object; /* how many near arcs; then the number within the round + 1, or 0 */
+    uint32_t *of_person, *of_object, *number; /* how many near arcs; the object's number within the round + 1, or 0 */
     uint32_t *person, *object;       /* by numbers within the round */
     uint32_t *place, *choice, *hall, *picked;
     sigdorf_arc *arcs;
     int64_t *prices, *worth, *change, *finer;
-    uint8_t *seen;
+    uint8_t *seen; /* for each person and one more, or each object */
+    /* Arcs by which a price may have to be lowered: how much dearer than a person's own, and the object; where each person's begin, and what he has. */
+    struct {
+        int64_t dearer;
+        uint32_t object;
+    } *lowering;
+    uint32_t *from, *own;
 } nearby;
 
 static void *cut(char **at, size_t count, size_t size) {
@@ -147,24 +181,29 @@ static void *cut(char **at, size_t count, size_t size) {
 
 /* One block of memory with room for all parts of a round of so many arcs. */
 static void *room_of(nearby *r, size_t persons, size_t objects, size_t count) {
-    size_t numbers = 4 * persons + 2 * persons + 2 * (objects + 1) + count;
-    char *block = malloc(numbers * 4 + (count + persons) * sizeof(sigdorf_arc) + (2 * (objects + 1) + persons + count) * 8 + persons + 1 + 16 * 8);
+    size_t numbers = 7 * persons + 1 + 3 * (objects + 1) + count, longs = 2 * (objects + 1) + persons + count;
+    char *block = malloc(numbers * 4 + (count + persons) * sizeof(sigdorf_arc) + longs * 8 + persons + 1 + objects + 16 * 8);
     if (!block) return NULL;
     char *at = block;
     r->of_person = cut(&at, persons, 4);
     r->of_object = cut(&at, objects, 4);
+    r->number = cut(&at, objects, 4);
     r->person = cut(&at, persons, 4);
     r->object = cut(&at, objects + 1, 4);
     r->place = cut(&at, count, 4);
     r->choice = cut(&at, persons, 4);
     r->hall = cut(&at, persons, 4);
     r->picked = cut(&at, persons, 4);
+    r->own = cut(&at, persons, 4);
+    r->from = cut(&at, persons + 1, 4);
     r->arcs = cut(&at, count + persons, sizeof(sigdorf_arc));
+    /* These aren't wanted at the same time. */
+    r->lowering = (void *)r->arcs;
     r->prices = cut(&at, objects + 1, 8);
     r->change = cut(&at, objects, 8);
     r->worth = cut(&at, persons, 8);
     r->finer = cut(&at, count, 8);
-    r->seen = cut(&at, persons + 1, 1);
+    r->seen = cut(&at, persons + 1 + objects, 1);
     return block;
 }
 
@@ -173,19 +212,22 @@ static void list_near(const level *l, nearby *r, int64_t cost) {
     int64_t window = 2 * cost;
     memset(r->of_person, 0, l->persons * 4);
     memset(r->of_object, 0, l->objects * 4);
-    for (size_t e = 0; e < l->count; e++)
-        if (l->slack[e] < window) r->of_person[l->person[e]]++, r->of_object[l->object[e]]++;
+    for (size_t i = 0; i < l->persons; i++)
+        for (size_t e = l->first[i]; e < l->first[i + 1]; e++)
+            if (l->slack[e] < window) r->of_person[i]++, r->of_object[l->object[e]]++;
     r->near = r->persons = r->objects = 0;
-    for (size_t e = 0; e < l->count; e++)
-        if (l->slack[e] < window && (r->of_person[l->person[e]] > 1 || r->of_object[l->object[e]] > 1)) r->place[r->near++] = (uint32_t)e;
-    memset(r->of_person, 0, l->persons * 4);
-    memset(r->of_object, 0, l->objects * 4);
-    for (size_t k = 0; k < r->near; k++) {
-        uint32_t i = l->person[r->place[k]], j = l->object[r->place[k]];
-        if (!r->of_person[i]) r->person[r->persons] = i, r->of_person[i] = (uint32_t)++r->persons;
-        if (!r->of_object[j]) r->object[r->objects] = j, r->of_object[j] = (uint32_t)++r->objects;
-        int64_t cap = l->price[j] < cost ? l->price[j] : cost;
-        r->arcs[k] = (sigdorf_arc){l->slack[r->place[k]] - cap, r->of_person[i] - 1, r->of_object[j] - 1};
+    memset(r->number, 0, l->objects * 4);
+    for (size_t i = 0; i < l->persons; i++) {
+        size_t before = r->near;
+        for (size_t e = l->first[i]; e < l->first[i + 1]; e++) {
+            uint32_t j = l->object[e];
+            if (l->slack[e] >= window || (r->of_person[i] == 1 && r->of_object[j] == 1)) continue;
+            if (!r->number[j]) r->object[r->objects] = j, r->number[j] = (uint32_t)++r->objects;
+            int64_t cap = l->price[j] < cost ? l->price[j] : cost;
+            r->place[r->near] = (uint32_t)e;
+            r->arcs[r->near++] = (sigdorf_arc){l->slack[e] - cap, (uint32_t)r->persons, r->number[j] - 1};
+        }
+        if (r->near > before) r->person[r->persons++] = (uint32_t)i;
     }
     /* One object more, that everybody may have at a cost which no least choice pays. */
     for (size_t i = 0; i < r->persons; i++) r->arcs[r->near + i] = (sigdorf_arc){cost, (uint32_t)i, (uint32_t)r->objects};
@@ -223,82 +265,162 @@ static int solve_near(level *l, nearby *r, int64_t gap) {
     return 0;
 }
 
-/* Looks for prices at which the choices of a level stay the best, by lowering the price of whatever a person has while another arc is better for
- * him: 1 where there are some, with the worths and changes that `solve_near` would have. If the choices aren't the least, something is lowered
- * around and around, and so by more than the sum of their slacks; nothing is, where they are, since each step on the way from a price that
- * stands lowers by one person's slack at most. */
-static int relax(const level *l, nearby *r, int64_t gap) {
-    size_t near = 0;
-    for (size_t e = 0; e < l->count; e++)
-        if (l->slack[e] <= 2 * gap && l->pick[l->person[e]] != e) r->place[near++] = (uint32_t)e;
+/* Lists the arcs by which a price may have to be lowered so that the choices stay the best: of each person that has some, how much dearer they are than his
+ * choice. An arc of a slack beyond 2 gaps is none of these, since no price is lowered by more than one. */
+static void list_lowering(const level *l, nearby *r, const int64_t *slack, int64_t gap) {
+    size_t near = 0, persons = 0;
+    for (size_t i = 0; i < l->persons; i++) {
+        size_t first = near, own = l->pick[i];
+        for (size_t e = l->first[i]; e < l->first[i + 1]; e++) {
+            if (slack[e] > 2 * gap || e == own) continue;
+            r->lowering[near].dearer = slack[e] - slack[own];
+            r->lowering[near++].object = l->object[e];
+        }
+        if (near == first) continue;
+        r->own[persons] = l->object[own];
+        r->from[persons++] = (uint32_t)first;
+    }
+    r->from[persons] = (uint32_t)near;
+    r->persons = persons;
+}
+
+/* Lowers the price of what one person has, if another arc is better for him; answers whether it was. */
+static int lower(nearby *r, size_t person) {
+    int64_t least = INT64_MAX;
+    for (size_t k = r->from[person]; k < r->from[person + 1]; k++) {
+        int64_t change = r->lowering[k].dearer + r->change[r->lowering[k].object];
+        least = change < least ? change : least;
+    }
+    int64_t *mine = &r->change[r->own[person]];
+    if (least >= *mine) return 0;
+    *mine = least;
+    return 1;
+}
+
+/* Looks for prices, in a unit finer by so many powers of two, at which the choices of a level stay the best, by lowering the price of whatever a person has while another arc is better for
+ * him: 1 where there are some, with their changes. If the choices aren't the least, something is lowered around and around, and so by more than
+ * the sum of their slacks; nothing is, where they are, since each step on the way from a price that stands lowers by one person's slack at most.
+ * Persons take turns upwards and downwards, since most ways lead on in one of these orders. */
+static int relax(const level *l, nearby *r, int by, const int64_t *slack, int64_t gap) {
+    list_lowering(l, r, slack, gap);
     memset(r->change, 0, l->objects * 8);
     int moves = gap > 0;
     for (int pass = 0; moves && pass < MOST_PASSES; pass++) {
         moves = 0;
-        for (size_t k = 0; k < near; k++) {
-            uint32_t e = r->place[k], own = l->pick[l->person[e]];
-            int64_t change = l->slack[e] - l->slack[own] + r->change[l->object[e]], *mine = &r->change[l->object[own]];
-            if (change >= *mine) continue;
-            if (change < -gap) return 0;
-            *mine = change;
-            moves = 1;
-        }
+        for (size_t k = 0; k < r->persons; k++) moves |= lower(r, pass % 2 ? r->persons - 1 - k : k);
+        for (size_t k = 0; k < r->persons; k++)
+            if (r->change[r->own[k]] < -gap) return 0;
     }
     if (moves) return 0;
     for (size_t j = 0; l->objects > l->persons && j < l->objects; j++)
-        if (l->price[j] + r->change[j] < 0) return 0;
-    for (size_t i = 0; i < l->persons; i++) r->worth[i] = l->slack[l->pick[i]] + r->change[l->object[l->pick[i]]];
+        if (price_in_finer(l, j, by) + r->change[j] < 0) return 0;
     return 1;
 }
 
-/* Takes the next level. 1 where memory or the library doesn't. */
-static int finer(level *l, nearby *r) {
-    int64_t gap;
-    drop_far(l);
-    refine_unit(l, r->finer, &gap);
-    if (!relax(l, r, gap) && solve_near(l, r, gap)) return 1;
-    for (size_t e = 0; e < l->count; e++) l->slack[e] += r->change[l->object[e]] - r->worth[l->person[e]];
+/* Takes the changes of a round into the level. */
+static void take_changes(level *l, const nearby *r) {
+    for (size_t i = 0; i < l->persons; i++)
+        for (size_t e = l->first[i]; e < l->first[i + 1]; e++) l->slack[e] += r->change[l->object[e]] - r->worth[i];
     for (size_t j = 0; l->objects > l->persons && j < l->objects; j++) {
         int64_t price = l->price[j] + r->change[j];
         l->price[j] = price < PLENTY ? price : PLENTY;
     }
+}
+
+/* Takes the next level by the choices that there are, in the finest unit: 1 where they aren't the least in it, or it isn't seen that they are. */
+static int finer_by_prices(level *l, nearby *r) {
+    int64_t gap = in_finer(l, MOST_FINER, r->finer);
+    if (!relax(l, r, MOST_FINER, r->finer, gap)) return 1;
+    int spare = take_finer(l, MOST_FINER, r->finer);
+    for (size_t j = 0; j < l->objects; j++) r->change[j] >>= spare;
+    for (size_t i = 0; i < l->persons; i++) r->worth[i] = l->slack[l->pick[i]] + r->change[l->object[l->pick[i]]];
+    take_changes(l, r);
     return 0;
+}
+
+/* Takes the next level by choices of the library's. 1 where memory or the library doesn't. */
+static int finer_by_library(level *l, nearby *r) {
+    int by = step_of(l);
+    int64_t gap;
+    while (2 * ((gap = in_finer(l, by, r->finer)) + 1) > SIGDORF_MOST_COST) by--;
+    gap >>= take_finer(l, by, r->finer);
+    if (solve_near(l, r, gap)) return 1;
+    take_changes(l, r);
+    return 0;
+}
+
+/* Room for the arcs of another row behind so many. 1 where there is no memory. */
+static int widen(level *l, size_t count) {
+    if (l->room - count >= l->objects) return 0;
+    l->room = 4 * (l->room + l->objects);
+    void *object = realloc(l->object, l->room * 4), *slack = realloc(l->slack, l->room * 8), *tail = realloc(l->tail, l->room * 8);
+    if (object) l->object = object;
+    if (slack) l->slack = slack;
+    if (tail) l->tail = tail;
+    return !object || !slack || !tail;
+}
+
+/* Two numbers that a vector of any machine holds. */
+typedef uint64_t pair __attribute__((vector_size(16)));
+
+static inline pair pair_at(const int64_t *numbers) {
+    pair two;
+    memcpy(&two, numbers, sizeof two);
+    return two;
+}
+
+/* Whether one of some sums may be below a limit: the sign of what is left of it then. */
+static inline int may_be_below(const int64_t *row, const int64_t *prices, pair limit) {
+    pair any = pair_at(row) + pair_at(prices) - limit;
+    for (size_t k = 2; k < LANES; k += 2) any |= pair_at(row + k) + pair_at(prices + k) - limit;
+    return (any[0] | any[1]) >> 63 != 0;
+}
+
+/* Lists the columns of a row whose cost and price are below a limit together, and answers how many they are. */
+static size_t list_below(const int64_t *restrict row, const int64_t *restrict prices, size_t objects, int64_t limit, uint32_t *restrict to) {
+    size_t count = 0, j = 0;
+    pair limits = {(uint64_t)limit, (uint64_t)limit};
+    while (j < objects) {
+        size_t end = objects - j < LANES ? objects : j + LANES;
+        if (end == j + LANES && !may_be_below(row + j, prices + j, limits)) {
+            j = end;
+            continue;
+        }
+        for (; j < end; j++) {
+            to[count] = (uint32_t)j;
+            count += (row[j] != NO_ENTRY) & (row[j] + prices[j] < limit);
+        }
+    }
+    return count;
+}
+
+/* Lists the arcs of a person that aren't far at the prices. 1 where the matrix was written meanwhile. */
+static int list_row(const job *w, level *l, size_t person) {
+    size_t first = l->first[person], choice = w->choice[person];
+    const int64_t *row = w->costs + person * w->stride, *prices = w->prices;
+    int64_t own = row[choice] + prices[choice];
+    double mine;
+    int is_other = tail_of(w, person, choice, &mine);
+    size_t end = first + list_below(row, prices, l->objects, own + 4 * (int64_t)l->persons + 17, l->object + first);
+    for (size_t e = first; e < end; e++) {
+        size_t j = l->object[e];
+        l->slack[e] = row[j] + prices[j] - own;
+        is_other |= tail_of(w, person, j, &l->tail[e]);
+        if (l->slack[e] == 0 && l->tail[e] < mine) l->is_settled = 0;
+        if (j == choice) l->pick[person] = (uint32_t)e;
+    }
+    l->first[person + 1] = (uint32_t)end;
+    return is_other;
 }
 
 /* The first level, of a matrix that was solved in whole units: its prices are made whole. 1 where there is no memory. */
 static int first_level(job *w, level *l, uint8_t *seen) {
-    size_t persons = w->table.persons, objects = w->table.objects, count = 0;
-    int64_t most = 4 * (int64_t)persons + 16;
+    size_t persons = w->table.persons, objects = w->table.objects;
     make_whole(w->prices, objects, w->choice, persons, seen);
-    for (int fills = 0; fills < 2; fills++) {
-        if (fills) {
-            l->person = malloc(count * 4 * 2 + persons * 4);
-            l->slack = malloc((count + objects) * 8);
-            l->tail = malloc(count * 8);
-            if (!l->person || !l->slack || !l->tail) return 1;
-            l->object = l->person + count;
-            l->pick = l->object + count;
-            l->price = l->slack + count;
-            count = 0;
-        }
-        for (size_t i = 0; i < persons; i++) {
-            const int64_t *row = w->costs + i * w->stride;
-            int64_t own = row[w->choice[i]] + w->prices[w->choice[i]];
-            for (size_t j = 0; j < objects; j++) {
-                if (row[j] == NO_ENTRY || row[j] + w->prices[j] - own > most) continue;
-                if (fills) {
-                    l->person[count] = (uint32_t)i;
-                    l->object[count] = (uint32_t)j;
-                    l->slack[count] = row[j] + w->prices[j] - own;
-                    l->tail[count] = w->tails[i * objects + j];
-                    if (j == w->choice[i]) l->pick[i] = (uint32_t)count;
-                }
-                count++;
-            }
-        }
-    }
+    l->persons = persons, l->objects = objects, l->unit = w->unit, l->is_settled = 1, l->first[0] = 0;
+    for (size_t i = 0; i < persons; i++)
+        if (widen(l, l->first[i]) || list_row(w, l, i)) return 1;
     for (size_t j = 0; j < objects; j++) l->price[j] = objects == persons ? 0 : w->prices[j] < PLENTY ? w->prices[j] : PLENTY;
-    l->persons = persons, l->objects = objects, l->count = count, l->unit = w->unit;
     return 0;
 }
 
@@ -316,25 +438,38 @@ static int keep_change(job *w, const level *l, const nearby *r) {
     return 0;
 }
 
+/* Takes levels until the choices are the least. 1 where Python has to do it. */
+static int settle(job *w, level *l, nearby *r) {
+    if (!w->wants_prices && is_only(l, r->choice, r->seen)) return 0;
+    while (!l->is_settled) {
+        if (finer_by_prices(l, r) && finer_by_library(l, r)) return 1;
+        if (w->wants_prices && keep_change(w, l, r)) return 1;
+        if (l->is_settled || (l->is_settled = is_settled(l))) return 0;
+        drop_far(l);
+    }
+    return 0;
+}
+
 /* From a solution in whole units to one of the costs as they stand. 1 where Python has to do it. */
 int refine(job *w) {
     size_t persons = w->table.persons, objects = w->table.objects;
     level l = {0};
     nearby r = {0};
     void *room = NULL;
-    uint8_t *seen = malloc(persons + 1 + objects);
-    int fails = !seen || first_level(w, &l, seen);
-    while (!fails && !is_settled(&l)) {
-        if (!room) {
-            room = room_of(&r, persons, objects, l.count);
-            fails = !room;
-            if (fails || (!w->wants_prices && is_only(&l, r.choice, seen))) break;
-        }
-        fails = finer(&l, &r) || (w->wants_prices && keep_change(w, &l, &r));
+    l.pick = malloc((2 * persons + 1) * 4);
+    l.price = malloc(objects * 8);
+    l.first = l.pick ? l.pick + persons : NULL;
+    uint8_t *seen = malloc(persons + 1);
+    int fails = !l.pick || !l.price || !seen || first_level(w, &l, seen);
+    if (!fails && !l.is_settled) {
+        room = room_of(&r, persons, objects, count_of(&l));
+        fails = !room || settle(w, &l, &r);
+        for (size_t i = 0; !fails && i < persons; i++) w->choice[i] = l.object[l.pick[i]];
     }
-    for (size_t i = 0; !fails && i < persons; i++) w->choice[i] = l.object[l.pick[i]];
-    free(l.person);
+    free(l.object);
+    free(l.pick);
     free(l.slack);
+    free(l.price);
     free(l.tail);
     free(room);
     free(seen);
@@ -343,36 +478,53 @@ int refine(job *w) {
 
 /* ---- What a solution tells beside its pairs */
 
-/* The sum of the choice's costs, exactly. */
-void sum_up(job *w) {
-    size_t persons = w->table.persons;
-    w->has_sum = w->is_small;
-    if (w->is_small) return;
+/* A float as a whole number, which is odd or 0, of a power of two. */
+static int64_t digits_of(double value, int *exponent) {
+    uint64_t bits;
+    memcpy(&bits, &value, sizeof bits);
+    int high = (int)(bits >> 52 & 0x7ff);
+    uint64_t digits = (bits & ((UINT64_C(1) << 52) - 1)) | (uint64_t)(high > 0) << 52;
+    if (!digits) return *exponent = 0;
+    int twos = __builtin_ctzll(digits);
+    *exponent = (high > 0 ? high : 1) - 1075 + twos;
+    return (int64_t)(digits >> twos) * (bits >> 63 ? -1 : 1);
+}
+
+/* The sum of some floats, exactly, where it is within 128 bits. */
+static void sum_up_all(job *w, const double *costs, size_t count) {
+    int least = INT_MAX, most = INT_MIN, exponent;
+    for (size_t i = 0; i < count; i++) {
+        if (!digits_of(costs[i], &exponent)) continue;
+        if (exponent < least) least = exponent;
+        if (exponent > most) most = exponent;
+    }
+    if (least > most) least = most = 0;
+    /* Ten thousand such numbers are less than 2^14 times the greatest, which has 53 digits at most. */
+    if (most - least > 57) return;
     w->sum = 0;
-    double back = ldexp(1, -w->unit);
-    int least = INT_MAX, most = INT_MIN;
-    for (int sums = 0; sums < 2; sums++) {
-        for (size_t i = 0; i < persons; i++) {
-            size_t place = i * w->table.objects + w->choice[i];
-            /* What was taken apart without a loss comes together so. */
-            double cost = (double)w->own_costs[place] * back + (w->has_tails ? w->tails[place] : 0);
-            int exponent;
-            int64_t digits = (int64_t)ldexp(frexp(cost, &exponent), 53);
-            if (!digits) continue;
-            int twos = __builtin_ctzll((uint64_t)digits), low = exponent - 53 + twos;
-            if (sums) {
-                w->sum += ((__int128)(digits >> twos)) * ((__int128)1 << (low - least));
-                continue;
-            }
-            if (low < least) least = low;
-            if (exponent > most) most = exponent;
-        }
-        if (!sums && least == INT_MAX) least = most = 0;
-        /* Ten thousand such numbers are less than 2^14 times the greatest. */
-        if (most - least > 110) return;
+    for (size_t i = 0; i < count; i++) {
+        int64_t digits = digits_of(costs[i], &exponent);
+        if (digits) w->sum += (__int128)digits * ((__int128)1 << (exponent - least));
     }
     w->sum_unit = -least;
     w->has_sum = 1;
+}
+
+/* The sum of the choice's costs. 1 where there is no memory, or the matrix was written meanwhile. */
+int sum_up(job *w) {
+    size_t persons = w->table.persons;
+    w->has_sum = w->is_small;
+    if (w->is_small) return 0;
+    double *costs = malloc(persons * 8), tail;
+    int fails = !costs;
+    for (size_t i = 0; !fails && i < persons; i++) {
+        fails = tail_of(w, i, w->choice[i], &tail);
+        /* What was taken apart without a loss comes together so. */
+        costs[i] = whole_of(w, i, w->choice[i]) + tail;
+    }
+    if (!fails) sum_up_all(w, costs, persons);
+    free(costs);
+    return fails;
 }
 
 /* Prices of all levels together, as the answer has them, where they are within 128 bits: else Python puts them together. 1 where there is no memory. */

@@ -32,7 +32,7 @@ typedef struct {
 } table;
 
 /* A matrix at work. Costs are whole numbers of 2^-unit, turned so that the least is wanted; of floats that aren't whole they are counted from `least`, and
- * `tail_of` tells what is left of each. */
+ * `cost_of` tells what is left of each. */
 typedef struct {
     table table;
     void *block;
@@ -42,6 +42,9 @@ typedef struct {
     double *row, back; /* room for a row of floats, where it isn't read in place; the unit that costs were rounded to */
     int64_t least;
     int spare; /* by so many places costs were shifted, where all end in as many zeros */
+    /* A cost that is far greater than all others, and what stands for it, or 0; others differ by less than so many units. */
+    double gate;
+    int64_t gate_cost, gate_span;
     uint32_t *choice, *hall;
     size_t stride;
     int sign, unit, is_float, has_gaps, has_tails, is_small; /* small: whole numbers to 10^9 */
@@ -66,12 +69,8 @@ int read_in_place(const table *t);
 int read_whole(const table *t, int sign, int64_t *to);
 int read_all_floats(job *w);
 int common_twos(const int64_t *numbers, size_t count);
-/* What rounding to whole units has made of a float, in the caller's unit. */
-static inline double whole_of(const job *w, size_t person, size_t object) {
-    return (double)(w->own_costs[person * w->table.objects + object] * (INT64_C(1) << w->spare) + w->least) * w->back;
-}
-/* What it has left of it: 1 where that is more than half a unit, since somebody has written the matrix meanwhile. */
-int tail_of(const job *w, size_t person, size_t object, double *tail);
+/* A float, turned, and what rounding to whole units has left of it: 1 where that is more than half a unit, since somebody has written the matrix meanwhile. */
+int cost_of(const job *w, size_t person, size_t object, double *cost, double *tail);
 
 /* Of _levels.c: each 1 where there is no memory, or the library answers something else. */
 int refine(job *w);

@@ -399,13 +399,13 @@ static int list_row(const job *w, level *l, size_t person) {
     size_t first = l->first[person], choice = w->choice[person];
     const int64_t *row = w->costs + person * w->stride, *prices = w->prices;
     int64_t own = row[choice] + prices[choice];
-    double mine;
-    int is_other = tail_of(w, person, choice, &mine);
+    double cost, mine;
+    int is_other = cost_of(w, person, choice, &cost, &mine);
     size_t end = first + list_below(row, prices, l->objects, own + 4 * (int64_t)l->persons + 17, l->object + first);
     for (size_t e = first; e < end; e++) {
         size_t j = l->object[e];
         l->slack[e] = row[j] + prices[j] - own;
-        is_other |= tail_of(w, person, j, &l->tail[e]);
+        is_other |= cost_of(w, person, j, &cost, &l->tail[e]);
         if (l->slack[e] == 0 && l->tail[e] < mine) l->is_settled = 0;
         if (j == choice) l->pick[person] = (uint32_t)e;
     }
@@ -517,43 +517,82 @@ int sum_up(job *w) {
     if (w->is_small) return 0;
     double *costs = malloc(persons * 8), tail;
     int fails = !costs;
-    for (size_t i = 0; !fails && i < persons; i++) {
-        fails = tail_of(w, i, w->choice[i], &tail);
-        /* What was taken apart without a loss comes together so. */
-        costs[i] = whole_of(w, i, w->choice[i]) + tail;
-    }
+    for (size_t i = 0; !fails && i < persons; i++) fails = cost_of(w, i, w->choice[i], &costs[i], &tail);
     if (!fails) sum_up_all(w, costs, persons);
     free(costs);
     return fails;
 }
 
-/* Prices of all levels together, as the answer has them, where they are within 128 bits: else Python puts them together. 1 where there is no memory. */
+/* Whether a choice is a gate. */
+static int uses_gate(const job *w) {
+    for (size_t i = 0; w->gate_cost && i < w->table.persons; i++)
+        if (w->own_costs[i * w->table.objects + w->choice[i]] == w->gate_cost) return 1;
+    return 0;
+}
+
+static int by_size(const void *one, const void *other) {
+    __int128 difference = *(const __int128 *)one - *(const __int128 *)other;
+    return (difference > 0) - (difference < 0);
+}
+
+/* A number to add to prices from 0, below `step`, so that no price of a choice is less than `span` above a multiple of `step`, which is more than
+ * `span` times the choices. -1 where there is no memory. */
+static __int128 offset_of(const job *w, const __int128 *prices, __int128 step, __int128 span) {
+    size_t persons = w->table.persons;
+    __int128 *from = malloc(persons * sizeof *from), offset = -1;
+    if (!from) return -1;
+    /* Each choice forbids `span` numbers from here. */
+    for (size_t i = 0; i < persons; i++) from[i] = (step - prices[w->choice[i]] % step) % step;
+    qsort(from, persons, sizeof *from, by_size);
+    for (size_t i = 0; offset < 0 && i < persons; i++)
+        if ((i + 1 < persons ? from[i + 1] : from[0] + step) - from[i] > span) offset = (from[i] + span) % step;
+    free(from);
+    return offset;
+}
+
+/* Takes prices from 0, in a unit, to those of the matrix with its gate as it is: EXACT.md says why. 1 where they are beyond 128 bits, or there is no memory. */
+static int lift(const job *w, __int128 *prices, int unit) {
+    size_t objects = w->table.objects;
+    __int128 step = (__int128)w->gate_cost << (unit - w->unit), span = (__int128)w->gate_span << (unit - w->unit), most = 0;
+    double gate = ldexp(w->gate, unit);
+    for (size_t j = 0; j < objects; j++) most = prices[j] > most ? prices[j] : most;
+    double times = (double)(most / step + 2) * (double)(w->table.persons + 1);
+    if (!(fabs(gate) * times < ldexp(1, 120)) || (double)most * times > ldexp(1, 120) || nearbyint(gate) != gate) return 1;
+    __int128 more = (__int128)gate - step - ((__int128)w->least << (unit - w->unit)), offset = offset_of(w, prices, step, span);
+    for (size_t j = 0; j < objects; j++) prices[j] += more * ((prices[j] + offset) / step);
+    return offset < 0;
+}
+
+/* Prices of all levels together, as the answer has them, where they are within 128 bits: else Python puts them together. 1 where there is no memory,
+ * or Python has to solve the matrix. */
 int combine(job *w) {
     const table *t = &w->table;
     size_t objects = t->objects;
     if (w->is_small) return 0;
-    int last = w->levels ? w->units[w->levels - 1] : w->unit;
-    if (!w->has_tails && last < 0) {
+    int last = w->levels ? w->units[w->levels - 1] : w->unit, lifts = uses_gate(w), is_whole = w->has_tails;
+    if (!is_whole && (last < 0 || lifts)) {
         uint8_t *seen = malloc(t->persons + 1);
         if (!seen) return 1;
         make_whole(w->prices, objects, w->choice, t->persons, seen);
         free(seen);
+        is_whole = 1;
     }
-    if (last < 0 || last - w->unit > 60) return 0;
-    __int128 *combined = malloc(objects * sizeof *combined);
+    if (last < 0 || last - w->unit > 60) return lifts;
+    __int128 *combined = malloc(objects * sizeof *combined), least = 0;
     if (!combined) return 1;
-    __int128 factor = w->has_tails ? (__int128)t->persons + 1 : 1, least = 0;
-    w->are_narrow = 1;
-    for (int writes = 0; writes < 2; writes++)
-        for (size_t j = 0; j < objects; j++) {
-            __int128 price = (__int128)w->prices[j] << (last - w->unit);
-            for (size_t k = 0; k < w->levels; k++) price += (__int128)w->changes[k * objects + j] * ((__int128)1 << (last - w->units[k]));
-            if (!writes && (j == 0 || price < least)) least = price;
-            price = (price - (t->persons == objects ? least : 0)) * factor;
-            if (writes) w->are_narrow &= price >= INT64_MIN && price <= INT64_MAX;
-            combined[j] = price;
-        }
-    w->unit = last;
     w->combined = combined;
+    for (size_t j = 0; j < objects; j++) {
+        combined[j] = (__int128)w->prices[j] << (last - w->unit);
+        for (size_t k = 0; k < w->levels; k++) combined[j] += (__int128)w->changes[k * objects + j] * ((__int128)1 << (last - w->units[k]));
+        if (t->persons == objects && (j == 0 || combined[j] < least)) least = combined[j];
+    }
+    for (size_t j = 0; j < objects; j++) combined[j] -= least;
+    if (lifts && lift(w, combined, last)) return 1;
+    w->are_narrow = 1;
+    for (size_t j = 0; j < objects; j++) {
+        combined[j] *= is_whole ? (__int128)t->persons + 1 : 1;
+        w->are_narrow &= combined[j] >= INT64_MIN && combined[j] <= INT64_MAX;
+    }
+    w->unit = last;
     return 0;
 }

@@ -211,29 +211,65 @@ static uint64_t round_all(const double *restrict values, size_t count, double ro
     return tails;
 }
 
-/* The same of a row with gaps. */
-static uint64_t round_some(const double *restrict values, size_t count, double rounder, int64_t least, int64_t *restrict to) {
-    uint64_t tails = 0, zero = (uint64_t)bits_of(rounder) + (uint64_t)least;
-    for (size_t j = 0; j < count; j++) {
+/* The same of a row with gaps, or with a gate. */
+static uint64_t round_some(const job *w, const double *restrict values, double rounder, int64_t *restrict to) {
+    uint64_t tails = 0, zero = (uint64_t)bits_of(rounder) + (uint64_t)w->least;
+    for (size_t j = 0; j < w->table.objects; j++) {
         double sum = values[j] + rounder;
-        to[j] = values[j] > DBL_MAX ? NO_ENTRY : (int64_t)((uint64_t)bits_of(sum) - zero);
-        tails |= values[j] <= DBL_MAX && sum - rounder != values[j];
+        int is_gap = values[j] > DBL_MAX, is_gate = w->gate_cost && values[j] == w->gate;
+        int64_t whole = (int64_t)((uint64_t)bits_of(sum) - zero);
+        to[j] = is_gap ? NO_ENTRY : is_gate ? w->gate_cost : whole;
+        tails |= !is_gap && !is_gate && sum - rounder != values[j];
     }
     return tails;
+}
+
+/* Whether the greatest cost is a gate: so great beside all others, which are up to `inner`, that the fewest of it are wanted first of all. */
+static int find_gate(const job *w, double least, double most, double *inner) {
+    double widest = (most - least) / (4 * (double)w->table.persons), high = least;
+    for (size_t i = 0; i < w->table.persons; i++) {
+        const double *row = row_of(w, i);
+        for (size_t j = 0; j < w->table.objects; j++) high = row[j] < most && row[j] > high ? row[j] : high;
+        if (!(high - least <= widest)) return 0;
+    }
+    *inner = high;
+    return most > least;
+}
+
+static int64_t whole_at(double value, int unit) { return bits_of(value + rounder_of(unit)) - bits_of(rounder_of(unit)); }
+
+/* Takes the unit, and for a gate a cost that is more than all others together can make up for, and that is less than the gate. */
+static void take_unit(job *w, double least, double most) {
+    double inner;
+    if (find_gate(w, least, most, &inner)) {
+        w->gate = most;
+        w->unit = unit_of(least, inner) + 1;
+        do {
+            w->unit--;
+            w->gate_span = whole_at(inner, w->unit) - whole_at(least, w->unit) + 2;
+            w->gate_cost = 2 * (int64_t)w->table.persons * w->gate_span;
+        } while (w->gate_cost > SIGDORF_MOST_COST);
+        if (ldexp(1.01 * (double)w->gate_cost, -w->unit) < most - least) return;
+        w->gate_cost = 0;
+    }
+    w->unit = unit_of(least, most);
 }
 
 /* Costs in whole units. 1 where numbers are too small or too great for products of floats. */
 static int in_units(job *w, double least, double most) {
     size_t objects = w->table.objects, count = entries_of(&w->table);
-    w->unit = unit_of(least, most);
+    take_unit(w, least, most);
     if (w->unit > 1000 || w->unit < -900) return 1;
     double rounder = rounder_of(w->unit);
     w->back = ldexp(1, -w->unit);
-    w->least = bits_of(least + rounder) - bits_of(rounder);
+    w->least = whole_at(least, w->unit);
     uint64_t tails = 0;
-    for (size_t i = 0; i < w->table.persons; i++) tails |= (w->has_gaps ? round_some : round_all)(row_of(w, i), objects, rounder, w->least, w->own_costs + i * objects);
+    for (size_t i = 0; i < w->table.persons; i++) {
+        int64_t *to = w->own_costs + i * objects;
+        tails |= w->has_gaps || w->gate_cost ? round_some(w, row_of(w, i), rounder, to) : round_all(row_of(w, i), objects, rounder, w->least, to);
+    }
     w->has_tails = tails != 0;
-    if (w->has_tails) return 0;
+    if (w->has_tails || w->gate_cost) return 0;
     /* The smaller the numbers, the fewer the bids. */
     w->spare = common_twos(w->own_costs, count);
     w->unit -= w->spare;
@@ -242,12 +278,14 @@ static int in_units(job *w, double least, double most) {
     return 0;
 }
 
-int tail_of(const job *w, size_t person, size_t object, double *tail) {
+int cost_of(const job *w, size_t person, size_t object, double *cost, double *tail) {
     const table *t = &w->table;
     const char *at = t->start + (Py_ssize_t)person * t->down + (Py_ssize_t)object * t->across;
-    double value;
-    (t->type == 'd' ? read_doubles : read_floats)(at, t->across, 1, w->sign, &value);
-    *tail = value - whole_of(w, person, object);
+    int64_t whole = w->own_costs[person * t->objects + object];
+    (t->type == 'd' ? read_doubles : read_floats)(at, t->across, 1, w->sign, cost);
+    *tail = 0;
+    if (w->gate_cost && whole == w->gate_cost) return *cost != w->gate;
+    *tail = *cost - (double)(whole * (INT64_C(1) << w->spare) + w->least) * w->back;
     return !(fabs(*tail) <= w->back / 2);
 }
 

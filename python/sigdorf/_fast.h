@@ -31,14 +31,29 @@ typedef struct {
     int by_columns, has_view;
 } table;
 
+/* A block of memory that is used again. */
+typedef struct {
+    void *block;
+    size_t bytes;
+} room;
+
+/* What the matrices of a call use one after another: room for costs, for a level, and for a round, and a level's arcs, of which so many have room. */
+typedef struct {
+    room costs, level, round;
+    uint32_t *object;
+    int64_t *slack;
+    double *tail;
+    size_t arcs;
+} workshop;
+
 /* A matrix at work. Costs are whole numbers of 2^-unit, turned so that the least is wanted; of floats that aren't whole they are counted from `least`, and
  * `cost_of` tells what is left of each. */
 typedef struct {
     table table;
-    void *block;
-    size_t bytes;
+    workshop *shop;
+    void *block; /* what the answer is made of */
     const int64_t *costs;
-    int64_t *own_costs, *prices;
+    int64_t *own_costs, *prices, *rows, *columns, *places;
     double *row, back; /* room for a row of floats, where it isn't read in place; the unit that costs were rounded to */
     int64_t least;
     int spare; /* by so many places costs were shifted, where all end in as many zeros */
@@ -48,7 +63,7 @@ typedef struct {
     uint32_t *choice, *hall;
     size_t stride;
     int sign, unit, is_float, has_gaps, has_tails, is_small; /* small: whole numbers to 10^9 */
-    int is_found, is_alone;
+    int copies, is_found;
     /* The sum of the choice's costs, turned: a whole number of 2^-sum_unit, where it is within 128 bits, and else `has_sum` is 0. */
     __int128 sum;
     int sum_unit, has_sum;
@@ -62,13 +77,15 @@ typedef struct {
     __int128 *combined;
     int are_narrow;
 } job;
+/* The block of a room, with so many bytes at least and what it has held lost; NULL where there is no memory. */
+void *block_of(room *r, size_t bytes);
+
 static inline size_t entries_of(const table *t) { return t->persons * t->objects; }
 
 /* Of _reading.c: each 1 where the matrix has a number that isn't taken. */
 int read_in_place(const table *t);
 int read_whole(const table *t, int sign, int64_t *to);
 int read_all_floats(job *w);
-int common_twos(const int64_t *numbers, size_t count);
 /* A float, turned, and what rounding to whole units has left of it: 1 where that is more than half a unit, since somebody has written the matrix meanwhile. */
 int cost_of(const job *w, size_t person, size_t object, double *cost, double *tail);
 

@@ -14,9 +14,9 @@
 /* So many entries of a row are looked at side by side. */
 #define LANES 8
 
-/* A level, as refinement.py has it: arcs by rising persons, of each where they begin and the place of his choice among them. There is room for `room` arcs. */
+/* A level, as refinement.py has it: arcs by rising persons, of each where they begin and the place of his choice among them. */
 typedef struct {
-    size_t persons, objects, room;
+    size_t persons, objects;
     int unit, is_settled;
     uint32_t *first, *object, *pick;
     int64_t *slack, *price;
@@ -117,43 +117,52 @@ static int step_of(const level *l) {
     return by < 1 ? 1 : by > MOST_FINER ? MOST_FINER : by;
 }
 
-/* Slacks in a unit finer by so many powers of two, into `finer`, so that each person's least is 0; answers their sum at the choices. */
-static int64_t in_finer(const level *l, int by, int64_t *finer) {
-    int64_t gap = 0;
+/* Slacks in a unit finer by so many powers of two: their sum at the choices, whether they leave tails, and by how many places all of them can be shifted
+ * to the right, if they don't. */
+typedef struct {
+    int64_t gap;
+    int by, has_tails, spare;
+} step;
+
+/* Makes slacks in a unit finer by so many powers of two, into `finer`, so that each person's least is 0. */
+static step in_finer(const level *l, int by, int64_t *finer) {
+    step s = {.by = by};
+    uint64_t bits = 0;
     power units = power_of(l->unit + by);
     for (size_t i = 0; i < l->persons; i++) {
         size_t end = l->first[i + 1];
         int64_t least = INT64_MAX;
         for (size_t e = l->first[i]; e < end; e++) {
-            finer[e] = (l->slack[e] << by) + (int64_t)nearbyint(times(l->tail[e], units));
+            double tail = times(l->tail[e], units), whole = nearbyint(tail);
+            /* One that is next to nothing in this unit may have run under. */
+            s.has_tails |= tail != whole || (tail == 0 && l->tail[e] != 0);
+            finer[e] = (l->slack[e] << by) + (int64_t)whole;
             least = finer[e] < least ? finer[e] : least;
         }
-        for (size_t e = l->first[i]; e < end; e++) finer[e] -= least;
-        gap += finer[l->pick[i]];
+        for (size_t e = l->first[i]; e < end; e++) {
+            finer[e] -= least;
+            bits |= (uint64_t)finer[e];
+        }
+        s.gap += finer[l->pick[i]];
     }
-    return gap;
+    int twos = s.has_tails ? 0 : bits ? __builtin_ctzll(bits) : by;
+    s.spare = twos < by ? twos : by;
+    return s;
 }
 
 static int64_t price_in_finer(const level *l, size_t object, int by) { return l->price[object] > PLENTY >> by ? PLENTY : l->price[object] << by; }
 
-/* Takes a unit that is finer by so many powers of two, and the slacks in it: or one that is coarser than that, where nothing is lost by it. Answers by how
- * many powers of two numbers of that unit are to be divided. */
-static int take_finer(level *l, int by, const int64_t *finer) {
-    int has_tails = 0;
-    power units = power_of(l->unit + by), back = power_of(-l->unit - by);
+/* Takes the unit of a step, and the slacks in it: or one that is coarser than that, where nothing is lost by it. */
+static void take_finer(level *l, step s, const int64_t *finer) {
     size_t count = count_of(l);
+    power units = power_of(l->unit + s.by), back = power_of(-l->unit - s.by);
     for (size_t e = 0; e < count; e++) {
         l->tail[e] -= times(nearbyint(times(l->tail[e], units)), back);
-        has_tails |= l->tail[e] != 0;
+        l->slack[e] = finer[e] >> s.spare;
     }
-    int spare = has_tails ? 0 : common_twos(finer, count);
-    if (spare > by) spare = by;
-    for (size_t e = 0; e < count; e++) l->slack[e] = finer[e] >> spare;
-    by -= spare;
-    l->unit += by;
-    l->is_settled = !has_tails;
-    for (size_t j = 0; j < l->objects; j++) l->price[j] = price_in_finer(l, j, by);
-    return spare;
+    l->unit += s.by - s.spare;
+    l->is_settled = !s.has_tails;
+    for (size_t j = 0; j < l->objects; j++) l->price[j] = price_in_finer(l, j, s.by - s.spare);
 }
 
 /* A round's arcs that are near enough, as a problem of their own: near.py. */
@@ -179,11 +188,11 @@ static void *cut(char **at, size_t count, size_t size) {
     return part;
 }
 
-/* One block of memory with room for all parts of a round of so many arcs. */
-static void *room_of(nearby *r, size_t persons, size_t objects, size_t count) {
+/* Takes room for all parts of a round of so many arcs. 1 where there is no memory. */
+static int take_room(room *from, nearby *r, size_t persons, size_t objects, size_t count) {
     size_t numbers = 7 * persons + 1 + 3 * (objects + 1) + count, longs = 2 * (objects + 1) + persons + count;
-    char *block = malloc(numbers * 4 + (count + persons) * sizeof(sigdorf_arc) + longs * 8 + persons + 1 + objects + 16 * 8);
-    if (!block) return NULL;
+    char *block = block_of(from, numbers * 4 + (count + persons) * sizeof(sigdorf_arc) + longs * 8 + persons + 1 + objects + 16 * 8);
+    if (!block) return 1;
     char *at = block;
     r->of_person = cut(&at, persons, 4);
     r->of_object = cut(&at, objects, 4);
@@ -204,7 +213,7 @@ static void *room_of(nearby *r, size_t persons, size_t objects, size_t count) {
     r->worth = cut(&at, persons, 8);
     r->finer = cut(&at, count, 8);
     r->seen = cut(&at, persons + 1 + objects, 1);
-    return block;
+    return 0;
 }
 
 /* Lists the arcs below a window, but for a person's only one to an object's only one: he keeps it, at the price that it has. */
@@ -267,7 +276,8 @@ static int solve_near(level *l, nearby *r, int64_t gap) {
 
 /* Lists the arcs by which a price may have to be lowered so that the choices stay the best: of each person that has some, how much dearer they are than his
  * choice. An arc of a slack beyond 2 gaps is none of these, since no price is lowered by more than one. */
-static void list_lowering(const level *l, nearby *r, const int64_t *slack, int64_t gap) {
+static void list_lowering(const level *l, nearby *r, int64_t gap) {
+    const int64_t *slack = r->finer;
     size_t near = 0, persons = 0;
     for (size_t i = 0; i < l->persons; i++) {
         size_t first = near, own = l->pick[i];
@@ -297,23 +307,23 @@ static int lower(nearby *r, size_t person) {
     return 1;
 }
 
-/* Looks for prices, in a unit finer by so many powers of two, at which the choices of a level stay the best, by lowering the price of whatever a person has while another arc is better for
+/* Looks for prices, in the unit of a step, at which the choices of a level stay the best, by lowering the price of whatever a person has while another arc is better for
  * him: 1 where there are some, with their changes. If the choices aren't the least, something is lowered around and around, and so by more than
  * the sum of their slacks; nothing is, where they are, since each step on the way from a price that stands lowers by one person's slack at most.
  * Persons take turns upwards and downwards, since most ways lead on in one of these orders. */
-static int relax(const level *l, nearby *r, int by, const int64_t *slack, int64_t gap) {
-    list_lowering(l, r, slack, gap);
+static int relax(const level *l, nearby *r, step s) {
+    list_lowering(l, r, s.gap);
     memset(r->change, 0, l->objects * 8);
-    int moves = gap > 0;
+    int moves = s.gap > 0;
     for (int pass = 0; moves && pass < MOST_PASSES; pass++) {
         moves = 0;
         for (size_t k = 0; k < r->persons; k++) moves |= lower(r, pass % 2 ? r->persons - 1 - k : k);
         for (size_t k = 0; k < r->persons; k++)
-            if (r->change[r->own[k]] < -gap) return 0;
+            if (r->change[r->own[k]] < -s.gap) return 0;
     }
     if (moves) return 0;
     for (size_t j = 0; l->objects > l->persons && j < l->objects; j++)
-        if (price_in_finer(l, j, by) + r->change[j] < 0) return 0;
+        if (price_in_finer(l, j, s.by) + r->change[j] < 0) return 0;
     return 1;
 }
 
@@ -329,10 +339,16 @@ static void take_changes(level *l, const nearby *r) {
 
 /* Takes the next level by the choices that there are, in the finest unit: 1 where they aren't the least in it, or it isn't seen that they are. */
 static int finer_by_prices(level *l, nearby *r) {
-    int64_t gap = in_finer(l, MOST_FINER, r->finer);
-    if (!relax(l, r, MOST_FINER, r->finer, gap)) return 1;
-    int spare = take_finer(l, MOST_FINER, r->finer);
-    for (size_t j = 0; j < l->objects; j++) r->change[j] >>= spare;
+    step s = in_finer(l, MOST_FINER, r->finer);
+    if (!relax(l, r, s)) return 1;
+    for (size_t j = 0; j < l->objects; j++) r->change[j] >>= s.spare;
+    if (!s.has_tails) {
+        /* The last level: nobody looks at its slacks. */
+        l->unit += s.by - s.spare;
+        l->is_settled = 1;
+        return 0;
+    }
+    take_finer(l, s, r->finer);
     for (size_t i = 0; i < l->persons; i++) r->worth[i] = l->slack[l->pick[i]] + r->change[l->object[l->pick[i]]];
     take_changes(l, r);
     return 0;
@@ -340,24 +356,27 @@ static int finer_by_prices(level *l, nearby *r) {
 
 /* Takes the next level by choices of the library's. 1 where memory or the library doesn't. */
 static int finer_by_library(level *l, nearby *r) {
-    int by = step_of(l);
-    int64_t gap;
-    while (2 * ((gap = in_finer(l, by, r->finer)) + 1) > SIGDORF_MOST_COST) by--;
-    gap >>= take_finer(l, by, r->finer);
-    if (solve_near(l, r, gap)) return 1;
+    step s = in_finer(l, step_of(l), r->finer);
+    while (2 * (s.gap + 1) > SIGDORF_MOST_COST) s = in_finer(l, s.by - 1, r->finer);
+    take_finer(l, s, r->finer);
+    if (solve_near(l, r, s.gap >> s.spare)) return 1;
     take_changes(l, r);
     return 0;
 }
 
 /* Room for the arcs of another row behind so many. 1 where there is no memory. */
-static int widen(level *l, size_t count) {
-    if (l->room - count >= l->objects) return 0;
-    l->room = 4 * (l->room + l->objects);
-    void *object = realloc(l->object, l->room * 4), *slack = realloc(l->slack, l->room * 8), *tail = realloc(l->tail, l->room * 8);
-    if (object) l->object = object;
-    if (slack) l->slack = slack;
-    if (tail) l->tail = tail;
-    return !object || !slack || !tail;
+static int widen(workshop *shop, level *l, size_t count) {
+    if (shop->arcs - count < l->objects) {
+        size_t arcs = 4 * (shop->arcs + l->objects);
+        void *object = realloc(shop->object, arcs * 4), *slack = realloc(shop->slack, arcs * 8), *tail = realloc(shop->tail, arcs * 8);
+        if (object) shop->object = object;
+        if (slack) shop->slack = slack;
+        if (tail) shop->tail = tail;
+        if (!object || !slack || !tail) return 1;
+        shop->arcs = arcs;
+    }
+    l->object = shop->object, l->slack = shop->slack, l->tail = shop->tail;
+    return 0;
 }
 
 /* Two numbers that a vector of any machine holds. */
@@ -414,12 +433,17 @@ static int list_row(const job *w, level *l, size_t person) {
 }
 
 /* The first level, of a matrix that was solved in whole units: its prices are made whole. 1 where there is no memory. */
-static int first_level(job *w, level *l, uint8_t *seen) {
+static int first_level(job *w, level *l) {
     size_t persons = w->table.persons, objects = w->table.objects;
-    make_whole(w->prices, objects, w->choice, persons, seen);
+    char *at = block_of(&w->shop->level, (2 * persons + 1) * 4 + objects * 8 + persons + 1 + 4 * 8);
+    if (!at) return 1;
+    l->price = cut(&at, objects, 8);
+    l->pick = cut(&at, persons, 4);
+    l->first = cut(&at, persons + 1, 4);
+    make_whole(w->prices, objects, w->choice, persons, cut(&at, persons + 1, 1));
     l->persons = persons, l->objects = objects, l->unit = w->unit, l->is_settled = 1, l->first[0] = 0;
     for (size_t i = 0; i < persons; i++)
-        if (widen(l, l->first[i]) || list_row(w, l, i)) return 1;
+        if (widen(w->shop, l, l->first[i]) || list_row(w, l, i)) return 1;
     for (size_t j = 0; j < objects; j++) l->price[j] = objects == persons ? 0 : w->prices[j] < PLENTY ? w->prices[j] : PLENTY;
     return 0;
 }
@@ -455,25 +479,11 @@ int refine(job *w) {
     size_t persons = w->table.persons, objects = w->table.objects;
     level l = {0};
     nearby r = {0};
-    void *room = NULL;
-    l.pick = malloc((2 * persons + 1) * 4);
-    l.price = malloc(objects * 8);
-    l.first = l.pick ? l.pick + persons : NULL;
-    uint8_t *seen = malloc(persons + 1);
-    int fails = !l.pick || !l.price || !seen || first_level(w, &l, seen);
-    if (!fails && !l.is_settled) {
-        room = room_of(&r, persons, objects, count_of(&l));
-        fails = !room || settle(w, &l, &r);
-        for (size_t i = 0; !fails && i < persons; i++) w->choice[i] = l.object[l.pick[i]];
-    }
-    free(l.object);
-    free(l.pick);
-    free(l.slack);
-    free(l.price);
-    free(l.tail);
-    free(room);
-    free(seen);
-    return fails;
+    if (first_level(w, &l)) return 1;
+    if (l.is_settled) return 0;
+    if (take_room(&w->shop->round, &r, persons, objects, count_of(&l)) || settle(w, &l, &r)) return 1;
+    for (size_t i = 0; i < persons; i++) w->choice[i] = l.object[l.pick[i]];
+    return 0;
 }
 
 /* ---- What a solution tells beside its pairs */
@@ -515,11 +525,10 @@ int sum_up(job *w) {
     size_t persons = w->table.persons;
     w->has_sum = w->is_small;
     if (w->is_small) return 0;
-    double *costs = malloc(persons * 8), tail;
+    double *costs = block_of(&w->shop->level, persons * 8), tail;
     int fails = !costs;
     for (size_t i = 0; !fails && i < persons; i++) fails = cost_of(w, i, w->choice[i], &costs[i], &tail);
     if (!fails) sum_up_all(w, costs, persons);
-    free(costs);
     return fails;
 }
 
@@ -558,7 +567,7 @@ static int lift(const job *w, __int128 *prices, int unit) {
     for (size_t j = 0; j < objects; j++) most = prices[j] > most ? prices[j] : most;
     double times = (double)(most / step + 2) * (double)(w->table.persons + 1);
     if (!(fabs(gate) * times < ldexp(1, 120)) || (double)most * times > ldexp(1, 120) || nearbyint(gate) != gate) return 1;
-    __int128 more = (__int128)gate - step - ((__int128)w->least << (unit - w->unit)), offset = offset_of(w, prices, step, span);
+    __int128 more = (__int128)gate - step - (__int128)w->least * ((__int128)1 << (unit - w->unit)), offset = offset_of(w, prices, step, span);
     for (size_t j = 0; j < objects; j++) prices[j] += more * ((prices[j] + offset) / step);
     return offset < 0;
 }
@@ -571,10 +580,9 @@ int combine(job *w) {
     if (w->is_small) return 0;
     int last = w->levels ? w->units[w->levels - 1] : w->unit, lifts = uses_gate(w), is_whole = w->has_tails;
     if (!is_whole && (last < 0 || lifts)) {
-        uint8_t *seen = malloc(t->persons + 1);
+        uint8_t *seen = block_of(&w->shop->level, t->persons + 1);
         if (!seen) return 1;
         make_whole(w->prices, objects, w->choice, t->persons, seen);
-        free(seen);
         is_whole = 1;
     }
     if (last < 0 || last - w->unit > 60) return lifts;

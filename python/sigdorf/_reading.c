@@ -153,7 +153,7 @@ static int look_at_values(job *w, double *least, double *most) {
 }
 
 /* By how many places all these whole numbers can be shifted to the right, so that nothing is lost; gaps aside. */
-int common_twos(const int64_t *numbers, size_t count) {
+static int common_twos(const int64_t *numbers, size_t count) {
     uint64_t bits = 0;
     for (size_t e = 0; e < count; e++) bits |= (uint64_t)numbers[e];
     /* A gap has the highest bit alone. */

@@ -47,7 +47,8 @@ def exact_sum(costs):
 def nearest_float(amount):
     """The float next to a Fraction; an infinite one where it is beyond all of them."""
     try:
-        return float(amount)
+        # As float(amount), which takes some times as long.
+        return amount.numerator / amount.denominator
     except OverflowError:
         return math.inf if amount > 0 else -math.inf
 

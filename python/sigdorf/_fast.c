@@ -13,7 +13,7 @@
 #include <string.h>
 
 /* Rises where what Python calls changes, so that an extension of other sources isn't used: fast.py has the same. */
-#define INTERFACE 2
+#define INTERFACE 3
 /* With fewer entries a call holds the lock: what giving it up costs would count, and a copy. */
 #define FEWEST 2000
 /* So many bytes of working memory at most are kept for the next call. */
@@ -263,6 +263,7 @@ static PyObject *pair_of(const job *w) {
 
 /* A whole number of 128 bits. */
 static PyObject *number_of(__int128 number) {
+    if (number == (int64_t)number) return PyLong_FromLongLong((long long)number);
     PyObject *high = PyLong_FromLongLong((long long)(number >> 64)), *low = PyLong_FromUnsignedLongLong((unsigned long long)number);
     PyObject *bits = PyLong_FromLong(64), *shifted = high && bits ? PyNumber_Lshift(high, bits) : NULL;
     PyObject *sum = shifted && low ? PyNumber_Add(shifted, low) : NULL;
@@ -311,20 +312,20 @@ static PyObject *levels_of(const job *w) {
     return tuple;
 }
 
-/* (rows, columns, places, prices, unit, is_small, high, low, sum_unit): `prices` are an array or a list on the scale (persons + 1) * 2^unit, or a tuple of levels.
- * The sum of the costs, turned as they are, is (high * 2^64 + low) / 2^sum_unit; `high` is None where Python has to add them. */
+/* (rows, columns, places, prices, unit, is_small, total, total_unit): `prices` are an array or a list on the scale (persons + 1) * 2^unit, or a tuple of levels.
+ * The sum of the costs is total / 2^total_unit, where total is odd or total_unit isn't above 0; `total` is None where Python has to add them. */
 static PyObject *solution_of(const job *w) {
     PyObject *arrays[3] = {0};
     if (make_pairs(w, arrays)) return NULL;
     PyObject *prices = w->is_small ? array_of(w->prices, w->table.objects) : w->combined ? combined_of(w) : levels_of(w);
-    PyObject *high = w->has_sum ? PyLong_FromLongLong((long long)(w->sum >> 64)) : Py_NewRef(Py_None);
-    if (!prices || !high) {
+    PyObject *total = w->has_sum ? number_of(w->sign * w->sum) : Py_NewRef(Py_None);
+    if (!prices || !total) {
         for (int k = 0; k < 3; k++) Py_DECREF(arrays[k]);
         Py_XDECREF(prices);
-        Py_XDECREF(high);
+        Py_XDECREF(total);
         return NULL;
     }
-    return Py_BuildValue("(NNNNiiNKi)", arrays[0], arrays[1], arrays[2], prices, w->unit, w->is_small, high, (unsigned long long)w->sum, w->sum_unit);
+    return Py_BuildValue("(NNNNiiNi)", arrays[0], arrays[1], arrays[2], prices, w->unit, w->is_small, total, w->sum_unit);
 }
 
 /* ---- What Python calls */

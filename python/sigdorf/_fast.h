@@ -6,7 +6,9 @@
 #define Py_LIMITED_API 0x030B0000
 #define PY_SSIZE_T_CLEAN
 #include <Python.h>
+#include <math.h>
 #include <stdint.h>
+#include <string.h>
 
 #include "sigdorf.h"
 
@@ -87,7 +89,23 @@ int read_in_place(const table *t);
 int read_whole(const table *t, int sign, int64_t *to);
 int read_all_floats(job *w);
 /* A float, turned, and what rounding to whole units has left of it: 1 where that is more than half a unit, since somebody has written the matrix meanwhile. */
-int cost_of(const job *w, size_t person, size_t object, double *cost, double *tail);
+static inline int cost_of(const job *w, size_t person, size_t object, double *cost, double *tail) {
+    const table *t = &w->table;
+    const char *at = t->start + (Py_ssize_t)person * t->down + (Py_ssize_t)object * t->across;
+    int64_t whole = w->own_costs[person * t->objects + object];
+    float narrow;
+    if (t->type == 'd') {
+        memcpy(cost, at, sizeof *cost);
+    } else {
+        memcpy(&narrow, at, sizeof narrow);
+        *cost = narrow;
+    }
+    *cost *= w->sign;
+    *tail = 0;
+    if (w->gate_cost && whole == w->gate_cost) return *cost != w->gate;
+    *tail = *cost - (double)(whole * (INT64_C(1) << w->spare) + w->least) * w->back;
+    return !(fabs(*tail) <= w->back / 2);
+}
 
 /* Of _levels.c: each 1 where there is no memory, or the library answers something else. */
 int refine(job *w);

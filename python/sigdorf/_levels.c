@@ -12,7 +12,7 @@
 /* So often a round looks for prices at which its choices stay, before it has the library look for other choices. */
 #define MOST_PASSES 64
 /* So many entries of a row are looked at side by side. */
-#define LANES 8
+#define LANES 4
 
 /* A level, as refinement.py has it: arcs by rising persons, of each where they begin and the place of his choice among them. */
 typedef struct {
@@ -517,6 +517,7 @@ static void sum_up_all(job *w, const double *costs, size_t count) {
         if (digits) w->sum += (__int128)digits * ((__int128)1 << (exponent - least));
     }
     w->sum_unit = -least;
+    for (; w->sum_unit > 0 && !(w->sum & 1); w->sum_unit--) w->sum >>= 1;
     w->has_sum = 1;
 }
 

@@ -122,6 +122,9 @@ static const double *row_of(const job *w, size_t person) {
     return w->row;
 }
 
+/* Whether all rows can be read in place as one. */
+static int lies_together(const job *w) { return !w->row && (w->table.persons == 1 || w->table.down == (Py_ssize_t)w->table.objects * 8); }
+
 /* The greatest cost of a matrix of which something isn't finite: a gap, or else 1 is answered. */
 static int look_at_gaps(job *w, double *most) {
     w->has_gaps = 1;
@@ -141,7 +144,10 @@ static int look_at_values(job *w, double *least, double *most) {
     const table *t = &w->table;
     lanes seen;
     for (size_t l = 0; l < LANES; l++) seen.least[l] = INFINITY, seen.most[l] = -INFINITY, seen.finite[l] = 0;
-    for (size_t i = 0; i < t->persons; i++) look_over(&seen, row_of(w, i), t->objects);
+    if (lies_together(w))
+        look_over(&seen, row_of(w, 0), entries_of(t));
+    else
+        for (size_t i = 0; i < t->persons; i++) look_over(&seen, row_of(w, i), t->objects);
     double finite = 0;
     *least = INFINITY, *most = -INFINITY;
     for (size_t l = 0; l < LANES; l++) {
@@ -224,6 +230,12 @@ static uint64_t round_some(const job *w, const double *restrict values, double r
     return tails;
 }
 
+static uint64_t round_row(const job *w, size_t person, double rounder) {
+    int64_t *to = w->own_costs + person * w->table.objects;
+    const double *row = row_of(w, person);
+    return w->has_gaps || w->gate_cost ? round_some(w, row, rounder, to) : round_all(row, w->table.objects, rounder, w->least, to);
+}
+
 /* Whether the greatest cost is a gate: so great beside all others, which are up to `inner`, that the fewest of it are wanted first of all. */
 static int find_gate(const job *w, double least, double most, double *inner) {
     double widest = (most - least) / (4 * (double)w->table.persons), high = least;
@@ -257,17 +269,17 @@ static void take_unit(job *w, double least, double most) {
 
 /* Costs in whole units. 1 where numbers are too small or too great for products of floats. */
 static int in_units(job *w, double least, double most) {
-    size_t objects = w->table.objects, count = entries_of(&w->table);
+    size_t count = entries_of(&w->table);
     take_unit(w, least, most);
     if (w->unit > 1000 || w->unit < -900) return 1;
     double rounder = rounder_of(w->unit);
     w->back = ldexp(1, -w->unit);
     w->least = whole_at(least, w->unit);
     uint64_t tails = 0;
-    for (size_t i = 0; i < w->table.persons; i++) {
-        int64_t *to = w->own_costs + i * objects;
-        tails |= w->has_gaps || w->gate_cost ? round_some(w, row_of(w, i), rounder, to) : round_all(row_of(w, i), objects, rounder, w->least, to);
-    }
+    if (lies_together(w) && !w->has_gaps && !w->gate_cost)
+        tails = round_all(row_of(w, 0), count, rounder, w->least, w->own_costs);
+    else
+        for (size_t i = 0; i < w->table.persons; i++) tails |= round_row(w, i, rounder);
     w->has_tails = tails != 0;
     if (w->has_tails || w->gate_cost) return 0;
     /* The smaller the numbers, the fewer the bids. */
@@ -276,17 +288,6 @@ static int in_units(job *w, double least, double most) {
     for (size_t e = 0; w->spare && e < count; e++)
         if (w->own_costs[e] != NO_ENTRY) w->own_costs[e] >>= w->spare;
     return 0;
-}
-
-int cost_of(const job *w, size_t person, size_t object, double *cost, double *tail) {
-    const table *t = &w->table;
-    const char *at = t->start + (Py_ssize_t)person * t->down + (Py_ssize_t)object * t->across;
-    int64_t whole = w->own_costs[person * t->objects + object];
-    (t->type == 'd' ? read_doubles : read_floats)(at, t->across, 1, w->sign, cost);
-    *tail = 0;
-    if (w->gate_cost && whole == w->gate_cost) return *cost != w->gate;
-    *tail = *cost - (double)(whole * (INT64_C(1) << w->spare) + w->least) * w->back;
-    return !(fabs(*tail) <= w->back / 2);
 }
 
 int read_all_floats(job *w) {

@@ -274,18 +274,9 @@ static PyObject *number_of(__int128 number) {
     return sum;
 }
 
-/* The prices of all levels together: an array, or a list of Python's whole numbers where they are beyond 64 bits. */
-static PyObject *combined_of(const job *w) {
+/* Prices beyond 64 bits: a list of Python's whole numbers. */
+static PyObject *long_prices_of(const job *w) {
     size_t objects = w->table.objects;
-    if (w->are_narrow) {
-        Py_buffer view;
-        int64_t *to;
-        PyObject *array = new_array(objects, &view, &to);
-        if (!array) return NULL;
-        for (size_t j = 0; j < objects; j++) to[j] = (int64_t)w->combined[j];
-        PyBuffer_Release(&view);
-        return array;
-    }
     PyObject *list = PyList_New((Py_ssize_t)objects);
     for (size_t j = 0; list && j < objects; j++) {
         PyObject *number = number_of(w->combined[j]);
@@ -317,7 +308,7 @@ static PyObject *levels_of(const job *w) {
 static PyObject *solution_of(const job *w) {
     PyObject *arrays[3] = {0};
     if (make_pairs(w, arrays)) return NULL;
-    PyObject *prices = w->is_small ? array_of(w->prices, w->table.objects) : w->combined ? combined_of(w) : levels_of(w);
+    PyObject *prices = w->are_narrow ? array_of(w->prices, w->table.objects) : w->combined ? long_prices_of(w) : levels_of(w);
     PyObject *total = w->has_sum ? number_of(w->sign * w->sum) : Py_NewRef(Py_None);
     if (!prices || !total) {
         for (int k = 0; k < 3; k++) Py_DECREF(arrays[k]);
@@ -326,6 +317,19 @@ static PyObject *solution_of(const job *w) {
         return NULL;
     }
     return Py_BuildValue("(NNNNiiNi)", arrays[0], arrays[1], arrays[2], prices, w->unit, w->is_small, total, w->sum_unit);
+}
+
+/* The answers of some jobs. */
+static PyObject *answers_of(const job *jobs, Py_ssize_t number) {
+    PyObject *answers = PyList_New(number);
+    for (Py_ssize_t k = 0; answers && k < number; k++) {
+        PyObject *answer = jobs[k].is_found ? solution_of(&jobs[k]) : Py_NewRef(Py_None);
+        if (answer)
+            PyList_SetItem(answers, k, answer);
+        else
+            Py_CLEAR(answers);
+    }
+    return answers;
 }
 
 /* ---- What Python calls */
@@ -371,25 +375,20 @@ static PyObject *solved_all(PyObject *module, PyObject *const *arguments, Py_ssi
     Py_ssize_t number = PyTuple_Size(matrices);
     job *jobs = calloc(number ? (size_t)number : 1, sizeof *jobs);
     char *runs = calloc(number ? (size_t)number : 1, 1);
-    PyObject *answers = jobs && runs ? PyList_New(number) : PyErr_NoMemory();
-    if (answers) {
+    PyObject *answers = NULL;
+    if (jobs && runs) {
         workshop shop = {0};
         for (Py_ssize_t k = 0; k < number; k++)
-            runs[k] = solve_dense && !begin(&jobs[k], &shop, PyTuple_GetItem(matrices, k), arguments[1] == Py_True, 1, 0);
+            runs[k] = !begin(&jobs[k], &shop, PyTuple_GetItem(matrices, k), arguments[1] == Py_True, 1, 0) && solve_dense;
         Py_BEGIN_ALLOW_THREADS
         for (Py_ssize_t k = 0; k < number; k++)
             if (runs[k]) run(&jobs[k]);
         close_shop(&shop);
         Py_END_ALLOW_THREADS
-        for (Py_ssize_t k = 0; k < number; k++) {
-            PyObject *answer = !answers ? NULL : jobs[k].is_found ? solution_of(&jobs[k]) : Py_NewRef(Py_None);
-            if (answer)
-                PyList_SetItem(answers, k, answer);
-            else
-                Py_CLEAR(answers);
-            end(&jobs[k]);
-        }
-    }
+        answers = answers_of(jobs, number);
+        for (Py_ssize_t k = 0; k < number; k++) end(&jobs[k]);
+    } else
+        PyErr_NoMemory();
     free(jobs);
     free(runs);
     Py_DECREF(matrices);

@@ -74,8 +74,8 @@ typedef struct {
     int *units;
     size_t levels;
     int wants_prices;
-    /* The answer's prices, in units of which (persons + 1) * 2^unit are one of the caller's, and whether each is within 64 bits; of small costs they are
-     * `prices`. Else NULL, where Python puts the levels together, of which `prices` are the first one's, in whole units of the costs. */
+    /* The answer's prices: where they are narrow `prices`, else `combined`, in units of which (persons + 1) * 2^unit are one of the caller's. Where there are
+     * neither, Python puts the levels together, of which `prices` are the first one's, in whole units of the costs. */
     __int128 *combined;
     int are_narrow;
 } job;

@@ -578,6 +578,7 @@ static int lift(const job *w, __int128 *prices, int unit) {
 int combine(job *w) {
     const table *t = &w->table;
     size_t objects = t->objects;
+    w->are_narrow = w->is_small;
     if (w->is_small) return 0;
     int last = w->levels ? w->units[w->levels - 1] : w->unit, lifts = uses_gate(w), is_whole = w->has_tails;
     if (!is_whole && (last < 0 || lifts)) {
@@ -597,11 +598,13 @@ int combine(job *w) {
     }
     for (size_t j = 0; j < objects; j++) combined[j] -= least;
     if (lifts && lift(w, combined, last)) return 1;
-    w->are_narrow = 1;
+    int are_narrow = 1;
     for (size_t j = 0; j < objects; j++) {
         combined[j] *= is_whole ? (__int128)t->persons + 1 : 1;
-        w->are_narrow &= combined[j] >= INT64_MIN && combined[j] <= INT64_MAX;
+        are_narrow &= combined[j] >= INT64_MIN && combined[j] <= INT64_MAX;
     }
+    for (size_t j = 0; are_narrow && j < objects; j++) w->prices[j] = (int64_t)combined[j];
+    w->are_narrow = are_narrow;
     w->unit = last;
     return 0;
 }

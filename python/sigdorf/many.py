@@ -19,7 +19,7 @@ from .together import MOST_PERSONS, kind_of, solve_together
 MOST_THREADS = 1024
 # Of arrays that the extension solves in one call: so many entries and so many arrays at most, and so few entries that no more calls are worth while;
 # and how many such calls each thread is to have, so that all end at about the same time.
-MOST_ENTRIES, MOST_TOGETHER, FEWEST_ENTRIES, PARTS = 50_000, 32, 2_000, 4
+MOST_ENTRIES, MOST_TOGETHER, FEWEST_ENTRIES, PARTS = 50_000, 64, 2_000, 4
 
 
 def solve_many(

@@ -36,7 +36,7 @@ def solve_many(
     threads: how many work at a time, from 1 to 1024; the processors that the process may use, where it is left out.
     `maximize`, `decimals` and `bids` are those of :func:`solve`, for all problems.
 
-    The library works side by side, and what Python and numpy do around it one after another. Arrays are solved some hundreds at a time by the
+    The library works side by side, and what Python and numpy do around it one after another. Arrays are solved some dozens at a time by the
     extension, where it was built; without it those of at most 100 rows and columns, as blocks of one problem.
 
     Raises what :func:`solve` does, of a problem that is at fault, with a note that tells its number, from 0; the others are given up.

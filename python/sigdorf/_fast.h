@@ -1,4 +1,5 @@
-/* A dense matrix at work: what the parts of the extension share. _fast.c says what it is; _reading.c reads a matrix, and _levels.c makes an answer of the costs as they stand. */
+/* A dense matrix at work: what the parts of the extension share. _fast.c says what it is; _reading.c reads a matrix, _levels.c makes an answer
+ * of the costs as they stand, and _amounts.c adds them up. */
 #ifndef SIGDORF_FAST_H
 #define SIGDORF_FAST_H
 
@@ -109,7 +110,11 @@ static inline int cost_of(const job *w, size_t person, size_t object, double *co
 
 /* Of _levels.c: each 1 where there is no memory, or the library answers something else. */
 int refine(job *w);
+
+/* Of _amounts.c: the first two 1 where there is no memory, or Python has to do it. */
 int combine(job *w);
 int sum_up(job *w);
+/* Prices in whole units at which no arc is better than a person's choice, of the library's, at which none is more than 1 better: whole.py says why. */
+void make_whole(int64_t *prices, size_t objects, const uint32_t *picked, size_t persons, uint8_t *seen);
 
 #endif

@@ -29,15 +29,16 @@ static int64_t digits_of(double value, int *exponent) {
 
 /* The sum of some floats, exactly, where it is within 128 bits. */
 static void sum_up_all(job *w, const double *costs, size_t count) {
-    int least = INT_MAX, most = INT_MIN, exponent;
+    int least = INT_MAX, most = INT_MIN, exponent, above;
     for (size_t i = 0; i < count; i++) {
         if (!digits_of(costs[i], &exponent)) continue;
+        frexp(costs[i], &above);
         if (exponent < least) least = exponent;
-        if (exponent > most) most = exponent;
+        if (above > most) most = above;
     }
     if (least > most) least = most = 0;
-    /* Ten thousand such numbers are less than 2^14 times the greatest, which has 53 digits at most. */
-    if (most - least > 57) return;
+    /* Ten thousand such numbers are less than 2^14 times the greatest. */
+    if (most - least > 110) return;
     w->sum = 0;
     for (size_t i = 0; i < count; i++) {
         int64_t digits = digits_of(costs[i], &exponent);

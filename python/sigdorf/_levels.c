@@ -9,7 +9,7 @@
 #define MOST_FINER 44
 #define PLENTY (INT64_C(1) << 60)
 /* So often a round looks for prices at which its choices stay, before it has the library look for other choices. */
-#define MOST_PASSES 64
+#define MOST_PASSES 128
 /* So many entries of a row are looked at side by side. */
 #define LANES 4
 

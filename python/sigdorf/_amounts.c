@@ -116,9 +116,8 @@ int combine(job *w) {
         is_whole = 1;
     }
     if (last < 0 || last - w->unit > 60) return lifts;
-    __int128 *combined = malloc(objects * sizeof *combined), least = 0;
+    __int128 *combined = block_of(&w->shop->round, objects * sizeof *combined), least = 0;
     if (!combined) return 1;
-    w->combined = combined;
     for (size_t j = 0; j < objects; j++) {
         combined[j] = (__int128)w->prices[j] << (last - w->unit);
         for (size_t k = 0; k < w->levels; k++) combined[j] += (__int128)w->changes[k * objects + j] * ((__int128)1 << (last - w->units[k]));
@@ -131,8 +130,13 @@ int combine(job *w) {
         combined[j] *= is_whole ? (__int128)t->persons + 1 : 1;
         are_narrow &= combined[j] >= INT64_MIN && combined[j] <= INT64_MAX;
     }
-    for (size_t j = 0; are_narrow && j < objects; j++) w->prices[j] = (int64_t)combined[j];
     w->are_narrow = are_narrow;
+    if (are_narrow) {
+        for (size_t j = 0; j < objects; j++) w->prices[j] = (int64_t)combined[j];
+    } else {
+        if (!(w->combined = malloc(objects * sizeof *combined))) return 1;
+        memcpy(w->combined, combined, objects * sizeof *combined);
+    }
     w->unit = last;
     return 0;
 }

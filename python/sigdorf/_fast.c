@@ -9,11 +9,12 @@
  */
 #include "_fast.h"
 
+#include <float.h>
 #include <stdlib.h>
 #include <string.h>
 
 /* Rises where what Python calls changes, so that an extension of other sources isn't used: fast.py has the same. */
-#define INTERFACE 3
+#define INTERFACE 4
 /* With fewer entries a call holds the lock: what giving it up costs would count, and a copy. */
 #define FEWEST 2000
 /* So many bytes of working memory at most are kept for the next call. */
@@ -303,20 +304,30 @@ static PyObject *levels_of(const job *w) {
     return tuple;
 }
 
-/* (rows, columns, places, prices, unit, is_small, total, total_unit): `prices` are an array or a list on the scale (persons + 1) * 2^unit, or a tuple of levels.
- * The sum of the costs is total / 2^total_unit, where total is odd or total_unit isn't above 0; `total` is None where Python has to add them. */
+/* The sum of the costs as it is told: of whole numbers itself, else the float next to it, or None where that isn't made by one rounding. */
+static PyObject *shown_of(const job *w, PyObject *total) {
+    if (w->is_small) return Py_NewRef(total);
+    double shown = w->has_sum ? ldexp((double)(w->sign * w->sum), -w->sum_unit) : 0;
+    return fabs(shown) >= DBL_MIN && fabs(shown) <= DBL_MAX ? PyFloat_FromDouble(shown) : Py_NewRef(Py_None);
+}
+
+/* (rows, columns, places, prices, unit, total, total_unit, shown): `prices` are an array or a list on the scale (persons + 1) * 2^unit, or a tuple of
+ * levels. The sum of the costs is total / 2^total_unit, where total is odd or total_unit isn't above 0; `total` is None where Python has to add them. `shown` is
+ * the sum as it is told, or None where Python has to round it. */
 static PyObject *solution_of(const job *w) {
     PyObject *arrays[3] = {0};
     if (make_pairs(w, arrays)) return NULL;
     PyObject *prices = w->are_narrow ? array_of(w->prices, w->table.objects) : w->combined ? long_prices_of(w) : levels_of(w);
     PyObject *total = w->has_sum ? number_of(w->sign * w->sum) : Py_NewRef(Py_None);
-    if (!prices || !total) {
+    PyObject *shown = total ? shown_of(w, total) : NULL;
+    if (!prices || !shown) {
         for (int k = 0; k < 3; k++) Py_DECREF(arrays[k]);
         Py_XDECREF(prices);
         Py_XDECREF(total);
+        Py_XDECREF(shown);
         return NULL;
     }
-    return Py_BuildValue("(NNNNiiNi)", arrays[0], arrays[1], arrays[2], prices, w->unit, w->is_small, total, w->sum_unit);
+    return Py_BuildValue("(NNNNiNiN)", arrays[0], arrays[1], arrays[2], prices, w->unit, total, w->sum_unit, shown);
 }
 
 /* The answers of some jobs. */

@@ -16,7 +16,7 @@ from .waiting import call_waiting
 # A call with fewer entries ends so soon that a thread of its own isn't worth its time.
 FEWEST = 1 << 16
 # That of the extension of these sources; one that was built of others isn't used.
-INTERFACE = 3
+INTERFACE = 4
 
 
 def _bound():
@@ -68,9 +68,10 @@ def solutions_of(matrices, maximize):
 
 def _made(matrix, maximize, parts):
     """The Solution of what the extension has found."""
-    rows, columns, entries, prices, unit, is_small, total, total_unit = parts
+    rows, columns, entries, prices, unit, total, total_unit, shown = parts
     exact = exact_sum(matrix[rows, columns].astype(numpy.float64, copy=False)) if total is None else fraction_of(total, total_unit)
-    shown = total if is_small else nearest_float(exact)
+    if shown is None:
+        shown = nearest_float(exact)
     if type(prices) is tuple:
         prices, scale = priced(len(rows), max(matrix.shape), Answer(None, prices, 1, 0))
     else:

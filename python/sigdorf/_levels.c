@@ -10,8 +10,9 @@
 #define PLENTY (INT64_C(1) << 60)
 /* So often a round looks for prices at which its choices stay, before it has the library look for other choices. */
 #define MOST_PASSES 128
-/* So many entries of a row are looked at side by side. */
+/* So many entries of a row are looked at side by side; and where one in so many was near in the row before, many are. */
 #define LANES 4
+#define MANY 24
 
 /* A level, as refinement.py has it: arcs by rising persons, of each where they begin and the place of his choice among them. */
 typedef struct {
@@ -402,14 +403,32 @@ static size_t list_below(const int64_t *restrict row, const int64_t *restrict pr
     return count;
 }
 
+/* The same of a row without gaps in which many are: no choice is made on the way, which nobody could foresee. */
+static size_t list_below_of_many(const int64_t *restrict row, const int64_t *restrict prices, size_t objects, int64_t limit, uint32_t *restrict to) {
+    size_t count = 0, j = 0;
+    pair limits = {(uint64_t)limit, (uint64_t)limit};
+    for (; j + 2 <= objects; j += 2) {
+        pair is_below = (pair_at(row + j) + pair_at(prices + j) - limits) >> 63;
+        to[count] = (uint32_t)j;
+        count += is_below[0];
+        to[count] = (uint32_t)j + 1;
+        count += is_below[1];
+    }
+    if (j < objects) {
+        to[count] = (uint32_t)j;
+        count += row[j] + prices[j] < limit;
+    }
+    return count;
+}
+
 /* Lists the arcs of a person that aren't far at the prices. 1 where the matrix was written meanwhile. */
 static int list_row(const job *w, level *l, size_t person) {
     size_t first = l->first[person], choice = w->choice[person];
     const int64_t *row = w->costs + person * w->stride, *prices = w->prices;
     int64_t own = row[choice] + prices[choice];
     double cost, mine;
-    int is_other = cost_of(w, person, choice, &cost, &mine);
-    size_t end = first + list_below(row, prices, l->objects, own + 4 * (int64_t)l->persons + 17, l->object + first);
+    int is_other = cost_of(w, person, choice, &cost, &mine), are_many = person && !w->has_gaps && (first - l->first[person - 1]) * MANY > l->objects;
+    size_t end = first + (are_many ? list_below_of_many : list_below)(row, prices, l->objects, own + 4 * (int64_t)l->persons + 17, l->object + first);
     for (size_t e = first; e < end; e++) {
         size_t j = l->object[e];
         l->slack[e] = row[j] + prices[j] - own;

@@ -9,14 +9,15 @@
  */
 #include "_fast.h"
 
+#include <float.h>
 #include <stdlib.h>
 #include <string.h>
 
 /* Rises where what Python calls changes, so that an extension of other sources isn't used: fast.py has the same. */
-#define INTERFACE 2
+#define INTERFACE 4
 /* With fewer entries a call holds the lock: what giving it up costs would count, and a copy. */
 #define FEWEST 2000
-/* A block of working memory of this size at most is kept for the next call. */
+/* So many bytes of working memory at most are kept for the next call. */
 #define MOST_KEPT ((size_t)1 << 23)
 
 arcs_call *solve_arcs;
@@ -25,27 +26,41 @@ static PyObject *array_type, *empty, *int64_type;
 
 /* ---- Working memory */
 
-static void *kept;
-static size_t kept_bytes;
-
-/* Memory of so many bytes at least, of which the number is told, for a call that has but one block: the kept one, or a new one. With the lock
- * held, as `give_back`. A new one is filled by the system page by page, which would take longer than to copy a matrix into it. */
-static void *take(size_t *bytes) {
-    void *block = kept;
-    if (!block || kept_bytes < *bytes) return malloc(*bytes);
-    *bytes = kept_bytes;
-    kept = NULL;
-    return block;
+void *block_of(room *r, size_t bytes) {
+    if (r->block && r->bytes >= bytes) return r->block;
+    free(r->block);
+    r->block = malloc(bytes);
+    r->bytes = r->block ? bytes : 0;
+    return r->block;
 }
 
-/* Keeps the block in place of a smaller one. */
-static void give_back(void *block, size_t bytes) {
-    if (block && bytes <= MOST_KEPT && (!kept || kept_bytes < bytes)) {
-        free(kept);
-        kept = block;
-        kept_bytes = bytes;
-    } else
-        free(block);
+/* The workshop of the last call, for the next one: a new block is filled by the system page by page, which would take longer than to copy a matrix
+ * into it. It is taken and given back with the lock held. */
+static workshop kept;
+
+static workshop take_kept(void) {
+    workshop shop = kept;
+    kept = (workshop){0};
+    return shop;
+}
+
+static void close_shop(workshop *shop) {
+    free(shop->costs.block);
+    free(shop->level.block);
+    free(shop->round.block);
+    free(shop->object);
+    free(shop->slack);
+    free(shop->tail);
+}
+
+/* Keeps what isn't too much in place of what is kept already. */
+static void give_back(workshop *shop) {
+    if (shop->costs.bytes + shop->level.bytes + shop->round.bytes + shop->arcs * 20 > MOST_KEPT) {
+        close_shop(shop);
+        return;
+    }
+    close_shop(&kept);
+    kept = *shop;
 }
 
 /* ---- A call */
@@ -75,20 +90,60 @@ static int lies_right(const table *t) {
     return (t->type == 'l' || t->type == 'q') && sizeof(long) == 8 && t->across == 8 && (uintptr_t)t->start % 8 == 0 && t->down % 8 == 0 &&
            (t->down >= (Py_ssize_t)t->objects * 8 || t->persons == 1);
 }
-/* Takes the memory of a job. With the lock held. */
-static int make_room(job *w, int copies) {
+/* Whether a row can be read where it lies. */
+static int has_doubles(const job *w) {
     const table *t = &w->table;
-    size_t count = entries_of(t), persons = t->persons, objects = t->objects;
+    return t->type == 'd' && w->sign > 0 && t->across == 8 && (uintptr_t)t->start % 8 == 0 && t->down % 8 == 0;
+}
+
+/* Takes the memory of a job. */
+static int make_room(job *w) {
+    const table *t = &w->table;
+    size_t persons = t->persons, objects = t->objects, count = w->copies ? entries_of(t) : 0;
     w->is_float = t->type == 'd' || t->type == 'f';
-    w->bytes = objects * 8 + (copies ? count * 8 : 0) + (w->is_float ? count * 8 : 0) + persons * 8;
-    w->block = w->is_alone ? take(&w->bytes) : malloc(w->bytes);
-    if (!w->block) return 1;
+    int by_rows = w->is_float && !has_doubles(w);
+    w->block = malloc((objects + 4 * persons) * 8);
+    char *costs = block_of(&w->shop->costs, (count + objects) * 8);
+    if (!w->block || !costs) return 1;
+    w->own_costs = w->copies ? (int64_t *)costs : NULL;
+    w->row = by_rows ? (double *)costs + count : NULL;
     w->prices = w->block;
-    w->own_costs = w->prices + objects;
-    w->tails = (double *)(w->own_costs + (copies ? count : 0));
-    w->choice = (uint32_t *)(w->tails + (w->is_float ? count : 0));
+    w->rows = w->prices + objects;
+    w->columns = w->rows + persons;
+    w->places = w->columns + persons;
+    w->choice = (uint32_t *)(w->places + persons);
     w->hall = w->choice + persons;
-    if (!copies) w->own_costs = NULL;
+    return 0;
+}
+
+/* Whether the caller's matrix has no entry there. */
+static int is_gap(const job *w, size_t row, size_t column) {
+    return w->costs[w->table.by_columns ? column * w->stride + row : row * w->stride + column] == NO_ENTRY;
+}
+
+/* Rows and columns by rising rows, and the places of their entries where these are wanted. 1 where there is no memory. */
+static int write_pairs(job *w) {
+    const table *t = &w->table;
+    size_t persons = t->persons;
+    if (!t->by_columns) {
+        for (size_t i = 0; i < persons; i++) w->rows[i] = (int64_t)i, w->columns[i] = w->choice[i];
+    } else {
+        uint32_t *holder = malloc(t->objects * 4);
+        if (!holder) return 1;
+        memset(holder, 0xff, t->objects * 4);
+        for (size_t j = 0; j < persons; j++) holder[w->choice[j]] = (uint32_t)j;
+        for (size_t i = 0, k = 0; i < t->objects; i++)
+            if (holder[i] != UINT32_MAX) w->rows[k] = (int64_t)i, w->columns[k++] = holder[i];
+        free(holder);
+    }
+    if (!w->wants_prices) return 0;
+    /* Among the entries of the caller's matrix, row by row, gaps aside. */
+    size_t width = (size_t)t->view.shape[1], gaps = 0, seen = 0;
+    for (size_t k = 0; k < persons; k++) {
+        size_t place = (size_t)w->rows[k] * width + (size_t)w->columns[k];
+        for (; w->has_gaps && seen < place; seen++) gaps += (size_t)is_gap(w, seen / width, seen % width);
+        w->places[k] = (int64_t)(place - gaps);
+    }
     return 0;
 }
 
@@ -96,6 +151,7 @@ static int make_room(job *w, int copies) {
 static void run(job *w) {
     const table *t = &w->table;
     size_t persons = t->persons, objects = t->objects;
+    if (make_room(w)) return;
     w->stride = objects;
     w->costs = w->own_costs;
     if (!w->own_costs) {
@@ -122,29 +178,25 @@ static void run(job *w) {
     w->sum = found.cost;
     if (w->has_tails && refine(w)) return;
     if (w->wants_prices) {
-        sum_up(w);
-        if (combine(w)) return;
+        if (sum_up(w) || combine(w)) return;
     }
-    w->is_found = 1;
+    w->is_found = !write_pairs(w);
 }
 
 /* Begins a job: 0 where it can be run. With the lock held; `keeps` says whether a short run will hold it too. */
-static int begin(job *w, PyObject *matrix, int maximize, int wants_prices, int keeps) {
+static int begin(job *w, workshop *shop, PyObject *matrix, int maximize, int wants_prices, int keeps) {
     memset(w, 0, sizeof *w);
+    w->shop = shop;
     w->sign = maximize ? -1 : 1;
     w->wants_prices = wants_prices;
-    w->is_alone = keeps;
     if (look_at(matrix, &w->table)) return 1;
-    int copies = w->sign < 0 || !lies_right(&w->table) || !keeps || entries_of(&w->table) >= FEWEST;
-    return make_room(w, copies);
+    w->copies = w->sign < 0 || !lies_right(&w->table) || !keeps || entries_of(&w->table) >= FEWEST;
+    return 0;
 }
 
 static void end(job *w) {
     if (w->table.has_view) PyBuffer_Release(&w->table.view);
-    if (w->is_alone)
-        give_back(w->block, w->bytes);
-    else
-        free(w->block);
+    free(w->block);
     free(w->changes);
     free(w->units);
     free(w->combined);
@@ -191,53 +243,14 @@ static PyObject *array_of(const int64_t *numbers, size_t count) {
     return array;
 }
 
-/* Whether the caller's matrix has no entry there. */
-static int is_gap(const job *w, size_t row, size_t column) {
-    return w->costs[w->table.by_columns ? column * w->stride + row : row * w->stride + column] == NO_ENTRY;
-}
-
-/* Rows and columns by rising rows, and the places of their entries where these are wanted. */
-static int write_pairs(const job *w, int64_t *rows, int64_t *columns, int64_t *places) {
-    const table *t = &w->table;
-    size_t persons = t->persons;
-    if (!t->by_columns) {
-        for (size_t i = 0; i < persons; i++) rows[i] = (int64_t)i, columns[i] = w->choice[i];
-    } else {
-        uint32_t *holder = malloc(t->objects * 4);
-        if (!holder) return 1;
-        memset(holder, 0xff, t->objects * 4);
-        for (size_t j = 0; j < persons; j++) holder[w->choice[j]] = (uint32_t)j;
-        for (size_t i = 0, k = 0; i < t->objects; i++)
-            if (holder[i] != UINT32_MAX) rows[k] = (int64_t)i, columns[k++] = holder[i];
-        free(holder);
-    }
-    if (!places) return 0;
-    /* Among the entries of the caller's matrix, row by row, gaps aside. */
-    size_t width = (size_t)t->view.shape[1], gaps = 0, seen = 0;
-    for (size_t k = 0; k < persons; k++) {
-        size_t place = (size_t)rows[k] * width + (size_t)columns[k];
-        for (; w->has_gaps && seen < place; seen++) gaps += (size_t)is_gap(w, seen / width, seen % width);
-        places[k] = (int64_t)(place - gaps);
-    }
-    return 0;
-}
-
 /* The arrays of a job: rows, columns, and with `wants_prices` the places of their entries. */
 static int make_pairs(const job *w, PyObject *arrays[3]) {
-    Py_buffer views[3];
-    int64_t *to[3] = {0};
-    int count = w->wants_prices ? 3 : 2, made = 0, fails = 0;
-    for (; made < count; made++)
-        if (!(arrays[made] = new_array(w->table.persons, &views[made], &to[made]))) break;
-    if (made < count)
-        fails = 1;
-    else if (write_pairs(w, to[0], to[1], to[2])) {
-        PyErr_NoMemory();
-        fails = 1;
-    }
-    for (int k = 0; k < made; k++) PyBuffer_Release(&views[k]);
-    for (int k = 0; fails && k < made; k++) Py_CLEAR(arrays[k]);
-    return fails;
+    const int64_t *numbers[3] = {w->rows, w->columns, w->places};
+    int count = w->wants_prices ? 3 : 2, made = 0;
+    while (made < count && (arrays[made] = array_of(numbers[made], w->table.persons))) made++;
+    if (made == count) return 0;
+    while (made) Py_CLEAR(arrays[--made]);
+    return 1;
 }
 
 static PyObject *pair_of(const job *w) {
@@ -251,6 +264,7 @@ static PyObject *pair_of(const job *w) {
 
 /* A whole number of 128 bits. */
 static PyObject *number_of(__int128 number) {
+    if (number == (int64_t)number) return PyLong_FromLongLong((long long)number);
     PyObject *high = PyLong_FromLongLong((long long)(number >> 64)), *low = PyLong_FromUnsignedLongLong((unsigned long long)number);
     PyObject *bits = PyLong_FromLong(64), *shifted = high && bits ? PyNumber_Lshift(high, bits) : NULL;
     PyObject *sum = shifted && low ? PyNumber_Add(shifted, low) : NULL;
@@ -261,18 +275,9 @@ static PyObject *number_of(__int128 number) {
     return sum;
 }
 
-/* The prices of all levels together: an array, or a list of Python's whole numbers where they are beyond 64 bits. */
-static PyObject *combined_of(const job *w) {
+/* Prices beyond 64 bits: a list of Python's whole numbers. */
+static PyObject *long_prices_of(const job *w) {
     size_t objects = w->table.objects;
-    if (w->are_narrow) {
-        Py_buffer view;
-        int64_t *to;
-        PyObject *array = new_array(objects, &view, &to);
-        if (!array) return NULL;
-        for (size_t j = 0; j < objects; j++) to[j] = (int64_t)w->combined[j];
-        PyBuffer_Release(&view);
-        return array;
-    }
     PyObject *list = PyList_New((Py_ssize_t)objects);
     for (size_t j = 0; list && j < objects; j++) {
         PyObject *number = number_of(w->combined[j]);
@@ -299,20 +304,43 @@ static PyObject *levels_of(const job *w) {
     return tuple;
 }
 
-/* (rows, columns, places, prices, unit, is_small, high, low, sum_unit): `prices` are an array or a list on the scale (persons + 1) * 2^unit, or a tuple of levels.
- * The sum of the costs, turned as they are, is (high * 2^64 + low) / 2^sum_unit; `high` is None where Python has to add them. */
+/* The sum of the costs as it is told: of whole numbers itself, else the float next to it, or None where that isn't made by one rounding. */
+static PyObject *shown_of(const job *w, PyObject *total) {
+    if (w->is_small) return Py_NewRef(total);
+    double shown = w->has_sum ? ldexp((double)(w->sign * w->sum), -w->sum_unit) : 0;
+    return fabs(shown) >= DBL_MIN && fabs(shown) <= DBL_MAX ? PyFloat_FromDouble(shown) : Py_NewRef(Py_None);
+}
+
+/* (rows, columns, places, prices, unit, total, total_unit, shown): `prices` are an array or a list on the scale (persons + 1) * 2^unit, or a tuple of
+ * levels. The sum of the costs is total / 2^total_unit, where total is odd or total_unit isn't above 0; `total` is None where Python has to add them. `shown` is
+ * the sum as it is told, or None where Python has to round it. */
 static PyObject *solution_of(const job *w) {
     PyObject *arrays[3] = {0};
     if (make_pairs(w, arrays)) return NULL;
-    PyObject *prices = w->is_small ? array_of(w->prices, w->table.objects) : w->combined ? combined_of(w) : levels_of(w);
-    PyObject *high = w->has_sum ? PyLong_FromLongLong((long long)(w->sum >> 64)) : Py_NewRef(Py_None);
-    if (!prices || !high) {
+    PyObject *prices = w->are_narrow ? array_of(w->prices, w->table.objects) : w->combined ? long_prices_of(w) : levels_of(w);
+    PyObject *total = w->has_sum ? number_of(w->sign * w->sum) : Py_NewRef(Py_None);
+    PyObject *shown = total ? shown_of(w, total) : NULL;
+    if (!prices || !shown) {
         for (int k = 0; k < 3; k++) Py_DECREF(arrays[k]);
         Py_XDECREF(prices);
-        Py_XDECREF(high);
+        Py_XDECREF(total);
+        Py_XDECREF(shown);
         return NULL;
     }
-    return Py_BuildValue("(NNNNiiNKi)", arrays[0], arrays[1], arrays[2], prices, w->unit, w->is_small, high, (unsigned long long)w->sum, w->sum_unit);
+    return Py_BuildValue("(NNNNiNiN)", arrays[0], arrays[1], arrays[2], prices, w->unit, total, w->sum_unit, shown);
+}
+
+/* The answers of some jobs. */
+static PyObject *answers_of(const job *jobs, Py_ssize_t number) {
+    PyObject *answers = PyList_New(number);
+    for (Py_ssize_t k = 0; answers && k < number; k++) {
+        PyObject *answer = jobs[k].is_found ? solution_of(&jobs[k]) : Py_NewRef(Py_None);
+        if (answer)
+            PyList_SetItem(answers, k, answer);
+        else
+            Py_CLEAR(answers);
+    }
+    return answers;
 }
 
 /* ---- What Python calls */
@@ -323,14 +351,16 @@ static PyObject *alone(PyObject *const *arguments, Py_ssize_t count, int wants_p
         return NULL;
     }
     PyObject *answer = NULL;
+    workshop shop = take_kept();
     job w;
-    if (!solve_dense || begin(&w, arguments[0], arguments[1] == Py_True, wants_prices, 1))
+    if (begin(&w, &shop, arguments[0], arguments[1] == Py_True, wants_prices, 1) || !solve_dense)
         answer = Py_NewRef(Py_None);
     else {
         run_alone(&w);
         answer = !w.is_found ? Py_NewRef(Py_None) : wants_prices ? solution_of(&w) : pair_of(&w);
     }
-    if (solve_dense) end(&w);
+    end(&w);
+    give_back(&shop);
     return answer;
 }
 
@@ -356,23 +386,20 @@ static PyObject *solved_all(PyObject *module, PyObject *const *arguments, Py_ssi
     Py_ssize_t number = PyTuple_Size(matrices);
     job *jobs = calloc(number ? (size_t)number : 1, sizeof *jobs);
     char *runs = calloc(number ? (size_t)number : 1, 1);
-    PyObject *answers = jobs && runs ? PyList_New(number) : PyErr_NoMemory();
-    if (answers) {
+    PyObject *answers = NULL;
+    if (jobs && runs) {
+        workshop shop = {0};
         for (Py_ssize_t k = 0; k < number; k++)
-            runs[k] = solve_dense && !begin(&jobs[k], PyTuple_GetItem(matrices, k), arguments[1] == Py_True, 1, 0);
+            runs[k] = !begin(&jobs[k], &shop, PyTuple_GetItem(matrices, k), arguments[1] == Py_True, 1, 0) && solve_dense;
         Py_BEGIN_ALLOW_THREADS
         for (Py_ssize_t k = 0; k < number; k++)
             if (runs[k]) run(&jobs[k]);
+        close_shop(&shop);
         Py_END_ALLOW_THREADS
-        for (Py_ssize_t k = 0; k < number; k++) {
-            PyObject *answer = !answers ? NULL : jobs[k].is_found ? solution_of(&jobs[k]) : Py_NewRef(Py_None);
-            if (answer)
-                PyList_SetItem(answers, k, answer);
-            else
-                Py_CLEAR(answers);
-            end(&jobs[k]);
-        }
-    }
+        answers = answers_of(jobs, number);
+        for (Py_ssize_t k = 0; k < number; k++) end(&jobs[k]);
+    } else
+        PyErr_NoMemory();
     free(jobs);
     free(runs);
     Py_DECREF(matrices);

@@ -1,5 +1,4 @@
 /* From costs in whole units to costs as they stand: docs/EXACT.md has the argument, and refinement.py and near.py do the same. */
-#include <limits.h>
 #include <math.h>
 #include <stdlib.h>
 #include <string.h>
@@ -8,82 +7,98 @@
 
 /* By so many powers of two a round is finer at most, and what stands for every price that is beyond all costs of a round. */
 #define MOST_FINER 44
-#define PLENTY (INT64_C(1) << 31)
+#define PLENTY (INT64_C(1) << 60)
 /* So often a round looks for prices at which its choices stay, before it has the library look for other choices. */
-#define MOST_PASSES 32
+#define MOST_PASSES 128
+/* So many entries of a row are looked at side by side; and where one in so many was near in the row before, many are. */
+#define LANES 4
+#define MANY 24
 
-/* A level, as refinement.py has it: arcs by rising persons, and the place of each person's choice among them. */
+/* A level, as refinement.py has it: arcs by rising persons, of each where they begin and the place of his choice among them. */
 typedef struct {
-    size_t persons, objects, count;
-    int unit;
-    uint32_t *person, *object, *pick;
+    size_t persons, objects;
+    int unit, is_settled;
+    uint32_t *first, *object, *pick;
     int64_t *slack, *price;
     double *tail;
 } level;
 
-/* Prices in whole units at which no arc is better than a person's choice, of the library's, at which none is more than 1 better: whole.py says why. */
-static void make_whole(int64_t *prices, size_t objects, const uint32_t *picked, size_t persons, uint8_t *seen) {
-    int64_t scale = (int64_t)persons + 1, least = 0;
-    memset(seen, 0, (size_t)scale);
-    for (size_t i = 0; i < persons; i++) seen[prices[picked[i]] % scale] = 1;
-    while (seen[least]) least++;
-    int64_t more = least ? scale - least : 0;
-    for (size_t j = 0; j < objects; j++) prices[j] = (prices[j] + more) / scale;
+/* A power of two as two factors, so that a float and its product may have any exponents. */
+typedef struct {
+    double first, second;
+} power;
+
+static power power_of(int exponent) { return (power){ldexp(1, exponent / 2), ldexp(1, exponent - exponent / 2)}; }
+static double times(double value, power by) { return value * by.first * by.second; }
+
+static size_t count_of(const level *l) { return l->first[l->persons]; }
+
+/* Whether no arc of slack 0 has a smaller tail than its person's choice: then the choices are least, and the prices show it. */
+static int is_settled(const level *l) {
+    for (size_t i = 0; i < l->persons; i++)
+        for (size_t e = l->first[i]; e < l->first[i + 1]; e++)
+            if (l->slack[e] == 0 && l->tail[e] < l->tail[l->pick[i]]) return 0;
+    return 1;
 }
 
-static int is_settled(const level *l) {
-    for (size_t e = 0; e < l->count; e++)
-        if (l->slack[e] == 0 && l->tail[e] < l->tail[l->pick[l->person[e]]]) return 0;
+/* Whether all of a person's arcs up to a slack but his choice lead to objects that are gone. */
+static int has_one(const level *l, size_t person, int64_t most, const uint8_t *is_gone) {
+    for (size_t e = l->first[person]; e < l->first[person + 1]; e++)
+        if (l->slack[e] <= most && !is_gone[l->object[e]] && e != l->pick[person]) return 0;
     return 1;
 }
 
 /* Whether the arcs of a slack up to the number of persons leave but one assignment: whoever takes a dearer one pays more, since tails make up
- * for half a unit a person on either side. `degree` has room for each person, `is_gone` for each object. */
-static int is_only(const level *l, uint32_t *degree, uint8_t *is_gone) {
-    size_t left = l->persons;
-    int64_t limit = (int64_t)l->persons;
+ * for half a unit a person on either side. `left` has room for each person, `is_gone` for each object. */
+static int is_only(const level *l, uint32_t *left, uint8_t *is_gone) {
+    size_t count = l->persons, before = 0;
     memset(is_gone, 0, l->objects);
-    for (int pass = 0; pass < 40 && left; pass++) {
-        size_t before = left;
-        memset(degree, 0, l->persons * sizeof *degree);
-        for (size_t e = 0; e < l->count; e++)
-            if (l->slack[e] <= limit && (!is_gone[l->object[e]] || l->pick[l->person[e]] == e)) degree[l->person[e]]++;
-        for (size_t i = 0; i < l->persons; i++) {
-            uint32_t object = l->object[l->pick[i]];
-            if (degree[i] == 1 && !is_gone[object]) {
-                is_gone[object] = 1;
-                left--;
-            }
+    for (size_t i = 0; i < count; i++) left[i] = (uint32_t)i;
+    while (count != before) {
+        before = count;
+        count = 0;
+        for (size_t k = 0; k < before; k++) {
+            if (has_one(l, left[k], (int64_t)l->persons, is_gone))
+                is_gone[l->object[l->pick[left[k]]]] = 1;
+            else
+                left[count++] = left[k];
         }
-        if (left == before) return 0;
+        /* Next time the other way around: most ways lead on in one of these orders. */
+        for (size_t k = 0; k < count / 2; k++) {
+            uint32_t other = left[k];
+            left[k] = left[count - 1 - k];
+            left[count - 1 - k] = other;
+        }
     }
-    return !left;
+    return !count;
 }
 
 /* Leaves out arcs that no later round brings near. */
 static void drop_far(level *l) {
     int64_t most = 4 * (int64_t)l->persons + 16;
-    size_t count = 0;
-    for (size_t e = 0; e < l->count; e++) {
-        if (l->slack[e] > most) continue;
-        uint32_t i = l->person[e];
-        if (l->pick[i] == e) l->pick[i] = (uint32_t)count;
-        l->person[count] = i;
-        l->object[count] = l->object[e];
-        l->slack[count] = l->slack[e];
-        l->tail[count++] = l->tail[e];
+    size_t count = 0, e = 0;
+    for (size_t i = 0; i < l->persons; i++) {
+        size_t end = l->first[i + 1];
+        l->first[i] = (uint32_t)count;
+        for (; e < end; e++) {
+            if (l->slack[e] > most) continue;
+            if (l->pick[i] == e) l->pick[i] = (uint32_t)count;
+            l->object[count] = l->object[e];
+            l->slack[count] = l->slack[e];
+            l->tail[count++] = l->tail[e];
+        }
     }
-    l->count = count;
+    l->first[l->persons] = (uint32_t)count;
 }
 
 /* By how many powers of two the next unit is finer: about as many as the sum of the choices' slacks allows. */
 static int step_of(const level *l) {
     double gap = 0;
-    for (size_t e = 0; e < l->count;) {
-        uint32_t i = l->person[e];
+    power units = power_of(l->unit);
+    for (size_t i = 0; i < l->persons; i++) {
         double least = INFINITY;
-        for (; e < l->count && l->person[e] == i; e++) least = fmin(least, (double)l->slack[e] + ldexp(l->tail[e], l->unit));
-        gap += ldexp(l->tail[l->pick[i]], l->unit) - least;
+        for (size_t e = l->first[i]; e < l->first[i + 1]; e++) least = fmin(least, (double)l->slack[e] + times(l->tail[e], units));
+        gap += times(l->tail[l->pick[i]], units) - least;
     }
     if (!(gap > 0)) return MOST_FINER;
     int exponent;
@@ -92,51 +107,69 @@ static int step_of(const level *l) {
     return by < 1 ? 1 : by > MOST_FINER ? MOST_FINER : by;
 }
 
-/* Slacks in a unit finer by so many powers of two, into `finer`, so that each person's least is 0; answers their sum at the choices. */
-static int64_t in_finer(const level *l, int by, int64_t *finer) {
-    int64_t gap = 0;
-    for (size_t e = 0; e < l->count;) {
-        uint32_t i = l->person[e];
-        size_t first = e;
+/* Slacks in a unit finer by so many powers of two: their sum at the choices, whether they leave tails, and by how many places all of them can be shifted
+ * to the right, if they don't. */
+typedef struct {
+    int64_t gap;
+    int by, has_tails, spare;
+} step;
+
+/* Makes slacks in a unit finer by so many powers of two, into `finer`, so that each person's least is 0. */
+static step in_finer(const level *l, int by, int64_t *finer) {
+    step s = {.by = by};
+    uint64_t bits = 0;
+    power units = power_of(l->unit + by);
+    for (size_t i = 0; i < l->persons; i++) {
+        size_t end = l->first[i + 1];
         int64_t least = INT64_MAX;
-        for (; e < l->count && l->person[e] == i; e++) {
-            finer[e] = (l->slack[e] << by) + (int64_t)nearbyint(ldexp(l->tail[e], l->unit + by));
-            if (finer[e] < least) least = finer[e];
+        for (size_t e = l->first[i]; e < end; e++) {
+            double tail = times(l->tail[e], units), whole = nearbyint(tail);
+            /* One that is next to nothing in this unit may have run under. */
+            s.has_tails |= tail != whole || (tail == 0 && l->tail[e] != 0);
+            finer[e] = (l->slack[e] << by) + (int64_t)whole;
+            least = finer[e] < least ? finer[e] : least;
         }
-        for (size_t k = first; k < e; k++) finer[k] -= least;
-        gap += finer[l->pick[i]];
+        for (size_t e = l->first[i]; e < end; e++) {
+            finer[e] -= least;
+            bits |= (uint64_t)finer[e];
+        }
+        s.gap += finer[l->pick[i]];
     }
-    return gap;
+    int twos = s.has_tails ? 0 : bits ? __builtin_ctzll(bits) : by;
+    s.spare = twos < by ? twos : by;
+    return s;
 }
 
-/* Takes the next unit: slacks and tails in it. Answers by how many powers of two it is finer, and the choices' slacks in `gap`. */
-static int refine_unit(level *l, int64_t *finer, int64_t *gap) {
-    int by = step_of(l);
-    while (2 * ((*gap = in_finer(l, by, finer)) + 1) > SIGDORF_MOST_COST) by--;
-    int has_tails = 0, unit = l->unit + by;
-    for (size_t e = 0; e < l->count; e++) {
-        l->tail[e] -= ldexp(nearbyint(ldexp(l->tail[e], unit)), -unit);
-        has_tails |= l->tail[e] != 0;
+static int64_t price_in_finer(const level *l, size_t object, int by) { return l->price[object] > PLENTY >> by ? PLENTY : l->price[object] << by; }
+
+/* Takes the unit of a step, and the slacks in it: or one that is coarser than that, where nothing is lost by it. */
+static void take_finer(level *l, step s, const int64_t *finer) {
+    size_t count = count_of(l);
+    power units = power_of(l->unit + s.by), back = power_of(-l->unit - s.by);
+    for (size_t e = 0; e < count; e++) {
+        l->tail[e] -= times(nearbyint(times(l->tail[e], units)), back);
+        l->slack[e] = finer[e] >> s.spare;
     }
-    int spare = has_tails ? 0 : common_twos(finer, l->count);
-    if (spare > by) spare = by;
-    for (size_t e = 0; e < l->count; e++) l->slack[e] = finer[e] >> spare;
-    *gap >>= spare;
-    by -= spare;
-    l->unit += by;
-    for (size_t j = 0; j < l->objects; j++) l->price[j] = l->price[j] > PLENTY >> by ? PLENTY : l->price[j] << by;
-    return by;
+    l->unit += s.by - s.spare;
+    l->is_settled = !s.has_tails;
+    for (size_t j = 0; j < l->objects; j++) l->price[j] = price_in_finer(l, j, s.by - s.spare);
 }
 
 /* A round's arcs that are near enough, as a problem of their own: near.py. */
 typedef struct {
     size_t persons, objects, near;
-    uint32_t *of_person, *of_object; /* how many near arcs; then the number within the round + 1, or 0 */
+    uint32_t *of_person, *of_object, *number; /* how many near arcs; the object's number within the round + 1, or 0 */
     uint32_t *person, *object;       /* by numbers within the round */
     uint32_t *place, *choice, *hall, *picked;
     sigdorf_arc *arcs;
     int64_t *prices, *worth, *change, *finer;
-    uint8_t *seen;
+    uint8_t *seen; /* for each person and one more, or each object */
+    /* Arcs by which a price may have to be lowered: how much dearer than a person's own, and the object; where each person's begin, and what he has. */
+    struct {
+        int64_t dearer;
+        uint32_t object;
+    } *lowering;
+    uint32_t *from, *own;
 } nearby;
 
 static void *cut(char **at, size_t count, size_t size) {
@@ -145,27 +178,32 @@ static void *cut(char **at, size_t count, size_t size) {
     return part;
 }
 
-/* One block of memory with room for all parts of a round of so many arcs. */
-static void *room_of(nearby *r, size_t persons, size_t objects, size_t count) {
-    size_t numbers = 4 * persons + 2 * persons + 2 * (objects + 1) + count;
-    char *block = malloc(numbers * 4 + (count + persons) * sizeof(sigdorf_arc) + (2 * (objects + 1) + persons + count) * 8 + persons + 1 + 16 * 8);
-    if (!block) return NULL;
+/* Takes room for all parts of a round of so many arcs. 1 where there is no memory. */
+static int take_room(room *from, nearby *r, size_t persons, size_t objects, size_t count) {
+    size_t numbers = 7 * persons + 1 + 3 * (objects + 1) + count, longs = 2 * (objects + 1) + persons + count;
+    char *block = block_of(from, numbers * 4 + (count + persons) * sizeof(sigdorf_arc) + longs * 8 + persons + 1 + objects + 16 * 8);
+    if (!block) return 1;
     char *at = block;
     r->of_person = cut(&at, persons, 4);
     r->of_object = cut(&at, objects, 4);
+    r->number = cut(&at, objects, 4);
     r->person = cut(&at, persons, 4);
     r->object = cut(&at, objects + 1, 4);
     r->place = cut(&at, count, 4);
     r->choice = cut(&at, persons, 4);
     r->hall = cut(&at, persons, 4);
     r->picked = cut(&at, persons, 4);
+    r->own = cut(&at, persons, 4);
+    r->from = cut(&at, persons + 1, 4);
     r->arcs = cut(&at, count + persons, sizeof(sigdorf_arc));
+    /* These aren't wanted at the same time. */
+    r->lowering = (void *)r->arcs;
     r->prices = cut(&at, objects + 1, 8);
     r->change = cut(&at, objects, 8);
     r->worth = cut(&at, persons, 8);
     r->finer = cut(&at, count, 8);
-    r->seen = cut(&at, persons + 1, 1);
-    return block;
+    r->seen = cut(&at, persons + 1 + objects, 1);
+    return 0;
 }
 
 /* Lists the arcs below a window, but for a person's only one to an object's only one: he keeps it, at the price that it has. */
@@ -173,19 +211,22 @@ static void list_near(const level *l, nearby *r, int64_t cost) {
     int64_t window = 2 * cost;
     memset(r->of_person, 0, l->persons * 4);
     memset(r->of_object, 0, l->objects * 4);
-    for (size_t e = 0; e < l->count; e++)
-        if (l->slack[e] < window) r->of_person[l->person[e]]++, r->of_object[l->object[e]]++;
+    for (size_t i = 0; i < l->persons; i++)
+        for (size_t e = l->first[i]; e < l->first[i + 1]; e++)
+            if (l->slack[e] < window) r->of_person[i]++, r->of_object[l->object[e]]++;
     r->near = r->persons = r->objects = 0;
-    for (size_t e = 0; e < l->count; e++)
-        if (l->slack[e] < window && (r->of_person[l->person[e]] > 1 || r->of_object[l->object[e]] > 1)) r->place[r->near++] = (uint32_t)e;
-    memset(r->of_person, 0, l->persons * 4);
-    memset(r->of_object, 0, l->objects * 4);
-    for (size_t k = 0; k < r->near; k++) {
-        uint32_t i = l->person[r->place[k]], j = l->object[r->place[k]];
-        if (!r->of_person[i]) r->person[r->persons] = i, r->of_person[i] = (uint32_t)++r->persons;
-        if (!r->of_object[j]) r->object[r->objects] = j, r->of_object[j] = (uint32_t)++r->objects;
-        int64_t cap = l->price[j] < cost ? l->price[j] : cost;
-        r->arcs[k] = (sigdorf_arc){l->slack[r->place[k]] - cap, r->of_person[i] - 1, r->of_object[j] - 1};
+    memset(r->number, 0, l->objects * 4);
+    for (size_t i = 0; i < l->persons; i++) {
+        size_t before = r->near;
+        for (size_t e = l->first[i]; e < l->first[i + 1]; e++) {
+            uint32_t j = l->object[e];
+            if (l->slack[e] >= window || (r->of_person[i] == 1 && r->of_object[j] == 1)) continue;
+            if (!r->number[j]) r->object[r->objects] = j, r->number[j] = (uint32_t)++r->objects;
+            int64_t cap = l->price[j] < cost ? l->price[j] : cost;
+            r->place[r->near] = (uint32_t)e;
+            r->arcs[r->near++] = (sigdorf_arc){l->slack[e] - cap, (uint32_t)r->persons, r->number[j] - 1};
+        }
+        if (r->near > before) r->person[r->persons++] = (uint32_t)i;
     }
     /* One object more, that everybody may have at a cost which no least choice pays. */
     for (size_t i = 0; i < r->persons; i++) r->arcs[r->near + i] = (sigdorf_arc){cost, (uint32_t)i, (uint32_t)r->objects};
@@ -223,82 +264,195 @@ static int solve_near(level *l, nearby *r, int64_t gap) {
     return 0;
 }
 
-/* Looks for prices at which the choices of a level stay the best, by lowering the price of whatever a person has while another arc is better for
- * him: 1 where there are some, with the worths and changes that `solve_near` would have. If the choices aren't the least, something is lowered
- * around and around, and so by more than the sum of their slacks; nothing is, where they are, since each step on the way from a price that
- * stands lowers by one person's slack at most. */
-static int relax(const level *l, nearby *r, int64_t gap) {
-    size_t near = 0;
-    for (size_t e = 0; e < l->count; e++)
-        if (l->slack[e] <= 2 * gap && l->pick[l->person[e]] != e) r->place[near++] = (uint32_t)e;
-    memset(r->change, 0, l->objects * 8);
-    int moves = gap > 0;
-    for (int pass = 0; moves && pass < MOST_PASSES; pass++) {
-        moves = 0;
-        for (size_t k = 0; k < near; k++) {
-            uint32_t e = r->place[k], own = l->pick[l->person[e]];
-            int64_t change = l->slack[e] - l->slack[own] + r->change[l->object[e]], *mine = &r->change[l->object[own]];
-            if (change >= *mine) continue;
-            if (change < -gap) return 0;
-            *mine = change;
-            moves = 1;
+/* Lists the arcs by which a price may have to be lowered so that the choices stay the best: of each person that has some, how much dearer they are than his
+ * choice. An arc of a slack beyond 2 gaps is none of these, since no price is lowered by more than one. */
+static void list_lowering(const level *l, nearby *r, int64_t gap) {
+    const int64_t *slack = r->finer;
+    size_t near = 0, persons = 0;
+    for (size_t i = 0; i < l->persons; i++) {
+        size_t first = near, own = l->pick[i];
+        for (size_t e = l->first[i]; e < l->first[i + 1]; e++) {
+            if (slack[e] > 2 * gap || e == own) continue;
+            r->lowering[near].dearer = slack[e] - slack[own];
+            r->lowering[near++].object = l->object[e];
         }
+        if (near == first) continue;
+        r->own[persons] = l->object[own];
+        r->from[persons++] = (uint32_t)first;
     }
-    if (moves) return 0;
-    for (size_t j = 0; l->objects > l->persons && j < l->objects; j++)
-        if (l->price[j] + r->change[j] < 0) return 0;
-    for (size_t i = 0; i < l->persons; i++) r->worth[i] = l->slack[l->pick[i]] + r->change[l->object[l->pick[i]]];
+    r->from[persons] = (uint32_t)near;
+    r->persons = persons;
+}
+
+/* Lowers the price of what one person has, if another arc is better for him; answers whether it was. */
+static int lower(nearby *r, size_t person) {
+    int64_t least = INT64_MAX;
+    for (size_t k = r->from[person]; k < r->from[person + 1]; k++) {
+        int64_t change = r->lowering[k].dearer + r->change[r->lowering[k].object];
+        least = change < least ? change : least;
+    }
+    int64_t *mine = &r->change[r->own[person]];
+    if (least >= *mine) return 0;
+    *mine = least;
     return 1;
 }
 
-/* Takes the next level. 1 where memory or the library doesn't. */
-static int finer(level *l, nearby *r) {
-    int64_t gap;
-    drop_far(l);
-    refine_unit(l, r->finer, &gap);
-    if (!relax(l, r, gap) && solve_near(l, r, gap)) return 1;
-    for (size_t e = 0; e < l->count; e++) l->slack[e] += r->change[l->object[e]] - r->worth[l->person[e]];
+/* Looks for prices, in the unit of a step, at which the choices of a level stay the best, by lowering the price of whatever a person has while another arc is better for
+ * him: 1 where there are some, with their changes. If the choices aren't the least, something is lowered around and around, and so by more than
+ * the sum of their slacks; nothing is, where they are, since each step on the way from a price that stands lowers by one person's slack at most.
+ * Persons take turns upwards and downwards, since most ways lead on in one of these orders. */
+static int relax(const level *l, nearby *r, step s) {
+    list_lowering(l, r, s.gap);
+    memset(r->change, 0, l->objects * 8);
+    int moves = s.gap > 0;
+    for (int pass = 0; moves && pass < MOST_PASSES; pass++) {
+        moves = 0;
+        for (size_t k = 0; k < r->persons; k++) moves |= lower(r, pass % 2 ? r->persons - 1 - k : k);
+        for (size_t k = 0; k < r->persons; k++)
+            if (r->change[r->own[k]] < -s.gap) return 0;
+    }
+    if (moves) return 0;
+    for (size_t j = 0; l->objects > l->persons && j < l->objects; j++)
+        if (price_in_finer(l, j, s.by) + r->change[j] < 0) return 0;
+    return 1;
+}
+
+/* Takes the changes of a round into the level. */
+static void take_changes(level *l, const nearby *r) {
+    for (size_t i = 0; i < l->persons; i++)
+        for (size_t e = l->first[i]; e < l->first[i + 1]; e++) l->slack[e] += r->change[l->object[e]] - r->worth[i];
     for (size_t j = 0; l->objects > l->persons && j < l->objects; j++) {
         int64_t price = l->price[j] + r->change[j];
         l->price[j] = price < PLENTY ? price : PLENTY;
     }
+}
+
+/* Takes the next level by the choices that there are, in the finest unit: 1 where they aren't the least in it, or it isn't seen that they are. */
+static int finer_by_prices(level *l, nearby *r) {
+    step s = in_finer(l, MOST_FINER, r->finer);
+    if (!relax(l, r, s)) return 1;
+    for (size_t j = 0; j < l->objects; j++) r->change[j] >>= s.spare;
+    if (!s.has_tails) {
+        /* The last level: nobody looks at its slacks. */
+        l->unit += s.by - s.spare;
+        l->is_settled = 1;
+        return 0;
+    }
+    take_finer(l, s, r->finer);
+    for (size_t i = 0; i < l->persons; i++) r->worth[i] = l->slack[l->pick[i]] + r->change[l->object[l->pick[i]]];
+    take_changes(l, r);
     return 0;
 }
 
-/* The first level, of a matrix that was solved in whole units: its prices are made whole. 1 where there is no memory. */
-static int first_level(job *w, level *l, uint8_t *seen) {
-    size_t persons = w->table.persons, objects = w->table.objects, count = 0;
-    int64_t most = 4 * (int64_t)persons + 16;
-    make_whole(w->prices, objects, w->choice, persons, seen);
-    for (int fills = 0; fills < 2; fills++) {
-        if (fills) {
-            l->person = malloc(count * 4 * 2 + persons * 4);
-            l->slack = malloc((count + objects) * 8);
-            l->tail = malloc(count * 8);
-            if (!l->person || !l->slack || !l->tail) return 1;
-            l->object = l->person + count;
-            l->pick = l->object + count;
-            l->price = l->slack + count;
-            count = 0;
+/* Takes the next level by choices of the library's. 1 where memory or the library doesn't. */
+static int finer_by_library(level *l, nearby *r) {
+    step s = in_finer(l, step_of(l), r->finer);
+    while (2 * (s.gap + 1) > SIGDORF_MOST_COST) s = in_finer(l, s.by - 1, r->finer);
+    take_finer(l, s, r->finer);
+    if (solve_near(l, r, s.gap >> s.spare)) return 1;
+    take_changes(l, r);
+    return 0;
+}
+
+/* Room for the arcs of another row behind so many. 1 where there is no memory. */
+static int widen(workshop *shop, level *l, size_t count) {
+    if (shop->arcs - count < l->objects) {
+        size_t arcs = 4 * (shop->arcs + l->objects);
+        void *object = realloc(shop->object, arcs * 4), *slack = realloc(shop->slack, arcs * 8), *tail = realloc(shop->tail, arcs * 8);
+        if (object) shop->object = object;
+        if (slack) shop->slack = slack;
+        if (tail) shop->tail = tail;
+        if (!object || !slack || !tail) return 1;
+        shop->arcs = arcs;
+    }
+    l->object = shop->object, l->slack = shop->slack, l->tail = shop->tail;
+    return 0;
+}
+
+/* Two numbers that a vector of any machine holds. */
+typedef uint64_t pair __attribute__((vector_size(16)));
+
+static inline pair pair_at(const int64_t *numbers) {
+    pair two;
+    memcpy(&two, numbers, sizeof two);
+    return two;
+}
+
+/* Whether one of some sums may be below a limit: the sign of what is left of it then. */
+static inline int may_be_below(const int64_t *row, const int64_t *prices, pair limit) {
+    pair any = pair_at(row) + pair_at(prices) - limit;
+    for (size_t k = 2; k < LANES; k += 2) any |= pair_at(row + k) + pair_at(prices + k) - limit;
+    return (any[0] | any[1]) >> 63 != 0;
+}
+
+/* Lists the columns of a row whose cost and price are below a limit together, and answers how many they are. */
+static size_t list_below(const int64_t *restrict row, const int64_t *restrict prices, size_t objects, int64_t limit, uint32_t *restrict to) {
+    size_t count = 0, j = 0;
+    pair limits = {(uint64_t)limit, (uint64_t)limit};
+    while (j < objects) {
+        size_t end = objects - j < LANES ? objects : j + LANES;
+        if (end == j + LANES && !may_be_below(row + j, prices + j, limits)) {
+            j = end;
+            continue;
         }
-        for (size_t i = 0; i < persons; i++) {
-            const int64_t *row = w->costs + i * w->stride;
-            int64_t own = row[w->choice[i]] + w->prices[w->choice[i]];
-            for (size_t j = 0; j < objects; j++) {
-                if (row[j] == NO_ENTRY || row[j] + w->prices[j] - own > most) continue;
-                if (fills) {
-                    l->person[count] = (uint32_t)i;
-                    l->object[count] = (uint32_t)j;
-                    l->slack[count] = row[j] + w->prices[j] - own;
-                    l->tail[count] = w->tails[i * objects + j];
-                    if (j == w->choice[i]) l->pick[i] = (uint32_t)count;
-                }
-                count++;
-            }
+        for (; j < end; j++) {
+            to[count] = (uint32_t)j;
+            count += (row[j] != NO_ENTRY) & (row[j] + prices[j] < limit);
         }
     }
+    return count;
+}
+
+/* The same of a row without gaps in which many are: no choice is made on the way, which nobody could foresee. */
+static size_t list_below_of_many(const int64_t *restrict row, const int64_t *restrict prices, size_t objects, int64_t limit, uint32_t *restrict to) {
+    size_t count = 0, j = 0;
+    pair limits = {(uint64_t)limit, (uint64_t)limit};
+    for (; j + 2 <= objects; j += 2) {
+        pair is_below = (pair_at(row + j) + pair_at(prices + j) - limits) >> 63;
+        to[count] = (uint32_t)j;
+        count += is_below[0];
+        to[count] = (uint32_t)j + 1;
+        count += is_below[1];
+    }
+    if (j < objects) {
+        to[count] = (uint32_t)j;
+        count += row[j] + prices[j] < limit;
+    }
+    return count;
+}
+
+/* Lists the arcs of a person that aren't far at the prices. 1 where the matrix was written meanwhile. */
+static int list_row(const job *w, level *l, size_t person) {
+    size_t first = l->first[person], choice = w->choice[person];
+    const int64_t *row = w->costs + person * w->stride, *prices = w->prices;
+    int64_t own = row[choice] + prices[choice];
+    double cost, mine;
+    int is_other = cost_of(w, person, choice, &cost, &mine), are_many = person && !w->has_gaps && (first - l->first[person - 1]) * MANY > l->objects;
+    size_t end = first + (are_many ? list_below_of_many : list_below)(row, prices, l->objects, own + 4 * (int64_t)l->persons + 17, l->object + first);
+    for (size_t e = first; e < end; e++) {
+        size_t j = l->object[e];
+        l->slack[e] = row[j] + prices[j] - own;
+        is_other |= cost_of(w, person, j, &cost, &l->tail[e]);
+        if (l->slack[e] == 0 && l->tail[e] < mine) l->is_settled = 0;
+        if (j == choice) l->pick[person] = (uint32_t)e;
+    }
+    l->first[person + 1] = (uint32_t)end;
+    return is_other;
+}
+
+/* The first level, of a matrix that was solved in whole units: its prices are made whole. 1 where there is no memory. */
+static int first_level(job *w, level *l) {
+    size_t persons = w->table.persons, objects = w->table.objects;
+    char *at = block_of(&w->shop->level, (2 * persons + 1) * 4 + objects * 8 + persons + 1 + 4 * 8);
+    if (!at) return 1;
+    l->price = cut(&at, objects, 8);
+    l->pick = cut(&at, persons, 4);
+    l->first = cut(&at, persons + 1, 4);
+    make_whole(w->prices, objects, w->choice, persons, cut(&at, persons + 1, 1));
+    l->persons = persons, l->objects = objects, l->unit = w->unit, l->is_settled = 1, l->first[0] = 0;
+    for (size_t i = 0; i < persons; i++)
+        if (widen(w->shop, l, l->first[i]) || list_row(w, l, i)) return 1;
     for (size_t j = 0; j < objects; j++) l->price[j] = objects == persons ? 0 : w->prices[j] < PLENTY ? w->prices[j] : PLENTY;
-    l->persons = persons, l->objects = objects, l->count = count, l->unit = w->unit;
     return 0;
 }
 
@@ -316,92 +470,26 @@ static int keep_change(job *w, const level *l, const nearby *r) {
     return 0;
 }
 
+/* Takes levels until the choices are the least. 1 where Python has to do it. */
+static int settle(job *w, level *l, nearby *r) {
+    if (!w->wants_prices && is_only(l, r->choice, r->seen)) return 0;
+    while (!l->is_settled) {
+        if (finer_by_prices(l, r) && finer_by_library(l, r)) return 1;
+        if (w->wants_prices && keep_change(w, l, r)) return 1;
+        if (l->is_settled || (l->is_settled = is_settled(l))) return 0;
+        drop_far(l);
+    }
+    return 0;
+}
+
 /* From a solution in whole units to one of the costs as they stand. 1 where Python has to do it. */
 int refine(job *w) {
     size_t persons = w->table.persons, objects = w->table.objects;
     level l = {0};
     nearby r = {0};
-    void *room = NULL;
-    uint8_t *seen = malloc(persons + 1 + objects);
-    int fails = !seen || first_level(w, &l, seen);
-    while (!fails && !is_settled(&l)) {
-        if (!room) {
-            room = room_of(&r, persons, objects, l.count);
-            fails = !room;
-            if (fails || (!w->wants_prices && is_only(&l, r.choice, seen))) break;
-        }
-        fails = finer(&l, &r) || (w->wants_prices && keep_change(w, &l, &r));
-    }
-    for (size_t i = 0; !fails && i < persons; i++) w->choice[i] = l.object[l.pick[i]];
-    free(l.person);
-    free(l.slack);
-    free(l.tail);
-    free(room);
-    free(seen);
-    return fails;
-}
-
-/* ---- What a solution tells beside its pairs */
-
-/* The sum of the choice's costs, exactly. */
-void sum_up(job *w) {
-    size_t persons = w->table.persons;
-    w->has_sum = w->is_small;
-    if (w->is_small) return;
-    w->sum = 0;
-    double back = ldexp(1, -w->unit);
-    int least = INT_MAX, most = INT_MIN;
-    for (int sums = 0; sums < 2; sums++) {
-        for (size_t i = 0; i < persons; i++) {
-            size_t place = i * w->table.objects + w->choice[i];
-            /* What was taken apart without a loss comes together so. */
-            double cost = (double)w->own_costs[place] * back + (w->has_tails ? w->tails[place] : 0);
-            int exponent;
-            int64_t digits = (int64_t)ldexp(frexp(cost, &exponent), 53);
-            if (!digits) continue;
-            int twos = __builtin_ctzll((uint64_t)digits), low = exponent - 53 + twos;
-            if (sums) {
-                w->sum += ((__int128)(digits >> twos)) * ((__int128)1 << (low - least));
-                continue;
-            }
-            if (low < least) least = low;
-            if (exponent > most) most = exponent;
-        }
-        if (!sums && least == INT_MAX) least = most = 0;
-        /* Ten thousand such numbers are less than 2^14 times the greatest. */
-        if (most - least > 110) return;
-    }
-    w->sum_unit = -least;
-    w->has_sum = 1;
-}
-
-/* Prices of all levels together, as the answer has them, where they are within 128 bits: else Python puts them together. 1 where there is no memory. */
-int combine(job *w) {
-    const table *t = &w->table;
-    size_t objects = t->objects;
-    if (w->is_small) return 0;
-    int last = w->levels ? w->units[w->levels - 1] : w->unit;
-    if (!w->has_tails && last < 0) {
-        uint8_t *seen = malloc(t->persons + 1);
-        if (!seen) return 1;
-        make_whole(w->prices, objects, w->choice, t->persons, seen);
-        free(seen);
-    }
-    if (last < 0 || last - w->unit > 60) return 0;
-    __int128 *combined = malloc(objects * sizeof *combined);
-    if (!combined) return 1;
-    __int128 factor = w->has_tails ? (__int128)t->persons + 1 : 1, least = 0;
-    w->are_narrow = 1;
-    for (int writes = 0; writes < 2; writes++)
-        for (size_t j = 0; j < objects; j++) {
-            __int128 price = (__int128)w->prices[j] << (last - w->unit);
-            for (size_t k = 0; k < w->levels; k++) price += (__int128)w->changes[k * objects + j] * ((__int128)1 << (last - w->units[k]));
-            if (!writes && (j == 0 || price < least)) least = price;
-            price = (price - (t->persons == objects ? least : 0)) * factor;
-            if (writes) w->are_narrow &= price >= INT64_MIN && price <= INT64_MAX;
-            combined[j] = price;
-        }
-    w->unit = last;
-    w->combined = combined;
+    if (first_level(w, &l)) return 1;
+    if (l.is_settled) return 0;
+    if (take_room(&w->shop->round, &r, persons, objects, count_of(&l)) || settle(w, &l, &r)) return 1;
+    for (size_t i = 0; i < persons; i++) w->choice[i] = l.object[l.pick[i]];
     return 0;
 }

@@ -3,6 +3,7 @@
 A finite float of 64 bits is a whole number of 2^-1074, so that Python's whole numbers hold it in a fine enough unit.
 """
 import fractions
+import functools
 import math
 
 import numpy
@@ -10,6 +11,11 @@ import numpy
 # The bits of a float's fraction, and the unit in which each float is whole.
 BITS_OF_FLOAT, FINEST = 53, 1074
 FEW = 60
+# A Fraction of two numbers without a common factor, since to look for one would take longer than all else. Each Python has it by another name.
+_of_coprime = getattr(fractions.Fraction, "_from_coprime_ints", None)
+if _of_coprime is None and "_normalize" in (fractions.Fraction.__new__.__kwdefaults__ or ()):
+    _of_coprime = functools.partial(fractions.Fraction, _normalize=False)
+_of_coprime = _of_coprime or fractions.Fraction
 
 
 def unit_of(costs):
@@ -44,10 +50,16 @@ def exact_sum(costs):
     return fractions.Fraction(int(in_units(costs, unit).sum()) if costs.size else 0, 1 << unit)
 
 
+def fraction_of(number, unit):
+    """number / 2^unit as a Fraction; the number is odd, or the unit isn't above 0."""
+    return fractions.Fraction(number << -unit) if unit <= 0 else _of_coprime(number, 1 << unit)
+
+
 def nearest_float(amount):
     """The float next to a Fraction; an infinite one where it is beyond all of them."""
     try:
-        return float(amount)
+        # As float(amount), which takes some times as long.
+        return amount.numerator / amount.denominator
     except OverflowError:
         return math.inf if amount > 0 else -math.inf
 

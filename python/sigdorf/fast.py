@@ -3,12 +3,11 @@
 Without it, and wherever it answers None, the rest of the package solves the same: it is slower, and knows what to say of a fault.
 """
 import ctypes
-import fractions
 import os
 
 import numpy
 
-from .amounts import exact_sum, nearest_float
+from .amounts import exact_sum, fraction_of, nearest_float
 from .exact import Answer, priced
 from .library import address_of
 from .solution import Solution
@@ -17,7 +16,7 @@ from .waiting import call_waiting
 # A call with fewer entries ends so soon that a thread of its own isn't worth its time.
 FEWEST = 1 << 16
 # That of the extension of these sources; one that was built of others isn't used.
-INTERFACE = 2
+INTERFACE = 4
 
 
 def _bound():
@@ -69,18 +68,12 @@ def solutions_of(matrices, maximize):
 
 def _made(matrix, maximize, parts):
     """The Solution of what the extension has found."""
-    rows, columns, entries, prices, unit, is_small, high, low, sum_unit = parts
-    persons = len(rows)
-    if high is None:
-        exact = exact_sum(matrix[rows, columns].astype(numpy.float64, copy=False))
+    rows, columns, entries, prices, unit, total, total_unit, shown = parts
+    exact = exact_sum(matrix[rows, columns].astype(numpy.float64, copy=False)) if total is None else fraction_of(total, total_unit)
+    if shown is None:
+        shown = nearest_float(exact)
+    if type(prices) is tuple:
+        prices, scale = priced(len(rows), max(matrix.shape), Answer(None, prices, 1, 0))
     else:
-        total = (high << 64) + low
-        exact = fractions.Fraction(-total if maximize else total, 1 << sum_unit) if sum_unit > 0 else fractions.Fraction((-total if maximize else total) << -sum_unit)
-    shown = exact.numerator if is_small else nearest_float(exact)
-    if type(prices) is list:
-        prices, scale = numpy.array(prices, object), (persons + 1) << unit
-    elif type(prices) is tuple:
-        prices, scale = priced(persons, max(matrix.shape), Answer(None, prices, 1, 0))
-    else:
-        scale = (persons + 1) << unit
+        prices, scale = numpy.array(prices, object) if type(prices) is list else prices, (len(rows) + 1) << unit
     return Solution(rows, columns, entries, shown, shown, prices, scale, exact)

@@ -19,7 +19,7 @@ from .together import MOST_PERSONS, kind_of, solve_together
 MOST_THREADS = 1024
 # Of arrays that the extension solves in one call: so many entries and so many arrays at most, and so few entries that no more calls are worth while;
 # and how many such calls each thread is to have, so that all end at about the same time.
-MOST_ENTRIES, MOST_TOGETHER, FEWEST_ENTRIES, PARTS = 50_000, 256, 2_000, 4
+MOST_ENTRIES, MOST_TOGETHER, FEWEST_ENTRIES, PARTS = 50_000, 64, 2_000, 4
 
 
 def solve_many(
@@ -36,7 +36,7 @@ def solve_many(
     threads: how many work at a time, from 1 to 1024; the processors that the process may use, where it is left out.
     `maximize`, `decimals` and `bids` are those of :func:`solve`, for all problems.
 
-    The library works side by side, and what Python and numpy do around it one after another. Arrays are solved some hundreds at a time by the
+    The library works side by side, and what Python and numpy do around it one after another. Arrays are solved some dozens at a time by the
     extension, where it was built; without it those of at most 100 rows and columns, as blocks of one problem.
 
     Raises what :func:`solve` does, of a problem that is at fault, with a note that tells its number, from 0; the others are given up.
@@ -117,4 +117,6 @@ def _in_order(answers, parts):
     """The Solutions of all parts by the numbers of their problems."""
     places = [number for part in parts for number in part]
     solutions = [solution for answer in answers for solution in answer]
+    if places == list(range(len(places))):
+        return solutions
     return [solution for _, solution in sorted(zip(places, solutions), key=operator.itemgetter(0))]

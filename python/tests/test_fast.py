@@ -8,6 +8,7 @@ import pathlib
 import signal
 import subprocess
 import sys
+import threading
 import tracemalloc
 import unittest
 import unittest.mock
@@ -97,6 +98,65 @@ class Fast(Limited):
         self.assertEqual(sigdorf.solve(numpy.array([[2**64 - 1, 0], [0, 2**64 - 10**9]], numpy.uint64)).cost, 0)
         for value in (5e-324, 1e308, 1e-300, 2.0**1000):
             self.assertEqual(sigdorf.solve(numpy.array([[value, 0.0], [value / 2, value]])).exact_cost, sum_of(numpy.array([[value / 2]]), ([0], [0])))
+
+    def test_gates(self):
+        """One number far above all others, with pairs that have it and without."""
+        random = numpy.random.default_rng(6)
+        for number in range(120):
+            shape, share = tuple(random.integers(1, 30, 2)), random.choice([0.05, 0.5, 0.9])
+            near = random.random(shape) * random.choice([1e-3, 1, 1e4]) + random.choice([0, -5, 1e3])
+            matrix = numpy.where(random.random(shape) < share, random.choice([1e5, 1e6, 2.0**40 / 3, 1e18, 1e300]), near)
+            if number % 4 == 0:
+                matrix = numpy.where(random.random(shape) < 0.1, numpy.inf, matrix)
+            self.assert_same(matrix, number % 2 == 1 and not numpy.isinf(matrix).any())
+
+    def test_two_numbers(self):
+        for low, high in [(0, 1e-300), (0.1, 0.7), (1, 1 + 2**-52), (-1e18, 1e18), (5e-324, 1e-323), (0, 1.5)]:
+            for side in (1, 2, 5, 40):
+                matrix = numpy.random.default_rng(side).choice([low, high], (side, side))
+                for maximize in (False, True):
+                    self.assert_same(matrix, maximize)
+
+    def test_far_from_zero(self):
+        """Differences that are next to nothing beside the numbers."""
+        random = numpy.random.default_rng(7)
+        for base, step in [(1e9, 1e-3), (-1e15, 0.25), (2.0**60, 256), (1, 2**-52), (1e300, 1e285), (-1e-300, 1e-316)]:
+            for shape in [(6, 6), (25, 25), (20, 30)]:
+                self.assert_same(base + step * random.integers(0, 100, shape), False)
+
+    def assert_same(self, matrix, maximize):
+        """The cost is that without the extension, and a check lets the solution pass."""
+        with self.subTest(matrix=matrix, maximize=maximize):
+            try:
+                found = sigdorf.solve(matrix, maximize=maximize)
+            except sigdorf.Infeasible:
+                return
+            with without():
+                self.assertEqual(found.exact_cost, sigdorf.solve(matrix, maximize=maximize).exact_cost)
+            sigdorf.check(found, matrix, maximize=maximize)
+            self.assertEqual(sum_of(matrix, sigdorf.linear_sum_assignment(matrix, maximize)), found.exact_cost)
+
+    def test_written_meanwhile(self):
+        """A thread that writes a matrix of floats while it is solved does no harm beyond the answer."""
+        random = numpy.random.default_rng(8)
+        matrices, ends = [random.random((60, 60)), random.random((60, 60)) * 1e6, numpy.full((60, 60), 1e300)], threading.Event()
+        matrix = matrices[0].copy()
+
+        def write():
+            while not ends.is_set():
+                for other in matrices:
+                    matrix[:] = other
+
+        writer = threading.Thread(target=write)
+        writer.start()
+        try:
+            for number in range(400):
+                found = fast._extension.pairs(matrix, False) if number % 2 else fast._extension.solved(matrix, False)
+                # What is no answer is looked at by Python.
+                self.assertTrue(found is None or sorted(found[1].tolist()) == list(range(60)))
+        finally:
+            ends.set()
+            writer.join()
 
     def test_entries_among_gaps(self):
         matrix = numpy.array([[numpy.inf, 1.5, 2], [1, numpy.inf, 7], [numpy.inf, 3, 2.5], [9, 9, numpy.inf]])

@@ -1,0 +1,142 @@
+/* What an answer tells beside its pairs: the sum of their costs, and prices, exactly. */
+#include <limits.h>
+#include <math.h>
+#include <stdlib.h>
+#include <string.h>
+
+#include "_fast.h"
+
+void make_whole(int64_t *prices, size_t objects, const uint32_t *picked, size_t persons, uint8_t *seen) {
+    int64_t scale = (int64_t)persons + 1, least = 0;
+    memset(seen, 0, (size_t)scale);
+    for (size_t i = 0; i < persons; i++) seen[prices[picked[i]] % scale] = 1;
+    while (seen[least]) least++;
+    int64_t more = least ? scale - least : 0;
+    for (size_t j = 0; j < objects; j++) prices[j] = (prices[j] + more) / scale;
+}
+
+/* A float as a whole number, which is odd or 0, of a power of two. */
+static int64_t digits_of(double value, int *exponent) {
+    uint64_t bits;
+    memcpy(&bits, &value, sizeof bits);
+    int high = (int)(bits >> 52 & 0x7ff);
+    uint64_t digits = (bits & ((UINT64_C(1) << 52) - 1)) | (uint64_t)(high > 0) << 52;
+    if (!digits) return *exponent = 0;
+    int twos = __builtin_ctzll(digits);
+    *exponent = (high > 0 ? high : 1) - 1075 + twos;
+    return (int64_t)(digits >> twos) * (bits >> 63 ? -1 : 1);
+}
+
+/* The sum of some floats, exactly, where it is within 128 bits. */
+static void sum_up_all(job *w, const double *costs, size_t count) {
+    int least = INT_MAX, most = INT_MIN, exponent, above;
+    for (size_t i = 0; i < count; i++) {
+        if (!digits_of(costs[i], &exponent)) continue;
+        frexp(costs[i], &above);
+        if (exponent < least) least = exponent;
+        if (above > most) most = above;
+    }
+    if (least > most) least = most = 0;
+    /* Ten thousand such numbers are less than 2^14 times the greatest. */
+    if (most - least > 110) return;
+    w->sum = 0;
+    for (size_t i = 0; i < count; i++) {
+        int64_t digits = digits_of(costs[i], &exponent);
+        if (digits) w->sum += (__int128)digits * ((__int128)1 << (exponent - least));
+    }
+    w->sum_unit = -least;
+    for (; w->sum_unit > 0 && !(w->sum & 1); w->sum_unit--) w->sum >>= 1;
+    w->has_sum = 1;
+}
+
+/* The sum of the choice's costs. 1 where there is no memory, or the matrix was written meanwhile. */
+int sum_up(job *w) {
+    size_t persons = w->table.persons;
+    w->has_sum = w->is_small;
+    if (w->is_small) return 0;
+    double *costs = block_of(&w->shop->level, persons * 8), tail;
+    int fails = !costs;
+    for (size_t i = 0; !fails && i < persons; i++) fails = cost_of(w, i, w->choice[i], &costs[i], &tail);
+    if (!fails) sum_up_all(w, costs, persons);
+    return fails;
+}
+
+/* Whether a choice is a gate. */
+static int uses_gate(const job *w) {
+    for (size_t i = 0; w->gate_cost && i < w->table.persons; i++)
+        if (w->own_costs[i * w->table.objects + w->choice[i]] == w->gate_cost) return 1;
+    return 0;
+}
+
+static int by_size(const void *one, const void *other) {
+    __int128 difference = *(const __int128 *)one - *(const __int128 *)other;
+    return (difference > 0) - (difference < 0);
+}
+
+/* A number to add to prices from 0, below `step`, so that no price of a choice is less than `span` above a multiple of `step`, which is more than
+ * `span` times the choices. -1 where there is no memory. */
+static __int128 offset_of(const job *w, const __int128 *prices, __int128 step, __int128 span) {
+    size_t persons = w->table.persons;
+    __int128 *from = malloc(persons * sizeof *from), offset = -1;
+    if (!from) return -1;
+    /* Each choice forbids `span` numbers from here. */
+    for (size_t i = 0; i < persons; i++) from[i] = (step - prices[w->choice[i]] % step) % step;
+    qsort(from, persons, sizeof *from, by_size);
+    for (size_t i = 0; offset < 0 && i < persons; i++)
+        if ((i + 1 < persons ? from[i + 1] : from[0] + step) - from[i] > span) offset = (from[i] + span) % step;
+    free(from);
+    return offset;
+}
+
+/* Takes prices from 0, in a unit, to those of the matrix with its gate as it is: EXACT.md says why. 1 where they are beyond 128 bits, or there is no memory. */
+static int lift(const job *w, __int128 *prices, int unit) {
+    size_t objects = w->table.objects;
+    __int128 step = (__int128)w->gate_cost << (unit - w->unit), span = (__int128)w->gate_span << (unit - w->unit), most = 0;
+    double gate = ldexp(w->gate, unit);
+    for (size_t j = 0; j < objects; j++) most = prices[j] > most ? prices[j] : most;
+    double times = (double)(most / step + 2) * (double)(w->table.persons + 1);
+    if (!(fabs(gate) * times < ldexp(1, 120)) || (double)most * times > ldexp(1, 120) || nearbyint(gate) != gate) return 1;
+    __int128 more = (__int128)gate - step - (__int128)w->least * ((__int128)1 << (unit - w->unit)), offset = offset_of(w, prices, step, span);
+    for (size_t j = 0; j < objects; j++) prices[j] += more * ((prices[j] + offset) / step);
+    return offset < 0;
+}
+
+/* Prices of all levels together, as the answer has them, where they are within 128 bits: else Python puts them together. 1 where there is no memory,
+ * or Python has to solve the matrix. */
+int combine(job *w) {
+    const table *t = &w->table;
+    size_t objects = t->objects;
+    w->are_narrow = w->is_small;
+    if (w->is_small) return 0;
+    int last = w->levels ? w->units[w->levels - 1] : w->unit, lifts = uses_gate(w), is_whole = w->has_tails;
+    if (!is_whole && (last < 0 || lifts)) {
+        uint8_t *seen = block_of(&w->shop->level, t->persons + 1);
+        if (!seen) return 1;
+        make_whole(w->prices, objects, w->choice, t->persons, seen);
+        is_whole = 1;
+    }
+    if (last < 0 || last - w->unit > 60) return lifts;
+    __int128 *combined = block_of(&w->shop->round, objects * sizeof *combined), least = 0;
+    if (!combined) return 1;
+    for (size_t j = 0; j < objects; j++) {
+        combined[j] = (__int128)w->prices[j] << (last - w->unit);
+        for (size_t k = 0; k < w->levels; k++) combined[j] += (__int128)w->changes[k * objects + j] * ((__int128)1 << (last - w->units[k]));
+        if (t->persons == objects && (j == 0 || combined[j] < least)) least = combined[j];
+    }
+    for (size_t j = 0; j < objects; j++) combined[j] -= least;
+    if (lifts && lift(w, combined, last)) return 1;
+    int are_narrow = 1;
+    for (size_t j = 0; j < objects; j++) {
+        combined[j] *= is_whole ? (__int128)t->persons + 1 : 1;
+        are_narrow &= combined[j] >= INT64_MIN && combined[j] <= INT64_MAX;
+    }
+    w->are_narrow = are_narrow;
+    if (are_narrow) {
+        for (size_t j = 0; j < objects; j++) w->prices[j] = (int64_t)combined[j];
+    } else {
+        if (!(w->combined = malloc(objects * sizeof *combined))) return 1;
+        memcpy(w->combined, combined, objects * sizeof *combined);
+    }
+    w->unit = last;
+    return 0;
+}

@@ -13,19 +13,21 @@ use auc_cert::{Pick, cost_of};
 use auc_table::{Table, propose};
 use std::alloc::{AllocError, Global};
 
-/// How many entries the search may look at in any table: as many as take some ten milliseconds.
+/// How many entries the search may look at in any table with as many objects as persons: as many as take some ten milliseconds.
 const LOOKS: u64 = 16_777_216;
 
 /// How many times it may look at each entry in the mean, where that is more. Where it takes more, bids with lists are faster.
 const TIMES: u64 = 32;
 
-/// How many entries the search may look at. To look over a row counts as a bid.
+/// How many entries the search may look at. To look over a row counts as a bid; with more objects than persons nothing else ends it, since bids are no faster there.
 fn looks_of(persons: u32, objects: u32, bids: u64) -> u64 {
     let row = u64::from(objects);
+    let by_bids = row.saturating_mul(bids);
+    if persons < objects {
+        return by_bids;
+    }
     let all = row.saturating_mul(u64::from(persons));
-    LOOKS
-        .max(all.saturating_mul(TIMES))
-        .min(row.saturating_mul(bids))
+    LOOKS.max(all.saturating_mul(TIMES)).min(by_bids)
 }
 
 /// By what costs are multiplied: one more than the persons.

@@ -297,10 +297,10 @@ static int lower(nearby *r, size_t person) {
     return 1;
 }
 
-/* Looks for prices, in the unit of a step, at which the choices of a level stay the best, by lowering the price of whatever a person has while another arc is better for
- * him: 1 where there are some, with their changes. If the choices aren't the least, something is lowered around and around, and so by more than
- * the sum of their slacks; nothing is, where they are, since each step on the way from a price that stands lowers by one person's slack at most.
- * Persons take turns upwards and downwards, since most ways lead on in one of these orders. */
+/* Looks for prices, in the unit of a step, at which the choices of a level stay the best, by lowering the price of whatever a person has while
+ * another arc is better for him: 1 where there are some, with their changes. If the choices aren't the least, something is lowered around and
+ * around, and so by more than the sum of their slacks; nothing is, where they are, since each step on the way from a price that stands lowers by
+ * one person's slack at most. Persons take turns upwards and downwards, since most ways lead on in one of these orders. */
 static int relax(const level *l, nearby *r, step s) {
     list_lowering(l, r, s.gap);
     memset(r->change, 0, l->objects * 8);

@@ -5,7 +5,7 @@
  * as right there. Costs count exactly: docs/EXACT.md says how.
  *
  * A call of few entries holds the interpreter's lock, so that nobody writes the matrix meanwhile, and the library reads it in place. Others
- * copy it once, and give the lock up.
+ * copy it once, and give the lock up. Floats are rounded into the copy, and what that leaves of the few that matter is read again where they lie.
  */
 #include "_fast.h"
 

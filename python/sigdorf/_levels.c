@@ -10,7 +10,7 @@
 #define PLENTY (INT64_C(1) << 60)
 /* So often a round looks for prices at which its choices stay, before it has the library look for other choices. */
 #define MOST_PASSES 128
-/* So many entries of a row are looked at side by side; and where one in so many was near in the row before, many are. */
+/* So many entries of a row are looked at side by side; and many are near where one in so many was in the row before, or where a row is hardly longer. */
 #define LANES 4
 #define MANY 24
 
@@ -297,10 +297,10 @@ static int lower(nearby *r, size_t person) {
     return 1;
 }
 
-/* Looks for prices, in the unit of a step, at which the choices of a level stay the best, by lowering the price of whatever a person has while another arc is better for
- * him: 1 where there are some, with their changes. If the choices aren't the least, something is lowered around and around, and so by more than
- * the sum of their slacks; nothing is, where they are, since each step on the way from a price that stands lowers by one person's slack at most.
- * Persons take turns upwards and downwards, since most ways lead on in one of these orders. */
+/* Looks for prices, in the unit of a step, at which the choices of a level stay the best, by lowering the price of whatever a person has while
+ * another arc is better for him: 1 where there are some, with their changes. If the choices aren't the least, something is lowered around and
+ * around, and so by more than the sum of their slacks; nothing is, where they are, since each step on the way from a price that stands lowers by
+ * one person's slack at most. Persons take turns upwards and downwards, since most ways lead on in one of these orders. */
 static int relax(const level *l, nearby *r, step s) {
     list_lowering(l, r, s.gap);
     memset(r->change, 0, l->objects * 8);
@@ -427,7 +427,8 @@ static int list_row(const job *w, level *l, size_t person) {
     const int64_t *row = w->costs + person * w->stride, *prices = w->prices;
     int64_t own = row[choice] + prices[choice];
     double cost, mine;
-    int is_other = cost_of(w, person, choice, &cost, &mine), are_many = person && !w->has_gaps && (first - l->first[person - 1]) * MANY > l->objects;
+    int is_other = cost_of(w, person, choice, &cost, &mine);
+    int are_many = !w->has_gaps && (l->objects < 2 * MANY || (person && (first - l->first[person - 1]) * MANY > l->objects));
     size_t end = first + (are_many ? list_below_of_many : list_below)(row, prices, l->objects, own + 4 * (int64_t)l->persons + 17, l->object + first);
     for (size_t e = first; e < end; e++) {
         size_t j = l->object[e];

@@ -261,7 +261,8 @@ static void take_unit(job *w, double least, double most) {
             w->gate_span = whole_at(inner, w->unit) - whole_at(least, w->unit) + 2;
             w->gate_cost = 2 * (int64_t)w->table.persons * w->gate_span;
         } while (w->gate_cost > SIGDORF_MOST_COST);
-        if (ldexp(1.01 * (double)w->gate_cost, -w->unit) < most - least) return;
+        /* Less also where the least cost was rounded up. */
+        if (ldexp(1.01 * (double)w->gate_cost + 1, -w->unit) < most - least) return;
         w->gate_cost = 0;
     }
     w->unit = unit_of(least, most);

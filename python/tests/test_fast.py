@@ -117,6 +117,16 @@ class Fast(Limited):
                 for maximize in (False, True):
                     self.assert_same(matrix, maximize)
 
+    def test_least_gates(self):
+        """A number that is just so much greater than all others, or not quite."""
+        # In units of 2^-29: some round up, and some are the least that the extension takes for a gate.
+        for side in (1, 2, 3):
+            for part in numpy.arange(0, 1, 0.05):
+                for more in numpy.arange(3.5, 5, 0.1) * side:
+                    matrix = numpy.full((side, side + 1), (2**28 + part) * 2.0**-29)
+                    matrix[:, 1:] += more * 2.0**-29
+                    self.assert_same(matrix, False)
+
     def test_far_from_zero(self):
         """Differences that are next to nothing beside the numbers."""
         random = numpy.random.default_rng(7)

@@ -44,7 +44,7 @@ fn hold_all(rows: &Rows, holders: &[Option<u32>], places: &[u32]) -> bool
 /// The search goes by labels of the objects (push and relabel, Goldberg and Tarjan 1988), and gives up behind 16 times as many looks at arcs as
 /// there are arcs, or where it sees that there is none. What it has found is tried in one pass over the persons before true is answered.
 ///
-/// O(arcs) time, O(persons + objects) memory, all of it taken before the search.
+/// O(arcs + persons + objects) time, O(persons + objects) memory, all of it taken before the search.
 ///
 /// # Errors
 ///

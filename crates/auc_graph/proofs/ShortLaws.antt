@@ -1,6 +1,7 @@
--- Short numbers: one to seven digits and a separator.
-use Rattle.std.proofs.Common.{◌≡◌, ℕ, zero, suc, ◌+◌, ◌-◌, Bool, ◌<◌, ◌≤◌, ◌^◌, not, length, take, drop, List, [], ◌∷◌, ◌++◌, refl, sym, ap, ◌∙◌, arith}
+-- Numbers of a few digits and a separator.
+use Rattle.std.proofs.Common.{◌≡◌, ℕ, ◌+◌, ◌-◌, Bool, ◌<◌, ◌≤◌, ◌^◌, not, length, take, drop, List, [], ◌∷◌, ◌++◌, refl, sym, ap, ◌∙◌, arith}
 use Rattle.std.specs.Prelude.{pos}
+use Rattle.std.proofs.Math.Nat.{pow-le-pow_right}
 use Rattle.std.specs.List.{prefix_len, position_or_len}
 use Rattle.std.proofs.lemmas.List.{drop-drop, take-append-drop, take-append-le, length-append, length-drop}
 use Rattle.std.proofs.lemmas.Bool.{cases_Bool}
@@ -11,16 +12,8 @@ use Rattle.auc_graph.specs.Numbers.{numbers, split_sign, signed, IsPlainToken}
 use Rattle.auc_graph.proofs.NumberLaws.{number_of_plain, number_of_signed, sign_len, sign_text, sign_drop}
 use Rattle.auc_graph.proofs.PieceLaws.{whole_token_and, prefix_front}
 
-pub tens : (i : ℕ) → i < 8 → 10 ^ i ≤ 10 ^ 7
-tens zero h = omega arith
-tens (suc zero) h = omega arith
-tens (suc (suc zero)) h = omega arith
-tens (suc (suc (suc zero))) h = omega arith
-tens (suc (suc (suc (suc zero)))) h = omega arith
-tens (suc (suc (suc (suc (suc zero))))) h = omega arith
-tens (suc (suc (suc (suc (suc (suc zero)))))) h = omega arith
-tens (suc (suc (suc (suc (suc (suc (suc zero))))))) h = omega arith
-tens (suc (suc (suc (suc (suc (suc (suc (suc n)))))))) h = absurd (omega arith)
+pub tens_up : (i n : ℕ) → i ≤ n → 10 ^ i ≤ 10 ^ n
+tens_up i n h = pow-le-pow_right (omega arith) h
 
 no_separators : (bytes : List ℕ) → 0 < position_or_len is_separator bytes → 0 ≡ prefix_len is_separator bytes
 no_separators [] h = refl
@@ -31,14 +24,14 @@ no_separators (b ∷ bytes) h =
     ]
 
 -- what is told of the front is told of the whole text
-pub whole_short : (bytes front : List ℕ) (value len : ℕ) → front ≡ take 8 bytes → len < length front → IsPlainToken front value len → IsPlainToken bytes value len
-whole_short bytes front value len is lt h =
-    let all : front ++ drop 8 bytes ≡ bytes = ap (λ (t : List ℕ). t ++ drop 8 bytes) is ∙ take-append-drop 8 bytes in
-    let same : take len bytes ≡ take len front = sym (ap (take len) all) ∙ take-append-le len front (drop 8 bytes) (omega (arith, lt)) in
+pub whole_front : (n : ℕ) (bytes front : List ℕ) (value len : ℕ) → front ≡ take n bytes → len < length front → IsPlainToken front value len → IsPlainToken bytes value len
+whole_front n bytes front value len is lt h =
+    let all : front ++ drop n bytes ≡ bytes = ap (λ (t : List ℕ). t ++ drop n bytes) is ∙ take-append-drop n bytes in
+    let same : take len bytes ≡ take len front = sym (ap (take len) all) ∙ take-append-le len front (drop n bytes) (omega (arith, lt)) in
     record {
-      token = h.token ∙ sym (prefix_front (λ b. not (is_separator b)) front (drop 8 bytes) (omega (arith, lt, h.token))) ∙ ap (position_or_len is_separator) all;
+      token = h.token ∙ sym (prefix_front (λ b. not (is_separator b)) front (drop n bytes) (omega (arith, lt, h.token))) ∙ ap (position_or_len is_separator) all;
       some = h.some;
-      few = omega (arith, lt, sym (ap length all), length-append front (drop 8 bytes));
+      few = omega (arith, lt, sym (ap length all), length-append front (drop n bytes));
       digits = rw same h.digits;
       value_is = rw same h.value_is;
       small = h.small;

@@ -11,7 +11,7 @@ use Rattle.auc_graph.specs.Tokens.{is_separator}
 use Rattle.auc_graph.specs.Numbers.{IsPlainToken}
 use Rattle.auc_graph.specs.declared.line.WrittenPerson.{WrittenPerson}
 use Rattle.auc_graph.specs.Written.{AreBytes, IsWritten}
-use Rattle.auc_graph.proofs.ShortLaws.{whole_short}
+use Rattle.auc_graph.proofs.ShortLaws.{whole_front}
 
 -- byte k of a number is one of its lowest k + 1 + d bytes
 low_byte : (n k d : ℕ) → n / 2 ^ (8 * k) % 2 ^ 8 ≡ n % 2 ^ (8 * (k + 1 + d)) / 2 ^ (8 * k) % 2 ^ 8
@@ -78,4 +78,4 @@ pub written_front : (bytes front : List ℕ) (word : ℕ) (written : WrittenPers
 written_front bytes front word written told enough same all is under =
     let len : length front ≡ 8 = ap length same ∙ length-take-le 8 bytes enough in
     let h = told front word len all is under in
-    (h.0, whole_short bytes front (written.person + 1) written.digits same (omega (arith, h.0, len)) h.1)
+    (h.0, whole_front 8 bytes front (written.person + 1) written.digits same (omega (arith, h.0, len)) h.1)

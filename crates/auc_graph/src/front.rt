@@ -8,11 +8,15 @@ ghost use Rattle.auc_graph.specs.Tokens.{is_separator};
 ghost use Rattle.auc_graph.specs.Numbers.{numbers, signed, IsPlainToken};
 ghost use Rattle.auc_graph.specs.Pieces.{IsPlain};
 
+use crate::limits::MOST_COST;
 use crate::number::{Number, number_at, split_sign_of};
 use crate::tokens::{from_place, is_separator_byte, separators_len};
 
 /// One more than the digits of a short number.
 pub(crate) const SHORT: usize = 8;
+
+/// One more than the digits of the greatest cost.
+const LONG: usize = 11;
 
 /// The value of a digit; what another byte gives is above nine. Of 32 bits, so that the sum that takes it needs no widening.
 #[inline(always)]
@@ -77,6 +81,25 @@ pub(crate) fn short_number(separators: Separators, bytes: &[u8]) -> Option<(u32,
     Some((value, from_place(bytes, len + 1)))
 }
 
+/// The value and the length of the token at the front, where it is one to ten digits and a usual separator follows.
+#[inline(always)]
+fn long_number_at(bytes: &[u8; LONG]) -> Option<(u64, usize)>
+    ensures { IfSome result (λ x. (x.1 < LONG) × IsPlainToken bytes.now x.0 x.1) }
+{
+    let mut value: u64 = 0;
+    for (i, byte) in bytes.iter().enumerate() {
+        let digit = digit_of(*byte);
+        if digit > 9 {
+            if i > 0 && is_among(Separators::Usual, *byte) {
+                return Some((value, i));
+            }
+            return None;
+        }
+        value = 10 * value + digit as u64;
+    }
+    None
+}
+
 /// A number by its sign and its size.
 #[inline(always)]
 fn signed_of(negative: bool, size: u32) -> i64
@@ -89,33 +112,39 @@ fn signed_of(negative: bool, size: u32) -> i64
     }
 }
 
-/// The short number at the front, behind a sign or none, and the text behind the separator that follows it.
+/// The cost at the front, in range, of up to ten digits and behind a sign or none, and the text behind the separator that follows it.
 #[inline(always)]
-fn short_after_sign(bytes: &[u8]) -> Option<(i64, &[u8])>
+fn long_cost(bytes: &[u8]) -> Option<(i64, &[u8])>
     ensures found { IfSome result (λ x. (more : List ℕ) → numbers (bytes.now ++ more) ≡ Value x.0 ∷ numbers (x.1.now ++ more)) }
-    ensures low { IfSome result (λ x. neg_ℤ (pos 10000000) ≤ℤ x.0) }
-    ensures high { IfSome result (λ x. x.0 ≤ℤ pos 10000000) }
+    ensures low { IfSome result (λ x. neg_ℤ MOST_COST ≤ℤ x.0) }
+    ensures high { IfSome result (λ x. x.0 ≤ℤ MOST_COST) }
     ensures shorter { IfSome result (λ x. length x.1.now < length bytes.now) }
     ensures behind { IfSome result (λ x. x.1.now ≡ drop (length bytes.now - length x.1.now) bytes.now) }
 {
     let (negative, unsigned) = split_sign_of(bytes);
-    let front = unsigned.first_chunk::<SHORT>()?;
-    let (value, len) = short_number_at(Separators::Usual, front)?;
-    Some((signed_of(negative, value), from_place(unsigned, len + 1)))
+    let front = unsigned.first_chunk::<LONG>()?;
+    let (value, len) = long_number_at(front)?;
+    if value > MOST_COST as u64 {
+        return None;
+    }
+    Some((
+        signed_of(negative, value as u32),
+        from_place(unsigned, len + 1),
+    ))
 }
 
-/// The short number at the front, which may have a sign, and the text behind the separator that follows it. Most have none.
+/// The same. Most costs are short and have no sign, so these go by the loop of short numbers.
 #[inline(always)]
-pub(crate) fn short_signed(bytes: &[u8]) -> Option<(i64, &[u8])>
+pub(crate) fn cost_at(bytes: &[u8]) -> Option<(i64, &[u8])>
     ensures found { IfSome result (λ x. (more : List ℕ) → numbers (bytes.now ++ more) ≡ Value x.0 ∷ numbers (x.1.now ++ more)) }
-    ensures low { IfSome result (λ x. neg_ℤ (pos 10000000) ≤ℤ x.0) }
-    ensures high { IfSome result (λ x. x.0 ≤ℤ pos 10000000) }
+    ensures low { IfSome result (λ x. neg_ℤ MOST_COST ≤ℤ x.0) }
+    ensures high { IfSome result (λ x. x.0 ≤ℤ MOST_COST) }
     ensures shorter { IfSome result (λ x. length x.1.now < length bytes.now) }
     ensures behind { IfSome result (λ x. x.1.now ≡ drop (length bytes.now - length x.1.now) bytes.now) }
 {
     match short_number(Separators::Usual, bytes) {
         Some((value, rest)) => Some((value as i64, rest)),
-        None => short_after_sign(bytes),
+        None => long_cost(bytes),
     }
 }
 

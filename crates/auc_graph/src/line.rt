@@ -1,4 +1,4 @@
-//! Lines of three short numbers at the front of a text that goes on.
+//! Lines of two short numbers and a cost at the front of a text that goes on.
 //!
 //! Most files list the arcs of a person line by line, so the person of a line is known by comparing its first bytes with
 //! those of the line before.
@@ -11,10 +11,10 @@ ghost use Rattle.std.specs.Int.{w64, from_le_bytes};
 ghost use Rattle.auc_graph.specs.Written.{AreBytes, IsWritten};
 
 use crate::arc::Arc;
-use crate::front::{SHORT, Separators, short_number, short_number_at, short_signed};
+use crate::front::{SHORT, Separators, cost_at, short_number, short_number_at};
 use crate::tokens::from_place;
 
-/// The bytes of the longest line of three short numbers: the last may have a sign.
+/// The bytes of the longest line of three short numbers: the last may have a sign. A longer cost asks for more by itself.
 const LINE: usize = 3 * SHORT + 1;
 
 /// How a person is written at the front of a line: the digits of the number and a separator.
@@ -72,8 +72,8 @@ fn behind_person(written: WrittenPerson, bytes: &[u8]) -> Option<&[u8]>
     Some(from_place(bytes, written.digits + 1))
 }
 
-/// The arc at the front and the text behind it, where the person is written so, the object and the cost are short numbers, the cost
-/// with or without a sign, and the object is in range.
+/// The arc at the front and the text behind it, where the person is written so, the object is a short number, the cost one of up to
+/// ten digits with or without a sign, and both are in range.
 #[inline(always)]
 pub(crate) fn short_arc(written: WrittenPerson, objects: u32, bytes: &[u8]) -> Option<(Arc, &[u8])>
     requires { IsWritten written }
@@ -88,7 +88,7 @@ pub(crate) fn short_arc(written: WrittenPerson, objects: u32, bytes: &[u8]) -> O
     }
     let rest = behind_person(written, bytes)?;
     let (object, rest) = short_number(Separators::Usual, rest)?;
-    let (cost, rest) = short_signed(rest)?;
+    let (cost, rest) = cost_at(rest)?;
     if object < 1 || object > objects {
         return None;
     }

@@ -16,7 +16,7 @@ use crate::stage::Stage;
 use crate::tokens::separators_len;
 use crate::unfinished::{MOST_KEPT, keep};
 
-/// The text behind the arcs of three short numbers each whose person is written so, as many as there is room for. They are put
+/// The text behind the arcs of two short numbers and a cost each whose person is written so, as many as there is room for. They are put
 /// behind the others.
 #[inline(always)]
 fn behind_row<'a>(
@@ -52,7 +52,7 @@ fn behind_row<'a>(
     Ok(rest)
 }
 
-/// The text behind the arcs of three short numbers each, which are put behind the others. A function of its own, so that the
+/// The text behind the arcs of two short numbers and a cost each, which are put behind the others. A function of its own, so that the
 /// loop of a row has the registers.
 #[inline(never)]
 fn behind_short_arcs<'a>(

@@ -24,7 +24,8 @@ fn holds_at(rows: &Rows, holders: &[Option<u32>], person: u32, place: u32) -> bo
     }
 }
 
-/// Whether each person holds an object by the arc at his place of his row. No object has two holders, so no two persons share one.
+/// Whether each person holds an object by the arc at his place of his row. No object has two holders, so no two persons
+/// share one.
 fn hold_all(rows: &Rows, holders: &[Option<u32>], places: &[u32]) -> bool
     requires holders { length holders.now ≡ rows.now.objects }
     requires places { length places.now ≡ length rows.now.rows }
@@ -41,10 +42,11 @@ fn hold_all(rows: &Rows, holders: &[Option<u32>], places: &[u32]) -> bool
 /// Whether a quick search finds an assignment, whatever it is. False says nothing: there may be one all the same, and
 /// [`complete`](crate::complete) tells.
 ///
-/// The search goes by labels of the objects (push and relabel, Goldberg and Tarjan 1988), and gives up behind 16 times as many looks at arcs as
-/// there are arcs, or where it sees that there is none. What it has found is tried in one pass over the persons before true is answered.
+/// The search goes by labels of the objects (push and relabel, Goldberg and Tarjan 1988), and gives up behind 16 times as
+/// many looks at arcs as there are arcs, or where it sees that there is none. What it has found is tried in one pass over
+/// the persons before true is answered.
 ///
-/// O(arcs) time, O(persons + objects) memory, all of it taken before the search.
+/// O(arcs + persons + objects) time, O(persons + objects) memory, all of it taken before the search.
 ///
 /// # Errors
 ///

@@ -2,6 +2,7 @@
 
 ghost use Rattle.std.specs.Prelude.{◌≡◌};
 
+use crate::same::assert_same;
 use auc_book::{MailBrand, MailState, SharedMail};
 use auc_letters::{Letter, equal_letters_are_same};
 use auc_mail::Taken;
@@ -36,22 +37,27 @@ fn letters_settle<N: MailBrand, R: Wait + Abort>(
     requires numbers { (N.boxes ≡ 1) × (N.workers ≡ 1) × (N.nodes ≡ 4) × (N.most ≡ 9) × (N.room ≡ 3) }
 {
     let (mail, mut seats) = SharedMail::<Letter, N>::make(alloc, 1, 1, 4, 9, BLANK, 3, ledger)?;
-    assert_eq!(rt; seats.len(), 1);
+    assert!(rt; seats.len() == 1);
     let mut seat = seats.remove(0);
-    assert_eq!(rt; mail.post(rt, &mut seat, 0, BID, 0), Ok(1));
-    assert_eq!(rt; mail.look(rt, |state: &MailState<Letter>| state.count()), 1);
-    assert_eq!(rt;
+    assert_same(rt, mail.post(rt, &mut seat, 0, BID, 0), Ok(1));
+    assert_same(
+        rt,
+        mail.look(rt, |state: &MailState<Letter>| state.count()),
+        1,
+    );
+    assert_same(
+        rt,
         mail.take(rt, &mut seat, 0),
         Ok(Taken::Letter {
             sender: 0,
             number: 1,
             item: BID,
-        })
+        }),
     );
     seats.push(seat)?;
     // The law by which letters that are equal are the same, which `settle` asks for.
     equal_letters_are_same();
     let trail = mail.settle(seats)?;
-    assert_eq!(rt; trail.lines().len(), 2);
+    assert_same(rt, trail.lines().len(), 2);
     Ok(())
 }

@@ -9,7 +9,7 @@ mod limits;
 #[cfg(test)]
 mod nodes;
 #[cfg(test)]
-mod pools;
+mod same;
 #[cfg(test)]
 mod scripts;
 #[cfg(test)]

@@ -2,6 +2,7 @@
 
 ghost use Rattle.std.specs.Prelude.{◌≡◌, ◌<◌};
 
+use crate::same::assert_same;
 use auc_book::{MailBrand, MailState, SharedMail};
 use auc_mail::{MailError, MailPool};
 use std::alloc::Global;
@@ -17,15 +18,16 @@ fn pool_refusal(alloc: Global, boxes: u32, senders: u32, nodes: u32) -> Option<M
 fn pools_above_the_limits(rt: HostRuntime) {
     let alloc = rt.alloc();
     let lanes = Some(MailError::TooManyLanes);
-    assert_eq!(rt; pool_refusal(alloc, 2_000, 1_000, 0), lanes);
-    assert_eq!(rt; pool_refusal(alloc, 65_537, 1, 16_777_217), lanes);
-    assert_eq!(rt; pool_refusal(alloc, 1, 65_537, 0), lanes);
-    assert_eq!(rt;
+    assert_same(&rt, pool_refusal(alloc, 2_000, 1_000, 0), lanes);
+    assert_same(&rt, pool_refusal(alloc, 65_537, 1, 16_777_217), lanes);
+    assert_same(&rt, pool_refusal(alloc, 1, 65_537, 0), lanes);
+    assert_same(
+        &rt,
         pool_refusal(alloc, 1, 1, 16_777_217),
-        Some(MailError::TooManyNodes)
+        Some(MailError::TooManyNodes),
     );
-    assert_eq!(rt; pool_refusal(alloc, 1_000, 1_000, 1_000_000), None);
-    assert_eq!(rt; pool_refusal(alloc, 0, 0, 0), None);
+    assert_same(&rt, pool_refusal(alloc, 1_000, 1_000, 1_000_000), None);
+    assert_same(&rt, pool_refusal(alloc, 0, 0, 0), None);
 }
 
 fn state_refusal(alloc: Global, boxes: u32, nodes: u32, room: u32) -> Option<MailError> {
@@ -36,17 +38,23 @@ fn state_refusal(alloc: Global, boxes: u32, nodes: u32, room: u32) -> Option<Mai
 fn states_above_the_limits(rt: HostRuntime) {
     let alloc = rt.alloc();
     let lanes = Some(MailError::TooManyLanes);
-    assert_eq!(rt; state_refusal(alloc, 65_537, 16_777_217, 1_000_001), lanes);
-    assert_eq!(rt;
+    assert_same(
+        &rt,
+        state_refusal(alloc, 65_537, 16_777_217, 1_000_001),
+        lanes,
+    );
+    assert_same(
+        &rt,
         state_refusal(alloc, 1, 16_777_217, 1_000_001),
-        Some(MailError::TooManyNodes)
+        Some(MailError::TooManyNodes),
     );
-    assert_eq!(rt;
+    assert_same(
+        &rt,
         state_refusal(alloc, 1, 4, 1_000_001),
-        Some(MailError::TooMuchRoom)
+        Some(MailError::TooMuchRoom),
     );
-    assert_eq!(rt; state_refusal(alloc, 1, 4, 1_000_000), None);
-    assert_eq!(rt; state_refusal(alloc, 0, 0, 0), None);
+    assert_same(&rt, state_refusal(alloc, 1, 4, 1_000_000), None);
+    assert_same(&rt, state_refusal(alloc, 0, 0, 0), None);
 }
 
 #[test]
@@ -59,7 +67,7 @@ fn shared_mails_above_the_limits(rt: HostRuntime) {
     ] {
         let ledger = Blank::new(u64::from(workers));
         let refused = refusal::<Brand>(rt.alloc(), boxes, workers, nodes, room, ledger);
-        assert_eq!(rt; refused, expected);
+        assert_same(&rt, refused, expected);
     }
 }
 

@@ -3,6 +3,7 @@
 ghost use Rattle.std.specs.Prelude.{◌↔◌, IsTrue};
 ghost use Rattle.auc_mail.specs.Mail.{HasLane};
 
+use crate::same::assert_same;
 use auc_book::{CallRefused, MailState, TrailFull};
 use auc_mail::{Call, Taken};
 use std::process::Abort;
@@ -49,12 +50,12 @@ fn the_fourth_call_finds_no_place(rt: HostRuntime) -> Result<(), Fail> {
         number: 1,
         item: 5,
     };
-    assert_eq!(rt; post(&rt, &mut state, 0, 5, 0), Ok(1));
-    assert_eq!(rt; post(&rt, &mut state, 1, 6, 0), Ok(1));
-    assert_eq!(rt; take(&rt, &mut state, 0), Ok(letter));
-    assert_eq!(rt; take(&rt, &mut state, 1), Err(TrailFull));
-    assert_eq!(rt; state.count(), 3);
-    assert_eq!(rt; state.pool().free(), 3);
+    assert_same(&rt, post(&rt, &mut state, 0, 5, 0), Ok(1));
+    assert_same(&rt, post(&rt, &mut state, 1, 6, 0), Ok(1));
+    assert_same(&rt, take(&rt, &mut state, 0), Ok(letter));
+    assert_same(&rt, take(&rt, &mut state, 1), Err(TrailFull));
+    assert_same(&rt, state.count(), 3);
+    assert_same(&rt, state.pool().free(), 3);
     state.every_state_is_noted();
     Ok(())
 }
@@ -63,15 +64,23 @@ fn the_fourth_call_finds_no_place(rt: HostRuntime) -> Result<(), Fail> {
 #[test]
 fn a_full_trail_before_closed_before_spent_before_full(rt: HostRuntime) -> Result<(), Fail> {
     let mut state = MailState::make(rt.alloc(), 1, 2, 1, 1, 0i64, 6)?;
-    assert_eq!(rt; post(&rt, &mut state, 0, 5, 0), Ok(1));
-    assert_eq!(rt; post(&rt, &mut state, 1, 6, 0), Err(CallRefused::Full));
-    assert_eq!(rt; post(&rt, &mut state, 0, 7, 0), Err(CallRefused::Spent));
-    assert_eq!(rt; close(&rt, &mut state, 1), Ok(true));
-    assert_eq!(rt; post(&rt, &mut state, 0, 8, 0), Err(CallRefused::Closed));
-    assert_eq!(rt; close(&rt, &mut state, 0), Ok(false));
-    assert_eq!(rt; post(&rt, &mut state, 0, 9, 0), Err(CallRefused::TrailFull));
-    assert_eq!(rt; take(&rt, &mut state, 0), Err(TrailFull));
-    assert_eq!(rt; close(&rt, &mut state, 0), Err(TrailFull));
-    assert_eq!(rt; state.count(), 6);
+    assert_same(&rt, post(&rt, &mut state, 0, 5, 0), Ok(1));
+    assert_same(&rt, post(&rt, &mut state, 1, 6, 0), Err(CallRefused::Full));
+    assert_same(&rt, post(&rt, &mut state, 0, 7, 0), Err(CallRefused::Spent));
+    assert_same(&rt, close(&rt, &mut state, 1), Ok(true));
+    assert_same(
+        &rt,
+        post(&rt, &mut state, 0, 8, 0),
+        Err(CallRefused::Closed),
+    );
+    assert_same(&rt, close(&rt, &mut state, 0), Ok(false));
+    assert_same(
+        &rt,
+        post(&rt, &mut state, 0, 9, 0),
+        Err(CallRefused::TrailFull),
+    );
+    assert_same(&rt, take(&rt, &mut state, 0), Err(TrailFull));
+    assert_same(&rt, close(&rt, &mut state, 0), Err(TrailFull));
+    assert_same(&rt, state.count(), 6);
     Ok(())
 }

@@ -2,6 +2,7 @@
 
 ghost use Rattle.std.specs.Prelude.{◌≡◌, ◌<◌};
 
+use crate::same::assert_same;
 use auc_book::{MailBrand, Seat, SharedMail, TrailFull, TrailLine};
 use auc_mail::{Reply, Taken};
 use std::alloc::Global;
@@ -52,7 +53,7 @@ fn trade<N: MailBrand + Send + Sync, R: Wait + Threads + Abort + Sync>(
     requires numbers { (N.boxes ≡ 1) × (N.workers ≡ 2) × (N.nodes ≡ 4) × (N.most ≡ 9) × (N.room ≡ 100) }
 {
     let (mail, mut seats) = SharedMail::<u64, N>::make(alloc, 1, 2, 4, 9, 0, 100, ledger)?;
-    assert_eq!(rt; seats.len(), 2);
+    assert!(rt; seats.len() == 2);
     let first = seats.remove(0);
     let second = seats.remove(0);
     let (first, second) = join(
@@ -64,17 +65,18 @@ fn trade<N: MailBrand + Send + Sync, R: Wait + Threads + Abort + Sync>(
             requires { 0 < N.boxes }
         { takes_all(rt, &mail, second) },
     );
-    assert_eq!(rt; (first.count(), second.count()), (4, 4));
-    assert_eq!(rt; letters(second.lines()), (3, true));
-    assert_eq!(rt;
+    assert_same(rt, (first.count(), second.count()), (4, 4));
+    assert_same(rt, letters(second.lines()), (3, true));
+    assert_same(
+        rt,
         second.lines().last().map(|line| line.reply),
-        Some(Reply::Took(Taken::Over))
+        Some(Reply::Took(Taken::Over)),
     );
     seats.push(first)?;
     seats.push(second)?;
     let trail = mail.settle(seats)?;
-    assert_eq!(rt; trail.lines().len(), 8);
-    assert_eq!(rt; letters(trail.lines()), (3, true));
+    assert_same(rt, trail.lines().len(), 8);
+    assert_same(rt, letters(trail.lines()), (3, true));
     Ok(())
 }
 
@@ -129,7 +131,7 @@ fn fill<N: MailBrand + Send + Sync, R: Wait + Threads + Abort + Sync>(
     requires numbers { (N.boxes ≡ 2) × (N.workers ≡ 2) × (N.nodes ≡ 4) × (N.most ≡ 9) × (N.room ≡ 2) }
 {
     let (mail, mut seats) = SharedMail::<u64, N>::make(alloc, 2, 2, 4, 9, 0, 2, ledger)?;
-    assert_eq!(rt; seats.len(), 2);
+    assert!(rt; seats.len() == 2);
     let mut first = seats.remove(0);
     let second = seats.remove(0);
     let (refused, second) = join(
@@ -145,11 +147,11 @@ fn fill<N: MailBrand + Send + Sync, R: Wait + Threads + Abort + Sync>(
             requires { 0 < N.boxes }
         { takes_all(rt, &mail, second) },
     );
-    assert_eq!(rt; refused, Err(TrailFull));
-    assert_eq!(rt; (first.count(), second.count()), (2, 0));
+    assert_same(rt, refused, Err(TrailFull));
+    assert_same(rt, (first.count(), second.count()), (2, 0));
     seats.push(first)?;
     seats.push(second)?;
     let trail = mail.settle(seats)?;
-    assert_eq!(rt; trail.lines().len(), 2);
+    assert_same(rt, trail.lines().len(), 2);
     Ok(())
 }

@@ -2,6 +2,7 @@
 
 ghost use Rattle.std.specs.Prelude.{◌≡◌, ◌<◌};
 
+use crate::same::assert_same;
 use auc_book::{CallRefused, MailBrand, Seat, SharedMail, TrailFull};
 use auc_mail::Taken;
 use std::alloc::Global;
@@ -22,7 +23,7 @@ type Waited = Result<Taken<u64>, TrailFull>;
 #[test]
 fn a_letter_to_another_box(rt: HostRuntime) -> Result<(), Fail> {
     let posted = wakes_all::<Brand, _>(&rt, rt.alloc(), Blank::new(3), 2, 4)?;
-    assert_eq!(rt; posted, Ok(1));
+    assert_same(&rt, posted, Ok(1));
     Ok(())
 }
 
@@ -30,7 +31,7 @@ fn a_letter_to_another_box(rt: HostRuntime) -> Result<(), Fail> {
 #[test]
 fn a_letter_to_one_of_them(rt: HostRuntime) -> Result<(), Fail> {
     let posted = wakes_all::<Brand, _>(&rt, rt.alloc(), Blank::new(3), 1, 4)?;
-    assert_eq!(rt; posted, Ok(1));
+    assert_same(&rt, posted, Ok(1));
     Ok(())
 }
 
@@ -38,7 +39,7 @@ fn a_letter_to_one_of_them(rt: HostRuntime) -> Result<(), Fail> {
 #[test]
 fn a_refused_letter_to_one_of_them(rt: HostRuntime) -> Result<(), Fail> {
     let posted = wakes_all::<Brand, _>(&rt, rt.alloc(), Blank::new(3), 0, 0)?;
-    assert_eq!(rt; posted, Err(CallRefused::Full));
+    assert_same(&rt, posted, Err(CallRefused::Full));
     Ok(())
 }
 
@@ -56,7 +57,7 @@ fn wakes_all<N: MailBrand + Send + Sync, R: Wait + Threads + Abort + Sync>(
     requires known { to < 3 }
 {
     let (mail, mut seats) = SharedMail::<u64, N>::make(alloc, 3, 3, nodes, 9, 0, 1, ledger)?;
-    assert_eq!(rt; seats.len(), 3);
+    assert!(rt; seats.len() == 3);
     let first = seats.remove(0);
     let second = seats.remove(0);
     let third = seats.remove(0);
@@ -69,7 +70,7 @@ fn wakes_all<N: MailBrand + Send + Sync, R: Wait + Threads + Abort + Sync>(
             requires { to < N.boxes }
         { post_late(rt, &mail, third, to) },
     );
-    assert_eq!(rt; waited, (Err(TrailFull), Err(TrailFull)));
+    assert_same(rt, waited, (Err(TrailFull), Err(TrailFull)));
     Ok(posted)
 }
 

@@ -2,6 +2,7 @@
 
 ghost use Rattle.std.specs.Prelude.{◌≡◌};
 
+use crate::same::assert_same;
 use auc_book::{MailBrand, MailState, Seat, SettleError, SharedMail, Trail, TrailFull, TrailLine};
 use auc_mail::{Call, Reply, Taken};
 use std::alloc::Global;
@@ -45,19 +46,20 @@ fn four_calls<N: MailBrand, R: Wait + Abort>(
 ) -> Result<(), Fail>
     requires { N.boxes ≡ 1 }
 {
-    assert_eq!(rt; (first.worker(), second.worker()), (0, 1));
-    assert_eq!(rt; mail.post(rt, first, 0, 5, 0), Ok(1));
-    assert_eq!(rt; mail.post(rt, second, 0, 6, 0), Ok(1));
-    assert_eq!(rt; mail.take(rt, first, 0), Ok(FIRST_LETTER));
-    assert_eq!(rt; mail.try_take(rt, second, 0), Err(TrailFull));
-    assert_eq!(rt; mail.look(rt, |state: &MailState<i64>| state.count()), 3);
-    assert_eq!(rt;
+    assert_same(rt, (first.worker(), second.worker()), (0, 1));
+    assert_same(rt, mail.post(rt, first, 0, 5, 0), Ok(1));
+    assert_same(rt, mail.post(rt, second, 0, 6, 0), Ok(1));
+    assert_same(rt, mail.take(rt, first, 0), Ok(FIRST_LETTER));
+    assert_same(rt, mail.try_take(rt, second, 0), Err(TrailFull));
+    assert_same(rt, mail.look(rt, |state: &MailState<i64>| state.count()), 3);
+    assert_same(
+        rt,
         mail.look(rt, |state: &MailState<i64>| state.pool().free()),
-        3
+        3,
     );
-    assert_eq!(rt; (first.count(), second.count()), (2, 1));
-    assert_eq!(rt; first.lines(), [post(0, 5), FIRST_TAKE].as_slice());
-    assert_eq!(rt; second.lines(), [post(1, 6)].as_slice());
+    assert_same(rt, (first.count(), second.count()), (2, 1));
+    assert_same(rt, first.lines(), [post(0, 5), FIRST_TAKE].as_slice());
+    assert_same(rt, second.lines(), [post(1, 6)].as_slice());
     Ok(())
 }
 
@@ -73,7 +75,7 @@ fn settled<N: MailBrand, R: Wait + Abort>(
     requires numbers { (N.boxes ≡ 1) × (N.workers ≡ 2) × (N.nodes ≡ 4) × (N.most ≡ 9) × (N.room ≡ 3) }
 {
     let (mail, mut seats) = SharedMail::<i64, N>::make(alloc, 1, 2, 4, 9, 0, 3, ledger)?;
-    assert_eq!(rt; seats.len(), 2);
+    assert!(rt; seats.len() == 2);
     let mut first = seats.remove(0);
     let mut second = seats.remove(0);
     four_calls(rt, &mail, &mut first, &mut second)?;
@@ -88,14 +90,14 @@ fn settled<N: MailBrand, R: Wait + Abort>(
 fn both_seats_settle(rt: HostRuntime) -> Result<(), Fail> {
     let trail = settled::<Brand, _>(&rt, rt.alloc(), Blank::new(2), true)??;
     let expected = [post(0, 5), post(1, 6), FIRST_TAKE];
-    assert_eq!(rt; trail.lines(), expected.as_slice());
+    assert_same(&rt, trail.lines(), expected.as_slice());
     Ok(())
 }
 
 #[test]
 fn one_seat_is_missing(rt: HostRuntime) -> Result<(), Fail> {
     let settled = settled::<Brand, _>(&rt, rt.alloc(), Blank::new(2), false)?;
-    assert_eq!(rt; settled.err(), Some(SettleError::Missing));
+    assert_same(&rt, settled.err(), Some(SettleError::Missing));
     Ok(())
 }
 
@@ -111,8 +113,8 @@ fn untold<N: MailBrand, R: Wait + Abort>(rt: &R, alloc: Global, ledger: Blank) -
     requires numbers { (N.boxes ≡ 1) × (N.workers ≡ 2) × (N.nodes ≡ 4) × (N.most ≡ 9) × (N.room ≡ 0) }
 {
     let (mail, seats) = SharedMail::<i64, N>::make(alloc, 1, 2, 4, 9, 0, 0, ledger)?;
-    assert_eq!(rt; seats.len(), 2);
-    assert_eq!(rt; mail.settle(seats).err(), Some(SettleError::NoTrail));
+    assert!(rt; seats.len() == 2);
+    assert_same(rt, mail.settle(seats).err(), Some(SettleError::NoTrail));
     Ok(())
 }
 
@@ -132,16 +134,16 @@ fn calls_untold<N: MailBrand, R: Wait + Abort>(
     requires numbers { (N.boxes ≡ 1) × (N.workers ≡ 1) × (N.nodes ≡ 4) × (N.most ≡ 9) × (N.room ≡ 0) }
 {
     let (mail, mut seats) = SharedMail::<i64, N>::make(alloc, 1, 1, 4, 9, 0, 0, ledger)?;
-    assert_eq!(rt; seats.len(), 1);
+    assert!(rt; seats.len() == 1);
     let mut seat = seats.remove(0);
-    assert_eq!(rt; mail.try_take(rt, &mut seat, 0), Ok(Taken::Empty));
-    assert_eq!(rt; mail.post(rt, &mut seat, 0, 5, 0), Ok(1));
-    assert_eq!(rt; mail.close(rt, &mut seat, 0), Ok(true));
-    assert_eq!(rt; mail.take(rt, &mut seat, 0), Ok(FIRST_LETTER));
-    assert_eq!(rt; mail.take(rt, &mut seat, 0), Ok(Taken::Over));
-    assert_eq!(rt; seat.count(), 5);
+    assert_same(rt, mail.try_take(rt, &mut seat, 0), Ok(Taken::Empty));
+    assert_same(rt, mail.post(rt, &mut seat, 0, 5, 0), Ok(1));
+    assert_same(rt, mail.close(rt, &mut seat, 0), Ok(true));
+    assert_same(rt, mail.take(rt, &mut seat, 0), Ok(FIRST_LETTER));
+    assert_same(rt, mail.take(rt, &mut seat, 0), Ok(Taken::Over));
+    assert_same(rt, seat.count(), 5);
     assert!(rt; seat.lines().is_empty());
-    assert_eq!(rt; mail.look(rt, |state: &MailState<i64>| state.count()), 5);
-    assert_eq!(rt; mail.settle(seats).err(), Some(SettleError::NoTrail));
+    assert_same(rt, mail.look(rt, |state: &MailState<i64>| state.count()), 5);
+    assert_same(rt, mail.settle(seats).err(), Some(SettleError::NoTrail));
     Ok(())
 }

@@ -2,6 +2,7 @@
 
 use crate::marks::refuse_one;
 use crate::problems::{ONE_OBJECT, problem_of};
+use crate::same::assert_same;
 use auc_cert::{
     CertRefused, CertTextError, StartError, check, read_cert, start_prices, write_cert,
 };
@@ -50,7 +51,7 @@ fn reading_what_is_no_certificate(rt: HostRuntime) -> Result<(), Fail> {
     if error == Some(CertTextError::NoMemory) {
         error = read_cert(rt.alloc(), text).err();
     }
-    assert_eq!(rt; error, Some(CertTextError::Line { line: 3 }));
+    assert_same(&rt, error, Some(CertTextError::Line { line: 3 }));
     Ok(())
 }
 
@@ -81,7 +82,7 @@ fn checking(rt: HostRuntime) -> Result<(), Fail> {
         (TWO, INFEASIBLE, Some(CertRefused::NotHall)),
     ] {
         let found = finds(rt.alloc(), problem, claim)?;
-        assert_eq!(rt; found, expected, "{claim}");
+        assert_same(&rt, (claim, found), (claim, expected));
     }
     Ok(())
 }
@@ -98,7 +99,7 @@ fn starting(rt: HostRuntime) -> Result<(), Fail> {
             Err(StartError::NoMemory) => start_prices(rt.alloc(), &problem, &cert)?,
             told => told?,
         };
-        assert_eq!(rt; start.as_slice(), expected.as_slice(), "{claim}");
+        assert_same(&rt, (claim, start.as_slice()), (claim, expected.as_slice()));
     }
     Ok(())
 }

@@ -20,6 +20,8 @@ mod nothing_taken;
 #[cfg(test)]
 mod problems;
 #[cfg(test)]
+mod same;
+#[cfg(test)]
 mod shards;
 #[cfg(test)]
 mod solvers;

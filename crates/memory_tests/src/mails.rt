@@ -3,6 +3,7 @@
 ghost use Rattle.std.specs.Prelude.{◌≡◌, ◌<◌};
 
 use crate::marks::refuse_one;
+use crate::same::assert_same;
 use auc_book::{MailBrand, MailState, SharedMail};
 use auc_mail::{Call, MailError, MailPool, PostRefused, Reply, Taken, run_script};
 use auc_nodes::{NodePool, PoolError};
@@ -21,7 +22,7 @@ fn pools(rt: HostRuntime) -> Result<(), Fail> {
         Err(PoolError::NoMemory) => NodePool::make(rt.alloc(), 3, 5, 0i64)?,
         told => told?,
     };
-    assert_eq!(rt; pool.free(), 5);
+    assert_same(&rt, pool.free(), 5);
     Ok(())
 }
 
@@ -34,7 +35,7 @@ fn mails(rt: HostRuntime) -> Result<(), Fail> {
         Err(MailError::NoMemory) => MailPool::make(rt.alloc(), 2, 3, 5, 9, 0i64)?,
         told => told?,
     };
-    assert_eq!(rt; pool.free(), 5);
+    assert_same(&rt, pool.free(), 5);
     Ok(())
 }
 
@@ -47,7 +48,7 @@ fn noted_mails(rt: HostRuntime) -> Result<(), Fail> {
         Err(MailError::NoMemory) => MailState::make(rt.alloc(), 2, 3, 5, 9, 0i64, 7)?,
         told => told?,
     };
-    assert_eq!(rt; (state.count(), state.pool().free()), (0, 5));
+    assert_same(&rt, (state.count(), state.pool().free()), (0, 5));
     Ok(())
 }
 
@@ -59,7 +60,7 @@ fn shared_mails(rt: HostRuntime) -> Result<(), Fail> {
     if refused == Some(MailError::NoMemory) {
         refused = refusal::<Brand>(rt.alloc(), Blank::new(3));
     }
-    assert_eq!(rt; refused, None);
+    assert_same(&rt, refused, None);
     Ok(())
 }
 
@@ -102,11 +103,11 @@ fn runs_of_calls(rt: HostRuntime) -> Result<(), Fail> {
     let replies = run_script(rt.alloc(), &mut pool, calls.as_slice());
     drop(mark);
     match replies {
-        Ok(replies) => assert_eq!(rt; replies.as_slice(), expected.as_slice()),
+        Ok(replies) => assert_same(&rt, replies.as_slice(), expected.as_slice()),
         Err(_) => {
-            assert_eq!(rt; pool.free(), 2);
+            assert_same(&rt, pool.free(), 2);
             let replies = run_script(rt.alloc(), &mut pool, calls.as_slice())?;
-            assert_eq!(rt; replies.as_slice(), expected.as_slice());
+            assert_same(&rt, replies.as_slice(), expected.as_slice());
         }
     }
     Ok(())
@@ -123,6 +124,6 @@ fn scripts(rt: HostRuntime) -> Result<(), Fail> {
         Err(ScriptError::NoMemory) => read_script(rt.alloc(), text)?,
         told => told?,
     };
-    assert_eq!(rt; script.calls.as_slice(), ample.calls.as_slice());
+    assert_same(&rt, script.calls.as_slice(), ample.calls.as_slice());
     Ok(())
 }

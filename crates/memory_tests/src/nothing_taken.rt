@@ -4,6 +4,7 @@ ghost use Rattle.auc_mail.specs.Mail.{HasLane};
 
 use crate::marks::refuse_all;
 use crate::problems::{THREE, problem_of};
+use crate::same::assert_same;
 use crate::solvers::limits_of;
 use auc_book::{MailState, TrailFull};
 use auc_cert::{Cert, CertParts, Pick, Picks, Prices, write_cert, write_whole};
@@ -36,12 +37,12 @@ fn tokens_and_rows(rt: HostRuntime) -> Result<(), Fail> {
     }
     let usual = ReadLimits::usual();
     drop(mark);
-    assert_eq!(rt; (listed, are_whole), (9, true));
-    assert_eq!(rt; (usual.arcs, usual.reads), (33_554_432, 1_073_741_824));
-    assert_eq!(rt; token, Some(Token { start: 1, end: 2 }));
-    assert_eq!(rt; number, Number::Value(-7));
-    assert_eq!(rt; spread, 5);
-    assert_eq!(rt; (eps, next_eps(1)), (2, None));
+    assert_same(&rt, (listed, are_whole), (9, true));
+    assert_same(&rt, (usual.arcs, usual.reads), (33_554_432, 1_073_741_824));
+    assert_same(&rt, token, Some(Token { start: 1, end: 2 }));
+    assert_same(&rt, number, Number::Value(-7));
+    assert_same(&rt, spread, 5);
+    assert_same(&rt, (eps, next_eps(1)), (2, None));
     assert!(rt; placed);
     Ok(())
 }
@@ -63,15 +64,15 @@ fn pools_and_mails(rt: HostRuntime) -> Result<(), Fail> {
     let closed = mail.close(0);
     let taken = (mail.take(0), mail.take(0));
     drop(mark);
-    assert_eq!(rt; pushed, (Ok(()), Ok(()), Err(7)));
-    assert_eq!(rt; (popped, pool.free()), (Some(5), 2));
-    assert_eq!(rt; (posted, closed), (Ok(1), true));
+    assert_same(&rt, pushed, (Ok(()), Ok(()), Err(7)));
+    assert_same(&rt, (popped, pool.free()), (Some(5), 2));
+    assert_same(&rt, (posted, closed), (Ok(1), true));
     let letter = Taken::Letter {
         sender: 1,
         number: 1,
         item: 5,
     };
-    assert_eq!(rt; taken, (letter, Taken::Over));
+    assert_same(&rt, taken, (letter, Taken::Over));
     Ok(())
 }
 
@@ -84,8 +85,8 @@ fn looks_at_a_pool(rt: HostRuntime) -> Result<(), Fail> {
     let fronts = (pool.front(0), pool.front(1));
     let lens = (pool.len(0), pool.len(1));
     drop(mark);
-    assert_eq!(rt; pushed, Ok(()));
-    assert_eq!(rt; (fronts, lens), ((None, Some(6)), (0, 1)));
+    assert_same(&rt, pushed, Ok(()));
+    assert_same(&rt, (fronts, lens), ((None, Some(6)), (0, 1)));
     Ok(())
 }
 
@@ -101,8 +102,8 @@ fn looks_at_a_mail(rt: HostRuntime) -> Result<(), Fail> {
     let posted = mail.post(1, 0, 5, 0);
     let counts = (mail.waiting(0), mail.posted(0, 1), mail.taken(0, 1));
     drop(mark);
-    assert_eq!(rt; (fits, posted), ((true, false), Ok(1)));
-    assert_eq!(rt; counts, (1, 1, 0));
+    assert_same(&rt, (fits, posted), ((true, false), Ok(1)));
+    assert_same(&rt, counts, (1, 1, 0));
     Ok(())
 }
 
@@ -124,8 +125,8 @@ fn full_answers(alloc: Global, state: &mut MailState<i64>) -> Result<[bool; 5], 
 #[test]
 fn noted_calls(rt: HostRuntime) -> Result<(), Fail> {
     let mut state = MailState::make(rt.alloc(), 1, 1, 2, 9, 0i64, 2)?;
-    assert_eq!(rt; full_answers(rt.alloc(), &mut state)?, [true; 5]);
-    assert_eq!(rt; state.count(), 2);
+    assert_same(&rt, full_answers(rt.alloc(), &mut state)?, [true; 5]);
+    assert_same(&rt, state.count(), 2);
     Ok(())
 }
 
@@ -145,16 +146,16 @@ fn shards(rt: HostRuntime) -> Result<(), Fail> {
     let (copy, state) = (persons.copy(1), persons.state(0));
     let shard = shard_of(5, 2);
     drop(mark);
-    assert_eq!(rt; answers.len(), 2);
+    assert_same(&rt, answers.len(), 2);
     assert!(rt; heard.is_ok());
-    assert_eq!(rt; (copy, state), (4, PersonState::Free));
-    assert_eq!(rt; (holder, shard), (Some(Held { person: 0, arc: 0 }), 1));
+    assert_same(&rt, (copy, state), (4, PersonState::Free));
+    assert_same(&rt, (holder, shard), (Some(Held { person: 0, arc: 0 }), 1));
     let out = Out {
         to: To::Person { shard: 0 },
         letter: price,
         reserve: 6,
     };
-    assert_eq!(rt; told, out);
+    assert_same(&rt, told, out);
     Ok(())
 }
 
@@ -183,7 +184,7 @@ fn turns(rt: HostRuntime) -> Result<(), Fail> {
     let shards = Limits::usual(2).shards;
     drop(mark);
     assert!(rt; end.is_some());
-    assert_eq!(rt; shards, 2);
+    assert_same(&rt, shards, 2);
     Ok(())
 }
 
@@ -208,9 +209,10 @@ fn certificates(rt: HostRuntime) -> Result<(), Fail> {
     };
     drop(mark);
     assert!(rt; written);
-    assert_eq!(rt;
+    assert_same(
+        &rt,
         text.as_slice(),
-        b"auction 1\noptimal 1 -7\nassign 1 1 -7\nprice 1 1\n".as_slice()
+        b"auction 1\noptimal 1 -7\nassign 1 1 -7\nprice 1 1\n".as_slice(),
     );
     Ok(())
 }
@@ -222,7 +224,7 @@ fn written_bytes(rt: HostRuntime) -> Result<(), Fail> {
     let mark = refuse_all(rt.alloc())?;
     let written = write_whole(&mut text, b"optimal 1 -7\n");
     drop(mark);
-    assert_eq!(rt; written, Ok(()));
-    assert_eq!(rt; text.as_slice(), b"optimal 1 -7\n".as_slice());
+    assert_same(&rt, written, Ok(()));
+    assert_same(&rt, text.as_slice(), b"optimal 1 -7\n".as_slice());
     Ok(())
 }

@@ -1,6 +1,7 @@
 //! Problems, their rows and matchings.
 
 use crate::marks::refuse_one;
+use crate::same::assert_same;
 use auc_graph::{ArcList, ReadError, ReadLimits, Rows, read_arcs, read_arcs_from};
 use auc_hall::{Matching, Partial, complete, has_full_matching};
 use auc_run::{ReadFault, read_all};
@@ -32,7 +33,7 @@ fn reading(rt: HostRuntime) -> Result<(), Fail> {
         Err(ReadError::NoMemory) => problem_of(rt.alloc(), THREE)?,
         told => told?,
     };
-    assert_eq!(rt; problem.arcs(), ample.arcs());
+    assert_same(&rt, problem.arcs(), ample.arcs());
     Ok(())
 }
 
@@ -48,7 +49,7 @@ fn reading_in_pieces(rt: HostRuntime) -> Result<(), Fail> {
         }
         told => told?,
     };
-    assert_eq!(rt; problem.arcs(), ample.arcs());
+    assert_same(&rt, problem.arcs(), ample.arcs());
     Ok(())
 }
 
@@ -62,7 +63,7 @@ fn reading_what_is_no_problem(rt: HostRuntime) -> Result<(), Fail> {
     if error == Some(ReadError::NoMemory) {
         error = read_arcs(rt.alloc(), text, ReadLimits::usual()).err();
     }
-    assert_eq!(rt; error, Some(ReadError::BadNumber { token: 6 }));
+    assert_same(&rt, error, Some(ReadError::BadNumber { token: 6 }));
     Ok(())
 }
 
@@ -75,7 +76,7 @@ fn reading_a_whole_input(rt: HostRuntime) -> Result<(), Fail> {
         Err(ReadFault::NoMemory) => read_all(rt.alloc(), &mut THREE.as_bytes(), 9)?,
         told => told?,
     };
-    assert_eq!(rt; all.as_slice(), THREE.as_bytes());
+    assert_same(&rt, all.as_slice(), THREE.as_bytes());
     Ok(())
 }
 
@@ -90,8 +91,8 @@ fn rows(rt: HostRuntime) -> Result<(), Fail> {
         Ok(rows) => rows,
         Err(_) => Rows::build(rt.alloc(), &problem)?,
     };
-    assert_eq!(rt; rows.persons(), ample.persons());
-    assert_eq!(rt; rows.cost_spread(), ample.cost_spread());
+    assert_same(&rt, rows.persons(), ample.persons());
+    assert_same(&rt, rows.cost_spread(), ample.cost_spread());
     for person in 0..rows.persons().min(ample.persons()) {
         assert!(rt; rows.row(person) == ample.row(person));
     }

@@ -1,6 +1,7 @@
 //! Shards of both kinds. Where memory was refused, the same call makes the shard with memory.
 
 use crate::marks::refuse_one;
+use crate::same::assert_same;
 use auc_letters::PersonState;
 use auc_objects::ObjectShard;
 use auc_persons::PersonShard;
@@ -16,9 +17,9 @@ fn persons(rt: HostRuntime) -> Result<(), Fail> {
         Ok(shard) => shard,
         Err(_) => PersonShard::make(rt.alloc(), 0, 1, 1, 3, prices.as_slice(), 9)?,
     };
-    assert_eq!(rt; (shard.copy(1), shard.copy(2)), (0, 7));
-    assert_eq!(rt; shard.state(0), PersonState::Free);
-    assert_eq!(rt; shard.state(2), PersonState::Free);
+    assert_same(&rt, (shard.copy(1), shard.copy(2)), (0, 7));
+    assert_same(&rt, shard.state(0), PersonState::Free);
+    assert_same(&rt, shard.state(2), PersonState::Free);
     Ok(())
 }
 
@@ -32,7 +33,7 @@ fn objects(rt: HostRuntime) -> Result<(), Fail> {
         Ok(shard) => shard,
         Err(_) => ObjectShard::make(rt.alloc(), 0, 1, 1, 3, prices.as_slice())?,
     };
-    assert_eq!(rt; (shard.price(1), shard.price(2)), (0, 7));
-    assert_eq!(rt; (shard.holder(0), shard.holder(2)), (None, None));
+    assert_same(&rt, (shard.price(1), shard.price(2)), (0, 7));
+    assert_same(&rt, (shard.holder(0), shard.holder(2)), (None, None));
     Ok(())
 }

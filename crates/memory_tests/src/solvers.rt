@@ -6,6 +6,7 @@ ghost use Rattle.auc_threads.specs.Naming.{AreThreadLimits};
 
 use crate::marks::refuse_one;
 use crate::problems::{LONG, ONE_OBJECT, THREE, problem_of};
+use crate::same::assert_same;
 use auc_book::MOST_ROOM;
 use auc_cert::{read_cert, start_prices, write_cert};
 use auc_graph::Rows;
@@ -123,6 +124,6 @@ fn worlds(rt: HostRuntime) -> Result<(), Fail> {
     if stands.is_err() {
         stands = gathers(rt.alloc(), &rows, &limits, prices);
     }
-    assert_eq!(rt; stands, Ok(true));
+    assert_same(&rt, stands, Ok(true));
     Ok(())
 }

@@ -5,6 +5,7 @@ ghost use Rattle.auc_threads.specs.Naming.{AreThreadLimits, IsNamed, IsUnopened,
 
 use crate::marks::refuse_one;
 use crate::problems::{THREE, problem_of};
+use crate::same::assert_same;
 use crate::solvers::{OLD, limits_of, text_of};
 use auc_book::MailBrand;
 use auc_cert::{read_cert, start_prices};
@@ -88,7 +89,7 @@ fn a_phase(rt: HostRuntime) -> Result<(), Fail> {
             phase_threads(&rt, rt.alloc(), &rows, &limits, prices, 1, &FreeGate)?
         }
     };
-    assert_eq!(rt; ended.end, Some(End::All));
+    assert_same(&rt, ended.end, Some(End::All));
     assert!(rt; ended.trails.is_some());
     Ok(())
 }
@@ -131,6 +132,6 @@ fn three_mails(rt: HostRuntime) -> Result<(), Fail> {
         };
         workers = seated::<Brand, Brand, Brand>(rt.alloc(), &limits, ledgers);
     }
-    assert_eq!(rt; workers, Ok(3));
+    assert_same(&rt, workers, Ok(3));
     Ok(())
 }

@@ -3,6 +3,7 @@
 ghost use Rattle.std.specs.Prelude.{◌≡◌};
 
 use crate::fakes::{Broken, Slow};
+use crate::same::assert_same;
 use auc_graph::{
     Arc, Number, ReadError, ReadLimits, Token, assigned_persons_have_arcs,
     assignments_leave_no_price, bounds_fit, limits_are, number_of, prices_are_few,
@@ -15,8 +16,8 @@ use std::test::*;
 #[test]
 fn tokens(rt: HostRuntime) {
     let token = token_at(b" 2 1 2 -7.", 0);
-    assert_eq!(rt; token, Some(Token { start: 1, end: 2 }));
-    assert_eq!(rt; number_of(b"-7."), Number::Value(-7));
+    assert_same(&rt, token, Some(Token { start: 1, end: 2 }));
+    assert_same(&rt, number_of(b"-7."), Number::Value(-7));
 }
 
 #[test]
@@ -30,13 +31,13 @@ fn problems(rt: HostRuntime) -> Result<(), Fail> {
     prices_are_few();
     wanted_objects_are_read();
     let problem = read_arcs(rt.alloc(), b" 2 1 2 -7.", ReadLimits::usual())?;
-    assert_eq!(rt; (problem.persons(), problem.objects()), (2, 2));
+    assert_same(&rt, (problem.persons(), problem.objects()), (2, 2));
     let arc = Arc {
         cost: -7,
         person: 0,
         object: 1,
     };
-    assert_eq!(rt; problem.arcs(), [arc].as_slice());
+    assert_same(&rt, problem.arcs(), [arc].as_slice());
     Ok(())
 }
 
@@ -62,27 +63,27 @@ fn refusal_of(rt: &HostRuntime, text: &[u8]) -> Option<ReadError> {
 #[test]
 fn too_many_arcs(rt: HostRuntime) {
     let too_many = Some(ReadError::TooManyArcs);
-    assert_eq!(rt; refusal_of(&rt, b"1 1 1 4 1 1 2"), too_many);
-    assert_eq!(rt; refusal_of(&rt, b"1 1 1 4 x"), too_many);
+    assert_same(&rt, refusal_of(&rt, b"1 1 1 4 1 1 2"), too_many);
+    assert_same(&rt, refusal_of(&rt, b"1 1 1 4 x"), too_many);
 }
 
 /// The read that finds the end is one of those that are allowed.
 #[test]
 fn reads_to_the_end(rt: HostRuntime) -> Result<(), Fail> {
     let all = read_all(rt.alloc(), &mut Slow { rest: b"abc" }, 4)?;
-    assert_eq!(rt; all.as_slice(), b"abc".as_slice());
+    assert_same(&rt, all.as_slice(), b"abc".as_slice());
     // Reads are counted, and not the bytes that they gave.
     let at_once = read_all(rt.alloc(), &mut b"abc".as_slice(), 2)?;
-    assert_eq!(rt; at_once.as_slice(), b"abc".as_slice());
+    assert_same(&rt, at_once.as_slice(), b"abc".as_slice());
     Ok(())
 }
 
 #[test]
 fn too_many_reads(rt: HostRuntime) {
     let read = read_all(rt.alloc(), &mut Slow { rest: b"abc" }, 3);
-    assert_eq!(rt; read.err(), Some(ReadFault::TooManyReads));
+    assert_same(&rt, read.err(), Some(ReadFault::TooManyReads));
     let at_once = read_all(rt.alloc(), &mut b"abc".as_slice(), 1);
-    assert_eq!(rt; at_once.err(), Some(ReadFault::TooManyReads));
+    assert_same(&rt, at_once.err(), Some(ReadFault::TooManyReads));
 }
 
 /// No failed read is tried again.
@@ -90,6 +91,6 @@ fn too_many_reads(rt: HostRuntime) {
 fn failed_reads(rt: HostRuntime) {
     for kind in [ErrorKind::Interrupted, ErrorKind::BrokenPipe] {
         let read = read_all(rt.alloc(), &mut Broken { rest: b"abc", kind }, 9);
-        assert_eq!(rt; read.err(), Some(ReadFault::Failed));
+        assert_same(&rt, read.err(), Some(ReadFault::Failed));
     }
 }

@@ -2,6 +2,7 @@
 
 use crate::fakes::{Full, Picky};
 use crate::said::{ONE_OBJECT, ONE_OBJECT_CERT, TWO, TWO_BEST, TWO_BRACKET};
+use crate::same::assert_same;
 use auc_cert::{
     Cert, CertParts, CertRefused, CertTextError, Pick, Picks, Prices, Reason, WriteFault,
     assignments_pass, brackets_pass, check, hall_sets_pass, read_cert, write_cert,
@@ -66,8 +67,8 @@ fn parts_of_a_text(rt: HostRuntime) -> Result<(), Fail> {
         prices,
     } = read.parts()
     {
-        assert_eq!(rt; (*cost, choice.as_slice().len()), (3, 2));
-        assert_eq!(rt; prices.as_slice(), [7, 5].as_slice());
+        assert_same(&rt, (*cost, choice.as_slice().len()), (3, 2));
+        assert_same(&rt, prices.as_slice(), [7, 5].as_slice());
         return Ok(());
     }
     Err(Fail::new("it is an optimal one"))
@@ -77,8 +78,8 @@ fn parts_of_a_text(rt: HostRuntime) -> Result<(), Fail> {
 fn parts_of_a_hall_set(rt: HostRuntime) -> Result<(), Fail> {
     let read = read_cert(rt.alloc(), ONE_OBJECT_CERT.as_bytes())?;
     if let CertParts::Infeasible { persons, objects } = read.parts() {
-        assert_eq!(rt; persons.as_slice(), [0, 1].as_slice());
-        assert_eq!(rt; objects.as_slice(), [0].as_slice());
+        assert_same(&rt, persons.as_slice(), [0, 1].as_slice());
+        assert_same(&rt, objects.as_slice(), [0].as_slice());
         return Ok(());
     }
     Err(Fail::new("it is an infeasible one"))
@@ -86,9 +87,10 @@ fn parts_of_a_hall_set(rt: HostRuntime) -> Result<(), Fail> {
 
 #[test]
 fn no_certificate(rt: HostRuntime) {
-    assert_eq!(rt;
+    assert_same(
+        &rt,
         read_cert(rt.alloc(), b"auction 1\ninfeasible 0 0\n").err(),
-        Some(CertTextError::Line { line: 1 })
+        Some(CertTextError::Line { line: 1 }),
     );
 }
 
@@ -104,11 +106,12 @@ fn claims(rt: HostRuntime) -> Result<(), Fail> {
     assignments_pass();
     brackets_pass();
     hall_sets_pass();
-    assert_eq!(rt; checked(&rt, TWO, TWO_BEST)?, None);
-    assert_eq!(rt; checked(&rt, ONE_OBJECT, ONE_OBJECT_CERT)?, None);
-    assert_eq!(rt;
+    assert_same(&rt, checked(&rt, TWO, TWO_BEST)?, None);
+    assert_same(&rt, checked(&rt, ONE_OBJECT, ONE_OBJECT_CERT)?, None);
+    assert_same(
+        &rt,
         checked(&rt, TWO, ONE_OBJECT_CERT)?,
-        Some(CertRefused::NotHall)
+        Some(CertRefused::NotHall),
     );
     Ok(())
 }
@@ -123,8 +126,8 @@ fn parts_without_a_text(rt: HostRuntime) -> Result<(), Fail> {
         prices: Prices::new(vec![in alloc; 4]?),
     };
     if let Err(CertParts::Optimal { choice, prices, .. }) = Cert::make(parts) {
-        assert_eq!(rt; choice.into_vec().len(), 0);
-        assert_eq!(rt; prices.into_vec().as_slice(), [4].as_slice());
+        assert_same(&rt, choice.into_vec().len(), 0);
+        assert_same(&rt, prices.into_vec().as_slice(), [4].as_slice());
         return Ok(());
     }
     Err(Fail::new("nobody is in it"))
@@ -164,8 +167,8 @@ fn fault_of(rt: &HostRuntime, room: usize, fails: bool) -> Result<Option<WriteFa
 #[test]
 fn unwritten_certificates(rt: HostRuntime) -> Result<(), Fail> {
     for room in [0, 10, 14] {
-        assert_eq!(rt; fault_of(&rt, room, false)?, Some(WriteFault::Stopped));
-        assert_eq!(rt; fault_of(&rt, room, true)?, Some(WriteFault::Failed));
+        assert_same(&rt, fault_of(&rt, room, false)?, Some(WriteFault::Stopped));
+        assert_same(&rt, fault_of(&rt, room, true)?, Some(WriteFault::Failed));
     }
     Ok(())
 }
@@ -186,8 +189,8 @@ fn cut_at(rt: &HostRuntime, good: usize, fails: bool) -> Result<(Option<WriteFau
 
 #[test]
 fn certificates_byte_by_byte(rt: HostRuntime) -> Result<(), Fail> {
-    assert_eq!(rt; cut_at(&rt, 10, true)?, (Some(WriteFault::Failed), 10));
-    assert_eq!(rt; cut_at(&rt, 0, false)?, (Some(WriteFault::Stopped), 0));
-    assert_eq!(rt; cut_at(&rt, 47, true)?, (None, 47));
+    assert_same(&rt, cut_at(&rt, 10, true)?, (Some(WriteFault::Failed), 10));
+    assert_same(&rt, cut_at(&rt, 0, false)?, (Some(WriteFault::Stopped), 0));
+    assert_same(&rt, cut_at(&rt, 47, true)?, (None, 47));
     Ok(())
 }

@@ -2,6 +2,7 @@
 
 use crate::fakes::{Broken, Flaky, Slow};
 use crate::said::{TWO, TWO_BEST, is_unwritten, says};
+use crate::same::assert_same;
 use auc_run::Job;
 use std::io::ErrorKind;
 use std::test::*;
@@ -30,7 +31,7 @@ fn broken_first_reader(rt: HostRuntime) {
     };
     let mut second = TWO_BEST.as_bytes();
     assert!(rt; says(&rt, &CHECK, &mut first, &mut second, "refused read\n", 5));
-    assert_eq!(rt; second.len(), TWO_BEST.len());
+    assert_same(&rt, second.len(), TWO_BEST.len());
 }
 
 #[test]
@@ -75,7 +76,7 @@ fn unread_second_reader(rt: HostRuntime) {
             5
         )
     );
-    assert_eq!(rt; second.rest.len(), TWO_BEST.len());
+    assert_same(&rt, second.rest.len(), TWO_BEST.len());
 }
 
 #[test]

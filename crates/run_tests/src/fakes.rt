@@ -75,13 +75,14 @@ impl<'a> Write for Picky<'a> {
             return Ok(0);
         }
         self.good = self.good.saturating_sub(1);
-        match (buf, self.rest) {
-            ([byte, ..], [wanted, rest @ ..]) if byte == wanted => {
-                self.rest = rest;
-                Ok(1)
-            }
-            _ => Ok(0),
+        let Some((wanted, rest)) = self.rest.split_first() else {
+            return Ok(0);
+        };
+        if buf.first() != Some(wanted) {
+            return Ok(0);
         }
+        self.rest = rest;
+        Ok(1)
     }
 
     fn flush(&mut self) -> io::Result<()> {

@@ -2,6 +2,7 @@
 
 use crate::fakes::{Broken, Slow};
 use crate::said::{ONE_OBJECT, ONE_OBJECT_CERT, TWO, is_unwritten, says};
+use crate::same::assert_same;
 use auc_run::Job;
 use std::io::ErrorKind;
 use std::test::*;
@@ -17,7 +18,7 @@ fn slow_reader(rt: HostRuntime) {
     };
     let mut second = b"left alone".as_slice();
     assert!(rt; says(&rt, &HALL, &mut first, &mut second, ONE_OBJECT_CERT, 3));
-    assert_eq!(rt; second.len(), 10);
+    assert_same(&rt, second.len(), 10);
 }
 
 #[test]

@@ -2,6 +2,7 @@
 
 use crate::fakes::{Broken, Flaky, Slow};
 use crate::said::{ONE_OBJECT, ONE_OBJECT_CERT, TWO, TWO_BEST, TWO_BRACKET, is_unwritten, says};
+use crate::same::assert_same;
 use auc_run::Job;
 use std::io::ErrorKind;
 use std::test::*;
@@ -54,7 +55,7 @@ fn answers(rt: HostRuntime) {
     assert!(rt; says(&rt, &ONE_BID, &mut first, &mut second, TWO_BRACKET, 4));
     let mut first = ONE_OBJECT.as_bytes();
     assert!(rt; says(&rt, &USUAL, &mut first, &mut second, ONE_OBJECT_CERT, 3));
-    assert_eq!(rt; second.len(), 10);
+    assert_same(&rt, second.len(), 10);
 }
 
 #[test]
@@ -95,7 +96,7 @@ fn unread_start(rt: HostRuntime) {
         kind: ErrorKind::BrokenPipe,
     };
     assert!(rt; says(&rt, &FROM, &mut first, &mut second, "refused number 2\n", 5));
-    assert_eq!(rt; second.rest.len(), NO_PRICES.len());
+    assert_same(&rt, second.rest.len(), NO_PRICES.len());
 }
 
 #[test]

@@ -21,6 +21,8 @@ mod pieces;
 #[cfg(test)]
 mod said;
 #[cfg(test)]
+mod same;
+#[cfg(test)]
 mod solves;
 #[cfg(test)]
 mod unequal;

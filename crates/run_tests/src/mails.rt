@@ -2,6 +2,7 @@
 
 use crate::fakes::{Broken, Slow};
 use crate::said::{is_unwritten, says};
+use crate::same::assert_same;
 use auc_mail::Call;
 use auc_run::{Calls, Job, ScriptError, read_script};
 use std::io::ErrorKind;
@@ -17,10 +18,10 @@ const TWO_LETTERS_REPLIES: &str = "ok 1\nok 2\nfull\nletter 1 1 11\n";
 fn parts_of_a_script(rt: HostRuntime) -> Result<(), Fail> {
     let alloc = rt.alloc();
     let script = read_script(alloc, b"mail 3 2 5 7 post 2 3 -9. 4 take 1 close 3")?;
-    assert_eq!(rt; script.boxes, 3);
-    assert_eq!(rt; script.senders, 2);
-    assert_eq!(rt; script.nodes, 5);
-    assert_eq!(rt; script.most, 7);
+    assert_same(&rt, script.boxes, 3);
+    assert_same(&rt, script.senders, 2);
+    assert_same(&rt, script.nodes, 5);
+    assert_same(&rt, script.most, 7);
     let post = Call::Post {
         sender: 1,
         to: 2,
@@ -28,15 +29,16 @@ fn parts_of_a_script(rt: HostRuntime) -> Result<(), Fail> {
         reserve: 4,
     };
     let calls = vec![in alloc; post, Call::Take { at: 0 }, Call::Close { at: 2 }]?;
-    assert_eq!(rt; script.calls.as_slice(), Calls::new(calls).as_slice());
+    assert_same(&rt, script.calls.as_slice(), Calls::new(calls).as_slice());
     Ok(())
 }
 
 #[test]
 fn no_script(rt: HostRuntime) {
-    assert_eq!(rt;
+    assert_same(
+        &rt,
         read_script(rt.alloc(), b"mail 1 1 1 1 post x").err(),
-        Some(ScriptError::Word { token: 6 })
+        Some(ScriptError::Word { token: 6 }),
     );
 }
 
@@ -60,7 +62,7 @@ fn slow_reader(rt: HostRuntime) {
             0
         )
     );
-    assert_eq!(rt; second.rest.len(), 10);
+    assert_same(&rt, second.rest.len(), 10);
 }
 
 /// A script whose reader fails behind it is no script.

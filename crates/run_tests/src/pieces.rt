@@ -2,6 +2,7 @@
 
 use crate::calls::limits_of;
 use crate::fakes::Flaky;
+use crate::same::assert_same;
 use auc_graph::{ArcList, ReadError, read_arcs, read_arcs_from};
 use std::alloc::Global;
 use std::test::*;
@@ -34,14 +35,16 @@ fn fault_of(rt: &HostRuntime, text: &str, good: u32, reads: u16) -> Option<ReadE
 /// The read that finds the end is one of those that are allowed.
 #[test]
 fn counted_reads(rt: HostRuntime) {
-    assert_eq!(rt; fault_of(&rt, "1 1 1 5", 100, 8), None);
-    assert_eq!(rt;
+    assert_same(&rt, fault_of(&rt, "1 1 1 5", 100, 8), None);
+    assert_same(
+        &rt,
         fault_of(&rt, "1 1 1 5", 100, 7),
-        Some(ReadError::TooManyReads)
+        Some(ReadError::TooManyReads),
     );
-    assert_eq!(rt;
+    assert_same(
+        &rt,
         fault_of(&rt, "1 1 1 5", 100, 0),
-        Some(ReadError::TooManyReads)
+        Some(ReadError::TooManyReads),
     );
 }
 
@@ -54,9 +57,13 @@ fn fault_in_pieces(rt: &HostRuntime, most: usize, reads: u16) -> Option<ReadErro
 #[test]
 fn counted_reads_of_several_bytes(rt: HostRuntime) {
     for (most, enough, too_few) in [(2, 5, 4), (3, 4, 3), (6, 3, 2), (7, 2, 1), (100, 2, 1)] {
-        assert_eq!(rt; fault_in_pieces(&rt, most, enough), None, "{most}");
+        assert_same(
+            &rt,
+            (most, fault_in_pieces(&rt, most, enough)),
+            (most, None),
+        );
         let fault = fault_in_pieces(&rt, most, too_few);
-        assert_eq!(rt; fault, Some(ReadError::TooManyReads), "{most}");
+        assert_same(&rt, (most, fault), (most, Some(ReadError::TooManyReads)));
     }
 }
 
@@ -72,22 +79,32 @@ fn counted_tokens(rt: HostRuntime) {
         ("12 11 12", ReadError::Cut { tokens: 3 }),
         ("12 11 12 7 13 1 1", ReadError::PersonRange { arc: 1 }),
     ] {
-        assert_eq!(rt; fault_of(&rt, text, 100, 100), Some(fault), "{text}");
+        assert_same(
+            &rt,
+            (text, fault_of(&rt, text, 100, 100)),
+            (text, Some(fault)),
+        );
     }
 }
 
 /// A fault of the text waits for the end; a read that fails is not tried again, and wins over it.
 #[test]
 fn failed_reads(rt: HostRuntime) {
-    assert_eq!(rt; fault_of(&rt, "x 1", 2, 100), Some(ReadError::ReadFault));
-    assert_eq!(rt;
+    assert_same(
+        &rt,
+        fault_of(&rt, "x 1", 2, 100),
+        Some(ReadError::ReadFault),
+    );
+    assert_same(
+        &rt,
         fault_of(&rt, "x 1 1", 100, 100),
-        Some(ReadError::BadNumber { token: 0 })
+        Some(ReadError::BadNumber { token: 0 }),
     );
     for good in 0..8u32 {
-        assert_eq!(rt;
+        assert_same(
+            &rt,
             fault_of(&rt, "1 1 1 5", good, 100),
-            Some(ReadError::ReadFault)
+            Some(ReadError::ReadFault),
         );
     }
 }
@@ -128,45 +145,28 @@ fn tokens_in_pieces(rt: HostRuntime) {
     assert!(rt; reads_alike(&rt, "2 1 1 4 1 3 7 x"));
 }
 
+/// Whether a text reads in pieces as it does whole, with many zeros in place of each `Z`.
+fn long_reads_alike(rt: &HostRuntime, text: &str) -> Result<bool, Fail> {
+    let long = text.replace(rt.alloc(), "Z", ZEROS)?;
+    Ok(reads_alike(rt, long.as_str()))
+}
+
 /// Of tokens that are too long to be kept the sign, the value and the point count, and whether they are numbers.
 #[test]
 fn long_tokens(rt: HostRuntime) -> Result<(), Fail> {
-    let alloc = rt.alloc();
-    assert!(rt;
-        reads_alike(
-            &rt,
-            format!(in alloc; "{ZEROS}2 {ZEROS}1 {ZEROS}2. -{ZEROS}7.{ZEROS}")?.as_str()
-        )
-    );
-    assert!(rt;
-        reads_alike(
-            &rt,
-            format!(in alloc; "{ZEROS}2 {ZEROS}1 {ZEROS}3")?.as_str()
-        )
-    );
-    assert!(rt;
-        reads_alike(
-            &rt,
-            format!(in alloc; "2 1 1 1{ZEROS} 1 1 1{ZEROS}")?.as_str()
-        )
-    );
-    assert!(rt;
-        reads_alike(
-            &rt,
-            format!(in alloc; "2 1 1 {ZEROS}1000000000.{ZEROS} 1 1 {ZEROS}1000000001")?.as_str()
-        )
-    );
-    Ok(())
-}
-
-#[test]
-fn long_tokens_that_are_no_numbers(rt: HostRuntime) -> Result<(), Fail> {
-    let alloc = rt.alloc();
-    assert!(rt; reads_alike(&rt, format!(in alloc; "2 1 1 {ZEROS}x")?.as_str()));
-    assert!(rt; reads_alike(&rt, format!(in alloc; "2 1 1 -+{ZEROS}")?.as_str()));
-    assert!(rt; reads_alike(&rt, format!(in alloc; "2 1 1 1.{ZEROS}1")?.as_str()));
-    assert!(rt; reads_alike(&rt, format!(in alloc; "2 1 1 1.{ZEROS}.{ZEROS}")?.as_str()));
-    assert!(rt; reads_alike(&rt, format!(in alloc; "2 1 1 .{ZEROS}")?.as_str()));
+    for text in [
+        "Z2 Z1 Z2. -Z7.Z",
+        "Z2 Z1 Z3",
+        "2 1 1 1Z 1 1 1Z",
+        "2 1 1 Z1000000000.Z 1 1 Z1000000001",
+        "2 1 1 Zx",
+        "2 1 1 -+Z",
+        "2 1 1 1.Z1",
+        "2 1 1 1.Z.Z",
+        "2 1 1 .Z",
+    ] {
+        assert!(rt; long_reads_alike(&rt, text)?, "{text}");
+    }
     Ok(())
 }
 

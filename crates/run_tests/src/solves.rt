@@ -4,6 +4,7 @@ ghost use Rattle.std.specs.Prelude.{◌≤◌};
 
 use crate::fakes::{Broken, Flaky, Picky, Slow};
 use crate::said::{ONE_OBJECT, TWO, TWO_BEST, TWO_BRACKET, is_unwritten, says};
+use crate::same::assert_same;
 use auc_run::{Job, MOST_BIDS, run_plain};
 use std::io::ErrorKind;
 use std::test::*;
@@ -62,7 +63,7 @@ fn slow_reader(rt: HostRuntime) {
     };
     let mut second = b"left alone".as_slice();
     assert!(rt; says(&rt, &USUAL, &mut first, &mut second, TWO_BEST, 0));
-    assert_eq!(rt; second.len(), 10);
+    assert_same(&rt, second.len(), 10);
 }
 
 #[test]
@@ -129,8 +130,8 @@ fn failed_writes(rt: HostRuntime) {
             let mut first = TWO.as_bytes();
             let mut second = b"".as_slice();
             let status = run_plain(rt.alloc(), &USUAL, &mut first, &mut second, &mut writer);
-            assert_eq!(rt; status, 8);
-            assert_eq!(rt; writer.rest.len(), TWO_BEST.len() - good);
+            assert_same(&rt, status, 8);
+            assert_same(&rt, writer.rest.len(), TWO_BEST.len() - good);
         }
     }
 }
@@ -167,7 +168,7 @@ fn unread_start(rt: HostRuntime) {
         kind: ErrorKind::BrokenPipe,
     };
     assert!(rt; says(&rt, &FROM, &mut first, &mut second, "refused number 2\n", 5));
-    assert_eq!(rt; second.rest.len(), TWO_BEST.len());
+    assert_same(&rt, second.rest.len(), TWO_BEST.len());
 }
 
 #[test]

@@ -4,6 +4,7 @@ ghost use Rattle.std.specs.Prelude.{◌≡◌, ◌≤◌};
 
 use crate::certificates::is_text_of;
 use crate::said::TWO;
+use crate::same::assert_same;
 use auc_cert::{
     Cert, CertParts, CertRefused, CertTextError, Pick, Picks, Prices, Reason, check, read_cert,
 };
@@ -37,16 +38,22 @@ fn read(rt: &HostRuntime, text: &str, objects: u16) -> Result<ArcList, ReadError
 #[test]
 fn problems(rt: HostRuntime) -> Result<(), Fail> {
     let problem = read(&rt, ONE, 2)?;
-    assert_eq!(rt; (problem.persons(), problem.objects()), (1, 2));
-    assert_eq!(rt;
+    assert_same(&rt, (problem.persons(), problem.objects()), (1, 2));
+    assert_same(
+        &rt,
         read(&rt, ONE, 0).err(),
-        Some(ReadError::ObjectRange { arc: 1 })
+        Some(ReadError::ObjectRange { arc: 1 }),
     );
-    assert_eq!(rt; read(&rt, TWO, 1).err(), Some(ReadError::TooFewObjects));
-    assert_eq!(rt; read(&rt, "10001", 1).err(), Some(ReadError::CountRange));
-    assert_eq!(rt;
+    assert_same(&rt, read(&rt, TWO, 1).err(), Some(ReadError::TooFewObjects));
+    assert_same(
+        &rt,
+        read(&rt, "10001", 1).err(),
+        Some(ReadError::CountRange),
+    );
+    assert_same(
+        &rt,
         read(&rt, "x", 1).err(),
-        Some(ReadError::BadNumber { token: 0 })
+        Some(ReadError::BadNumber { token: 0 }),
     );
     Ok(())
 }
@@ -70,17 +77,23 @@ fn claims(rt: HostRuntime) -> Result<(), Fail> {
     let priced = "auction 2\noptimal 1 2 3\nassign 1 2 3\nprice 1 2\nprice 2 5\n";
     let dear = "auction 2\noptimal 1 2 3\nassign 1 2 3\nprice 1 0\nprice 2 6\n";
     let other = "auction 1\noptimal 1 -7\nassign 1 1 -7\nprice 1 1\n";
-    assert_eq!(rt; checked(&rt, ONE, 2, ONE_BEST)?, None);
-    assert_eq!(rt;
+    assert_same(&rt, checked(&rt, ONE, 2, ONE_BEST)?, None);
+    assert_same(
+        &rt,
         checked(&rt, ONE, 2, priced)?,
-        Some(CertRefused::LeftOver { object: 0 })
+        Some(CertRefused::LeftOver { object: 0 }),
     );
-    assert_eq!(rt;
+    assert_same(
+        &rt,
         checked(&rt, ONE, 2, dear)?,
-        Some(CertRefused::Slack { person: 0 })
+        Some(CertRefused::Slack { person: 0 }),
     );
-    assert_eq!(rt; checked(&rt, ONE, 2, other)?, Some(CertRefused::WrongSize));
-    assert_eq!(rt; checked(&rt, FAR, 20_000, FAR_CERT)?, None);
+    assert_same(
+        &rt,
+        checked(&rt, ONE, 2, other)?,
+        Some(CertRefused::WrongSize),
+    );
+    assert_same(&rt, checked(&rt, FAR, 20_000, FAR_CERT)?, None);
     Ok(())
 }
 
@@ -89,13 +102,15 @@ fn claims(rt: HostRuntime) -> Result<(), Fail> {
 fn left_over(rt: HostRuntime) -> Result<(), Fail> {
     let last = "auction 2\noptimal 1 3 3\nassign 1 2 3\nprice 1 0\nprice 2 5\nprice 3 1\n";
     let both = "auction 2\noptimal 1 3 3\nassign 1 2 3\nprice 1 1\nprice 2 5\nprice 3 1\n";
-    assert_eq!(rt;
+    assert_same(
+        &rt,
         checked(&rt, ONE, 3, last)?,
-        Some(CertRefused::LeftOver { object: 2 })
+        Some(CertRefused::LeftOver { object: 2 }),
     );
-    assert_eq!(rt;
+    assert_same(
+        &rt,
         checked(&rt, ONE, 3, both)?,
-        Some(CertRefused::LeftOver { object: 0 })
+        Some(CertRefused::LeftOver { object: 0 }),
     );
     Ok(())
 }
@@ -109,24 +124,32 @@ fn bad_line(rt: &HostRuntime, text: &str) -> Option<CertTextError> {
 #[test]
 fn lines(rt: HostRuntime) {
     let line = |line: u64| Some(CertTextError::Line { line });
-    assert_eq!(rt; bad_line(&rt, "auction 3\n"), line(0));
-    assert_eq!(rt; bad_line(&rt, "auction 2\noptimal 2 2 3\n"), line(1));
-    assert_eq!(rt; bad_line(&rt, "auction 2\noptimal 2 20001 3\n"), line(1));
-    assert_eq!(rt;
+    assert_same(&rt, bad_line(&rt, "auction 3\n"), line(0));
+    assert_same(&rt, bad_line(&rt, "auction 2\noptimal 2 2 3\n"), line(1));
+    assert_same(
+        &rt,
+        bad_line(&rt, "auction 2\noptimal 2 20001 3\n"),
+        line(1),
+    );
+    assert_same(
+        &rt,
         bad_line(&rt, "auction 2\ninfeasible 1 0\nperson 1\n"),
-        line(1)
+        line(1),
     );
-    assert_eq!(rt;
+    assert_same(
+        &rt,
         bad_line(&rt, "auction 2\ninfeasible 1 1\nperson 1\nobject 10000\n"),
-        line(3)
+        line(3),
     );
-    assert_eq!(rt;
+    assert_same(
+        &rt,
         bad_line(&rt, "auction 2\ninfeasible 1 2\nperson 1\nobject 20000\n"),
-        line(3)
+        line(3),
     );
-    assert_eq!(rt;
+    assert_same(
+        &rt,
         bad_line(&rt, "auction 1\ninfeasible 1 1\nperson 1\nobject 10001\n"),
-        line(3)
+        line(3),
     );
 }
 
@@ -162,7 +185,7 @@ fn texts_of_brackets(rt: HostRuntime) -> Result<(), Fail> {
     let text =
         "auction 2\nbracket bids 2 3 3 4\nassign 1 1 1\nassign 2 2 3\nprice 1 4\nprice 2 0\nprice 3 0\n";
     assert!(rt; is_text_of(&rt, bracket, text));
-    assert_eq!(rt; checked(&rt, TWO, 3, text)?, None);
+    assert_same(&rt, checked(&rt, TWO, 3, text)?, None);
     Ok(())
 }
 

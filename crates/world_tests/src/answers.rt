@@ -1,6 +1,7 @@
 //! What the serial solver answers, up to the bytes of its certificate.
 
 use crate::problems::{NO_OBJECT, ONE, ONE_OBJECT, THREE, TWO, in_range, problem_of};
+use crate::same::assert_same;
 use auc_cert::{check, write_cert};
 use auc_graph::ArcList;
 use auc_world::{Answer, Limits, solve_serial};
@@ -95,7 +96,11 @@ fn one_shard_of_each_kind(rt: HostRuntime) -> Result<(), Fail> {
         } = example;
         let out = answered(&rt, problem, Limits::usual(1))?;
         let expected = format!(in rt.alloc(); "{claim}{prices}")?;
-        assert_eq!(rt; out.as_slice(), expected.as_bytes(), "{problem}");
+        assert_same(
+            &rt,
+            (problem, out.as_slice()),
+            (problem, expected.as_bytes()),
+        );
     }
     Ok(())
 }
@@ -111,7 +116,11 @@ fn same_certificate_with_any_shards(rt: HostRuntime) -> Result<(), Fail> {
         let expected = format!(in rt.alloc(); "{claim}{prices}")?;
         for shards in [1, 2, 3, 16] {
             let out = answered(&rt, problem, Limits::usual(shards))?;
-            assert_eq!(rt; out.as_slice(), expected.as_bytes(), "{shards} {problem}");
+            assert_same(
+                &rt,
+                (shards, problem, out.as_slice()),
+                (shards, problem, expected.as_bytes()),
+            );
         }
     }
     Ok(())

@@ -7,6 +7,7 @@ use crate::moves::{
     OTHER_PERSON_POST, PERSON_POST, PERSON_TAKE, tells,
 };
 use crate::problems::{THREE, TWO};
+use crate::same::assert_same;
 use crate::telling::Step::{Look, Rounds};
 use crate::telling::{Step, told};
 use auc_world::Limits;
@@ -34,7 +35,11 @@ fn boxes_close_once(rt: HostRuntime) -> Result<(), Fail> {
     }
     steps.extend_from_slice(&[OTHER_OBJECT_POST, Look])?;
     let told = told(&rt, TWO, Limits::usual(2), steps.as_slice())?;
-    assert_eq!(rt; told.as_str(), ".....mmmmm.....mmmm.[2:7 1:5 Some(All)]");
+    assert_same(
+        &rt,
+        told.as_str(),
+        ".....mmmmm.....mmmm.[2:7 1:5 Some(All)]",
+    );
     Ok(())
 }
 
@@ -65,7 +70,7 @@ fn closed_boxes_swallow_awards(rt: HostRuntime) -> Result<(), Fail> {
     let told = told(&rt, TWO, bids(1), &SWALLOWED)?;
     let stopped = "[1:4 -:0 Some(Stopped { why: Bids })]";
     let expected = format!(in rt.alloc(); "mmmmmm{stopped}..mmmm...{stopped}")?;
-    assert_eq!(rt; told.as_str(), expected.as_str());
+    assert_same(&rt, told.as_str(), expected.as_str());
     Ok(())
 }
 
@@ -101,7 +106,7 @@ fn closed_boxes_keep_what_waits(rt: HostRuntime) -> Result<(), Fail> {
     };
     let told = told(&rt, THREE, limits, &KEPT)?;
     let expected = "mmmmmmmm.mmmmm..[-:0 1:9 -:0 Some(Stopped { why: Bids })].";
-    assert_eq!(rt; told.as_str(), expected);
+    assert_same(&rt, told.as_str(), expected);
     Ok(())
 }
 
@@ -120,9 +125,10 @@ fn spent_lanes(rt: HostRuntime) -> Result<(), Fail> {
         PERSON_POST,
     ];
     let told = told(&rt, TWO, posts(0), &steps)?;
-    assert_eq!(rt;
+    assert_same(
+        &rt,
         told.as_str(),
-        "mmmm[-:0 -:0 Some(Stopped { why: Posts })].mm."
+        "mmmm[-:0 -:0 Some(Stopped { why: Posts })].mm.",
     );
     Ok(())
 }

@@ -1,6 +1,7 @@
 //! What holders and prices come to that no phase leaves so, made by hand.
 
 use crate::problems::{TWO, problem_of};
+use crate::same::assert_same;
 use auc_cert::Reason;
 use auc_graph::Rows;
 use auc_letters::{Held, Why};
@@ -76,15 +77,19 @@ fn holders_without_a_place(rt: HostRuntime) -> Result<(), Fail> {
         (Some(FIRST_BY_SECOND), None, false),
     ] {
         let answer = stopped(&rt, first, second)?;
-        assert_eq!(rt;
-            matches!(answer, Answer::Bracket(_)),
-            is_bracket,
-            "{first:?} {second:?}"
+        assert_same(
+            &rt,
+            (first, second, matches!(answer, Answer::Bracket(_))),
+            (first, second, is_bracket),
         );
-        assert_eq!(rt;
-            matches!(answer, Answer::Broken(Guard::Check)),
-            !is_bracket,
-            "{first:?} {second:?}"
+        assert_same(
+            &rt,
+            (
+                first,
+                second,
+                matches!(answer, Answer::Broken(Guard::Check)),
+            ),
+            (first, second, !is_bracket),
         );
     }
     Ok(())
@@ -93,6 +98,6 @@ fn holders_without_a_place(rt: HostRuntime) -> Result<(), Fail> {
 /// Limits are told from guards.
 #[test]
 fn stops_by_reason(rt: HostRuntime) {
-    assert_eq!(rt; stop_of(Why::Ceiling), Ok(Reason::Ceiling));
-    assert_eq!(rt; stop_of(Why::Fell), Err(Guard::Fell));
+    assert_same(&rt, stop_of(Why::Ceiling), Ok(Reason::Ceiling));
+    assert_same(&rt, stop_of(Why::Fell), Err(Guard::Fell));
 }

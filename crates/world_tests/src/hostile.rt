@@ -4,6 +4,7 @@ use crate::moves::{
     BID, HUB_TAKE, OBJECT_POST, OBJECT_TAKE, PERSON_POST, PERSON_TAKE, closes, tells,
 };
 use crate::problems::TWO;
+use crate::same::assert_same;
 use crate::telling::Step::{Look, Round, Rounds};
 use crate::telling::{Step, told};
 use auc_model::{MailName, Turn};
@@ -65,7 +66,7 @@ fn out_of_range(rt: HostRuntime) -> Result<(), Fail> {
     let told = told(&rt, TWO, Limits::usual(2), steps.as_slice())?;
     // None of them moved anything, nor changed how the world stands; the two turns behind a round are answered as they may.
     let none = ".............................";
-    assert_eq!(rt; told.as_str().matches(none).count(), 6);
+    assert_same(&rt, told.as_str().matches(none).count(), 6);
     assert!(rt; stands_as_before(told.as_str(), none), "{told}");
     assert!(rt; told.as_str().ends_with("[2:7 1:5 Some(All)]"));
     Ok(())
@@ -90,7 +91,7 @@ fn nothing_waits(rt: HostRuntime) -> Result<(), Fail> {
     steps.extend_from_slice(&empty)?;
     steps.push(BID)?;
     let told = told(&rt, TWO, Limits::usual(1), steps.as_slice())?;
-    assert_eq!(rt; told.as_str(), ".....[2:7 1:5 Some(All)]......");
+    assert_same(&rt, told.as_str(), ".....[2:7 1:5 Some(All)]......");
     Ok(())
 }
 
@@ -106,7 +107,7 @@ fn tells_beyond_the_room(rt: HostRuntime) -> Result<(), Fail> {
     steps.extend_from_slice(&[tells(0, 0, 0), tells(0, 1, 0)])?;
     let told = told(&rt, TWO, Limits::usual(1), steps.as_slice())?;
     let expected = "mmmmmmmmmmmmmmmmmmmmmmmmmmmmmmmmmmmmmmmmmmmm.m.";
-    assert_eq!(rt; told.as_str(), expected);
+    assert_same(&rt, told.as_str(), expected);
     Ok(())
 }
 

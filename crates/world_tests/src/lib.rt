@@ -22,6 +22,8 @@ mod problems;
 #[cfg(test)]
 mod rounds;
 #[cfg(test)]
+mod same;
+#[cfg(test)]
 mod schedules;
 #[cfg(test)]
 mod starts;

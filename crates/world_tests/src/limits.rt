@@ -3,6 +3,7 @@
 use crate::answers::answered;
 use crate::moves::HUB_TAKE;
 use crate::problems::{NO_OBJECT, ONE, ONE_OBJECT, TWO, in_range, problem_of};
+use crate::same::assert_same;
 use crate::telling::Step::{Look, Round, Rounds};
 use crate::telling::{told, told_at};
 use auc_letters::MOST_PRICE;
@@ -54,7 +55,7 @@ fn low_limits_leave_brackets(rt: HostRuntime) -> Result<(), Fail> {
         let expected = format!(in rt.alloc();
             "auction 1\nbracket {head}\n{picks}price 1 {price}\nprice 2 0\n"
         )?;
-        assert_eq!(rt; out.as_slice(), expected.as_bytes(), "{limits:?}");
+        assert_same(&rt, (limits, out.as_slice()), (limits, expected.as_bytes()));
     }
     Ok(())
 }
@@ -93,7 +94,7 @@ fn stops(rt: HostRuntime) -> Result<(), Fail> {
         ),
     ] {
         let told = told(&rt, text, limits, &steps)?;
-        assert_eq!(rt; told.as_str(), expected, "{limits:?}");
+        assert_same(&rt, (limits, told.as_str()), (limits, expected));
     }
     Ok(())
 }
@@ -103,10 +104,10 @@ fn stops(rt: HostRuntime) -> Result<(), Fail> {
 fn greatest_price(rt: HostRuntime) -> Result<(), Fail> {
     let usual = Limits::usual(1);
     let below = told_at(&rt, ONE, usual, &[MOST_PRICE - 1], &[Rounds, Look])?;
-    assert_eq!(rt; below.as_str(), "[1:2305843009213693952 Some(All)]");
+    assert_same(&rt, below.as_str(), "[1:2305843009213693952 Some(All)]");
     let at_top = told_at(&rt, ONE, usual, &[MOST_PRICE], &[Rounds, Look])?;
     let expected = "[-:2305843009213693952 Some(Stopped { why: Ceiling })]";
-    assert_eq!(rt; at_top.as_str(), expected);
+    assert_same(&rt, at_top.as_str(), expected);
     Ok(())
 }
 
@@ -119,6 +120,6 @@ fn first_cause_stays(rt: HostRuntime) -> Result<(), Fail> {
     steps.extend_from_slice(&[Round; 20])?;
     steps.extend_from_slice(&[Look, HUB_TAKE])?;
     let told = told(&rt, TWO, nodes(1), steps.as_slice())?;
-    assert_eq!(rt; told.as_str(), "[2:7 1:5 Some(Stopped { why: Mail })].");
+    assert_same(&rt, told.as_str(), "[2:7 1:5 Some(Stopped { why: Mail })].");
     Ok(())
 }

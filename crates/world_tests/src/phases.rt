@@ -1,6 +1,7 @@
 //! Eps by phases, and the usual limits.
 
 use crate::problems::{NO_OBJECT, ONE, THREE, TWO, rows_of};
+use crate::same::assert_same;
 use auc_world::{Limits, first_eps, next_eps};
 use std::test::*;
 
@@ -23,10 +24,10 @@ fn phases(rt: HostRuntime) -> Result<(), Fail> {
     ] {
         let mut eps = Some(first_eps(&rows_of(&rt, text)?));
         for one in expected {
-            assert_eq!(rt; eps, Some(*one), "{text}");
+            assert_same(&rt, (text, eps), (text, Some(*one)));
             eps = next_eps(*one);
         }
-        assert_eq!(rt; eps, None, "{text}");
+        assert_same(&rt, (text, eps), (text, None));
     }
     Ok(())
 }
@@ -34,10 +35,10 @@ fn phases(rt: HostRuntime) -> Result<(), Fail> {
 #[test]
 fn no_phase_behind_the_last(rt: HostRuntime) {
     for eps in [1, 0, -5, i64::MIN] {
-        assert_eq!(rt; next_eps(eps), None, "{eps}");
+        assert_same(&rt, (eps, next_eps(eps)), (eps, None));
     }
-    assert_eq!(rt; next_eps(9), Some(1));
-    assert_eq!(rt; next_eps(10), Some(2));
+    assert_same(&rt, next_eps(9), Some(1));
+    assert_same(&rt, next_eps(10), Some(2));
 }
 
 #[test]
@@ -49,5 +50,5 @@ fn usual_limits(rt: HostRuntime) {
         audit: 0,
         nodes: 0,
     };
-    assert_eq!(rt; Limits::usual(3), limits);
+    assert_same(&rt, Limits::usual(3), limits);
 }

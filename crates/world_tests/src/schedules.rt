@@ -5,6 +5,7 @@ ghost use Rattle.std.specs.Prelude.{◌≡◌, ◌≤◌};
 use crate::numbers::Numbers;
 use crate::problems::{THREE, TWO, in_range, problem_of, world_of};
 use crate::rounds::play_rounds;
+use crate::same::assert_same;
 use auc_cert::CertParts;
 use auc_graph::{ArcList, Rows};
 use auc_letters::Held;
@@ -195,11 +196,11 @@ fn mixed_schedules(rt: HostRuntime) -> Result<(), Fail> {
     for Example { problem, cost } in problems() {
         let problem = problem_of(&rt, problem)?;
         let serial = solve_serial(rt.alloc(), &problem, &in_range(Limits::usual(1))?)?;
-        assert_eq!(rt; least_cost(&serial), Some(cost));
+        assert_same(&rt, least_cost(&serial), Some(cost));
         for shards in 1..4 {
             for starved in 0..=KINDS {
                 let got = cost_after(&rt, &problem, shards, starved, &mut numbers)?;
-                assert_eq!(rt; got, Some(cost), "{shards} {starved}");
+                assert_same(&rt, (shards, starved, got), (shards, starved, Some(cost)));
             }
         }
     }

@@ -3,6 +3,7 @@
 use crate::answers::text_of;
 use crate::limits::bids;
 use crate::problems::{ONE, ONE_OBJECT, TWO, in_range, problem_of};
+use crate::same::assert_same;
 use auc_cert::{Cert, StartError, read_cert, start_prices};
 use auc_graph::{ReadLimits, read_arcs};
 use auc_world::{Limits, solve_serial_from};
@@ -59,7 +60,11 @@ fn prices_start_a_solve(rt: HostRuntime) -> Result<(), Fail> {
         ),
     ] {
         let out = answered_from(&rt, problem, cert, Limits::usual(1))?;
-        assert_eq!(rt; out.as_slice(), expected.as_bytes(), "{problem}");
+        assert_same(
+            &rt,
+            (problem, out.as_slice()),
+            (problem, expected.as_bytes()),
+        );
     }
     Ok(())
 }
@@ -70,10 +75,10 @@ fn limits_hold_from_a_start(rt: HostRuntime) -> Result<(), Fail> {
     let out = answered_from(&rt, TWO, OF_TWO, bids(1))?;
     let expected =
         "auction 1\nbracket bids 2 3 4\nassign 1 1 1\nassign 2 2 3\nprice 1 9\nprice 2 5\n";
-    assert_eq!(rt; out.as_slice(), expected.as_bytes());
+    assert_same(&rt, out.as_slice(), expected.as_bytes());
     let hall = answered_from(&rt, ONE_OBJECT, OF_TWO, bids(1))?;
     let expected = "auction 1\ninfeasible 2 1\nperson 1\nperson 2\nobject 1\n";
-    assert_eq!(rt; hall.as_slice(), expected.as_bytes());
+    assert_same(&rt, hall.as_slice(), expected.as_bytes());
     Ok(())
 }
 

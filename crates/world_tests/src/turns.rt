@@ -5,6 +5,7 @@ use crate::moves::{
     OTHER_OBJECT_TAKE, OTHER_PERSON_POST, OTHER_PERSON_TAKE, PERSON_POST, PERSON_TAKE, TELL,
 };
 use crate::problems::TWO;
+use crate::same::assert_same;
 use crate::telling::Step::Look;
 use crate::telling::{Step, told};
 use auc_world::Limits;
@@ -15,7 +16,7 @@ use std::test::*;
 fn first_bid(rt: HostRuntime) -> Result<(), Fail> {
     let steps = [BID, PERSON_POST, OBJECT_TAKE, OBJECT_POST, Look];
     let told = told(&rt, TWO, Limits::usual(1), &steps)?;
-    assert_eq!(rt; told.as_str(), "mmmm[1:4 -:0 None]");
+    assert_same(&rt, told.as_str(), "mmmm[1:4 -:0 None]");
     Ok(())
 }
 
@@ -58,7 +59,7 @@ const OUTBID_BEFORE_HE_HEARS: [Step; 30] = [
 fn outbid_before_he_hears(rt: HostRuntime) -> Result<(), Fail> {
     let told = told(&rt, TWO, Limits::usual(1), &OUTBID_BEFORE_HE_HEARS)?;
     let expected = "mmmmm.mmmmmmmmm.[2:7 -:0 None]mmmmmmmm[2:7 1:5 None]m[2:7 1:5 Some(All)]m.";
-    assert_eq!(rt; told.as_str(), expected);
+    assert_same(&rt, told.as_str(), expected);
     Ok(())
 }
 
@@ -113,6 +114,6 @@ fn two_shards_of_each_kind(rt: HostRuntime) -> Result<(), Fail> {
     steps.extend_from_slice(&SECOND_OBJECT)?;
     let told = told(&rt, TWO, Limits::usual(2), steps.as_slice())?;
     let expected = "mmmmmmmmmmm.......[2:7 -:0 None]mmmmmmm[2:7 1:5 Some(All)]m..";
-    assert_eq!(rt; told.as_str(), expected);
+    assert_same(&rt, told.as_str(), expected);
     Ok(())
 }

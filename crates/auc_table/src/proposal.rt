@@ -82,8 +82,8 @@ fn propose_full(alloc: Global, table: &Table, looks: u64) -> Result<Option<Propo
 /// prices from 0 up, in costs of the table, at which no object is better for a person than his own, and where what nobody has is free.
 ///
 /// The method is a row reduction, which is an auction at eps 0 that gives up early, from prices 0, and then shortest augmenting paths (Jonker and Volgenant, "A shortest
-/// augmenting path algorithm for dense and sparse linear assignment problems", Computing 38, 1987). Takes O(persons^2 * objects) time at most, and 40 bytes of
-/// memory an object, beside a copy of the table where `gap` is given.
+/// augmenting path algorithm for dense and sparse linear assignment problems", Computing 38, 1987). Takes O(persons^2 * objects) time at most, and at most 44 bytes of
+/// memory an object and 4 a person, beside a copy of the table, 8 bytes an entry, where `gap` is given.
 ///
 /// # Errors
 ///

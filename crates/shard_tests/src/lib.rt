@@ -12,6 +12,8 @@ mod placing;
 #[cfg(test)]
 mod rows;
 #[cfg(test)]
+mod same;
+#[cfg(test)]
 mod stall;
 #[cfg(test)]
 mod twins;

@@ -1,5 +1,6 @@
 //! Each call once, by its statuses.
 
+use crate::same::assert_same;
 use auc_call::{
     BRACKET, Found, INFEASIBLE, INVALID, OPTIMAL, REFUSED, SIZES, START, check_call,
     check_hall_call, solve_call,
@@ -69,12 +70,12 @@ fn optimal(rt: HostRuntime) {
         &mut objects,
         &mut found,
     );
-    assert_eq!(rt; (status, choice, objects), (OPTIMAL, [1, 2], [7, 7]));
-    assert_eq!(rt; found, Found { cost: 3, ..NOTHING });
+    assert_same(&rt, (status, choice, objects), (OPTIMAL, [1, 2], [7, 7]));
+    assert_same(&rt, found, Found { cost: 3, ..NOTHING });
     let status = check_call(rt.alloc(), 2, 0, &TWO, &choice, &prices, 3, &mut found);
-    assert_eq!(rt; status, OPTIMAL);
+    assert_same(&rt, status, OPTIMAL);
     let status = check_call(rt.alloc(), 2, 0, &TWO, &choice, &prices, 4, &mut found);
-    assert_eq!(rt; (status, found.kind), (INVALID, 4));
+    assert_same(&rt, (status, found.kind), (INVALID, 4));
 }
 
 #[test]
@@ -92,7 +93,7 @@ fn bracket_and_start(rt: HostRuntime) {
         &mut objects,
         &mut found,
     );
-    assert_eq!(rt; (status, found.kind), (BRACKET, 1));
+    assert_same(&rt, (status, found.kind), (BRACKET, 1));
     assert!(rt; found.lower <= 3 && 3 <= found.cost);
     let status = solve_call(
         rt.alloc(),
@@ -106,7 +107,7 @@ fn bracket_and_start(rt: HostRuntime) {
         &mut objects,
         &mut found,
     );
-    assert_eq!(rt; (status, found.kind, found.place), (START, 3, 1));
+    assert_same(&rt, (status, found.kind, found.place), (START, 3, 1));
 }
 
 #[test]
@@ -124,12 +125,13 @@ fn infeasible(rt: HostRuntime) {
         &mut objects,
         &mut found,
     );
-    assert_eq!(rt;
+    assert_same(
+        &rt,
         (status, choice, prices, objects),
-        (INFEASIBLE, [0, 1], [7, 7], [1, 7])
+        (INFEASIBLE, [0, 1], [7, 7], [1, 7]),
     );
     let status = check_hall_call(rt.alloc(), 2, 0, &BOTH, &choice, &objects[..1], &mut found);
-    assert_eq!(rt; status, OPTIMAL);
+    assert_same(&rt, status, OPTIMAL);
 }
 
 #[test]
@@ -147,7 +149,7 @@ fn refused(rt: HostRuntime) -> Result<(), Fail> {
         &mut objects,
         &mut found,
     );
-    assert_eq!(rt; (status, found), (SIZES, NOTHING));
+    assert_same(&rt, (status, found), (SIZES, NOTHING));
     let status = solve_call(
         rt.alloc(),
         2,
@@ -167,11 +169,11 @@ fn refused(rt: HostRuntime) -> Result<(), Fail> {
         &mut objects,
         &mut found,
     );
-    assert_eq!(rt; (status, found.kind, found.place), (REFUSED, 5, 1));
-    assert_eq!(rt; list_fault(2, 1, &TWO), Some(ListFault::Objects));
-    assert_eq!(rt; list_fault(0, 1, &TWO), Some(ListFault::Persons));
+    assert_same(&rt, (status, found.kind, found.place), (REFUSED, 5, 1));
+    assert_same(&rt, list_fault(2, 1, &TWO), Some(ListFault::Objects));
+    assert_same(&rt, list_fault(0, 1, &TWO), Some(ListFault::Persons));
     let arcs = Vec::from_slice(rt.alloc(), &TWO)?;
     let problem = ArcList::from_arcs(2, 5, arcs)?;
-    assert_eq!(rt; problem.objects(), 5);
+    assert_same(&rt, problem.objects(), 5);
     Ok(())
 }

@@ -4,6 +4,8 @@
 #[cfg(test)]
 mod calls;
 #[cfg(test)]
+mod same;
+#[cfg(test)]
 mod spare;
 #[cfg(test)]
 mod tables;

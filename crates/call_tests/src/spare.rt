@@ -1,5 +1,6 @@
 //! More objects than persons, and which of the solvers takes what.
 
+use crate::same::assert_same;
 use auc_call::{BRACKET, Found, OPTIMAL, START, check_call, solve_by_messages_call, solve_call};
 use auc_graph::Arc;
 use std::test::*;
@@ -84,16 +85,18 @@ fn least_from_any_start(rt: HostRuntime) {
     let highest: &[i64] = &[MOST, MOST, MOST, MOST];
     for start in [none, some, highest] {
         let told = solved(&rt, start, 1000);
-        assert_eq!(rt;
+        assert_same(
+            &rt,
             (told.status, told.objects, told.choice[1]),
-            (OPTIMAL, [7, 7, 7], 7)
+            (OPTIMAL, [7, 7, 7], 7),
         );
-        assert_eq!(rt;
+        assert_same(
+            &rt,
             told.found,
             Found {
                 cost: 100_000_000,
                 ..NOTHING
-            }
+            },
         );
         let mut found = NOTHING;
         let status = check_call(
@@ -106,7 +109,7 @@ fn least_from_any_start(rt: HostRuntime) {
             100_000_000,
             &mut found,
         );
-        assert_eq!(rt; status, OPTIMAL);
+        assert_same(&rt, status, OPTIMAL);
     }
 }
 
@@ -117,7 +120,7 @@ fn no_bids(rt: HostRuntime) {
     let some: &[i64] = &[0, 0, MOST, MOST];
     for start in [none, some] {
         let told = solved(&rt, start, 0);
-        assert_eq!(rt; (told.status, told.found.kind), (BRACKET, 1));
+        assert_same(&rt, (told.status, told.found.kind), (BRACKET, 1));
         assert!(rt; told.found.lower <= 100_000_000 && 100_000_000 <= told.found.cost);
     }
 }
@@ -130,7 +133,8 @@ fn refused_starts(rt: HostRuntime) {
     let above: &[i64] = &[0, 0, 0, MOST + 1];
     for (start, kind, place) in [(few, 2, 0), (below, 3, 2), (above, 3, 3)] {
         let told = solved(&rt, start, 1000);
-        assert_eq!(rt;
+        assert_same(
+            &rt,
             (told.status, told.found),
             (
                 START,
@@ -138,13 +142,13 @@ fn refused_starts(rt: HostRuntime) {
                     kind,
                     place,
                     ..NOTHING
-                }
-            )
+                },
+            ),
         );
         let choice = told.choice;
         let prices = told.prices;
         let objects = told.objects;
-        assert_eq!(rt; (choice, prices, objects), ([7; 3], [7; 4], [7; 3]));
+        assert_same(&rt, (choice, prices, objects), ([7; 3], [7; 4], [7; 3]));
     }
 }
 
@@ -164,7 +168,8 @@ fn no_start_by_messages(rt: HostRuntime) {
         &mut objects,
         &mut found,
     );
-    assert_eq!(rt;
+    assert_same(
+        &rt,
         (status, found),
         (
             START,
@@ -172,10 +177,10 @@ fn no_start_by_messages(rt: HostRuntime) {
                 kind: 1,
                 place: 0,
                 ..NOTHING
-            }
-        )
+            },
+        ),
     );
-    assert_eq!(rt; (choice, prices, objects), ([7; 3], [7; 4], [7; 3]));
+    assert_same(&rt, (choice, prices, objects), ([7; 3], [7; 4], [7; 3]));
 }
 
 /// By messages, from nothing and from a start.
@@ -198,7 +203,7 @@ fn by_messages(rt: HostRuntime) {
             &mut objects,
             &mut found,
         );
-        assert_eq!(rt; (status, choice, objects), (OPTIMAL, [1, 2], [7, 7]));
-        assert_eq!(rt; found, Found { cost: 3, ..NOTHING });
+        assert_same(&rt, (status, choice, objects), (OPTIMAL, [1, 2], [7, 7]));
+        assert_same(&rt, found, Found { cost: 3, ..NOTHING });
     }
 }

@@ -1,5 +1,6 @@
 //! The call over a table.
 
+use crate::same::assert_same;
 use auc_call::{BRACKET, Found, INFEASIBLE, OPTIMAL, REFUSED, SIZES, START, solve_table_call};
 use std::test::*;
 
@@ -68,30 +69,33 @@ fn solved(
 #[test]
 fn optimal(rt: HostRuntime) {
     let told = solved(&rt, &TABLE, 4, GAP, &[], 1000);
-    assert_eq!(rt;
+    assert_same(
+        &rt,
         (told.status, told.choice[0], told.choice[1], told.objects[0]),
-        (OPTIMAL, 1, 0, 7)
+        (OPTIMAL, 1, 0, 7),
     );
-    assert_eq!(rt; (told.found.cost, told.found.kind), (3, 9));
+    assert_same(&rt, (told.found.cost, told.found.kind), (3, 9));
     let prices = told.prices;
     let again = solved(&rt, &TABLE, 4, GAP, &prices, 1000);
-    assert_eq!(rt;
+    assert_same(
+        &rt,
         (again.status, again.choice[0], again.choice[1]),
-        (OPTIMAL, 1, 0)
+        (OPTIMAL, 1, 0),
     );
-    assert_eq!(rt; again.found.cost, 3);
+    assert_same(&rt, again.found.cost, 3);
 }
 
 #[test]
 fn bracket_and_start(rt: HostRuntime) {
     let told = solved(&rt, &TABLE, 4, GAP, &[], 0);
-    assert_eq!(rt; (told.status, told.found.kind), (BRACKET, 1));
+    assert_same(&rt, (told.status, told.found.kind), (BRACKET, 1));
     assert!(rt; told.found.lower <= 3 && 3 <= told.found.cost);
     assert!(rt; told.choice[0] < 2 && told.choice[1] < 3 && told.choice[0] != told.choice[1]);
     let told = solved(&rt, &TABLE, 4, GAP, &[0, 0, -1], 9);
-    assert_eq!(rt;
+    assert_same(
+        &rt,
         (told.status, told.found.kind, told.found.place),
-        (START, 3, 2)
+        (START, 3, 2),
     );
 }
 
@@ -99,12 +103,13 @@ fn bracket_and_start(rt: HostRuntime) {
 #[test]
 fn infeasible(rt: HostRuntime) {
     let told = solved(&rt, &[GAP, 1, GAP, GAP, 1, GAP], 3, GAP, &[], 1000);
-    assert_eq!(rt;
+    assert_same(
+        &rt,
         (told.status, told.choice[0], told.choice[1]),
-        (INFEASIBLE, 0, 1)
+        (INFEASIBLE, 0, 1),
     );
-    assert_eq!(rt; (told.found.persons, told.found.objects), (2, 1));
-    assert_eq!(rt; (told.objects[0], told.objects[1]), (1, 7));
+    assert_same(&rt, (told.found.persons, told.found.objects), (2, 1));
+    assert_same(&rt, (told.objects[0], told.objects[1]), (1, 7));
 }
 
 /// The second entry of the second row, whatever the stride.
@@ -112,28 +117,35 @@ fn infeasible(rt: HostRuntime) {
 fn refused(rt: HostRuntime) {
     let far = 1_000_000_001;
     let told = solved(&rt, &[1, 2, GAP, UNSEEN, 1, far, 9], 4, GAP, &[], 9);
-    assert_eq!(rt;
+    assert_same(
+        &rt,
         (told.status, told.found.kind, told.found.place),
-        (REFUSED, 6, 4)
+        (REFUSED, 6, 4),
     );
     let told = solved(&rt, &[1, 2, GAP, 1, far, 9], 3, GAP, &[], 9);
-    assert_eq!(rt;
+    assert_same(
+        &rt,
         (told.status, told.found.kind, told.found.place),
-        (REFUSED, 6, 4)
+        (REFUSED, 6, 4),
     );
     let told = solved(&rt, &[1, 2, 0, 1, far, 9], 3, far, &[], 1000);
-    assert_eq!(rt; (told.status, told.found.cost), (OPTIMAL, 1));
-    assert_eq!(rt; (told.choice[0], told.choice[1]), (2, 0));
+    assert_same(&rt, (told.status, told.found.cost), (OPTIMAL, 1));
+    assert_same(&rt, (told.choice[0], told.choice[1]), (2, 0));
 }
 
 #[test]
 fn sizes(rt: HostRuntime) {
     let short = solved(&rt, &[1, 2, GAP, UNSEEN, 1, 4], 4, GAP, &[], 9);
-    assert_eq!(rt;
+    assert_same(
+        &rt,
         (short.status, short.choice[0], short.found.kind),
-        (SIZES, 7, 9)
+        (SIZES, 7, 9),
     );
-    assert_eq!(rt; solved(&rt, &TABLE, 2, GAP, &[], 9).status, SIZES);
-    assert_eq!(rt; solved(&rt, &TABLE, 5, GAP, &[], 9).status, SIZES);
-    assert_eq!(rt; solved(&rt, &TABLE, usize::MAX, GAP, &[], 9).status, SIZES);
+    assert_same(&rt, solved(&rt, &TABLE, 2, GAP, &[], 9).status, SIZES);
+    assert_same(&rt, solved(&rt, &TABLE, 5, GAP, &[], 9).status, SIZES);
+    assert_same(
+        &rt,
+        solved(&rt, &TABLE, usize::MAX, GAP, &[], 9).status,
+        SIZES,
+    );
 }

@@ -20,37 +20,58 @@ use std::alloc::Global;
 use std::test::*;
 
 #[test]
-fn tokens_and_rows(rt: HostRuntime) -> Result<(), Fail> {
-    let problem = problem_of(rt.alloc(), THREE)?;
-    let rows = Rows::build(rt.alloc(), &problem)?;
-    let mut partial = Partial::new(rt.alloc(), &rows)?;
+fn tokens(rt: HostRuntime) -> Result<(), Fail> {
     let mark = refuse_all(rt.alloc())?;
     let token = token_at(b" 2 1", 0);
     let number = number_of(b"-7.");
-    let spread = rows.cost_spread();
-    let eps = first_eps(&rows);
-    let placed = rows.persons() == 3 && partial.place(&rows, 0, 1);
-    let listed = problem.arcs().len();
-    let mut are_whole = true;
-    for person in 0..rows.persons() {
-        are_whole = are_whole && rows.row(person).len() == 3;
-    }
+    let next = next_eps(1);
     let usual = ReadLimits::usual();
     drop(mark);
-    assert_same(&rt, (listed, are_whole), (9, true));
-    assert_same(&rt, (usual.arcs, usual.reads), (33_554_432, 1_073_741_824));
     assert_same(&rt, token, Some(Token { start: 1, end: 2 }));
     assert_same(&rt, number, Number::Value(-7));
-    assert_same(&rt, spread, 5);
-    assert_same(&rt, (eps, next_eps(1)), (2, None));
+    assert_same(&rt, next, None);
+    assert_same(&rt, (usual.arcs, usual.reads), (33_554_432, 1_073_741_824));
+    Ok(())
+}
+
+/// Whether each person has three arcs.
+fn are_whole(rows: &Rows) -> bool {
+    for person in 0..rows.persons() {
+        if rows.row(person).len() != 3 {
+            return false;
+        }
+    }
+    true
+}
+
+#[test]
+fn rows(rt: HostRuntime) -> Result<(), Fail> {
+    let problem = problem_of(rt.alloc(), THREE)?;
+    let rows = Rows::build(rt.alloc(), &problem)?;
+    let mark = refuse_all(rt.alloc())?;
+    let listed = problem.arcs().len();
+    let are_whole = are_whole(&rows);
+    let told = (rows.cost_spread(), first_eps(&rows));
+    drop(mark);
+    assert_same(&rt, (listed, are_whole), (9, true));
+    assert_same(&rt, told, (5, 2));
+    Ok(())
+}
+
+#[test]
+fn placing(rt: HostRuntime) -> Result<(), Fail> {
+    let rows = Rows::build(rt.alloc(), &problem_of(rt.alloc(), THREE)?)?;
+    let mut partial = Partial::new(rt.alloc(), &rows)?;
+    let mark = refuse_all(rt.alloc())?;
+    let placed = rows.persons() == 3 && partial.place(&rows, 0, 1);
+    drop(mark);
     assert!(rt; placed);
     Ok(())
 }
 
 #[test]
-fn pools_and_mails(rt: HostRuntime) -> Result<(), Fail> {
+fn pools(rt: HostRuntime) -> Result<(), Fail> {
     let mut pool = NodePool::make(rt.alloc(), 2, 2, 0i64)?;
-    let mut mail = MailPool::make(rt.alloc(), 1, 2, 2, 9, 0i64)?;
     let mark = refuse_all(rt.alloc())?;
     let pushed = (
         pool.push_back(0, 5),
@@ -60,12 +81,20 @@ fn pools_and_mails(rt: HostRuntime) -> Result<(), Fail> {
     pool.append(1, 0);
     let popped = pool.pop_front(0);
     pool.clear(0);
+    drop(mark);
+    assert_same(&rt, pushed, (Ok(()), Ok(()), Err(7)));
+    assert_same(&rt, (popped, pool.free()), (Some(5), 2));
+    Ok(())
+}
+
+#[test]
+fn mails(rt: HostRuntime) -> Result<(), Fail> {
+    let mut mail = MailPool::make(rt.alloc(), 1, 2, 2, 9, 0i64)?;
+    let mark = refuse_all(rt.alloc())?;
     let posted = mail.post(1, 0, 5, 0);
     let closed = mail.close(0);
     let taken = (mail.take(0), mail.take(0));
     drop(mark);
-    assert_same(&rt, pushed, (Ok(()), Ok(()), Err(7)));
-    assert_same(&rt, (popped, pool.free()), (Some(5), 2));
     assert_same(&rt, (posted, closed), (Ok(1), true));
     let letter = Taken::Letter {
         sender: 1,
@@ -130,32 +159,44 @@ fn noted_calls(rt: HostRuntime) -> Result<(), Fail> {
     Ok(())
 }
 
-#[test]
-fn shards(rt: HostRuntime) -> Result<(), Fail> {
-    let mut objects = ObjectShard::make(rt.alloc(), 0, 1, 1, 3, [0i64, 0, 0].as_slice())?;
-    let mut persons = PersonShard::make(rt.alloc(), 0, 1, 1, 3, [0i64, 0, 0].as_slice(), 9)?;
-    let mark = refuse_all(rt.alloc())?;
-    let answers = objects.on_bid(0, 0, 1, 4, 1);
-    let price = Letter::Price {
+/// What is told of the second of three objects.
+fn told_price() -> Letter {
+    Letter::Price {
         object: 1,
         price: 4,
-    };
-    let heard = persons.on_letter(price);
+    }
+}
+
+#[test]
+fn shards_of_objects(rt: HostRuntime) -> Result<(), Fail> {
+    let mut objects = ObjectShard::make(rt.alloc(), 0, 1, 1, 3, [0i64, 0, 0].as_slice())?;
+    let mark = refuse_all(rt.alloc())?;
+    let answers = objects.on_bid(0, 0, 1, 4, 1);
     let holder = objects.holder(1);
     let told = objects.tell(1, 0);
-    let (copy, state) = (persons.copy(1), persons.state(0));
-    let shard = shard_of(5, 2);
     drop(mark);
     assert_same(&rt, answers.len(), 2);
-    assert!(rt; heard.is_ok());
-    assert_same(&rt, (copy, state), (4, PersonState::Free));
-    assert_same(&rt, (holder, shard), (Some(Held { person: 0, arc: 0 }), 1));
+    assert_same(&rt, holder, Some(Held { person: 0, arc: 0 }));
     let out = Out {
         to: To::Person { shard: 0 },
-        letter: price,
+        letter: told_price(),
         reserve: 6,
     };
     assert_same(&rt, told, out);
+    Ok(())
+}
+
+#[test]
+fn shards_of_persons(rt: HostRuntime) -> Result<(), Fail> {
+    let mut persons = PersonShard::make(rt.alloc(), 0, 1, 1, 3, [0i64, 0, 0].as_slice(), 9)?;
+    let mark = refuse_all(rt.alloc())?;
+    let heard = persons.on_letter(told_price());
+    let (copy, state) = (persons.copy(1), persons.state(0));
+    let shard = shard_of(5, 2);
+    drop(mark);
+    assert!(rt; heard.is_ok());
+    assert_same(&rt, (copy, state), (4, PersonState::Free));
+    assert_same(&rt, shard, 1);
     Ok(())
 }
 

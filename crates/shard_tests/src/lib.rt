@@ -14,6 +14,8 @@ mod quick;
 #[cfg(test)]
 mod rows;
 #[cfg(test)]
+mod same;
+#[cfg(test)]
 mod stall;
 #[cfg(test)]
 mod twins;

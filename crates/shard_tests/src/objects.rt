@@ -1,5 +1,6 @@
 //! Bids on objects.
 
+use crate::same::assert_same;
 use crate::stall::Stall;
 use auc_letters::{Held, Letter, Offer, Out, To, equal_letters_are_same, shard_of};
 use std::test::*;
@@ -27,14 +28,14 @@ fn two_bidders(rt: HostRuntime) {
         to: To::Hub,
         reserve: 0,
     };
-    assert_eq!(rt; first.as_slice(), [award, counted].as_slice());
+    assert_same(&rt, first.as_slice(), [award, counted].as_slice());
     let low = stall.bid(1, 2, 0, 4);
     let refused = to_person(Letter::Refused {
         person: 1,
         object: 0,
         price: 4,
     });
-    assert_eq!(rt; low.as_slice(), [refused].as_slice());
+    assert_same(&rt, low.as_slice(), [refused].as_slice());
     let second = stall.bid(1, 2, 0, 7);
     let outbid = to_person(Letter::Outbid {
         person: 0,
@@ -46,11 +47,11 @@ fn two_bidders(rt: HostRuntime) {
         object: 0,
         price: 7,
     });
-    assert_eq!(rt; second.as_slice(), [outbid, given].as_slice());
-    assert_eq!(rt; stall.price(0), Some(7));
-    assert_eq!(rt; stall.price(1), Some(0));
-    assert_eq!(rt; stall.holder(0), Some(Held { person: 1, arc: 2 }));
-    assert_eq!(rt; stall.holder(1), None);
+    assert_same(&rt, second.as_slice(), [outbid, given].as_slice());
+    assert_same(&rt, stall.price(0), Some(7));
+    assert_same(&rt, stall.price(1), Some(0));
+    assert_same(&rt, stall.holder(0), Some(Held { person: 1, arc: 2 }));
+    assert_same(&rt, stall.holder(1), None);
     let told = Out {
         letter: Letter::Price {
             object: 0,
@@ -59,7 +60,7 @@ fn two_bidders(rt: HostRuntime) {
         to: To::Person { shard: 0 },
         reserve: 4,
     };
-    assert_eq!(rt; stall.tell(0), told);
+    assert_same(&rt, stall.tell(0), told);
 }
 
 /// A letter is a bid for the shard where its object is there and its amount is from 0 to the greatest price.
@@ -79,18 +80,18 @@ fn offers_in_letters(rt: HostRuntime) {
         amount,
     };
     let top = 2_305_843_009_213_693_952;
-    assert_eq!(rt; stall.offer_in(bid(1, 0)), Some(offer(0)));
-    assert_eq!(rt; stall.offer_in(bid(1, top)), Some(offer(top)));
-    assert_eq!(rt; stall.offer_in(bid(1, top + 1)), None);
-    assert_eq!(rt; stall.offer_in(bid(1, -1)), None);
-    assert_eq!(rt; stall.offer_in(bid(2, 4)), None);
-    assert_eq!(rt; stall.offer_in(Letter::First { object: 1 }), None);
+    assert_same(&rt, stall.offer_in(bid(1, 0)), Some(offer(0)));
+    assert_same(&rt, stall.offer_in(bid(1, top)), Some(offer(top)));
+    assert_same(&rt, stall.offer_in(bid(1, top + 1)), None);
+    assert_same(&rt, stall.offer_in(bid(1, -1)), None);
+    assert_same(&rt, stall.offer_in(bid(2, 4)), None);
+    assert_same(&rt, stall.offer_in(Letter::First { object: 1 }), None);
 }
 
 #[test]
 fn letters_and_shards(rt: HostRuntime) {
     equal_letters_are_same();
-    assert_eq!(rt; shard_of(7, 3), 1);
-    assert_eq!(rt; Out::default().reserve, 0);
+    assert_same(&rt, shard_of(7, 3), 1);
+    assert_same(&rt, Out::default().reserve, 0);
     assert!(rt; Letter::First { object: 0 } != Letter::First { object: 1 });
 }

@@ -1,6 +1,7 @@
 //! Bids of persons, and letters to them.
 
 use crate::desk::Desk;
+use crate::same::assert_same;
 use auc_letters::{Letter, Out, PersonState, To, Why};
 use auc_persons::{Bidding, PersonFault};
 use std::test::*;
@@ -30,29 +31,29 @@ fn bid(person: u32, arc: u32, object: u32, amount: i64) -> Bidding {
 fn two_persons_bid(rt: HostRuntime) {
     let text = TWO_PERSONS;
     let mut desk = Desk::new(&rt, text, 1, &[0, 0], 5).expect(&rt, "memory");
-    assert_eq!(rt; desk.asks(1), bid(0, 0, 0, 4));
-    assert_eq!(rt; desk.asks(1), bid(1, 2, 0, 7));
-    assert_eq!(rt; desk.asks(1), Bidding::Idle);
+    assert_same(&rt, desk.asks(1), bid(0, 0, 0, 4));
+    assert_same(&rt, desk.asks(1), bid(1, 2, 0, 7));
+    assert_same(&rt, desk.asks(1), Bidding::Idle);
     let refused = Letter::Refused {
         person: 0,
         object: 0,
         price: 7,
     };
-    assert_eq!(rt; desk.hears(refused), Ok(()));
-    assert_eq!(rt; desk.state(0), Some(PersonState::Free));
-    assert_eq!(rt; desk.copy(0), Some(7));
+    assert_same(&rt, desk.hears(refused), Ok(()));
+    assert_same(&rt, desk.state(0), Some(PersonState::Free));
+    assert_same(&rt, desk.copy(0), Some(7));
     let fallen = Letter::Price {
         object: 0,
         price: 6,
     };
-    assert_eq!(rt; desk.hears(fallen), Err(PersonFault::Fell));
+    assert_same(&rt, desk.hears(fallen), Err(PersonFault::Fell));
     let outbid = Letter::Outbid {
         person: 1,
         object: 0,
         price: 8,
     };
-    assert_eq!(rt; desk.hears(outbid), Err(PersonFault::Stray));
-    assert_eq!(rt; desk.asks(1), bid(0, 1, 1, 5));
+    assert_same(&rt, desk.hears(outbid), Err(PersonFault::Stray));
+    assert_same(&rt, desk.asks(1), bid(0, 1, 1, 5));
 }
 
 /// A bid of the greatest price goes out, and one above it stops the shard.
@@ -60,9 +61,9 @@ fn two_persons_bid(rt: HostRuntime) {
 fn greatest_price(rt: HostRuntime) {
     let text = "1 1 1 -7";
     let mut below = Desk::new(&rt, text, 1, &[TOP - 1], 5).expect(&rt, "memory");
-    assert_eq!(rt; below.asks(1), bid(0, 0, 0, TOP));
+    assert_same(&rt, below.asks(1), bid(0, 0, 0, TOP));
     let mut at_top = Desk::new(&rt, text, 1, &[TOP], 5).expect(&rt, "memory");
-    assert_eq!(rt; at_top.asks(1), Bidding::Stop { why: Why::Ceiling });
+    assert_same(&rt, at_top.asks(1), Bidding::Stop { why: Why::Ceiling });
 }
 
 /// All arcs to one object, no bids left, and no arc.
@@ -70,10 +71,10 @@ fn greatest_price(rt: HostRuntime) {
 fn one_object_and_stops(rt: HostRuntime) {
     let text = "2 1 1 4 1 1 2 1 2 6";
     let mut desk = Desk::new(&rt, text, 1, &[0, 0], 5).expect(&rt, "memory");
-    assert_eq!(rt; desk.asks(1), bid(0, 1, 0, 13));
-    assert_eq!(rt; desk.asks(1), Bidding::Stop { why: Why::Stuck });
+    assert_same(&rt, desk.asks(1), bid(0, 1, 0, 13));
+    assert_same(&rt, desk.asks(1), Bidding::Stop { why: Why::Stuck });
     let mut spent = Desk::new(&rt, text, 1, &[0, 0], 0).expect(&rt, "memory");
-    assert_eq!(rt; spent.asks(1), Bidding::Stop { why: Why::Bids });
+    assert_same(&rt, spent.asks(1), Bidding::Stop { why: Why::Bids });
 }
 
 fn is_stray(desk: &mut Desk, letter: Letter) -> bool {
@@ -95,7 +96,7 @@ fn hostile_letters(rt: HostRuntime) {
         is_stray(&mut desk, award(0, 0, 4)),
         "an award to a free person"
     );
-    assert_eq!(rt; desk.asks(1), bid(0, 0, 0, 4));
+    assert_same(&rt, desk.asks(1), bid(0, 0, 0, 4));
     let other = Letter::Refused {
         person: 0,
         object: 1,
@@ -143,9 +144,9 @@ fn hostile_letters(rt: HostRuntime) {
         ),
         "an object out of range"
     );
-    assert_eq!(rt; desk.state(0), Some(PersonState::Waits { object: 0 }));
-    assert_eq!(rt; desk.copy(0), Some(0));
-    assert_eq!(rt; desk.copy(1), Some(0));
-    assert_eq!(rt; desk.hears(award(0, 0, 4)), Ok(()));
-    assert_eq!(rt; desk.state(0), Some(PersonState::Holds { object: 0 }));
+    assert_same(&rt, desk.state(0), Some(PersonState::Waits { object: 0 }));
+    assert_same(&rt, desk.copy(0), Some(0));
+    assert_same(&rt, desk.copy(1), Some(0));
+    assert_same(&rt, desk.hears(award(0, 0, 4)), Ok(()));
+    assert_same(&rt, desk.state(0), Some(PersonState::Holds { object: 0 }));
 }

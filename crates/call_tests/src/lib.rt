@@ -6,6 +6,8 @@ mod calls;
 #[cfg(test)]
 mod same;
 #[cfg(test)]
+mod searched;
+#[cfg(test)]
 mod spare;
 #[cfg(test)]
 mod tables;

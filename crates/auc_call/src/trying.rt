@@ -1,7 +1,7 @@
 //! Whether what was proposed for a table shows a least assignment of it. Nothing is known of a proposal, so all of it is looked at.
 
 ghost use Rattle.std.specs.Prelude.{◌≡◌, ◌≢◌, ◌<◌, ◌≤◌, ◌^◌, pos, neg_ℤ, ◌+ℤ◌, ◌≤ℤ◌, All, IsTrue, IfOk, IfSome, length};
-ghost use Rattle.auc_graph.specs.declared.limits.TheConstants.{MOST_PERSONS, MOST_OBJECTS};
+ghost use Rattle.auc_graph.specs.declared.limits.TheConstants.{MOST_PERSONS};
 ghost use Rattle.auc_call.specs.Table.{IsTable};
 ghost use Rattle.auc_call.specs.Tried.{AreBest, AreHeldApart, AreOthersFree, IsBestIn, IsNoneBelow, IsPlainPrice, ShowLeast};
 

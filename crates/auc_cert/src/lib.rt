@@ -34,13 +34,14 @@ pub use laws::{
     assignments_pass, brackets_pass, faultless_claims_are_allowed, hall_sets_pass,
     no_spelling_begins_another,
 };
+pub use limits::HIGHEST_START;
 pub use lists::{Pick, Picks, Prices};
 pub use output::{Part, WriteFault, write_parts, write_whole};
 pub use picks::cost_of;
 pub use reading::read_cert;
 pub use reason::Reason;
 pub use refused::CertRefused;
-pub use start::start_prices;
+pub use start::{high_price, start_prices};
 pub use start_error::StartError;
 pub use text_error::CertTextError;
 pub use writing::{write_cert, write_picks};

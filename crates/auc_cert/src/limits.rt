@@ -10,3 +10,6 @@ pub(crate) const MOST_NAMED: u32 = 10_000;
 
 /// The highest price of an object, 2^61, on the scale of costs times persons + 1.
 pub(crate) const HIGHEST_PRICE: i64 = 2_305_843_009_213_693_952;
+
+/// The highest price that a run may start from, 2^60, on the scale of costs times persons + 1: half of the highest one there is.
+pub const HIGHEST_START: i64 = 1_152_921_504_606_846_976;

@@ -7,16 +7,14 @@ ghost use Rattle.auc_cert.specs.Start.{AreStart, IsStartPrice, high_price, start
 ghost use Rattle.auc_cert.specs.declared.start_error.StartError.{StartError};
 
 use crate::cert::{Cert, CertParts};
+use crate::limits::HIGHEST_START;
 use crate::lists::Pick;
 use crate::start_error::StartError;
 use auc_graph::ArcList;
 use std::alloc::Global;
 
-/// The highest price that a run may start from, 2^60, on the scale of costs times persons + 1: half of the highest one there is.
-const HIGHEST_START: i64 = 1_152_921_504_606_846_976;
-
-/// The first object whose price is too high to start from.
-fn high_price(prices: &[i64]) -> Option<u32>
+/// The first object whose price is above [`HIGHEST_START`], too high to start from. O(objects) time.
+pub fn high_price(prices: &[i64]) -> Option<u32>
     requires few { length prices.now < 2 ^ 32 }
     requires fair { All IsPrice prices.now }
     ensures { result ≡ high_price prices.now }

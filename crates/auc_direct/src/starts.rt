@@ -13,13 +13,11 @@ use crate::market::{Market, NOBODY};
 use crate::rows::ShortRows;
 use crate::scan::{scan, value_of};
 use crate::slack::is_slack;
+use auc_cert::HIGHEST_START;
 use auc_graph::ArcList;
 
 /// How often all persons are passed over before the start prices are given up.
 const PASSES: u32 = 8;
-
-/// The highest price that a run may start from.
-const HIGHEST_START: i64 = 1_152_921_504_606_846_976;
 
 /// Whether a solve of a problem may start from these prices: one for each object, from 0 to 2^60. Takes one pass over them.
 pub fn may_start(problem: &ArcList, start: &[i64]) -> bool

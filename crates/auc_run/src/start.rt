@@ -1,8 +1,8 @@
 //! What a solve starts from: a problem is read, then an old certificate, and of this one the prices.
 
-ghost use Rattle.std.specs.Prelude.{◌≡◌, ◌≤◌, ◌<◌, ◌^◌, false, length, All, IfOk, IfSome, IsErr};
+ghost use Rattle.std.specs.Prelude.{◌≡◌, ◌≤◌, false, length, All, IfOk, IfSome, IsErr};
 ghost use Rattle.auc_cert.specs.declared.start_error.StartError.{StartError};
-ghost use Rattle.auc_cert.specs.Start.{AreStart, IsStartPrice, high_price};
+ghost use Rattle.auc_cert.specs.Start.{AreStart, IsStartPrice};
 ghost use Rattle.auc_graph.specs.Memory.{AnswersUnless};
 ghost use Rattle.auc_graph.specs.Price.{IsPrice};
 ghost use Rattle.auc_graph.specs.Reading.{reading};
@@ -12,33 +12,16 @@ ghost use Rattle.auc_run.specs.Starts.{IsStartIn, direct_start_of, each_price, s
 use crate::input::read_all;
 use crate::problem::problem_of;
 use crate::refusal::Refusal;
-use auc_cert::{Cert, CertParts, StartError, read_cert, start_prices};
+use auc_cert::{Cert, CertParts, StartError, high_price, read_cert, start_prices};
 use auc_graph::{ArcList, MOST_ARCS, MOST_READS};
 use std::alloc::Global;
 use std::io::Read;
-
-/// The highest price that a solve in one hand may start from, 2^60, on the scale of costs times persons + 1: that of the solver by messages.
-const HIGHEST_START: i64 = 1_152_921_504_606_846_976;
 
 /// A problem, and the prices from which it is to be solved: scaled costs, indexed by object.
 #[derive(Drop)]
 pub struct Started {
     pub problem: ArcList,
     pub prices: Vec<i64>,
-}
-
-/// The first object whose price is too high to start from.
-fn first_high(prices: &[i64]) -> Option<u32>
-    requires few { length prices.now < 2 ^ 32 }
-    requires fair { All IsPrice prices.now }
-    ensures { result ≡ high_price prices.now }
-{
-    for object in 0..prices.len() {
-        if prices[object] > HIGHEST_START {
-            return Some(object as u32);
-        }
-    }
-    None
 }
 
 /// These prices, where they are as many as objects.
@@ -51,7 +34,7 @@ fn each_price(alloc: Global, objects: u32, prices: &[i64]) -> Result<Vec<i64>, S
     if prices.len() != objects as usize {
         return Err(StartError::OtherSize);
     }
-    if let Some(object) = first_high(prices) {
+    if let Some(object) = high_price(prices) {
         return Err(StartError::TooHigh { object });
     }
     Ok(prices.to_vec(alloc)?)

@@ -27,7 +27,7 @@ use Rattle.auc_graph.specs.Assignment.{person_of, object_of, total_cost, IsAssig
 use Rattle.auc_graph.specs.Dual.{price_at, arc_value, scale_of, dual, is_lower, IsSlackRight, IsNoPriceLeft}
 use mathlib.Core.Bool.{beq}
 use Rattle.auc_cert.specs.Spelled.{IsSpelled}
-use Rattle.auc_cert.specs.Claim.{is_flag, arc_of, chosen, same_arc, is_missing, bears, is_slack_right, repeated, fault_if, is_sized, choice_faults, slack_fault, picked, is_left_over, left_over_fault, bound_fault, first_of, fault_of, IsAllowed, IsVerdict, is_hall}
+use Rattle.auc_cert.specs.Claim.{is_flag, arc_of, chosen, same_arc, is_missing, is_slack_beside, is_slack_right, repeated, fault_if, is_sized, choice_faults, slack_fault, picked, is_left_over, left_over_fault, bound_fault, first_of, fault_of, IsAllowed, IsVerdict, is_hall}
 use Rattle.auc_graph.proofs.PriceLaws.{not_negative}
 use Rattle.auc_graph.proofs.DualLaws.{dual_is_below, slack_right_is_least}
 use Rattle.auc_graph.proofs.LowerLaws.{lower_passed}
@@ -110,7 +110,7 @@ never_seen earlier (j ∷ js) h =
           ((both.0, rest.0), (fresh, both.1))
     ]
 
-not_worse : (s : ℕ) (prices : List ℤ) (c a : Arc) → bears s prices c a ≡ true → a.person ≡ c.person → arc_value s prices c ≤ℤ (arc_value s prices a +ℤ pos 1)
+not_worse : (s : ℕ) (prices : List ℤ) (c a : Arc) → is_slack_beside s prices c a ≡ true → a.person ≡ c.person → arc_value s prices c ≤ℤ (arc_value s prices a +ℤ pos 1)
 not_worse s prices c a h person =
     let same : eqb c.person a.person ≡ true = eq-eqb c.person a.person (sym person) in
     let le : int_le (arc_value s prices c) (arc_value s prices a +ℤ pos 1) ≡ true = rw same at h in
@@ -123,7 +123,7 @@ and_both false y h = absurd cc
 right_at : (s : ℕ) (prices : List ℤ) (arcs : List Arc) (c : Arc) → is_slack_right s prices arcs c ≡ true → IsSlackRight (pos 1) s prices arcs c
 right_at s prices [] c h = All-nil (λ (a : Arc). a.person ≡ c.person → arc_value s prices c ≤ℤ (arc_value s prices a +ℤ pos 1))
 right_at s prices (a ∷ arcs) c h =
-    let both = and_both (bears s prices c a) (list_all (bears s prices c) arcs) h in
+    let both = and_both (is_slack_beside s prices c a) (list_all (is_slack_beside s prices c) arcs) h in
     All-cons (λ (b : Arc). b.person ≡ c.person → arc_value s prices c ≤ℤ (arc_value s prices b +ℤ pos 1)) a arcs (not_worse s prices c a both.0) (right_at s prices arcs c both.1)
 
 not_false : (b : Bool) → not b ≡ false → b ≡ true

@@ -24,7 +24,7 @@ use Rattle.auc_graph.specs.Price.{IsPrice}
 use Rattle.auc_cert.specs.declared.version.Version.{Version}
 use Rattle.auc_cert.specs.Spelled.{most_in, version_of_sizes, choice_version, IsPick, IsSpelled}
 use Rattle.auc_cert.proofs.VersionLaws.{sized_first}
-use Rattle.auc_cert.specs.Claim.{arc_of, pick_of, chosen, same_arc, is_missing, bears, is_slack_right, repeated, is_sized, choice_faults, slack_fault, picked, is_left_over, left_over_fault, bound_fault, first_of, fault_of}
+use Rattle.auc_cert.specs.Claim.{arc_of, pick_of, chosen, same_arc, is_missing, is_slack_beside, is_slack_right, repeated, is_sized, choice_faults, slack_fault, picked, is_left_over, left_over_fault, bound_fault, first_of, fault_of}
 use Rattle.auc_cert.proofs.ClaimLaws.{no_place, objects_are, right_size, right_cost, behind_none}
 
 -- ---- the picks of arcs, and back
@@ -81,8 +81,8 @@ test_true : (b : Bool) → T b → b ≡ true
 test_true true t = refl
 test_true false t = absurd t
 
-bears_right : (s : ℕ) (prices : List ℤ) (c a : Arc) → (a.person ≡ c.person → arc_value s prices c ≤ℤ (arc_value s prices a +ℤ pos 1)) → bears s prices c a ≡ true
-bears_right s prices c a h =
+slack_beside_right : (s : ℕ) (prices : List ℤ) (c a : Arc) → (a.person ≡ c.person → arc_value s prices c ≤ℤ (arc_value s prices a +ℤ pos 1)) → is_slack_beside s prices c a ≡ true
+slack_beside_right s prices c a h =
     elim (cases_eq c.person a.person) [
       | inl e ↦ (let le = h (sym e) in let t : int_le (arc_value s prices c) (arc_value s prices a +ℤ pos 1) ≡ true = test_true _ le.le in let same : eqb c.person a.person ≡ true = eq-eqb c.person a.person e in rw (same, t) refl)
       | inr ne ↦ (let other : eqb c.person a.person ≡ false = ne_eqb c.person a.person ne in rw other refl)
@@ -91,7 +91,7 @@ bears_right s prices c a h =
 slack_passes : (s : ℕ) (prices : List ℤ) (arcs : List Arc) (c : Arc) → IsSlackRight (pos 1) s prices arcs c → is_slack_right s prices arcs c ≡ true
 slack_passes s prices [] c h = refl
 slack_passes s prices (a ∷ arcs) c h =
-    let here = bears_right s prices c a (All-head (λ (b : Arc). b.person ≡ c.person → arc_value s prices c ≤ℤ (arc_value s prices b +ℤ pos 1)) a arcs h) in
+    let here = slack_beside_right s prices c a (All-head (λ (b : Arc). b.person ≡ c.person → arc_value s prices c ≤ℤ (arc_value s prices b +ℤ pos 1)) a arcs h) in
     rw here (slack_passes s prices arcs c (All-tail (λ (b : Arc). b.person ≡ c.person → arc_value s prices c ≤ℤ (arc_value s prices b +ℤ pos 1)) a arcs h))
 
 none_worse : (s : ℕ) (prices : List ℤ) (arcs choice : List Arc) (d : Arc) → All (IsSlackRight (pos 1) s prices arcs) choice → position (λ c. not (is_slack_right s prices arcs c)) choice ≡ None

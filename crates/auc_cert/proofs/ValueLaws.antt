@@ -15,7 +15,7 @@ use Rattle.std.proofs.lemmas.List.Elements.{All-get_or}
 use Rattle.auc_graph.specs.declared.limits.TheConstants.{MOST_PERSONS, MOST_COST}
 use Rattle.auc_graph.specs.Price.{IsPrice}
 use Rattle.auc_graph.specs.Dual.{arc_value, price_at}
-use Rattle.auc_cert.specs.Claim.{bears}
+use Rattle.auc_cert.specs.Claim.{is_slack_beside}
 
 pub wide : (z : ℤ) → FitsSigned w64 z → FitsSigned w128 z
 wide z f = omega (arith, ints, f)
@@ -71,8 +71,8 @@ fair_at prices j fair =
     (λ (le : length prices ≤ j). subst (λ (z : ℤ). IsPrice z) (sym (get_or_past prices j (pos 0) le)) (record { low = omega (arith, ints); high = omega (arith, ints) }))
     (cases_lt j (length prices))
 
-pub bears_is : (s : ℕ) (prices : List ℤ) (c a : Arc) (x y : ℤ) → c.person ≡ a.person → x ≡ arc_value s prices c → y ≡ arc_value s prices a → int_le x (y +ℤ pos 1) ≡ bears s prices c a
-bears_is s prices c a x y person mine theirs =
+pub slack_beside_is : (s : ℕ) (prices : List ℤ) (c a : Arc) (x y : ℤ) → c.person ≡ a.person → x ≡ arc_value s prices c → y ≡ arc_value s prices a → int_le x (y +ℤ pos 1) ≡ is_slack_beside s prices c a
+slack_beside_is s prices c a x y person mine theirs =
     let same : eqb c.person a.person ≡ true = eq-eqb c.person a.person person in
     rw (same, mine, theirs) refl
 

@@ -35,11 +35,11 @@ abbrev pub is_missing : List Arc → Arc → Bool
 is_missing arcs c = list_all (λ a. not (same_arc c a)) arcs
 
 -- the arc is of another person, or c is worse by 1 at most
-abbrev pub bears : ℕ → List ℤ → Arc → Arc → Bool
-bears s prices c a = not (c.person == a.person) || int_le (arc_value s prices c) (arc_value s prices a +ℤ pos 1)
+abbrev pub is_slack_beside : ℕ → List ℤ → Arc → Arc → Bool
+is_slack_beside s prices c a = not (c.person == a.person) || int_le (arc_value s prices c) (arc_value s prices a +ℤ pos 1)
 
 abbrev pub is_slack_right : ℕ → List ℤ → List Arc → Arc → Bool
-is_slack_right s prices arcs c = list_all (bears s prices c) arcs
+is_slack_right s prices arcs c = list_all (is_slack_beside s prices c) arcs
 
 -- the first object that stands among earlier ones, where `earlier` stands before all
 abbrev pub repeated : List ℕ → List ℕ → Option ℕ

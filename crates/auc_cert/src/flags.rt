@@ -7,7 +7,7 @@ ghost use Rattle.auc_graph.specs.declared.limits.TheConstants.{MOST_PERSONS, MOS
 ghost use Rattle.auc_graph.specs.Price.{IsPrice};
 ghost use Rattle.auc_graph.specs.Dual.{price_at, arc_value};
 ghost use Rattle.auc_cert.specs.Spelled.{IsChoice};
-ghost use Rattle.auc_cert.specs.Claim.{arc_of, pick_value, chosen, same_arc, is_missing, bears, is_slack_right, AreFlags, is_flag};
+ghost use Rattle.auc_cert.specs.Claim.{arc_of, pick_value, chosen, same_arc, is_missing, is_slack_beside, is_slack_right, AreFlags, is_flag};
 
 use crate::lists::Pick;
 use auc_graph::Arc;
@@ -76,10 +76,10 @@ fn value_of(scale: u32, cost: i64, price: i64) -> i128
 }
 
 /// Whether an arc leaves a pick slack-right: it is another person's, or not better by more than 1.
-fn is_bearing(scale: u32, prices: &[i64], person: u32, pick: Pick, arc: Arc) -> bool
+fn is_slack_beside_arc(scale: u32, prices: &[i64], person: u32, pick: Pick, arc: Arc) -> bool
     requires pick { pick.object < length prices.now }
     requires arc { arc.object < length prices.now }
-    ensures { result ≡ bears scale prices.now (arc_of person pick) arc }
+    ensures { result ≡ is_slack_beside scale prices.now (arc_of person pick) arc }
 {
     person != arc.person
         || value_of(scale, pick.cost, prices[pick.object as usize])
@@ -101,7 +101,7 @@ fn slack_flags(
     let mut flags = vec![in alloc; true; choice.len()]?;
     for arc in arcs {
         let person = arc.person as usize;
-        let is_fine = is_bearing(scale, prices, arc.person, choice[person], *arc);
+        let is_fine = is_slack_beside_arc(scale, prices, arc.person, choice[person], *arc);
         flags[person] = both(flags[person], is_fine);
     }
     Ok(flags)

@@ -2,10 +2,10 @@ use Rattle.std.proofs.Common.{pos, w64, arith, rules, ◌≡◌, sym, subst}
 use Rattle.std.specs.Prelude.{ℤ, ◌+ℤ◌, FitsSigned}
 use Rattle.std.specs.Int.{w128}
 use Rattle.std.proofs.lemmas.Int.{to_z-of_z}
-use Rattle.auc_cert.proofs.ValueLaws.{value_more_fits, bears_is}
+use Rattle.auc_cert.proofs.ValueLaws.{value_more_fits, slack_beside_is}
 use Rattle.auc_graph.specs.Dual.{price_at, arc_value}
 use Rattle.auc_cert.specs.Claim.{arc_of}
-use Rattle.auc_cert.proofs.flags.is_bearing.Goals as goal
+use Rattle.auc_cert.proofs.flags.is_slack_beside_arc.Goals as goal
 
 theirs_is : (c : goal.After-value_of-else-person-arc) → c.value_of-else-person-arc.result ≡ arc_value c.args.scale c.args.prices.now c.args.arc
 theirs_is c =
@@ -30,4 +30,4 @@ returns-else-person-arc c =
     let g : FitsSigned w128 c.value_of-else-person-arc.result = search rules in
     let h : FitsSigned w128 c.value_of.result = search rules in
     let k : FitsSigned w128 (c.value_of-else-person-arc.result +ℤ pos 1) = more_fits c in
-    simp to_z-of_z (bears_is c.args.scale c.args.prices.now (arc_of c.args.person c.args.pick) c.args.arc c.value_of.result c.value_of-else-person-arc.result c.if-person-arc.false (mine_is c) (theirs_is c))
+    simp to_z-of_z (slack_beside_is c.args.scale c.args.prices.now (arc_of c.args.person c.args.pick) c.args.arc c.value_of.result c.value_of-else-person-arc.result c.if-person-arc.false (mine_is c) (theirs_is c))

@@ -3,15 +3,15 @@
 ghost use Rattle.std.specs.Prelude.{map, ◌≡◌, ◌<◌, ◌≤◌, ◌^◌, ◌*◌, pos, ◌+ℤ◌, ◌≤ℤ◌, ◌<ℤ◌, length, replicate, ◌∷◌, [], ◌↔◌, All, IfOk, IfSome, IfNone, IsTrue, Some, None};
 ghost use Rattle.auc_letters.specs.Price.{IsPrice, IsEps};
 ghost use Rattle.auc_letters.specs.Routing.{to_person, to_hub, price_told};
-ghost use Rattle.auc_letters.specs.Award.{Sale, answers, offer_of};
-ghost use Rattle.auc_objects.specs.Objects.{AreObjects, Objects, IsOffer, Owns, SameShape, after_bid, holder_of, price_of, sale_of, with_sale};
+ghost use Rattle.auc_letters.specs.Award.{Sale, answers, bid_of};
+ghost use Rattle.auc_objects.specs.Objects.{AreObjects, Objects, IsBidIn, Owns, SameShape, after_bid, holder_of, price_of, sale_of, with_sale};
 ghost use Rattle.auc_objects.specs.Answers.{letters_of};
 ghost use Rattle.auc_objects.specs.Lots.{holder_in, price_in};
 
 use crate::answers::Answers;
 use crate::lot::Lot;
 use arrayvec::ArrayVec;
-use auc_letters::{Held, Letter, MOST_PRICE, Offer, Out, To, shard_of};
+use auc_letters::{Bid, Held, Letter, MOST_PRICE, Out, To, shard_of};
 use std::alloc::{AllocError, Global};
 use std::marker::Model;
 
@@ -127,9 +127,9 @@ impl ObjectShard {
     /// The bid that a letter is, if it is one that fits the shard: its object is there and is the shard's, and its amount is
     /// from 0 to the greatest price. O(1).
     #[inline]
-    pub fn offer_in(&self, letter: Letter) -> Option<Offer>
-        ensures some { IfSome result (IsOffer self.now letter) }
-        ensures none { IfNone result ((bid : Offer) → IsOffer self.now letter bid → ⊥) }
+    pub fn bid_in(&self, letter: Letter) -> Option<Bid>
+        ensures some { IfSome result (IsBidIn self.now letter) }
+        ensures none { IfNone result ((bid : Bid) → IsBidIn self.now letter bid → ⊥) }
         ensures sound { AreObjects self.now }
     {
         // Read here, so that the proof knows what every shard keeps.
@@ -146,7 +146,7 @@ impl ObjectShard {
         if !self.owns(object) || amount < 0 || amount > MOST_PRICE {
             return None;
         }
-        Some(Offer {
+        Some(Bid {
             person,
             arc,
             object,
@@ -159,20 +159,20 @@ impl ObjectShard {
     /// The bid is accepted exactly where its amount is at least the price and `eps` more. Then the amount is the price, and
     /// the person holds the object by his arc. A bid that is refused changes nothing. `eps` is in scaled costs.
     #[inline]
-    pub fn answer(&mut self, offer: Offer, eps: i64) -> Answers
-        requires object { Owns self.old offer.object }
-        requires amount { IsPrice offer.amount }
+    pub fn answer(&mut self, bid: Bid, eps: i64) -> Answers
+        requires object { Owns self.old bid.object }
+        requires amount { IsPrice bid.amount }
         requires eps { IsEps eps }
-        ensures award { self.new ≡ after_bid self.old eps offer }
-        ensures letters { letters_of result ≡ answers self.old.person_shards eps (sale_of self.old offer.object) offer }
+        ensures award { self.new ≡ after_bid self.old eps bid }
+        ensures letters { letters_of result ≡ answers self.old.person_shards eps (sale_of self.old bid.object) bid }
         ensures shape { SameShape self.old self.new }
     {
-        let Offer {
+        let Bid {
             person,
             arc,
             object,
             amount,
-        } = offer;
+        } = bid;
         let price = self.price(object);
         if amount < price + eps {
             let refused = Letter::Refused {
@@ -225,17 +225,17 @@ impl ObjectShard {
         requires object { Owns self.old object }
         requires amount { IsPrice amount }
         requires eps { IsEps eps }
-        ensures award { self.new ≡ after_bid self.old eps (offer_of person arc object amount) }
-        ensures letters { result.items ≡ answers self.old.person_shards eps (sale_of self.old object) (offer_of person arc object amount) }
+        ensures award { self.new ≡ after_bid self.old eps (bid_of person arc object amount) }
+        ensures letters { result.items ≡ answers self.old.person_shards eps (sale_of self.old object) (bid_of person arc object amount) }
         ensures shape { SameShape self.old self.new }
     {
-        let offer = Offer {
+        let bid = Bid {
             person,
             arc,
             object,
             amount,
         };
-        self.answer(offer, eps).into_list()
+        self.answer(bid, eps).into_list()
     }
 
     /// Whether there is such an object, and it is the shard's.

@@ -11,6 +11,7 @@
 #![tactic(auto)]
 
 mod amount;
+mod bid;
 mod bidder;
 mod bidding;
 mod blocks;
@@ -30,7 +31,7 @@ mod sorted;
 mod sorted_row;
 mod sorting;
 
-pub use auc_letters::PersonState;
+pub use auc_letters::{Bid, PersonState};
 pub use bidder::{Bidder, lists_stay_right};
 pub use bidding::{Bidding, PersonFault};
 pub use shard::PersonShard;

@@ -6,7 +6,7 @@
 
 mod answers;
 mod law;
-mod lot;
+mod packed_sale;
 mod shard;
 
 pub use answers::Answers;

@@ -6,10 +6,10 @@ ghost use Rattle.auc_letters.specs.Routing.{to_person, to_hub, price_told};
 ghost use Rattle.auc_letters.specs.Award.{Sale, answers, bid_of};
 ghost use Rattle.auc_objects.specs.Objects.{AreObjects, Objects, IsBidIn, Owns, SameShape, after_bid, holder_of, price_of, sale_of, with_sale};
 ghost use Rattle.auc_objects.specs.Answers.{letters_of};
-ghost use Rattle.auc_objects.specs.Lots.{holder_in, price_in};
+ghost use Rattle.auc_objects.specs.PackedSales.{holder_in, price_in};
 
 use crate::answers::Answers;
-use crate::lot::Lot;
+use crate::packed_sale::PackedSale;
 use arrayvec::ArrayVec;
 use auc_letters::{Bid, Held, Letter, MOST_PRICE, Out, To, shard_of};
 use std::alloc::{AllocError, Global};
@@ -25,32 +25,32 @@ pub struct ObjectShard {
     of: u32,
     person_shards: u32,
     persons: u32,
-    lots: Vec<Lot>,
+    sales: Vec<PackedSale>,
 }
 
 impl Model for ObjectShard {
     ghost use Rattle.std.specs.Prelude.{map};
-    ghost use Rattle.auc_objects.specs.Lots.{holder_in, price_in};
+    ghost use Rattle.auc_objects.specs.PackedSales.{holder_in, price_in};
     ghost use Rattle.auc_objects.specs.Objects.{Objects, AreObjects};
 
     ghost Value = { Objects };
 
-    ghost view = { λ s. record { shard = s.shard; of = s.of; person_shards = s.person_shards; persons = s.persons; prices = map price_in s.lots.items; holders = map holder_in s.lots.items } };
+    ghost view = { λ s. record { shard = s.shard; of = s.of; person_shards = s.person_shards; persons = s.persons; prices = map price_in s.sales.items; holders = map holder_in s.sales.items } };
 
-    ghost invariant = { λ s. AreObjects (record { shard = s.shard; of = s.of; person_shards = s.person_shards; persons = s.persons; prices = map price_in s.lots.items; holders = map holder_in s.lots.items }) };
+    ghost invariant = { λ s. AreObjects (record { shard = s.shard; of = s.of; person_shards = s.person_shards; persons = s.persons; prices = map price_in s.sales.items; holders = map holder_in s.sales.items }) };
 }
 
 /// Objects at these prices, which nobody has.
-fn unsold_at(alloc: Global, prices: &[i64]) -> Result<Vec<Lot>, AllocError>
+fn unsold_at(alloc: Global, prices: &[i64]) -> Result<Vec<PackedSale>, AllocError>
     requires { All IsPrice prices.now }
     ensures prices { IfOk result (λ l. map price_in l.items ≡ prices.now) }
     ensures holders { IfOk result (λ l. map holder_in l.items ≡ replicate (length prices.now) None) }
 {
-    let mut lots = Vec::with_capacity(alloc, prices.len())?;
+    let mut sales = Vec::with_capacity(alloc, prices.len())?;
     for price in prices {
-        lots.push(Lot::unsold(*price))?;
+        sales.push(PackedSale::unsold(*price))?;
     }
-    Ok(lots)
+    Ok(sales)
 }
 
 impl ObjectShard {
@@ -77,13 +77,13 @@ impl ObjectShard {
         requires prices { All IsPrice prices.now }
         ensures { IfOk result (λ s. s ≡ record { shard = shard; of = of; person_shards = person_shards; persons = persons; prices = prices.now; holders = replicate (length prices.now) None }) }
     {
-        let lots = unsold_at(alloc, prices)?;
+        let sales = unsold_at(alloc, prices)?;
         Ok(ObjectShard {
             shard,
             of,
             person_shards,
             persons,
-            lots,
+            sales,
         })
     }
 
@@ -94,7 +94,7 @@ impl ObjectShard {
         ensures present { result ≡ price_of self.now object }
         ensures range { IsPrice result }
     {
-        self.lots[object as usize].price()
+        self.sales[object as usize].price()
     }
 
     /// The holder of an object of the shard, if it has one. O(1).
@@ -103,7 +103,7 @@ impl ObjectShard {
         requires { Owns self.now object }
         ensures { result ≡ holder_of self.now object }
     {
-        self.lots[object as usize].holder()
+        self.sales[object as usize].holder()
     }
 
     /// The present price of an object of the shard, as a letter to a shard of the persons. O(1).
@@ -133,7 +133,7 @@ impl ObjectShard {
         ensures sound { AreObjects self.now }
     {
         // Read here, so that the proof knows what every shard keeps.
-        let _ = &self.lots;
+        let _ = &self.sales;
         let Letter::Bid {
             person,
             arc,
@@ -243,7 +243,7 @@ impl ObjectShard {
     fn owns(&self, object: u32) -> bool
         ensures { IsTrue result ↔ Owns self.now object }
     {
-        (object as usize) < self.lots.len() && shard_of(object, self.of) == self.shard
+        (object as usize) < self.sales.len() && shard_of(object, self.of) == self.shard
     }
 
     /// Sets the price and the holder of an object.
@@ -253,7 +253,7 @@ impl ObjectShard {
         requires price { IsPrice price }
         ensures { self.new ≡ with_sale self.old object (record { price = price; holder = Some held }) }
     {
-        self.lots[object as usize] = Lot::sold(price, held);
+        self.sales[object as usize] = PackedSale::sold(price, held);
     }
 
     /// A letter to the shard of a person.

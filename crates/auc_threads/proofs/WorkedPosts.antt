@@ -42,6 +42,6 @@ sent o answer = record { out = o; answer = answer }
 dropped : Posts (price_told 2 1 0 (pos 5) ∷ []) (sent (price_told 2 1 0 (pos 5)) (Err refused.Full) ∷ []) Step.On
 dropped = (refl, inl (refl, refl))
 
--- an award to a closed box ends it, and nothing is posted behind
+-- an award to a closed box ends it, and nothing is posted after it
 ended : Posts (to_person 2 1 (Letter.Award 1 0 (pos 3)) ∷ to_hub (Letter.First 0) ∷ []) (sent (to_person 2 1 (Letter.Award 1 0 (pos 3))) (Err refused.Closed) ∷ []) Step.Over
 ended = (refl, inr ((λ e. cc), refl, refl))

@@ -42,7 +42,7 @@ pub record Fits (s : Objects) (bid : Bid) : Type 0 where
   pub owns : Owns s bid.object
   pub amount : IsPrice bid.amount
 
--- How a worker goes on behind letters of which the last ones don't fit: where there is none it goes on, or none will come any more, or no call could be
+-- How a worker goes on after letters of which the last ones don't fit: where there is none it goes on, or none will come any more, or no call could be
 -- noted; and it stops at the first one.
 abbrev pub AfterLetters : Objects → List Letter → Step → Type 0
 AfterLetters t stray Step.On = stray ≡ []

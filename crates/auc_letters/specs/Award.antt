@@ -6,7 +6,7 @@ use Rattle.auc_letters.specs.declared.letter.Bid.{Bid}
 use Rattle.auc_letters.specs.declared.out.Out.{Out}
 use Rattle.auc_letters.specs.declared.state.Held.{Held}
 use Rattle.auc_letters.specs.Price.{is_amount}
-use Rattle.auc_letters.specs.Routing.{to_person, to_hub}
+use Rattle.auc_letters.specs.Routing.{to_person, to_object, to_hub}
 
 -- what the shard of an object knows of it: its price, and who holds it
 pub record Sale : Type 0 where
@@ -53,6 +53,10 @@ bid_of person arc object amount = record { person = person; arc = arc; object = 
 -- a bid as a letter
 abbrev pub bid_letter : Bid → Letter
 bid_letter bid = Letter.Bid bid.person bid.arc bid.object bid.amount
+
+-- a bid as a letter to the shard of its object, of so many
+abbrev pub bid_out : ℕ → Bid → Out
+bid_out shards bid = to_object shards bid.object (bid_letter bid)
 
 -- the bid on this object that a letter is, if it is one and its amount is in range
 abbrev pub bid_on : ℕ → Letter → Option Bid

@@ -14,7 +14,7 @@ use crate::bidder::Bidder;
 use crate::method::{Method, SHORT};
 use crate::priced_row::PricedRow;
 use crate::rising::scan_short;
-use crate::scan::{Scan, retold};
+use crate::scan::Scan;
 use crate::search::scan_from;
 use auc_graph::Rows;
 use auc_letters::Bid;
@@ -86,18 +86,29 @@ impl Bidder {
         }
     }
 
-    /// The best arc of a person: by his list or his blocks where these tell it, and else by a pass over his row; nothing where he has none.
-    // Apart, so that the bids of most persons stand where they are called, with what is found in registers.
+    /// The best arc of a person: by his list or his blocks where these tell it, and else by a pass over his row; nothing where he has none. His
+    /// list is the one of number `number / of`.
+    // Apart: docs/CODEGEN.md, "A search in line". So a list is divided for only where one is looked for, too.
     #[inline(never)]
-    fn best_apart(&mut self, rows: &Rows, person: u32, place: u32, copies: &[i64]) -> Option<Scan>
+    fn best_apart(
+        &mut self,
+        rows: &Rows,
+        person: u32,
+        number: u32,
+        of: u32,
+        copies: &[i64],
+    ) -> Option<Scan>
         requires person { person < length rows.now.rows }
         requires objects { rows.now.objects ≡ length copies.now }
         requires copies { All IsPrice copies.now }
+        requires of { 0 < of }
         requires kept { Kept rows.now copies.now self.old }
         ensures some { IfSome result (IsScan (value (pos (length rows.now.rows + 1)) (copy_in copies.now)) (row_of rows.now person)) }
         ensures none { IfNone result (row_of rows.now person ≡ []) }
         ensures kept { Kept rows.now copies.now self.new }
     {
+        // docs/CODEGEN.md, "No division with one shard".
+        let place = if of == 1 { number } else { number / of };
         let found = self.best_known(rows, person, place, copies);
         if found.is_some() {
             return found;
@@ -106,27 +117,42 @@ impl Bidder {
     }
 
     /// The same, for a search that is made in line.
-    // The memory that a call answers in is set to zero where the function that makes the call begins: so this call has a function by itself, or
-    // each bid would pay for it.
+    // A function by itself: docs/CODEGEN.md, "The memory of a seldom answer".
     #[inline(always)]
-    fn best_seldom(&mut self, rows: &Rows, person: u32, place: u32, copies: &[i64]) -> Option<Scan>
+    fn best_seldom(
+        &mut self,
+        rows: &Rows,
+        person: u32,
+        number: u32,
+        of: u32,
+        copies: &[i64],
+    ) -> Option<Scan>
         requires person { person < length rows.now.rows }
         requires objects { rows.now.objects ≡ length copies.now }
         requires copies { All IsPrice copies.now }
+        requires of { 0 < of }
         requires kept { Kept rows.now copies.now self.old }
         ensures some { IfSome result (IsScan (value (pos (length rows.now.rows + 1)) (copy_in copies.now)) (row_of rows.now person)) }
         ensures none { IfNone result (row_of rows.now person ≡ []) }
         ensures kept { Kept rows.now copies.now self.new }
     {
-        retold(self.best_apart(rows, person, place, copies))
+        self.best_apart(rows, person, number, of, copies)
     }
 
     /// The best arc of a person, by the way for his row; nothing where he has none.
     #[inline(always)]
-    fn best(&mut self, rows: &Rows, person: u32, place: u32, copies: &[i64]) -> Option<Scan>
+    fn best(
+        &mut self,
+        rows: &Rows,
+        person: u32,
+        number: u32,
+        of: u32,
+        copies: &[i64],
+    ) -> Option<Scan>
         requires person { person < length rows.now.rows }
         requires objects { rows.now.objects ≡ length copies.now }
         requires copies { All IsPrice copies.now }
+        requires of { 0 < of }
         requires kept { Kept rows.now copies.now self.old }
         ensures some { IfSome result (IsScan (value (pos (length rows.now.rows + 1)) (copy_in copies.now)) (row_of rows.now person)) }
         ensures none { IfNone result (row_of rows.now person ≡ []) }
@@ -138,7 +164,33 @@ impl Bidder {
                 return found;
             }
         }
-        self.best_seldom(rows, person, place, copies)
+        self.best_seldom(rows, person, number, of, copies)
+    }
+
+    /// What a person bids at these copies of the prices; None where he has no arc. His list is the one of number `number / of`: it is divided where a
+    /// list is looked for alone.
+    #[inline(always)]
+    pub(crate) fn bid_by(
+        &mut self,
+        rows: &Rows,
+        eps: i64,
+        person: u32,
+        number: u32,
+        of: u32,
+        copies: &[i64],
+    ) -> Option<Bid>
+        requires person { person < length rows.now.rows }
+        requires objects { rows.now.objects ≡ length copies.now }
+        requires copies { All IsPrice copies.now }
+        requires eps { IsEps eps }
+        requires of { 0 < of }
+        requires kept { Kept rows.now copies.now self.old }
+        ensures some { IfSome result (IsBidOf rows.now eps copies.now person) }
+        ensures none { IfNone result (row_of rows.now person ≡ []) }
+        ensures kept { Kept rows.now copies.now self.new }
+    {
+        let found = self.best(rows, person, number, of, copies)?;
+        Some(bid_on(rows, eps, person, copies, found))
     }
 
     /// What a person bids at these copies of the prices; None where he has no arc. The amount may be above the greatest price.
@@ -168,7 +220,6 @@ impl Bidder {
         ensures none { IfNone result (row_of rows.now person ≡ []) }
         ensures kept { Kept rows.now copies.now self.new }
     {
-        let found = self.best(rows, person, place, copies)?;
-        Some(bid_on(rows, eps, person, copies, found))
+        self.bid_by(rows, eps, person, place, 1, copies)
     }
 }

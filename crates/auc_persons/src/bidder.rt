@@ -5,7 +5,7 @@ ghost use Rattle.auc_graph.specs.Bid.{value};
 ghost use Rattle.auc_graph.specs.Table.{Table, row_of};
 ghost use Rattle.auc_persons.specs.Candidates.{Kept, Listed};
 ghost use Rattle.auc_persons.specs.declared.method.Method.{Method};
-ghost use Rattle.auc_persons.specs.Persons.{Rising};
+ghost use Rattle.auc_persons.specs.Persons.{NeverFall};
 ghost use Rattle.auc_persons.specs.Scan.{copy_in, IsScan};
 ghost use Rattle.auc_letters.specs.Price.{IsPrice};
 
@@ -196,5 +196,5 @@ impl Bidder {
 /// Lists of candidates stay right while no copy falls: those of a shard through each of its calls, and from the copies of one
 /// phase to the prices that it leaves, with which the next one begins. Does nothing: its contract is the law.
 pub fn lists_stay_right()
-    ensures { (t : Table) (copies later : List ℤ) (lists : List Listed) → Rising copies later → Kept t copies lists → Kept t later lists }
+    ensures { (t : Table) (copies later : List ℤ) (lists : List Listed) → NeverFall copies later → Kept t copies lists → Kept t later lists }
 {}

@@ -18,7 +18,7 @@ mod blocks;
 mod bound;
 mod bounded;
 mod least;
-mod listing;
+mod lists_by_blocks;
 mod method;
 mod priced_row;
 mod rising;

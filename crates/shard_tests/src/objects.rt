@@ -2,7 +2,7 @@
 
 use crate::same::assert_same;
 use crate::stall::Stall;
-use auc_letters::{Held, Letter, Bid, Out, To, equal_letters_are_same, shard_of};
+use auc_letters::{Bid, Held, Letter, Out, To, equal_letters_are_same, shard_of};
 use std::test::*;
 
 fn to_person(letter: Letter) -> Out {

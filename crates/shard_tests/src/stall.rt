@@ -5,7 +5,7 @@ ghost use Rattle.auc_letters.specs.Price.{IsPrice};
 ghost use Rattle.auc_objects.specs.Objects.{IsBidIn};
 
 use arrayvec::ArrayVec;
-use auc_letters::{Held, Letter, Bid, Out};
+use auc_letters::{Bid, Held, Letter, Out};
 use auc_objects::ObjectShard;
 use std::test::*;
 

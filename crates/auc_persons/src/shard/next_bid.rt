@@ -3,18 +3,16 @@
 ghost use Rattle.std.specs.Prelude.{◌≡◌, ◌≢◌, ◌<◌, [], length, IfSome, IfNone};
 ghost use Rattle.auc_graph.specs.Table.{row_of};
 ghost use Rattle.auc_letters.specs.Price.{IsEps};
-ghost use Rattle.auc_letters.specs.Award.{bid_letter};
-ghost use Rattle.auc_letters.specs.Routing.{to_object};
 ghost use Rattle.auc_persons.specs.Bid.{IsBidOf};
 ghost use Rattle.auc_persons.specs.Candidates.{Kept};
-ghost use Rattle.auc_persons.specs.Persons.{IsMadeFor, NextBid, Rising, SameShape, first_idle};
+ghost use Rattle.auc_persons.specs.Persons.{IsMadeFor, NextBid, NeverFall, SameShape, first_idle};
 
 use crate::bid::plain_bid;
 use crate::bidder::Bidder;
 use crate::bidding::Bidding;
 use crate::shard::PersonShard;
 use auc_graph::Rows;
-use auc_letters::{Bid, Letter, MOST_PRICE, Out, To, Why, shard_of};
+use auc_letters::{Bid, MOST_PRICE, Why};
 
 impl PersonShard {
     /// What comes of the bid of the person who has been free longest, where he has one.
@@ -30,7 +28,7 @@ impl PersonShard {
         requires stuck { IfNone found (row_of rows.now (first_idle self.old) ≡ []) }
         ensures exact { NextBid rows.now eps self.old result self.new }
         ensures copies { self.new.copies ≡ self.old.copies }
-        ensures rise { Rising self.old.copies self.new.copies }
+        ensures rise { NeverFall self.old.copies self.new.copies }
         ensures shape { SameShape self.old self.new }
     {
         let Some(bid) = found else {
@@ -39,19 +37,9 @@ impl PersonShard {
         if bid.amount > MOST_PRICE {
             return Bidding::Stop { why: Why::Ceiling };
         }
-        let out = self.bid_letter(bid);
+        let out = bid.into_out(self.object_shards);
         self.wait_for(bid.object);
         Bidding::Out { out }
-    }
-
-    /// The number of a person of the shard among its persons.
-    #[inline]
-    fn place_of(&self, person: u32) -> u32 {
-        // With one shard, which is the usual case of the serial solver, no division.
-        if self.of == 1 {
-            return person;
-        }
-        person / self.of
     }
 
     /// The bid of the person who has been free longest; he waits from now on. Idle where nobody is free.
@@ -66,7 +54,7 @@ impl PersonShard {
         requires rows { IsMadeFor rows.now self.old }
         requires eps { IsEps eps }
         ensures exact { NextBid rows.now eps self.old result self.new }
-        ensures rise { Rising self.old.copies self.new.copies }
+        ensures rise { NeverFall self.old.copies self.new.copies }
         ensures shape { SameShape self.old self.new }
     {
         let Some(person) = self.first() else {
@@ -92,7 +80,7 @@ impl PersonShard {
         requires eps { IsEps eps }
         requires kept { Kept rows.now self.old.copies bidder.old }
         ensures exact { NextBid rows.now eps self.old result self.new }
-        ensures rise { Rising self.old.copies self.new.copies }
+        ensures rise { NeverFall self.old.copies self.new.copies }
         ensures shape { SameShape self.old self.new }
         ensures kept { Kept rows.now self.new.copies bidder.new }
     {
@@ -102,8 +90,8 @@ impl PersonShard {
         if self.bids == 0 {
             return Bidding::Stop { why: Why::Bids };
         }
-        let place = self.place_of(person);
-        let found = bidder.bid(rows, eps, person, place, self.copies.as_slice());
+        let copies = self.copies.as_slice();
+        let found = bidder.bid_by(rows, eps, person, person, self.of, copies);
         self.bid_with(rows, eps, found)
     }
 
@@ -115,30 +103,5 @@ impl PersonShard {
     {
         let person = self.idle.front()?;
         Some(*person)
-    }
-
-    /// A bid as a letter to the shard of the object.
-    #[inline]
-    fn bid_letter(&self, bid: Bid) -> Out
-        ensures { result ≡ to_object self.now.object_shards bid.object (bid_letter bid) }
-    {
-        let Bid {
-            person,
-            arc,
-            object,
-            amount,
-        } = bid;
-        Out {
-            letter: Letter::Bid {
-                person,
-                arc,
-                object,
-                amount,
-            },
-            to: To::Object {
-                shard: shard_of(object, self.object_shards),
-            },
-            reserve: 0,
-        }
     }
 }

@@ -1,7 +1,7 @@
 use Rattle.std.proofs.Common.{w64}
 use Rattle.std.specs.Prelude.{FitsSigned}
 use Rattle.std.proofs.lemmas.Int.{to_z-of_z}
-use Rattle.auc_persons.proofs.bidder.Bidder.bid.Goals as goal
+use Rattle.auc_persons.proofs.bidder.Bidder.bid_by.Goals as goal
 
 pub returns-clause-some : goal.returns-clause-some
 returns-clause-some c =

@@ -23,9 +23,9 @@ use std::marker::Model;
 /// How many arcs a list is to hold.
 const WANTED: i64 = 7;
 
-/// What a shard's bids are found by ([`crate::PersonShard::next_bid_by`]): lists of candidates, one for each person, by which most bids of rows
-/// of more than 40 arcs look at a few arcs alone, and bounds of blocks for rows of more than 256; and of shorter rows that they rise, or copies that
-/// do. All are of the rows that they were made for, and stay right as long as no copy of a price falls.
+/// What the bids of a shard's persons are found by ([`Bidder::bid`], [`crate::PersonShard::next_bid_by`]): lists of candidates, one for each person, by
+/// which most bids of rows of more than 40 arcs look at a few arcs alone, and bounds of blocks for rows of more than 256; and of shorter rows that they
+/// rise, or copies that do. All are of the rows that they were made for, and stay right as long as no copy of a price falls.
 #[derive(Drop)]
 pub struct Bidder {
     lists: Vec<Shortlist>,

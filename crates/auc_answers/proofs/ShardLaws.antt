@@ -5,7 +5,7 @@ use Rattle.auc_graph.specs.Table.{Table}
 use Rattle.auc_letters.specs.declared.letter.Letter.{Letter}
 use Rattle.auc_letters.specs.declared.out.Out.{Out}
 use Rattle.auc_letters.specs.declared.state.Held.{Held}
-use Rattle.auc_letters.specs.declared.letter.Offer.{Offer}
+use Rattle.auc_letters.specs.declared.letter.Bid.{Bid}
 use Rattle.auc_letters.specs.Award.{Sale, answers, awards, is_accepted, refusal}
 use Rattle.auc_letters.specs.Routing.{to_person, to_hub}
 use Rattle.auc_objects.specs.Objects.{Objects, SameShape as SameObjects}
@@ -87,7 +87,7 @@ awards_reach n (Some held) i j p some = two_reach n (to_person n held.person (Le
 refusal_reaches : (n i j : ℕ) (p : ℤ) → 0 < n → All (Reaches n) (refusal n i j p)
 refusal_reaches n i j p some = one_reach n (to_person n i (Letter.Refused i j p)) (omega arith)
 
-pub answers_reach : (n : ℕ) (eps : ℤ) (sale : Sale) (bid : Offer) → 0 < n → All (Reaches n) (answers n eps sale bid)
+pub answers_reach : (n : ℕ) (eps : ℤ) (sale : Sale) (bid : Bid) → 0 < n → All (Reaches n) (answers n eps sale bid)
 answers_reach n eps sale bid some = by (is_accepted eps sale bid)
   where
     by : (b : Bool) → All (Reaches n) (cond b (awards n sale.holder bid.person bid.object bid.amount) (refusal n bid.person bid.object sale.price))

@@ -4,7 +4,7 @@ use Rattle.std.specs.Prelude.{ℤ, pos, Option, Some, None}
 use Rattle.auc_graph.specs.Table.{Table}
 use Rattle.auc_answers.specs.Eps.{first_eps, next_eps}
 
--- eps of a phase, if there is one, and of those behind it, at most so many
+-- eps of a phase, if there is one, and of those after it, at most so many
 abbrev phases : ℕ → Option ℤ → List ℤ
 phases zero eps = []
 phases (suc n) None = []

@@ -12,6 +12,6 @@ scaled_spread t = pos (length t.rows + 1) *ℤ t.spread
 abbrev pub first_eps : Table → ℤ
 first_eps t = if nat_lt (length t.rows) t.objects then pos 1 else int_max (pos 1) (int_div (scaled_spread t) (pos 8))
 
--- a fifth of the last one, rounded down, and at least 1; none behind 1
+-- a fifth of the last one, rounded down, and at least 1; none after 1
 abbrev pub next_eps : ℤ → Option ℤ
 next_eps eps = if int_le eps (pos 1) then None else Some (int_max (pos 1) (int_div eps (pos 5)))

@@ -38,7 +38,7 @@ pub fn first_eps(rows: &Rows) -> i64
     LAST_EPS.max(scaled_spread(rows) / FIRST_PART)
 }
 
-/// The eps of the phase behind one at `eps`, both in scaled costs: a fifth of it, rounded down, and at least 1. None behind
+/// The eps of the phase after one at `eps`, both in scaled costs: a fifth of it, rounded down, and at least 1. None after
 /// the last phase, at 1 and below. O(1).
 pub fn next_eps(eps: i64) -> Option<i64>
     ensures is { result ≡ next_eps eps }

@@ -2,7 +2,7 @@
 use Rattle.std.proofs.Common.{◌^◌, ◌&&◌, pos, ◌≡◌, ℕ, Bool, true, false, cond, List, [], ◌∷◌, refl, ap, arith, None, sym, ◌∙◌}
 use Rattle.std.specs.Prelude.{ℤ, ◌≤ℤ◌, ◌<ℤ◌, int_le}
 use Rattle.std.proofs.lemmas.Int.{ints}
-use Rattle.auc_letters.specs.declared.letter.Offer.{Offer}
+use Rattle.auc_letters.specs.declared.letter.Bid.{Bid}
 use Rattle.auc_letters.specs.Price.{IsEps, IsPrice, is_amount}
 use Rattle.auc_letters.specs.Award.{Sale, answers, award, award_all, awards, is_accepted, least_amount, refusal, sold_by}
 
@@ -27,7 +27,7 @@ amount_is_price amount e = by (int_le (pos 0) amount) (int_le amount (pos (2 ^ 6
     by true false low high e = absurd cc
     by false q low high e = absurd cc
 
-module _ (shards : ℕ) (eps : ℤ) (sale : Sale) (bid : Offer) where
+module _ (shards : ℕ) (eps : ℤ) (sale : Sale) (bid : Bid) where
   pub award_accepts : least_amount sale.price eps ≤ℤ bid.amount → award eps sale bid ≡ sold_by bid
   award_accepts h = ap (λ b. cond b (sold_by bid) sale) (le_true (least_amount sale.price eps) bid.amount h)
 
@@ -43,26 +43,26 @@ module _ (shards : ℕ) (eps : ℤ) (sale : Sale) (bid : Offer) where
       ap (λ b. cond b (awards shards sale.holder bid.person bid.object bid.amount) (refusal shards bid.person bid.object sale.price)) (le_false (least_amount sale.price eps) bid.amount h)
 
 -- one bid doesn't lower the price
-award_rises : (eps : ℤ) (sale : Sale) (bid : Offer) → IsEps eps → sale.price ≤ℤ (award eps sale bid).price
+award_rises : (eps : ℤ) (sale : Sale) (bid : Bid) → IsEps eps → sale.price ≤ℤ (award eps sale bid).price
 award_rises eps sale bid is = by (is_accepted eps sale bid) refl
   where
     by : (b : Bool) → is_accepted eps sale bid ≡ b → sale.price ≤ℤ (cond b (sold_by bid) sale).price
     by true e = omega (arith, ints, le_back (least_amount sale.price eps) bid.amount e, is.low)
     by false e = omega (arith, ints)
 
-pub all_rises : (eps : ℤ) (sale : Sale) (bids : List Offer) → IsEps eps → sale.price ≤ℤ (award_all eps sale bids).price
+pub all_rises : (eps : ℤ) (sale : Sale) (bids : List Bid) → IsEps eps → sale.price ≤ℤ (award_all eps sale bids).price
 all_rises eps sale [] is = omega (arith, ints)
 all_rises eps sale (bid ∷ bids) is = omega (arith, ints, award_rises eps sale bid is, all_rises eps (award eps sale bid) bids is)
 
 -- once an object has a holder, it keeps one
-pub award_holds : (eps : ℤ) (sale : Sale) (bid : Offer) → (award eps sale bid).holder ≡ None → award eps sale bid ≡ sale
+pub award_holds : (eps : ℤ) (sale : Sale) (bid : Bid) → (award eps sale bid).holder ≡ None → award eps sale bid ≡ sale
 award_holds eps sale bid none = by (is_accepted eps sale bid) none
   where
     by : (b : Bool) → (cond b (sold_by bid) sale).holder ≡ None → cond b (sold_by bid) sale ≡ sale
     by true e = absurd cc
     by false e = refl
 
-pub all_unheld : (eps : ℤ) (sale : Sale) (bids : List Offer) → (award_all eps sale bids).holder ≡ None → award_all eps sale bids ≡ sale
+pub all_unheld : (eps : ℤ) (sale : Sale) (bids : List Bid) → (award_all eps sale bids).holder ≡ None → award_all eps sale bids ≡ sale
 all_unheld eps sale [] none = refl
 all_unheld eps sale (bid ∷ bids) none =
     let rest : award_all eps (award eps sale bid) bids ≡ award eps sale bid = all_unheld eps (award eps sale bid) bids none in

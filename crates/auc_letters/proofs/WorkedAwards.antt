@@ -2,7 +2,7 @@
 use Rattle.std.proofs.Common.{◌≡◌, ℕ, [], ◌∷◌, Some, None, List, refl}
 use Rattle.std.specs.Prelude.{ℤ, pos, negsuc}
 use Rattle.auc_letters.specs.declared.letter.Letter.{Letter}
-use Rattle.auc_letters.specs.declared.letter.Offer.{Offer}
+use Rattle.auc_letters.specs.declared.letter.Bid.{Bid}
 use Rattle.auc_letters.specs.declared.out.To.{To}
 use Rattle.auc_letters.specs.declared.out.Out.{Out}
 use Rattle.auc_letters.specs.Award.{Sale, answers, award, award_all, bids_on}
@@ -11,7 +11,7 @@ abbrev unsold : Sale
 unsold = record { price = pos 0; holder = None }
 
 -- a bid for the object 5
-abbrev bid : ℕ → ℕ → ℤ → Offer
+abbrev bid : ℕ → ℕ → ℤ → Bid
 bid i a amount = record { person = i; arc = a; object = 5; amount = amount }
 
 abbrev letter_to : ℕ → Letter → Out

@@ -2,11 +2,11 @@
 use Rattle.std.specs.Prelude.{ℕ, ℤ, ◌+ℤ◌, ◌==◌, ◌&&◌, int_le, Bool, List, [], ◌∷◌, Option, Some, None, if◌then◌else◌, filter_map}
 use Rattle.std.specs.List.{fold}
 use Rattle.auc_letters.specs.declared.letter.Letter.{Letter}
-use Rattle.auc_letters.specs.declared.letter.Offer.{Offer}
+use Rattle.auc_letters.specs.declared.letter.Bid.{Bid}
 use Rattle.auc_letters.specs.declared.out.Out.{Out}
 use Rattle.auc_letters.specs.declared.state.Held.{Held}
 use Rattle.auc_letters.specs.Price.{is_amount}
-use Rattle.auc_letters.specs.Routing.{to_person, to_hub}
+use Rattle.auc_letters.specs.Routing.{to_person, to_object, to_hub}
 
 -- what the shard of an object knows of it: its price, and who holds it
 pub record Sale : Type 0 where
@@ -18,15 +18,15 @@ abbrev pub least_amount : ℤ → ℤ → ℤ
 least_amount price eps = price +ℤ eps
 
 -- a bid is accepted exactly where it reaches the price and eps more
-abbrev pub is_accepted : ℤ → Sale → Offer → Bool
+abbrev pub is_accepted : ℤ → Sale → Bid → Bool
 is_accepted eps sale bid = int_le (least_amount sale.price eps) bid.amount
 
 -- the bidder holds the object, by his arc, and the amount is the price
-abbrev pub sold_by : Offer → Sale
+abbrev pub sold_by : Bid → Sale
 sold_by bid = record { price = bid.amount; holder = Some (record { person = bid.person; arc = bid.arc }) }
 
 -- The award: an accepted bid sells the object, any other changes nothing.
-abbrev pub award : ℤ → Sale → Offer → Sale
+abbrev pub award : ℤ → Sale → Bid → Sale
 award eps sale bid = if is_accepted eps sale bid then sold_by bid else sale
 
 -- the letters of an accepted bid: the earlier holder is outbid before the award; an object without holder is counted
@@ -39,24 +39,28 @@ abbrev pub refusal : ℕ → ℕ → ℕ → ℤ → List Out
 refusal shards person object price = to_person shards person (Letter.Refused person object price) ∷ []
 
 -- The letters that answer a bid, in the order in which they are sent, where there are so many shards of the persons.
-abbrev pub answers : ℕ → ℤ → Sale → Offer → List Out
+abbrev pub answers : ℕ → ℤ → Sale → Bid → List Out
 answers shards eps sale bid = if is_accepted eps sale bid then awards shards sale.holder bid.person bid.object bid.amount else refusal shards bid.person bid.object sale.price
 
 -- what bids on one object make of it, one after another
-abbrev pub award_all : ℤ → Sale → List Offer → Sale
+abbrev pub award_all : ℤ → Sale → List Bid → Sale
 award_all eps sale bids = fold (award eps) sale bids
 
 -- a bid of the person by the arc at that place, on the object
-abbrev pub offer_of : ℕ → ℕ → ℕ → ℤ → Offer
-offer_of person arc object amount = record { person = person; arc = arc; object = object; amount = amount }
+abbrev pub bid_of : ℕ → ℕ → ℕ → ℤ → Bid
+bid_of person arc object amount = record { person = person; arc = arc; object = object; amount = amount }
 
 -- a bid as a letter
-abbrev pub bid_letter : Offer → Letter
+abbrev pub bid_letter : Bid → Letter
 bid_letter bid = Letter.Bid bid.person bid.arc bid.object bid.amount
 
+-- a bid as a letter to the shard of its object, of so many
+abbrev pub bid_out : ℕ → Bid → Out
+bid_out shards bid = to_object shards bid.object (bid_letter bid)
+
 -- the bid on this object that a letter is, if it is one and its amount is in range
-abbrev pub bid_on : ℕ → Letter → Option Offer
-bid_on object (Letter.Bid i a j amount) = if (j == object) && is_amount amount then Some (offer_of i a j amount) else None
+abbrev pub bid_on : ℕ → Letter → Option Bid
+bid_on object (Letter.Bid i a j amount) = if (j == object) && is_amount amount then Some (bid_of i a j amount) else None
 bid_on object (Letter.Award i j p) = None
 bid_on object (Letter.Refused i j p) = None
 bid_on object (Letter.Outbid i j p) = None
@@ -65,5 +69,5 @@ bid_on object (Letter.First j) = None
 bid_on object (Letter.Stop y) = None
 
 -- the bids on an object among letters, in order
-abbrev pub bids_on : ℕ → List Letter → List Offer
+abbrev pub bids_on : ℕ → List Letter → List Bid
 bids_on object letters = filter_map (bid_on object) letters

@@ -3,7 +3,7 @@
 ghost use Rattle.std.specs.Prelude.{◌≡◌, ◌^◌, ℤ, pos, ◌≤ℤ◌, ◌↔◌, true, List, None, IsTrue};
 ghost use Rattle.auc_letters.specs.contracts.letter.LetterPartialEq.TheImpl.{eq-value as letter_eq};
 ghost use Rattle.auc_letters.specs.declared.limits.TheConstants.{MOST_PRICE as most_price, MOST_EPS as most_eps, MOST_SHARDS as most_shards};
-ghost use Rattle.auc_letters.specs.declared.letter.Offer.{Offer as AnOffer};
+ghost use Rattle.auc_letters.specs.declared.letter.Bid.{Bid as ABid};
 ghost use Rattle.auc_letters.specs.Price.{IsPrice, IsEps, is_amount};
 ghost use Rattle.auc_letters.specs.Award.{Sale, award_all};
 
@@ -24,6 +24,6 @@ pub fn limits_are()
 
 /// Bids on an object never lower its price, and nothing changes where nobody comes to hold it.
 pub fn awards_raise_prices()
-    ensures rises { (eps : ℤ) (sale : Sale) (bids : List AnOffer) → IsEps eps → sale.price ≤ℤ (award_all eps sale bids).price }
-    ensures unheld { (eps : ℤ) (sale : Sale) (bids : List AnOffer) → (award_all eps sale bids).holder ≡ None → (award_all eps sale bids) ≡ sale }
+    ensures rises { (eps : ℤ) (sale : Sale) (bids : List ABid) → IsEps eps → sale.price ≤ℤ (award_all eps sale bids).price }
+    ensures unheld { (eps : ℤ) (sale : Sale) (bids : List ABid) → (award_all eps sale bids).holder ≡ None → (award_all eps sale bids) ≡ sale }
 {}

@@ -67,7 +67,7 @@ pub enum Letter {
 /// A bid, without the letter that brings it: the person bids this amount, in scaled costs, for the object, by the arc at this
 /// place in the list of arcs.
 #[derive(Clone, Copy, Debug, PartialEq, Eq)]
-pub struct Offer {
+pub struct Bid {
     pub person: u32,
     pub arc: u32,
     pub object: u32,

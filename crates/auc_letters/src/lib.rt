@@ -11,7 +11,7 @@ mod out;
 mod state;
 
 pub use law::{awards_raise_prices, equal_letters_are_same, limits_are};
-pub use letter::{Letter, Offer, Why};
+pub use letter::{Bid, Letter, Why};
 pub use limits::{MOST_EPS, MOST_PRICE, MOST_SHARDS};
 pub use out::{Out, To, shard_of};
 pub use state::{Held, PersonState};

@@ -1,8 +1,9 @@
 //! Where a letter goes.
 
 ghost use Rattle.std.specs.Prelude.{◌≡◌, ◌<◌, ◌%◌};
+ghost use Rattle.auc_letters.specs.Award.{bid_out};
 
-use crate::letter::Letter;
+use crate::letter::{Bid, Letter};
 
 /// Who gets a letter.
 #[derive(Clone, Copy, Debug, PartialEq, Eq)]
@@ -46,9 +47,37 @@ pub fn shard_of(number: u32, shards: u32) -> u32
     ensures remainder { result ≡ number % shards }
     ensures below { result < shards }
 {
-    // With one shard, which is the usual case of the serial solver, no division.
+    // docs/CODEGEN.md, "No division with one shard".
     if shards == 1 {
         return 0;
     }
     number % shards
+}
+
+impl Bid {
+    /// The letter that brings a bid to the shard of its object, of so many shards.
+    #[inline]
+    pub fn into_out(self, shards: u32) -> Out
+        requires { 0 < shards }
+        ensures { result ≡ bid_out shards self }
+    {
+        let Bid {
+            person,
+            arc,
+            object,
+            amount,
+        } = self;
+        Out {
+            letter: Letter::Bid {
+                person,
+                arc,
+                object,
+                amount,
+            },
+            to: To::Object {
+                shard: shard_of(object, shards),
+            },
+            reserve: 0,
+        }
+    }
 }

@@ -7,7 +7,7 @@ use Rattle.auc_graph.specs.Bid.{IsAmount, IsBestArc, value}
 use Rattle.auc_graph.specs.declared.rows.RowArc.{RowArc}
 use Rattle.auc_letters.specs.Award.{bid_letter}
 use Rattle.auc_letters.specs.declared.letter.Letter.{Letter}
-use Rattle.auc_letters.specs.declared.letter.Offer.{Offer}
+use Rattle.auc_letters.specs.declared.letter.Bid.{Bid}
 use Rattle.auc_letters.specs.declared.letter.Why.{Why}
 use Rattle.auc_letters.specs.declared.out.Out.{Out}
 use Rattle.auc_mail.specs.Mail.{HasBox, IsClosed, Mail}
@@ -249,11 +249,11 @@ module _ (g : Phase) (w : World) where
 
     -- ObjectTake(q)
     data Dealt (q : ℕ) (l : Letter) (m : Mail Letter) (v : World) : Type 0 where
-      answers : (bid : Offer) → l ≡ bid_letter bid → FitsBid g q l → v ≡ after_answer g w q m bid → Dealt q l m v
+      answers : (bid : Bid) → l ≡ bid_letter bid → FitsBid g q l → v ≡ after_answer g w q m bid → Dealt q l m v
       strays_here : (FitsBid g q l → ⊥) → v ≡ ended (record w { objects_mail = m }) Why.Stray → Dealt q l m v
 
-    same_offer : (a b : Offer) (l : Letter) → l ≡ bid_letter a → l ≡ bid_letter b → a ≡ b
-    same_offer a b l e f =
+    one_bid : (a b : Bid) (l : Letter) → l ≡ bid_letter a → l ≡ bid_letter b → a ≡ b
+    one_bid a b l e f =
         let person : a.person ≡ b.person = cc in
         let arc : a.arc ≡ b.arc = cc in
         let object : a.object ≡ b.object = cc in
@@ -261,7 +261,7 @@ module _ (g : Phase) (w : World) where
         λ d. record { person = person d; arc = arc d; object = object d; amount = amount d }
 
     dealt_same : (q : ℕ) (l : Letter) (m : Mail Letter) (u v : World) → Dealt q l m u → Dealt q l m v → u ≡ v
-    dealt_same q l m u v (answers a is x e) (answers b its y f) = e ∙ (ap (after_answer g w q m) (same_offer a b l is its) ∙ sym f)
+    dealt_same q l m u v (answers a is x e) (answers b its y f) = e ∙ (ap (after_answer g w q m) (one_bid a b l is its) ∙ sym f)
     dealt_same q l m u v (answers a is x e) (strays_here bad f) = absurd (bad x)
     dealt_same q l m u v (strays_here bad e) (answers b its y f) = absurd (bad y)
     dealt_same q l m u v (strays_here a e) (strays_here b f) = e ∙ sym f

@@ -3,7 +3,7 @@ use Rattle.std.proofs.Common.{ℕ, ℤ, ◌+◌, ◌*◌, ◌<◌, ◌≤◌, �
 use Rattle.std.specs.Prelude.{if◌then◌else◌, ◌==◌, nat_lt}
 use Rattle.std.proofs.lemmas.Bool.{cases_eq, cond_both}
 use Rattle.std.proofs.lemmas.List.Sums.{sum_by-cons}
-use Rattle.auc_letters.specs.Award.{awards, refusal}
+use Rattle.auc_letters.specs.Award.{awards, refusal, bid_of, bid_out}
 use Rattle.auc_letters.specs.Routing.{price_told, to_hub}
 use Rattle.auc_letters.specs.declared.letter.Letter.{Letter}
 use Rattle.auc_letters.specs.declared.letter.Why.{Why}
@@ -12,7 +12,7 @@ use Rattle.auc_letters.specs.declared.out.To.{To}
 use Rattle.auc_letters.specs.declared.state.Held.{Held}
 use Rattle.auc_mail.specs.Mail.{Mail, with_closed}
 use Rattle.auc_mail.specs.declared.call.PostRefused.{PostRefused}
-use Rattle.auc_model.specs.Bidding.{BidTurn, bid_letter}
+use Rattle.auc_model.specs.Bidding.{BidTurn}
 use Rattle.auc_model.specs.Counts.{total}
 use Rattle.auc_model.specs.Hearing.{PersonTakeTurn, after_letter, free_after, held_after}
 use Rattle.auc_model.specs.Hub.{HubCloseTurn, HubTakeTurn, hub_after}
@@ -261,7 +261,7 @@ module _ (g : Phase) (w : World) (law : Lawful g) (k : Kept g w) (room : Room g 
         no_mail = room.no_mail;
       })
   room_bid s r v (BidTurn.bids i rest a amount may left best low e1 e) =
-      let o : Out = bid_letter g i a amount in
+      let o : Out = bid_out g.shards (bid_of i a.arc a.object amount) in
       let x = stops_put s o may.known may.empty in
       rw e (record {
         objects_nodes = room.objects_nodes;

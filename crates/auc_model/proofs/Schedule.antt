@@ -3,7 +3,7 @@ use Rattle.std.proofs.Common.{ℕ, ℤ, ◌≤ℤ◌, ◌+◌, ◌<◌, ◌≡�
 use Rattle.std.specs.Prelude.{if◌then◌else◌, ◌==◌, nat_lt}
 use Rattle.std.proofs.lemmas.Bool.{cond_both, ltb-false}
 use Rattle.std.proofs.lemmas.Int.{ints}
-use Rattle.auc_letters.specs.Award.{awards, least_amount, refusal}
+use Rattle.auc_letters.specs.Award.{awards, least_amount, refusal, bid_of, bid_out}
 use Rattle.auc_letters.specs.Routing.{price_told, to_hub}
 use Rattle.auc_letters.specs.declared.letter.Letter.{Letter}
 use Rattle.auc_letters.specs.declared.letter.Why.{Why}
@@ -15,7 +15,7 @@ use Rattle.auc_mail.specs.declared.call.Call.{Call}
 use Rattle.auc_mail.specs.declared.call.PostRefused.{PostRefused}
 use Rattle.auc_mail.specs.declared.call.Reply.{Reply}
 use Rattle.auc_mail.specs.declared.call.Taken.{Taken}
-use Rattle.auc_model.specs.Bidding.{BidTurn, after_bid, after_stop, bid_letter}
+use Rattle.auc_model.specs.Bidding.{BidTurn, after_bid, after_stop}
 use Rattle.auc_model.specs.Counts.{Counts}
 use Rattle.auc_model.specs.SlackBids.{SlackLetter}
 use Rattle.auc_model.specs.Hearing.{Falls, FitsLetter, PersonTakeTurn, after_letter, free_after, held_after}
@@ -128,7 +128,7 @@ module _ (g : Phase) (w : World) (law : Lawful g) (k : Kept g w) where
       (inv_stops g w c law k.inv s i rest y why may.known may.first))
   kept_bid s r v (BidTurn.bids i rest a amount may left best low e1 e) =
       let u : World = after_bid g w s i rest a amount in
-      let o : Out = bid_letter g i a amount in
+      let o : Out = bid_out g.shards (bid_of i a.arc a.object amount) in
       rw e
       (kept_by u (kept_shapes u refl refl refl) k.lost (send c s (o ∷ []))
       (open_by w u k.lost (λ t q. sym (opens_same w u refl refl refl t) ∙ q) k.only_closed)

@@ -3,7 +3,7 @@ use Rattle.std.proofs.Common.{ℕ, ◌≡◌, ◌≢◌, ◌<◌, ◌≤◌, ◌
 use Rattle.std.specs.Prelude.{ℤ, ◌≤ℤ◌, ◌<ℤ◌, Option}
 use Rattle.std.proofs.lemmas.Int.{by_lt_z}
 use Rattle.auc_letters.specs.declared.letter.Letter.{Letter}
-use Rattle.auc_letters.specs.declared.letter.Offer.{Offer}
+use Rattle.auc_letters.specs.declared.letter.Bid.{Bid}
 use Rattle.auc_letters.specs.declared.letter.Why.{Why}
 use Rattle.auc_letters.specs.declared.out.Out.{Out}
 use Rattle.auc_letters.specs.declared.state.Held.{Held}
@@ -39,7 +39,7 @@ pub data TakesBid (g : Phase) (w : World) (q : ℕ) (r : TurnReply) (v : World) 
       → (FitsBid g q l → ⊥)
       → r ≡ TurnReply.Moved → v ≡ ended (record w { objects_mail = m }) Why.Stray → TakesBid g w q r v
 
-module _ (g : Phase) (w : World) (q : ℕ) (m : Mail Letter) (bid : Offer) where
+module _ (g : Phase) (w : World) (q : ℕ) (m : Mail Letter) (bid : Bid) where
   abbrev after : Sale → List Out → World
   after sale letters = record w { objects_mail = m; price = put w.price bid.object sale.price; holder = put w.holder bid.object sale.holder; object_out = put w.object_out q letters }
 

@@ -3,7 +3,7 @@
 use Rattle.std.proofs.Common.{ℕ, ℤ, ◌+◌, ◌<◌, ◌≡◌, refl, arith, Bool, true, List, [], ◌∷◌, ◌++◌, Option, Some, None, ap, sym, ◌∙◌}
 use Rattle.std.specs.Prelude.{nat_lt, if◌then◌else◌, ◌==◌}
 use Rattle.std.proofs.lemmas.Bool.{cond_both}
-use Rattle.auc_letters.specs.Award.{awards, refusal}
+use Rattle.auc_letters.specs.Award.{awards, refusal, bid_of, bid_out}
 use Rattle.auc_letters.specs.Routing.{price_told, to_hub, to_person}
 use Rattle.auc_letters.specs.declared.letter.Letter.{Letter}
 use Rattle.auc_letters.specs.declared.letter.Why.{Why}
@@ -11,7 +11,7 @@ use Rattle.auc_letters.specs.declared.out.Out.{Out}
 use Rattle.auc_letters.specs.declared.out.To.{To}
 use Rattle.auc_letters.specs.declared.state.Held.{Held}
 use Rattle.auc_mail.specs.Mail.{Mail}
-use Rattle.auc_model.specs.Bidding.{BidTurn, after_bid, after_stop, bid_letter}
+use Rattle.auc_model.specs.Bidding.{BidTurn, after_bid, after_stop}
 use Rattle.auc_model.specs.Counts.{everywhere, total}
 use Rattle.auc_model.specs.Hearing.{FitsLetter, PersonTakeTurn, after_letter, free_after, held_after}
 use Rattle.auc_model.specs.Hub.{HubCloseTurn, HubTakeTurn, hub_after}
@@ -89,7 +89,7 @@ module _ (g : Phase) (w : World) (law : Lawful g) (k : Kept g w) (yet : OpenYet 
       rw e (omega (arith, a, b, d, f, h))
   bid_told s r v (BidTurn.bids i rest a amount may left best low e1 e) none =
       let u : World = after_bid g w s i rest a amount in
-      let o : Out = bid_letter g i a amount in
+      let o : Out = bid_out g.shards (bid_of i a.arc a.object amount) in
       rw e (as_told u (send c s (o ∷ [])) (sym (ap (λ (x : World). x.end) e) ∙ none)
       (channels_other g (with_outbox w (PersonShard s) (o ∷ [])) u none_lost refl refl refl refl refl ∙ channels_sent g w none_lost (PersonShard s) (o ∷ []) may.known may.empty)
       refl (sent c s o (omega (arith, may.known)) (omega (arith, law.some_shards)) refl))

@@ -10,7 +10,8 @@ use Rattle.auc_letters.specs.declared.limits.TheConstants.{MOST_PRICE}
 use Rattle.auc_letters.specs.declared.out.Out.{Out}
 use Rattle.auc_letters.specs.declared.out.To.{To}
 use Rattle.auc_letters.specs.declared.state.PersonState.{PersonState}
-use Rattle.auc_model.specs.Bidding.{Bids, Stops, after_bid, after_stop, bid_letter}
+use Rattle.auc_letters.specs.Award.{bid_of, bid_out}
+use Rattle.auc_model.specs.Bidding.{Bids, Stops, after_bid, after_stop}
 use Rattle.auc_model.specs.SlackBids.{SlackLetter}
 use Rattle.auc_model.specs.Invariants.{Inv}
 use Rattle.auc_model.specs.Put.{put}
@@ -58,8 +59,8 @@ module _ (g : Phase) (w : World) (c : Channels) (law : Lawful g) (inv : Inv g w 
     abbrev pub bidding : World
     bidding = after_bid g w s i rest a amount
 
-    abbrev pub bid_out : Out
-    bid_out = bid_letter g i a amount
+    abbrev pub sent : Out
+    sent = bid_out g.shards (bid_of i a.arc a.object amount)
 
     bidder : (w.state i ≡ PersonState.Free) × (i % g.shards ≡ s) × (i < g.persons)
     bidder = let f = bid_facts g w.state w.idle inv.idle_is s i a.object rest first in (f.0, f.1, f.2)
@@ -67,18 +68,18 @@ module _ (g : Phase) (w : World) (c : Channels) (law : Lawful g) (inv : Inv g w 
     here : s < g.shards
     here = let h = bidder.1 in omega (arith, law.some_shards, h)
 
-    pub inv_bids : Inv g bidding (send c s (bid_out ∷ []))
+    pub inv_bids : Inv g bidding (send c s (sent ∷ []))
     inv_bids =
         record {
-          routed = routed_sent g c inv.routed bid_out s (bidder.2, bidder.1, rw best.best.listed.2 at (law.arcs_in_range i best.best.listed.0 a best.best.listed.1), refl, (record { low = amount_above g (w.copy s) (g.row i) a amount law (inv.copy_range s a.object) best; high = low }));
-          never_falls = price_kept g w bidding (send c s (bid_out ∷ [])) refl refl (price_sent g w w c bid_out s (λ j. refl) inv.never_falls);
+          routed = routed_sent g c inv.routed sent s (bidder.2, bidder.1, rw best.best.listed.2 at (law.arcs_in_range i best.best.listed.0 a best.best.listed.1), refl, (record { low = amount_above g (w.copy s) (g.row i) a amount law (inv.copy_range s a.object) best; high = low }));
+          never_falls = price_kept g w bidding (send c s (sent ∷ [])) refl refl (price_sent g w w c sent s (λ j. refl) inv.never_falls);
           in_place = rw (← bidder.1) (place_bid g w bidding c i a.arc a.object amount 0 bidder.0 refl refl inv.in_place);
           price_range = inv.price_range;
           copy_range = inv.copy_range;
           idle_is = idle_bid g w.state w.idle inv.idle_is s i a.object rest first;
           holder_range = inv.holder_range;
-          counts = counts_bid g w bidding c (send c s (bid_out ∷ [])) inv.counts refl refl i a.arc a.object amount bidder.2 bidder.0 refl (plus_sent g c s bid_out (let h = here in omega arith) (omega (arith, law.some_shards)));
-          slack_letters = all_sent (SlackLetter g w.price) c inv.slack_letters bid_out s (slack_bid g (w.copy s) w.price i a amount law (λ k. copy_low (prices g w c) s k inv.never_falls) best);
+          counts = counts_bid g w bidding c (send c s (sent ∷ [])) inv.counts refl refl i a.arc a.object amount bidder.2 bidder.0 refl (plus_sent g c s sent (let h = here in omega arith) (omega (arith, law.some_shards)));
+          slack_letters = all_sent (SlackLetter g w.price) c inv.slack_letters sent s (slack_bid g (w.copy s) w.price i a amount law (λ k. copy_low (prices g w c) s k inv.never_falls) best);
           slack_holders = inv.slack_holders;
           sound = inv.sound;
         }

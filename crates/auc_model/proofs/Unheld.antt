@@ -5,7 +5,7 @@ use Rattle.std.proofs.lemmas.Bool.{cases_eq, cond_both}
 use Rattle.auc_letters.specs.Award.{Sale, award}
 use Rattle.auc_letters.proofs.Award.{award_holds}
 use Rattle.auc_letters.specs.declared.letter.Letter.{Letter}
-use Rattle.auc_letters.specs.declared.letter.Offer.{Offer}
+use Rattle.auc_letters.specs.declared.letter.Bid.{Bid}
 use Rattle.auc_letters.specs.declared.out.Out.{Out}
 use Rattle.auc_letters.specs.declared.out.To.{To}
 use Rattle.auc_mail.specs.Mail.{Mail}
@@ -77,7 +77,7 @@ module _ (g : Phase) (w : World) where
       (sym holder ∙ none, price)
 
   -- an answered bid
-  answered : (q : ℕ) (m : Mail Letter) (bid : Offer) → StaysUnheld w (after_answer g w q m bid)
+  answered : (q : ℕ) (m : Mail Letter) (bid : Bid) → StaysUnheld w (after_answer g w q m bid)
   answered q m bid j none =
       elim (cases_eq j bid.object) [
         | inl e ↦ (

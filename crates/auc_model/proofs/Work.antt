@@ -1,14 +1,14 @@
 -- Each turn of a round that moves uses up work, or ends the phase.
 use Rattle.std.proofs.Common.{ℕ, ◌<◌, ◌≤◌, ◌≡◌, ◌≢◌, ◌⊎◌, refl, arith, ℤ, true, List, [], ◌∷◌, Option, Some, None, sum_by, inl, inr, ap, sym, ◌∙◌}
 use Rattle.std.specs.Prelude.{◌-◌}
-use Rattle.auc_letters.specs.Award.{awards, refusal}
+use Rattle.auc_letters.specs.Award.{awards, refusal, bid_of, bid_out}
 use Rattle.auc_letters.specs.declared.letter.Letter.{Letter}
 use Rattle.auc_letters.specs.declared.letter.Why.{Why}
 use Rattle.auc_letters.specs.declared.out.Out.{Out}
 use Rattle.auc_letters.specs.declared.state.Held.{Held}
 use Rattle.auc_letters.specs.Routing.{to_hub}
 use Rattle.auc_mail.specs.Mail.{Mail}
-use Rattle.auc_model.specs.Bidding.{BidTurn, after_bid, after_stop, bid_letter}
+use Rattle.auc_model.specs.Bidding.{BidTurn, after_bid, after_stop}
 use Rattle.auc_model.specs.Hearing.{PersonTakeTurn, after_letter}
 use Rattle.auc_model.specs.Hub.{HubTakeTurn, hub_after}
 use Rattle.auc_model.specs.Mails.{ObjectShard, PersonShard, Shard, Takes, box_of, sender, with_mail, with_outbox}
@@ -25,7 +25,7 @@ use Rattle.auc_model.proofs.Example.{beginning, small}
 use Rattle.auc_model.proofs.WeightSteps.{weight_taken}
 use Rattle.auc_model.proofs.WorkSteps.{bid_used, counted_in, heard, mail_posted, outbox_filled, outbox_popped, outbox_with_mail, some_work, stop_made}
 
--- how a turn leaves the work: it answers Nothing and changes nothing, or uses some up, or the phase has ended behind it
+-- how a turn leaves the work: it answers Nothing and changes nothing, or uses some up, or the phase has ended after it
 pub data Spends (g : Phase) (w : World) (r : TurnReply) (v : World) : Type 0 where
   rests : r ≡ TurnReply.Nothing → v ≡ w → Spends g w r v
   less : work g v < work g w → Spends g w r v
@@ -56,8 +56,8 @@ module _ (g : Phase) (w : World) where
   bid_spends s r v (BidTurn.bids i rest arc amount may left best low e1 e) =
       let u : World = record w { bids_left = put w.bids_left s (w.bids_left s - 1) } in
       let a = bid_used g w s may.known left in
-      let b = outbox_filled g u (PersonShard s) (bid_letter g i arc amount ∷ []) may.known may.empty in
-      let c : sum_by posting_work (bid_letter g i arc amount ∷ []) ≡ 6 = refl in
+      let b = outbox_filled g u (PersonShard s) (bid_out g.shards (bid_of i arc.arc arc.object amount) ∷ []) may.known may.empty in
+      let c : sum_by posting_work (bid_out g.shards (bid_of i arc.arc arc.object amount) ∷ []) ≡ 6 = refl in
       less_as r v (after_bid g w s i rest arc amount) e (omega (arith, a, b, c))
 
   post_spends : (h : Shard) (r : TurnReply) (v : World) → PostTurn g w h r v → Spends g w r v

@@ -4,7 +4,7 @@ use Rattle.std.specs.Prelude.{All}
 use Rattle.std.proofs.lemmas.Int.{ints}
 use Rattle.auc_graph.specs.Bid.{IsBid, value}
 use Rattle.auc_graph.specs.declared.rows.RowArc.{RowArc}
-use Rattle.auc_letters.specs.Award.{offer_of}
+use Rattle.auc_letters.specs.Award.{bid_of, bid_out}
 use Rattle.auc_letters.specs.Price.{IsPrice}
 use Rattle.auc_letters.specs.Routing.{to_hub, to_person}
 use Rattle.auc_letters.specs.declared.letter.Letter.{Letter}
@@ -12,7 +12,7 @@ use Rattle.auc_letters.specs.declared.out.To.{To}
 use Rattle.auc_letters.specs.declared.state.Held.{Held}
 use Rattle.auc_letters.specs.declared.state.PersonState.{PersonState}
 use Rattle.auc_mail.specs.Mail.{Mail, empty_mail, lane_behind, lane_of, with_lane}
-use Rattle.auc_model.specs.Bidding.{BidTurn, after_bid, bid_letter}
+use Rattle.auc_model.specs.Bidding.{BidTurn, after_bid}
 use Rattle.auc_model.specs.Hearing.{PersonTakeTurn, held_after}
 use Rattle.auc_model.specs.Hub.{HubTakeTurn, hub_after}
 use Rattle.auc_model.specs.Mails.{ObjectShard, PersonShard, with_mail, with_outbox}
@@ -80,7 +80,7 @@ abbrev has_posted : World
 has_posted = with_outbox (with_mail has_bid (To.Object 0) objects) (PersonShard 0) []
 
 abbrev has_sold : World
-has_sold = after_answer small has_posted 0 (taken objects 0) (offer_of 0 0 0 (pos 1))
+has_sold = after_answer small has_posted 0 (taken objects 0) (bid_of 0 0 0 (pos 1))
 
 abbrev has_awarded : World
 has_awarded = with_outbox (with_mail has_sold (To.Person 0) persons) (ObjectShard 0) (to_hub (Letter.First 0) ∷ [])
@@ -98,10 +98,10 @@ bids : Turned small beginning (Turn.Bid 0) TurnReply.Moved has_bid
 bids = BidTurn.bids 0 [] one_arc (pos 1) (record { known = omega arith; empty = refl; going = refl; first = refl }) (λ e. omega (arith, e)) bid_is (omega (arith, ints)) refl refl
 
 posts : Turned small has_bid (Turn.PersonPost 0) TurnReply.Moved has_posted
-posts = PostTurn.posts (bid_letter small 0 one_arc (pos 1)) [] 1 objects (record { known = omega arith; first = refl }) ((omega arith, omega arith), refl, omega arith, omega arith, refl, refl) refl refl
+posts = PostTurn.posts (bid_out small.shards (bid_of 0 one_arc.arc one_arc.object (pos 1))) [] 1 objects (record { known = omega arith; first = refl }) ((omega arith, omega arith), refl, omega arith, omega arith, refl, refl) refl refl
 
 sells : Turned small has_posted (Turn.ObjectTake 0) TurnReply.Moved has_sold
-sells = ObjectTakeTurn.answers_bid 0 1 (offer_of 0 0 0 (pos 1)) (taken objects 0) (omega arith) refl (omega arith, omega arith, refl, ([], refl, refl)) (omega arith, refl, is_price) refl refl
+sells = ObjectTakeTurn.answers_bid 0 1 (bid_of 0 0 0 (pos 1)) (taken objects 0) (omega arith) refl (omega arith, omega arith, refl, ([], refl, refl)) (omega arith, refl, is_price) refl refl
 
 awards_him : Turned small has_sold (Turn.ObjectPost 0) TurnReply.Moved has_awarded
 awards_him = PostTurn.posts (to_person 1 0 award) (to_hub (Letter.First 0) ∷ []) 1 persons (record { known = omega arith; first = refl }) ((omega arith, omega arith), refl, omega arith, omega arith, refl, refl) refl refl

@@ -6,7 +6,8 @@ use Rattle.auc_letters.specs.declared.letter.Letter.{Letter}
 use Rattle.auc_letters.specs.declared.letter.Why.{Why}
 use Rattle.auc_letters.specs.declared.out.Out.{Out}
 use Rattle.auc_letters.specs.declared.state.PersonState.{PersonState}
-use Rattle.auc_letters.specs.Routing.{to_object, to_hub}
+use Rattle.auc_letters.specs.Award.{bid_of, bid_out}
+use Rattle.auc_letters.specs.Routing.{to_hub}
 use Rattle.auc_model.specs.declared.turn.TurnReply.{TurnReply}
 use Rattle.auc_model.specs.Put.{put}
 use Rattle.auc_model.specs.World.{Phase, World, scale}
@@ -30,10 +31,6 @@ Stops g w s i Why.Stray = ⊥
 abbrev pub SomeoneStuck : Phase → Type 0
 SomeoneStuck g = (i : ℕ) × (i < g.persons) × (g.row i ≡ [])
 
--- the bid of person i by an arc, as a letter to the shard of its object
-abbrev pub bid_letter : Phase → ℕ → RowArc → ℤ → Out
-bid_letter g i arc amount = to_object g.shards arc.object (Letter.Bid i arc.arc arc.object amount)
-
 -- the world when the shard s has made a Stop
 abbrev pub after_stop : World → ℕ → Why → World
 after_stop w s y = record w { has_stopped = put w.has_stopped s true; person_out = put w.person_out s (to_hub (Letter.Stop y) ∷ []) }
@@ -44,7 +41,7 @@ after_bid g w s i rest arc amount = record w {
   state = put w.state i (PersonState.Waits arc.object);
   idle = put w.idle s rest;
   bids_left = put w.bids_left s (w.bids_left s - 1);
-  person_out = put w.person_out s (bid_letter g i arc amount ∷ []);
+  person_out = put w.person_out s (bid_out g.shards (bid_of i arc.arc arc.object amount) ∷ []);
 }
 
 -- The shard s may bid: it is there, its outbox is empty, and it has made no Stop; i has been free longest, before rest.

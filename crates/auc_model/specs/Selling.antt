@@ -2,7 +2,7 @@
 use Rattle.std.specs.Prelude.{ℕ, ◌%◌, ◌<◌, ◌≤◌, ◌≡◌, ◌≢◌, ◌⊎◌, [], ◌∷◌}
 use Rattle.auc_mail.specs.Mail.{Mail}
 use Rattle.auc_letters.specs.declared.letter.Letter.{Letter}
-use Rattle.auc_letters.specs.declared.letter.Offer.{Offer}
+use Rattle.auc_letters.specs.declared.letter.Bid.{Bid}
 use Rattle.auc_letters.specs.declared.letter.Why.{Why}
 use Rattle.auc_letters.specs.Price.{IsPrice}
 use Rattle.auc_letters.specs.Routing.{price_told}
@@ -28,7 +28,7 @@ sale_of w j = record { price = w.price j; holder = w.holder j }
 
 -- The mail goes on to m, the object is as the award makes it, and the letters that answer the bid go into the empty outbox of
 -- the shard q.
-abbrev pub after_answer : Phase → World → ℕ → Mail Letter → Offer → World
+abbrev pub after_answer : Phase → World → ℕ → Mail Letter → Bid → World
 after_answer g w q m bid = record w {
   objects_mail = m;
   price = put w.price bid.object (award g.eps (sale_of w bid.object) bid).price;
@@ -39,7 +39,7 @@ after_answer g w q m bid = record w {
 -- ObjectTake(q)
 pub data ObjectTakeTurn (g : Phase) (w : World) (q : ℕ) (r : TurnReply) (v : World) : Type 0 where
   no_letter : ((g.shards ≤ q) ⊎ (w.object_out q ≢ []) ⊎ TakesNone w.objects_mail q) → r ≡ TurnReply.Nothing → v ≡ w → ObjectTakeTurn g w q r v
-  answers_bid : (x k : ℕ) (bid : Offer) (m : Mail Letter) → q < g.shards → w.object_out q ≡ [] → Takes w.objects_mail q x k (bid_letter bid) m
+  answers_bid : (x k : ℕ) (bid : Bid) (m : Mail Letter) → q < g.shards → w.object_out q ≡ [] → Takes w.objects_mail q x k (bid_letter bid) m
       → FitsBid g q (bid_letter bid)
       → r ≡ TurnReply.Moved → v ≡ after_answer g w q m bid → ObjectTakeTurn g w q r v
   strays : (x k : ℕ) (l : Letter) (m : Mail Letter) → q < g.shards → w.object_out q ≡ [] → Takes w.objects_mail q x k l m

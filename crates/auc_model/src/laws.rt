@@ -142,7 +142,7 @@ pub fn no_stall()
     ensures rests { (g : Phase) (v : World) → 0 < g.persons → Reached g v → Rests g v → v.end ≢ None }
 {}
 
-/// The turns of a round use up work: none makes more of it, and one that moves leaves less, or the phase has ended behind it. So
+/// The turns of a round use up work: none makes more of it, and one that moves leaves less, or the phase has ended after it. So
 /// rounds come to an end.
 pub fn rounds_use_up_work()
     ensures never_more { (g : Phase) (w v : World) (t : Turn) (r : TurnReply) → IsOfRound t → Turned g w t r v → work g v ≤ work g w }

@@ -1,4 +1,4 @@
 -- for use above
-pub mod Lots
+pub mod PackedSales
 pub mod Sales
 pub mod Letters

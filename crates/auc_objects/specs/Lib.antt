@@ -1,3 +1,3 @@
 pub mod Objects
 pub mod Answers
-pub mod Lots
+pub mod PackedSales

@@ -1,7 +1,7 @@
 -- A shard of the objects, as callers see it.
 use Rattle.std.specs.Prelude.{◌≡◌, ◌<◌, ◌*◌, ◌%◌, ◌^◌, ℕ, ℤ, pos, List, Option, None, length, All, slice_index_or, slice_set}
 use Rattle.auc_letters.specs.declared.letter.Letter.{Letter}
-use Rattle.auc_letters.specs.declared.letter.Offer.{Offer}
+use Rattle.auc_letters.specs.declared.letter.Bid.{Bid}
 use Rattle.auc_letters.specs.declared.state.Held.{Held}
 use Rattle.auc_letters.specs.Award.{Sale, award, bid_letter}
 use Rattle.auc_letters.specs.Price.{IsPrice}
@@ -44,11 +44,11 @@ abbrev pub with_sale : Objects → ℕ → Sale → Objects
 with_sale s object sale = record s { prices = slice_set s.prices object sale.price; holders = slice_set s.holders object sale.holder }
 
 -- the shard when a bid was dealt with, by the award rule
-abbrev pub after_bid : Objects → ℤ → Offer → Objects
+abbrev pub after_bid : Objects → ℤ → Bid → Objects
 after_bid s eps bid = with_sale s bid.object (award eps (sale_of s bid.object) bid)
 
 -- the letter is this bid, and it fits the shard: the object is the shard's, and the amount is in range
-pub record IsOffer (s : Objects) (letter : Letter) (bid : Offer) : Type 0 where
+pub record IsBidIn (s : Objects) (letter : Letter) (bid : Bid) : Type 0 where
   pub letter_is : letter ≡ bid_letter bid
   pub owns : Owns s bid.object
   pub amount : IsPrice bid.amount

@@ -6,10 +6,10 @@
 
 mod answers;
 mod law;
-mod lot;
+mod packed_sale;
 mod shard;
 
 pub use answers::Answers;
-pub use auc_letters::{Held, Offer};
+pub use auc_letters::{Bid, Held};
 pub use law::letters_sell_by_their_bids;
 pub use shard::ObjectShard;

@@ -3,15 +3,15 @@
 ghost use Rattle.std.specs.Prelude.{map, ◌≡◌, ◌<◌, ◌≤◌, ◌^◌, ◌*◌, pos, ◌+ℤ◌, ◌≤ℤ◌, ◌<ℤ◌, length, replicate, ◌∷◌, [], ◌↔◌, All, IfOk, IfSome, IfNone, IsTrue, Some, None};
 ghost use Rattle.auc_letters.specs.Price.{IsPrice, IsEps};
 ghost use Rattle.auc_letters.specs.Routing.{to_person, to_hub, price_told};
-ghost use Rattle.auc_letters.specs.Award.{Sale, answers, offer_of};
-ghost use Rattle.auc_objects.specs.Objects.{AreObjects, Objects, IsOffer, Owns, SameShape, after_bid, holder_of, price_of, sale_of, with_sale};
+ghost use Rattle.auc_letters.specs.Award.{Sale, answers, bid_of};
+ghost use Rattle.auc_objects.specs.Objects.{AreObjects, Objects, IsBidIn, Owns, SameShape, after_bid, holder_of, price_of, sale_of, with_sale};
 ghost use Rattle.auc_objects.specs.Answers.{letters_of};
-ghost use Rattle.auc_objects.specs.Lots.{holder_in, price_in};
+ghost use Rattle.auc_objects.specs.PackedSales.{holder_in, price_in};
 
 use crate::answers::Answers;
-use crate::lot::Lot;
+use crate::packed_sale::PackedSale;
 use arrayvec::ArrayVec;
-use auc_letters::{Held, Letter, MOST_PRICE, Offer, Out, To, shard_of};
+use auc_letters::{Bid, Held, Letter, MOST_PRICE, Out, To, shard_of};
 use std::alloc::{AllocError, Global};
 use std::marker::Model;
 
@@ -25,32 +25,32 @@ pub struct ObjectShard {
     of: u32,
     person_shards: u32,
     persons: u32,
-    lots: Vec<Lot>,
+    sales: Vec<PackedSale>,
 }
 
 impl Model for ObjectShard {
     ghost use Rattle.std.specs.Prelude.{map};
-    ghost use Rattle.auc_objects.specs.Lots.{holder_in, price_in};
+    ghost use Rattle.auc_objects.specs.PackedSales.{holder_in, price_in};
     ghost use Rattle.auc_objects.specs.Objects.{Objects, AreObjects};
 
     ghost Value = { Objects };
 
-    ghost view = { λ s. record { shard = s.shard; of = s.of; person_shards = s.person_shards; persons = s.persons; prices = map price_in s.lots.items; holders = map holder_in s.lots.items } };
+    ghost view = { λ s. record { shard = s.shard; of = s.of; person_shards = s.person_shards; persons = s.persons; prices = map price_in s.sales.items; holders = map holder_in s.sales.items } };
 
-    ghost invariant = { λ s. AreObjects (record { shard = s.shard; of = s.of; person_shards = s.person_shards; persons = s.persons; prices = map price_in s.lots.items; holders = map holder_in s.lots.items }) };
+    ghost invariant = { λ s. AreObjects (record { shard = s.shard; of = s.of; person_shards = s.person_shards; persons = s.persons; prices = map price_in s.sales.items; holders = map holder_in s.sales.items }) };
 }
 
 /// Objects at these prices, which nobody has.
-fn unsold_at(alloc: Global, prices: &[i64]) -> Result<Vec<Lot>, AllocError>
+fn unsold_at(alloc: Global, prices: &[i64]) -> Result<Vec<PackedSale>, AllocError>
     requires { All IsPrice prices.now }
     ensures prices { IfOk result (λ l. map price_in l.items ≡ prices.now) }
     ensures holders { IfOk result (λ l. map holder_in l.items ≡ replicate (length prices.now) None) }
 {
-    let mut lots = Vec::with_capacity(alloc, prices.len())?;
+    let mut sales = Vec::with_capacity(alloc, prices.len())?;
     for price in prices {
-        lots.push(Lot::unsold(*price))?;
+        sales.push(PackedSale::unsold(*price))?;
     }
-    Ok(lots)
+    Ok(sales)
 }
 
 impl ObjectShard {
@@ -77,13 +77,13 @@ impl ObjectShard {
         requires prices { All IsPrice prices.now }
         ensures { IfOk result (λ s. s ≡ record { shard = shard; of = of; person_shards = person_shards; persons = persons; prices = prices.now; holders = replicate (length prices.now) None }) }
     {
-        let lots = unsold_at(alloc, prices)?;
+        let sales = unsold_at(alloc, prices)?;
         Ok(ObjectShard {
             shard,
             of,
             person_shards,
             persons,
-            lots,
+            sales,
         })
     }
 
@@ -94,7 +94,7 @@ impl ObjectShard {
         ensures present { result ≡ price_of self.now object }
         ensures range { IsPrice result }
     {
-        self.lots[object as usize].price()
+        self.sales[object as usize].price()
     }
 
     /// The holder of an object of the shard, if it has one. O(1).
@@ -103,7 +103,7 @@ impl ObjectShard {
         requires { Owns self.now object }
         ensures { result ≡ holder_of self.now object }
     {
-        self.lots[object as usize].holder()
+        self.sales[object as usize].holder()
     }
 
     /// The present price of an object of the shard, as a letter to a shard of the persons. O(1).
@@ -127,13 +127,13 @@ impl ObjectShard {
     /// The bid that a letter is, if it is one that fits the shard: its object is there and is the shard's, and its amount is
     /// from 0 to the greatest price. O(1).
     #[inline]
-    pub fn offer_in(&self, letter: Letter) -> Option<Offer>
-        ensures some { IfSome result (IsOffer self.now letter) }
-        ensures none { IfNone result ((bid : Offer) → IsOffer self.now letter bid → ⊥) }
+    pub fn bid_in(&self, letter: Letter) -> Option<Bid>
+        ensures some { IfSome result (IsBidIn self.now letter) }
+        ensures none { IfNone result ((bid : Bid) → IsBidIn self.now letter bid → ⊥) }
         ensures sound { AreObjects self.now }
     {
         // Read here, so that the proof knows what every shard keeps.
-        let _ = &self.lots;
+        let _ = &self.sales;
         let Letter::Bid {
             person,
             arc,
@@ -146,7 +146,7 @@ impl ObjectShard {
         if !self.owns(object) || amount < 0 || amount > MOST_PRICE {
             return None;
         }
-        Some(Offer {
+        Some(Bid {
             person,
             arc,
             object,
@@ -159,20 +159,20 @@ impl ObjectShard {
     /// The bid is accepted exactly where its amount is at least the price and `eps` more. Then the amount is the price, and
     /// the person holds the object by his arc. A bid that is refused changes nothing. `eps` is in scaled costs.
     #[inline]
-    pub fn answer(&mut self, offer: Offer, eps: i64) -> Answers
-        requires object { Owns self.old offer.object }
-        requires amount { IsPrice offer.amount }
+    pub fn answer(&mut self, bid: Bid, eps: i64) -> Answers
+        requires object { Owns self.old bid.object }
+        requires amount { IsPrice bid.amount }
         requires eps { IsEps eps }
-        ensures award { self.new ≡ after_bid self.old eps offer }
-        ensures letters { letters_of result ≡ answers self.old.person_shards eps (sale_of self.old offer.object) offer }
+        ensures award { self.new ≡ after_bid self.old eps bid }
+        ensures letters { letters_of result ≡ answers self.old.person_shards eps (sale_of self.old bid.object) bid }
         ensures shape { SameShape self.old self.new }
     {
-        let Offer {
+        let Bid {
             person,
             arc,
             object,
             amount,
-        } = offer;
+        } = bid;
         let price = self.price(object);
         if amount < price + eps {
             let refused = Letter::Refused {
@@ -225,17 +225,17 @@ impl ObjectShard {
         requires object { Owns self.old object }
         requires amount { IsPrice amount }
         requires eps { IsEps eps }
-        ensures award { self.new ≡ after_bid self.old eps (offer_of person arc object amount) }
-        ensures letters { result.items ≡ answers self.old.person_shards eps (sale_of self.old object) (offer_of person arc object amount) }
+        ensures award { self.new ≡ after_bid self.old eps (bid_of person arc object amount) }
+        ensures letters { result.items ≡ answers self.old.person_shards eps (sale_of self.old object) (bid_of person arc object amount) }
         ensures shape { SameShape self.old self.new }
     {
-        let offer = Offer {
+        let bid = Bid {
             person,
             arc,
             object,
             amount,
         };
-        self.answer(offer, eps).into_list()
+        self.answer(bid, eps).into_list()
     }
 
     /// Whether there is such an object, and it is the shard's.
@@ -243,7 +243,7 @@ impl ObjectShard {
     fn owns(&self, object: u32) -> bool
         ensures { IsTrue result ↔ Owns self.now object }
     {
-        (object as usize) < self.lots.len() && shard_of(object, self.of) == self.shard
+        (object as usize) < self.sales.len() && shard_of(object, self.of) == self.shard
     }
 
     /// Sets the price and the holder of an object.
@@ -253,7 +253,7 @@ impl ObjectShard {
         requires price { IsPrice price }
         ensures { self.new ≡ with_sale self.old object (record { price = price; holder = Some held }) }
     {
-        self.lots[object as usize] = Lot::sold(price, held);
+        self.sales[object as usize] = PackedSale::sold(price, held);
     }
 
     /// A letter to the shard of a person.

@@ -3,7 +3,7 @@ use Rattle.std.proofs.Common.{◌≡◌, ℕ, ◌<◌, ◌⊎◌, inl, inr, List
 use Rattle.std.specs.Prelude.{ℤ, ◌≤ℤ◌}
 use Rattle.std.proofs.lemmas.Int.{ints}
 use Rattle.std.proofs.lemmas.Bool.{cases_eq}
-use Rattle.auc_persons.specs.Persons.{Persons, Rising, SameShape, held_after, free_after, after_bid}
+use Rattle.auc_persons.specs.Persons.{Persons, NeverFall, SameShape, held_after, free_after, after_bid}
 use Rattle.auc_letters.specs.declared.state.PersonState.TheVariants.{Free, Waits, Holds}
 use Rattle.std.proofs.lemmas.List.{length-set}
 
@@ -11,10 +11,10 @@ rises_by : (q : List ℤ) (j : ℕ) (p : ℤ) (k : ℕ) → j < length q → get
 rises_by q j p k lt le (inl e) = rw (e, get_or-set_same) le
 rises_by q j p k lt le (inr ne) = rw get_or-set_other (omega (arith, ints))
 
-pub rises_set : (q : List ℤ) (j : ℕ) (p : ℤ) → j < length q → get_or q j (pos 0) ≤ℤ p → Rising q (set q j p)
+pub rises_set : (q : List ℤ) (j : ℕ) (p : ℤ) → j < length q → get_or q j (pos 0) ≤ℤ p → NeverFall q (set q j p)
 rises_set q j p lt le k = rises_by q j p k lt le (cases_eq k j)
 
-pub rises_same : (q : List ℤ) → Rising q q
+pub rises_same : (q : List ℤ) → NeverFall q q
 rises_same q k = omega (arith, ints)
 
 pub shape_same : (s : Persons) → SameShape s s

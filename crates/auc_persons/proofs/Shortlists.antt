@@ -11,7 +11,7 @@ use Rattle.auc_graph.specs.Bid.{value}
 use Rattle.auc_graph.specs.Table.{IsRow, IsRowArc, Table, row_of}
 use Rattle.auc_persons.specs.declared.scan.Scan.{Scan}
 use Rattle.auc_persons.specs.Candidates.{Decides, Gathered, Keeps, KeepsListed, Kept, Listed, no_list}
-use Rattle.auc_persons.specs.Persons.{Rising}
+use Rattle.auc_persons.specs.Persons.{NeverFall}
 use Rattle.auc_persons.specs.Scan.{copy_in, IsScan, Reached}
 use Rattle.auc_persons.specs.Priced.{no_arc}
 
@@ -138,21 +138,21 @@ taken_keeps val row arcs bound i false le all none = none_keeps val row arcs bou
 
 -- ---- copies rise
 
-value_rises : (scale : ℤ) (q r : List ℤ) (b : RowArc) → Rising q r → value scale (copy_in q) b ≤ℤ value scale (copy_in r) b
+value_rises : (scale : ℤ) (q r : List ℤ) (b : RowArc) → NeverFall q r → value scale (copy_in q) b ≤ℤ value scale (copy_in r) b
 value_rises scale q r b rise = let up = rise b.object in omega (arith, ints, up)
 
-rest_rises : (scale : ℤ) (q r : List ℤ) (arcs : List RowArc) (bound : ℤ) (b : RowArc) → Rising q r → Contains arcs b ⊎ (bound ≤ℤ value scale (copy_in q) b) → Contains arcs b ⊎ (bound ≤ℤ value scale (copy_in r) b)
+rest_rises : (scale : ℤ) (q r : List ℤ) (arcs : List RowArc) (bound : ℤ) (b : RowArc) → NeverFall q r → Contains arcs b ⊎ (bound ≤ℤ value scale (copy_in q) b) → Contains arcs b ⊎ (bound ≤ℤ value scale (copy_in r) b)
 rest_rises scale q r arcs bound b rise (inl there) = inl there
 rest_rises scale q r arcs bound b rise (inr out) = let up = value_rises scale q r b rise in inr (omega (arith, ints, up, out))
 
-all_rise : (scale : ℤ) (q r : List ℤ) (row arcs : List RowArc) (bound : ℤ) → Rising q r → (arcs ≡ []) ⊎ All (λ b. Contains arcs b ⊎ (bound ≤ℤ value scale (copy_in q) b)) row → (arcs ≡ []) ⊎ All (λ b. Contains arcs b ⊎ (bound ≤ℤ value scale (copy_in r) b)) row
+all_rise : (scale : ℤ) (q r : List ℤ) (row arcs : List RowArc) (bound : ℤ) → NeverFall q r → (arcs ≡ []) ⊎ All (λ b. Contains arcs b ⊎ (bound ≤ℤ value scale (copy_in q) b)) row → (arcs ≡ []) ⊎ All (λ b. Contains arcs b ⊎ (bound ≤ℤ value scale (copy_in r) b)) row
 all_rise scale q r row arcs bound rise (inl none) = inl none
 all_rise scale q r row arcs bound rise (inr rest) = inr (All-weaker (λ b. Contains arcs b ⊎ (bound ≤ℤ value scale (copy_in q) b)) (λ b. Contains arcs b ⊎ (bound ≤ℤ value scale (copy_in r) b)) (λ b c. rest_rises scale q r arcs bound b rise c) row rest)
 
-keeps_rises : (t : Table) (q r : List ℤ) (l : Listed) → Rising q r → KeepsListed t q l → KeepsListed t r l
+keeps_rises : (t : Table) (q r : List ℤ) (l : Listed) → NeverFall q r → KeepsListed t q l → KeepsListed t r l
 keeps_rises t q r l rise k = record { members = k.members; rising = k.rising; rest = all_rise (pos (length t.rows + 1)) q r _ l.arcs l.bound rise k.rest }
 
-pub kept_rises : (t : Table) (q r : List ℤ) (lists : List Listed) → Rising q r → Kept t q lists → Kept t r lists
+pub kept_rises : (t : Table) (q r : List ℤ) (lists : List Listed) → NeverFall q r → Kept t q lists → Kept t r lists
 kept_rises t q r lists rise kept = All-weaker (KeepsListed t q) (KeepsListed t r) (λ l k. keeps_rises t q r l rise k) lists kept
 
 -- a new list for a person

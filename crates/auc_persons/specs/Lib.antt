@@ -1,6 +1,7 @@
 pub mod Rising
 pub mod Scan
 pub mod Priced
+pub mod Bid
 pub mod Search
 pub mod Candidates
 pub mod Blocks

@@ -3,7 +3,6 @@ use Rattle.std.specs.Prelude.{◌≡◌, ◌≢◌, ◌<◌, ◌≤◌, ◌+◌,
 use Rattle.auc_graph.specs.declared.rows.RowArc.{RowArc}
 use Rattle.auc_graph.specs.Table.{Table, row_of}
 use Rattle.auc_letters.specs.declared.letter.Letter.{Letter}
-use Rattle.auc_letters.specs.declared.out.Out.{Out}
 use Rattle.auc_letters.specs.declared.letter.Why.{Why}
 use Rattle.auc_letters.specs.declared.state.PersonState.{PersonState}
 use Rattle.auc_letters.specs.declared.state.PersonState.TheVariants.{Free, Waits, Holds}
@@ -11,7 +10,7 @@ use Rattle.auc_persons.specs.declared.bidding.Bidding.{Bidding}
 use Rattle.auc_persons.specs.declared.bidding.PersonFault.{PersonFault}
 use Rattle.auc_letters.specs.Persons.{is_free}
 use Rattle.auc_letters.specs.Price.{IsPrice}
-use Rattle.auc_letters.specs.Routing.{to_object}
+use Rattle.auc_letters.specs.Award.{bid_of, bid_out}
 use Rattle.auc_graph.specs.Bid.{IsBid}
 use Rattle.auc_persons.specs.Scan.{copy_in}
 
@@ -74,9 +73,6 @@ Stops t eps s i Why.Mail = ⊥
 Stops t eps s i Why.Fell = ⊥
 Stops t eps s i Why.Stray = ⊥
 
-abbrev pub bid_letter : Persons → ℕ → RowArc → ℤ → Out
-bid_letter s i arc amount = to_object s.object_shards arc.object (Letter.Bid i arc.arc arc.object amount)
-
 -- the shard when the first of the free persons has bid: he waits, and a bid is used up
 abbrev pub after_bid : Persons → ℕ → ℕ → Persons
 after_bid s i j = record s { idle = drop 1 s.idle; bids = s.bids - 1; states = slice_set s.states i (Waits j) }
@@ -86,7 +82,7 @@ after_bid s i j = record s { idle = drop 1 s.idle; bids = s.bids - 1; states = s
 abbrev pub NextBid : Table → ℤ → Persons → Bidding → Persons → Type 0
 NextBid t eps s Bidding.Idle n = (s.idle ≡ []) × (n ≡ s)
 NextBid t eps s (Bidding.Stop why) n = (s.idle ≢ []) × Stops t eps s (first_idle s) why × (n ≡ s)
-NextBid t eps s (Bidding.Out out) n = (s.idle ≢ []) × (s.bids ≢ 0) × ((arc : RowArc) × (amount : ℤ) × Bids t eps s (first_idle s) arc amount × (amount ≤ℤ pos (2 ^ 61)) × (out ≡ bid_letter s (first_idle s) arc amount) × (n ≡ after_bid s (first_idle s) arc.object))
+NextBid t eps s (Bidding.Out out) n = (s.idle ≢ []) × (s.bids ≢ 0) × ((arc : RowArc) × (amount : ℤ) × Bids t eps s (first_idle s) arc amount × (amount ≤ℤ pos (2 ^ 61)) × (out ≡ bid_out s.object_shards (bid_of (first_idle s) arc.arc arc.object amount)) × (n ≡ after_bid s (first_idle s) arc.object))
 
 -- an answer to a person about an object fits where he stands as it wants
 abbrev pub FitsAnswer : Persons → ℕ → ℕ → ℤ → PersonState → Type 0
@@ -141,5 +137,5 @@ pub record SameShape (s n : Persons) : Type 0 where
   pub objects : length n.copies ≡ length s.copies
 
 -- no copy falls
-abbrev pub Rising : List ℤ → List ℤ → Type 0
-Rising q r = (k : ℕ) → slice_index_or q k (pos 0) ≤ℤ slice_index_or r k (pos 0)
+abbrev pub NeverFall : List ℤ → List ℤ → Type 0
+NeverFall q r = (k : ℕ) → slice_index_or q k (pos 0) ≤ℤ slice_index_or r k (pos 0)

@@ -8,7 +8,6 @@ ghost use Rattle.auc_persons.specs.Priced.{value_in};
 
 use crate::priced_row::PricedRow;
 use crate::scan::Scan;
-use auc_graph::RowArc;
 
 /// The price, what the best other arc costs more, and eps.
 #[inline]
@@ -48,30 +47,20 @@ pub(crate) fn scaled(scale: i64, spread: i64) -> i64
     scale * spread
 }
 
-/// What is bid: an amount, in scaled costs, and the arc that it is bid by.
-#[derive(Clone, Copy)]
-pub(crate) struct Bid {
-    pub(crate) amount: i64,
-    pub(crate) arc: RowArc,
-}
-
 /// What is bid on the best arc of a row that a pass over it has found. `spread` is that of the costs of the file; `eps` is in scaled
 /// costs.
 ///
 /// Takes O(1) time and no memory. The method is the bid of the auction algorithm (Bertsekas, 1979).
-pub(crate) fn bid_of(row: PricedRow, spread: i64, eps: i64, found: Scan) -> Bid
+pub(crate) fn amount_of(row: PricedRow, spread: i64, eps: i64, found: Scan) -> i64
     requires spread_low { pos 0 ≤ℤ spread }
     requires spread_high { spread ≤ℤ pos (2 * 10 ^ 9) }
     requires eps { IsEps eps }
     requires found { IsScan (value_in row) row.arcs.now found }
-    ensures { IsBid row.entry.scale spread eps (copy_in row.entry.copies.now) row.entry.arcs.now result.arc result.amount }
+    ensures { IsBid row.entry.scale spread eps (copy_in row.entry.copies.now) row.entry.arcs.now found.best result }
 {
-    let arc = found.best;
-    let price = row.copies[arc.object as usize];
+    let price = row.copies[found.best.object as usize];
     if found.second < i64::MAX {
-        let amount = next_amount(price, found.second, found.value, eps);
-        return Bid { amount, arc };
+        return next_amount(price, found.second, found.value, eps);
     }
-    let amount = only_amount(price, scaled(row.scale, spread), eps);
-    Bid { amount, arc }
+    only_amount(price, scaled(row.scale, spread), eps)
 }

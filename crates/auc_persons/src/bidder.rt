@@ -5,7 +5,7 @@ ghost use Rattle.auc_graph.specs.Bid.{value};
 ghost use Rattle.auc_graph.specs.Table.{Table, row_of};
 ghost use Rattle.auc_persons.specs.Candidates.{Kept, Listed};
 ghost use Rattle.auc_persons.specs.declared.method.Method.{Method};
-ghost use Rattle.auc_persons.specs.Persons.{Rising};
+ghost use Rattle.auc_persons.specs.Persons.{NeverFall};
 ghost use Rattle.auc_persons.specs.Scan.{copy_in, IsScan};
 ghost use Rattle.auc_letters.specs.Price.{IsPrice};
 
@@ -23,9 +23,9 @@ use std::marker::Model;
 /// How many arcs a list is to hold.
 const WANTED: i64 = 7;
 
-/// What a shard's bids are found by ([`crate::PersonShard::next_bid_by`]): lists of candidates, one for each person, by which most bids of rows
-/// of more than 40 arcs look at a few arcs alone, and bounds of blocks for rows of more than 256; and of shorter rows that they rise, or copies that
-/// do. All are of the rows that they were made for, and stay right as long as no copy of a price falls.
+/// What the bids of a shard's persons are found by ([`Bidder::bid`], [`crate::PersonShard::next_bid_by`]): lists of candidates, one for each person, by
+/// which most bids of rows of more than 40 arcs look at a few arcs alone, and bounds of blocks for rows of more than 256; and of shorter rows that they
+/// rise, or copies that do. All are of the rows that they were made for, and stay right as long as no copy of a price falls.
 #[derive(Drop)]
 pub struct Bidder {
     lists: Vec<Shortlist>,
@@ -196,5 +196,5 @@ impl Bidder {
 /// Lists of candidates stay right while no copy falls: those of a shard through each of its calls, and from the copies of one
 /// phase to the prices that it leaves, with which the next one begins. Does nothing: its contract is the law.
 pub fn lists_stay_right()
-    ensures { (t : Table) (copies later : List ℤ) (lists : List Listed) → Rising copies later → Kept t copies lists → Kept t later lists }
+    ensures { (t : Table) (copies later : List ℤ) (lists : List Listed) → NeverFall copies later → Kept t copies lists → Kept t later lists }
 {}

@@ -9,7 +9,7 @@ ghost use Rattle.auc_persons.specs.Candidates.{Kept};
 ghost use Rattle.auc_persons.specs.Scan.{copy_in, IsScan};
 
 use crate::bound::{BLOCK, Blocked, Bound};
-use crate::listing::scan_and_list;
+use crate::lists_by_blocks::scan_and_list;
 use crate::method::{LONG, has_row_above};
 use crate::scan::Scan;
 use crate::search::Hint;

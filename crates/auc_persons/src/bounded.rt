@@ -70,7 +70,7 @@ fn with_block(row: PricedRow, begun: Search, from: usize, least: i64) -> Search
 
 /// The best arc of a person with a long row, in one pass over his blocks that begins with the two remembered arcs. Each block that is
 /// looked at gets its least value as bound.
-// Apart from the bids that a list decides, so that what it keeps from block to block is in registers.
+// Apart: docs/CODEGEN.md, "Loops of their own".
 #[inline(never)]
 pub(crate) fn scan_blocks(
     rows: &Rows,

@@ -25,7 +25,7 @@ fn least_of_whole(row: PricedRow, from: usize) -> i64
     ensures { Above (value_in row.entry) row.entry.arcs.now from (from + 16) result }
 {
     let mut least = i64::MAX;
-    // A fixed number of arcs, so that LLVM writes the loop out.
+    // A fixed number of arcs: docs/CODEGEN.md, "A block written out".
     for number in 0..BLOCK {
         least = lower(least, row.value(from + number));
     }

@@ -4,20 +4,22 @@
 //! answers: pure code, with no mail, no lock and no thread. The bid is that of `auc_graph` (`specs/Bid.antt`); what each
 //! call leaves of the shard is defined in `specs/Persons.antt`.
 //!
-//! Which way a row is looked over is told by its own length and order alone (`method.rt`). Beside a shard its caller may keep a [`Bidder`], by which
-//! the bids are the same and found sooner ([`PersonShard::next_bid_by`]): short rows in rising order of their objects (`specs/Short.antt`), and lists of
-//! a few arcs of longer ones. What a list says of its row is defined in `specs/Candidates.antt`; where it doesn't tell the bid of a row of more than 256
-//! arcs, the row is looked at by blocks, each with a bound (`specs/Blocks.antt`), and above 640 arcs the list is made anew by them.
+//! Which way a row is looked over is told by its own length and order alone (`method.rt`). Beside a shard, or beside prices of his own, a caller may
+//! keep a [`Bidder`], by which the bids are the same and found sooner ([`Bidder::bid`], [`PersonShard::next_bid_by`]): short rows in rising order of
+//! their objects (`specs/Short.antt`), and lists of a few arcs of longer ones. What a list says of its row is defined in `specs/Candidates.antt`; where
+//! it doesn't tell the bid of a row of more than 256 arcs, the row is looked at by blocks, each with a bound (`specs/Blocks.antt`), and above 640 arcs
+//! the list is made anew by them.
 #![tactic(auto)]
 
 mod amount;
+mod bid;
 mod bidder;
 mod bidding;
 mod blocks;
 mod bound;
 mod bounded;
 mod least;
-mod listing;
+mod lists_by_blocks;
 mod method;
 mod priced_row;
 mod rising;
@@ -30,7 +32,7 @@ mod sorted;
 mod sorted_row;
 mod sorting;
 
-pub use auc_letters::PersonState;
+pub use auc_letters::{Bid, PersonState};
 pub use bidder::{Bidder, lists_stay_right};
 pub use bidding::{Bidding, PersonFault};
 pub use shard::PersonShard;

@@ -13,7 +13,7 @@ pub(crate) const SHORT: usize = 40;
 /// and 0.71 where they are (`share 20`); 128 arcs would take 1.01 (`uniform 128`).
 pub(crate) const LONG: usize = 256;
 
-/// The most arcs of a row whose list is made by a pass over all of it; that of a longer one is made by its blocks (`listing`). At 1,000 arcs they take
+/// The most arcs of a row whose list is made by a pass over all of it; that of a longer one is made by its blocks (`lists_by_blocks`). At 1,000 arcs they take
 /// 0.95 of the time of such a pass (`share 20` of 5,000 persons), at 2,000 0.86 (dense); at 300 arcs 1.37 (`share 20` of 1,500), since such a pass is
 /// guessed well.
 pub(crate) const VERY_LONG: usize = 640;

@@ -28,7 +28,7 @@ impl Least {
         ensures { Lowered self value place result }
     {
         let is_less = value < self.value;
-        // Each number is chosen apart, so that LLVM makes selects of them; by one branch for all three it would make a branch.
+        // Each number apart: docs/CODEGEN.md, "Numbers chosen one by one".
         let second = if is_less {
             self.value
         } else if value < self.second {

@@ -38,7 +38,7 @@ impl Scan {
         requires { IsValue self.value }
         ensures { Joined self arc value result }
     {
-        // Each number is chosen apart: LLVM makes selects of them so, and in a short row a branch is guessed wrongly too often.
+        // Each number apart: docs/CODEGEN.md, "Numbers chosen one by one".
         let is_better = self.is_beaten(arc, value);
         Scan {
             value: self.value_with(value, is_better),
@@ -84,25 +84,6 @@ impl Scan {
             arc: if is_better { arc.arc } else { best.arc },
         }
     }
-}
-
-/// The same. What a call has answered in memory is told anew by its numbers, so that what was found in line stays in registers.
-#[inline(always)]
-pub(crate) fn retold(found: Option<Scan>) -> Option<Scan>
-    ensures { result ≡ found }
-{
-    let Scan {
-        value,
-        second,
-        best,
-    } = found?;
-    let RowArc { cost, object, arc } = best;
-    let best = RowArc { cost, object, arc };
-    Some(Scan {
-        value,
-        second,
-        best,
-    })
 }
 
 /// One more than the persons, by which costs are scaled.

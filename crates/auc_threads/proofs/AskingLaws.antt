@@ -3,8 +3,9 @@ use Rattle.std.proofs.Common.{◌≡◌, ℕ, ◌<◌, sym, ◌∙◌, subst, ar
 use Rattle.std.specs.Prelude.{ℤ}
 use Rattle.auc_graph.specs.Table.{Table}
 use Rattle.auc_letters.specs.declared.out.Out.{Out}
+use Rattle.auc_letters.specs.Award.{bid_of, bid_out}
 use Rattle.auc_persons.specs.declared.bidding.Bidding.{Bidding}
-use Rattle.auc_persons.specs.Persons.{NextBid, Persons, SameShape, bid_letter, first_idle}
+use Rattle.auc_persons.specs.Persons.{NextBid, Persons, SameShape, first_idle}
 use Rattle.auc_answers.specs.Shards.{IsPersonShard}
 use Rattle.auc_answers.proofs.ShardLaws.{next_bid_own, persons_shape}
 use Rattle.auc_threads.specs.Taking.{GoesWithin}
@@ -18,7 +19,7 @@ asked_reach t eps shards number s n Bidding.Idle is known next o e = absurd cc
 asked_reach t eps shards number s n (Bidding.Stop why) is known next o e = absurd cc
 asked_reach t eps shards number s n (Bidding.Out x) is known next o e =
     let arc = next.2.0 in
-    let here : GoesWithin shards (bid_letter s (first_idle s) arc next.2.1) = rw is.object_shards (omega arith) in
+    let here : GoesWithin shards (bid_out s.object_shards (bid_of (first_idle s) arc.arc arc.object next.2.1)) = rw is.object_shards (omega arith) in
     subst (λ (y : Out). GoesWithin shards y) (sym next.2.4 ∙ same x o e) here
   where
     same : (x o : Out) → Bidding.Out x ≡ Bidding.Out o → x ≡ o

@@ -69,7 +69,7 @@ plays_bids t eps s n (Make o ∷ acts) f =
 -- where the worker had made no call of that mail, its seat there counts no more bids than are allowed
 pub bids_few : (t : Table) (eps : ℤ) (ro rp : ℕ) (s n : Persons) (a a' p p' : Account Letter) (step : Step) → Buys t eps ro rp s a p n a' p' step → a.count ≡ 0 → a'.count ≤ s.bids
 bids_few t eps ro rp s n a a' p p' step f none =
-    omega (arith, none, f.posts.lined.counted, sent_long a.worker f.posts.posts, posts_long (made_in f.acts) f.posts.posts f.posts_step f.posts.posted, plays_bids t eps s n f.acts f.plays)
+    omega (arith, none, f.posts.adds.counted, sent_long a.worker f.posts.posts, posts_long (made_in f.acts) f.posts.posts f.posts_step f.posts.posted, plays_bids t eps s n f.acts f.plays)
 
 bids_stop : (x y : Step) → Step.Stop Why.Bids ≡ first_step x y → (x ≢ Step.Stop Why.Bids) → (x ≡ Step.On) × (y ≡ Step.Stop Why.Bids)
 bids_stop Step.On y e ne = (refl, sym e)
@@ -97,13 +97,13 @@ bids_spent t eps ro rp s n a a' p p' step f none stop =
     let both = bids_stop f.posts_step f.acts_step (sym stop ∙ f.is) (posts_bids (made_in f.acts) f.posts.posts f.posts_step f.posts.posted) in
     let posted : Posts (made_in f.acts) f.posts.posts Step.On = subst (λ (x : Step). Posts (made_in f.acts) f.posts.posts x) both.0 f.posts.posted in
     let left : n.bids ≡ 0 = none_left t eps n f.fault (subst (λ (x : Step). AfterActs t eps n f.fault x) both.1 f.after) in
-    omega (arith, none, f.posts.lined.counted, sent_full a.worker (made_in f.acts) f.posts.posts posted, plays_bids t eps s n f.acts f.plays, left)
+    omega (arith, none, f.posts.adds.counted, sent_full a.worker (made_in f.acts) f.posts.posts posted, plays_bids t eps s n f.acts f.plays, left)
 
 -- where there is room for lines, each call has its line
-pub bids_lined : (t : Table) (eps : ℤ) (ro rp : ℕ) (s n : Persons) (a a' p p' : Account Letter) (step : Step) → Buys t eps ro rp s a p n a' p' step → 0 < ro → a.count ≡ 0 → a.lines ≡ [] → length a'.lines ≡ a'.count
-bids_lined t eps ro rp s n a a' p p' step f some fresh none =
-    let lines : a'.lines ≡ lines_sent a.worker f.posts.posts = f.posts.lined.told some ∙ ap (λ w. w ++ lines_sent a.worker f.posts.posts) none in
-    omega (arith, ap length lines, f.posts.lined.counted, fresh)
+pub bids_noted : (t : Table) (eps : ℤ) (ro rp : ℕ) (s n : Persons) (a a' p p' : Account Letter) (step : Step) → Buys t eps ro rp s a p n a' p' step → 0 < ro → a.count ≡ 0 → a.lines ≡ [] → length a'.lines ≡ a'.count
+bids_noted t eps ro rp s n a a' p p' step f some fresh none =
+    let lines : a'.lines ≡ lines_sent a.worker f.posts.posts = f.posts.adds.told some ∙ ap (λ w. w ++ lines_sent a.worker f.posts.posts) none in
+    omega (arith, ap length lines, f.posts.adds.counted, fresh)
 
 -- ---- asking
 
@@ -175,7 +175,7 @@ not_over t eps n Step.On h e = cc
 not_over t eps n Step.Over h e = h
 not_over t eps n (Step.Stop why) h e = cc
 
--- bids were made and posted, and nothing was heard behind them
+-- bids were made and posted, and nothing was heard after them
 module _ (t : Table) (eps : ℤ) (ro rp : ℕ) (s m : Persons) (a b p : Account Letter) (old bids sliced : List Out) (asked posted : Step) (f : Asks t eps s old m bids asked) (none : old ≡ []) (same : sliced ≡ bids) (g : PostsAt ro a sliced b posted) where
   made_posts : PostsAt ro a (made_in f.acts) b posted
   made_posts = subst (λ w. PostsAt ro a w b posted) (same ∙ (f.made ∙ ap (λ w. w ++ made_in f.acts) none)) g

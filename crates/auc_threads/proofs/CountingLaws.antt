@@ -12,10 +12,10 @@ use Rattle.auc_book.specs.Seat.{Account, SeatCalls}
 use Rattle.auc_answers.specs.Hub.{Counting}
 use Rattle.auc_threads.specs.declared.hub.Heard.{Heard}
 use Rattle.auc_threads.specs.Taking.{TookMore, letters_in}
-use Rattle.auc_threads.specs.Posting.{IsOver, Lined, lines_by}
+use Rattle.auc_threads.specs.Posting.{IsOver, AddsLines, lines_by}
 use Rattle.auc_threads.specs.Counting.{Closes, Counted, Counts, CountsOn, firsts_in, is_first, lines_closed}
 use Rattle.auc_threads.proofs.TakingLaws.{letters_append, took_end, took_nil, took_then}
-use Rattle.auc_threads.proofs.PostingLaws.{lined_as, lined_call, lined_none, lined_then}
+use Rattle.auc_threads.proofs.PostingLaws.{adds_as, adds_call, adds_none, adds_then}
 
 firsts_append : (xs ys : List Letter) → firsts_in (xs ++ ys) ≡ firsts_in xs + firsts_in ys
 firsts_append xs ys = sum_by-append (λ x. cond (is_first x) 1 0) xs ys
@@ -33,18 +33,18 @@ closed_more k b (q ∷ rs) r =
     ∙ ap (λ (n : ℕ). (lines_by k (Call.Close b) (close_reply q) ++ lines_closed k (b + 1) rs) ++ lines_by k (Call.Close n) (close_reply r)) (omega arith))
 
 pub closes_none : (room : ℕ) (a : Account Letter) → Closes room 0 a a
-closes_none room a = record { answers = []; each = refl; lined = lined_none room a }
+closes_none room a = record { answers = []; each = refl; adds = adds_none room a }
 
 pub closes_more : (room n m : ℕ) (a b c : Account Letter) (r : Result Bool TrailFull) → Closes room n a b → SeatCalls room b (Call.Close n) (close_reply r) c → n + 1 ≡ m → Closes room m a c
 closes_more room n m a b c r f h e =
-    let call = lined_call room b c (Call.Close n) (close_reply r) h in
-    let named : Lined room b (lines_by a.worker (Call.Close n) (close_reply r)) c = subst (λ (k : ℕ). Lined room b (lines_by k (Call.Close n) (close_reply r)) c) f.lined.worker call in
+    let call = adds_call room b c (Call.Close n) (close_reply r) h in
+    let named : AddsLines room b (lines_by a.worker (Call.Close n) (close_reply r)) c = subst (λ (k : ℕ). AddsLines room b (lines_by k (Call.Close n) (close_reply r)) c) f.adds.worker call in
     let lines : lines_closed a.worker 0 f.answers ++ lines_by a.worker (Call.Close n) (close_reply r) ≡ lines_closed a.worker 0 (f.answers ++ r ∷ []) =
     sym (closed_more a.worker 0 f.answers r ∙ ap (λ (k : ℕ). lines_closed a.worker 0 f.answers ++ lines_by a.worker (Call.Close k) (close_reply r)) (omega (arith, f.each))) in
     record {
       answers = f.answers ++ r ∷ [];
       each = omega (arith, length-append f.answers (r ∷ []), f.each, e);
-      lined = lined_as room a c _ _ lines (lined_then room a b c (lines_closed a.worker 0 f.answers) (lines_by a.worker (Call.Close n) (close_reply r)) f.lined named);
+      adds = adds_as room a c _ _ lines (adds_then room a b c (lines_closed a.worker 0 f.answers) (lines_by a.worker (Call.Close n) (close_reply r)) f.adds named);
     }
 
 -- closes take no letters
@@ -57,7 +57,7 @@ no_letters k b (r ∷ rs) = letters_append (lines_by k (Call.Close b) (close_rep
     one (Some x) = refl
 
 took_closed : (room n : ℕ) (a b : Account Letter) → Closes room n a b → TookMore room a [] b
-took_closed room n a b f = record { worker = f.lined.worker; told = λ some. ap letters_in (f.lined.told some) ∙ (letters_append a.lines (lines_closed a.worker 0 f.answers) ∙ ap (λ w. letters_in a.lines ++ w) (no_letters a.worker 0 f.answers)) }
+took_closed room n a b f = record { worker = f.adds.worker; told = λ some. ap letters_in (f.adds.told some) ∙ (letters_append a.lines (lines_closed a.worker 0 f.answers) ∙ ap (λ w. letters_in a.lines ++ w) (no_letters a.worker 0 f.answers)) }
 
 -- ---- counting
 

@@ -6,13 +6,13 @@ use Rattle.std.proofs.lemmas.List.{append-nil, map-append, map-id}
 use Rattle.std.proofs.lemmas.List.FromFn.{get_or-range_with_len, length-range_with_len, map-range_with_len_more}
 use Rattle.std.proofs.lemmas.List.Elements.{All-append, All-filter, All-map, All-nil, All-push, All-weaker, filter-append}
 use Rattle.auc_letters.specs.declared.letter.Letter.{Letter}
-use Rattle.auc_letters.specs.declared.letter.Offer.{Offer}
+use Rattle.auc_letters.specs.declared.letter.Bid.{Bid}
 use Rattle.auc_letters.specs.declared.letter.Why.{Why}
 use Rattle.auc_letters.specs.declared.out.Out.{Out}
 use Rattle.auc_letters.specs.declared.state.Held.{Held}
 use Rattle.auc_letters.specs.Award.{Sale, answers, awards, bid_letter, is_accepted, refusal}
 use Rattle.auc_letters.specs.Routing.{price_told}
-use Rattle.auc_objects.specs.Objects.{IsOffer, Objects, Owns, SameShape, after_bid, price_of, sale_of}
+use Rattle.auc_objects.specs.Objects.{IsBidIn, Objects, Owns, SameShape, after_bid, price_of, sale_of}
 use Rattle.auc_objects.proofs.Sales.{shape_same, shape_sold}
 use Rattle.auc_answers.specs.Boxes.{Reaches}
 use Rattle.auc_answers.proofs.ShardLaws.{answers_reach}
@@ -50,18 +50,18 @@ prices_skip s n one object old now e was =
 
 -- ---- whether a bid was accepted, by its answers
 
-two_of : (n : ℕ) (held : Option Held) (bid : Offer) → length (awards n held bid.person bid.object bid.amount) ≡ 2
+two_of : (n : ℕ) (held : Option Held) (bid : Bid) → length (awards n held bid.person bid.object bid.amount) ≡ 2
 two_of n None bid = refl
 two_of n (Some held) bid = refl
 
-pub accepted_is : (n : ℕ) (eps : ℤ) (sale : Sale) (bid : Offer) → length (answers n eps sale bid) ≡ 2 → is_accepted eps sale bid ≡ true
+pub accepted_is : (n : ℕ) (eps : ℤ) (sale : Sale) (bid : Bid) → length (answers n eps sale bid) ≡ 2 → is_accepted eps sale bid ≡ true
 accepted_is n eps sale bid two = by (is_accepted eps sale bid) two
   where
     by : (b : Bool) → length (cond b (awards n sale.holder bid.person bid.object bid.amount) (refusal n bid.person bid.object sale.price)) ≡ 2 → b ≡ true
     by true e = refl
     by false e = absurd cc
 
-pub declined_is : (n : ℕ) (eps : ℤ) (sale : Sale) (bid : Offer) → (length (answers n eps sale bid) ≡ 2 → ⊥) → is_accepted eps sale bid ≡ false
+pub declined_is : (n : ℕ) (eps : ℤ) (sale : Sale) (bid : Bid) → (length (answers n eps sale bid) ≡ 2 → ⊥) → is_accepted eps sale bid ≡ false
 declined_is n eps sale bid not_two = by (is_accepted eps sale bid) not_two
   where
     by : (b : Bool) → (length (cond b (awards n sale.holder bid.person bid.object bid.amount) (refusal n bid.person bid.object sale.price)) ≡ 2 → ⊥) → b ≡ false
@@ -69,7 +69,7 @@ declined_is n eps sale bid not_two = by (is_accepted eps sale bid) not_two
     by false h = refl
 
 -- what is noted of a bid is what is said of it
-pub said_accepted : (eps : ℤ) (s t : Objects) (bid : Offer) (old one two ls : List Out) (shards knowing : ℕ) → is_accepted eps (sale_of s bid.object) bid ≡ true → t ≡ after_bid s eps bid → ls ≡ answers s.person_shards eps (sale_of s bid.object) bid
+pub said_accepted : (eps : ℤ) (s t : Objects) (bid : Bid) (old one two ls : List Out) (shards knowing : ℕ) → is_accepted eps (sale_of s bid.object) bid ≡ true → t ≡ after_bid s eps bid → ls ≡ answers s.person_shards eps (sale_of s bid.object) bid
     → one ≡ old ++ ls → s.person_shards ≡ shards → knowing ≡ bid.person % shards → two ≡ one ++ prices_told t shards knowing bid.object → two ≡ old ++ says eps s bid
 said_accepted eps s t bid old one two ls shards knowing accepted left letters first e know second =
     let after : Objects = after_bid s eps bid in
@@ -84,7 +84,7 @@ said_accepted eps s t bid old one two ls shards knowing accepted left letters fi
     ∙ (ap (λ w. old ++ (w ++ prices_told t shards knowing bid.object)) letters
     ∙ (ap (λ w. old ++ (answers s.person_shards eps (sale_of s bid.object) bid ++ w)) prices ∙ ap (λ w. old ++ w) (sym whole)))))
 
-pub said_declined : (eps : ℤ) (s : Objects) (bid : Offer) (old one ls : List Out) → is_accepted eps (sale_of s bid.object) bid ≡ false → ls ≡ answers s.person_shards eps (sale_of s bid.object) bid → one ≡ old ++ ls → one ≡ old ++ says eps s bid
+pub said_declined : (eps : ℤ) (s : Objects) (bid : Bid) (old one ls : List Out) → is_accepted eps (sale_of s bid.object) bid ≡ false → ls ≡ answers s.person_shards eps (sale_of s bid.object) bid → one ≡ old ++ ls → one ≡ old ++ says eps s bid
 said_declined eps s bid old one ls declined letters first =
     let whole : says eps s bid ≡ answers s.person_shards eps (sale_of s bid.object) bid =
     ap (λ b. answers s.person_shards eps (sale_of s bid.object) bid ++ cond b (prices_told (after_bid s eps bid) s.person_shards (bid.person % s.person_shards) bid.object) []) declined
@@ -93,11 +93,11 @@ said_declined eps s bid old one ls declined letters first =
 
 -- ---- several bids
 
-pub after_append : (eps : ℤ) (s : Objects) (bs cs : List Offer) → after_bids eps s (bs ++ cs) ≡ after_bids eps (after_bids eps s bs) cs
+pub after_append : (eps : ℤ) (s : Objects) (bs cs : List Bid) → after_bids eps s (bs ++ cs) ≡ after_bids eps (after_bids eps s bs) cs
 after_append eps s [] cs = refl
 after_append eps s (b ∷ bs) cs = after_append eps (after_bid s eps b) bs cs
 
-pub says_append : (eps : ℤ) (s : Objects) (bs cs : List Offer) → says_all eps s (bs ++ cs) ≡ says_all eps s bs ++ says_all eps (after_bids eps s bs) cs
+pub says_append : (eps : ℤ) (s : Objects) (bs cs : List Bid) → says_all eps s (bs ++ cs) ≡ says_all eps s bs ++ says_all eps (after_bids eps s bs) cs
 says_append eps s [] cs = refl
 says_append eps s (b ∷ bs) cs = ap (λ w. says eps s b ++ w) (says_append eps (after_bid s eps b) bs cs) ∙ sym (append_assoc (says eps s b) (says_all eps (after_bid s eps b) bs) (says_all eps (after_bids eps (after_bid s eps b) bs) cs))
 
@@ -111,20 +111,20 @@ shape_then s t u f g = record {
   holders = g.holders ∙ f.holders;
 }
 
-pub shape_after : (eps : ℤ) (s : Objects) (bs : List Offer) → SameShape s (after_bids eps s bs)
+pub shape_after : (eps : ℤ) (s : Objects) (bs : List Bid) → SameShape s (after_bids eps s bs)
 shape_after eps s [] = shape_same s
 shape_after eps s (b ∷ bs) = shape_then s (after_bid s eps b) (after_bids eps (after_bid s eps b) bs) (shape_sold s b.object _) (shape_after eps (after_bid s eps b) bs)
 
 owns_back : (s t : Objects) (j : ℕ) → SameShape s t → Owns t j → Owns s j
 owns_back s t j e o = record { known = subst (λ (n : ℕ). j < n) e.objects o.known; own = ap (λ (n : ℕ). j % n) (sym e.of) ∙ (o.own ∙ e.shard) }
 
-fits_back : (s t : Objects) (b : Offer) → SameShape s t → Fits t b → Fits s b
+fits_back : (s t : Objects) (b : Bid) → SameShape s t → Fits t b → Fits s b
 fits_back s t b e f = record { owns = owns_back s t b.object e f.owns; amount = f.amount }
 
 pub deals_none : (eps : ℤ) (s : Objects) (letters : List Letter) (step : Step) → letters ≡ [] → AfterLetters s [] step → DealsWith eps s letters [] s step
 deals_none eps s letters step e after = record { bids = []; stray = []; letters_are = e; fit = All-nil (Fits s); left = refl; said_are = refl; after = after }
 
-pub deals_stray : (eps : ℤ) (s t : Objects) (x : Letter) (more : List Out) → t ≡ s → more ≡ [] → ((bid : Offer) → IsOffer s x bid → ⊥) → DealsWith eps s (x ∷ []) more t (Step.Stop Why.Stray)
+pub deals_stray : (eps : ℤ) (s t : Objects) (x : Letter) (more : List Out) → t ≡ s → more ≡ [] → ((bid : Bid) → IsBidIn s x bid → ⊥) → DealsWith eps s (x ∷ []) more t (Step.Stop Why.Stray)
 deals_stray eps s t x more e none unfit = record {
   bids = [];
   stray = x ∷ [];
@@ -132,15 +132,15 @@ deals_stray eps s t x more e none unfit = record {
   fit = All-nil (Fits s);
   left = e;
   said_are = none;
-  after = (x, refl, subst (λ (z : Objects). (bid : Offer) → IsOffer z x bid → ⊥) (sym e) unfit);
+  after = (x, refl, subst (λ (z : Objects). (bid : Bid) → IsBidIn z x bid → ⊥) (sym e) unfit);
 }
 
-pub deals_bid : (eps : ℤ) (s t : Objects) (x : Letter) (bid : Offer) (more : List Out) → IsOffer s x bid → t ≡ after_bid s eps bid → more ≡ says eps s bid → DealsWith eps s (x ∷ []) more t Step.On
-deals_bid eps s t x bid more offer left said = record {
+pub deals_bid : (eps : ℤ) (s t : Objects) (x : Letter) (bid : Bid) (more : List Out) → IsBidIn s x bid → t ≡ after_bid s eps bid → more ≡ says eps s bid → DealsWith eps s (x ∷ []) more t Step.On
+deals_bid eps s t x bid more fits left said = record {
   bids = bid ∷ [];
   stray = [];
-  letters_are = ap (λ y. y ∷ []) offer.letter_is;
-  fit = All-push (Fits s) [] bid (All-nil (Fits s)) (record { owns = offer.owns; amount = offer.amount });
+  letters_are = ap (λ y. y ∷ []) fits.letter_is;
+  fit = All-push (Fits s) [] bid (All-nil (Fits s)) (record { owns = fits.owns; amount = fits.amount });
   left = left;
   said_are = said ∙ sym (append-nil (says eps s bid));
   after = refl;
@@ -193,7 +193,7 @@ others_below n one = All-filter (λ q. not (q == one)) (λ q. q < n) (range_with
 prices_reach : (n : ℕ) (s : Objects) (one object : ℕ) → All (Reaches n) (prices_told s n one object)
 prices_reach n s one object = All-map (Reaches n) (λ q. price_told s.persons q object (price_of s object)) (others n one) (others_below n one)
 
-says_reach : (n : ℕ) (eps : ℤ) (s : Objects) (bid : Offer) → s.person_shards ≡ n → 0 < n → All (Reaches n) (says eps s bid)
+says_reach : (n : ℕ) (eps : ℤ) (s : Objects) (bid : Bid) → s.person_shards ≡ n → 0 < n → All (Reaches n) (says eps s bid)
 says_reach n eps s bid e some =
     All-append (Reaches n) (answers s.person_shards eps (sale_of s bid.object) bid) _ (subst (λ (m : ℕ). All (Reaches n) (answers m eps (sale_of s bid.object) bid)) (sym e) (answers_reach n eps (sale_of s bid.object) bid some))
     (by (is_accepted eps (sale_of s bid.object) bid))
@@ -202,7 +202,7 @@ says_reach n eps s bid e some =
     by true = subst (λ (m : ℕ). All (Reaches n) (prices_told (after_bid s eps bid) m (bid.person % s.person_shards) bid.object)) (sym e) (prices_reach n (after_bid s eps bid) (bid.person % s.person_shards) bid.object)
     by false = All-nil (Reaches n)
 
-pub all_reach : (n : ℕ) (eps : ℤ) (s : Objects) (bids : List Offer) → s.person_shards ≡ n → 0 < n → All (Reaches n) (says_all eps s bids)
+pub all_reach : (n : ℕ) (eps : ℤ) (s : Objects) (bids : List Bid) → s.person_shards ≡ n → 0 < n → All (Reaches n) (says_all eps s bids)
 all_reach n eps s [] e some = All-nil (Reaches n)
 all_reach n eps s (b ∷ bs) e some = All-append (Reaches n) (says eps s b) (says_all eps (after_bid s eps b) bs) (says_reach n eps s b e some) (all_reach n eps (after_bid s eps b) bs e some)
 

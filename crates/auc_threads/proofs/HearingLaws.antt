@@ -8,7 +8,7 @@ use Rattle.std.proofs.lemmas.List.Elements.{Contains-append_left, Contains-appen
 use Rattle.auc_letters.specs.declared.letter.Letter.{Letter}
 use Rattle.auc_letters.specs.declared.letter.Why.{Why}
 use Rattle.auc_persons.specs.declared.bidding.PersonFault.{PersonFault}
-use Rattle.auc_persons.specs.Persons.{OnLetter, Persons, Rising, copy_of}
+use Rattle.auc_persons.specs.Persons.{OnLetter, Persons, NeverFall, copy_of}
 use Rattle.auc_persons.proofs.Rise.{rises_same}
 use Rattle.auc_book.specs.Seat.{Account}
 use Rattle.auc_answers.specs.Reasons.{reason_for}
@@ -16,10 +16,10 @@ use Rattle.auc_threads.specs.Taking.{TookMore}
 use Rattle.auc_threads.specs.Hearing.{Falls, Hears, HearsOf, IsTold, Tells}
 use Rattle.auc_threads.proofs.TakingLaws.{took_end, took_then}
 
-rises_equal : (q r : List ℤ) → r ≡ q → Rising q r
-rises_equal q r e = subst (λ xs. Rising q xs) (sym e) (rises_same q)
+rises_equal : (q r : List ℤ) → r ≡ q → NeverFall q r
+rises_equal q r e = subst (λ xs. NeverFall q xs) (sym e) (rises_same q)
 
-rises_then : (q r u : List ℤ) → Rising q r → Rising r u → Rising q u
+rises_then : (q r u : List ℤ) → NeverFall q r → NeverFall r u → NeverFall q u
 rises_then q r u f g k = let x = f k in let y = g k in omega (arith, ints, x, y)
 
 -- nothing is heard, and nothing falls
@@ -127,7 +127,7 @@ pub hears_end : (room : ℕ) (s t : Persons) (a b c : Account Letter) (fell : Ty
 hears_end room s t a b c fell h took = record { letters = h.letters; took = took_end room a b c h.letters h.took took; hears = h.hears }
 
 -- the one letter that was taken sets a copy
-set_of : (s t : Persons) (x : Letter) (j : ℕ) (p : ℤ) (fell : Type 0) → t.copies ≡ set s.copies j p → j < length s.copies → Tells j p x → Rising s.copies t.copies → (fell → ⊥) → HearsOf s (x ∷ []) t fell
+set_of : (s t : Persons) (x : Letter) (j : ℕ) (p : ℤ) (fell : Type 0) → t.copies ≡ set s.copies j p → j < length s.copies → Tells j p x → NeverFall s.copies t.copies → (fell → ⊥) → HearsOf s (x ∷ []) t fell
 set_of s t x j p fell e known tells rise never = record {
   heard = λ k.
       elim (cases_eq k j) [
@@ -140,7 +140,7 @@ set_of s t x j p fell e known tells rise never = record {
   falls = λ f. absurd (never f);
 }
 
-pub hears_ok : (s t : Persons) (x : Letter) (u : Unit {0}) (fell : Type 0) → OnLetter s x (Ok u) t → Rising s.copies t.copies → (fell → ⊥) → HearsOf s (x ∷ []) t fell
+pub hears_ok : (s t : Persons) (x : Letter) (u : Unit {0}) (fell : Type 0) → OnLetter s x (Ok u) t → NeverFall s.copies t.copies → (fell → ⊥) → HearsOf s (x ∷ []) t fell
 hears_ok s t (Letter.Award i j p) u fell h rise never = set_of s t (Letter.Award i j p) j p fell (ap (λ (z : Persons). z.copies) h.2) h.0.2 (refl, refl) rise never
 hears_ok s t (Letter.Refused i j p) u fell h rise never = set_of s t (Letter.Refused i j p) j p fell (ap (λ (z : Persons). z.copies) h.2) h.0.2 (refl, refl) rise never
 hears_ok s t (Letter.Outbid i j p) u fell h rise never = set_of s t (Letter.Outbid i j p) j p fell (ap (λ (z : Persons). z.copies) h.2) h.0.2 (refl, refl) rise never

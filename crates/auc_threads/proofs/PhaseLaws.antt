@@ -236,8 +236,8 @@ module _ {X Z : Type 0} (f : X → Persons) (a p h : X → Account Letter) (y : 
         objects_closed = subst (λ (n : ℕ). Closes task.limits.now.audit n w hub_objects) named_o.boxes_are (subst (λ (n : ℕ). Closes n bo w hub_objects) named_o.room_is closed_o);
         persons_closed = subst (λ (n : ℕ). Closes task.limits.now.audit n w hub_persons) named_p.boxes_are (subst (λ (n : ℕ). Closes n bp w hub_persons) named_p.room_is closed_p);
         told = record {
-          objects_worker = closed_o.lined.worker;
-          persons_worker = closed_p.lined.worker;
+          objects_worker = closed_o.adds.worker;
+          persons_worker = closed_p.adds.worker;
           hub_worker = counts.took.worker;
           objects_lines = agree_o;
           persons_lines = agree_p;

@@ -22,16 +22,16 @@ use Rattle.auc_model.specs.Mails.{box_of}
 use Rattle.auc_answers.specs.Boxes.{Reaches, boxes_in, name_of}
 use Rattle.auc_threads.specs.declared.calls.Step.{Step}
 use Rattle.auc_threads.specs.Taking.{GoesWithin}
-use Rattle.auc_threads.specs.Posting.{Ends, IsOver, Lined, Posts, PostsAt, Says, Sent, is_to_hub, lines_by, lines_sent, lines_stopped, post_of, step_after, step_of, to_shards, to_the_hub}
+use Rattle.auc_threads.specs.Posting.{Ends, IsOver, AddsLines, Posts, PostsAt, Says, Sent, is_to_hub, lines_by, lines_sent, lines_stopped, post_of, step_after, step_of, to_shards, to_the_hub}
 
 -- ---- lines
 
-pub lined_none : (room : ℕ) (a : Account Letter) → Lined room a [] a
-lined_none room a = record { worker = refl; counted = omega arith; told = λ some. sym (append-nil a.lines) }
+pub adds_none : (room : ℕ) (a : Account Letter) → AddsLines room a [] a
+adds_none room a = record { worker = refl; counted = omega arith; told = λ some. sym (append-nil a.lines) }
 
-pub lined_call : (room : ℕ) (a b : Account Letter) (c : Call Letter) (r : Option (Reply Letter)) → SeatCalls room a c r b → Lined room a (lines_by a.worker c r) b
-lined_call room a b c None h = record { worker = ap (λ (x : Account Letter). x.worker) h; counted = omega (arith, ap (λ (x : Account Letter). x.count) h); told = λ some. ap (λ (x : Account Letter). x.lines) h ∙ sym (append-nil a.lines) }
-lined_call room a b c (Some r) h =
+pub adds_call : (room : ℕ) (a b : Account Letter) (c : Call Letter) (r : Option (Reply Letter)) → SeatCalls room a c r b → AddsLines room a (lines_by a.worker c r) b
+adds_call room a b c None h = record { worker = ap (λ (x : Account Letter). x.worker) h; counted = omega (arith, ap (λ (x : Account Letter). x.count) h); told = λ some. ap (λ (x : Account Letter). x.lines) h ∙ sym (append-nil a.lines) }
+adds_call room a b c (Some r) h =
     let line : TrailLine Letter = record { worker = a.worker; call = c; reply = r } in
     record {
       worker = h.0;
@@ -41,25 +41,25 @@ lined_call room a b c (Some r) h =
           h.2 ∙ ap (λ q. cond q a.lines (a.lines ++ line ∷ [])) test;
     }
 
-pub lined_then : (room : ℕ) (a b c : Account Letter) (xs ys : List (TrailLine Letter)) → Lined room a xs b → Lined room b ys c → Lined room a (xs ++ ys) c
-lined_then room a b c xs ys f g = record {
+pub adds_then : (room : ℕ) (a b c : Account Letter) (xs ys : List (TrailLine Letter)) → AddsLines room a xs b → AddsLines room b ys c → AddsLines room a (xs ++ ys) c
+adds_then room a b c xs ys f g = record {
   worker = g.worker ∙ f.worker;
   counted = omega (arith, f.counted, g.counted, length-append xs ys);
   told = λ some. g.told some ∙ (ap (λ w. w ++ ys) (f.told some) ∙ append_assoc a.lines xs ys);
 }
 
-pub lined_as : (room : ℕ) (a b : Account Letter) (xs ys : List (TrailLine Letter)) → xs ≡ ys → Lined room a xs b → Lined room a ys b
-lined_as room a b xs ys e f = subst (λ ls. Lined room a ls b) e f
+pub adds_as : (room : ℕ) (a b : Account Letter) (xs ys : List (TrailLine Letter)) → xs ≡ ys → AddsLines room a xs b → AddsLines room a ys b
+adds_as room a b xs ys e f = subst (λ ls. AddsLines room a ls b) e f
 
 pub sent_append : (k : ℕ) (xs ys : List Sent) → lines_sent k (xs ++ ys) ≡ lines_sent k xs ++ lines_sent k ys
 sent_append k [] ys = refl
 sent_append k (x ∷ xs) ys = ap (λ w. lines_by k (post_of k x.out) (post_reply x.answer) ++ w) (sent_append k xs ys) ∙ sym (append_assoc (lines_by k (post_of k x.out) (post_reply x.answer)) (lines_sent k xs) (lines_sent k ys))
 
 -- posts of the same worker, one after another
-pub lined_sent : (room : ℕ) (a b c : Account Letter) (xs ys : List Sent) → Lined room a (lines_sent a.worker xs) b → Lined room b (lines_sent b.worker ys) c → Lined room a (lines_sent a.worker (xs ++ ys)) c
-lined_sent room a b c xs ys f g =
-    let more : Lined room b (lines_sent a.worker ys) c = subst (λ (k : ℕ). Lined room b (lines_sent k ys) c) f.worker g in
-    lined_as room a c (lines_sent a.worker xs ++ lines_sent a.worker ys) (lines_sent a.worker (xs ++ ys)) (sym (sent_append a.worker xs ys)) (lined_then room a b c (lines_sent a.worker xs) (lines_sent a.worker ys) f more)
+pub adds_sent : (room : ℕ) (a b c : Account Letter) (xs ys : List Sent) → AddsLines room a (lines_sent a.worker xs) b → AddsLines room b (lines_sent b.worker ys) c → AddsLines room a (lines_sent a.worker (xs ++ ys)) c
+adds_sent room a b c xs ys f g =
+    let more : AddsLines room b (lines_sent a.worker ys) c = subst (λ (k : ℕ). AddsLines room b (lines_sent k ys) c) f.worker g in
+    adds_as room a c (lines_sent a.worker xs ++ lines_sent a.worker ys) (lines_sent a.worker (xs ++ ys)) (sym (sent_append a.worker xs ys)) (adds_then room a b c (lines_sent a.worker xs) (lines_sent a.worker ys) f more)
 
 -- ---- posts
 
@@ -145,27 +145,27 @@ sent_full k (o ∷ os) (x ∷ xs) f = elim f.1 [
 -- ---- at one mail
 
 pub at_none : (room : ℕ) (a : Account Letter) → PostsAt room a [] a Step.On
-at_none room a = record { posts = []; posted = refl; lined = lined_none room a }
+at_none room a = record { posts = []; posted = refl; adds = adds_none room a }
 
 pub at_one : (room : ℕ) (a b : Account Letter) (o : Out) (answer : Result ℕ CallRefused) (step : Step) → SeatCalls room a (post_of a.worker o) (post_reply answer) b → step ≡ step_after o.letter answer → PostsAt room a (o ∷ []) b step
 at_one room a b o answer step h is =
     let x : Sent = record { out = o; answer = answer } in
-    let call = lined_call room a b (post_of a.worker o) (post_reply answer) h in
+    let call = adds_call room a b (post_of a.worker o) (post_reply answer) h in
     record {
       posts = x ∷ [];
       posted = posts_one o x step refl is;
-      lined = lined_as room a b (lines_by a.worker (post_of a.worker o) (post_reply answer)) (lines_sent a.worker (x ∷ [])) (sym (append-nil (lines_by a.worker (post_of a.worker o) (post_reply answer)))) call;
+      adds = adds_as room a b (lines_by a.worker (post_of a.worker o) (post_reply answer)) (lines_sent a.worker (x ∷ [])) (sym (append-nil (lines_by a.worker (post_of a.worker o) (post_reply answer)))) call;
     }
 
 pub at_then : (room : ℕ) (a b c : Account Letter) (os ps : List Out) (step : Step) → PostsAt room a os b Step.On → PostsAt room b ps c step → PostsAt room a (os ++ ps) c step
 at_then room a b c os ps step f g = record {
   posts = f.posts ++ g.posts;
   posted = posts_then os ps f.posts g.posts step f.posted g.posted;
-  lined = lined_sent room a b c f.posts g.posts f.lined g.lined;
+  adds = adds_sent room a b c f.posts g.posts f.adds g.adds;
 }
 
 pub at_ended : (room : ℕ) (a b : Account Letter) (os ps : List Out) (step : Step) → step ≢ Step.On → PostsAt room a os b step → PostsAt room a (os ++ ps) b step
-at_ended room a b os ps step ne f = record { posts = f.posts; posted = posts_ended os ps f.posts step ne f.posted; lined = f.lined }
+at_ended room a b os ps step ne f = record { posts = f.posts; posted = posts_ended os ps f.posts step ne f.posted; adds = f.adds }
 
 pub at_as : (room : ℕ) (a b : Account Letter) (os ps : List Out) (step : Step) → os ≡ ps → PostsAt room a os b step → PostsAt room a ps b step
 at_as room a b os ps step e f = subst (λ ws. PostsAt room a ws b step) e f
@@ -173,7 +173,7 @@ at_as room a b os ps step e f = subst (λ ws. PostsAt room a ws b step) e f
 -- ---- at the persons' mail and the hub's
 
 pub says_none : (rp rh : ℕ) (p h : Account Letter) → Says rp rh p h [] p h Step.On
-says_none rp rh p h = record { posts = []; posted = refl; persons = lined_none rp p; hub = lined_none rh h }
+says_none rp rh p h = record { posts = []; posted = refl; persons = adds_none rp p; hub = adds_none rh h }
 
 one_post : (o : Out) (xs : List Sent) (step : Step) → Posts (o ∷ []) xs step → (x : Sent) × (xs ≡ x ∷ []) × (x.out ≡ o)
 one_post o [] step f = absurd f
@@ -192,8 +192,8 @@ says_persons rp rh p h p' o step other f =
     record {
       posts = f.posts;
       posted = f.posted;
-      persons = lined_as rp p p' (lines_sent p.worker f.posts) (lines_sent p.worker (to_shards f.posts)) (ap (lines_sent p.worker) (sym kept)) f.lined;
-      hub = lined_as rh h h [] (lines_sent h.worker (to_the_hub f.posts)) (ap (lines_sent h.worker) (sym gone)) (lined_none rh h);
+      persons = adds_as rp p p' (lines_sent p.worker f.posts) (lines_sent p.worker (to_shards f.posts)) (ap (lines_sent p.worker) (sym kept)) f.adds;
+      hub = adds_as rh h h [] (lines_sent h.worker (to_the_hub f.posts)) (ap (lines_sent h.worker) (sym gone)) (adds_none rh h);
     }
 
 pub says_hub : (rp rh : ℕ) (p h h' : Account Letter) (o : Out) (step : Step) → is_to_hub o.to ≡ true → PostsAt rh h (o ∷ []) h' step → Says rp rh p h (o ∷ []) p h' step
@@ -205,8 +205,8 @@ says_hub rp rh p h h' o step hub f =
     record {
       posts = f.posts;
       posted = f.posted;
-      persons = lined_as rp p p [] (lines_sent p.worker (to_shards f.posts)) (ap (lines_sent p.worker) (sym gone)) (lined_none rp p);
-      hub = lined_as rh h h' (lines_sent h.worker f.posts) (lines_sent h.worker (to_the_hub f.posts)) (ap (lines_sent h.worker) (sym kept)) f.lined;
+      persons = adds_as rp p p [] (lines_sent p.worker (to_shards f.posts)) (ap (lines_sent p.worker) (sym gone)) (adds_none rp p);
+      hub = adds_as rh h h' (lines_sent h.worker f.posts) (lines_sent h.worker (to_the_hub f.posts)) (ap (lines_sent h.worker) (sym kept)) f.adds;
     }
 
 -- letters of which none goes to the hub
@@ -231,8 +231,8 @@ says_shards rp rh p h p' os step others f =
     record {
       posts = f.posts;
       posted = f.posted;
-      persons = lined_as rp p p' (lines_sent p.worker f.posts) (lines_sent p.worker (to_shards f.posts)) (ap (lines_sent p.worker) (sym only.0)) f.lined;
-      hub = lined_as rh h h [] (lines_sent h.worker (to_the_hub f.posts)) (ap (lines_sent h.worker) (sym only.1)) (lined_none rh h);
+      persons = adds_as rp p p' (lines_sent p.worker f.posts) (lines_sent p.worker (to_shards f.posts)) (ap (lines_sent p.worker) (sym only.0)) f.adds;
+      hub = adds_as rh h h [] (lines_sent h.worker (to_the_hub f.posts)) (ap (lines_sent h.worker) (sym only.1)) (adds_none rh h);
     }
 
 within_to : (shards : ℕ) (to : To) → is_to_hub to ≡ false → box_of to < boxes_in shards (name_of to) → box_of to < shards
@@ -250,8 +250,8 @@ says_then rp rh p h q i r j os ps step f g =
     record {
       posts = f.posts ++ g.posts;
       posted = posts_then os ps f.posts g.posts step f.posted g.posted;
-      persons = lined_as rp p r (lines_sent p.worker (to_shards f.posts ++ to_shards g.posts)) (lines_sent p.worker (to_shards (f.posts ++ g.posts))) (ap (lines_sent p.worker) (sym shards)) (lined_sent rp p q r (to_shards f.posts) (to_shards g.posts) f.persons g.persons);
-      hub = lined_as rh h j (lines_sent h.worker (to_the_hub f.posts ++ to_the_hub g.posts)) (lines_sent h.worker (to_the_hub (f.posts ++ g.posts))) (ap (lines_sent h.worker) (sym hubs)) (lined_sent rh h i j (to_the_hub f.posts) (to_the_hub g.posts) f.hub g.hub);
+      persons = adds_as rp p r (lines_sent p.worker (to_shards f.posts ++ to_shards g.posts)) (lines_sent p.worker (to_shards (f.posts ++ g.posts))) (ap (lines_sent p.worker) (sym shards)) (adds_sent rp p q r (to_shards f.posts) (to_shards g.posts) f.persons g.persons);
+      hub = adds_as rh h j (lines_sent h.worker (to_the_hub f.posts ++ to_the_hub g.posts)) (lines_sent h.worker (to_the_hub (f.posts ++ g.posts))) (ap (lines_sent h.worker) (sym hubs)) (adds_sent rh h i j (to_the_hub f.posts) (to_the_hub g.posts) f.hub g.hub);
     }
 
 pub says_ended : (rp rh : ℕ) (p h q i : Account Letter) (os ps : List Out) (step : Step) → step ≢ Step.On → Says rp rh p h os q i step → Says rp rh p h (os ++ ps) q i step
@@ -265,18 +265,18 @@ says_as rp rh p h q i os ps step e f = subst (λ ws. Says rp rh p h ws q i step)
 pub ends_told : (room : ℕ) (a b : Account Letter) (why : Why) (n : ℕ) → SeatCalls room a (post_of a.worker (to_hub (Letter.Stop why))) (post_reply (Ok n)) b → Ends room a (Step.Stop why) b
 ends_told room a b why n h = record {
   lines = lines_stopped a.worker why (Ok n) (Ok false);
-  lined = lined_call room a b (post_of a.worker (to_hub (Letter.Stop why))) (post_reply (Ok n)) h;
+  adds = adds_call room a b (post_of a.worker (to_hub (Letter.Stop why))) (post_reply (Ok n)) h;
   are = (Ok n, Ok false, refl);
 }
 
 pub ends_closed : (room : ℕ) (a b c : Account Letter) (why : Why) (e : CallRefused) (closed : Result Bool TrailFull) → SeatCalls room a (post_of a.worker (to_hub (Letter.Stop why))) (post_reply (Err e)) b → SeatCalls room b (Call.Close 0) (close_reply closed) c → Ends room a (Step.Stop why) c
 ends_closed room a b c why e closed f g =
-    let posted = lined_call room a b (post_of a.worker (to_hub (Letter.Stop why))) (post_reply (Err e)) f in
-    let shut = lined_call room b c (Call.Close 0) (close_reply closed) g in
+    let posted = adds_call room a b (post_of a.worker (to_hub (Letter.Stop why))) (post_reply (Err e)) f in
+    let shut = adds_call room b c (Call.Close 0) (close_reply closed) g in
     let lines : List (TrailLine Letter) = lines_by a.worker (post_of a.worker (to_hub (Letter.Stop why))) (post_reply (Err e)) in
     record {
       lines = lines_stopped a.worker why (Err e) closed;
-      lined = lined_then room a b c lines (lines_by a.worker (Call.Close 0) (close_reply closed)) posted (subst (λ (k : ℕ). Lined room b (lines_by k (Call.Close 0) (close_reply closed)) c) posted.worker shut);
+      adds = adds_then room a b c lines (lines_by a.worker (Call.Close 0) (close_reply closed)) posted (subst (λ (k : ℕ). AddsLines room b (lines_by k (Call.Close 0) (close_reply closed)) c) posted.worker shut);
       are = (Err e, closed, refl);
     }
 
@@ -285,7 +285,7 @@ ends_closed room a b c why e closed f g =
 pub over_taken : (room : ℕ) (a b : Account Letter) (at : ℕ) (r : Result (Taken Letter) TrailFull) → SeatCalls room a (Call.Take at) (take_reply r) b → r ≡ Ok Taken.Over → 0 < room → IsOver b.lines
 over_taken room a b at r h over some =
     let call : SeatCalls room a (Call.Take at) (Some (Reply.Took Taken.Over)) b = subst (λ (t : Result (Taken Letter) TrailFull). SeatCalls room a (Call.Take at) (take_reply t) b) over h in
-    (a.lines, a.worker, at, (lined_call room a b (Call.Take at) (Some (Reply.Took Taken.Over)) call).told some)
+    (a.lines, a.worker, at, (adds_call room a b (Call.Take at) (Some (Reply.Took Taken.Over)) call).told some)
 
 -- ---- whether the post of a Stop was refused
 

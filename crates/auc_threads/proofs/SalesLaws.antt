@@ -6,7 +6,7 @@ use Rattle.std.proofs.lemmas.List.{append-nil}
 use Rattle.std.proofs.lemmas.List.Elements.{All-head, All-tail, All-weaker, filter_map-append}
 use Rattle.std.proofs.lemmas.List.Sums.{fold-append}
 use Rattle.auc_letters.specs.declared.letter.Letter.{Letter}
-use Rattle.auc_letters.specs.declared.letter.Offer.{Offer}
+use Rattle.auc_letters.specs.declared.letter.Bid.{Bid}
 use Rattle.auc_letters.specs.declared.letter.Why.{Why}
 use Rattle.auc_letters.specs.declared.out.Out.{Out}
 use Rattle.auc_letters.specs.Award.{Sale, award, award_all, bid_letter, bid_on, bids_on}
@@ -24,20 +24,20 @@ use Rattle.auc_threads.proofs.DealingLaws.{deals_shape}
 owns_then : (s t : Objects) (j : ℕ) → SameShape s t → Owns s j → Owns t j
 owns_then s t j e o = record { known = subst (λ (n : ℕ). j < n) (sym e.objects) o.known; own = ap (λ (n : ℕ). j % n) e.of ∙ (o.own ∙ sym e.shard) }
 
-fits_then : (s t : Objects) (b : Offer) → SameShape s t → Fits s b → Fits t b
+fits_then : (s t : Objects) (b : Bid) → SameShape s t → Fits s b → Fits t b
 fits_then s t b e f = record { owns = owns_then s t b.object e f.owns; amount = f.amount }
 
 bids_append : (j : ℕ) (xs ys : List Letter) → bids_on j (xs ++ ys) ≡ bids_on j xs ++ bids_on j ys
 bids_append j xs ys = filter_map-append (bid_on j) xs ys
 
-bids_here : (j : ℕ) (bid : Offer) → bid.object ≡ j → IsPrice bid.amount → bids_on j (bid_letter bid ∷ []) ≡ bid ∷ []
+bids_here : (j : ℕ) (bid : Bid) → bid.object ≡ j → IsPrice bid.amount → bids_on j (bid_letter bid ∷ []) ≡ bid ∷ []
 bids_here j bid e p = rw (eq-eqb bid.object j e, price_is_amount bid.amount p) refl
 
-bids_there : (j : ℕ) (bid : Offer) → bid.object ≢ j → bids_on j (bid_letter bid ∷ []) ≡ []
+bids_there : (j : ℕ) (bid : Bid) → bid.object ≢ j → bids_on j (bid_letter bid ∷ []) ≡ []
 bids_there j bid ne = rw (ne_eqb bid.object j ne) refl
 
 -- a bid that fits
-sold_one : (eps : ℤ) (s : Objects) (bid : Offer) (j : ℕ) → length s.holders ≡ length s.prices → Fits s bid → sale_of (after_bid s eps bid) j ≡ award_all eps (sale_of s j) (bids_on j (bid_letter bid ∷ []))
+sold_one : (eps : ℤ) (s : Objects) (bid : Bid) (j : ℕ) → length s.holders ≡ length s.prices → Fits s bid → sale_of (after_bid s eps bid) j ≡ award_all eps (sale_of s j) (bids_on j (bid_letter bid ∷ []))
 sold_one eps s bid j each fits =
     let known = fits.owns.known in
     let held : bid.object < length s.holders = omega (arith, known, each) in
@@ -48,7 +48,7 @@ sold_one eps s bid j each fits =
       | inr ne ↦ sale_other s eps bid j ne ∙ ap (award_all eps (sale_of s j)) (sym (bids_there j bid ne))
     ]
 
-sold_all : (eps : ℤ) (s : Objects) (bids : List Offer) (j : ℕ) → length s.holders ≡ length s.prices → All (Fits s) bids → sale_of (after_bids eps s bids) j ≡ award_all eps (sale_of s j) (bids_on j (map bid_letter bids))
+sold_all : (eps : ℤ) (s : Objects) (bids : List Bid) (j : ℕ) → length s.holders ≡ length s.prices → All (Fits s) bids → sale_of (after_bids eps s bids) j ≡ award_all eps (sale_of s j) (bids_on j (map bid_letter bids))
 sold_all eps s [] j each fit = refl
 sold_all eps s (b ∷ bs) j each fit =
     let shape : SameShape s (after_bid s eps b) = shape_sold s b.object _ in

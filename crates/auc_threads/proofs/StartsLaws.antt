@@ -58,7 +58,7 @@ object_result task r₁ r₂ r₃ k eps s a p h t a' p' h' why promise work =
     record {
       seat = serves.deals.took.worker;
       persons_seat = serves.tells.persons.worker;
-      hub_seat = done.ends.lined.worker ∙ serves.tells.hub.worker;
+      hub_seat = done.ends.adds.worker ∙ serves.tells.hub.worker;
       sells = sells_of task.eps r₁ begun t seat a' serves.said serves.took_step (length-replicate (length task.prices.now) None) serves.deals;
       no_guard = free_why done.step why free done.why_is;
       no_bids = free_bids done.step why free done.why_is;
@@ -87,7 +87,7 @@ person_result task r₁ r₂ r₃ k eps t s a p h n a' p' h' why promise work =
     (subst (λ (x : Persons). IsPersonWork t eps r₁ r₂ r₃ x a p h n a' p' h' why) promise.begins.shard work))))) in
     record {
       seat = done.buys.took.worker;
-      objects_seat = done.buys.posts.lined.worker;
-      hub_seat = done.ends.lined.worker;
+      objects_seat = done.buys.posts.adds.worker;
+      hub_seat = done.ends.adds.worker;
       work = done;
     }

@@ -16,7 +16,7 @@ use Rattle.auc_threads.specs.declared.task.Task.{Task}
 use Rattle.auc_threads.specs.Placed.{Placed}
 use Rattle.auc_threads.specs.Starts.{IsObjectResult, IsObjectWork, IsPersonResult, IsPersonWork}
 use Rattle.auc_threads.specs.Worked.{IsBuyer, IsSeller, end_by, first_some}
-use Rattle.auc_threads.proofs.BuyingLaws.{bids_few, bids_lined, bids_spent}
+use Rattle.auc_threads.proofs.BuyingLaws.{bids_few, bids_noted, bids_spent}
 use Rattle.auc_threads.proofs.PlacedLaws.{placed_some}
 use Rattle.auc_threads.proofs.StepLaws.{why_stop}
 
@@ -146,7 +146,7 @@ module _ {X : Type 0} (f : X → Persons) (a p h : X → Account Letter) (y : X 
       let n = task.limits.now.audit in
       let is = value_at y None xs k x known at.2 in
       let few : (a x).count ≤ task.limits.now.bids = bids_few task.rows.now task.eps r₁ r₂ begun (f x) seat (a x) seat (p x) r.work.step r.work.buys refl in
-      let lined : length (a x).lines ≡ (a x).count = bids_lined task.rows.now task.eps r₁ r₂ begun (f x) seat (a x) seat (p x) r.work.step r.work.buys some refl refl in
+      let adds : length (a x).lines ≡ (a x).count = bids_noted task.rows.now task.eps r₁ r₂ begun (f x) seat (a x) seat (p x) r.work.step r.work.buys some refl refl in
       record {
         left = f x;
         objects = a x;
@@ -165,7 +165,7 @@ module _ {X : Type 0} (f : X → Persons) (a p h : X → Account Letter) (y : X 
           persons_lines = subst (λ w. Agrees trails.persons (p w)) (at.2 x) (persons k x known);
           hub_lines = subst (λ w. Agrees trails.hub (h w)) (at.2 x) (hub k x known);
         };
-        counted = lined ∙ (value_at (λ w. (a w).count) 0 xs k x known at.2 ∙ ap (λ ns. get_or ns k 0) (sym counted));
-        few = omega (arith, lined, few);
-        spent = λ e. lined ∙ bids_spent task.rows.now task.eps r₁ r₂ begun (f x) seat (a x) seat (p x) r.work.step r.work.buys refl (why_stop r.work.step (y x) Why.Bids r.work.why_is (is ∙ e));
+        counted = adds ∙ (value_at (λ w. (a w).count) 0 xs k x known at.2 ∙ ap (λ ns. get_or ns k 0) (sym counted));
+        few = omega (arith, adds, few);
+        spent = λ e. adds ∙ bids_spent task.rows.now task.eps r₁ r₂ begun (f x) seat (a x) seat (p x) r.work.step r.work.buys refl (why_stop r.work.step (y x) Why.Bids r.work.why_is (is ∙ e));
       }

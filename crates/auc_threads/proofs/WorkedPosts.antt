@@ -2,9 +2,9 @@
 use Rattle.std.proofs.Common.{◌≡◌, ℕ, [], ◌∷◌, refl, inl, inr}
 use Rattle.std.specs.Prelude.{pos, Result, Err}
 use Rattle.auc_letters.specs.declared.letter.Letter.{Letter}
-use Rattle.auc_letters.specs.declared.letter.Offer.{Offer}
+use Rattle.auc_letters.specs.declared.letter.Bid.{Bid}
 use Rattle.auc_letters.specs.declared.out.Out.{Out}
-use Rattle.auc_letters.specs.Award.{offer_of}
+use Rattle.auc_letters.specs.Award.{bid_of}
 use Rattle.auc_letters.specs.Routing.{price_told, to_hub, to_person}
 use Rattle.auc_objects.specs.Objects.{Objects, after_bid}
 use Rattle.auc_book.specs.declared.error.CallRefused.{CallRefused}
@@ -17,8 +17,8 @@ use Rattle.auc_threads.specs.Dealing.{says}
 abbrev shard : Objects
 shard = new_objects 2 2 (pos 0 ∷ pos 0 ∷ []) 0
 
-abbrev first : Offer
-first = offer_of 1 2 0 (pos 3)
+abbrev first : Bid
+first = bid_of 1 2 0 (pos 3)
 
 abbrev sold : Objects
 sold = after_bid shard (pos 1) first
@@ -28,11 +28,11 @@ first_said : says (pos 1) shard first ≡ to_person 2 1 (Letter.Award 1 0 (pos 3
 first_said = refl
 
 -- a higher one: who held the object is outbid before the award
-second_said : says (pos 1) sold (offer_of 0 0 0 (pos 5)) ≡ to_person 2 1 (Letter.Outbid 1 0 (pos 5)) ∷ to_person 2 0 (Letter.Award 0 0 (pos 5)) ∷ price_told 2 1 0 (pos 5) ∷ []
+second_said : says (pos 1) sold (bid_of 0 0 0 (pos 5)) ≡ to_person 2 1 (Letter.Outbid 1 0 (pos 5)) ∷ to_person 2 0 (Letter.Award 0 0 (pos 5)) ∷ price_told 2 1 0 (pos 5) ∷ []
 second_said = refl
 
 -- one that is too low is refused, and tells nobody else
-low_said : says (pos 1) sold (offer_of 0 0 0 (pos 3)) ≡ to_person 2 0 (Letter.Refused 0 0 (pos 3)) ∷ []
+low_said : says (pos 1) sold (bid_of 0 0 0 (pos 3)) ≡ to_person 2 0 (Letter.Refused 0 0 (pos 3)) ∷ []
 low_said = refl
 
 abbrev sent : Out → Result ℕ CallRefused → Sent
@@ -42,6 +42,6 @@ sent o answer = record { out = o; answer = answer }
 dropped : Posts (price_told 2 1 0 (pos 5) ∷ []) (sent (price_told 2 1 0 (pos 5)) (Err refused.Full) ∷ []) Step.On
 dropped = (refl, inl (refl, refl))
 
--- an award to a closed box ends it, and nothing is posted behind
+-- an award to a closed box ends it, and nothing is posted after it
 ended : Posts (to_person 2 1 (Letter.Award 1 0 (pos 3)) ∷ to_hub (Letter.First 0) ∷ []) (sent (to_person 2 1 (Letter.Award 1 0 (pos 3))) (Err refused.Closed) ∷ []) Step.Over
 ended = (refl, inr ((λ e. cc), refl, refl))

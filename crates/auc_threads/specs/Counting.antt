@@ -10,7 +10,7 @@ use Rattle.auc_book.specs.Seat.{Account}
 use Rattle.auc_answers.specs.Hub.{Counting}
 use Rattle.auc_threads.specs.declared.hub.Heard.{Heard}
 use Rattle.auc_threads.specs.Taking.{TookMore}
-use Rattle.auc_threads.specs.Posting.{IsOver, Lined, lines_by}
+use Rattle.auc_threads.specs.Posting.{IsOver, AddsLines, lines_by}
 
 abbrev pub is_first : Letter → Bool
 is_first (Letter.First j) = true
@@ -57,7 +57,7 @@ lines_closed k b (r ∷ rs) = lines_by k (Call.Close b) (close_reply r) ++ lines
 pub record Closes (room n : ℕ) (a b : Account Letter) : Type 0 where
   pub answers : List (Result Bool TrailFull)
   pub each : length answers ≡ n
-  pub lined : Lined room a (lines_closed a.worker 0 answers) b
+  pub adds : AddsLines room a (lines_closed a.worker 0 answers) b
 
 -- The hub took letters, the last ones after all others, and says whether it took one First for each person; then it closed its box. Where it didn't, its
 -- reason is that of the last ones, or it has none since none will come any more.

@@ -2,13 +2,13 @@
 use Rattle.std.specs.Prelude.{◌≡◌, ◌==◌, ℕ, ◌<◌, ◌%◌, ℤ, not, List, [], ◌∷◌, ◌++◌, map, filter, All, if◌then◌else◌}
 use Rattle.std.specs.List.{range_with_len}
 use Rattle.auc_letters.specs.declared.letter.Letter.{Letter}
-use Rattle.auc_letters.specs.declared.letter.Offer.{Offer}
+use Rattle.auc_letters.specs.declared.letter.Bid.{Bid}
 use Rattle.auc_letters.specs.declared.letter.Why.{Why}
 use Rattle.auc_letters.specs.declared.out.Out.{Out}
 use Rattle.auc_letters.specs.Award.{answers, bid_letter, is_accepted}
 use Rattle.auc_letters.specs.Price.{IsPrice}
 use Rattle.auc_letters.specs.Routing.{price_told}
-use Rattle.auc_objects.specs.Objects.{IsOffer, Objects, Owns, after_bid, price_of, sale_of}
+use Rattle.auc_objects.specs.Objects.{IsBidIn, Objects, Owns, after_bid, price_of, sale_of}
 use Rattle.auc_book.specs.Seat.{Account}
 use Rattle.auc_threads.specs.declared.calls.Step.{Step}
 use Rattle.auc_threads.specs.Taking.{TookMore}
@@ -23,32 +23,32 @@ abbrev pub prices_told : Objects → ℕ → ℕ → ℕ → List Out
 prices_told s n one object = map (λ q. price_told s.persons q object (price_of s object)) (others n one)
 
 -- What a shard says of a bid: its answers in order, and then, where it was accepted, the new price to each shard of the persons but the bidder's.
-abbrev pub says : ℤ → Objects → Offer → List Out
+abbrev pub says : ℤ → Objects → Bid → List Out
 says eps s bid =
     answers s.person_shards eps (sale_of s bid.object) bid
     ++ (if is_accepted eps (sale_of s bid.object) bid then prices_told (after_bid s eps bid) s.person_shards (bid.person % s.person_shards) bid.object else [])
 
 -- the shard when bids were dealt with, one after another, and what it says of them
-abbrev pub after_bids : ℤ → Objects → List Offer → Objects
+abbrev pub after_bids : ℤ → Objects → List Bid → Objects
 after_bids eps s [] = s
 after_bids eps s (bid ∷ bids) = after_bids eps (after_bid s eps bid) bids
 
-abbrev pub says_all : ℤ → Objects → List Offer → List Out
+abbrev pub says_all : ℤ → Objects → List Bid → List Out
 says_all eps s [] = []
 says_all eps s (bid ∷ bids) = says eps s bid ++ says_all eps (after_bid s eps bid) bids
 
 -- the bid fits the shard
-pub record Fits (s : Objects) (bid : Offer) : Type 0 where
+pub record Fits (s : Objects) (bid : Bid) : Type 0 where
   pub owns : Owns s bid.object
   pub amount : IsPrice bid.amount
 
--- How a worker goes on behind letters of which the last ones don't fit: where there is none it goes on, or none will come any more, or no call could be
+-- How a worker goes on after letters of which the last ones don't fit: where there is none it goes on, or none will come any more, or no call could be
 -- noted; and it stops at the first one.
 abbrev pub AfterLetters : Objects → List Letter → Step → Type 0
 AfterLetters t stray Step.On = stray ≡ []
 AfterLetters t stray Step.Over = stray ≡ []
 AfterLetters t stray (Step.Stop Why.Trail) = stray ≡ []
-AfterLetters t stray (Step.Stop Why.Stray) = (x : Letter) × (stray ≡ x ∷ []) × ((bid : Offer) → IsOffer t x bid → ⊥)
+AfterLetters t stray (Step.Stop Why.Stray) = (x : Letter) × (stray ≡ x ∷ []) × ((bid : Bid) → IsBidIn t x bid → ⊥)
 AfterLetters t stray (Step.Stop Why.Bids) = ⊥
 AfterLetters t stray (Step.Stop Why.Ceiling) = ⊥
 AfterLetters t stray (Step.Stop Why.Stuck) = ⊥
@@ -58,7 +58,7 @@ AfterLetters t stray (Step.Stop Why.Fell) = ⊥
 
 -- The letters are bids that fit the shard, which dealt with them one after another, and then perhaps one that is none. This is what it has to say.
 pub record DealsWith (eps : ℤ) (s : Objects) (letters : List Letter) (said : List Out) (t : Objects) (step : Step) : Type 0 where
-  pub bids : List Offer
+  pub bids : List Bid
   pub stray : List Letter
   pub letters_are : letters ≡ map bid_letter bids ++ stray
   pub fit : All (Fits s) bids

@@ -2,7 +2,7 @@
 use Rattle.std.specs.Prelude.{◌≡◌, ◌⊎◌, ℕ, ◌<◌, ℤ, ◌<ℤ◌, List, [], ◌∷◌, ◌++◌, length, Contains}
 use Rattle.auc_letters.specs.declared.letter.Letter.{Letter}
 use Rattle.auc_graph.specs.Table.{Table, row_of}
-use Rattle.auc_persons.specs.Persons.{Persons, Rising, copy_of}
+use Rattle.auc_persons.specs.Persons.{Persons, NeverFall, copy_of}
 use Rattle.auc_book.specs.Seat.{Account}
 use Rattle.auc_threads.specs.Taking.{TookMore}
 
@@ -35,7 +35,7 @@ pub record Falls (start : ℕ → ℤ) (letters : List Letter) : Type 0 where
 -- one of them tells a lower price.
 pub record HearsOf (s : Persons) (letters : List Letter) (t : Persons) (fell : Type 0) : Type 0 where
   pub heard : (j : ℕ) → (copy_of t j ≡ copy_of s j) ⊎ IsTold letters j (copy_of t j)
-  pub rise : Rising s.copies t.copies
+  pub rise : NeverFall s.copies t.copies
   pub falls : fell → Falls (copy_of s) letters
 
 -- and took them by its seat

@@ -65,7 +65,7 @@ lines_sent k [] = []
 lines_sent k (x ∷ xs) = lines_by k (post_of k x.out) (post_reply x.answer) ++ lines_sent k xs
 
 -- the worker stays, and has made as many calls more; where there is room for lines, it has these more
-pub record Lined (room : ℕ) (a : Account Letter) (lines : List (TrailLine Letter)) (b : Account Letter) : Type 0 where
+pub record AddsLines (room : ℕ) (a : Account Letter) (lines : List (TrailLine Letter)) (b : Account Letter) : Type 0 where
   pub worker : b.worker ≡ a.worker
   pub counted : b.count ≡ a.count + length lines
   pub told : 0 < room → b.lines ≡ a.lines ++ lines
@@ -74,7 +74,7 @@ pub record Lined (room : ℕ) (a : Account Letter) (lines : List (TrailLine Lett
 pub record PostsAt (room : ℕ) (a : Account Letter) (wanted : List Out) (b : Account Letter) (step : Step) : Type 0 where
   pub posts : List Sent
   pub posted : Posts wanted posts step
-  pub lined : Lined room a (lines_sent a.worker posts) b
+  pub adds : AddsLines room a (lines_sent a.worker posts) b
 
 abbrev pub is_to_hub : To → Bool
 is_to_hub To.Hub = true
@@ -92,8 +92,8 @@ to_shards posts = filter (λ x. not (is_to_hub x.out.to)) posts
 pub record Says (persons_room hub_room : ℕ) (p h : Account Letter) (wanted : List Out) (p' h' : Account Letter) (step : Step) : Type 0 where
   pub posts : List Sent
   pub posted : Posts wanted posts step
-  pub persons : Lined persons_room p (lines_sent p.worker (to_shards posts)) p'
-  pub hub : Lined hub_room h (lines_sent h.worker (to_the_hub posts)) h'
+  pub persons : AddsLines persons_room p (lines_sent p.worker (to_shards posts)) p'
+  pub hub : AddsLines hub_room h (lines_sent h.worker (to_the_hub posts)) h'
 
 -- the first of two steps that doesn't go on
 abbrev pub first_step : Step → Step → Step
@@ -120,7 +120,7 @@ AreLast k (Step.Stop why) lines = (posted : Result ℕ CallRefused) × (closed :
 
 pub record Ends (room : ℕ) (a : Account Letter) (step : Step) (b : Account Letter) : Type 0 where
   pub lines : List (TrailLine Letter)
-  pub lined : Lined room a lines b
+  pub adds : AddsLines room a lines b
   pub are : AreLast a.worker step lines
 
 -- the last call was a take from the box, and it said that no letter will come any more

@@ -26,7 +26,7 @@ IsInfeasible (Answer.Infeasible cert) = Unit {0}
 IsInfeasible (Answer.Bracket cert) = ⊥
 IsInfeasible (Answer.Broken guard) = ⊥
 
--- The phases from the one at this eps and these prices on, and the answer. There is a phase behind another exactly where that has sold an object to each
+-- The phases from the one at this eps and these prices on, and the answer. There is a phase after another exactly where that has sold an object to each
 -- person, and is not at the last eps: it begins with the prices that were left, at the next eps. The last one decides.
 abbrev pub Runs : Problem → Table → Limits → ℤ → List ℤ → List PhaseEnd → Answer → Type 0
 Runs p t limits eps prices [] answer = ⊥

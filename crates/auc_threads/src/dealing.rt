@@ -84,15 +84,15 @@ fn deal_letter(
     ensures deals { (more : List AnOut) × (said.new.items ≡ said.old.items ++ more) × DealsWith task.now.eps shard.old (letter ∷ []) more shard.new result }
     ensures goes { result ≢ AStep.Over }
 {
-    let Some(offer) = shard.offer_in(letter) else {
+    let Some(bid) = shard.bid_in(letter) else {
         return Step::Stop { why: Why::Stray };
     };
-    let answers = shard.answer(offer, task.eps);
+    let answers = shard.answer(bid, task.eps);
     note_answers(said, answers);
     if is_accepted(&answers) {
         let shards = task.limits.shards;
-        let knowing = shard_of(offer.person, shards);
-        note_prices(said, shard, shards, offer.object, knowing);
+        let knowing = shard_of(bid.person, shards);
+        note_prices(said, shard, shards, bid.object, knowing);
     }
     Step::On
 }

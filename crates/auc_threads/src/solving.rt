@@ -31,7 +31,7 @@ pub struct Solved {
     pub phases: Vec<PhaseEnd>,
 }
 
-/// The eps of the phase behind one that came to this. None where that is the last one.
+/// The eps of the phase after one that came to this. None where that is the last one.
 fn eps_behind(verdict: Verdict, eps: i64) -> Option<i64>
     ensures some { IfSome result (λ next. (verdict ≡ Verdict.Sold) × (next_eps eps ≡ Some next)) }
     ensures none { IfNone result (verdict ≡ Verdict.Sold → next_eps eps ≡ None) }
@@ -44,7 +44,7 @@ fn eps_behind(verdict: Verdict, eps: i64) -> Option<i64>
     }
 }
 
-/// Puts a phase behind the others.
+/// Puts a phase after the others.
 fn note(phases: &mut Vec<PhaseEnd>, ended: PhaseEnd) -> Result<(), AllocError>
     ensures { OnOk result (phases.new.items ≡ phases.old.items ++ ended ∷ []) }
 {

@@ -73,7 +73,7 @@ fn has_first(said: &[Out]) -> bool
 }
 
 /// Says what is to be said of the bids that were dealt with, in order. The hub's lock is taken only where something goes to it. Then the gate is passed for both
-/// mails before either is locked, and the hub's lock is always taken behind the persons'; that one is given up first, since the persons wait for it.
+/// mails before either is locked, and the hub's lock is always taken after the persons'; that one is given up first, since the persons wait for it.
 pub(crate) fn tell<O: MailBrand, P: MailBrand, H: MailBrand, R: Wait, G: Gate>(
     rt: &R,
     gate: &G,

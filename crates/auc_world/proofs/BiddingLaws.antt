@@ -5,11 +5,11 @@ use Rattle.std.proofs.lemmas.List.Elements.{All-get_or}
 use Rattle.auc_letters.specs.declared.letter.Letter.{Letter}
 use Rattle.auc_letters.specs.declared.letter.Why.{Why}
 use Rattle.auc_letters.specs.declared.out.Out.{Out}
+use Rattle.auc_letters.specs.Award.{bid_of, bid_out}
 use Rattle.auc_letters.specs.Routing.{to_hub, to_object}
 use Rattle.auc_persons.specs.declared.bidding.Bidding.{Bidding}
 use Rattle.auc_persons.specs.Persons.{NextBid, Owns, Persons, after_bid, first_idle, Stops as Stopped}
 use Rattle.auc_model.specs.Bidding.{BidTurn, MayBid, Stops, barred, bids, stops}
-use Rattle.auc_model.specs.Bidding as bidding
 use Rattle.auc_model.specs.Mails.{PersonShard, with_outbox}
 use Rattle.auc_model.specs.World.{World}
 use Rattle.auc_model.specs.declared.turn.TurnReply.{TurnReply}
@@ -72,10 +72,10 @@ module _ (p : Parts) (s : ℕ) (are : AreParts p) (may : MayAskForBid p s) where
       let i = first_idle x in
       let arc = h.2.0 in
       let amount = h.2.1 in
-      let letter : out ≡ bidding.bid_letter (phase p) i arc amount = h.2.4 ∙ ap (λ (n : ℕ). to_object n arc.object (Letter.Bid i arc.arc arc.object amount)) is.object_shards in
+      let letter : out ≡ bid_out p.shards (bid_of i arc.arc arc.object amount) = h.2.4 ∙ ap (λ (n : ℕ). to_object n arc.object (Letter.Bid i arc.arc arc.object amount)) is.object_shards in
       let after : n ≡ record p { persons = set p.persons s (after_bid x i arc.object) } = e ∙ ap (λ (y : Persons). record p { persons = set p.persons s y }) h.2.5 in
       bids i (drop 1 x.idle) arc amount (may_bid h.0) h.1 h.2.2 h.2.3 refl
-      (ap (λ (o : Out). with_outbox (seen n) (PersonShard s) (o ∷ [])) letter ∙ ap (λ (w : World). with_outbox w (PersonShard s) (bidding.bid_letter (phase p) i arc amount ∷ [])) (ap seen after ∙ seen_bid p s there is i arc.object (owns_first h.0)))
+      (ap (λ (o : Out). with_outbox (seen n) (PersonShard s) (o ∷ [])) letter ∙ ap (λ (w : World). with_outbox w (PersonShard s) (bid_out p.shards (bid_of i arc.arc arc.object amount) ∷ [])) (ap seen after ∙ seen_bid p s there is i arc.object (owns_first h.0)))
 
   pub bid_known : (n : Parts) (out : Out) → NextBid p.table p.eps (persons_at p s) (Bidding.Out out) (persons_at n s) → n ≡ record p { persons = set p.persons s (persons_at n s) } → (s < n.shards) × (outbox_at n s ≡ []) × Reaches n.shards out
   bid_known n out h e =

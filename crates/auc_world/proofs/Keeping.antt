@@ -10,7 +10,7 @@ use Rattle.auc_mail.specs.Step.{Step}
 use Rattle.auc_mail.specs.declared.call.Call.{Call}
 use Rattle.auc_mail.specs.declared.call.Reply.{Reply}
 use Rattle.auc_mail.proofs.StepLaws.{step_shape}
-use Rattle.auc_letters.specs.declared.letter.Offer.{Offer}
+use Rattle.auc_letters.specs.declared.letter.Bid.{Bid}
 use Rattle.auc_letters.specs.Award.{Sale, answers}
 use Rattle.auc_objects.specs.Objects.{Objects, SameShape as SameObjects, sale_of}
 use Rattle.auc_persons.specs.declared.bidding.Bidding.{Bidding}
@@ -99,10 +99,10 @@ module _ (p : Parts) (are : AreParts p) where
   answers_to q x known e = let is : IsObjectShard p.table p.shards q x = rw e (are.each_objects q known) in is.person_shards
 
   -- the answers of a shard to a bid
-  pub answers_here : (q : ℕ) (x : Objects) (os : List Out) (eps : ℤ) (bid : Offer) → q < p.shards → x ≡ objects_at p q → os ≡ answers x.person_shards eps (sale_of x bid.object) bid → os ≡ answers p.shards eps (sale_of (objects_at p q) bid.object) bid
+  pub answers_here : (q : ℕ) (x : Objects) (os : List Out) (eps : ℤ) (bid : Bid) → q < p.shards → x ≡ objects_at p q → os ≡ answers x.person_shards eps (sale_of x bid.object) bid → os ≡ answers p.shards eps (sale_of (objects_at p q) bid.object) bid
   answers_here q x os eps bid known e answered = answered ∙ (ap (λ (n : ℕ). answers n eps (sale_of x bid.object) bid) (answers_to q x known e) ∙ ap (λ (y : Objects). answers p.shards eps (sale_of y bid.object) bid) e)
 
-  pub reach_by : (os : List Out) (eps : ℤ) (sale : Sale) (bid : Offer) → os ≡ answers p.shards eps sale bid → All (Reaches p.shards) os
+  pub reach_by : (os : List Out) (eps : ℤ) (sale : Sale) (bid : Bid) → os ≡ answers p.shards eps sale bid → All (Reaches p.shards) os
   reach_by os eps sale bid e = rw e (answers_reach p.shards eps sale bid are.some)
 
   pub keeps_outboxes : (x : ℕ) (new : List Out) → x < 2 * p.shards → All (Reaches p.shards) new → AreParts (record p { outboxes = set p.outboxes x new })

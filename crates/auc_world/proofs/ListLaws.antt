@@ -10,7 +10,7 @@ use Rattle.auc_model.specs.Schedule.{Reached}
 use Rattle.auc_model.specs.World.{Phase, phase_of}
 use Rattle.auc_model.proofs.Theorems.{of_every_schedule}
 use Rattle.auc_persons.specs.Candidates.{KeepsListed, Kept, Listed}
-use Rattle.auc_persons.specs.Persons.{Persons, Rising}
+use Rattle.auc_persons.specs.Persons.{Persons, NeverFall}
 use Rattle.auc_persons.proofs.Shortlists.{kept_rises}
 use Rattle.auc_answers.specs.declared.limits.Limits.{Limits}
 use Rattle.auc_answers.specs.Shards.{no_persons}
@@ -28,7 +28,7 @@ kept_made t limits prices eps p lists made may = record {
 }
 
 -- the copies of one shard rise
-set_by : (t : Table) (persons : List Persons) (lists : List (List Listed)) (s k : ℕ) (new : Persons) → s < length persons → Rising (get_or persons s no_persons).copies new.copies → Kept t (get_or persons k no_persons).copies (get_or lists k []) → (k ≡ s) ⊎ (k ≡ s → ⊥)
+set_by : (t : Table) (persons : List Persons) (lists : List (List Listed)) (s k : ℕ) (new : Persons) → s < length persons → NeverFall (get_or persons s no_persons).copies new.copies → Kept t (get_or persons k no_persons).copies (get_or lists k []) → (k ≡ s) ⊎ (k ≡ s → ⊥)
     → Kept t (get_or (set persons s new) k no_persons).copies (get_or lists k [])
 set_by t persons lists s k new lt rise kept (inl e) =
     let here : get_or (set persons s new) k no_persons ≡ new = ap (λ i. get_or (set persons s new) i no_persons) e ∙ get_or-set_same persons s new no_persons lt in
@@ -36,10 +36,10 @@ set_by t persons lists s k new lt rise kept (inl e) =
     rw here (kept_rises t (get_or persons s no_persons).copies new.copies (get_or lists k []) rise old)
 set_by t persons lists s k new lt rise kept (inr ne) = rw (get_or-set_other persons s k new no_persons ne) kept
 
-pub kept_set : (t : Table) (persons : List Persons) (lists : List (List Listed)) (s : ℕ) (x new : Persons) → s < length persons → x ≡ get_or persons s no_persons → Rising x.copies new.copies → AreKept t persons lists → AreKept t (set persons s new) lists
+pub kept_set : (t : Table) (persons : List Persons) (lists : List (List Listed)) (s : ℕ) (x new : Persons) → s < length persons → x ≡ get_or persons s no_persons → NeverFall x.copies new.copies → AreKept t persons lists → AreKept t (set persons s new) lists
 kept_set t persons lists s x new lt is rise are = record {
   many = let m = are.many in omega (arith, m, length-set persons s new);
-  each = λ k l. set_by t persons lists s k new lt (subst (λ (y : Persons). Rising y.copies new.copies) is rise) (are.each k l) (cases_eq k s);
+  each = λ k l. set_by t persons lists s k new lt (subst (λ (y : Persons). NeverFall y.copies new.copies) is rise) (are.each k l) (cases_eq k s);
 }
 
 -- one shard and its lists change together

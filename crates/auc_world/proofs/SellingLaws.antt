@@ -4,11 +4,11 @@ use Rattle.std.specs.Prelude.{All, ℤ}
 use Rattle.auc_letters.specs.declared.letter.Letter.{Letter}
 use Rattle.auc_letters.specs.declared.letter.Why.{Why}
 use Rattle.auc_letters.specs.declared.out.Out.{Out}
-use Rattle.auc_letters.specs.declared.letter.Offer.{Offer}
-use Rattle.auc_letters.specs.Award.{Sale, answers, award, bid_letter, offer_of}
+use Rattle.auc_letters.specs.declared.letter.Bid.{Bid}
+use Rattle.auc_letters.specs.Award.{Sale, answers, award, bid_letter, bid_of}
 use Rattle.auc_letters.specs.Routing.{price_told}
 use Rattle.auc_mail.specs.Mail.{Mail}
-use Rattle.auc_objects.specs.Objects.{IsOffer, Objects, after_bid, price_of, sale_of}
+use Rattle.auc_objects.specs.Objects.{IsBidIn, Objects, after_bid, price_of, sale_of}
 use Rattle.auc_model.specs.Mails.{ObjectShard, TakesNone, with_outbox}
 use Rattle.auc_model.specs.Selling.{FitsBid, ObjectTakeTurn, TellTurn, answers_bid, no_letter, strays, tells, sale_of as known_of}
 use Rattle.auc_model.specs.Put.{put}
@@ -27,9 +27,9 @@ module _ (p : Parts) (q : ℕ) (are : AreParts p) (known : q < p.shards) where
   shard_is : IsObjectShard p.table p.shards q (objects_at p q)
   shard_is = are.each_objects q known
 
-  pub unfit : (l : Letter) → ((bid : Offer) → IsOffer (objects_at p q) l bid → ⊥) → FitsBid (phase p) q l → ⊥
+  pub unfit : (l : Letter) → ((bid : Bid) → IsBidIn (objects_at p q) l bid → ⊥) → FitsBid (phase p) q l → ⊥
   unfit (Letter.Bid i a j amount) none f =
-      none (offer_of i a j amount)
+      none (bid_of i a j amount)
       (record {
         letter_is = refl;
         owns = record { known = subst (λ (n : ℕ). j < n) (sym shard_is.objects) f.0; own = subst (λ (n : ℕ). j % n ≡ (objects_at p q).shard) (sym shard_is.of) (f.1 ∙ sym shard_is.number) };
@@ -75,10 +75,10 @@ module _ (p : Parts) (q : ℕ) (are : AreParts p) (may : MayAnswer p q) where
     pub stray_empty : (v : Parts) → v ≡ record t { hub = ending t.hub (End.Stopped Why.Stray) } → outbox_at v (v.shards + q) ≡ []
     stray_empty v e2 = ap (λ (z : Parts). outbox_at z (z.shards + q)) (e2 ∙ ap (λ (z : Parts). record z { hub = ending z.hub (End.Stopped Why.Stray) }) e1) ∙ may.empty
 
-    module _ (u : Parts) (letters : List Out) (bid : Offer) (fits : IsOffer (objects_at t q) l bid) (after : objects_at u q ≡ after_bid (objects_at t q) t.eps bid) (answered : letters ≡ answers t.shards t.eps (sale_of (objects_at t q) bid.object) bid)
+    module _ (u : Parts) (letters : List Out) (bid : Bid) (fits : IsBidIn (objects_at t q) l bid) (after : objects_at u q ≡ after_bid (objects_at t q) t.eps bid) (answered : letters ≡ answers t.shards t.eps (sale_of (objects_at t q) bid.object) bid)
         (e2 : u ≡ record t { objects = set t.objects q (objects_at u q) }) where
-      offer : IsOffer (objects_at p q) l bid
-      offer = subst (λ (z : Parts). IsOffer (objects_at z q) l bid) e1 fits
+      offer : IsBidIn (objects_at p q) l bid
+      offer = subst (λ (z : Parts). IsBidIn (objects_at z q) l bid) e1 fits
 
       own : bid.object % p.shards ≡ q
       own = subst (λ (n : ℕ). bid.object % n ≡ q) is.of (offer.owns.own ∙ is.number)

@@ -8,7 +8,7 @@ ghost use Rattle.auc_model.specs.Mails.{Shard, with_outbox};
 ghost use Rattle.auc_model.specs.Selling.{FitsBid, ObjectTakeTurn, TellTurn};
 ghost use Rattle.auc_model.specs.declared.turn.Turn.{Turn};
 ghost use Rattle.auc_objects.specs.Answers.{letters_of};
-ghost use Rattle.auc_objects.specs.Objects.{IsOffer, Owns, after_bid, price_of, sale_of};
+ghost use Rattle.auc_objects.specs.Objects.{IsBidIn, Owns, after_bid, price_of, sale_of};
 ghost use Rattle.auc_answers.specs.Boxes.{Reaches};
 ghost use Rattle.auc_world.specs.Passing.{Judges};
 ghost use Rattle.auc_world.specs.Parts.{AreParts, MayAnswer, OwnsObject, SamePhase, objects_at, outbox_at, phase, seen};
@@ -20,7 +20,7 @@ use crate::outbox::copy_of;
 use crate::rounds::{either, has_moved};
 use crate::world::World;
 use arrayvec::ArrayVec;
-use auc_letters::{Letter, Offer, Out, Why};
+use auc_letters::{Bid, Letter, Out, Why};
 use auc_model::{End, MailName, TurnReply};
 use auc_objects::Answers;
 
@@ -79,18 +79,18 @@ impl<'a> World<'a> {
 
     /// The bid that a letter to a shard of the objects is, where it fits: the object is the shard's, and the amount is in range.
     #[inline(always)]
-    fn offer_in(&self, shard: u32, letter: Letter) -> Option<Offer>
+    fn offer_in(&self, shard: u32, letter: Letter) -> Option<Bid>
         requires { shard < self.now.shards }
-        ensures some { IfSome result (IsOffer (objects_at self.now shard) letter) }
+        ensures some { IfSome result (IsBidIn (objects_at self.now shard) letter) }
         ensures none { IfNone result (FitsBid (phase self.now) shard letter → ⊥) }
     {
         let objects = &self.objects[shard as usize];
-        objects.offer_in(letter)
+        objects.bid_in(letter)
     }
 
     /// Deals with a bid on an object of a shard.
     #[inline(always)]
-    fn answer(&mut self, shard: u32, offer: Offer) -> Answers
+    fn answer(&mut self, shard: u32, offer: Bid) -> Answers
         requires known { shard < self.old.shards }
         requires owns { Owns (objects_at self.old shard) offer.object }
         requires amount { IsPrice offer.amount }

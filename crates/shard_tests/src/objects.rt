@@ -2,7 +2,7 @@
 
 use crate::same::assert_same;
 use crate::stall::Stall;
-use auc_letters::{Held, Letter, Offer, Out, To, equal_letters_are_same, shard_of};
+use auc_letters::{Bid, Held, Letter, Out, To, equal_letters_are_same, shard_of};
 use std::test::*;
 
 fn to_person(letter: Letter) -> Out {
@@ -65,27 +65,27 @@ fn two_bidders(rt: HostRuntime) {
 
 /// A letter is a bid for the shard where its object is there and its amount is from 0 to the greatest price.
 #[test]
-fn offers_in_letters(rt: HostRuntime) {
+fn bids_in_letters(rt: HostRuntime) {
     let stall = Stall::new(&rt, &[0, 0]).expect(&rt, "memory");
-    let bid = |object: u32, amount: i64| Letter::Bid {
+    let letter = |object: u32, amount: i64| Letter::Bid {
         person: 1,
         arc: 3,
         object,
         amount,
     };
-    let offer = |amount: i64| Offer {
+    let bid = |amount: i64| Bid {
         person: 1,
         arc: 3,
         object: 1,
         amount,
     };
     let top = 2_305_843_009_213_693_952;
-    assert_same(&rt, stall.offer_in(bid(1, 0)), Some(offer(0)));
-    assert_same(&rt, stall.offer_in(bid(1, top)), Some(offer(top)));
-    assert_same(&rt, stall.offer_in(bid(1, top + 1)), None);
-    assert_same(&rt, stall.offer_in(bid(1, -1)), None);
-    assert_same(&rt, stall.offer_in(bid(2, 4)), None);
-    assert_same(&rt, stall.offer_in(Letter::First { object: 1 }), None);
+    assert_same(&rt, stall.bid_in(letter(1, 0)), Some(bid(0)));
+    assert_same(&rt, stall.bid_in(letter(1, top)), Some(bid(top)));
+    assert_same(&rt, stall.bid_in(letter(1, top + 1)), None);
+    assert_same(&rt, stall.bid_in(letter(1, -1)), None);
+    assert_same(&rt, stall.bid_in(letter(2, 4)), None);
+    assert_same(&rt, stall.bid_in(Letter::First { object: 1 }), None);
 }
 
 #[test]

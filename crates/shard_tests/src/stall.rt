@@ -2,10 +2,10 @@
 
 ghost use Rattle.std.specs.Prelude.{◌≡◌, length, All, IfSome};
 ghost use Rattle.auc_letters.specs.Price.{IsPrice};
-ghost use Rattle.auc_objects.specs.Objects.{IsOffer};
+ghost use Rattle.auc_objects.specs.Objects.{IsBidIn};
 
 use arrayvec::ArrayVec;
-use auc_letters::{Held, Letter, Offer, Out};
+use auc_letters::{Bid, Held, Letter, Out};
 use auc_objects::ObjectShard;
 use std::test::*;
 
@@ -40,18 +40,18 @@ impl Stall {
             object,
             amount,
         };
-        let Some(offer) = self.offer_in(letter) else {
+        let Some(bid) = self.bid_in(letter) else {
             return ArrayVec::new();
         };
         self.shard
-            .on_bid(offer.person, offer.arc, offer.object, offer.amount, 1)
+            .on_bid(bid.person, bid.arc, bid.object, bid.amount, 1)
     }
 
     /// The bid that a letter is, if it fits.
-    pub fn offer_in(&self, letter: Letter) -> Option<Offer>
-        ensures { IfSome result (IsOffer self.now.shard letter) }
+    pub fn bid_in(&self, letter: Letter) -> Option<Bid>
+        ensures { IfSome result (IsBidIn self.now.shard letter) }
     {
-        self.shard.offer_in(letter)
+        self.shard.bid_in(letter)
     }
 
     /// The present price of an object.

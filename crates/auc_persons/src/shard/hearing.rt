@@ -3,7 +3,7 @@
 ghost use Rattle.std.specs.Prelude.{◌≡◌, ◌≢◌, ◌<◌, length, IsTrue, ◌↔◌};
 ghost use Rattle.auc_letters.specs.Price.{IsPrice};
 ghost use Rattle.auc_letters.specs.declared.state.PersonState.{PersonState};
-ghost use Rattle.auc_persons.specs.Persons.{Answered, FitsAnswer, FitsPrice, OnLetter, Priced, Raised, Rising, SameShape, free_after, held_after};
+ghost use Rattle.auc_persons.specs.Persons.{Answered, FitsAnswer, FitsPrice, OnLetter, Priced, Raised, NeverFall, SameShape, free_after, held_after};
 
 use crate::bidding::PersonFault;
 use crate::shard::PersonShard;
@@ -38,7 +38,7 @@ impl PersonShard {
         requires object { object < length self.old.copies }
         requires price { IsPrice price }
         ensures exact { Raised self.old object price result self.new }
-        ensures rise { Rising self.old.copies self.new.copies }
+        ensures rise { NeverFall self.old.copies self.new.copies }
     {
         if price < self.copy(object) {
             return Err(PersonFault::Fell);
@@ -52,7 +52,7 @@ impl PersonShard {
     #[inline(always)]
     fn on_award(&mut self, person: u32, object: u32, price: i64) -> Result<(), PersonFault>
         ensures exact { Answered self.old person object price (PersonState.Waits object) (held_after self.old person object price) result self.new }
-        ensures rise { Rising self.old.copies self.new.copies }
+        ensures rise { NeverFall self.old.copies self.new.copies }
         ensures shape { SameShape self.old self.new }
     {
         if !self.is_fitting(person, object, price, PersonState::Waits { object }) {
@@ -75,7 +75,7 @@ impl PersonShard {
     ) -> Result<(), PersonFault>
         requires { wanted ≢ PersonState.Free }
         ensures exact { Answered self.old person object price wanted (free_after self.old person object price) result self.new }
-        ensures rise { Rising self.old.copies self.new.copies }
+        ensures rise { NeverFall self.old.copies self.new.copies }
         ensures shape { SameShape self.old self.new }
     {
         if !self.is_fitting(person, object, price, wanted) {
@@ -88,11 +88,11 @@ impl PersonShard {
 
     /// A Price.
     #[tactic(auto, using(crate::proofs::Rise::shape_copy, crate::proofs::Rise::shape_same, crate::proofs::Rise::rises_same))]
-    // Apart: it is seldom told.
+    // Apart: docs/CODEGEN.md, "Letters taken in line".
     #[inline(never)]
     fn on_price(&mut self, object: u32, price: i64) -> Result<(), PersonFault>
         ensures exact { Priced self.old object price result self.new }
-        ensures rise { Rising self.old.copies self.new.copies }
+        ensures rise { NeverFall self.old.copies self.new.copies }
         ensures shape { SameShape self.old self.new }
     {
         if !self.is_price_fitting(object, price) {
@@ -112,11 +112,11 @@ impl PersonShard {
     /// Nothing is changed by a letter that is refused. [`PersonFault::Stray`] comes first: another kind of letter, a person
     /// or an object that isn't the shard's or is out of range, a price out of range, or a state that doesn't fit. Then
     /// [`PersonFault::Fell`]: the price is below the copy.
-    // In line, so that a letter that is taken goes through no memory.
+    // docs/CODEGEN.md, "Letters taken in line".
     #[inline(always)]
     pub fn on_letter(&mut self, letter: Letter) -> Result<(), PersonFault>
         ensures exact { OnLetter self.old letter result self.new }
-        ensures rise { Rising self.old.copies self.new.copies }
+        ensures rise { NeverFall self.old.copies self.new.copies }
         ensures shape { SameShape self.old self.new }
     {
         match letter {

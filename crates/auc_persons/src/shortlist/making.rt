@@ -76,7 +76,7 @@ impl Shortlist {
 
     /// Takes the arcs below a bound from one place of a row to another, where it has those before; no arc at all where they are
     /// too many.
-    // Apart: few blocks come to it, and the pass over the blocks has its registers for itself.
+    // Apart: docs/CODEGEN.md, "Loops of their own".
     #[inline(never)]
     pub(crate) fn take_part(&mut self, row: PricedRow, bound: i64, from: usize, to: usize) -> bool
         requires order { from ≤ to }

@@ -13,7 +13,7 @@ returns-then-is_accepted-clause-deals c =
     let fits : FitsSigned w64 c.args.task.now.eps = search rules in
     let now = simp to_z-of_z at c.answer-answers.ensures.award in
     let letters = simp to_z-of_z at c.answer-answers.ensures.letters in
-    let bid = c.in-Some.offer in
+    let bid = c.in-Some.bid in
     let eps = c.args.task.now.eps in
     let accepted : is_accepted eps (sale_of c.args.shard.now bid.object) bid ≡ true = accepted_is c.args.shard.now.person_shards eps (sale_of c.args.shard.now bid.object) bid (ap length (sym letters) ∙ c.is_accepted.ensures.0 c.if-is_accepted.true) in (
       says eps c.args.shard.now bid,
@@ -26,7 +26,7 @@ returns-else-is_accepted-clause-deals c =
     let fits : FitsSigned w64 c.args.task.now.eps = search rules in
     let now = simp to_z-of_z at c.answer-answers.ensures.award in
     let letters = simp to_z-of_z at c.answer-answers.ensures.letters in
-    let bid = c.in-Some.offer in
+    let bid = c.in-Some.bid in
     let eps = c.args.task.now.eps in
     let declined : is_accepted eps (sale_of c.args.shard.now bid.object) bid ≡ false = declined_is c.args.shard.now.person_shards eps (sale_of c.args.shard.now bid.object) bid (λ two. not_true (sym c.if-is_accepted.false ∙ c.is_accepted.ensures.1 (ap length letters ∙ two))) in (
       says eps c.args.shard.now bid,

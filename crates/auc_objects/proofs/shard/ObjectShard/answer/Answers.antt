@@ -9,6 +9,6 @@ use Rattle.auc_objects.proofs.shard.ObjectShard.answer.Goals as goal
 pub returns-then-amount-price-clause-award : goal.returns-then-amount-price-clause-award
 returns-then-amount-price-clause-award c =
     let f1 : FitsSigned w64 c.args.eps = c.ranges.eps in
-    let f2 : FitsSigned w64 c.args.offer.amount = search rules in
-    let low : c.args.offer.amount <ℤ least_amount (price_of c.args.self.now c.args.offer.object) c.args.eps = grind (arith, ints) in
-    sym (after_declined c.args.self.now c.args.eps c.args.offer low)
+    let f2 : FitsSigned w64 c.args.bid.amount = search rules in
+    let low : c.args.bid.amount <ℤ least_amount (price_of c.args.self.now c.args.bid.object) c.args.eps = grind (arith, ints) in
+    sym (after_declined c.args.self.now c.args.eps c.args.bid low)

@@ -45,7 +45,7 @@ impl Shortlist {
 
 /// Takes the arcs of a long row that are below a bound; none where they are too many. Each block that is looked at gets its least
 /// value as bound.
-// Apart, as `scan_blocks` is.
+// Apart: docs/CODEGEN.md, "Loops of their own".
 #[inline(never)]
 fn fill_by_blocks(
     rows: &Rows,

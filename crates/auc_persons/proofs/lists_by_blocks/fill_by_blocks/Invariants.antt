@@ -4,7 +4,7 @@ use Rattle.auc_graph.specs.Table.{row_of}
 use Rattle.auc_persons.specs.Blocks.{AreRight}
 use Rattle.auc_persons.specs.Candidates.{Gathered}
 use Rattle.auc_persons.specs.Scan.{copy_in}
-use Rattle.auc_persons.proofs.listing.fill_by_blocks.Given as goal
+use Rattle.auc_persons.proofs.lists_by_blocks.fill_by_blocks.Given as goal
 
 abbrev pub invariant-loop-block : goal.invariant-loop-block
 invariant-loop-block l = record {

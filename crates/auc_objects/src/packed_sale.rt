@@ -2,28 +2,28 @@
 
 ghost use Rattle.std.specs.Prelude.{◌≡◌, None, Some};
 ghost use Rattle.auc_letters.specs.Price.{IsPrice};
-ghost use Rattle.auc_objects.specs.Lots.{holder_in, price_in};
+ghost use Rattle.auc_objects.specs.PackedSales.{holder_in, price_in};
 
 use auc_letters::Held;
 
 /// The price and the holder of an object.
 #[derive(Clone, Copy, Debug, PartialEq, Eq)]
-pub(crate) struct Lot {
+pub(crate) struct PackedSale {
     // The price where somebody has the object, and -1 less the price where nobody has it: prices aren't below 0.
     coded: i64,
     person: u32,
     arc: u32,
 }
 
-impl Lot {
+impl PackedSale {
     /// An object that nobody has.
     #[inline]
-    pub(crate) fn unsold(price: i64) -> Lot
+    pub(crate) fn unsold(price: i64) -> PackedSale
         requires { IsPrice price }
         ensures price { price_in result ≡ price }
         ensures holder { holder_in result ≡ None }
     {
-        Lot {
+        PackedSale {
             coded: -1 - price,
             person: 0,
             arc: 0,
@@ -32,12 +32,12 @@ impl Lot {
 
     /// An object that somebody has.
     #[inline]
-    pub(crate) fn sold(price: i64, held: Held) -> Lot
+    pub(crate) fn sold(price: i64, held: Held) -> PackedSale
         requires { IsPrice price }
         ensures price { price_in result ≡ price }
         ensures holder { holder_in result ≡ Some held }
     {
-        Lot {
+        PackedSale {
             coded: price,
             person: held.person,
             arc: held.arc,

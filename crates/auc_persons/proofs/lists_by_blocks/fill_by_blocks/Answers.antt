@@ -12,8 +12,8 @@ use Rattle.auc_persons.proofs.BlockBounds.{bound_is, bound_says}
 use Rattle.auc_persons.specs.Priced.{no_arc}
 use Rattle.auc_persons.proofs.SameRows.{Rises}
 use Rattle.auc_persons.proofs.Shortlists.{gathered_keeps, gathered_to}
-use Rattle.auc_persons.proofs.listing.fill_by_blocks.Goals as goal
-use Rattle.auc_persons.proofs.listing.fill_by_blocks.Goals.{then-not-is_above+else-not-take_block, else-not-is_above}
+use Rattle.auc_persons.proofs.lists_by_blocks.fill_by_blocks.Goals as goal
+use Rattle.auc_persons.proofs.lists_by_blocks.fill_by_blocks.Goals.{then-not-is_above+else-not-take_block, else-not-is_above}
 
 abbrev no_bound : Bound
 no_bound = record { least = pos 0; person = 0; block = 0 }

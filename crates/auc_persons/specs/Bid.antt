@@ -1,0 +1,12 @@
+-- What a person bids, at copies of the prices.
+use Rattle.std.specs.Prelude.{◌≡◌, ◌+◌, ℕ, ℤ, pos, List, length}
+use Rattle.auc_graph.specs.declared.rows.RowArc.{RowArc}
+use Rattle.auc_graph.specs.Bid.{IsBid}
+use Rattle.auc_graph.specs.Table.{Table, row_of}
+use Rattle.auc_letters.specs.declared.letter.Bid.{Bid}
+use Rattle.auc_letters.specs.Award.{bid_of}
+use Rattle.auc_persons.specs.Scan.{copy_in}
+
+-- the bid is the person's, on his best arc at these copies; its amount may be above the greatest price
+abbrev pub IsBidOf : Table → ℤ → List ℤ → ℕ → Bid → Type 0
+IsBidOf t eps copies person bid = (arc : RowArc) × IsBid (pos (length t.rows + 1)) t.spread eps (copy_in copies) (row_of t person) arc bid.amount × (bid ≡ bid_of person arc.arc arc.object bid.amount)

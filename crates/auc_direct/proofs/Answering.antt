@@ -99,6 +99,19 @@ none_is_limited p bids begun (Answer.Broken guard) h = tt
 pub none_is_limited_from : (p : Problem) (bids : ℕ) (start : List ℤ) (answer : Answer) → IsInfeasibleAnswer p answer → IsLimitedFrom p bids start answer
 none_is_limited_from p bids start answer h = record { begun = start; opened = record { each = refl; same = λ e. refl; kept = λ j. inl refl }; limited = none_is_limited p bids (total start) answer h }
 
+-- an answer that there is no assignment is right, and behind a limit one of the bracket is
+pub either_is_answer : (p : Problem) (r : Shorts) (rows : AreRowsOf p r) (prices : List ℤ) (holders : List ℕ) (owns : List ShortArc) (held : List (Option Held)) → IsProblem p → AreShorts r → AreHeld p holders owns held → (eps : ℤ) (reason : Reason) → Stands r eps prices holders owns
+    → (answer : Answer) → IsInfeasibleAnswer p answer ⊎ (HasAssignment p × IsBracketAnswer p reason held prices answer) → IsAnswer p answer
+either_is_answer p r rows prices holders owns held is sound are eps reason stands (Answer.Optimal cert) (inl h) = absurd h
+either_is_answer p r rows prices holders owns held is sound are eps reason stands (Answer.Infeasible cert) (inl h) = h
+either_is_answer p r rows prices holders owns held is sound are eps reason stands (Answer.Bracket cert) (inl h) = absurd h
+either_is_answer p r rows prices holders owns held is sound are eps reason stands (Answer.Broken guard) (inl h) = absurd h
+either_is_answer p r rows prices holders owns held is sound are eps reason stands answer (inr h) = stopped_is_answer p rows.table r prices holders owns held is rows.of rows.same sound are eps reason stands h.0 answer h.1
+
+pub either_is_limited : (p : Problem) (r : Shorts) (rows : AreRowsOf p r) (bids : ℕ) (begun : ℤ) (reason : Reason) (held : List (Option Held)) (prices : List ℤ) → IsLimit r bids begun reason prices → (answer : Answer) → IsInfeasibleAnswer p answer ⊎ (HasAssignment p × IsBracketAnswer p reason held prices answer) → IsLimited p bids begun answer
+either_is_limited p r rows bids begun reason held prices limit answer (inl h) = none_is_limited p bids begun answer h
+either_is_limited p r rows bids begun reason held prices limit answer (inr h) = stopped_is_limited p rows.table r bids begun reason held prices rows.of rows.same limit answer h.1
+
 -- what is opened for the rows of a problem is opened for the problem
 pub limited_from : (p : Problem) (t : Table) (r : Shorts) (bids : ℕ) (start begun : List ℤ) → IsTableOf p t → AreShortsOf t r → AreOpened r.objects (length r.rows) start begun → (answer : Answer) → IsLimited p bids (total begun) answer → IsLimitedFrom p bids start answer
 limited_from p t r bids start begun its same opened answer limited = record {

@@ -60,7 +60,8 @@ fn part_of<'a>(starts: &[usize], arcs: &'a [ShortArc], persons: u32, person: u32
 }
 
 impl ShortRows {
-    ghost use Rattle.auc_direct.specs.Market.{scale_in};
+    ghost use Rattle.std.specs.Prelude.{IsTrue};
+    ghost use Rattle.auc_direct.specs.Market.{EachHasArc, scale_in};
     ghost use Rattle.auc_direct.specs.Rows.{AreShorts};
 
     /// The rows of a problem. Takes O(arcs + persons) time, and 8 bytes of memory an arc and 8 a person; while it runs, 12 more an arc where the arcs don't stand in the order of
@@ -139,6 +140,18 @@ impl ShortRows {
     #[inline]
     pub(crate) fn is_table(&self) -> bool {
         self.is_table
+    }
+
+    /// Whether each person has an arc.
+    pub(crate) fn each_has_arc(&self) -> bool
+        ensures { IsTrue result → EachHasArc self.now }
+    {
+        for person in 0..self.persons() {
+            if self.row(person).len() == 0 {
+                return false;
+            }
+        }
+        true
     }
 
     /// The arcs of a person. O(1).

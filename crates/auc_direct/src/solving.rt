@@ -12,7 +12,7 @@ ghost use Rattle.auc_direct.specs.Starts.{AreStartPrices};
 use crate::ending::Ending;
 use crate::eps::first_eps;
 use crate::gathering::gather;
-use crate::phases::{Outcome, play_all, play_from};
+use crate::phases::{Outcome, play_all, play_from, play_quickly};
 use crate::rows::ShortRows;
 use crate::watch::{Onward, Watch};
 use auc_answers::finish::{bracket, optimal};
@@ -31,8 +31,7 @@ pub struct DirectLimits {
 /// The answer where a problem has no assignment; none where it has one. The rows by which that is found go again at the end: nobody has them beside those of the phases.
 fn answered(alloc: Global, problem: &ArcList) -> Result<Option<Answer>, AllocError>
     ensures some { IfOk result (λ o. IfSome o (IsInfeasibleAnswer problem.now)) }
-    ensures has { IfOk result (λ o. IfNone o (HasAssignment problem.now)) }
-    ensures rows { IfOk result (λ o. IfNone o (EachHasRow problem.now)) }
+    ensures none { IfOk result (λ o. IfNone o (EachHasRow problem.now)) }
 {
     match prepare(alloc, problem)? {
         Prepared::Answered(answer) => Ok(Some(answer)),
@@ -40,7 +39,7 @@ fn answered(alloc: Global, problem: &ArcList) -> Result<Option<Answer>, AllocErr
     }
 }
 
-/// The bracket of a run that a limit has stopped. Only it wants the rows with their places, so they are laid out for it alone.
+/// The answer of a run that a limit has stopped: a bracket, or that there is no assignment. Only it wants the rows with their places, so they are laid out for it alone.
 fn bracketed(
     alloc: Global,
     problem: &ArcList,
@@ -50,10 +49,15 @@ fn bracketed(
     requires holders { length gathered.holders.items ≡ problem.now.objects }
     requires prices { length gathered.prices.items ≡ problem.now.objects }
     requires within { All IsPriceText gathered.prices.items }
-    ensures { IfOk result (IsBracketAnswer problem.now reason gathered.holders.items gathered.prices.items) }
+    ensures { IfOk result (λ a. IsInfeasibleAnswer problem.now a ⊎ (HasAssignment problem.now × IsBracketAnswer problem.now reason gathered.holders.items gathered.prices.items a)) }
 {
-    let rows = Rows::build(alloc, problem)?;
-    bracket(alloc, problem, &rows, reason, gathered)
+    match prepare(alloc, problem)? {
+        Prepared::Answered(answer) => Ok(answer),
+        Prepared::Rows(rows) => {
+            let answer = bracket(alloc, problem, &rows, reason, gathered)?;
+            Ok(answer)
+        }
+    }
 }
 
 /// The answer of what all phases come to. Their rows go before it is made.
@@ -65,7 +69,6 @@ fn answer_of(
 ) -> Result<Answer, AllocError>
     requires rows { AreRowsOf problem.now _shorts }
     requires sound { AreShorts _shorts }
-    requires assignment { HasAssignment problem.now }
     requires left { IsLeft _shorts outcome.ending outcome.market.prices.items outcome.market.holders.items outcome.market.owns.items }
     ensures is { IfOk result (IsAnswer problem.now) }
     ensures limit { (bids : ℕ) (begun : ℤ) → IsStopped _shorts bids begun outcome.ending outcome.market.prices.items → IfOk result (IsLimited problem.now bids begun) }
@@ -81,6 +84,34 @@ fn answer_of(
     }
 }
 
+/// The answer of a run that doesn't ask first whether there is an assignment: where the first phase soon gives each person an object, there is one. None where it doesn't.
+///
+/// For as many objects as persons alone: with more there is one phase.
+fn solve_quickly<W: Watch>(
+    alloc: Global,
+    problem: &ArcList,
+    bids: u64,
+    watch: &mut W,
+) -> Result<Option<Answer>, AllocError>
+    ensures is { IfOk result (λ o. IfSome o (IsAnswer problem.now)) }
+    ensures limit { IfOk result (λ o. IfSome o (λ a. (W.has_stopped watch.new ≡ true) ⊎ IsLimited problem.now bids (pos 0) a)) }
+{
+    if problem.persons() < problem.objects() {
+        return Ok(None);
+    }
+    let shorts = ShortRows::build(alloc, problem)?;
+    if !shorts.each_has_arc() {
+        return Ok(None);
+    }
+    let prices = vec![in alloc; 0; shorts.objects() as usize]?;
+    let eps = first_eps(&shorts);
+    let Some(outcome) = play_quickly(alloc, &shorts, bids, eps, prices, watch)? else {
+        return Ok(None);
+    };
+    let answer = answer_of(alloc, problem, shorts, outcome)?;
+    Ok(Some(answer))
+}
+
 /// Solves a problem that has an assignment, in phases from this eps and these prices on.
 fn solve_rows<W: Watch>(
     alloc: Global,
@@ -93,7 +124,6 @@ fn solve_rows<W: Watch>(
 ) -> Result<Answer, AllocError>
     requires rows { AreRowsOf problem.now shorts }
     requires arcs { EachHasRow problem.now }
-    requires assignment { HasAssignment problem.now }
     requires eps { IsEps eps }
     requires start { IsStart shorts eps prices.items }
     ensures is { IfOk result (IsAnswer problem.now) }
@@ -116,7 +146,6 @@ fn solve_rows_from<W: Watch>(
 ) -> Result<Answer, AllocError>
     requires rows { AreRowsOf problem.now shorts }
     requires arcs { EachHasRow problem.now }
-    requires assignment { HasAssignment problem.now }
     requires start { AreStartPrices problem.now start.now }
     ensures is { IfOk result (IsAnswer problem.now) }
     ensures limit { IfOk result (λ a. (W.has_stopped watch.new ≡ true) ⊎ IsLimitedFrom problem.now bids start.now a) }
@@ -199,6 +228,9 @@ pub fn solve_direct_watched<W: Watch>(
     ensures is { IfOk result (IsAnswer problem.now) }
     ensures limit { IfOk result (λ a. (W.has_stopped watch.new ≡ true) ⊎ IsLimited problem.now limits.now.bids (pos 0) a) }
 {
+    if let Some(answer) = solve_quickly(alloc, problem, limits.bids, watch)? {
+        return Ok(answer);
+    }
     if let Some(answer) = answered(alloc, problem)? {
         return Ok(answer);
     }

@@ -1,7 +1,7 @@
-use Rattle.std.proofs.Common.{◌∙◌}
-use Rattle.auc_answers.specs.Answers.{IsAnswer, IsBracketAnswer, IsOptimalAnswer}
+use Rattle.std.proofs.Common.{◌∙◌, ◌⊎◌}
+use Rattle.auc_answers.specs.Answers.{HasAssignment, IsAnswer, IsBracketAnswer, IsInfeasibleAnswer, IsOptimalAnswer}
 use Rattle.auc_direct.specs.Endings.{IsLimited}
-use Rattle.auc_direct.proofs.Answering.{left_stands, of_answers, own_listed, persons_are, sold_is_answer, sold_is_limited, stopped_is_answer, stopped_is_limited}
+use Rattle.auc_direct.proofs.Answering.{either_is_answer, either_is_limited, left_stands, of_answers, own_listed, persons_are, sold_is_answer, sold_is_limited}
 use Rattle.auc_direct.proofs.solving.answer_of.Goals as goal
 
 pub gather-requires-clause-owns : goal.gather-requires-clause-owns
@@ -27,12 +27,14 @@ returns-in-Sold-clause-is c =
 
 pub returns-in-Stopped-clause-is : goal.returns-in-Stopped-clause-is
 returns-in-Stopped-clause-is c =
+    let p = c.args.problem.now in
+    let r = c.args._shorts in
     let m = c.args.outcome.market in
     let stopped = rw c.in-Stopped.is at c.requires.left in
     let left = c.in_ok-gathered.gathered in
     let g = c.in_ok-gathered.ensures in
-    of_answers (IsBracketAnswer c.args.problem.now c.in-Stopped.reason left.holders.items left.prices.items) (IsAnswer c.args.problem.now) c.bracketed.result
-    (rw g.prices (stopped_is_answer c.args.problem.now c.requires.rows.table c.args._shorts m.prices.items m.holders.items m.owns.items left.holders.items c.arcs.ensures.problem c.requires.rows.of c.requires.rows.same c.requires.sound g.held stopped.0 c.in-Stopped.reason stopped.1 c.requires.assignment)) c.bracketed.ensures
+    of_answers (λ a. IsInfeasibleAnswer p a ⊎ (HasAssignment p × IsBracketAnswer p c.in-Stopped.reason left.holders.items left.prices.items a)) (IsAnswer p) c.bracketed.result
+    (rw g.prices (either_is_answer p r c.requires.rows m.prices.items m.holders.items m.owns.items left.holders.items c.arcs.ensures.problem c.requires.sound g.held stopped.0 c.in-Stopped.reason stopped.1)) c.bracketed.ensures
 
 pub returns-in-Sold-clause-limit : goal.returns-in-Sold-clause-limit
 returns-in-Sold-clause-limit c = λ bids begun stopped. (
@@ -42,9 +44,10 @@ returns-in-Sold-clause-limit c = λ bids begun stopped. (
 
 pub returns-in-Stopped-clause-limit : goal.returns-in-Stopped-clause-limit
 returns-in-Stopped-clause-limit c = λ bids begun stopped. (
+    let p = c.args.problem.now in
     let m = c.args.outcome.market in
     let left = c.in_ok-gathered.gathered in
     let g = c.in_ok-gathered.ensures in
-    of_answers (IsBracketAnswer c.args.problem.now c.in-Stopped.reason left.holders.items left.prices.items) (IsLimited c.args.problem.now bids begun) c.bracketed.result
-    (rw g.prices (stopped_is_limited c.args.problem.now c.requires.rows.table c.args._shorts bids begun c.in-Stopped.reason left.holders.items m.prices.items c.requires.rows.of c.requires.rows.same (rw c.in-Stopped.is at stopped))) c.bracketed.ensures
+    of_answers (λ a. IsInfeasibleAnswer p a ⊎ (HasAssignment p × IsBracketAnswer p c.in-Stopped.reason left.holders.items left.prices.items a)) (IsLimited p bids begun) c.bracketed.result
+    (rw g.prices (either_is_limited p c.args._shorts c.requires.rows bids begun c.in-Stopped.reason left.holders.items m.prices.items (rw c.in-Stopped.is at stopped))) c.bracketed.ensures
     )

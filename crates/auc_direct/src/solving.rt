@@ -6,6 +6,7 @@ ghost use Rattle.auc_graph.specs.Price.{IsPrice as IsPriceText};
 ghost use Rattle.auc_letters.specs.Price.{IsEps};
 ghost use Rattle.auc_answers.specs.Answers.{HasAssignment, IsAnswer, IsBracketAnswer, IsInfeasibleAnswer};
 ghost use Rattle.auc_direct.specs.Endings.{IsLeft, IsLimited, IsLimitedFrom, IsStart, IsStopped};
+ghost use Rattle.auc_direct.specs.Market.{EachHasArc};
 ghost use Rattle.auc_direct.specs.Rows.{AreRowsOf, AreShorts, EachHasRow};
 ghost use Rattle.auc_direct.specs.Starts.{AreStartPrices};
 
@@ -145,7 +146,7 @@ fn solve_rows_from<W: Watch>(
     watch: &mut W,
 ) -> Result<Answer, AllocError>
     requires rows { AreRowsOf problem.now shorts }
-    requires arcs { EachHasRow problem.now }
+    requires arcs { EachHasArc shorts }
     requires start { AreStartPrices problem.now start.now }
     ensures is { IfOk result (IsAnswer problem.now) }
     ensures limit { IfOk result (λ a. (W.has_stopped watch.new ≡ true) ⊎ IsLimitedFrom problem.now bids start.now a) }
@@ -256,6 +257,13 @@ pub fn solve_direct_watched_from<W: Watch>(
     ensures is { IfOk result (IsAnswer problem.now) }
     ensures limit { IfOk result (λ a. (W.has_stopped watch.new ≡ true) ⊎ IsLimitedFrom problem.now limits.now.bids start.now a) }
 {
+    // A full table has an assignment, so no search for one is made there.
+    if problem.arcs().len() as u64 == u64::from(problem.persons()) * u64::from(problem.objects()) {
+        let shorts = ShortRows::build(alloc, problem)?;
+        if shorts.is_table() && shorts.each_has_arc() {
+            return solve_rows_from(alloc, problem, shorts, limits.bids, start, watch);
+        }
+    }
     if let Some(answer) = answered(alloc, problem)? {
         return Ok(answer);
     }

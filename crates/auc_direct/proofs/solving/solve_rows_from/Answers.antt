@@ -1,12 +1,9 @@
 use Rattle.auc_graph.specs.Assignment.{total}
 use Rattle.auc_answers.specs.Answers.{IsAnswer}
 use Rattle.auc_direct.specs.Endings.{IsLimited, IsLimitedFrom, IsStopped}
-use Rattle.auc_direct.proofs.Answering.{each_has_arc, limit_or_told, limited_from, of_answers}
+use Rattle.auc_direct.proofs.Answering.{limit_or_told, limited_from, of_answers}
 use Rattle.auc_direct.proofs.Opening.{prices_of_start}
 use Rattle.auc_direct.proofs.solving.solve_rows_from.Goals as goal
-
-pub play_from-requires-clause-arcs : goal.play_from-requires-clause-arcs
-play_from-requires-clause-arcs g c = each_has_arc c.args.problem.now c.args.shorts c.requires.rows c.requires.arcs
 
 pub play_from-requires-clause-start : goal.play_from-requires-clause-start
 play_from-requires-clause-start g c = prices_of_start c.args.problem.now c.requires.rows.table c.args.shorts c.args.start.now c.requires.rows.of c.requires.rows.same c.requires.start

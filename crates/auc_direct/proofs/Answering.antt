@@ -1,8 +1,10 @@
 -- What the last phase leaves is an answer.
-use Rattle.std.proofs.Common.{Bool, true, false, ℕ, ℤ, pos, ◌≡◌, ◌≢◌, ◌<◌, refl, arith, inl, inr, List, length, map, Contains, Option, sym, subst}
+use Rattle.std.proofs.Common.{Bool, true, false, ℕ, ℤ, pos, ◌≡◌, ◌≢◌, ◌<◌, refl, arith, inl, inr, List, [], ◌∷◌, length, get_or, map, Contains, Option, ap, sym, subst, ◌∙◌}
 use Rattle.std.specs.Prelude.{All, IfOk, Result, Ok, Err, ◌⊎◌}
 use Rattle.std.proofs.lemmas.Bool.{false≢true}
-use Rattle.std.proofs.lemmas.List.Elements.{All-weaker}
+use Rattle.std.proofs.lemmas.Bool.{cases_lt}
+use Rattle.std.proofs.lemmas.List.{get_or-map, length-map}
+use Rattle.std.proofs.lemmas.List.Elements.{All-weaker, Contains-get_or}
 use Rattle.auc_cert.specs.declared.reason.Reason.{Reason}
 use Rattle.auc_cert.specs.Claim.{pick_of}
 use Rattle.auc_cert.proofs.ClaimLaws.{faultless_is_allowed}
@@ -11,29 +13,34 @@ use Rattle.auc_graph.specs.Assignment.{total, total_cost}
 use Rattle.auc_graph.specs.declared.arc.Arc.{Arc}
 use Rattle.auc_graph.specs.Price.{IsPrice as IsPriceText}
 use Rattle.auc_graph.specs.Problem.{IsProblem, Problem}
-use Rattle.auc_graph.specs.Table.{IsTableOf, Table, row_of}
-use Rattle.auc_hall.proofs.ProblemLaws.{length-rows}
+use Rattle.auc_graph.specs.Row.{row}
+use Rattle.auc_graph.specs.Table.{IsTableOf, Table}
+use Rattle.auc_graph.specs.declared.rows.RowArc.{RowArc}
+use Rattle.auc_hall.proofs.Membership.{contains_at}
+use Rattle.auc_hall.proofs.ProblemLaws.{length-rows, row_is}
 use Rattle.auc_letters.specs.Price.{IsPrice}
 use Rattle.auc_letters.specs.declared.state.Held.{Held}
 use Rattle.auc_answers.specs.declared.answer.Answer.{Answer}
 use Rattle.auc_answers.specs.Answers.{HasAssignment, IsAnswer, IsBracketAnswer, IsCertified, IsInfeasibleAnswer, IsOptimalAnswer}
 use Rattle.auc_answers.specs.Claims.{BoundFits, claim_of}
+use Rattle.auc_answers.specs.Prepared.{NobodyStuck}
 use Rattle.auc_answers.proofs.BracketLaws.{bound_fits, holders_price_few}
 use Rattle.auc_direct.specs.declared.arc.ShortArc.{ShortArc}
 use Rattle.auc_direct.specs.declared.ending.Ending.{Ending}
 use Rattle.auc_direct.specs.declared.market.TheConstants.{NOBODY}
 use Rattle.auc_direct.specs.Endings.{IsLeft, IsLimit, IsLimited, IsLimitedBy, IsLimitedFrom}
 use Rattle.auc_direct.specs.Held.{AreHeld}
-use Rattle.auc_direct.specs.Market.{HaveObjects, Stands, holder_at, own_at}
-use Rattle.auc_direct.specs.Rows.{AreShorts, AreShortsOf, Shorts, short}
+use Rattle.auc_direct.specs.Market.{EachHasArc, HaveObjects, Stands, holder_at, own_at}
+use Rattle.auc_direct.specs.Rows.{AreRowsOf, AreShorts, AreShortsOf, EachHasRow, Shorts, arc_by, short, short_row, shorts_of}
 use Rattle.auc_direct.specs.Starts.{AreOpened}
 use Rattle.auc_direct.proofs.Choices as choices
 use Rattle.auc_direct.proofs.MarketLaws.{holder_has, owner_below}
+use Rattle.auc_direct.proofs.RowLaws.{arc_for}
 
 in_range : (prices : List ℤ) → All IsPrice prices → All IsPriceText prices
 in_range prices = All-weaker IsPrice IsPriceText (λ z h. record { low = h.low; high = h.high }) prices
 
-module _ (p : Problem) (t : Table) (r : Shorts) (prices : List ℤ) (holders : List ℕ) (owns : List ShortArc) (held : List (Option Held)) (is : IsProblem p) (its : IsTableOf p t) (same : AreShortsOf t r) (sound : AreShorts r) (are : AreHeld t holders owns held) where
+module _ (p : Problem) (t : Table) (r : Shorts) (prices : List ℤ) (holders : List ℕ) (owns : List ShortArc) (held : List (Option Held)) (is : IsProblem p) (its : IsTableOf p t) (same : AreShortsOf t r) (sound : AreShorts r) (are : AreHeld p holders owns held) where
   -- ---- each person has an object
 
   module _ (stands : Stands r (pos 1) prices holders owns) (all : HaveObjects (length r.rows) owns) where
@@ -92,6 +99,19 @@ none_is_limited p bids begun (Answer.Broken guard) h = tt
 pub none_is_limited_from : (p : Problem) (bids : ℕ) (start : List ℤ) (answer : Answer) → IsInfeasibleAnswer p answer → IsLimitedFrom p bids start answer
 none_is_limited_from p bids start answer h = record { begun = start; opened = record { each = refl; same = λ e. refl; kept = λ j. inl refl }; limited = none_is_limited p bids (total start) answer h }
 
+-- an answer that there is no assignment is right, and behind a limit one of the bracket is
+pub either_is_answer : (p : Problem) (r : Shorts) (rows : AreRowsOf p r) (prices : List ℤ) (holders : List ℕ) (owns : List ShortArc) (held : List (Option Held)) → IsProblem p → AreShorts r → AreHeld p holders owns held → (eps : ℤ) (reason : Reason) → Stands r eps prices holders owns
+    → (answer : Answer) → IsInfeasibleAnswer p answer ⊎ (HasAssignment p × IsBracketAnswer p reason held prices answer) → IsAnswer p answer
+either_is_answer p r rows prices holders owns held is sound are eps reason stands (Answer.Optimal cert) (inl h) = absurd h
+either_is_answer p r rows prices holders owns held is sound are eps reason stands (Answer.Infeasible cert) (inl h) = h
+either_is_answer p r rows prices holders owns held is sound are eps reason stands (Answer.Bracket cert) (inl h) = absurd h
+either_is_answer p r rows prices holders owns held is sound are eps reason stands (Answer.Broken guard) (inl h) = absurd h
+either_is_answer p r rows prices holders owns held is sound are eps reason stands answer (inr h) = stopped_is_answer p rows.table r prices holders owns held is rows.of rows.same sound are eps reason stands h.0 answer h.1
+
+pub either_is_limited : (p : Problem) (r : Shorts) (rows : AreRowsOf p r) (bids : ℕ) (begun : ℤ) (reason : Reason) (held : List (Option Held)) (prices : List ℤ) → IsLimit r bids begun reason prices → (answer : Answer) → IsInfeasibleAnswer p answer ⊎ (HasAssignment p × IsBracketAnswer p reason held prices answer) → IsLimited p bids begun answer
+either_is_limited p r rows bids begun reason held prices limit answer (inl h) = none_is_limited p bids begun answer h
+either_is_limited p r rows bids begun reason held prices limit answer (inr h) = stopped_is_limited p rows.table r bids begun reason held prices rows.of rows.same limit answer h.1
+
 -- what is opened for the rows of a problem is opened for the problem
 pub limited_from : (p : Problem) (t : Table) (r : Shorts) (bids : ℕ) (start begun : List ℤ) → IsTableOf p t → AreShortsOf t r → AreOpened r.objects (length r.rows) start begun → (answer : Answer) → IsLimited p bids (total begun) answer → IsLimitedFrom p bids start answer
 limited_from p t r bids start begun its same opened answer limited = record {
@@ -110,12 +130,49 @@ pub left_stands : (r : Shorts) (ending : Ending) (prices : List ℤ) (holders : 
 left_stands r Ending.Sold prices holders owns h = (pos 1, h.0)
 left_stands r (Ending.Stopped reason) prices holders owns h = h
 
-pub own_listed : (t : Table) (r : Shorts) (eps : ℤ) (prices : List ℤ) (holders : List ℕ) (owns : List ShortArc) → AreShortsOf t r → AreShorts r → Stands r eps prices holders owns → (j : ℕ) → holder_at holders j ≢ NOBODY → Contains (map short (row_of t (holder_at holders j))) (own_at owns (holder_at holders j))
-own_listed t r eps prices holders owns same sound stands j some =
-    let i = holder_at holders j in
-    let has = holder_has r eps prices holders owns sound stands j some in
-    let lt : i < length t.rows = (let l = owner_below r eps prices holders owns sound stands i has in let e = same.persons in omega (arith, l, e)) in
-    subst (λ (xs : List ShortArc). Contains xs (own_at owns i)) (same.rows i lt) (stands.slack i has).listed
+length_zero : {X : Type 0} (xs : List X) → length xs ≡ 0 → xs ≡ []
+length_zero [] e = refl
+length_zero (x ∷ xs) e = absurd (omega (arith, e))
+
+-- the arc of a row is one of the problem
+listed_at : (p : Problem) (i : ℕ) (s : ShortArc) → Contains (short_row i p.arcs) s → Contains p.arcs (arc_by i s)
+listed_at p i s (k, l, e) =
+    let none : RowArc = record { cost = pos 0; object = 0; arc = 0 } in
+    let lt : k < length (row i p.arcs) = (let m = length-map (row i p.arcs) short in omega (arith, l, m)) in
+    let a : RowArc = get_or (row i p.arcs) k none in
+    let is : short a ≡ s = sym (get_or-map short (row i p.arcs) k none s lt) ∙ e in
+    subst (λ (x : ShortArc). Contains p.arcs (arc_by i x)) is (contains_at p.arcs a.arc (arc_by i (short a)) (arc_for i p.arcs a (Contains-get_or (row i p.arcs) k none lt)))
+
+-- where nobody is stuck each row of the problem has an arc
+pub rows_of_nobody_stuck : (p : Problem) (t : Table) → IsTableOf p t → NobodyStuck t → EachHasRow p
+rows_of_nobody_stuck p t its some i lt none =
+    let l : i < length t.rows = (let f = length-rows p t its in omega (arith, lt, f)) in
+    some i l (row_is p t its i lt ∙ length_zero (row i p.arcs) (let m = length-map (row i p.arcs) short in let z = ap (λ (xs : List ShortArc). length xs) none in omega (arith, m, z)))
+
+module _ (p : Problem) (r : Shorts) (rows : AreRowsOf p r) where
+  pub persons_are : length r.rows ≡ p.persons
+  persons_are = let e = rows.same.persons in let f = length-rows p rows.table rows.of in omega (arith, e, f)
+
+  pub objects_are : r.objects ≡ p.objects
+  objects_are = rows.same.objects ∙ rows.of.objects
+
+  row_at : (i : ℕ) → i < p.persons → shorts_of r i ≡ short_row i p.arcs
+  row_at i lt = rows.same.rows i (let f = length-rows p rows.table rows.of in omega (arith, lt, f)) ∙ ap (map short) (row_is p rows.table rows.of i lt)
+
+  pub each_has_arc : EachHasRow p → EachHasArc r
+  each_has_arc has i lt =
+      let l : i < p.persons = (let e = persons_are in omega (arith, lt, e)) in
+      elim (cases_lt 0 (length (shorts_of r i))) [
+        | inl some ↦ some
+        | inr none ↦ absurd (has i l (sym (row_at i l) ∙ length_zero (shorts_of r i) (omega (arith, none))))
+      ]
+
+  pub own_listed : (eps : ℤ) (prices : List ℤ) (holders : List ℕ) (owns : List ShortArc) → AreShorts r → Stands r eps prices holders owns → (j : ℕ) → holder_at holders j ≢ NOBODY → Contains p.arcs (arc_by (holder_at holders j) (own_at owns (holder_at holders j)))
+  own_listed eps prices holders owns sound stands j some =
+      let i = holder_at holders j in
+      let has = holder_has r eps prices holders owns sound stands j some in
+      let lt : i < p.persons = (let l = owner_below r eps prices holders owns sound stands i has in let e = persons_are in omega (arith, l, e)) in
+      listed_at p i (own_at owns i) (subst (λ (xs : List ShortArc). Contains xs (own_at owns i)) (row_at i lt) (stands.slack i has).listed)
 
 -- ---- where somebody watches
 

@@ -10,7 +10,7 @@ use Rattle.std.proofs.lemmas.Option.{same_Some, slice_get-get_or}
 use Rattle.auc_graph.specs.Assignment.{IsAssignment, object_of, person_of}
 use Rattle.auc_graph.specs.Dual.{IsNoPriceLeft, IsSlackRight, price_at, scale_of}
 use Rattle.auc_graph.specs.Problem.{IsProblem, IsSquare, Problem}
-use Rattle.auc_graph.specs.Row.{row, row_arc}
+use Rattle.auc_graph.specs.Row.{row_arc}
 use Rattle.auc_graph.specs.Table.{IsTableOf, Table, row_of}
 use Rattle.auc_graph.specs.declared.arc.Arc.{Arc}
 use Rattle.auc_graph.specs.declared.rows.RowArc.{RowArc}
@@ -19,25 +19,15 @@ use Rattle.auc_hall.proofs.Membership.{contains_at}
 use Rattle.auc_hall.proofs.ProblemLaws.{in_row, length-rows, row_is}
 use Rattle.auc_letters.specs.declared.state.Held.{Held}
 use Rattle.auc_model.specs.Channels.{Each}
-use Rattle.auc_model.proofs.Chosen.{Found, row_arc_listed}
 use Rattle.auc_answers.specs.Claims.{ArePlaceable, HasNoPriceUnheld, HoldsAt, HoldsBy, IsChoiceOf, NobodyHoldsTwo, holder_at as held_at}
 use Rattle.auc_answers.proofs.FoundLaws.{person_at}
 use Rattle.auc_direct.specs.declared.arc.ShortArc.{ShortArc}
 use Rattle.auc_direct.specs.declared.market.TheConstants.{NOBODY}
-use Rattle.auc_direct.specs.Held.{AreHeld, IsHeld, StandsAt}
+use Rattle.auc_direct.specs.Held.{AreHeld, IsHeld}
 use Rattle.auc_direct.specs.Market.{AreSpare, HaveObjects, Stands, holder_at, own_at, scale_in}
 use Rattle.auc_direct.specs.Rows.{AreShorts, AreShortsOf, Shorts, arc_by, short, shorts_of}
 use Rattle.auc_direct.specs.Scan.{short_value}
 use Rattle.auc_direct.proofs.MarketLaws.{holder_has, owner_below}
-
--- the arc of the problem for which one of a row stands
-arc_for : (i : ℕ) (arcs : List Arc) (a : RowArc) → Contains (row i arcs) a → slice_get arcs a.arc ≡ Some (record { cost = a.cost; person = i; object = a.object })
-unfolding row Found
-arc_for i arcs a c =
-    let f = row_arc_listed i 0 arcs a c in
-    let arc : Arc = record { cost = a.cost; person = i; object = a.object } in
-    let place : a.arc ≡ f.0 = (let e = f.2 in omega (arith, e)) in
-    ap (slice_get arcs) place ∙ slice_get-get_or arcs f.0 arc f.1 ∙ ap Some (f.3 arc)
 
 -- the value of an arc, on two scales that are one
 same_value : (price : ℕ → ℤ) (m n : ℕ) (c : ℤ) (j : ℕ) → m ≡ n → (pos (m + 1) *ℤ c +ℤ price j) ≡ (pos (n + 1) *ℤ c +ℤ price j)
@@ -47,7 +37,7 @@ same_value price m n c j e = ap (λ (k : ℕ). pos (k + 1) *ℤ c +ℤ price j) 
 in_map : (xs : List RowArc) (a : RowArc) → Contains xs a → Contains (map short xs) (short a)
 in_map xs a (k, l, e) = (k, (let m = length-map xs short in omega (arith, l, m)), get_or-map short xs k a (short a) l ∙ ap short e)
 
-module _ (p : Problem) (t : Table) (r : Shorts) (eps : ℤ) (prices : List ℤ) (holders : List ℕ) (owns : List ShortArc) (held : List (Option Held)) (its : IsTableOf p t) (same : AreShortsOf t r) (sound : AreShorts r) (stands : Stands r eps prices holders owns) (are : AreHeld t holders owns held) where
+module _ (p : Problem) (t : Table) (r : Shorts) (eps : ℤ) (prices : List ℤ) (holders : List ℕ) (owns : List ShortArc) (held : List (Option Held)) (its : IsTableOf p t) (same : AreShortsOf t r) (sound : AreShorts r) (stands : Stands r eps prices holders owns) (are : AreHeld p holders owns held) where
   persons_are : length r.rows ≡ p.persons
   persons_are = let e = same.persons in let f = length-rows p t its in omega (arith, e, f)
 
@@ -60,17 +50,11 @@ module _ (p : Problem) (t : Table) (r : Shorts) (eps : ℤ) (prices : List ℤ) 
     who : h.person ≡ i
     at : slice_get p.arcs h.arc ≡ Some (arc_by i (own_at owns i))
 
-  place_at : (i : ℕ) → i < p.persons → (place : ℕ) → StandsAt (row_of t i) (own_at owns i) place → slice_get p.arcs place ≡ Some (arc_by i (own_at owns i))
-  place_at i lt place s =
-      let own : Contains (row i p.arcs) s.arc = subst (λ (xs : List RowArc). Contains xs s.arc) (row_is p t its i lt) s.listed in
-      ap (slice_get p.arcs) (sym s.at) ∙ arc_for i p.arcs s.arc own ∙ ap (λ (x : ShortArc). Some (arc_by i x)) s.is
-
-  held_by : (i : ℕ) → (own_at owns i).object ≢ NOBODY → (o : Option Held) → held_at held (own_at owns i).object ≡ o → IsHeld t holders owns (own_at owns i).object o → (h : Held) × IsOf i h
+  held_by : (i : ℕ) → (own_at owns i).object ≢ NOBODY → (o : Option Held) → held_at held (own_at owns i).object ≡ o → IsHeld p holders owns (own_at owns i).object o → (h : Held) × IsOf i h
   held_by i some None e nobody = absurd (let l = owner_below r eps prices holders owns sound stands i some in let m = sound.most in let h = stands.holds i some in omega (arith, nobody, h, l, m))
   held_by i some (Some h) e is =
       let who : h.person ≡ i = sym is.0 ∙ stands.holds i some in
-      let there : StandsAt (row_of t i) (own_at owns i) h.arc = subst (λ (k : ℕ). StandsAt (row_of t k) (own_at owns k) h.arc) who is.2 in
-      (h, record { holds = e; who = who; at = place_at i (has_below i some) h.arc there })
+      (h, record { holds = e; who = who; at = subst (λ (k : ℕ). slice_get p.arcs h.arc ≡ Some (arc_by k (own_at owns k))) who is.2 })
 
   holder_of : (i : ℕ) → (own_at owns i).object ≢ NOBODY → (h : Held) × IsOf i h
   holder_of i some = held_by i some (held_at held (own_at owns i).object) refl (are (own_at owns i).object)
@@ -78,7 +62,7 @@ module _ (p : Problem) (t : Table) (r : Shorts) (eps : ℤ) (prices : List ℤ) 
   -- who holds an object has it
   has_of : (j : ℕ) (h : Held) → held_at held j ≡ Some h → ((own_at owns h.person).object ≡ j) × ((own_at owns h.person).object ≢ NOBODY)
   has_of j h e =
-      let is : IsHeld t holders owns j (Some h) = subst (IsHeld t holders owns j) e (are j) in
+      let is : IsHeld p holders owns j (Some h) = subst (IsHeld p holders owns j) e (are j) in
       let some : holder_at holders j ≢ NOBODY = λ z. is.1 (sym is.0 ∙ z) in
       (ap (λ (k : ℕ). (own_at owns k).object) (sym is.0) ∙ stands.held j some, λ z. holder_has r eps prices holders owns sound stands j some (ap (λ (k : ℕ). (own_at owns k).object) is.0 ∙ z))
 
@@ -98,7 +82,7 @@ module _ (p : Problem) (t : Table) (r : Shorts) (eps : ℤ) (prices : List ℤ) 
   pub placeable : ArePlaceable p held
   placeable = record { each = holds_at; once = once }
 
-  unheld_by : ((j : ℕ) → holder_at holders j ≡ NOBODY → price_at prices j ≡ pos 0) → (j : ℕ) (o : Option Held) → held_at held j ≡ o → IsHeld t holders owns j o → held_at held j ≡ None → price_at prices j ≡ pos 0
+  unheld_by : ((j : ℕ) → holder_at holders j ≡ NOBODY → price_at prices j ≡ pos 0) → (j : ℕ) (o : Option Held) → held_at held j ≡ o → IsHeld p holders owns j o → held_at held j ≡ None → price_at prices j ≡ pos 0
   unheld_by free j None e nobody none = free j nobody
   unheld_by free j (Some h) e is none = absurd (let b : ◌≡◌ {A = Option Held} None (Some h) = sym none ∙ e in cc)
 

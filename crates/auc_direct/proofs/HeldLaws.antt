@@ -1,33 +1,77 @@
--- One holder more.
-use Rattle.std.proofs.Common.{ℕ, ◌+◌, ◌<◌, ◌≤◌, ◌≡◌, arith, inl, inr, List, [], ◌∷◌, ◌++◌, length, ap, sym, subst, ◌∙◌}
-use Rattle.std.specs.Prelude.{Option, None}
-use Rattle.std.proofs.lemmas.Bool.{cases_eq, cases_lt}
-use Rattle.std.proofs.lemmas.List.{get_or_append_left, get_or_past}
-use Rattle.std.proofs.Math.Seq.{get_or-append_seam}
+-- The arcs by which persons hold are found in the problem's list, arc by arc.
+use Rattle.std.proofs.Common.{ℕ, ◌+◌, ◌<◌, ◌≤◌, ◌≡◌, ◌≢◌, arith, inl, inr, List, length, get_or, set, Contains, Option, Some, None, ap, sym, subst, ◌∙◌}
+use Rattle.std.proofs.lemmas.Bool.{cases_eq}
+use Rattle.std.proofs.lemmas.List.{get_or_default, get_or-set_other, get_or-set_same}
+use Rattle.auc_graph.specs.declared.arc.Arc.{Arc}
+use Rattle.auc_graph.specs.Problem.{Problem}
 use Rattle.auc_answers.specs.Claims.{holder_at as held_at}
-use Rattle.auc_graph.specs.Table.{Table}
 use Rattle.auc_letters.specs.declared.state.Held.{Held}
 use Rattle.auc_direct.specs.declared.arc.ShortArc.{ShortArc}
 use Rattle.auc_direct.specs.declared.market.TheConstants.{NOBODY}
 use Rattle.auc_direct.specs.Held.{AreHeld, IsHeld}
+use Rattle.auc_direct.specs.Market.{holder_at, own_at}
+use Rattle.auc_direct.specs.Rows.{arc_by}
+use Rattle.auc_direct.proofs.RowLaws.{none}
 
-pub held_more : (t : Table) (holders : List ℕ) (owns : List ShortArc) (held more : List (Option Held)) (x : Option Held) (n : ℕ) → length held ≡ n → more ≡ held ++ x ∷ [] → IsHeld t holders owns n x → ((j : ℕ) → j < n → IsHeld t holders owns j (held_at held j)) → (j : ℕ) → j < n + 1 → IsHeld t holders owns j (held_at more j)
-held_more t holders owns held more x n many is new old j lt =
-    elim (cases_eq j n) [
-      | inl e ↦ (
-          let at : held_at more j ≡ x = ap (λ (hs : List (Option Held)). held_at hs j) is ∙ ap (held_at (held ++ x ∷ [])) (omega (arith, e, many)) ∙ get_or-append_seam held x [] None in
-          subst (IsHeld t holders owns j) (sym at) (subst (λ (k : ℕ). IsHeld t holders owns k x) (sym e) new)
-          )
-      | inr ne ↦ (
-          let l : j < n = grind (arith, lt, ne) in
-          let at : held_at more j ≡ held_at held j = ap (λ (hs : List (Option Held)). held_at hs j) is ∙ get_or_append_left held (x ∷ []) None j (omega (arith, l, many)) in
-          subst (IsHeld t holders owns j) (sym at) (old j l)
-          )
-    ]
+module _ (p : Problem) (holders : List ℕ) (owns : List ShortArc) where
+  -- an arc is the one by which this person holds
+  abbrev IsOwn : Arc → ℕ → Type 0
+  IsOwn a q = a ≡ arc_by q (own_at owns q)
 
-pub held_all : (t : Table) (holders : List ℕ) (owns : List ShortArc) (held : List (Option Held)) (n : ℕ) → length held ≡ n → length holders ≤ n → ((j : ℕ) → j < n → IsHeld t holders owns j (held_at held j)) → AreHeld t holders owns held
-held_all t holders owns held n many enough each j =
-    elim (cases_lt j n) [
-      | inl l ↦ each j l
-      | inr past ↦ subst (IsHeld t holders owns j) (sym (get_or_past held j None (omega (arith, past, many)))) (get_or_past holders j NOBODY (omega (arith, past, enough)))
-    ]
+  -- the object's holder holds it by none of the first n arcs, or he was found
+  abbrev pub IsMet : ℕ → ℕ → Option Held → Type 0
+  IsMet n j None = (m : ℕ) → m < n → holder_at holders j ≢ NOBODY → IsOwn (get_or p.arcs m none) (holder_at holders j) → ⊥
+  IsMet n j (Some h) = IsHeld p holders owns j (Some h)
+
+  abbrev pub AreMet : ℕ → List (Option Held) → Type 0
+  AreMet n held = (j : ℕ) → IsMet n j (held_at held j)
+
+  pub met_none : (held : List (Option Held)) → ((j : ℕ) → held_at held j ≡ None) → AreMet 0 held
+  met_none held nobody j = subst (IsMet 0 j) (sym (nobody j)) (λ m lt some e. absurd (omega (arith, lt)))
+
+  -- one arc more, by which the object's holder doesn't hold it
+  other : (n j : ℕ) (o : Option Held) → (holder_at holders j ≢ NOBODY → IsOwn (get_or p.arcs n none) (holder_at holders j) → ⊥) → IsMet n j o → IsMet (n + 1) j o
+  other n j None differs met = λ m lt some e. elim (cases_eq m n) [
+    | inl same ↦ differs some (subst (λ (k : ℕ). IsOwn (get_or p.arcs k none) (holder_at holders j)) same e)
+    | inr ne ↦ met m (grind (arith, lt, ne)) some e
+  ]
+  other n j (Some h) differs met = met
+
+  -- nobody holds by it
+  pub met_other : (n : ℕ) (held : List (Option Held)) → ((q : ℕ) → IsOwn (get_or p.arcs n none) q → ⊥) → AreMet n held → AreMet (n + 1) held
+  met_other n held differs met j = other n j (held_at held j) (λ some e. differs (holder_at holders j) e) (met j)
+
+  module _ (has : (j : ℕ) → holder_at holders j ≢ NOBODY → (own_at owns (holder_at holders j)).object ≡ j) where
+    -- the holder of another object doesn't hold it by an arc to this one
+    elsewhere : (n j : ℕ) → j ≢ (get_or p.arcs n none).object → holder_at holders j ≢ NOBODY → IsOwn (get_or p.arcs n none) (holder_at holders j) → ⊥
+    elsewhere n j ne some e = ne (sym (ap (λ (x : Arc). x.object) e ∙ has j some))
+
+    -- its holder holds it by this arc
+    pub met_now : (n : ℕ) (held : List (Option Held)) (h : Held) → (get_or p.arcs n none).object < length held → IsHeld p holders owns (get_or p.arcs n none).object (Some h) → AreMet n held → AreMet (n + 1) (set held (get_or p.arcs n none).object (Some h))
+    met_now n held h inside is met j =
+        elim (cases_eq j (get_or p.arcs n none).object) [
+          | inl same ↦ (
+              let here : held_at (set held (get_or p.arcs n none).object (Some h)) j ≡ Some h = ap (held_at (set held (get_or p.arcs n none).object (Some h))) same ∙ get_or-set_same held (get_or p.arcs n none).object (Some h) None inside in
+              subst (IsMet (n + 1) j) (sym here) (subst (λ (k : ℕ). IsHeld p holders owns k (Some h)) (sym same) is)
+              )
+          | inr ne ↦ (
+              let off : held_at (set held (get_or p.arcs n none).object (Some h)) j ≡ held_at held j = get_or-set_other held (get_or p.arcs n none).object j (Some h) None ne in
+              subst (IsMet (n + 1) j) (sym off) (other n j (held_at held j) (elsewhere n j ne) (met j))
+              )
+        ]
+
+  -- ---- all arcs
+
+  all_by : (n j : ℕ) → length p.arcs ≤ n → (holder_at holders j ≢ NOBODY → Contains p.arcs (arc_by (holder_at holders j) (own_at owns (holder_at holders j)))) → (o : Option Held) → IsMet n j o → IsHeld p holders owns j o
+  all_by n j over listed None met =
+      elim (cases_eq (holder_at holders j) NOBODY) [
+        | inl nobody ↦ nobody
+        | inr some ↦ (
+            let c = listed some in
+            absurd (met c.0 (let l = c.1 in omega (arith, l, over)) some (get_or_default p.arcs c.0 none (arc_by (holder_at holders j) (own_at owns (holder_at holders j))) c.1 ∙ c.2))
+            )
+      ]
+  all_by n j over listed (Some h) met = met
+
+  pub met_all : (n : ℕ) (held : List (Option Held)) → length p.arcs ≤ n → ((j : ℕ) → holder_at holders j ≢ NOBODY → Contains p.arcs (arc_by (holder_at holders j) (own_at owns (holder_at holders j)))) → AreMet n held → AreHeld p holders owns held
+  met_all n held over listed met j = all_by n j over (listed j) (held_at held j) (met j)

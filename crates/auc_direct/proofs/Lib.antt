@@ -3,6 +3,11 @@ mod Shortlists
 mod BidLaws
 mod MarketLaws
 mod Bounds
+mod ShortRows
+mod LinedLaws
+mod PlacedLaws
+mod SpreadLaws
+mod FrameLaws
 mod RowLaws
 mod Opening
 mod StartLaws

@@ -1,16 +1,23 @@
--- Rows behind one another: a row more.
-use Rattle.std.proofs.Common.{ℕ, ◌+◌, ◌-◌, ◌<◌, ◌≤◌, ◌≡◌, refl, arith, inl, inr, List, [], ◌∷◌, ◌++◌, length, get_or, map, take, drop, ap, sym, ◌∙◌}
-use Rattle.std.specs.Prelude.{All, slice_range}
-use Rattle.std.proofs.lemmas.Bool.{cases_eq, cases_lt}
-use Rattle.std.proofs.lemmas.List.{drop-append-le, get_or_append_left, get_or_default, get_or_past, length-append, length-drop, length-map, take-append-le, take_all}
-use Rattle.std.proofs.lemmas.List.Elements.{All-get_or, All-map}
+-- The rows of a problem: what lies in one, and that they are those of its table.
+use Rattle.std.proofs.Common.{ℕ, ℤ, pos, ◌<◌, ◌≤◌, ◌≡◌, refl, arith, inl, inr, List, [], length, get_or, map, Contains, Some, ap, sym, subst, ◌∙◌}
+use Rattle.std.specs.Prelude.{All, ◌*◌, ◌^◌, ◌≤ℤ◌}
+use Rattle.std.specs.List.{range_with_len, slice_get}
+use Rattle.std.proofs.lemmas.Bool.{cases_lt}
+use Rattle.std.proofs.lemmas.List.{get_or_past}
+use Rattle.std.proofs.lemmas.List.Elements.{All-contains, All-get_or, All-map, Contains-get_or}
 use Rattle.std.proofs.lemmas.List.FromFn.{get_or-map-range_with_len, length-map-range_with_len}
-use Rattle.std.proofs.Math.Seq.{drop-append_seam, get_or-append_seam}
+use Rattle.std.proofs.lemmas.Option.{slice_get-get_or}
+use Rattle.auc_graph.specs.declared.arc.Arc.{Arc}
 use Rattle.auc_graph.specs.declared.limits.TheConstants.{MOST_ARCS}
-use Rattle.auc_graph.specs.Table.{IsRow, IsTable, Table, row_of}
 use Rattle.auc_graph.specs.declared.rows.RowArc.{RowArc}
+use Rattle.auc_graph.specs.Problem.{IsProblem, IsWithin, Problem}
+use Rattle.auc_graph.specs.Row.{IsSpread, row}
+use Rattle.auc_graph.specs.Table.{Table}
+use Rattle.auc_hall.proofs.Membership.{contains_at}
+use Rattle.auc_model.proofs.Chosen.{Found, row_arc_listed}
 use Rattle.auc_direct.specs.declared.arc.ShortArc.{ShortArc}
-use Rattle.auc_direct.specs.Rows.{AreShorts, AreShortsOf, IsLaidOut, IsShort, Shorts, part, parts, short, shorts_of}
+use Rattle.auc_direct.specs.Rows.{AreInRows, AreRowsOf, AreShorts, IsShort, Shorts, part, parts, short, short_row, shorts_of}
+use Rattle.auc_direct.proofs.ShortRows.{row_le}
 
 pub length-parts : (starts : List ℕ) (arcs : List ShortArc) (persons : ℕ) → length (parts starts arcs persons) ≡ persons
 length-parts starts arcs persons = length-map-range_with_len (part starts arcs) 0 persons
@@ -18,161 +25,86 @@ length-parts starts arcs persons = length-map-range_with_len (part starts arcs) 
 pub part_at : (starts : List ℕ) (arcs : List ShortArc) (persons i : ℕ) → i < persons → get_or (parts starts arcs persons) i [] ≡ part starts arcs i
 part_at starts arcs persons i lt = get_or-map-range_with_len (part starts arcs) 0 persons i i [] lt (omega arith)
 
--- ---- the first n rows
+-- the arc of the problem for which one of a row stands
+pub arc_for : (i : ℕ) (arcs : List Arc) (a : RowArc) → Contains (row i arcs) a → slice_get arcs a.arc ≡ Some (record { cost = a.cost; person = i; object = a.object })
+unfolding row Found
+arc_for i arcs a c =
+    let f = row_arc_listed i 0 arcs a c in
+    let arc : Arc = record { cost = a.cost; person = i; object = a.object } in
+    let place : a.arc ≡ f.0 = (let e = f.2 in omega (arith, e)) in
+    ap (slice_get arcs) place ∙ slice_get-get_or arcs f.0 arc f.1 ∙ ap Some (f.3 arc)
 
--- row i lies from its start to that of the next one, where the rows that are not begun yet begin at the end
-pub record IsLaid (t : Table) (n : ℕ) (starts : List ℕ) (arcs : List ShortArc) : Type 0 where
-  pub count : length starts ≡ n
-  pub rising : (i : ℕ) → get_or starts i (length arcs) ≤ get_or starts (i + 1) (length arcs)
-  pub within : (i : ℕ) → get_or starts i (length arcs) ≤ length arcs
-  pub rows : (i : ℕ) → i < n → slice_range arcs (get_or starts i (length arcs)) (get_or starts (i + 1) (length arcs)) ≡ map short (row_of t i)
+abbrev pub none : Arc
+none = record { cost = pos 0; person = 0; object = 0 }
 
-pub laid_none : (t : Table) → IsLaid t 0 [] []
-laid_none t = record { count = refl; rising = λ i. omega arith; within = λ i. omega arith; rows = λ i lt. absurd (omega (arith, lt)) }
+pub within_at : (p : Problem) (arcs : List Arc) (i : ℕ) (d : Arc) → IsProblem p → arcs ≡ p.arcs → i < length arcs → IsWithin p.persons p.objects (get_or arcs i d)
+within_at p arcs i d is e lt = All-get_or (IsWithin p.persons p.objects) arcs i d lt (subst (λ (xs : List Arc). All (IsWithin p.persons p.objects) xs) (sym e) is.within)
 
-in_front : (xs ys : List ShortArc) (a b : ℕ) → a ≤ b → b ≤ length xs → slice_range (xs ++ ys) a b ≡ slice_range xs a b
-in_front xs ys a b le few =
-    ap (take (b - a)) (drop-append-le a xs ys (omega arith)) ∙ take-append-le (b - a) (drop a xs) ys (omega (arith, length-drop a xs))
+-- what lies in a row are arcs of the problem
+short_is : (p : Problem) (i : ℕ) → IsProblem p → All (IsShort p.objects) (short_row i p.arcs)
+short_is p i is =
+    All-map (IsShort p.objects) short (row i p.arcs)
+    (λ k d lt. (
+    let a : RowArc = get_or (row i p.arcs) k d in
+    let there = arc_for i p.arcs a (Contains-get_or (row i p.arcs) k d lt) in
+    let w = All-contains (IsWithin p.persons p.objects) p.arcs (record { cost = a.cost; person = i; object = a.object }) is.within (contains_at p.arcs a.arc (record { cost = a.cost; person = i; object = a.object }) there) in
+    record { object = w.object; low = w.low; high = w.high }
+    ))
 
-behind : (xs ys : List ShortArc) (b : ℕ) → b ≡ length (xs ++ ys) → slice_range (xs ++ ys) (length xs) b ≡ ys
-behind xs ys b e =
-    ap (take (b - length xs)) (drop-append_seam xs ys) ∙ take_all (b - length xs) ys (let l = length-append xs ys in omega (arith, e, l))
-
-module _ (t : Table) (n : ℕ) (starts : List ℕ) (arcs more : List ShortArc) (h : IsLaid t n starts arcs) (is : more ≡ map short (row_of t n)) where
-  abbrev begun : List ℕ
-  begun = starts ++ length arcs ∷ []
-
-  abbrev all : List ShortArc
-  all = arcs ++ more
-
-  many : length begun ≡ n + 1
-  many = let l = length-append starts (length arcs ∷ []) in let c = h.count in omega (arith, l, c)
-
-  longer : length arcs ≤ length all
-  longer = let l = length-append arcs more in omega (arith, l)
-
-  -- rows that were begun begin where they did
-  old : (i : ℕ) → i < n + 1 → get_or begun i (length all) ≡ get_or starts i (length arcs)
-  old i lt =
-      elim (cases_eq i n) [
-        | inl e ↦ (
-            let c = h.count in
-            let at : get_or begun i (length all) ≡ length arcs = ap (λ (k : ℕ). get_or begun k (length all)) (omega (arith, e, c)) ∙ get_or-append_seam starts (length arcs) [] (length all) in
-            at ∙ sym (get_or_past starts i (length arcs) (omega (arith, e, c)))
-            )
-        | inr ne ↦ (
-            let c = h.count in
-            let l : i < length starts = grind (arith, c, lt, ne) in
-            get_or_append_left starts (length arcs ∷ []) (length all) i l ∙ get_or_default starts i (length all) (length arcs) l
-            )
-      ]
-
-  new : (i : ℕ) → n + 1 ≤ i → get_or begun i (length all) ≡ length all
-  new i le = get_or_past begun i (length all) (let m = many in omega (arith, m, le))
-
-  within_all : (i : ℕ) → get_or begun i (length all) ≤ length all
-  within_all i =
-      elim (cases_lt i (n + 1)) [
-        | inl l ↦ (let o = old i l in let w = h.within i in let m = longer in omega (arith, o, w, m))
-        | inr le ↦ (let o = new i (omega (arith, le)) in omega (arith, o))
-      ]
-
-  rising_all : (i : ℕ) → get_or begun i (length all) ≤ get_or begun (i + 1) (length all)
-  rising_all i =
-      elim (cases_lt (i + 1) (n + 1)) [
-        | inl l ↦ (let o = old i (omega (arith, l)) in let p = old (i + 1) l in let r = h.rising i in omega (arith, o, p, r))
-        | inr le ↦ (let w = within_all i in let p = new (i + 1) (omega (arith, le)) in omega (arith, w, p))
-      ]
-
-  row_at : (i : ℕ) → i < n + 1 → slice_range all (get_or begun i (length all)) (get_or begun (i + 1) (length all)) ≡ map short (row_of t i)
-  row_at i lt =
-      elim (cases_eq i n) [
-        | inl e ↦ (
-            let from : get_or begun i (length all) ≡ length arcs = old i lt ∙ get_or_past starts i (length arcs) (let c = h.count in omega (arith, c, e)) in
-            let to : get_or begun (i + 1) (length all) ≡ length all = new (i + 1) (omega (arith, e)) in
-            ap (λ (k : ℕ). slice_range all k (get_or begun (i + 1) (length all))) from ∙ behind arcs more (get_or begun (i + 1) (length all)) to ∙ is ∙ ap (λ (k : ℕ). map short (row_of t k)) (sym e)
-            )
-        | inr ne ↦ (
-            let l : i < n = grind (arith, lt, ne) in
-            ap (λ (k : ℕ). slice_range all k (get_or begun (i + 1) (length all))) (old i lt)
-            ∙ ap (slice_range all (get_or starts i (length arcs))) (old (i + 1) (omega (arith, l)))
-            ∙ in_front arcs more (get_or starts i (length arcs)) (get_or starts (i + 1) (length arcs)) (h.rising i) (h.within (i + 1)) ∙ h.rows i l
-            )
-      ]
-
-  pub laid_more : IsLaid t (n + 1) begun all
-  laid_more = record { count = many; rising = rising_all; within = within_all; rows = row_at }
-
--- ---- all rows, and the end of the last one
-
-module _ (t : Table) (starts : List ℕ) (arcs : List ShortArc) (h : IsLaid t (length t.rows) starts arcs) where
-  abbrev ends : List ℕ
-  ends = starts ++ length arcs ∷ []
-
-  end_at : (i : ℕ) → i < length t.rows + 1 → get_or ends i 0 ≡ get_or starts i (length arcs)
-  end_at i lt =
-      elim (cases_eq i (length t.rows)) [
-        | inl e ↦ (
-            let c = h.count in
-            ap (λ (k : ℕ). get_or ends k 0) (omega (arith, e, c)) ∙ get_or-append_seam starts (length arcs) [] 0 ∙ sym (get_or_past starts i (length arcs) (omega (arith, e, c)))
-            )
-        | inr ne ↦ (
-            let c = h.count in
-            let l : i < length starts = grind (arith, c, lt, ne) in
-            get_or_append_left starts (length arcs ∷ []) 0 i l ∙ get_or_default starts i 0 (length arcs) l
-            )
-      ]
-
-  pub laid_out : IsLaidOut ends arcs (length t.rows)
-  laid_out = record {
-    count = (let l = length-append starts (length arcs ∷ []) in let c = h.count in omega (arith, l, c));
-    rising = λ i lt. (let a = end_at i (omega (arith, lt)) in let b = end_at (i + 1) (omega (arith, lt)) in let r = h.rising i in omega (arith, a, b, r));
-    within = λ i lt. (let b = end_at (i + 1) (omega (arith, lt)) in let w = h.within (i + 1) in omega (arith, b, w));
-  }
-
-  pub same_rows : (i : ℕ) → i < length t.rows → get_or (parts ends arcs (length t.rows)) i [] ≡ map short (row_of t i)
-  same_rows i lt =
-      part_at ends arcs (length t.rows) i lt
-      ∙ ap (λ (k : ℕ). slice_range arcs k (get_or ends (i + 1) 0)) (end_at i (omega (arith, lt)))
-      ∙ ap (slice_range arcs (get_or starts i (length arcs))) (end_at (i + 1) (omega (arith, lt))) ∙ h.rows i lt
-
--- ---- what they are
-
-short_is : (objects : ℕ) (row : List RowArc) → IsRow objects row → All (IsShort objects) (map short row)
-short_is objects row h = All-map (IsShort objects) short row (λ k d lt. (let a = h.within k d lt in record { object = a.object; low = a.low; high = a.high }))
-
-module _ (t : Table) (starts : List ℕ) (arcs : List ShortArc) (table : IsTable t) (h : IsLaid t (length t.rows) starts arcs) where
+module _ (p : Problem) (spread : ℤ) (starts : List ℕ) (arcs : List ShortArc) (is : IsProblem p) (h : AreInRows starts p.persons p.arcs arcs) where
   abbrev pub those : Shorts
-  those = record { objects = t.objects; spread = t.spread; rows = parts (starts ++ length arcs ∷ []) arcs (length t.rows) }
+  those = record { objects = p.objects; spread = spread; rows = parts starts arcs p.persons }
 
-  many_rows : length (parts (starts ++ length arcs ∷ []) arcs (length t.rows)) ≡ length t.rows
-  many_rows = length-parts (starts ++ length arcs ∷ []) arcs (length t.rows)
+  abbrev its : Table
+  its = record { objects = p.objects; spread = spread; rows = map (λ person. row person p.arcs) (range_with_len 0 p.persons) }
 
-  each_short : (i : ℕ) → All (IsShort t.objects) (shorts_of those i)
+  many_rows : length (parts starts arcs p.persons) ≡ p.persons
+  many_rows = length-parts starts arcs p.persons
+
+  row_at : (i : ℕ) → i < p.persons → shorts_of those i ≡ short_row i p.arcs
+  row_at i lt = part_at starts arcs p.persons i lt ∙ h.rows i lt
+
+  past : (i : ℕ) → p.persons ≤ i → shorts_of those i ≡ []
+  past i le = get_or_past (parts starts arcs p.persons) i [] (let m = many_rows in omega (arith, le, m))
+
+  each_short : (i : ℕ) → All (IsShort p.objects) (shorts_of those i)
   each_short i =
-      elim (cases_lt i (length t.rows)) [
-        | inl l ↦ rw (same_rows t starts arcs h i l) (short_is t.objects (row_of t i) (All-get_or (IsRow t.objects) t.rows i [] l table.each))
-        | inr past ↦ rw (get_or_past (parts (starts ++ length arcs ∷ []) arcs (length t.rows)) i [] (let m = many_rows in omega (arith, past, m))) (λ k d lt. absurd (omega (arith, lt)))
+      elim (cases_lt i p.persons) [
+        | inl l ↦ rw (row_at i l) (short_is p i is)
+        | inr le ↦ rw (past i le) (λ k d lt. absurd (omega (arith, lt)))
       ]
 
   few_short : (i : ℕ) → length (shorts_of those i) ≤ MOST_ARCS
   few_short i =
-      elim (cases_lt i (length t.rows)) [
-        | inl l ↦ rw (same_rows t starts arcs h i l) (let f = (All-get_or (IsRow t.objects) t.rows i [] l table.each).few in let m = length-map (row_of t i) short in omega (arith, f, m))
-        | inr past ↦ rw (get_or_past (parts (starts ++ length arcs ∷ []) arcs (length t.rows)) i [] (let m = many_rows in omega (arith, past, m))) (omega arith)
+      elim (cases_lt i p.persons) [
+        | inl l ↦ rw (row_at i l) (let f = is.few in let m = row_le i p.arcs in omega (arith, f, m))
+        | inr le ↦ rw (past i le) (omega arith)
       ]
 
-  pub are_shorts : AreShorts those
-  are_shorts = record {
-    some = (let m = many_rows in let s = table.some in omega (arith, m, s));
-    most = (let m = many_rows in let s = table.most in omega (arith, m, s));
-    enough = (let m = many_rows in let s = table.enough in omega (arith, m, s));
-    most_objects = table.most_objects;
-    low = table.low;
-    high = table.high;
-    each = each_short;
-    few = few_short;
-  }
+  module _ (low : pos 0 ≤ℤ spread) (high : spread ≤ℤ pos (2 * 10 ^ 9)) where
+    pub are_shorts : AreShorts those
+    are_shorts = record {
+      some = (let m = many_rows in let s = is.some in omega (arith, m, s));
+      most = (let m = many_rows in let s = is.most in omega (arith, m, s));
+      enough = (let m = many_rows in let s = is.enough in omega (arith, m, s));
+      most_objects = is.most_objects;
+      low = low;
+      high = high;
+      each = each_short;
+      few = few_short;
+    }
 
-  pub are_its : AreShortsOf t those
-  are_its = record { objects = refl; persons = many_rows; spread = refl; rows = same_rows t starts arcs h }
+  pub are_rows : IsSpread p.arcs spread → AreRowsOf p those
+  are_rows spreads = record {
+    table = its;
+    of = record { objects = refl; rows = refl; spread = spreads };
+    same = record {
+      objects = refl;
+      persons = (let m = many_rows in let n = length-map-range_with_len (λ person. row person p.arcs) 0 p.persons in omega (arith, m, n));
+      spread = refl;
+      rows = λ i lt. (
+          let l : i < p.persons = (let n = length-map-range_with_len (λ person. row person p.arcs) 0 p.persons in omega (arith, lt, n)) in
+          row_at i l ∙ ap (map short) (sym (get_or-map-range_with_len (λ person. row person p.arcs) 0 p.persons i i [] l (omega arith)))
+          );
+    };
+  }

@@ -1,11 +1,12 @@
 -- The rows of a problem, in arcs of eight bytes.
-use Rattle.std.specs.Prelude.{ℕ, ℤ, pos, ◌≡◌, ◌<◌, ◌≤◌, ◌+◌, ◌*◌, ◌^◌, neg_ℤ, ◌≤ℤ◌, List, [], length, map, All, Contains, slice_index, slice_index_or, slice_range}
+use Rattle.std.specs.Prelude.{ℕ, ℤ, pos, ◌≡◌, ◌≢◌, ◌<◌, ◌≤◌, ◌+◌, ◌*◌, ◌^◌, neg_ℤ, ◌≤ℤ◌, List, [], length, map, All, Contains, slice_index, slice_index_or, slice_range}
 use Rattle.std.specs.List.{range_with_len}
 use Rattle.auc_graph.specs.declared.arc.Arc.{Arc}
 use Rattle.auc_graph.specs.declared.limits.TheConstants.{MOST_ARCS, MOST_COST, MOST_OBJECTS, MOST_PERSONS}
 use Rattle.auc_graph.specs.declared.rows.RowArc.{RowArc}
 use Rattle.auc_graph.specs.Problem.{Problem}
-use Rattle.auc_graph.specs.Table.{Table, row_of}
+use Rattle.auc_graph.specs.Row.{row}
+use Rattle.auc_graph.specs.Table.{IsTableOf, Table, row_of}
 use Rattle.auc_direct.specs.declared.arc.ShortArc.{ShortArc}
 
 -- an arc of a row without its place, and one of a problem without its person
@@ -63,6 +64,32 @@ pub record AreShortsOf (t : Table) (r : Shorts) : Type 0 where
   pub persons : length r.rows ≡ length t.rows
   pub spread : r.spread ≡ t.spread
   pub rows : (i : ℕ) → i < length t.rows → shorts_of r i ≡ map short (row_of t i)
+
+-- ---- the rows of a problem
+
+-- the arcs of a person, in the order of the list
+abbrev pub short_row : ℕ → List Arc → List ShortArc
+short_row i arcs = map short (row i arcs)
+
+-- each row begins where the one before it ends
+pub record AreStarts (starts : List ℕ) (persons : ℕ) (arcs : List Arc) : Type 0 where
+  pub count : length starts ≡ persons + 1
+  pub steps : (i : ℕ) → i < persons → slice_index starts (i + 1) ≡ slice_index starts i + length (short_row i arcs)
+
+-- the arcs of each person lie between where his row begins and where it ends
+pub record AreInRows (starts : List ℕ) (persons : ℕ) (arcs : List Arc) (placed : List ShortArc) : Type 0 where
+  pub laid : IsLaidOut starts placed persons
+  pub rows : (i : ℕ) → i < persons → part starts placed i ≡ short_row i arcs
+
+-- each person has an arc
+abbrev pub EachHasRow : Problem → Type 0
+EachHasRow p = (i : ℕ) → i < p.persons → short_row i p.arcs ≢ []
+
+-- the rows of this problem
+pub record AreRowsOf (p : Problem) (r : Shorts) : Type 0 where
+  pub table : Table
+  pub of : IsTableOf p table
+  pub same : AreShortsOf table r
 
 -- The arcs of a person: no other than his of the problem, and each of them.
 pub record IsHis (p : Problem) (i : ℕ) (row : List ShortArc) : Type 0 where

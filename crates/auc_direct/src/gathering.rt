@@ -1,66 +1,56 @@
 //! What a phase leaves, with the places of the arcs in the problem's list.
 
-ghost use Rattle.std.specs.Prelude.{ℕ, ◌≡◌, ◌≢◌, ◌<◌, Contains, length, map, IfOk, IfSome, IfNone};
-ghost use Rattle.auc_graph.specs.Table.{row_of};
-ghost use Rattle.auc_direct.specs.Held.{AreHeld, IsHeld, StandsAt};
+ghost use Rattle.std.specs.Prelude.{ℕ, true, false, ◌≡◌, ◌≢◌, ◌<◌, Contains, length, IfOk};
+ghost use Rattle.auc_direct.specs.declared.market.TheConstants.{NOBODY};
+ghost use Rattle.auc_direct.specs.Held.{AreHeld};
 ghost use Rattle.auc_direct.specs.Market.{holder_at, own_at};
-ghost use Rattle.auc_direct.specs.Rows.{short};
+ghost use Rattle.auc_direct.specs.Rows.{arc_by};
 
 use crate::arc::ShortArc;
-use crate::market::{Market, NOBODY};
+use crate::market::Market;
 use auc_answers::Gathered;
-use auc_graph::{RowArc, Rows};
+use auc_graph::{Arc, ArcList};
 use auc_letters::Held;
 use std::alloc::{AllocError, Global};
 
-/// Where an arc of a row stands in the problem's list: the first one of that object and cost.
-fn place_of(row: &[RowArc], own: ShortArc) -> Option<u32>
-    ensures some { IfSome result (StandsAt row.now own) }
-    ensures none { IfNone result (Contains (map short row.now) own → ⊥) }
+/// Whether an arc is the one by which its person holds what he has, or just as one.
+#[inline(always)]
+fn is_own(owns: &[ShortArc], arc: &Arc) -> bool
+    requires { arc.now.person < length owns.now }
+    ensures yes { result ≡ true → arc.now ≡ arc_by arc.now.person (own_at owns.now arc.now.person) }
+    ensures no { result ≡ false → (q : ℕ) → arc.now ≡ arc_by q (own_at owns.now q) → ⊥ }
 {
-    for arc in row {
-        if arc.object == own.object && arc.cost == own.cost {
-            return Some(arc.arc);
-        }
-    }
-    None
+    let own = owns[arc.person as usize];
+    own.object == arc.object && i64::from(own.cost) == arc.cost
 }
 
-/// Who holds an object, and by which arc.
-fn held_of(rows: &Rows, market: &Market, object: usize) -> Option<Held>
-    requires object { object < length market.now.holders.items }
-    requires person { holder_at market.now.holders.items object ≢ NOBODY → holder_at market.now.holders.items object < length rows.now.rows }
-    requires own { holder_at market.now.holders.items object ≢ NOBODY → holder_at market.now.holders.items object < length market.now.owns.items }
-    requires listed { holder_at market.now.holders.items object ≢ NOBODY → Contains (map short (row_of rows.now (holder_at market.now.holders.items object))) (own_at market.now.owns.items (holder_at market.now.holders.items object)) }
-    ensures { IsHeld rows.now market.now.holders.items market.now.owns.items object result }
-{
-    let person = market.holders[object];
-    if person == NOBODY {
-        return None;
-    }
-    let own = market.owns[person as usize];
-    match place_of(rows.row(person), own) {
-        Some(arc) => Some(Held { person, arc }),
-        None => unreachable!("each person holds by an arc of his"),
-    }
-}
-
-/// Who holds each object by which arc, and the prices.
+/// Who holds each object by which arc, and the prices. Takes one pass over the problem's list, so that nobody keeps the places of all arcs until then.
 ///
 /// # Errors
 ///
 /// Only where memory was refused.
-pub(crate) fn gather(alloc: Global, rows: &Rows, market: Market) -> Result<Gathered, AllocError>
-    requires persons { (j : ℕ) → holder_at market.holders.items j ≢ NOBODY → holder_at market.holders.items j < length rows.now.rows }
-    requires owns { length market.owns.items ≡ length rows.now.rows }
-    requires listed { (j : ℕ) → holder_at market.holders.items j ≢ NOBODY → Contains (map short (row_of rows.now (holder_at market.holders.items j))) (own_at market.owns.items (holder_at market.holders.items j)) }
-    ensures held { IfOk result (λ g. AreHeld rows.now market.holders.items market.owns.items g.holders.items) }
+pub(crate) fn gather(
+    alloc: Global,
+    problem: &ArcList,
+    market: Market,
+) -> Result<Gathered, AllocError>
+    requires many { length market.holders.items ≡ problem.now.objects }
+    requires owns { length market.owns.items ≡ problem.now.persons }
+    requires holds { (i : ℕ) → (own_at market.owns.items i).object ≢ NOBODY → holder_at market.holders.items (own_at market.owns.items i).object ≡ i }
+    requires held { (j : ℕ) → holder_at market.holders.items j ≢ NOBODY → (own_at market.owns.items (holder_at market.holders.items j)).object ≡ j }
+    requires listed { (j : ℕ) → holder_at market.holders.items j ≢ NOBODY → Contains problem.now.arcs (arc_by (holder_at market.holders.items j) (own_at market.owns.items (holder_at market.holders.items j))) }
+    ensures held { IfOk result (λ g. AreHeld problem.now market.holders.items market.owns.items g.holders.items) }
     ensures many { IfOk result (λ g. length g.holders.items ≡ length market.holders.items) }
     ensures prices { IfOk result (λ g. g.prices.items ≡ market.prices.items) }
 {
-    let mut holders = Vec::with_capacity(alloc, market.holders.len())?;
-    for object in 0..market.holders.len() {
-        holders.push(held_of(rows, &market, object))?;
+    let mut holders = vec![in alloc; None; market.holders.len()]?;
+    for (place, arc) in problem.arcs().iter().enumerate() {
+        if is_own(market.owns.as_slice(), arc) {
+            holders[arc.object as usize] = Some(Held {
+                person: arc.person,
+                arc: place as u32,
+            });
+        }
     }
     let Market { prices, .. } = market;
     Ok(Gathered { holders, prices })

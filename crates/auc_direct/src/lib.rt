@@ -12,6 +12,7 @@ mod eps;
 mod gathering;
 mod hop;
 mod label;
+mod layout;
 mod lists;
 mod market;
 mod path;

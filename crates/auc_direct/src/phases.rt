@@ -1,6 +1,6 @@
 //! All phases of a run: epsilon scaling.
 
-ghost use Rattle.std.specs.Prelude.{true, ◌≡◌, ◌⊎◌, pos, length, IfOk};
+ghost use Rattle.std.specs.Prelude.{true, ◌≡◌, ◌⊎◌, pos, length, IfOk, IfSome};
 ghost use Rattle.std.specs.BinaryHeap.{heap_items};
 ghost use Rattle.auc_graph.specs.Assignment.{total};
 ghost use Rattle.auc_letters.specs.Price.{IsEps};
@@ -14,8 +14,9 @@ use crate::ending::Ending;
 use crate::eps::{LAST_EPS, first_eps, half_of_mean, next_eps};
 use crate::market::Market;
 use crate::rows::ShortRows;
-use crate::watch::Watch;
+use crate::watch::{Progress, Watch};
 use crate::workspace::Workspace;
+use auc_cert::Reason;
 use std::alloc::{AllocError, Global};
 
 /// Behind how many bids of a chain a path is looked for in a run of one phase, at the last eps, where a bid raises a price by little. At least so many, and where a person
@@ -28,6 +29,9 @@ const LATE: u64 = 10_000;
 
 /// The same in a full table, where a search for a path costs little.
 const AT_ONCE: u64 = 4;
+
+/// How many bids a person makes in the first phase, in the mean, before it is asked whether there is an assignment at all: more than were seen in any problem that has one.
+const FEW: u64 = 8;
 
 /// How many arcs a search may look at in the time of one bid.
 const LOOKS: usize = 100;
@@ -52,11 +56,12 @@ pub(crate) struct Outcome {
 }
 
 /// A phase at this eps from the prices of the market, and then one at each next eps, from the prices of the one before: up to the last one, or the first that a limit
-/// stops. Each may make so many bids.
+/// stops. Each may make so many bids, and looks for a path behind `patience` of a chain.
 fn play_phases<W: Watch>(
     rows: &ShortRows,
     bids: u64,
     eps: i64,
+    patience: u64,
     market: Market,
     work: Workspace,
     watch: &mut W,
@@ -71,7 +76,6 @@ fn play_phases<W: Watch>(
     ensures left { IfOk result (λ o. IsLeft rows.now o.ending o.market.prices.items o.market.holders.items o.market.owns.items) }
     ensures stopped { IfOk result (λ o. (W.has_stopped watch.new ≡ true) ⊎ IsStopped rows.now bids (total market.prices.items) o.ending o.market.prices.items) }
 {
-    let patience = patience_at(rows, eps);
     let mut market = market;
     let mut work = work;
     let mut eps = eps;
@@ -106,12 +110,58 @@ pub(crate) fn play_all<W: Watch>(
 {
     let mut work = Workspace::new(alloc, rows)?;
     let mut market = Market::new(alloc, rows.persons(), prices)?;
+    let patience = patience_at(rows, eps);
     if eps == LAST_EPS {
-        return play_phases(rows, bids, eps, market, work, watch);
+        return play_phases(rows, bids, eps, patience, market, work, watch);
     }
     match market.play_early(rows, bids, &mut work, watch)? {
         Some(ending) => Ok(Outcome { ending, market }),
-        None => play_phases(rows, bids, eps, market, work, watch),
+        None => play_phases(rows, bids, eps, patience, market, work, watch),
+    }
+}
+
+/// All phases as [`play_all`] plays them, but where the first one doesn't sell all by a few bids a person, which it mostly does where there is an assignment at all; then none. A full
+/// table has one. None too where there is one phase alone, in which it would take many searches for a path to see that nothing comes of it.
+pub(crate) fn play_quickly<W: Watch>(
+    alloc: Global,
+    rows: &ShortRows,
+    bids: u64,
+    eps: i64,
+    prices: Vec<i64>,
+    watch: &mut W,
+) -> Result<Option<Outcome>, AllocError>
+    requires arcs { EachHasArc rows.now }
+    requires eps { IsEps eps }
+    requires start { IsStart rows.now eps prices.items }
+    ensures left { IfOk result (λ x. IfSome x (λ o. IsLeft rows.now o.ending o.market.prices.items o.market.holders.items o.market.owns.items)) }
+    ensures stopped { IfOk result (λ x. IfSome x (λ o. (W.has_stopped watch.new ≡ true) ⊎ IsStopped rows.now bids (total prices.items) o.ending o.market.prices.items)) }
+{
+    if rows.is_table() {
+        let outcome = play_all(alloc, rows, bids, eps, prices, watch)?;
+        return Ok(Some(outcome));
+    }
+    let Some(next) = next_eps(eps) else {
+        return Ok(None);
+    };
+    let mut work = Workspace::new(alloc, rows)?;
+    let mut market = Market::new(alloc, rows.persons(), prices)?;
+    let progress = Progress {
+        eps,
+        held: 0,
+        bids: 0,
+    };
+    if !watch.goes_on(progress) {
+        let ending = Ending::Stopped(Reason::Bids);
+        return Ok(Some(Outcome { ending, market }));
+    }
+    let few = bids.min(FEW * u64::from(rows.persons()));
+    let patience = patience_at(rows, eps);
+    match market.play(rows, eps, few, patience, &mut work)? {
+        Ending::Stopped(_) => Ok(None),
+        Ending::Sold => {
+            let outcome = play_phases(rows, bids, next, patience, market, work, watch)?;
+            Ok(Some(outcome))
+        }
     }
 }
 
@@ -150,7 +200,11 @@ pub(crate) fn play_from<W: Watch>(
     if rows.is_table() && rows.persons() == rows.objects() {
         return match market.play_early(rows, bids, &mut work, watch)? {
             Some(ending) => Ok(Outcome { ending, market }),
-            None => play_phases(rows, bids, first_eps(rows), market, work, watch),
+            None => {
+                let eps = first_eps(rows);
+                let patience = patience_at(rows, eps);
+                play_phases(rows, bids, eps, patience, market, work, watch)
+            }
         };
     }
     let patience = patience_at(rows, LAST_EPS);

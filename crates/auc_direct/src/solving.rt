@@ -1,23 +1,24 @@
 //! The solver in one hand.
 
-ghost use Rattle.std.specs.Prelude.{ℕ, ℤ, true, ◌≡◌, ◌⊎◌, pos, IfOk};
+ghost use Rattle.std.specs.Prelude.{ℕ, ℤ, true, ◌≡◌, ◌⊎◌, pos, All, length, IfOk, IfSome, IfNone};
 ghost use Rattle.auc_graph.specs.Assignment.{total};
-ghost use Rattle.auc_graph.specs.Table.{IsTableOf};
+ghost use Rattle.auc_graph.specs.Price.{IsPrice as IsPriceText};
 ghost use Rattle.auc_letters.specs.Price.{IsEps};
-ghost use Rattle.auc_answers.specs.Answers.{HasAssignment, IsAnswer};
-ghost use Rattle.auc_answers.specs.Prepared.{NobodyStuck};
+ghost use Rattle.auc_answers.specs.Answers.{HasAssignment, IsAnswer, IsBracketAnswer, IsInfeasibleAnswer};
 ghost use Rattle.auc_direct.specs.Endings.{IsLeft, IsLimited, IsLimitedFrom, IsStart, IsStopped};
-ghost use Rattle.auc_direct.specs.Rows.{AreShorts, AreShortsOf};
+ghost use Rattle.auc_direct.specs.Market.{EachHasArc};
+ghost use Rattle.auc_direct.specs.Rows.{AreRowsOf, AreShorts, EachHasRow};
 ghost use Rattle.auc_direct.specs.Starts.{AreStartPrices};
 
 use crate::ending::Ending;
 use crate::eps::first_eps;
 use crate::gathering::gather;
-use crate::phases::{Outcome, play_all, play_from};
+use crate::phases::{Outcome, play_all, play_from, play_quickly};
 use crate::rows::ShortRows;
 use crate::watch::{Onward, Watch};
 use auc_answers::finish::{bracket, optimal};
-use auc_answers::{Answer, Prepared, prepare};
+use auc_answers::{Answer, Gathered, Prepared, prepare};
+use auc_cert::Reason;
 use auc_graph::{ArcList, Rows};
 use std::alloc::{AllocError, Global};
 
@@ -28,80 +29,132 @@ pub struct DirectLimits {
     pub bids: u64,
 }
 
-/// The answer of what all phases come to.
+/// The answer where a problem has no assignment; none where it has one. The rows by which that is found go again at the end: nobody has them beside those of the phases.
+fn answered(alloc: Global, problem: &ArcList) -> Result<Option<Answer>, AllocError>
+    ensures some { IfOk result (λ o. IfSome o (IsInfeasibleAnswer problem.now)) }
+    ensures none { IfOk result (λ o. IfNone o (EachHasRow problem.now)) }
+{
+    match prepare(alloc, problem)? {
+        Prepared::Answered(answer) => Ok(Some(answer)),
+        Prepared::Rows(_) => Ok(None),
+    }
+}
+
+/// The answer of a run that a limit has stopped: a bracket, or that there is no assignment. Only it wants the rows with their places, so they are laid out for it alone.
+fn bracketed(
+    alloc: Global,
+    problem: &ArcList,
+    reason: Reason,
+    gathered: Gathered,
+) -> Result<Answer, AllocError>
+    requires holders { length gathered.holders.items ≡ problem.now.objects }
+    requires prices { length gathered.prices.items ≡ problem.now.objects }
+    requires within { All IsPriceText gathered.prices.items }
+    ensures { IfOk result (λ a. IsInfeasibleAnswer problem.now a ⊎ (HasAssignment problem.now × IsBracketAnswer problem.now reason gathered.holders.items gathered.prices.items a)) }
+{
+    match prepare(alloc, problem)? {
+        Prepared::Answered(answer) => Ok(answer),
+        Prepared::Rows(rows) => {
+            let answer = bracket(alloc, problem, &rows, reason, gathered)?;
+            Ok(answer)
+        }
+    }
+}
+
+/// The answer of what all phases come to. Their rows go before it is made.
 fn answer_of(
     alloc: Global,
     problem: &ArcList,
-    rows: &Rows,
-    _shorts: &ShortRows,
+    _shorts: ShortRows,
     outcome: Outcome,
 ) -> Result<Answer, AllocError>
-    requires rows { IsTableOf problem.now rows.now }
-    requires shorts { AreShortsOf rows.now _shorts.now }
-    requires sound { AreShorts _shorts.now }
-    requires assignment { HasAssignment problem.now }
-    requires left { IsLeft _shorts.now outcome.ending outcome.market.prices.items outcome.market.holders.items outcome.market.owns.items }
+    requires rows { AreRowsOf problem.now _shorts }
+    requires sound { AreShorts _shorts }
+    requires left { IsLeft _shorts outcome.ending outcome.market.prices.items outcome.market.holders.items outcome.market.owns.items }
     ensures is { IfOk result (IsAnswer problem.now) }
-    ensures limit { (bids : ℕ) (begun : ℤ) → IsStopped _shorts.now bids begun outcome.ending outcome.market.prices.items → IfOk result (IsLimited problem.now bids begun) }
+    ensures limit { (bids : ℕ) (begun : ℤ) → IsStopped _shorts bids begun outcome.ending outcome.market.prices.items → IfOk result (IsLimited problem.now bids begun) }
 {
     // Read here, so that the proof knows what every problem keeps.
     let _ = problem.arcs();
+    drop(_shorts);
     let Outcome { ending, market } = outcome;
-    let gathered = gather(alloc, rows, market)?;
+    let gathered = gather(alloc, problem, market)?;
     match ending {
         Ending::Sold => optimal(alloc, problem, gathered),
-        Ending::Stopped(reason) => bracket(alloc, problem, rows, reason, gathered),
+        Ending::Stopped(reason) => bracketed(alloc, problem, reason, gathered),
     }
+}
+
+/// The answer of a run that doesn't ask first whether there is an assignment: where the first phase soon gives each person an object, there is one. None where it doesn't.
+///
+/// For as many objects as persons alone: with more there is one phase.
+fn solve_quickly<W: Watch>(
+    alloc: Global,
+    problem: &ArcList,
+    bids: u64,
+    watch: &mut W,
+) -> Result<Option<Answer>, AllocError>
+    ensures is { IfOk result (λ o. IfSome o (IsAnswer problem.now)) }
+    ensures limit { IfOk result (λ o. IfSome o (λ a. (W.has_stopped watch.new ≡ true) ⊎ IsLimited problem.now bids (pos 0) a)) }
+{
+    if problem.persons() < problem.objects() {
+        return Ok(None);
+    }
+    let shorts = ShortRows::build(alloc, problem)?;
+    if !shorts.each_has_arc() {
+        return Ok(None);
+    }
+    let prices = vec![in alloc; 0; shorts.objects() as usize]?;
+    let eps = first_eps(&shorts);
+    let Some(outcome) = play_quickly(alloc, &shorts, bids, eps, prices, watch)? else {
+        return Ok(None);
+    };
+    let answer = answer_of(alloc, problem, shorts, outcome)?;
+    Ok(Some(answer))
 }
 
 /// Solves a problem that has an assignment, in phases from this eps and these prices on.
 fn solve_rows<W: Watch>(
     alloc: Global,
     problem: &ArcList,
-    rows: &Rows,
-    shorts: &ShortRows,
+    shorts: ShortRows,
     bids: u64,
     eps: i64,
     prices: Vec<i64>,
     watch: &mut W,
 ) -> Result<Answer, AllocError>
-    requires rows { IsTableOf problem.now rows.now }
-    requires shorts { AreShortsOf rows.now shorts.now }
-    requires arcs { NobodyStuck rows.now }
-    requires assignment { HasAssignment problem.now }
+    requires rows { AreRowsOf problem.now shorts }
+    requires arcs { EachHasRow problem.now }
     requires eps { IsEps eps }
-    requires start { IsStart shorts.now eps prices.items }
+    requires start { IsStart shorts eps prices.items }
     ensures is { IfOk result (IsAnswer problem.now) }
     ensures limit { IfOk result (λ a. (W.has_stopped watch.new ≡ true) ⊎ IsLimited problem.now bids (total prices.items) a) }
 {
     // Read here, so that the proof knows what all rows keep.
     let _ = shorts.persons();
-    let outcome = play_all(alloc, shorts, bids, eps, prices, watch)?;
-    answer_of(alloc, problem, rows, shorts, outcome)
+    let outcome = play_all(alloc, &shorts, bids, eps, prices, watch)?;
+    answer_of(alloc, problem, shorts, outcome)
 }
 
 /// The same in one phase from start prices.
 fn solve_rows_from<W: Watch>(
     alloc: Global,
     problem: &ArcList,
-    rows: &Rows,
-    shorts: &ShortRows,
+    shorts: ShortRows,
     bids: u64,
     start: &[i64],
     watch: &mut W,
 ) -> Result<Answer, AllocError>
-    requires rows { IsTableOf problem.now rows.now }
-    requires shorts { AreShortsOf rows.now shorts.now }
-    requires arcs { NobodyStuck rows.now }
-    requires assignment { HasAssignment problem.now }
+    requires rows { AreRowsOf problem.now shorts }
+    requires arcs { EachHasArc shorts }
     requires start { AreStartPrices problem.now start.now }
     ensures is { IfOk result (IsAnswer problem.now) }
     ensures limit { IfOk result (λ a. (W.has_stopped watch.new ≡ true) ⊎ IsLimitedFrom problem.now bids start.now a) }
 {
     // Read here, so that the proof knows what all rows keep.
     let _ = shorts.persons();
-    let outcome = play_from(alloc, shorts, bids, start, watch)?;
-    answer_of(alloc, problem, rows, shorts, outcome)
+    let outcome = play_from(alloc, &shorts, bids, start, watch)?;
+    answer_of(alloc, problem, shorts, outcome)
 }
 
 /// Solves a problem: an arc for each person, no object twice, of the least cost together; or persons who together know fewer objects than they number; or, where
@@ -110,9 +163,10 @@ fn solve_rows_from<W: Watch>(
 ///
 /// The answer is right as that of `auc_world::solve_serial` is, but of several least assignments it may be another one.
 ///
-/// Takes the time of the search for an assignment of any cost ([`auc_hall::complete`]), of the bids, each O(arcs of the person), or O(1) where the list of a long
-/// row tells it, of the paths, each at most O(arcs * log arcs), and of one check; and 20 bytes of memory an arc and some 60 an object beside the problem's own, 184 a person
-/// where some row has 48 arcs and more, and 16 for each label that waits in a search, of which there are at most as many as arcs. That paths are taken at all no
+/// Takes the time of the bids, each O(arcs of the person), or O(1) where the list of a long row tells it, of the paths, each at most O(arcs * log arcs), and of one check. The search
+/// for an assignment of any cost ([`auc_hall::complete`]) comes first where there are more objects than persons, and behind a first phase in which eight bids a person don't give each
+/// one an object; and for a bracket. It takes 12 bytes of memory an arc; else 8 bytes an arc and some 60 an object are taken beside the problem's own, 184 a person where some row
+/// has 48 arcs and more, and 16 for each label that waits in a search, of which there are at most as many as arcs. That paths are taken at all no
 /// clause says, nor that lists are. The method is the auction with epsilon scaling
 /// (Bertsekas, 1979; Bertsekas and Eckstein, 1988), where whoever is displaced bids next, and successive shortest paths (Edmonds and Karp, 1972) where that goes far.
 ///
@@ -160,8 +214,8 @@ pub fn solve_direct_from(
 /// Solves a problem as [`solve_direct`] does, and asks between bids whether the run goes on: before each phase, and behind 16,384 bids of one, or 64 searches for a path. Where it doesn't, the answer is
 /// a bracket with the reason `Bids`: a bracket stands only behind a limit, or where `watch` has said no: clause `limit`. To ask takes O(persons) time, and that of `goes_on`.
 ///
-/// Nothing is asked before the rows are laid out and an assignment of any cost is found, within a search for a path, within the phase that comes first in a full table, which takes
-/// some tens of milliseconds beside its bids, or while the answer is checked.
+/// Nothing is asked before the rows are laid out, within a search for a path or for an assignment of any cost, within the first eight bids a person, within the phase that comes first
+/// in a full table, which takes some tens of milliseconds beside its bids, or while the answer is checked.
 ///
 /// # Errors
 ///
@@ -175,24 +229,16 @@ pub fn solve_direct_watched<W: Watch>(
     ensures is { IfOk result (IsAnswer problem.now) }
     ensures limit { IfOk result (λ a. (W.has_stopped watch.new ≡ true) ⊎ IsLimited problem.now limits.now.bids (pos 0) a) }
 {
-    match prepare(alloc, problem)? {
-        Prepared::Answered(answer) => Ok(answer),
-        Prepared::Rows(rows) => {
-            let shorts = ShortRows::build(alloc, &rows, problem.arcs().len())?;
-            let prices = vec![in alloc; 0; shorts.objects() as usize]?;
-            let eps = first_eps(&shorts);
-            solve_rows(
-                alloc,
-                problem,
-                &rows,
-                &shorts,
-                limits.bids,
-                eps,
-                prices,
-                watch,
-            )
-        }
+    if let Some(answer) = solve_quickly(alloc, problem, limits.bids, watch)? {
+        return Ok(answer);
     }
+    if let Some(answer) = answered(alloc, problem)? {
+        return Ok(answer);
+    }
+    let shorts = ShortRows::build(alloc, problem)?;
+    let prices = vec![in alloc; 0; shorts.objects() as usize]?;
+    let eps = first_eps(&shorts);
+    solve_rows(alloc, problem, shorts, limits.bids, eps, prices, watch)
 }
 
 /// Solves a problem from start prices as [`solve_direct_from`] does, and asks as [`solve_direct_watched`] does.
@@ -211,11 +257,16 @@ pub fn solve_direct_watched_from<W: Watch>(
     ensures is { IfOk result (IsAnswer problem.now) }
     ensures limit { IfOk result (λ a. (W.has_stopped watch.new ≡ true) ⊎ IsLimitedFrom problem.now limits.now.bids start.now a) }
 {
-    match prepare(alloc, problem)? {
-        Prepared::Answered(answer) => Ok(answer),
-        Prepared::Rows(rows) => {
-            let shorts = ShortRows::build(alloc, &rows, problem.arcs().len())?;
-            solve_rows_from(alloc, problem, &rows, &shorts, limits.bids, start, watch)
+    // A full table has an assignment, so no search for one is made there.
+    if problem.arcs().len() as u64 == u64::from(problem.persons()) * u64::from(problem.objects()) {
+        let shorts = ShortRows::build(alloc, problem)?;
+        if shorts.is_table() && shorts.each_has_arc() {
+            return solve_rows_from(alloc, problem, shorts, limits.bids, start, watch);
         }
     }
+    if let Some(answer) = answered(alloc, problem)? {
+        return Ok(answer);
+    }
+    let shorts = ShortRows::build(alloc, problem)?;
+    solve_rows_from(alloc, problem, shorts, limits.bids, start, watch)
 }

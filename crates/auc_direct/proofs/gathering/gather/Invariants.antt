@@ -1,10 +1,9 @@
-use Rattle.std.proofs.Common.{ℕ, ◌≡◌, ◌<◌, length}
-use Rattle.auc_answers.specs.Claims.{holder_at as held_at}
-use Rattle.auc_direct.specs.Held.{IsHeld}
+use Rattle.std.proofs.Common.{◌≡◌, length}
+use Rattle.auc_direct.proofs.HeldLaws.{AreMet}
 use Rattle.auc_direct.proofs.gathering.gather.Given as goal
 
-abbrev pub invariant-loop-object : goal.invariant-loop-object
-invariant-loop-object l = record {
-  many : length l.holders.items ≡ l.object;
-  held : (j : ℕ) → j < l.object → IsHeld l.rows l.market.holders.items l.market.owns.items j (held_at l.holders.items j);
+abbrev pub invariant-loop-place : goal.invariant-loop-place
+invariant-loop-place l = record {
+  many : length l.holders.items ≡ length l.market.holders.items;
+  met : AreMet l.problem l.market.holders.items l.market.owns.items l.place l.holders.items;
 }

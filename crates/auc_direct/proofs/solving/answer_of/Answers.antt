@@ -1,13 +1,20 @@
-use Rattle.auc_answers.specs.Answers.{IsAnswer, IsBracketAnswer, IsOptimalAnswer}
+use Rattle.std.proofs.Common.{◌∙◌, ◌⊎◌}
+use Rattle.auc_answers.specs.Answers.{HasAssignment, IsAnswer, IsBracketAnswer, IsInfeasibleAnswer, IsOptimalAnswer}
 use Rattle.auc_direct.specs.Endings.{IsLimited}
-use Rattle.auc_direct.proofs.Answering.{left_stands, of_answers, own_listed, sold_is_answer, sold_is_limited, stopped_is_answer, stopped_is_limited}
+use Rattle.auc_direct.proofs.Answering.{either_is_answer, either_is_limited, left_stands, of_answers, own_listed, persons_are, sold_is_answer, sold_is_limited}
 use Rattle.auc_direct.proofs.solving.answer_of.Goals as goal
+
+pub gather-requires-clause-owns : goal.gather-requires-clause-owns
+gather-requires-clause-owns c =
+    let m = c.args.outcome.market in
+    let s = left_stands c.args._shorts c.args.outcome.ending m.prices.items m.holders.items m.owns.items c.requires.left in
+    s.1.owns_are ∙ persons_are c.args.problem.now c.args._shorts c.requires.rows
 
 pub gather-requires-clause-listed : goal.gather-requires-clause-listed
 gather-requires-clause-listed c =
     let m = c.args.outcome.market in
-    let s = left_stands c.args._shorts.now c.args.outcome.ending m.prices.items m.holders.items m.owns.items c.requires.left in
-    own_listed c.args.rows.now c.args._shorts.now s.0 m.prices.items m.holders.items m.owns.items c.requires.shorts c.requires.sound s.1
+    let s = left_stands c.args._shorts c.args.outcome.ending m.prices.items m.holders.items m.owns.items c.requires.left in
+    own_listed c.args.problem.now c.args._shorts c.requires.rows s.0 m.prices.items m.holders.items m.owns.items c.requires.sound s.1
 
 pub returns-in-Sold-clause-is : goal.returns-in-Sold-clause-is
 returns-in-Sold-clause-is c =
@@ -16,16 +23,18 @@ returns-in-Sold-clause-is c =
     let left = c.in_ok-gathered.gathered in
     let g = c.in_ok-gathered.ensures in
     of_answers (IsOptimalAnswer c.args.problem.now left.holders.items left.prices.items) (IsAnswer c.args.problem.now) c.optimal.result
-    (rw g.prices (sold_is_answer c.args.problem.now c.args.rows.now c.args._shorts.now m.prices.items m.holders.items m.owns.items left.holders.items c.arcs.ensures.problem c.requires.rows c.requires.shorts c.requires.sound g.held sold.0 sold.1)) c.optimal.ensures
+    (rw g.prices (sold_is_answer c.args.problem.now c.requires.rows.table c.args._shorts m.prices.items m.holders.items m.owns.items left.holders.items c.arcs.ensures.problem c.requires.rows.of c.requires.rows.same c.requires.sound g.held sold.0 sold.1)) c.optimal.ensures
 
 pub returns-in-Stopped-clause-is : goal.returns-in-Stopped-clause-is
 returns-in-Stopped-clause-is c =
+    let p = c.args.problem.now in
+    let r = c.args._shorts in
     let m = c.args.outcome.market in
     let stopped = rw c.in-Stopped.is at c.requires.left in
     let left = c.in_ok-gathered.gathered in
     let g = c.in_ok-gathered.ensures in
-    of_answers (IsBracketAnswer c.args.problem.now c.in-Stopped.reason left.holders.items left.prices.items) (IsAnswer c.args.problem.now) c.bracket.result
-    (rw g.prices (stopped_is_answer c.args.problem.now c.args.rows.now c.args._shorts.now m.prices.items m.holders.items m.owns.items left.holders.items c.arcs.ensures.problem c.requires.rows c.requires.shorts c.requires.sound g.held stopped.0 c.in-Stopped.reason stopped.1 c.requires.assignment)) c.bracket.ensures
+    of_answers (λ a. IsInfeasibleAnswer p a ⊎ (HasAssignment p × IsBracketAnswer p c.in-Stopped.reason left.holders.items left.prices.items a)) (IsAnswer p) c.bracketed.result
+    (rw g.prices (either_is_answer p r c.requires.rows m.prices.items m.holders.items m.owns.items left.holders.items c.arcs.ensures.problem c.requires.sound g.held stopped.0 c.in-Stopped.reason stopped.1)) c.bracketed.ensures
 
 pub returns-in-Sold-clause-limit : goal.returns-in-Sold-clause-limit
 returns-in-Sold-clause-limit c = λ bids begun stopped. (
@@ -35,9 +44,10 @@ returns-in-Sold-clause-limit c = λ bids begun stopped. (
 
 pub returns-in-Stopped-clause-limit : goal.returns-in-Stopped-clause-limit
 returns-in-Stopped-clause-limit c = λ bids begun stopped. (
+    let p = c.args.problem.now in
     let m = c.args.outcome.market in
     let left = c.in_ok-gathered.gathered in
     let g = c.in_ok-gathered.ensures in
-    of_answers (IsBracketAnswer c.args.problem.now c.in-Stopped.reason left.holders.items left.prices.items) (IsLimited c.args.problem.now bids begun) c.bracket.result
-    (rw g.prices (stopped_is_limited c.args.problem.now c.args.rows.now c.args._shorts.now bids begun c.in-Stopped.reason left.holders.items m.prices.items c.requires.rows c.requires.shorts (rw c.in-Stopped.is at stopped))) c.bracket.ensures
+    of_answers (λ a. IsInfeasibleAnswer p a ⊎ (HasAssignment p × IsBracketAnswer p c.in-Stopped.reason left.holders.items left.prices.items a)) (IsLimited p bids begun) c.bracketed.result
+    (rw g.prices (either_is_limited p c.args._shorts c.requires.rows bids begun c.in-Stopped.reason left.holders.items m.prices.items (rw c.in-Stopped.is at stopped))) c.bracketed.ensures
     )

@@ -8,11 +8,11 @@ use Rattle.auc_direct.proofs.solving.solve_direct_watched.Goals as goal
 pub solve_rows-requires-clause-start : goal.solve_rows-requires-clause-start
 solve_rows-requires-clause-start g c =
     let f : FitsSigned w64 c.first_eps-eps.result = search rules in
-    let zeros : c.in_ok-prices-in-Rows.prices.items ≡ replicate c.objects.result (pos 0) = search rules in
-    let start : (c.in_ok-shorts-in-Rows.shorts.objects ≡ length c.in_ok-shorts-in-Rows.shorts.rows) ⊎ (c.first_eps-eps.result ≡ pos 1) = search rules in
-    simp to_z-of_z (start_none c.in_ok-shorts-in-Rows.shorts c.first_eps-eps.result c.objects.result c.in_ok-prices-in-Rows.prices.items c.objects.ensures.objects zeros start)
+    let zeros : c.in_ok-prices.prices.items ≡ replicate c.objects.result (pos 0) = search rules in
+    let start : (c.in_ok-shorts.shorts.objects ≡ length c.in_ok-shorts.shorts.rows) ⊎ (c.first_eps-eps.result ≡ pos 1) = search rules in
+    simp to_z-of_z (start_none c.in_ok-shorts.shorts c.first_eps-eps.result c.objects.result c.in_ok-prices.prices.items c.objects.ensures.objects zeros start)
 
-pub returns-in_ok-prices-in-Rows-clause-limit : goal.returns-in_ok-prices-in-Rows-clause-limit
-returns-in_ok-prices-in-Rows-clause-limit g c =
-    let zeros : c.in_ok-prices-in-Rows.prices.items ≡ replicate c.objects.result (pos 0) = search rules in
-    subst (λ (z : ℤ). IfOk c.solve_rows.result (λ a. (g.W.Watch.has_stopped c.solve_rows.new.watch ≡ true) ⊎ IsLimited c.args.problem.now c.args.limits.now.bids z a)) (total_none c.objects.result c.in_ok-prices-in-Rows.prices.items zeros) c.solve_rows.ensures.limit
+pub returns-clause-limit : goal.returns-clause-limit
+returns-clause-limit g c =
+    let zeros : c.in_ok-prices.prices.items ≡ replicate c.objects.result (pos 0) = search rules in
+    subst (λ (z : ℤ). IfOk c.solve_rows.result (λ a. (g.W.Watch.has_stopped c.solve_rows.new.watch ≡ true) ⊎ IsLimited c.args.problem.now c.args.limits.now.bids z a)) (total_none c.objects.result c.in_ok-prices.prices.items zeros) c.solve_rows.ensures.limit

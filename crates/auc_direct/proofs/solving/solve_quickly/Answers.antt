@@ -1,0 +1,26 @@
+use Rattle.std.proofs.Common.{◌≡◌, inl, inr, length, pos, replicate, rules, subst, w64, ℤ}
+use Rattle.std.specs.Prelude.{FitsSigned, ◌⊎◌}
+use Rattle.std.proofs.lemmas.Int.{to_z-of_z}
+use Rattle.auc_graph.specs.Assignment.{total}
+use Rattle.auc_direct.specs.Endings.{IsLimited}
+use Rattle.auc_direct.proofs.Opening.{start_none, total_none}
+use Rattle.auc_direct.proofs.solving.solve_quickly.Goals as goal
+
+pub play_quickly-requires-clause-start : goal.play_quickly-requires-clause-start
+play_quickly-requires-clause-start g c =
+    let f : FitsSigned w64 c.first_eps-eps.result = search rules in
+    let zeros : c.in_ok-prices.prices.items ≡ replicate c.objects-2.result (pos 0) = search rules in
+    let start : (c.in_ok-shorts.shorts.objects ≡ length c.in_ok-shorts.shorts.rows) ⊎ (c.first_eps-eps.result ≡ pos 1) = search rules in
+    simp to_z-of_z (start_none c.in_ok-shorts.shorts c.first_eps-eps.result c.objects-2.result c.in_ok-prices.prices.items c.objects-2.ensures.objects zeros start)
+
+pub returns-clause-limit : goal.returns-clause-limit
+returns-clause-limit g c =
+    let p = c.args.problem.now in
+    let prices = c.in_ok-prices.prices.items in
+    let answer = c.in_ok-answer.answer in
+    let zeros : prices ≡ replicate c.objects-2.result (pos 0) = search rules in
+    let stopped = rw c.in-Some.is at c.in_ok-outcome.ensures.stopped in
+    elim stopped [
+      | inl told ↦ inl told
+      | inr limit ↦ inr (subst (λ (z : ℤ). IsLimited p c.args.bids z answer) (total_none c.objects-2.result prices zeros) (c.in_ok-answer.ensures.limit c.args.bids (total prices) limit))
+    ]

@@ -7,9 +7,9 @@ use Rattle.auc_persons.specs.declared.rising.Least.{Least}
 abbrev pub IsRisingRow : List RowArc → Type 0
 IsRisingRow row = AllPairs (λ a b. a.object < b.object) row
 
--- each row of at most 40 arcs does
+-- each row of at most 64 arcs does
 abbrev pub AreRising : Table → Type 0
-AreRising t = (i : ℕ) → i < length t.rows → length (row_of t i) ≤ 40 → IsRisingRow (row_of t i)
+AreRising t = (i : ℕ) → i < length t.rows → length (row_of t i) ≤ 64 → IsRisingRow (row_of t i)
 
 -- one value more, by cases
 pub record Lowered (l : Least) (v : ℤ) (place : ℕ) (r : Least) : Type 0 where

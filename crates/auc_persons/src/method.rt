@@ -5,9 +5,10 @@ ghost use Rattle.std.specs.Prelude.{◌≡◌, ◌<◌};
 
 use auc_graph::Rows;
 
-/// The most arcs of a short row. With some 30 arcs a list, or two remembered arcs, took a tenth more instructions than a pass over the row
-/// (`uniform 32`, `plane 32`: 1.11 and 1.12), and in a price war they are old at each bid (`levels 32`: 1.16).
-pub(crate) const SHORT: usize = 40;
+/// The most arcs of a short row. A list is guessed wrongly where prices move much: price wars of 48 arcs take 0.38 and 0.51 of the time by a pass
+/// over the row (`levels 48`, `few 500 48`), a plane 0.60 (`plane 48`), rows of 8 to 60 arcs 0.81 (`mixed 8 60`); random costs 1.08 at 48 arcs and
+/// 1.18 at 64 (`uniform 48`, `uniform 64`), where lists look at fewer arcs.
+pub(crate) const SHORT: usize = 64;
 
 /// The most arcs of a row without blocks. With blocks 1,000 arcs take 0.29 of the instructions of lists alone where lists are of no use (`products`),
 /// and 0.71 where they are (`share 20`); 128 arcs would take 1.01 (`uniform 128`).

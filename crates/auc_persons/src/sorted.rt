@@ -24,7 +24,7 @@ pub(crate) fn is_rising(row: &[RowArc]) -> bool
     true
 }
 
-/// Whether each row of at most 40 arcs leads to rising objects, as those of a sorted file do. Takes one pass over these rows, up to the
+/// Whether each row of at most 64 arcs leads to rising objects, as those of a sorted file do. Takes one pass over these rows, up to the
 /// first that doesn't.
 pub(crate) fn rows_rise(rows: &Rows) -> bool
     ensures { IsTrue result ↔ AreRising rows.now }

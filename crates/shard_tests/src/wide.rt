@@ -13,7 +13,7 @@ use std::alloc::AllocError;
 use std::test::*;
 
 /// How many arcs the persons of the first shard have.
-const LENGTHS: [u32; 8] = [1, 2, 3, 40, 41, 256, 257, 600];
+const LENGTHS: [u32; 8] = [1, 2, 3, 64, 65, 256, 257, 600];
 /// The way in which each row rises.
 const RISING: u32 = 4;
 

@@ -10,10 +10,18 @@ mod HubLaws
 pub mod Made
 mod TurnByTurn
 mod RoundLaws
-mod PlayLaws
-mod PassingLaws
 mod GatherLaws
 pub mod PhaseLaws
 mod Bridge
 mod ChainLaws
 pub mod ListLaws
+mod Distinct
+mod AloneMails
+mod AloneSales
+mod AloneHearing
+mod AloneCounting
+mod AloneLaws
+mod AloneSteps
+mod AloneStops
+mod AlonePhase
+mod AloneEnds

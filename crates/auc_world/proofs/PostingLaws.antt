@@ -22,7 +22,7 @@ use Rattle.auc_model.proofs.Places.{put_at}
 use Rattle.auc_answers.specs.Hub.{ending}
 use Rattle.auc_answers.specs.Boxes.{name_of}
 use Rattle.auc_world.specs.Mails.{named, with_named}
-use Rattle.auc_world.specs.Parts.{AreParts, Parts, SamePhase, outbox_at, phase, seen}
+use Rattle.auc_world.specs.Parts.{AreParts, Parts, outbox_at, phase, seen}
 use Rattle.auc_world.specs.Posting.{Leaves, MailsAlone, Stays}
 use Rattle.auc_world.proofs.Seen.{outbox_seen, seen_outbox}
 
@@ -127,9 +127,6 @@ abbrev Before : Parts → Out → Mail Letter
 Before p o = named p.mails (name_of o.to)
 
 module _ (p n : Parts) (x : ℕ) (o : Out) (e : n ≡ record p { mails = with_named p.mails (name_of o.to) (Before n o) }) where
-  pub post_alone : MailsAlone p n
-  post_alone = (with_named p.mails (name_of o.to) (Before n o), e)
-
   module _ (y : PostRefused) (step : Answered (Before p o) x o (Reply.Refused y) (Before n o)) where
     pub post_same : n ≡ p
     post_same = e ∙ (ap (λ (m : Mail Letter). record p { mails = with_named p.mails (name_of o.to) m }) (refused_same (Before p o) (Before n o) x o y step).1 ∙ same_mail p o.to)
@@ -155,15 +152,6 @@ module _ (p n : Parts) (x : ℕ) (o : Out) (e : n ≡ record p { mails = with_na
 
 -- ---- the outbox of a sender, as the world of the model has it
 
-pub alone_phase : (p n : Parts) → MailsAlone p n → SamePhase p n
-alone_phase p n alone = record { table = ap (λ (z : Parts). z.table) alone.1; shards = ap (λ (z : Parts). z.shards) alone.1; eps = ap (λ (z : Parts). z.eps) alone.1 }
-
-pub alone_sender : (p n : Parts) (x : ℕ) (h : Shard) → MailsAlone p n → sender (phase p) h ≡ x → sender (phase n) h ≡ x
-alone_sender p n x h alone from = ap (λ (z : Parts). sender (phase z) h) alone.1 ∙ from
-
-pub alone_known : (p n : Parts) (h : Shard) → MailsAlone p n → number h < p.shards → number h < n.shards
-alone_known p n h alone known = subst (λ (z : Parts). number h < z.shards) (sym alone.1) known
-
 module _ (p n : Parts) (x : ℕ) (h : Shard) (are : AreParts p) (alone : MailsAlone p n) (from : sender (phase p) h ≡ x) (known : number h < p.shards) where
   -- where the mails alone are others, the outbox is as it was
   outbox_stays : outbox_at n x ≡ outbox_at p x
@@ -174,10 +162,6 @@ module _ (p n : Parts) (x : ℕ) (h : Shard) (are : AreParts p) (alone : MailsAl
 
   out_is_still : outbox (seen n) h ≡ outbox_at p x
   out_is_still = ap (λ (z : Parts). outbox (seen z) h) alone.1 ∙ out_is
-
-  -- the letter that went past the outbox left no other there
-  pub sent_past : (o : Out) → outbox_at p x ≡ [] → Leaves (phase p) (seen p) h o (seen n) → PostTurn (phase p) (with_outbox (seen p) h (o ∷ [])) h TurnReply.Moved (seen n)
-  sent_past o empty leaves = subst (λ (w : World). PostTurn (phase p) (with_outbox (seen p) h (o ∷ [])) h TurnReply.Moved w) (out_as_was (seen n) h [] (out_is_still ∙ empty)) (leaves [])
 
   module _ (o : Out) (first : outbox_at p x ≡ o ∷ drop 1 (outbox_at p x)) where
     -- the first letter has left the outbox, and the others stay
@@ -201,17 +185,3 @@ module _ (p n : Parts) (x : ℕ) (h : Shard) (are : AreParts p) (alone : MailsAl
 
 pub no_first : (p : Parts) (x : ℕ) (h : Shard) → sender (phase p) h ≡ x → number h < p.shards → outbox_at p x ≡ [] → PostTurn (phase p) (seen p) h TurnReply.Nothing (seen p)
 no_first p x h from known empty = posting.no_letter (inr (outbox_seen p h known ∙ (ap (λ (k : ℕ). outbox_at p k) from ∙ empty))) refl refl
-
--- a letter that went past the outbox and has to stay is put there, before others
-pub kept : (p n m v : Parts) (x : ℕ) (h : Shard) (o : Out) (rest : List Out) (why : Why) → AreParts p → sender (phase p) h ≡ x → number h < p.shards → n ≡ p → m ≡ record n { outboxes = set n.outboxes x (o ∷ rest) } → v ≡ record m { hub = ending m.hub (End.Stopped why) }
-    → Stays (phase p) (seen p) h o why → PostTurn (phase p) (with_outbox (seen p) h (o ∷ rest)) h TurnReply.Moved (seen v)
-kept p n m v x h o rest why are from known same e1 e2 stays =
-    let shape : m ≡ record p { outboxes = set p.outboxes (sender (phase p) h) (o ∷ rest) } = e1 ∙ (ap (λ (z : Parts). record z { outboxes = set z.outboxes x (o ∷ rest) }) same ∙ ap (λ (k : ℕ). record p { outboxes = set p.outboxes k (o ∷ rest) }) (sym from)) in
-    let put : seen m ≡ with_outbox (seen p) h (o ∷ rest) = ap seen shape ∙ seen_outbox p (o ∷ rest) h known are.outboxes_are in
-    let after : seen v ≡ ended (with_outbox (seen p) h (o ∷ rest)) why = ap seen e2 ∙ ap (λ (w : World). ended w why) put in
-    subst (λ (u : World). PostTurn (phase p) (with_outbox (seen p) h (o ∷ rest)) h TurnReply.Moved u) (sym after) (stays rest)
-
-pub kept_phase : (p n m v : Parts) (x : ℕ) (os : List Out) (why : Why) → n ≡ p → m ≡ record n { outboxes = set n.outboxes x os } → v ≡ record m { hub = ending m.hub (End.Stopped why) } → SamePhase p v
-kept_phase p n m v x os why same e1 e2 =
-    let e : v ≡ record p { outboxes = set p.outboxes x os; hub = ending p.hub (End.Stopped why) } = e2 ∙ (ap (λ (z : Parts). record z { hub = ending z.hub (End.Stopped why) }) e1 ∙ ap (λ (z : Parts). record z { outboxes = set z.outboxes x os; hub = ending z.hub (End.Stopped why) }) same) in
-    record { table = ap (λ (z : Parts). z.table) e; shards = ap (λ (z : Parts). z.shards) e; eps = ap (λ (z : Parts). z.eps) e }

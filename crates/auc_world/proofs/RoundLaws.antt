@@ -275,3 +275,19 @@ run_rests l v moved same played e = subst (λ (g : Phase). Rests g (seen v)) (sy
 
 pub run_less : (l v : Parts) (moved : Bool) → phase v ≡ phase l → (seen l).end ≡ None → Plays (phase l) (seen l) (round_of l.shards) moved (seen v) → moved ≡ true → left (phase v) (seen v) < left (phase l) (seen l)
 run_less l v moved same none played e = subst (λ (g : Phase). left g (seen v) < left (phase l) (seen l)) (sym same) (round_less (phase l) (seen l) (seen v) moved played e none)
+
+-- ---- turns of the parts of a world, and the flags that the code keeps
+
+pub two_turns : (p n v : Parts) (t u : Turn) (r s : TurnReply) (i j o : Bool) → Turned (phase p) (seen p) t r (seen n) → phase n ≡ phase p → Turned (phase n) (seen n) u s (seen v) → i ≡ has_moved r → j ≡ has_moved s → o ≡ (i || j) → Plays (phase p) (seen p) (t ∷ u ∷ []) o (seen v)
+two_turns p n v t u r s i j o first same second a b e =
+    let second' = subst (λ (g : Phase). Turned g (seen n) u s (seen v)) same second in
+    let flat : (has_moved r || has_moved s) ≡ o = cc in
+    as_moved (phase p) (seen p) (t ∷ u ∷ []) (has_moved r || has_moved s) o (seen v) flat (two_plays (phase p) (seen p) (seen n) (seen v) t u r s first second')
+
+pub three_turns : (p n m v : Parts) (t u x : Turn) (r s y : TurnReply) (i j k l o : Bool) → Turned (phase p) (seen p) t r (seen n) → phase n ≡ phase p → Turned (phase n) (seen n) u s (seen m) → phase m ≡ phase p → Turned (phase m) (seen m) x y (seen v)
+    → i ≡ has_moved r → j ≡ has_moved s → k ≡ has_moved y → l ≡ (j || k) → o ≡ (i || l) → Plays (phase p) (seen p) (t ∷ u ∷ x ∷ []) o (seen v)
+three_turns p n m v t u x r s y i j k l o first same second same2 third a b c d e =
+    let second' = subst (λ (g : Phase). Turned g (seen n) u s (seen m)) same second in
+    let third' = subst (λ (g : Phase). Turned g (seen m) x y (seen v)) same2 third in
+    let flat : (has_moved r || (has_moved s || has_moved y)) ≡ o = cc in
+    as_moved (phase p) (seen p) (t ∷ u ∷ x ∷ []) (has_moved r || (has_moved s || has_moved y)) o (seen v) flat (three_plays (phase p) (seen p) (seen n) (seen m) (seen v) t u x r s y first second' third')

@@ -1,5 +1,5 @@
 -- Schedules, a turn at a time.
-use Rattle.std.proofs.Common.{ℕ, ◌+◌, ◌<◌, ◌≡◌, List, [], ◌∷◌, length, get_or, take, sym, subst, refl, ◌∙◌}
+use Rattle.std.proofs.Common.{ℕ, ◌+◌, ◌<◌, ◌≡◌, List, [], ◌∷◌, length, get_or, take, sym, subst, refl}
 use Rattle.std.proofs.lemmas.List.{take_more}
 use Rattle.auc_model.specs.Schedule.{Schedule, Turned}
 use Rattle.auc_model.specs.World.{Phase}
@@ -10,9 +10,6 @@ use Rattle.auc_world.specs.Parts.{Parts, SamePhase, phase, seen}
 
 pub same_phase : (p n : Parts) → SamePhase p n → phase n ≡ phase p
 same_phase p n same = rw (same.table, same.shards, same.eps) refl
-
-pub phases_join : (p n v : Parts) → SamePhase p n → SamePhase n v → SamePhase p v
-phases_join p n v a b = record { table = b.table ∙ a.table; shards = b.shards ∙ a.shards; eps = b.eps ∙ a.eps }
 
 pub turn_more : (p n v : Parts) (ts : List Turn) (i : ℕ) (d : Turn) (r : TurnReply) → Schedule (phase p) (seen p) (take i ts) (seen n) → phase n ≡ phase p → i < length ts → Turned (phase n) (seen n) (get_or ts i d) r (seen v)
     → Schedule (phase p) (seen p) (take (i + 1) ts) (seen v)

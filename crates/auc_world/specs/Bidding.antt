@@ -3,11 +3,8 @@ use Rattle.std.specs.Prelude.{ℕ, ◌<◌, ◌≡◌, [], ◌∷◌}
 use Rattle.auc_model.specs.Bidding.{BidTurn}
 use Rattle.auc_model.specs.Mails.{Shard, with_outbox}
 use Rattle.auc_model.specs.declared.turn.TurnReply.{TurnReply}
-use Rattle.auc_letters.specs.declared.letter.Letter.{Letter}
-use Rattle.auc_letters.specs.declared.out.To.{To}
 use Rattle.auc_answers.specs.Boxes.{Reaches}
-use Rattle.auc_world.specs.declared.bidding.Asked.{Asked}
-use Rattle.auc_world.specs.declared.bidding.Order.{Order}
+use Rattle.auc_world.specs.declared.world.bidding.Asked.{Asked}
 use Rattle.auc_world.specs.Parts.{Parts, outbox_at, phase, seen}
 
 -- From p, the shard s is asked, and n is left. Were the letter in its outbox, it would have taken its turn.
@@ -16,10 +13,3 @@ Asks p s Asked.Barred n = BidTurn (phase p) (seen p) s TurnReply.Nothing (seen n
 Asks p s Asked.Idle n = BidTurn (phase p) (seen p) s TurnReply.Nothing (seen n) × (s < n.shards) × (outbox_at n s ≡ [])
 Asks p s (Asked.Sends out) n =
     BidTurn (phase p) (seen p) s TurnReply.Moved (with_outbox (seen n) (Shard.PersonShard s) (out ∷ [])) × (s < n.shards) × (outbox_at n s ≡ []) × Reaches n.shards out
-
--- what an order of the only shard of the persons stands for
-abbrev pub asked_of : Order → Asked
-asked_of Order.Barred = Asked.Barred
-asked_of Order.Idle = Asked.Idle
-asked_of (Order.Bid person arc object amount) = Asked.Sends (record { letter = Letter.Bid person arc object amount; to = To.Object 0; reserve = 0 })
-asked_of (Order.Other out) = Asked.Sends out

@@ -8,5 +8,7 @@ pub mod Mails
 pub mod Posting
 pub mod Bidding
 pub mod Selling
-pub mod Passing
 pub mod Lists
+pub mod Alone
+pub mod Lots
+pub mod AlonePhase

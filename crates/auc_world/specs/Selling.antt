@@ -5,7 +5,7 @@ use Rattle.auc_model.specs.Selling.{ObjectTakeTurn}
 use Rattle.auc_model.specs.declared.turn.TurnReply.{TurnReply}
 use Rattle.auc_objects.specs.Answers.{letters_of}
 use Rattle.auc_answers.specs.Boxes.{Reaches}
-use Rattle.auc_world.specs.declared.selling.Dealt.{Dealt}
+use Rattle.auc_world.specs.declared.world.selling.Dealt.{Dealt}
 use Rattle.auc_world.specs.Parts.{Parts, outbox_at, phase, seen}
 
 -- From p, the shard q has done so with a letter, and n is left. Were the answers in its outbox, it would have taken its turn.

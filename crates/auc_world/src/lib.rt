@@ -6,21 +6,13 @@
 //! of this code ([`laws`]). No turn takes memory: only what makes a world, gathers its holders or makes an answer does.
 #![tactic(auto)]
 
-mod bidding;
-mod gathering;
-mod hearing;
-mod hub;
+mod alone;
 pub mod laws;
 mod mails;
 mod making;
 mod outbox;
-mod passing;
 mod playing;
-mod posting;
-mod rounds;
-mod selling;
 mod solving;
-mod turns;
 mod world;
 
 pub use auc_answers::{

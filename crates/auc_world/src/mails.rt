@@ -1,8 +1,7 @@
 //! The three mails of a world: bids to the shards of the objects, answers to those of the persons, and letters to the hub.
 
-ghost use Rattle.std.specs.Prelude.{◌≡◌, ◌<◌, ◌≤◌, ◌+◌, ◌*◌, false, true, IfOk, IfSome, IfNone, IsTrue, ◌↔◌};
+ghost use Rattle.std.specs.Prelude.{◌≡◌, ◌<◌, ◌≤◌, ◌+◌, ◌*◌, true, IfOk, IfSome, IfNone, IsTrue, ◌↔◌};
 ghost use Rattle.auc_mail.specs.Mail.{HasBox, IsOpen, empty_mail};
-ghost use Rattle.auc_mail.specs.Passing.{Passes};
 ghost use Rattle.auc_mail.specs.Step.{Fits, Step, reply_to_post};
 ghost use Rattle.auc_mail.specs.declared.call.Call.{Call};
 ghost use Rattle.auc_mail.specs.declared.call.Reply.{Reply};
@@ -45,22 +44,9 @@ pub(crate) fn new_mail(
 }
 
 impl Mails {
-    /// Posts a letter of a sender. Inlined for the answers to bids, which are most of the letters that are posted.
-    #[inline(always)]
+    /// Posts a letter of a sender.
+    #[inline]
     pub(crate) fn post(&mut self, sender: u32, out: Out) -> Result<u64, PostRefused>
-        requires { Fits (named self.old (name_of out.to)) (Call.Post sender (box_of out.to) out.letter out.reserve) }
-        ensures step { Step (named self.old (name_of out.to)) (Call.Post sender (box_of out.to) out.letter out.reserve) (reply_to_post result) (named self.new (name_of out.to)) }
-        ensures rest { self.new ≡ with_named self.old (name_of out.to) (named self.new (name_of out.to)) }
-    {
-        let To::Person { shard } = out.to else {
-            return self.post_apart(sender, out);
-        };
-        self.persons.post(sender, shard, out.letter, out.reserve)
-    }
-
-    /// Posts a letter of a sender, of any mail.
-    #[inline(never)]
-    fn post_apart(&mut self, sender: u32, out: Out) -> Result<u64, PostRefused>
         requires { Fits (named self.old (name_of out.to)) (Call.Post sender (box_of out.to) out.letter out.reserve) }
         ensures step { Step (named self.old (name_of out.to)) (Call.Post sender (box_of out.to) out.letter out.reserve) (reply_to_post result) (named self.new (name_of out.to)) }
         ensures rest { self.new ≡ with_named self.old (name_of out.to) (named self.new (name_of out.to)) }
@@ -72,23 +58,8 @@ impl Mails {
         }
     }
 
-    /// Lets a letter of a sender pass the box that it goes to. Inlined where its mail is known, as it is everywhere.
-    #[inline(always)]
-    pub(crate) fn pass(&mut self, sender: u32, out: Out) -> bool
-        requires { Fits (named self.old (name_of out.to)) (Call.Post sender (box_of out.to) out.letter out.reserve) }
-        ensures passes { IsTrue result → Passes (named self.old (name_of out.to)) sender (box_of out.to) out.reserve (named self.new (name_of out.to)) }
-        ensures stays { result ≡ false → self.new ≡ self.old }
-        ensures rest { self.new ≡ with_named self.old (name_of out.to) (named self.new (name_of out.to)) }
-    {
-        match out.to {
-            To::Person { shard } => self.persons.pass(sender, shard, out.reserve),
-            To::Object { shard } => self.objects.pass(sender, shard, out.reserve),
-            To::Hub => self.hub.pass(sender, 0, out.reserve),
-        }
-    }
-
     /// Takes a letter out of a box, if one waits there.
-    #[inline(always)]
+    #[inline]
     pub(crate) fn take(&mut self, mail: MailName, at: u32) -> Option<Letter>
         requires { HasBox (named self.old mail) at }
         ensures some { IfSome result (λ l. TakesOne (named self.old mail) at l (named self.new mail)) }
@@ -103,21 +74,8 @@ impl Mails {
         }
     }
 
-    /// Whether a take from a box gives no letter, since none waits there.
-    #[inline(always)]
-    pub(crate) fn gives_none(&self, mail: MailName, at: u32) -> bool
-        requires { HasBox (named self.now mail) at }
-        ensures { IsTrue result → TakesNone (named self.now mail) at }
-    {
-        match mail {
-            MailName::Objects => !self.objects.has_letter(at),
-            MailName::Persons => !self.persons.has_letter(at),
-            MailName::Hub => !self.hub.has_letter(at),
-        }
-    }
-
     /// What a take from a box gives.
-    #[inline(always)]
+    #[inline]
     fn taken(&mut self, mail: MailName, at: u32) -> Taken<Letter>
         requires { HasBox (named self.old mail) at }
         ensures step { Step (named self.old mail) (Call.Take at) (Reply.Took result) (named self.new mail) }

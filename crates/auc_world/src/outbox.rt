@@ -6,23 +6,6 @@ use arrayvec::ArrayVec;
 use auc_letters::Out;
 use std::marker::Model;
 
-/// The same letter to be posted. Where a letter is seldom handed to a call, the copy stands in memory then, and the letter never does.
-#[inline(always)]
-pub(crate) fn copy_of(out: Out) -> Out
-    ensures { result ≡ out }
-{
-    let Out {
-        letter,
-        to,
-        reserve,
-    } = out;
-    Out {
-        letter,
-        to,
-        reserve,
-    }
-}
-
 /// The letters that a shard has still to post, the next one first: at most four, which is room for the answers to a bid.
 ///
 /// Contracts see them as a list.
@@ -85,16 +68,16 @@ impl Outbox {
     }
 
     /// Puts a letter in, where there is none.
-    #[inline(always)]
+    #[inline]
     pub(crate) fn put(&mut self, out: Out)
         requires { self.old ≡ [] }
         ensures { self.new ≡ out ∷ [] }
     {
-        self.letters.push(copy_of(out));
+        self.letters.push(out);
     }
 
     /// These letters, in place of all that were there.
-    #[inline(always)]
+    #[inline]
     pub(crate) fn replace(&mut self, letters: ArrayVec<Out, 4>)
         ensures { self.new ≡ letters.items }
     {

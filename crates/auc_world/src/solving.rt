@@ -12,6 +12,8 @@ ghost use Rattle.auc_world.specs.Chain.{IsOfRun};
 ghost use Rattle.auc_world.specs.Lists.{MayKeep, StayKept};
 ghost use Rattle.auc_world.specs.Phases.{ComesOf};
 
+use crate::alone::playing::play_alone;
+use crate::alone::task::may_play_alone;
 use crate::making::new_bidders;
 use crate::world::World;
 use auc_answers::finish::{bracket, optimal, stop_of};
@@ -36,8 +38,8 @@ pub(crate) enum Outcome {
     Broken(Guard),
 }
 
-/// Plays one phase in whole rounds; what its bids are found by outlasts it where all is sold.
-fn play_phase(
+/// Plays one phase in whole rounds of a world; what its bids are found by outlasts it where all is sold.
+fn play_world(
     alloc: Global,
     rows: &Rows,
     limits: &Limits,
@@ -70,6 +72,29 @@ fn play_phase(
         },
         None => Ok(Outcome::Broken(Guard::Stall)),
     }
+}
+
+/// Plays one phase in whole rounds, by itself where it may be; what its bids are found by outlasts it where all is sold.
+fn play_phase(
+    alloc: Global,
+    rows: &Rows,
+    limits: &Limits,
+    prices: &[i64],
+    eps: i64,
+    bidders: &mut Vec<Bidder>,
+) -> Result<Outcome, AllocError>
+    requires limits { AreLimits limits.now }
+    requires prices { ArePrices rows.now prices.now }
+    requires eps { IsEps eps }
+    requires arcs { NobodyStuck rows.now }
+    requires kept { MayKeep rows.now limits.now.shards prices.now bidders.old.items }
+    ensures comes { IfOk result (ComesOf rows.now limits.now prices.now eps) }
+    ensures kept { IfOk result (StayKept rows.now limits.now.shards bidders.new.items) }
+{
+    if may_play_alone(limits) {
+        return play_alone(alloc, rows, limits, prices, eps, bidders);
+    }
+    play_world(alloc, rows, limits, prices, eps, bidders)
 }
 
 /// Solves a problem in which each person has an arc: a phase at each eps, and each begins with the prices of the one before, the first

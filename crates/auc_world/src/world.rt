@@ -16,6 +16,15 @@ ghost use Rattle.auc_world.specs.Lists.{AreKept, MayKeep};
 ghost use Rattle.auc_world.specs.Making.{IsMade};
 ghost use Rattle.auc_world.specs.Parts.{AreParts, OwnsObject, phase, seen};
 
+mod bidding;
+mod gathering;
+mod hearing;
+mod hub;
+mod posting;
+mod rounds;
+mod selling;
+mod turns;
+
 use crate::mails::{Mails, new_mail};
 use crate::making::{new_bidders, new_object_shards, new_outboxes, new_person_shards};
 use crate::outbox::Outbox;
@@ -31,18 +40,18 @@ use std::marker::Model;
 /// The world of one phase: its shards, their outboxes, three mails and the hub.
 #[derive(Drop)]
 pub struct World<'a> {
-    pub(crate) rows: &'a Rows,
-    pub(crate) eps: i64,
-    pub(crate) shards: u32,
-    pub(crate) hub: Hub,
-    pub(crate) persons: Vec<PersonShard>,
-    pub(crate) objects: Vec<ObjectShard>,
+    rows: &'a Rows,
+    eps: i64,
+    shards: u32,
+    hub: Hub,
+    persons: Vec<PersonShard>,
+    objects: Vec<ObjectShard>,
     // By sender: those of the shards of the persons, and behind them those of the shards of the objects.
-    pub(crate) outboxes: Vec<Outbox>,
-    pub(crate) stopped: Vec<bool>,
-    pub(crate) mails: Mails,
+    outboxes: Vec<Outbox>,
+    stopped: Vec<bool>,
+    mails: Mails,
     // By shard of the persons; of no importance to what any turn does, so no contract of a turn speaks of it.
-    pub(crate) bidders: Vec<Bidder>,
+    bidders: Vec<Bidder>,
 }
 
 impl<'a> Model for World<'a> {
@@ -230,7 +239,7 @@ impl<'a> World<'a> {
     }
 
     /// Takes a letter out of a box, if one waits there.
-    #[inline(always)]
+    #[inline]
     pub(crate) fn take(&mut self, mail: MailName, at: u32) -> Option<Letter>
         requires { at < boxes_in self.old.shards mail }
         ensures some { IfSome result (λ l. TakesOne (named self.old.mails mail) at l (named self.new.mails mail)) }

@@ -1,0 +1,181 @@
+-- A phase with one shard of each kind, played by itself: what is kept of the world, what a round makes of it, and how a world is
+-- seen in it. What waits in the mails of the objects and of the hub between two turns is told by the turn, and isn't kept.
+use Rattle.std.specs.Prelude.{ℕ, ◌+◌, ◌*◌, ◌-◌, ◌<◌, ◌≤◌, ◌≡◌, ◌==◌, ℤ, pos, Bool, true, false, if◌then◌else◌, List, [], ◌∷◌, ◌++◌, length, drop, slice_index_or, slice_set, Option, Some, None}
+use Rattle.auc_letters.specs.declared.letter.Letter.{Letter}
+use Rattle.auc_letters.specs.declared.letter.Bid.{Bid}
+use Rattle.auc_letters.specs.declared.state.Held.{Held}
+use Rattle.auc_letters.specs.Award.{Sale, award, is_accepted}
+use Rattle.auc_mail.specs.Mail.{Lane, Mail, blank_lane}
+use Rattle.auc_model.specs.World.{Phase, World}
+use Rattle.auc_model.specs.Schedule.{Reached}
+use Rattle.auc_model.specs.declared.turn.End.{End}
+use Rattle.auc_model.specs.declared.turn.Turn.{Turn}
+use Rattle.auc_world.specs.declared.alone.told.Told.{Told}
+use Rattle.auc_world.specs.Rounds.{Plays, Rounds}
+
+-- stands for nobody who is free again
+abbrev pub nobody : ℕ
+nobody = 4294967295
+
+-- How many persons there are; by object the copy of its price, its price and its holder; what waits for the persons, the earliest first; the
+-- free persons, who has been free longest first; how many bids are left; and how many objects were sold for the first time.
+pub record Alone : Type 0 where
+  pub persons : ℕ
+  pub copies : List ℤ
+  pub prices : List ℤ
+  pub holders : List (Option Held)
+  pub told : List Told
+  pub idle : List ℕ
+  pub bids : ℕ
+  pub count : ℕ
+
+-- ---- what a round makes of it
+
+abbrev pub sale_at : Alone → ℕ → Sale
+sale_at s object = record { price = slice_index_or s.prices object (pos 0); holder = slice_index_or s.holders object None }
+
+-- what is told of an object: its price, and who is free by it
+abbrev pub frees : ℕ → ℕ → ℤ → Told
+frees person object price = record { price = price; object = object; freed = person }
+
+abbrev pub awarded : ℕ → ℤ → Told
+awarded object price = record { price = price; object = object; freed = nobody }
+
+-- what an accepted bid makes the persons hear: who held the object is free, and then the award
+abbrev pub told_of_sale : Option Held → ℕ → ℤ → List Told
+told_of_sale None object price = awarded object price ∷ []
+told_of_sale (Some held) object price = frees held.person object price ∷ awarded object price ∷ []
+
+abbrev pub told_of : ℤ → Sale → Bid → List Told
+told_of eps sale bid = if is_accepted eps sale bid then told_of_sale sale.holder bid.object bid.amount else frees bid.person bid.object sale.price ∷ []
+
+abbrev pub first_of : Option Held → ℕ
+first_of None = 1
+first_of (Some held) = 0
+
+-- 1 where a bid sells its object for the first time
+abbrev pub firsts_of : ℤ → Sale → Bid → ℕ
+firsts_of eps sale bid = if is_accepted eps sale bid then first_of sale.holder else 0
+
+-- the first of the free persons has made this bid, which was answered
+abbrev pub sold : ℤ → Alone → Bid → Alone
+sold eps s bid = record s {
+  prices = slice_set s.prices bid.object (award eps (sale_at s bid.object) bid).price;
+  holders = slice_set s.holders bid.object (award eps (sale_at s bid.object) bid).holder;
+  told = s.told ++ told_of eps (sale_at s bid.object) bid;
+  idle = drop 1 s.idle;
+  bids = s.bids - 1;
+  count = s.count + firsts_of eps (sale_at s bid.object) bid;
+}
+
+abbrev pub freed_by : Told → List ℕ
+freed_by t = if t.freed == nobody then [] else t.freed ∷ []
+
+-- the persons have heard this, the first of what waits for them
+abbrev pub heard : Alone → Told → Alone
+heard s t = record s { copies = slice_set s.copies t.object t.price; told = drop 1 s.told; idle = s.idle ++ freed_by t }
+
+-- ---- the world that is seen in it
+
+-- this is told by that letter
+abbrev pub IsTold : Told → Letter → Type 0
+IsTold t (Letter.Award i j p) = (t.price ≡ p) × (t.object ≡ j) × (t.freed ≡ nobody)
+IsTold t (Letter.Refused i j p) = (t.price ≡ p) × (t.object ≡ j) × (t.freed ≡ i)
+IsTold t (Letter.Outbid i j p) = (t.price ≡ p) × (t.object ≡ j) × (t.freed ≡ i)
+IsTold t (Letter.Price j p) = ⊥
+IsTold t (Letter.Bid i a j p) = ⊥
+IsTold t (Letter.First j) = ⊥
+IsTold t (Letter.Stop y) = ⊥
+
+abbrev pub AreTold : List Told → List Letter → Type 0
+AreTold [] [] = Unit {0}
+AreTold [] (l ∷ ls) = ⊥
+AreTold (t ∷ ts) [] = ⊥
+AreTold (t ∷ ts) (l ∷ ls) = IsTold t l × AreTold ts ls
+
+abbrev pub AreFirsts : List Letter → Type 0
+AreFirsts [] = Unit {0}
+AreFirsts (Letter.First j ∷ ls) = AreFirsts ls
+AreFirsts (Letter.Award i j p ∷ ls) = ⊥
+AreFirsts (Letter.Refused i j p ∷ ls) = ⊥
+AreFirsts (Letter.Outbid i j p ∷ ls) = ⊥
+AreFirsts (Letter.Price j p ∷ ls) = ⊥
+AreFirsts (Letter.Bid i a j p ∷ ls) = ⊥
+AreFirsts (Letter.Stop y ∷ ls) = ⊥
+
+abbrev pub lane : ℕ → List Letter → Lane Letter
+lane taken letters = record { taken = taken; waiting = letters }
+
+-- an open mail of one box, with its three senders: the shard of the persons, that of the objects, and the hub
+abbrev pub one_box : ℕ → ℕ → Lane Letter → Lane Letter → Mail Letter
+one_box nodes most persons objects = record { senders = 3; nodes = nodes; most = most; accepting = true ∷ []; lanes = persons ∷ objects ∷ blank_lane ∷ [] }
+
+-- with so many First letters in the hub's mail, which are counted already here, and not yet there
+pub record MailsTell (g : Phase) (allowed most : ℕ) (s : Alone) (firsts : ℕ) (w : World) : Type 0 where
+  pub taken : ℕ
+  pub objects : w.objects_mail ≡ one_box g.persons most (lane taken []) blank_lane
+  pub few : taken + s.bids ≤ allowed
+  pub heard : ℕ
+  pub letters : List Letter
+  pub persons : w.persons_mail ≡ one_box (4 * g.persons) most blank_lane (lane heard letters)
+  pub tells : AreTold s.told letters
+  pub room : length letters ≤ 4 * g.persons
+  pub few_told : heard + length letters + 2 * s.bids ≤ 2 * allowed
+  pub counted : ℕ
+  pub waiting : List Letter
+  pub hub : w.hub_mail ≡ one_box (g.persons + 2) most blank_lane (lane counted waiting)
+  pub are_firsts : AreFirsts waiting
+  pub many : length waiting ≡ firsts
+  pub few_firsts : counted + length waiting + s.bids ≤ allowed
+
+-- A world of the phase, with one shard of each kind, each of whose boxes is open, is seen in it: between two turns of which neither
+-- leaves a letter in an outbox. So many bids were allowed, and so many posts in each lane.
+pub record Shows (g : Phase) (allowed most : ℕ) (s : Alone) (firsts : ℕ) (w : World) : Type 0 where
+  pub price : (j : ℕ) → w.price j ≡ slice_index_or s.prices j (pos 0)
+  pub holder : (j : ℕ) → w.holder j ≡ slice_index_or s.holders j None
+  pub copy : (j : ℕ) → w.copy 0 j ≡ slice_index_or s.copies j (pos 0)
+  pub idle : w.idle 0 ≡ s.idle
+  pub bids : w.bids_left 0 ≡ s.bids
+  pub going : w.has_stopped 0 ≡ false
+  pub person_out : w.person_out 0 ≡ []
+  pub object_out : w.object_out 0 ≡ []
+  pub mails : MailsTell g allowed most s firsts w
+  pub count : w.count + firsts ≡ s.count
+  pub prices_are : length s.prices ≡ g.objects
+  pub holders_are : length s.holders ≡ g.objects
+  pub copies_are : length s.copies ≡ g.objects
+  pub within : s.count ≤ g.persons
+
+-- how a phase stands in which so many objects were sold
+abbrev pub end_at : ℕ → ℕ → Option End
+end_at count persons = if count == persons then Some End.All else None
+
+-- whole rounds have led here from the world that the phase began with
+pub record Going (g : Phase) (start : World) (allowed most : ℕ) (s : Alone) : Type 0 where
+  pub rounds : ℕ
+  pub world : World
+  pub led : Rounds g start rounds world
+  pub reached : Reached g world
+  pub shows : Shows g allowed most s 0 world
+  pub end : world.end ≡ end_at s.count g.persons
+
+-- the turns of a round up to the answers to a bid
+abbrev pub sale_turns : List Turn
+sale_turns = Turn.Bid 0 ∷ Turn.PersonPost 0 ∷ Turn.ObjectTake 0 ∷ Turn.ObjectPost 0 ∷ Turn.ObjectPost 0 ∷ []
+
+-- whole rounds, and these turns of the next one, have led here; First letters that the hub will count are counted here
+pub record Halfway (g : Phase) (start : World) (allowed most : ℕ) (s : Alone) : Type 0 where
+  pub rounds : ℕ
+  pub before : World
+  pub led : Rounds g start rounds before
+  pub unended : before.end ≡ None
+  pub moved : Bool
+  pub world : World
+  pub played : Plays g before sale_turns moved world
+  pub reached : Reached g world
+  pub firsts : ℕ
+  pub few : firsts ≤ 1
+  pub shows : Shows g allowed most s firsts world
+  pub still : world.end ≡ None
+  -- where nothing is to be counted, somebody was still without an object before the round
+  pub unsold : firsts ≡ 0 → s.count < g.persons

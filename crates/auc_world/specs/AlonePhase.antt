@@ -1,0 +1,128 @@
+-- A phase that is played by itself: what it is given, how it begins, and how far it has come.
+use Rattle.std.specs.Prelude.{ℕ, ◌+◌, ◌*◌, ◌-◌, ◌<◌, ◌≡◌, ℤ, pos, List, [], ◌∷◌, ◌++◌, Some, None, length, drop, replicate, slice_index_or, slice_set}
+use Rattle.auc_graph.specs.Table.{IsTable, Table}
+use Rattle.auc_letters.specs.declared.letter.Bid.{Bid}
+use Rattle.auc_letters.specs.declared.letter.Why.{Why}
+use Rattle.auc_letters.specs.declared.state.Held.{Held}
+use Rattle.auc_letters.specs.Award.{award}
+use Rattle.auc_letters.specs.Persons.{persons_of}
+use Rattle.auc_letters.specs.Price.{IsEps}
+use Rattle.auc_model.specs.Schedule.{Reached}
+use Rattle.auc_model.specs.World.{Phase, World, phase_of}
+use Rattle.auc_model.specs.declared.turn.End.{End}
+use Rattle.auc_answers.specs.declared.limits.Limits.{Limits}
+use Rattle.auc_answers.specs.Begins.{ArePrices}
+use Rattle.auc_answers.specs.Limits.{AreLimits}
+use Rattle.auc_answers.specs.Prepared.{NobodyStuck}
+use Rattle.auc_world.specs.declared.alone.told.Told.{Told}
+use Rattle.auc_world.specs.Alone.{Alone, Going, Halfway, first_of, firsts_of, freed_by, sale_at, told_of, told_of_sale}
+use Rattle.auc_world.specs.Making.{IsMade}
+use Rattle.auc_world.specs.Parts.{Parts, seen}
+use Rattle.auc_world.specs.Rounds.{Rounds}
+
+-- what a phase is given: the rows of the problem, the limits, the prices that it begins with, and eps
+pub record Given : Type 0 where
+  pub table : Table
+  pub limits : Limits
+  pub prices : List ℤ
+  pub eps : ℤ
+
+-- it may be played by itself: there is one shard of each kind, as many letters may wait as are usual, and more may be posted than two for each bid
+pub record MayPlayAlone (limits : Limits) : Type 0 where
+  pub one : limits.shards ≡ 1
+  pub usual : limits.nodes ≡ 0
+  pub enough : 2 * limits.bids < limits.posts
+
+pub record IsGiven (x : Given) : Type 0 where
+  pub table : IsTable x.table
+  pub limits : AreLimits x.limits
+  pub alone : MayPlayAlone x.limits
+  pub prices : ArePrices x.table x.prices
+  pub eps : IsEps x.eps
+  pub arcs : NobodyStuck x.table
+
+-- nobody has anything, and everybody is free
+abbrev pub begun : Given → Alone
+begun x = record {
+  persons = length x.table.rows;
+  copies = x.prices;
+  prices = x.prices;
+  holders = replicate (length x.prices) None;
+  told = [];
+  idle = persons_of 0 1 (length x.table.rows);
+  bids = x.limits.bids;
+  count = 0;
+}
+
+-- the first of the free persons is free no longer
+abbrev pub without_first : Alone → Alone
+without_first s = record s { idle = drop 1 s.idle }
+
+-- his bid was answered
+abbrev pub answered : ℤ → Alone → Bid → Alone
+answered eps s bid = record s {
+  prices = slice_set s.prices bid.object (award eps (sale_at s bid.object) bid).price;
+  holders = slice_set s.holders bid.object (award eps (sale_at s bid.object) bid).holder;
+  told = s.told ++ told_of eps (sale_at s bid.object) bid;
+  bids = s.bids - 1;
+  count = s.count + firsts_of eps (sale_at s bid.object) bid;
+}
+
+-- an object was sold to this person, by this arc, at this price
+abbrev pub with_sale : Alone → ℕ → ℤ → Held → Alone
+with_sale s object price held = record s {
+  prices = slice_set s.prices object price;
+  holders = slice_set s.holders object (Some held);
+  told = s.told ++ told_of_sale (sale_at s object).holder object price;
+  count = s.count + first_of (sale_at s object).holder;
+}
+
+-- one thing more waits for the persons
+abbrev pub with_told : Alone → Told → Alone
+with_told s t = record s { told = s.told ++ t ∷ [] }
+
+-- the first of what waits for the persons waits no longer
+abbrev pub without_told : Alone → Alone
+without_told s = record s { told = drop 1 s.told }
+
+-- the persons have heard this
+abbrev pub noted : Alone → Told → Alone
+noted s t = record s { copies = slice_set s.copies t.object t.price; idle = s.idle ++ freed_by t }
+
+-- whole rounds of a world of the phase have led here
+pub record IsGoing (x : Given) (s : Alone) : Type 0 where
+  pub given : IsGiven x
+  pub parts : Parts
+  pub made : IsMade x.table x.limits x.prices x.eps parts
+  pub going : Going (phase_of x.table 1 x.eps) (seen parts) x.limits.bids x.limits.posts s
+  pub persons : s.persons ≡ length x.table.rows
+
+-- whole rounds, and the turns of the next one up to the answers to a bid
+pub record IsHalfway (x : Given) (s : Alone) : Type 0 where
+  pub given : IsGiven x
+  pub parts : Parts
+  pub made : IsMade x.table x.limits x.prices x.eps parts
+  pub half : Halfway (phase_of x.table 1 x.eps) (seen parts) x.limits.bids x.limits.posts s
+  pub persons : s.persons ≡ length x.table.rows
+
+-- A limit has stopped the phase, for this reason, after whole rounds: so stand its prices and holders.
+pub record StopEnds (g : Phase) (start : World) (s : Alone) (why : Why) : Type 0 where
+  pub rounds : ℕ
+  pub world : World
+  pub led : Rounds g start rounds world
+  pub reached : Reached g world
+  pub end : world.end ≡ Some (End.Stopped why)
+  pub price : (j : ℕ) → world.price j ≡ slice_index_or s.prices j (pos 0)
+  pub holder : (j : ℕ) → world.holder j ≡ slice_index_or s.holders j None
+
+pub record IsStopped (x : Given) (s : Alone) (why : Why) : Type 0 where
+  pub given : IsGiven x
+  pub parts : Parts
+  pub made : IsMade x.table x.limits x.prices x.eps parts
+  pub ends : StopEnds (phase_of x.table 1 x.eps) (seen parts) s why
+  pub prices_are : length s.prices ≡ x.table.objects
+  pub holders_are : length s.holders ≡ x.table.objects
+
+-- More than the rounds that are left: each one takes a bid, which is told to two at most, or something that was told.
+abbrev pub left_of : Alone → ℕ
+left_of s = 3 * s.bids + length s.told

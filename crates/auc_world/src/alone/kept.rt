@@ -1,0 +1,290 @@
+//! What is kept of a phase that is played by itself, and the steps that its rounds are made of.
+
+ghost use Rattle.std.specs.Prelude.{ℕ, ℤ, ◌≡◌, ◌<◌, ◌≤◌, ◌+◌, ◌*◌, [], ◌∷◌, ◌++◌, None, Some, ◌-◌, length, map, replicate, drop, slice_index_or, slice_set, IsTrue, ◌↔◌, IfOk, IfSome, IfNone};
+ghost use Rattle.std.specs.VecDeque.{deque_capacity};
+ghost use Rattle.auc_letters.specs.Persons.{persons_of};
+ghost use Rattle.auc_letters.specs.Price.{IsEps, IsPrice};
+ghost use Rattle.auc_world.specs.Alone.{first_of, freed_by, sale_at, told_of_sale};
+ghost use Rattle.auc_world.specs.AlonePhase.{answered, begun, noted, with_sale, with_told, without_first, without_told};
+ghost use Rattle.auc_world.specs.Lots.{holder_in, price_in};
+
+use crate::alone::lot::Lot;
+use crate::alone::task::Task;
+use crate::alone::told::{NOBODY, Told};
+use auc_answers::Gathered;
+use auc_letters::{Bid, Held};
+use std::alloc::{AllocError, Global};
+use std::collections::VecDeque;
+use std::marker::Model;
+
+/// What is kept of a phase with one shard of each kind, between two rounds or within one.
+#[derive(Drop)]
+pub(crate) struct AloneWorld {
+    persons: u32,
+    // By object, the price that the persons have heard of.
+    copies: Vec<i64>,
+    // By object.
+    lots: Vec<Lot>,
+    // What waits for the persons, the earliest first.
+    told: VecDeque<Told>,
+    // Who has been free longest first.
+    idle: VecDeque<u32>,
+    // How many are left.
+    bids: u64,
+    // How many objects were sold.
+    count: u32,
+}
+
+impl Model for AloneWorld {
+    ghost use Rattle.std.specs.Prelude.{◌≤◌, ◌*◌, map};
+    ghost use Rattle.std.specs.VecDeque.{deque_capacity};
+    ghost use Rattle.auc_world.specs.Alone.{Alone};
+    ghost use Rattle.auc_world.specs.Lots.{holder_in, price_in};
+
+    ghost Value = { Alone };
+
+    ghost view = { λ w. record { persons = w.persons; copies = w.copies.items; prices = map price_in w.lots.items; holders = map holder_in w.lots.items; told = w.told.items; idle = w.idle.items; bids = w.bids; count = w.count } };
+
+    ghost invariant = { λ w. (4 * w.persons ≤ deque_capacity w.told) × (w.persons ≤ deque_capacity w.idle) };
+}
+
+/// Objects at these prices, which nobody holds.
+fn unsold_at(alloc: Global, prices: &[i64]) -> Result<Vec<Lot>, AllocError>
+    ensures prices { IfOk result (λ l. map price_in l.items ≡ prices.now) }
+    ensures holders { IfOk result (λ l. map holder_in l.items ≡ replicate (length prices.now) None) }
+{
+    let mut lots = Vec::with_capacity(alloc, prices.len())?;
+    for price in prices {
+        lots.push(Lot::unsold(*price))?;
+    }
+    Ok(lots)
+}
+
+/// All persons, the first one first, with room for no more.
+fn all_persons(alloc: Global, persons: u32) -> Result<VecDeque<u32>, AllocError>
+    ensures items { IfOk result (λ q. q.items ≡ persons_of 0 1 persons) }
+    ensures room { IfOk result (λ q. persons ≤ deque_capacity q) }
+{
+    let mut idle = VecDeque::with_capacity(alloc, persons as usize)?;
+    for person in 0..persons {
+        idle.push_back_reserved(person);
+    }
+    Ok(idle)
+}
+
+impl AloneWorld {
+    /// What a phase begins with: nobody has anything, and everybody is free. Takes O(persons + objects) time and memory; no round takes any.
+    ///
+    /// # Errors
+    ///
+    /// Only where memory was refused.
+    pub(crate) fn make(alloc: Global, task: &Task) -> Result<AloneWorld, AllocError>
+        ensures { IfOk result (λ s. s ≡ begun task.now) }
+    {
+        let persons = task.rows.persons();
+        let copies = task.prices.to_vec(alloc)?;
+        let lots = unsold_at(alloc, task.prices)?;
+        let told = VecDeque::with_capacity(alloc, 4 * persons as usize)?;
+        let idle = all_persons(alloc, persons)?;
+        Ok(AloneWorld {
+            persons,
+            copies,
+            lots,
+            told,
+            idle,
+            bids: task.limits.bids,
+            count: 0,
+        })
+    }
+
+    /// Whether everybody has an object.
+    #[inline(always)]
+    pub(crate) fn is_done(&self) -> bool
+        ensures { IsTrue result ↔ (self.now.persons ≤ self.now.count) }
+    {
+        self.count >= self.persons
+    }
+
+    /// Whether a bid is left.
+    #[inline(always)]
+    pub(crate) fn has_bids(&self) -> bool
+        ensures { IsTrue result ↔ (0 < self.now.bids) }
+    {
+        self.bids > 0
+    }
+
+    /// The copies of the prices, by object.
+    #[inline(always)]
+    pub(crate) fn copies(&self) -> &[i64]
+        ensures { result.now ≡ self.now.copies }
+    {
+        self.copies.as_slice()
+    }
+
+    /// The person who has been free longest, if anybody is free. He isn't any more.
+    #[inline(always)]
+    pub(crate) fn next_free(&mut self) -> Option<u32>
+        ensures some { IfSome result (λ i. self.old.idle ≡ i ∷ drop 1 self.old.idle) }
+        ensures none { IfNone result (self.old.idle ≡ []) }
+        ensures leaves { self.new ≡ without_first self.old }
+    {
+        self.idle.pop_front()
+    }
+
+    /// The first of what waits for the persons, if something does. It waits no longer.
+    #[inline(always)]
+    pub(crate) fn next_told(&mut self) -> Option<Told>
+        ensures some { IfSome result (λ t. self.old.told ≡ t ∷ drop 1 self.old.told) }
+        ensures none { IfNone result (self.old.told ≡ []) }
+        ensures leaves { self.new ≡ without_told self.old }
+    {
+        self.told.pop_front()
+    }
+
+    /// One thing more waits for the persons.
+    #[inline(always)]
+    fn tell(&mut self, told: Told)
+        requires room { length self.old.told < 4 * self.old.persons }
+        ensures { self.new ≡ with_told self.old told }
+    {
+        self.told.push_back_reserved(told);
+    }
+
+    /// The price of an object.
+    #[inline(always)]
+    fn price(&self, object: u32) -> i64
+        requires { object < length self.now.prices }
+        ensures { result ≡ (sale_at self.now object).price }
+    {
+        self.lots[object as usize].price
+    }
+
+    /// Who holds an object, if anybody does.
+    #[inline(always)]
+    fn holder(&self, object: u32) -> Option<Held>
+        requires { object < length self.now.prices }
+        ensures { result ≡ (sale_at self.now object).holder }
+    {
+        self.lots[object as usize].holder()
+    }
+
+    /// Sets the price and the holder of an object.
+    #[inline(always)]
+    fn set_lot(&mut self, object: u32, price: i64, held: Held)
+        requires object { object < length self.old.prices }
+        requires person { held.person < 4294967295 }
+        ensures { self.new ≡ record self.old { prices = slice_set self.old.prices object price; holders = slice_set self.old.holders object (Some held) } }
+    {
+        self.lots[object as usize] = Lot {
+            price,
+            person: held.person,
+            arc: held.arc,
+        };
+    }
+
+    /// An object more was sold.
+    #[inline(always)]
+    fn count_one(&mut self)
+        requires { self.old.count < self.old.persons }
+        ensures { self.new ≡ record self.old { count = self.old.count + 1 } }
+    {
+        self.count += 1;
+    }
+
+    /// A bid less is left.
+    #[inline(always)]
+    fn use_bid(&mut self)
+        requires { 0 < self.old.bids }
+        ensures { self.new ≡ record self.old { bids = self.old.bids - 1 } }
+    {
+        self.bids -= 1;
+    }
+
+    /// Sells an object. Who held it is free by it, and is told so before the award.
+    #[inline(always)]
+    fn sell(&mut self, object: u32, price: i64, held: Held)
+        requires object { object < length self.old.prices }
+        requires person { held.person < 4294967295 }
+        requires room { length self.old.told + length (told_of_sale (sale_at self.old object).holder object price) ≤ 4 * self.old.persons }
+        requires count { self.old.count < self.old.persons }
+        ensures { self.new ≡ with_sale self.old object price held }
+    {
+        let before = self.holder(object);
+        self.set_lot(object, price, held);
+        match before {
+            None => self.count_one(),
+            Some(other) => self.tell(Told {
+                price,
+                object,
+                freed: other.person,
+            }),
+        }
+        self.tell(Told {
+            price,
+            object,
+            freed: NOBODY,
+        });
+    }
+
+    /// Answers a bid by the award rule.
+    #[inline(always)]
+    pub(crate) fn answer(&mut self, eps: i64, bid: Bid)
+        requires object { bid.object < length self.old.prices }
+        requires person { bid.person < 4294967295 }
+        requires price { IsPrice (sale_at self.old bid.object).price }
+        requires eps { IsEps eps }
+        requires bids { 0 < self.old.bids }
+        requires room { length (answered eps self.old bid).told ≤ 4 * self.old.persons }
+        requires count { self.old.count < self.old.persons }
+        ensures { self.new ≡ answered eps self.old bid }
+    {
+        let Bid {
+            person,
+            arc,
+            object,
+            amount,
+        } = bid;
+        self.use_bid();
+        let price = self.price(object);
+        if amount < price + eps {
+            self.tell(Told {
+                price,
+                object,
+                freed: person,
+            });
+        } else {
+            self.sell(object, amount, Held { person, arc });
+        }
+    }
+
+    /// The persons hear what was told.
+    #[inline(always)]
+    pub(crate) fn note(&mut self, told: Told)
+        requires object { told.object < length self.old.copies }
+        requires room { length (noted self.old told).idle ≤ self.old.persons }
+        ensures { self.new ≡ noted self.old told }
+    {
+        self.copies[told.object as usize] = told.price;
+        if told.freed != NOBODY {
+            self.idle.push_back_reserved(told.freed);
+        }
+    }
+
+    /// Who holds each object, if anybody does, and the prices. Takes O(objects) time and memory.
+    ///
+    /// # Errors
+    ///
+    /// Only where memory was refused.
+    pub(crate) fn gather(&self, alloc: Global) -> Result<Gathered, AllocError>
+        ensures holders { IfOk result (λ g. g.holders.items ≡ self.now.holders) }
+        ensures prices { IfOk result (λ g. g.prices.items ≡ self.now.prices) }
+    {
+        let mut holders = Vec::with_capacity(alloc, self.lots.len())?;
+        let mut prices = Vec::with_capacity(alloc, self.lots.len())?;
+        for lot in &self.lots {
+            holders.push(lot.holder())?;
+            prices.push(lot.price)?;
+        }
+        Ok(Gathered { holders, prices })
+    }
+}

@@ -1,0 +1,59 @@
+//! What a phase is given that is played by itself.
+
+ghost use Rattle.std.specs.Prelude.{◌≡◌, ◌↔◌, IsTrue};
+ghost use Rattle.auc_letters.specs.Price.{IsEps};
+ghost use Rattle.auc_answers.specs.Begins.{ArePrices};
+ghost use Rattle.auc_answers.specs.Limits.{AreLimits};
+ghost use Rattle.auc_answers.specs.Prepared.{NobodyStuck};
+ghost use Rattle.auc_world.specs.AlonePhase.{IsGiven, MayPlayAlone};
+
+use auc_answers::Limits;
+use auc_graph::Rows;
+use std::marker::Model;
+
+/// What a phase is given that is played by itself. Prices and `eps` are in scaled costs, the prices by object.
+#[derive(Drop)]
+pub(crate) struct Task<'a> {
+    pub(crate) rows: &'a Rows,
+    pub(crate) limits: &'a Limits,
+    pub(crate) prices: &'a [i64],
+    pub(crate) eps: i64,
+}
+
+impl<'a> Model for Task<'a> {
+    ghost use Rattle.auc_world.specs.AlonePhase.{Given};
+
+    ghost Value = { Given };
+
+    ghost view = { λ t. record { table = t.rows.now; limits = t.limits.now; prices = t.prices.now; eps = t.eps } };
+}
+
+/// Whether a phase may be played by itself: there is one shard of each kind, as many letters may wait as are usual, and no lane can have had as
+/// many posts as it may, since a bid is answered by two letters at most.
+pub(crate) fn may_play_alone(limits: &Limits) -> bool
+    ensures { IsTrue result → MayPlayAlone limits.now }
+{
+    limits.shards == 1 && limits.nodes == 0 && limits.bids < limits.posts / 2
+}
+
+impl<'a> Task<'a> {
+    /// A phase at these prices and this eps.
+    pub(crate) fn new(rows: &'a Rows, limits: &'a Limits, prices: &'a [i64], eps: i64) -> Task<'a>
+        requires limits { AreLimits limits.now }
+        requires alone { MayPlayAlone limits.now }
+        requires prices { ArePrices rows.now prices.now }
+        requires eps { IsEps eps }
+        requires arcs { NobodyStuck rows.now }
+        ensures is { result ≡ record { table = rows.now; limits = limits.now; prices = prices.now; eps = eps } }
+        ensures given { IsGiven result }
+    {
+        // Read here, so that the proof knows what all rows keep.
+        let _ = rows.persons();
+        Task {
+            rows,
+            limits,
+            prices,
+            eps,
+        }
+    }
+}

@@ -1,0 +1,114 @@
+//! Bidding: a shard of the persons asks its person that has been free longest for a bid.
+
+ghost use Rattle.std.specs.Prelude.{◌≡◌, ◌<◌, ◌↔◌, true, [], ◌∷◌, slice_set, IsTrue, IfSome, IfNone};
+ghost use Rattle.auc_model.specs.Bidding.{BidTurn};
+ghost use Rattle.auc_model.specs.declared.turn.Turn.{Turn};
+ghost use Rattle.auc_persons.specs.Persons.{NextBid};
+ghost use Rattle.auc_persons.specs.declared.bidding.Bidding.{Bidding};
+ghost use Rattle.auc_world.specs.Bidding.{Asks};
+ghost use Rattle.auc_world.specs.Parts.{AreParts, MayAskForBid, SamePhase, persons_at, phase, seen};
+ghost use Rattle.auc_world.specs.Rounds.{Plays};
+
+use crate::world::World;
+use crate::world::rounds::{either, has_moved};
+use auc_letters::{Letter, Out, To};
+use auc_model::TurnReply;
+use auc_persons::Bidding;
+
+/// What a shard of the persons has to send.
+#[derive(Clone, Copy)]
+pub(crate) enum Asked {
+    /// It may not bid: there is no such shard, its outbox isn't empty, or it has made its Stop.
+    Barred,
+    /// Nobody is free. Its outbox is empty.
+    Idle,
+    /// This letter, which is still to be put into its outbox, which is empty, or posted.
+    Sends { out: Out },
+}
+
+impl<'a> World<'a> {
+    /// Whether a shard of the persons may bid: it is there, its outbox is empty, and it has made no Stop.
+    #[inline]
+    fn may_bid(&self, shard: u32) -> bool
+        ensures is { IsTrue result ↔ MayAskForBid self.now shard }
+        ensures sound { AreParts self.now }
+    {
+        shard < self.shards
+            && self.outboxes[shard as usize].is_empty()
+            && !self.stopped[shard as usize]
+    }
+
+    /// Asks a shard of the persons for its next bid.
+    #[inline]
+    fn next_bid(&mut self, shard: u32) -> Bidding
+        requires { shard < self.old.shards }
+        ensures bid { NextBid self.old.table self.old.eps (persons_at self.old shard) result (persons_at self.new shard) }
+        ensures rest { self.new ≡ record self.old { persons = slice_set self.old.persons shard (persons_at self.new shard) } }
+    {
+        let rows = self.rows;
+        let eps = self.eps;
+        let place = shard as usize;
+        let persons = &mut self.persons[place];
+        let bidder = &mut self.bidders[place];
+        persons.next_bid_by(rows, eps, bidder)
+    }
+
+    /// A shard of the persons has made a Stop.
+    #[inline]
+    fn note_stop(&mut self, shard: u32)
+        requires { shard < self.old.shards }
+        ensures { self.new ≡ record self.old { stopped = slice_set self.old.stopped shard true } }
+    {
+        self.stopped[shard as usize] = true;
+    }
+
+    /// Asks a shard of the persons for what it has to send: its next bid, or why there is none.
+    #[inline]
+    pub(crate) fn ask(&mut self, shard: u32) -> Asked
+        ensures asks { Asks self.old shard result self.new }
+        ensures phase { SamePhase self.old self.new }
+    {
+        if !self.may_bid(shard) {
+            return Asked::Barred;
+        }
+        match self.next_bid(shard) {
+            Bidding::Idle => Asked::Idle,
+            Bidding::Stop { why } => {
+                self.note_stop(shard);
+                Asked::Sends {
+                    out: Out {
+                        letter: Letter::Stop { why },
+                        to: To::Hub,
+                        reserve: 0,
+                    },
+                }
+            }
+            Bidding::Out { out } => Asked::Sends { out },
+        }
+    }
+
+    /// A shard of the persons puts its next bid, or why there is none, into its outbox.
+    #[inline]
+    pub(crate) fn bid(&mut self, shard: u32) -> TurnReply
+        ensures turn { BidTurn (phase self.old) (seen self.old) shard result (seen self.new) }
+        ensures phase { SamePhase self.old self.new }
+    {
+        match self.ask(shard) {
+            Asked::Barred | Asked::Idle => TurnReply::Nothing,
+            Asked::Sends { out } => {
+                self.put(shard, out);
+                TurnReply::Moved
+            }
+        }
+    }
+
+    /// A shard of the persons bids and posts, by two turns. Whether anything moved.
+    pub(crate) fn bid_and_post(&mut self, shard: u32) -> bool
+        ensures plays { Plays (phase self.old) (seen self.old) (Turn.Bid shard ∷ Turn.PersonPost shard ∷ []) result (seen self.new) }
+        ensures phase { SamePhase self.old self.new }
+    {
+        let bids = has_moved(self.bid(shard));
+        let posts = has_moved(self.person_post(shard));
+        either(bids, posts)
+    }
+}

@@ -1,0 +1,100 @@
+//! The serial schedule: whole rounds in which every shard has its turns, until the phase has ended.
+
+ghost use Rattle.std.specs.Prelude.{ℕ, ◌≡◌, ◌||◌, IfNone};
+ghost use Rattle.auc_model.specs.Still.{Rests};
+ghost use Rattle.auc_world.specs.Parts.{phase, seen};
+ghost use Rattle.auc_world.specs.Rounds.{Plays, Rounds, answers_of, bids_of, has_moved, hearings_of, round_of};
+
+use crate::world::World;
+use auc_model::{End, TurnReply};
+
+/// Whether a turn moved anything.
+#[inline]
+pub(crate) fn has_moved(reply: TurnReply) -> bool
+    ensures { result ≡ has_moved reply }
+{
+    match reply {
+        TurnReply::Moved => true,
+        TurnReply::Nothing => false,
+    }
+}
+
+/// Whether one of two turns moved anything.
+#[inline]
+pub(crate) fn either(first: bool, second: bool) -> bool
+    ensures { result ≡ (first || second) }
+{
+    first || second
+}
+
+impl<'a> World<'a> {
+    /// Each shard of the persons bids and posts. Whether anything moved.
+    fn bid_all(&mut self) -> bool
+        ensures plays { Plays (phase self.old) (seen self.old) (bids_of self.old.shards) result (seen self.new) }
+        ensures phase { phase self.new ≡ phase self.old }
+    {
+        let mut moved = false;
+        for shard in 0..self.shards() {
+            let here = self.bid_and_post(shard);
+            moved = either(moved, here);
+        }
+        moved
+    }
+
+    /// Each shard of the objects takes a bid and posts its answers. Whether anything moved.
+    fn answer_all(&mut self) -> bool
+        ensures plays { Plays (phase self.old) (seen self.old) (answers_of self.old.shards) result (seen self.new) }
+        ensures phase { phase self.new ≡ phase self.old }
+    {
+        let mut moved = false;
+        for shard in 0..self.shards() {
+            let here = self.take_and_post(shard);
+            moved = either(moved, here);
+        }
+        moved
+    }
+
+    /// Each shard of the persons hears a letter. Whether anything moved.
+    fn hear_all(&mut self) -> bool
+        ensures plays { Plays (phase self.old) (seen self.old) (hearings_of self.old.shards) result (seen self.new) }
+        ensures phase { phase self.new ≡ phase self.old }
+    {
+        let mut moved = false;
+        for shard in 0..self.shards() {
+            let take = has_moved(self.person_take(shard));
+            moved = either(moved, take);
+        }
+        moved
+    }
+
+    /// One round: each shard of the persons bids, each of the objects answers, each of the persons hears, and the hub counts.
+    /// Whether anything moved.
+    #[inline]
+    fn round(&mut self) -> bool
+        ensures plays { Plays (phase self.old) (seen self.old) (round_of self.old.shards) result (seen self.new) }
+        ensures phase { phase self.new ≡ phase self.old }
+    {
+        let bids = self.bid_all();
+        let answers = self.answer_all();
+        let hearings = self.hear_all();
+        let count = has_moved(self.hub_take());
+        either(either(either(bids, answers), hearings), count)
+    }
+
+    /// Takes rounds until the phase has ended, and tells how; None where a round moved nothing.
+    ///
+    /// Each turn that moves uses up a bid, a Stop or a letter, or sets the end: so the rounds end.
+    pub(crate) fn run(&mut self) -> Option<End>
+        ensures rounds { (n : ℕ) × Rounds (phase self.old) (seen self.old) n (seen self.new) }
+        ensures phase { phase self.new ≡ phase self.old }
+        ensures end { result ≡ (seen self.new).end }
+        ensures rests { IfNone result (Rests (phase self.new) (seen self.new)) }
+    {
+        while self.end().is_none() {
+            if !self.round() {
+                return None;
+            }
+        }
+        self.end()
+    }
+}

@@ -1,0 +1,144 @@
+//! Selling: a shard of the objects deals with a bid, or tells a price.
+
+ghost use Rattle.std.specs.Prelude.{◌≡◌, ◌<◌, ◌+◌, true, [], ◌∷◌, length, slice_set, All, IfSome, IfNone, IsTrue, ◌↔◌};
+ghost use Rattle.auc_letters.specs.Award.{answers};
+ghost use Rattle.auc_letters.specs.Price.{IsPrice};
+ghost use Rattle.auc_letters.specs.Routing.{price_told};
+ghost use Rattle.auc_model.specs.Selling.{FitsBid, ObjectTakeTurn, TellTurn};
+ghost use Rattle.auc_model.specs.declared.turn.Turn.{Turn};
+ghost use Rattle.auc_objects.specs.Answers.{letters_of};
+ghost use Rattle.auc_objects.specs.Objects.{IsBidIn, Owns, after_bid, price_of, sale_of};
+ghost use Rattle.auc_answers.specs.Boxes.{Reaches};
+ghost use Rattle.auc_world.specs.Parts.{AreParts, MayAnswer, OwnsObject, SamePhase, objects_at, outbox_at, phase, seen};
+ghost use Rattle.auc_world.specs.Rounds.{Plays};
+ghost use Rattle.auc_world.specs.Selling.{Deals};
+
+use crate::world::World;
+use crate::world::rounds::{either, has_moved};
+use auc_letters::{Bid, Letter, Out, Why};
+use auc_model::{End, MailName, TurnReply};
+use auc_objects::Answers;
+
+/// What a shard of the objects has done with a letter.
+#[derive(Clone, Copy)]
+pub(crate) enum Dealt {
+    /// It may not take one: there is no such shard, or its outbox isn't empty.
+    Barred,
+    /// There was none. Its outbox is empty.
+    Nothing,
+    /// It fits no bid on an object of the shard: the phase has ended.
+    Strayed,
+    /// It was a bid, and these letters answer it: they are still to be put into the shard's outbox, which is empty, or posted.
+    Answered { answers: Answers },
+}
+
+impl<'a> World<'a> {
+    /// Whether there is such a shard of the objects, and its outbox is empty.
+    #[inline]
+    pub(crate) fn may_answer(&self, shard: u32) -> bool
+        ensures is { IsTrue result ↔ MayAnswer self.now shard }
+        ensures sound { AreParts self.now }
+    {
+        shard < self.shards && self.outboxes[(self.shards + shard) as usize].is_empty()
+    }
+
+    /// The bid that a letter to a shard of the objects is, where it fits: the object is the shard's, and the amount is in range.
+    #[inline]
+    fn bid_in(&self, shard: u32, letter: Letter) -> Option<Bid>
+        requires { shard < self.now.shards }
+        ensures some { IfSome result (IsBidIn (objects_at self.now shard) letter) }
+        ensures none { IfNone result (FitsBid (phase self.now) shard letter → ⊥) }
+    {
+        let objects = &self.objects[shard as usize];
+        objects.bid_in(letter)
+    }
+
+    /// Deals with a bid on an object of a shard.
+    #[inline]
+    fn answer(&mut self, shard: u32, offer: Bid) -> Answers
+        requires known { shard < self.old.shards }
+        requires owns { Owns (objects_at self.old shard) offer.object }
+        requires amount { IsPrice offer.amount }
+        ensures award { objects_at self.new shard ≡ after_bid (objects_at self.old shard) self.old.eps offer }
+        ensures letters { letters_of result ≡ answers self.old.shards self.old.eps (sale_of (objects_at self.old shard) offer.object) offer }
+        ensures rest { self.new ≡ record self.old { objects = slice_set self.old.objects shard (objects_at self.new shard) } }
+        ensures reach { All (Reaches self.old.shards) (letters_of result) }
+    {
+        let eps = self.eps;
+        let objects = &mut self.objects[shard as usize];
+        objects.answer(offer, eps)
+    }
+
+    /// The price of an object, as a letter to a shard of the persons.
+    #[inline]
+    fn price_letter(&self, shard: u32, object: u32, to: u32) -> Out
+        requires known { shard < self.now.shards }
+        requires owns { OwnsObject self.now shard object }
+        requires to { to < self.now.shards }
+        ensures { result ≡ price_told (length self.now.table.rows) to object (price_of (objects_at self.now shard) object) }
+    {
+        let objects = &self.objects[shard as usize];
+        objects.tell(object, to)
+    }
+
+    /// A shard of the objects takes a letter and deals with it.
+    #[inline]
+    fn deal(&mut self, shard: u32) -> Dealt
+        ensures deals { Deals self.old shard result self.new }
+        ensures phase { SamePhase self.old self.new }
+    {
+        if !self.may_answer(shard) {
+            return Dealt::Barred;
+        }
+        let Some(letter) = self.take(MailName::Objects, shard) else {
+            return Dealt::Nothing;
+        };
+        let Some(bid) = self.bid_in(shard, letter) else {
+            self.end_with(End::Stopped { why: Why::Stray });
+            return Dealt::Strayed;
+        };
+        Dealt::Answered {
+            answers: self.answer(shard, bid),
+        }
+    }
+
+    /// A shard of the objects takes a bid and answers it into its outbox.
+    #[inline]
+    pub(crate) fn object_take(&mut self, shard: u32) -> TurnReply
+        ensures turn { ObjectTakeTurn (phase self.old) (seen self.old) shard result (seen self.new) }
+        ensures phase { SamePhase self.old self.new }
+    {
+        match self.deal(shard) {
+            Dealt::Barred | Dealt::Nothing => TurnReply::Nothing,
+            Dealt::Strayed => TurnReply::Moved,
+            Dealt::Answered { answers } => {
+                self.put_all(self.shards() + shard, answers.into_list());
+                TurnReply::Moved
+            }
+        }
+    }
+
+    /// A shard of the objects puts a price into its outbox.
+    pub(crate) fn tell(&mut self, shard: u32, object: u32, to: u32) -> TurnReply
+        ensures turn { TellTurn (phase self.old) (seen self.old) shard object to result (seen self.new) }
+        ensures phase { SamePhase self.old self.new }
+    {
+        if !self.may_answer(shard) || !self.is_shard(to) || !self.owns(shard, object) {
+            return TurnReply::Nothing;
+        }
+        let out = self.price_letter(shard, object, to);
+        self.put(self.shards() + shard, out);
+        TurnReply::Moved
+    }
+
+    /// A shard of the objects takes a bid and posts its answers, by three turns. Whether anything moved.
+    pub(crate) fn take_and_post(&mut self, shard: u32) -> bool
+        ensures plays { Plays (phase self.old) (seen self.old) (Turn.ObjectTake shard ∷ Turn.ObjectPost shard ∷ Turn.ObjectPost shard ∷ []) result (seen self.new) }
+        ensures phase { SamePhase self.old self.new }
+    {
+        let takes = has_moved(self.object_take(shard));
+        let first = has_moved(self.object_post(shard));
+        let second = has_moved(self.object_post(shard));
+        either(takes, either(first, second))
+    }
+}

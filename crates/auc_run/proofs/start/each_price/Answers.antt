@@ -6,4 +6,4 @@ use Rattle.auc_run.proofs.start.each_price.Goals as goal
 pub returns-clause-within : goal.returns-clause-within
 returns-clause-within c =
     let same : c.in_ok-to_vec.field-0.items ≡ c.args.prices.now = search rules in
-    subst (λ (ps : List ℤ). All IsStartPrice ps) (sym same) (none_too_high c.args.prices.now c.requires (rw c.in_default.is at c.first_high.ensures))
+    subst (λ (ps : List ℤ). All IsStartPrice ps) (sym same) (none_too_high c.args.prices.now c.requires (rw c.in_default.is at c.high_price.ensures))

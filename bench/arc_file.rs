@@ -86,7 +86,7 @@ impl Tokens<'_> {
     }
 }
 
-/// The value of a token, up to `HUGE`: a sign, digits, and a point with zeros behind.
+/// The value of a token, up to `HUGE`: a sign, digits, and a point with zeros after.
 fn value_of(token: &[u8]) -> Option<i64> {
     let (negative, unsigned) = match token {
         [b'-', rest @ ..] => (true, rest),

@@ -12,7 +12,7 @@ pub struct Answer {
     pub status: u8,
 }
 
-/// The name of the file, if any; `None` where the words are no command. Behind `--` a word is a name, whatever it is.
+/// The name of the file, if any; `None` where the words are no command. After `--` a word is a name, whatever it is.
 fn name<'a>(command: &str, words: &'a [String]) -> Option<Option<&'a String>> {
     if words.first()? != command {
         return None;

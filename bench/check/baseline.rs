@@ -124,7 +124,7 @@ fn read_infeasible(lines: &mut Lines) -> Result<Infeasible, Refusal> {
     Ok(Infeasible { persons: read_rising(lines, b"person ", persons)?, objects: read_rising(lines, b"object ", objects)? })
 }
 
-/// So many numbers, a line each. Each one is above the one before it, and leaves room for those behind it.
+/// So many numbers, a line each. Each one is above the one before it, and leaves room for those after it.
 fn read_rising(lines: &mut Lines, front: &[u8], count: i64) -> Result<Vec<u32>, Refusal> {
     let mut numbers = Vec::with_capacity(count as usize);
     let mut least = 1;
@@ -226,7 +226,7 @@ fn find_bettered(problem: &Problem, claim: &Optimal) -> Vec<bool> {
 
 // ---- the program ----
 
-/// The names of the two files; `None` where the words are no command. Behind `--` a word is a name, whatever it is.
+/// The names of the two files; `None` where the words are no command. After `--` a word is a name, whatever it is.
 fn names(words: &[String]) -> Option<(&String, Option<&String>)> {
     if words.first()? != "check" {
         return None;

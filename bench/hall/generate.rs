@@ -13,7 +13,7 @@
 //! the last has a planted object there, and knows his neighbour's too, round to the first one's: so no part of the set is a
 //! Hall set. Each person outside has a planted object outside. So the search finds the whole set, and at the last person.
 //!
-//! Of halves, the first half of the persons knows the first half of the objects, in rising order, and behind them each one an
+//! Of halves, the first half of the persons knows the first half of the objects, in rising order, and after them each one an
 //! object of his own. The second half knows the first half of the objects alone. Each of these persons sets one of the first
 //! half to his own object, and the search for it walks over all those of the second half who came before.
 

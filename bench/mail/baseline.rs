@@ -97,7 +97,7 @@ fn value_of(token: &[u8]) -> Option<i64> {
     unusual_value_of(token)
 }
 
-/// The value of a token with a sign, a point or many digits: digits, and a point with zeros behind.
+/// The value of a token with a sign, a point or many digits: digits, and a point with zeros after.
 #[inline(never)]
 fn unusual_value_of(token: &[u8]) -> Option<i64> {
     let (negative, unsigned) = match token {
@@ -225,7 +225,7 @@ impl Mail {
         Reply::Posted(lane.posted)
     }
 
-    /// The box looks at its senders in rotating order, from the one behind the last giver.
+    /// The box looks at its senders in rotating order, from the one after the last giver.
     fn take(&mut self, at: u32) -> Reply {
         let state = &mut self.boxes[at as usize];
         if state.waiting == 0 {
@@ -270,7 +270,7 @@ fn write_reply(out: &mut impl Write, reply: Reply) -> io::Result<()> {
 
 // ---- the program ----
 
-/// The name of the script, if any; `None` where the words are no command. Behind `--` a word is a name, whatever it is.
+/// The name of the script, if any; `None` where the words are no command. After `--` a word is a name, whatever it is.
 fn name(words: &[String]) -> Option<Option<&String>> {
     if words.first()? != "mail" {
         return None;

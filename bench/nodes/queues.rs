@@ -1,7 +1,7 @@
 //! Pushes and pops over many lists, in plain Rust: queues KIND LISTS STEPS, where KIND is deques or slab.
 //!
 //! The steps are those of the program that `run` makes over `auc_nodes`: a list is drawn; where it has fewer than four items one is
-//! put behind it, else its first one is taken. The sum of what was taken is printed.
+//! put after it, else its first one is taken. The sum of what was taken is printed.
 use std::collections::VecDeque;
 
 const DEPTH: usize = 4;

@@ -5,12 +5,12 @@ use Rattle.std.specs.Option.{option_or, option_map}
 use Rattle.std.proofs.Math.Seq.{get_or-append_seam}
 use Rattle.auc_graph.specs.declared.arc.Arc.{Arc}
 use Rattle.auc_graph.specs.declared.limits.TheConstants.{MOST_PERSONS, MOST_OBJECTS, MOST_ARCS, MOST_COST}
-use Rattle.auc_graph.specs.declared.listing_fault.ListFault.{ListFault}
-use Rattle.auc_graph.specs.declared.listing_fault.ListFault.TheVariants.{Persons, Objects, TooManyArcs, Person, Object, Cost}
-use Rattle.auc_graph.specs.Listing.{counts_fault, first_fault, list_fault, listed, objects_or, problem_from, unless}
+use Rattle.auc_graph.specs.declared.list_faults.ListFault.{ListFault}
+use Rattle.auc_graph.specs.declared.list_faults.ListFault.TheVariants.{Persons, Objects, TooManyArcs, Person, Object, Cost}
+use Rattle.auc_graph.specs.InMemory.{counts_fault, first_fault, list_fault, listed, objects_or, problem_from, unless}
 use Rattle.auc_graph.specs.Problem.{IsProblem, Problem}
 use Rattle.auc_graph.specs.Reading.{is_between}
-use Rattle.auc_graph.proofs.ListingLaws.{room, sound}
+use Rattle.auc_graph.proofs.InMemoryLaws.{room, sound}
 use Rattle.auc_call.specs.Naming.{no_arc}
 use Rattle.auc_call.specs.Table.{at_entry, place_in, table_fault}
 use Rattle.auc_call.specs.declared.solved.Failed.{Failed}

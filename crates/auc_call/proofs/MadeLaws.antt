@@ -2,9 +2,9 @@
 use Rattle.std.proofs.Common.{◌≡◌, ℕ, List, Option, Some, None, ap, ◌∙◌}
 use Rattle.std.specs.Prelude.{Result, Ok}
 use Rattle.auc_graph.specs.declared.arc.Arc.{Arc}
-use Rattle.auc_graph.specs.declared.listing_fault.ListFault.{ListFault}
+use Rattle.auc_graph.specs.declared.list_faults.ListFault.{ListFault}
 use Rattle.auc_graph.specs.Problem.{Problem}
-use Rattle.auc_graph.specs.Listing.{problem_from, list_fault, listed, unless}
+use Rattle.auc_graph.specs.InMemory.{problem_from, list_fault, listed, unless}
 
 abbrev pub ok : Problem → Result Problem ListFault
 ok p = Ok p

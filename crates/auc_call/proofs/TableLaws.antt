@@ -7,9 +7,9 @@ use Rattle.std.proofs.lemmas.Bool.Decides.{nat_tests}
 use Rattle.std.proofs.lemmas.List.{take_more, length-take-le, append-nil, take-append-drop}
 use Rattle.auc_graph.specs.declared.arc.Arc.{Arc}
 use Rattle.auc_graph.specs.declared.limits.TheConstants.{MOST_ARCS, MOST_COST}
-use Rattle.auc_graph.specs.declared.listing_fault.ListFault.{ListFault}
-use Rattle.auc_graph.specs.declared.listing_fault.ListFault.TheVariants.{TooManyArcs, Cost}
-use Rattle.auc_graph.specs.Listing.{fault_at, first_fault}
+use Rattle.auc_graph.specs.declared.list_faults.ListFault.{ListFault}
+use Rattle.auc_graph.specs.declared.list_faults.ListFault.TheVariants.{TooManyArcs, Cost}
+use Rattle.auc_graph.specs.InMemory.{fault_at, first_fault}
 use Rattle.auc_graph.specs.Reading.{is_between}
 use Rattle.auc_call.specs.Table.{row_of, entry_arcs, row_arcs, table_arcs, at_entry, entry_of}
 use Rattle.auc_call.specs.Entries.{IsFirstFault, entry_fault}
@@ -45,7 +45,7 @@ pub row_gap : (gap : ℤ) (person : ℕ) (row : List ℤ) (j : ℕ) → j < leng
 row_gap gap person row j lt e =
     row_more gap person row j lt ∙ ap (λ (xs : List Arc). row_arcs gap person 0 (take j row) ++ xs) (gap_arcs gap person j (get_or row j (pos 0)) e) ∙ append-nil (row_arcs gap person 0 (take j row))
 
--- and another entry puts its arc behind them
+-- and another entry puts its arc after them
 pub row_own : (gap : ℤ) (person : ℕ) (row : List ℤ) (j : ℕ) → j < length row → get_or row j (pos 0) ≢ gap → row_arcs gap person 0 (take (j + 1) row) ≡ row_arcs gap person 0 (take j row) ++ arc_for person j (get_or row j (pos 0)) ∷ []
 row_own gap person row j lt e =
     row_more gap person row j lt ∙ ap (λ (xs : List Arc). row_arcs gap person 0 (take j row) ++ xs) (own_arcs gap person j (get_or row j (pos 0)) e)
@@ -53,7 +53,7 @@ row_own gap person row j lt e =
 pub same_arc : (a : Arc) (person object : ℕ) (cost : ℤ) → a.person ≡ person → a.object ≡ object → a.cost ≡ cost → a ≡ arc_for person object cost
 same_arc a person object cost p o c = ap (λ (n : ℕ). arc_for n a.object a.cost) p ∙ ap (λ (n : ℕ). arc_for person n a.cost) o ∙ ap (λ (z : ℤ). arc_for person object z) c
 
--- what stands behind some arcs once one more entry was looked at
+-- what stands after some arcs once one more entry was looked at
 pub gap_step : (gap : ℤ) (person : ℕ) (row : List ℤ) (j : ℕ) (first now : List Arc) → j < length row → get_or row j (pos 0) ≡ gap → now ≡ first ++ row_arcs gap person 0 (take j row) → now ≡ first ++ row_arcs gap person 0 (take (j + 1) row)
 gap_step gap person row j first now lt e is = is ∙ ap (λ (xs : List Arc). first ++ xs) (sym (row_gap gap person row j lt e))
 
@@ -110,7 +110,7 @@ faultless_own n m before place gap person row j p o lt own e is f =
     let none = entry_none n m person j place (get_or row j (pos 0)) p o f in
     ap (first_fault n m before) (row_own gap person row j lt own) ∙ faultless_more n m before place (row_arcs gap person 0 (take j row)) (arc_for person j (get_or row j (pos 0)) ∷ []) e is (ap (λ (x : Option ListFault). option_or x None) none)
 
--- the arcs behind those of the first entries
+-- the arcs after those of the first entries
 rest_of : (gap : ℤ) (person : ℕ) (row : List ℤ) (j : ℕ) → row_arcs gap person 0 row ≡ row_arcs gap person 0 (take (j + 1) row) ++ row_arcs gap person (0 + length (take (j + 1) row)) (drop (j + 1) row)
 rest_of gap person row j = ap (row_arcs gap person 0) (sym (take-append-drop (j + 1) row)) ∙ row_parts gap person 0 (take (j + 1) row) (drop (j + 1) row)
 
@@ -132,7 +132,7 @@ first_of_row n m before place gap person row j fault p o lt own e is f =
       told = some.2;
     }
 
--- a fault of arcs that have others before and behind them
+-- a fault of arcs that have others before and after them
 pub first_of_all : (n m place : ℕ) (front arcs back : List Arc) (fault : ListFault) → first_fault n m 0 front ≡ None → place ≡ length front → IsFirstFault n m place arcs fault → IsFirstFault n m 0 ((front ++ arcs) ++ back) fault
 first_of_all n m place front arcs back fault e is h = let at : place ≡ 0 + length front = omega (arith, is) in record {
   before = front ++ h.before;
@@ -145,7 +145,7 @@ first_of_all n m place front arcs back fault e is h = let at : place ≡ 0 + len
   told = h.told;
 }
 
--- the rows behind the first ones
+-- the rows after the first ones
 rows_from : (objects : ℕ) (costs : List ℤ) (stride : ℕ) (gap : ℤ) (person more : ℕ) → (back : List Arc) × (table_arcs objects costs stride gap (person + more) ≡ table_arcs objects costs stride gap person ++ back)
 rows_from objects costs stride gap person zero = let e : person + zero ≡ person = omega arith in ([], ap (table_arcs objects costs stride gap) e ∙ sym (append-nil (table_arcs objects costs stride gap person)))
 rows_from objects costs stride gap person (suc more) =
@@ -192,7 +192,7 @@ few_by false y entry e = refl
 entry_few : (place entry : ℕ) (cost : ℤ) → entry_fault place entry cost ≡ None → place < MOST_ARCS
 entry_few place entry cost e = from_no MOST_ARCS place (few_by (nat_le MOST_ARCS place) (is_between (neg_ℤ MOST_COST) MOST_COST cost) entry e)
 
--- the place behind the arcs of a row's first entries, none of which is at fault
+-- the place after the arcs of a row's first entries, none of which is at fault
 pub record IsBehind (n m before : ℕ) (gap : ℤ) (person : ℕ) (row : List ℤ) (j place : ℕ) : Type 0 where
   pub place_is : place ≡ before + length (row_arcs gap person 0 (take j row))
   pub few : place ≤ MOST_ARCS

@@ -4,7 +4,7 @@ use Rattle.std.specs.Prelude.{ℤ, pos, slice_get, Result, Ok, Err, Contains}
 use Rattle.auc_graph.specs.declared.arc.Arc.{Arc}
 use Rattle.auc_graph.specs.Problem.{Problem}
 use Rattle.auc_graph.specs.HallSet.{IsHallSet}
-use Rattle.auc_graph.specs.Listing.{problem_fault}
+use Rattle.auc_graph.specs.InMemory.{problem_fault}
 use Rattle.auc_cert.specs.declared.lists.Pick.{Pick}
 use Rattle.auc_cert.specs.declared.cert.CertParts.{CertParts}
 use Rattle.auc_cert.specs.declared.refused.CertRefused.{CertRefused}

@@ -1,9 +1,9 @@
 -- What a status says of a solve.
 use Rattle.std.proofs.Common.{◌≡◌, ◌≢◌, ℕ, List, Option, Some, None, refl, sym, ap, subst, arith}
 use Rattle.std.specs.Prelude.{ℤ, pos, unsigned_abs, Result, Ok, Err, Contains}
-use Rattle.auc_graph.specs.declared.listing_fault.ListFault.{ListFault}
+use Rattle.auc_graph.specs.declared.list_faults.ListFault.{ListFault}
 use Rattle.auc_graph.specs.Problem.{Problem}
-use Rattle.auc_graph.specs.Listing.{problem_fault}
+use Rattle.auc_graph.specs.InMemory.{problem_fault}
 use Rattle.auc_call.specs.declared.driver.Driver.{Driver}
 use Rattle.auc_call.specs.declared.found.Found.{Found}
 use Rattle.auc_call.specs.declared.start.StartFault.{StartFault}

@@ -1,7 +1,7 @@
 -- The problems of some small tables, computed by the definitions.
 use Rattle.std.proofs.Common.{◌≡◌, ◌^◌, List, [], ◌∷◌, refl, Some, None}
 use Rattle.std.specs.Prelude.{pos, neg_ℤ, ℤ}
-use Rattle.auc_graph.specs.declared.listing_fault.ListFault.TheVariants.{Persons, Objects, Cost}
+use Rattle.auc_graph.specs.declared.list_faults.ListFault.TheVariants.{Persons, Objects, Cost}
 use Rattle.auc_graph.specs.Reading.{arc_of}
 use Rattle.auc_call.specs.Naming.{objects_at}
 use Rattle.auc_call.specs.Table.{table_arcs, table_fault, table_problem}

@@ -3,7 +3,7 @@ use Rattle.std.specs.Prelude.{◌≡◌, ℕ, ◌+◌, ◌<◌, ℤ, List, lengt
 use Rattle.auc_graph.specs.declared.arc.Arc.{Arc}
 use Rattle.auc_graph.specs.Problem.{Problem, IsProblem}
 use Rattle.auc_graph.specs.HallSet.{IsHallSet}
-use Rattle.auc_graph.specs.Listing.{problem_fault}
+use Rattle.auc_graph.specs.InMemory.{problem_fault}
 use Rattle.auc_cert.specs.declared.lists.Pick.{Pick}
 use Rattle.auc_cert.specs.declared.cert.CertParts.{CertParts}
 use Rattle.auc_cert.specs.declared.refused.CertRefused.{CertRefused}

@@ -1,7 +1,7 @@
 -- Faults and limits as numbers.
 use Rattle.std.specs.Prelude.{◌≡◌, ℕ, Option, Some, None}
-use Rattle.auc_graph.specs.declared.listing_fault.ListFault.{ListFault}
-use Rattle.auc_graph.specs.declared.listing_fault.ListFault.TheVariants.{Persons, Objects, TooManyArcs, Person, Object, Cost}
+use Rattle.auc_graph.specs.declared.list_faults.ListFault.{ListFault}
+use Rattle.auc_graph.specs.declared.list_faults.ListFault.TheVariants.{Persons, Objects, TooManyArcs, Person, Object, Cost}
 use Rattle.auc_cert.specs.declared.reason.Reason.{Reason}
 use Rattle.auc_cert.specs.declared.reason.Reason.TheVariants.{Bids, Ceiling, Posts, Trail, Mail}
 use Rattle.auc_cert.specs.declared.refused.CertRefused.{CertRefused}

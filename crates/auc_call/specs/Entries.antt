@@ -2,9 +2,9 @@
 use Rattle.std.specs.Prelude.{◌≡◌, ℕ, ◌+◌, length, nat_le, if◌then◌else◌, List, ◌∷◌, ◌++◌, ℤ, neg_ℤ, Option, Some, None}
 use Rattle.auc_graph.specs.declared.arc.Arc.{Arc}
 use Rattle.auc_graph.specs.declared.limits.TheConstants.{MOST_ARCS, MOST_COST}
-use Rattle.auc_graph.specs.declared.listing_fault.ListFault.{ListFault}
-use Rattle.auc_graph.specs.declared.listing_fault.ListFault.TheVariants.{TooManyArcs, Cost}
-use Rattle.auc_graph.specs.Listing.{fault_at, first_fault}
+use Rattle.auc_graph.specs.declared.list_faults.ListFault.{ListFault}
+use Rattle.auc_graph.specs.declared.list_faults.ListFault.TheVariants.{TooManyArcs, Cost}
+use Rattle.auc_graph.specs.InMemory.{fault_at, first_fault}
 use Rattle.auc_graph.specs.Reading.{is_between}
 use Rattle.auc_call.specs.Table.{at_entry}
 

@@ -1,4 +1,4 @@
--- What is true of the caller's memory behind a call, and passes the checker.
+-- What is true of the caller's memory after a call, and passes the checker.
 use Rattle.std.specs.Prelude.{◌≡◌, ℕ, ◌≤◌, ℤ, List, length, take, None}
 use Rattle.auc_graph.specs.Problem.{Problem, IsProblem}
 use Rattle.auc_graph.specs.Assignment.{IsLeast, total_cost}

@@ -1,7 +1,7 @@
 -- What a solve comes to.
 use Rattle.std.specs.Prelude.{◌≡◌, ℤ, List, Some, None, Result, Ok, Err, ⊤}
 use Rattle.auc_graph.specs.Problem.{Problem, IsProblem}
-use Rattle.auc_graph.specs.Listing.{problem_fault}
+use Rattle.auc_graph.specs.InMemory.{problem_fault}
 use Rattle.auc_call.specs.declared.driver.Driver.{Driver}
 use Rattle.auc_call.specs.declared.solved.Solved.{Solved}
 use Rattle.auc_call.specs.declared.solved.Solved.TheVariants.{Optimal, Infeasible, Bracket}

@@ -3,11 +3,11 @@ use Rattle.std.specs.Prelude.{◌≡◌, ◌≢◌, ℕ, zero, suc, ◌+◌, ◌
 use Rattle.std.specs.Option.{option_map}
 use Rattle.std.specs.Ordering.{int_eq}
 use Rattle.auc_graph.specs.declared.arc.Arc.{Arc}
-use Rattle.auc_graph.specs.declared.listing_fault.ListFault.{ListFault}
-use Rattle.auc_graph.specs.declared.listing_fault.ListFault.TheVariants.{Persons, Objects, TooManyArcs, Person, Object, Cost}
+use Rattle.auc_graph.specs.declared.list_faults.ListFault.{ListFault}
+use Rattle.auc_graph.specs.declared.list_faults.ListFault.TheVariants.{Persons, Objects, TooManyArcs, Person, Object, Cost}
 use Rattle.auc_graph.specs.Problem.{Problem}
 use Rattle.auc_call.specs.Naming.{no_arc}
-use Rattle.auc_graph.specs.Listing.{objects_or, problem_from, problem_fault}
+use Rattle.auc_graph.specs.InMemory.{objects_or, problem_from, problem_fault}
 
 -- Each row has so many objects and lies within so many entries, and no two of them meet.
 pub record IsTable (persons objects stride entries : ℕ) : Type 0 where

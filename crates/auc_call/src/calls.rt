@@ -3,7 +3,7 @@
 ghost use Rattle.std.specs.Prelude.{◌≡◌, ◌≢◌, ◌↔◌, Contains, None, pos};
 ghost use Rattle.auc_graph.specs.Problem.{IsProblem};
 ghost use Rattle.auc_graph.specs.HallSet.{IsHallSet};
-ghost use Rattle.auc_graph.specs.Listing.{problem_from, list_fault};
+ghost use Rattle.auc_graph.specs.InMemory.{problem_from, list_fault};
 ghost use Rattle.auc_call.specs.Memory.{AreSizes, memory};
 ghost use Rattle.auc_call.specs.Shown.{IsLeastAt, IsHallAt};
 ghost use Rattle.auc_call.specs.Start.{start_fault, start_fault_by, start_fault_by_messages};
@@ -71,8 +71,8 @@ fn solve_by(
 /// object, from 0 to 2^60 on the scale of costs times persons + 1, as an earlier call has left them in `prices`; none at all is a start from
 /// nothing. `bids` is the most bids of a phase.
 ///
-/// `choice` and `hall_objects` have a place for each person, and `prices` one for each object. Behind [`OPTIMAL`](crate::OPTIMAL) and
-/// [`BRACKET`](crate::BRACKET) `choice` holds for each person the place in `arcs` of his arc, and `prices` the prices that show it; behind
+/// `choice` and `hall_objects` have a place for each person, and `prices` one for each object. After [`OPTIMAL`](crate::OPTIMAL) and
+/// [`BRACKET`](crate::BRACKET) `choice` holds for each person the place in `arcs` of his arc, and `prices` the prices that show it; after
 /// [`INFEASIBLE`](crate::INFEASIBLE) `choice` begins with `found.persons` persons, and `hall_objects` with the `found.objects` objects that
 /// they know, both rising. All else stays as it was.
 ///

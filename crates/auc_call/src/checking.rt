@@ -1,7 +1,7 @@
 //! A check over the caller's memory.
 
 ghost use Rattle.std.specs.Prelude.{◌≡◌, Ok};
-ghost use Rattle.auc_graph.specs.Listing.{problem_from};
+ghost use Rattle.auc_graph.specs.InMemory.{problem_from};
 ghost use Rattle.auc_cert.specs.Claim.{IsAllowed, fault_of};
 ghost use Rattle.auc_call.specs.Checking.{Checks, ChecksHall, Told};
 ghost use Rattle.auc_call.specs.declared.checked.Checked.{Checked};

@@ -1,7 +1,7 @@
 //! A solve over the caller's memory.
 
 ghost use Rattle.std.specs.Prelude.{◌≡◌, IfOk};
-ghost use Rattle.auc_graph.specs.Listing.{problem_from};
+ghost use Rattle.auc_graph.specs.InMemory.{problem_from};
 ghost use Rattle.auc_answers.specs.Answers.{IsAnswer};
 ghost use Rattle.auc_call.specs.Memory.{AreSizes, memory};
 ghost use Rattle.auc_call.specs.Drivers.{IsSolvedBy};

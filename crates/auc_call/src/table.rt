@@ -3,7 +3,7 @@
 ghost use Rattle.std.specs.Prelude.{◌≡◌, ◌↔◌, ◌≤◌, ◌<◌, ◌+◌, ◌*◌, ◌++◌, ℕ, ℤ, List, None, Contains, length, IfOk, IfErr, true};
 ghost use Rattle.auc_graph.specs.declared.limits.TheConstants.{MOST_ARCS, MOST_PERSONS, MOST_OBJECTS};
 ghost use Rattle.auc_graph.specs.declared.arc.Arc.{Arc};
-ghost use Rattle.auc_graph.specs.Listing.{first_fault};
+ghost use Rattle.auc_graph.specs.InMemory.{first_fault};
 ghost use Rattle.auc_call.specs.Table.{IsEntry, IsTable, row_of, row_arcs, table_arcs};
 ghost use Rattle.auc_call.specs.Entries.{IsFirstFault, entry_fault};
 
@@ -50,7 +50,7 @@ fn entry_fault(place: usize, entry: u32, cost: i64) -> Option<ListFault>
     Some(ListFault::Cost { arc: entry })
 }
 
-/// The place behind a row's arcs, the first of which has the place `before`; or the first fault of one of them.
+/// The place after a row's arcs, the first of which has the place `before`; or the first fault of one of them.
 fn place_behind(
     persons: u32,
     row: &[i64],
@@ -119,7 +119,7 @@ fn arc_of(cost: i64, person: u32, object: u32) -> Arc
     }
 }
 
-/// Puts the arcs of a row behind the others.
+/// Puts the arcs of a row after the others.
 fn push_row(arcs: &mut Vec<Arc>, row: &[i64], gap: i64, person: u32) -> Result<(), AllocError>
     requires { length row.now ≤ MOST_OBJECTS }
     ensures { IfOk result (λ u. arcs.new.items ≡ arcs.old.items ++ row_arcs gap person 0 row.now) }

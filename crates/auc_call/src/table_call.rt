@@ -19,9 +19,9 @@ use std::alloc::Global;
 
 /// Solves as [`solve_call`](crate::solve_call) does, but the problem of a table, which has a row for each person and in it an entry for
 /// each object: the cost of person `i` and object `j` stands at `costs[i * stride + j]`, and an entry that equals `none` is a gap, which is
-/// no arc. The arcs are those of the other entries, row by row. What stands between rows and behind the last one is not looked at.
+/// no arc. The arcs are those of the other entries, row by row. What stands between rows and after the last one is not looked at.
 ///
-/// Behind [`OPTIMAL`](crate::OPTIMAL) and [`BRACKET`](crate::BRACKET) `choice` holds for each person his object in place of his arc. Behind
+/// After [`OPTIMAL`](crate::OPTIMAL) and [`BRACKET`](crate::BRACKET) `choice` holds for each person his object in place of his arc. After
 /// [`REFUSED`](crate::REFUSED) a cost's `found.place` is that of the entry in a table whose stride is the number of objects. A stride below
 /// that number, and a row that doesn't lie within `costs`, are [`SIZES`](crate::SIZES).
 ///

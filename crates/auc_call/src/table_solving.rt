@@ -1,7 +1,7 @@
 //! A solve of a table over the caller's memory.
 
 ghost use Rattle.std.specs.Prelude.{◌≡◌, None, length, IfOk, IfErr};
-ghost use Rattle.auc_graph.specs.Listing.{objects_or, problem_fault};
+ghost use Rattle.auc_graph.specs.InMemory.{objects_or, problem_fault};
 ghost use Rattle.auc_graph.specs.Problem.{IsProblem};
 ghost use Rattle.auc_call.specs.Memory.{AreSizes, memory};
 ghost use Rattle.auc_call.specs.Table.{IsTable, table_problem};

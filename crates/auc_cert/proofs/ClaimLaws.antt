@@ -234,7 +234,7 @@ no_left_over choice prices none =
 
 -- ---- a whole claim
 
--- the faults of both parts, one behind the other
+-- the faults of both parts, one after the other
 pub behind_none : (xs ys : List (Option CertRefused)) → first_of xs ≡ None → first_of (xs ++ ys) ≡ first_of ys
 behind_none [] ys h = refl
 behind_none (None ∷ xs) ys h = behind_none xs ys h

@@ -34,7 +34,7 @@ objects_are_lines objects p = numbers_lines (codes "object ") refl objects (few_
 pub names_are_lines : (persons objects : List ℕ) → AreNamed persons objects → AreLines (name_lines persons objects)
 names_are_lines persons objects is = lines_append (numbered person_line 0 persons) (numbered object_line 0 objects) (persons_are_lines persons (wide 10000 persons (omega arith) is.persons_rise)) (objects_are_lines objects is.objects_rise)
 
--- ---- the last numbers below an end: as many as are missing behind some, and above those
+-- ---- the last numbers below an end: as many as are missing after some, and above those
 
 abbrev completed : List ℕ → ℕ → ℕ → List ℕ
 completed numbers end m = numbers ++ counted (end - m) m

@@ -22,7 +22,7 @@ rises_room least end (x ∷ xs) le p =
     let room : x + 1 + length xs ≤ end = rises_room (x + 1) end xs (omega arith) p.2 in
     omega arith
 
--- what a rising list has behind its front: a number that leaves room for the others
+-- what a rising list has after its front: a number that leaves room for the others
 pub next_rises : (least end : ℕ) (xs : List ℕ) (k : ℕ) (ys : List ℕ) → Rises least end (xs ++ k ∷ ys) → (least_behind least xs ≤ k) × (k + suc (length ys) ≤ end)
 next_rises least end xs k ys p =
     let q = rises_behind least end xs (k ∷ ys) p in

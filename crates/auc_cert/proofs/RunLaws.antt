@@ -88,7 +88,7 @@ same_run lines X line ok k (x ∷ xs) (y ∷ ys) t u apart p q le len e =
     let h : x ≡ y = apart k x y (omega arith) (All-head ok x xs p) (All-head ok y ys q) here in
     (ap (λ (l : List X). x ∷ l) r.0 ∙ ap (λ (a : X). a ∷ ys) h, r.1)
 
--- Behind runs of one length the same follows, even where nothing is known of their values.
+-- After runs of one length the same follows, even where nothing is known of their values.
 pub same_rest : (X : Type 0) (line : ℕ → X → List ℕ) (k : ℕ) (xs ys : List X) (t u : List (List ℕ)) → length xs ≡ length ys → numbered line k xs ++ t ≡ numbered line k ys ++ u → t ≡ u
 same_rest X line k [] [] t u len e = e
 same_rest X line k [] (y ∷ ys) t u len e = absurd (omega arith)
@@ -118,7 +118,7 @@ numbered_append line k [] ys = ap (λ (m : ℕ). numbered line m ys) (omega arit
 numbered_append line k (x ∷ xs) ys =
     ap (λ (r : List (List ℕ)). line k x ∷ r) (numbered_append line (k + 1) xs ys ∙ ap (λ (m : ℕ). numbered line (k + 1) xs ++ numbered line m ys) (omega arith))
 
--- a longer run goes on behind a shorter one
+-- a longer run goes on after a shorter one
 pub record GoesBeyond (X : Type 0) (line : ℕ → X → List ℕ) (xs ys : List X) (k : ℕ) (more : List (List ℕ)) : Type 0 where
   pub value : X
   pub behind : List X

@@ -107,7 +107,7 @@ and_then x y p q = All-append (λ b. b ≢ 10) x y p q
 pub digits : (z : ℤ) → FitsSigned w64 z → All (λ b. b ≢ 10) (signed_decimal z)
 digits z f = number_goes_on 10 z (inl refl) f
 
--- a number more, behind a space
+-- a number more, after a space
 pub and_number : (word : List ℕ) (z : ℤ) → All (λ b. b ≢ 10) word → FitsSigned w64 z → All (λ b. b ≢ 10) (word ++ codes " " ++ signed_decimal z)
 and_number word z h fits = and_then (word ++ codes " ") (signed_decimal z) (and_then word (codes " ") h (all_lack 10 (codes " ") refl)) (digits z fits)
 

@@ -60,7 +60,7 @@ IsSecondLine version (Optimal persons objects cost) = AreSizes version persons o
 IsSecondLine version (Infeasible persons objects) = AreCounts version persons objects
 IsSecondLine version (Bracket reason persons objects lower cost) = AreSizes version persons objects × FitsSigned w64 lower × FitsSigned w64 cost
 
--- what can stand behind it
+-- what can stand after it
 abbrev pub LinesBehind : Version → SecondLine → List (List ℕ) → Type 0
 LinesBehind version (Optimal persons objects cost) = ChoiceLines persons objects
 LinesBehind version (Infeasible persons objects) = NameLines version persons objects

@@ -5,11 +5,11 @@ use Rattle.std.specs.Io.KnownBytes.{Appends}
 use Rattle.auc_cert.specs.declared.output.Part.{Part}
 use Rattle.auc_cert.specs.declared.output.Part.TheVariants.{Words, Space, LineEnd, Count, Place, Number}
 
--- behind what the writer had stands a beginning of this text, and not all of it
+-- after what the writer had stands a beginning of this text, and not all of it
 abbrev pub Begins : Option (List ℕ) → Option (List ℕ) → List ℕ → Type 0
 Begins old new text = (done : List ℕ) × (rest : List ℕ) × (0 < length rest) × (done ++ rest ≡ text) × Appends old new done
 
--- At Ok just this text stands behind what the writer had, and at Err a beginning of it.
+-- At Ok just this text stands after what the writer had, and at Err a beginning of it.
 abbrev pub Writes : {X E : Type 0} → Result X E → Option (List ℕ) → Option (List ℕ) → List ℕ → Type 0
 Writes (Ok x) old new text = Appends old new text
 Writes (Err e) old new text = Begins old new text
@@ -23,6 +23,6 @@ spelled (Count n) = decimal n
 spelled (Place n) = decimal (n + 1)
 spelled (Number z) = signed_decimal z
 
--- the parts, one behind another
+-- the parts, one after another
 abbrev pub line_of : List Part → List ℕ
 line_of parts = fold (λ t part. t ++ spelled part) [] parts

@@ -8,7 +8,7 @@ use crate::limits::{HIGHEST_PRICE, MOST_COST};
 use crate::lists::Pick;
 use crate::version::Version;
 
-/// The pick on the line of a person at the front, of one of `most` objects, and what stands behind the line.
+/// The pick on the line of a person at the front, of one of `most` objects, and what stands after the line.
 #[tactic(auto, unfolding(crate::specs::Fields::pick_line_at))]
 pub(crate) fn pick_of(bytes: &[u8], most: u32, person: u32) -> Option<(Pick, &[u8])>
     requires most { most ≤ 20000 }
@@ -26,7 +26,7 @@ pub(crate) fn pick_of(bytes: &[u8], most: u32, person: u32) -> Option<(Pick, &[u
     Some((pick, rest))
 }
 
-/// The price on the line of an object at the front, and what stands behind the line.
+/// The price on the line of an object at the front, and what stands after the line.
 #[tactic(auto, unfolding(crate::specs::Fields::price_line_at))]
 pub(crate) fn price_of(bytes: &[u8], object: u32) -> Option<(i64, &[u8])>
     requires { object < 20000 }
@@ -37,7 +37,7 @@ pub(crate) fn price_of(bytes: &[u8], object: u32) -> Option<(i64, &[u8])>
     field_of(rest, b"", 0, HIGHEST_PRICE, b'\n')
 }
 
-/// The number, from `least` to below `end`, on the line at the front, and what stands behind the line.
+/// The number, from `least` to below `end`, on the line at the front, and what stands after the line.
 #[tactic(auto, unfolding(crate::specs::Fields::number_at))]
 pub(crate) fn number_of<'a>(
     bytes: &'a [u8],
@@ -53,7 +53,7 @@ pub(crate) fn number_of<'a>(
     Some((index_of(number), rest))
 }
 
-/// What stands behind this first line.
+/// What stands after this first line.
 #[tactic(auto, unfolding(crate::specs::Fields::after))]
 fn after_head<'a>(bytes: &'a [u8], head: &[u8]) -> Option<&'a [u8]>
     ensures { viewed (λ x. x.now) result ≡ after head.now bytes.now }
@@ -61,7 +61,7 @@ fn after_head<'a>(bytes: &'a [u8], head: &[u8]) -> Option<&'a [u8]>
     bytes.strip_prefix(head)
 }
 
-/// The version that the first line tells, and what stands behind the line.
+/// The version that the first line tells, and what stands after the line.
 #[tactic(auto, unfolding(crate::specs::Fields::head_at))]
 pub(crate) fn head_of(bytes: &[u8]) -> Option<(Version, &[u8])>
     ensures { viewed (λ x. (x.0, x.1.now)) result ≡ head_at bytes.now }

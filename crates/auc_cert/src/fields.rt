@@ -1,4 +1,4 @@
-//! The fields of a line, read: a number behind a word, up to the byte that ends it.
+//! The fields of a line, read: a number after a word, up to the byte that ends it.
 
 ghost use Rattle.std.specs.Prelude.{◌≡◌, ◌-◌, ℤ, ◌≤ℤ◌, pos, unsigned_abs, IfSome, IfNone, FitsSigned};
 ghost use Rattle.std.specs.Int.{w64};
@@ -42,7 +42,7 @@ fn spelled_in(word: &[u8], least: i64, most: i64) -> Option<i64>
     }
 }
 
-/// What stands before the first such byte, and what stands behind it.
+/// What stands before the first such byte, and what stands after it.
 pub(crate) fn word_before(bytes: &[u8], stop: u8) -> Option<(&[u8], &[u8])>
     ensures { viewed (λ x. (x.0.now, x.1.now)) result ≡ word_at stop bytes.now }
 {
@@ -54,7 +54,7 @@ pub(crate) fn word_before(bytes: &[u8], stop: u8) -> Option<(&[u8], &[u8])>
     None
 }
 
-/// The number from least to most behind the front, which the byte ends, and what stands behind it.
+/// The number from least to most after the front, which the byte ends, and what stands after it.
 #[tactic(auto, unfolding(crate::specs::Fields::field_at, crate::specs::Fields::after))]
 pub(crate) fn field_of<'a>(
     bytes: &'a [u8],

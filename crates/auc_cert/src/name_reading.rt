@@ -15,7 +15,7 @@ use crate::version::Version;
 use auc_graph::Indices;
 use std::alloc::Global;
 
-/// The least number that may stand behind `done` of `count` numbers, where it is `least`, and of the last one `last` too.
+/// The least number that may stand after `done` of `count` numbers, where it is `least`, and of the last one `last` too.
 fn least_here(least: u32, last: u32, done: u32, count: u32) -> u32
     requires { done < count }
     ensures least { least ≤ result }
@@ -30,7 +30,7 @@ fn least_here(least: u32, last: u32, done: u32, count: u32) -> u32
 }
 
 /// So many rising numbers below `most`, the last one `last` or above, each on a line with this front, the first on line `first`,
-/// and what stands behind them. A number has to leave room for those behind it.
+/// and what stands after them. A number has to leave room for those after it.
 fn rising_of<'a>(
     alloc: Global,
     front: &[u8],
@@ -83,7 +83,7 @@ fn least_last(version: Version) -> u32
     }
 }
 
-/// So many persons and so many objects, behind the first two lines of a certificate of this version that ends with them.
+/// So many persons and so many objects, after the first two lines of a certificate of this version that ends with them.
 pub(crate) fn names_of(
     alloc: Global,
     version: Version,

@@ -80,7 +80,7 @@ fn write_part<W: Write>(writer: &mut W, part: Part) -> Result<(), WriteFault>
     }
 }
 
-/// Writes a line by its parts, one behind another. Takes no memory.
+/// Writes a line by its parts, one after another. Takes no memory.
 ///
 /// # Errors
 ///

@@ -29,7 +29,7 @@ pub(crate) enum SecondLine {
     },
 }
 
-/// How many objects there are behind so many persons, and what stands behind that: version 1 has as many, and doesn't write it.
+/// How many objects there are after so many persons, and what stands after that: version 1 has as many, and doesn't write it.
 #[tactic(auto, unfolding(crate::specs::Fields::objects_at))]
 fn objects_of(bytes: &[u8], version: Version, persons: u32) -> Option<(u32, &[u8])>
     ensures { viewed (λ x. (x.0, x.1.now)) result ≡ objects_at version persons bytes.now }
@@ -44,7 +44,7 @@ fn objects_of(bytes: &[u8], version: Version, persons: u32) -> Option<(u32, &[u8
     }
 }
 
-/// The second line of an optimal certificate at the front, and what stands behind it.
+/// The second line of an optimal certificate at the front, and what stands after it.
 #[tactic(auto, unfolding(crate::specs::Fields::optimal_at))]
 fn optimal_of(bytes: &[u8], version: Version) -> Option<(SecondLine, &[u8])>
     ensures { viewed (λ x. (x.0, x.1.now)) result ≡ optimal_at version bytes.now }
@@ -71,7 +71,7 @@ fn least_named(version: Version) -> i64
     }
 }
 
-/// The second line of an infeasible certificate at the front, and what stands behind it.
+/// The second line of an infeasible certificate at the front, and what stands after it.
 #[tactic(auto, unfolding(crate::specs::Fields::infeasible_at))]
 fn infeasible_of(bytes: &[u8], version: Version) -> Option<(SecondLine, &[u8])>
     ensures { viewed (λ x. (x.0, x.1.now)) result ≡ infeasible_at version bytes.now }
@@ -86,7 +86,7 @@ fn infeasible_of(bytes: &[u8], version: Version) -> Option<(SecondLine, &[u8])>
     Some((line, rest))
 }
 
-/// The second line of a bracket at the front, and what stands behind it.
+/// The second line of a bracket at the front, and what stands after it.
 #[tactic(auto, unfolding(crate::specs::Fields::bracket_at, crate::specs::Fields::after))]
 fn bracket_of(bytes: &[u8], version: Version) -> Option<(SecondLine, &[u8])>
     ensures { viewed (λ x. (x.0, x.1.now)) result ≡ bracket_at version bytes.now }
@@ -109,7 +109,7 @@ fn bracket_of(bytes: &[u8], version: Version) -> Option<(SecondLine, &[u8])>
     Some((line, rest))
 }
 
-/// The second line of a text of this version at the front, of whichever kind, and what stands behind it.
+/// The second line of a text of this version at the front, of whichever kind, and what stands after it.
 #[tactic(auto, unfolding(crate::specs::Fields::second_line_at))]
 pub(crate) fn second_line_of(bytes: &[u8], version: Version) -> Option<(SecondLine, &[u8])>
     ensures { viewed (λ x. (x.0, x.1.now)) result ≡ second_line_at version bytes.now }

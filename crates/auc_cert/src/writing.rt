@@ -218,7 +218,7 @@ fn write_bracket<W: Write>(
     write_choice(writer, choice, prices)
 }
 
-/// Writes the line of a number, which the text counts from 1 on, behind this front.
+/// Writes the line of a number, which the text counts from 1 on, after this front.
 fn write_number<W: Write>(writer: &mut W, front: &[u8], number: u32) -> Result<(), WriteFault>
     requires { length front.now ≤ 8 }
     ensures { Writes result (W.contents writer.old) (W.contents writer.new) (number_line front.now 0 number) }
@@ -229,7 +229,7 @@ fn write_number<W: Write>(writer: &mut W, front: &[u8], number: u32) -> Result<(
     write_whole(writer, line.as_slice())
 }
 
-/// Writes the lines of numbers, each behind this front.
+/// Writes the lines of numbers, each after this front.
 fn write_numbers<W: Write>(writer: &mut W, front: &[u8], numbers: &[u32]) -> Result<(), WriteFault>
     requires { length front.now ≤ 8 }
     ensures { Writes result (W.contents writer.old) (W.contents writer.new) (joined (numbered (number_line front.now) 0 numbers.now)) }

@@ -99,7 +99,7 @@ none_is_limited p bids begun (Answer.Broken guard) h = tt
 pub none_is_limited_from : (p : Problem) (bids : ℕ) (start : List ℤ) (answer : Answer) → IsInfeasibleAnswer p answer → IsLimitedFrom p bids start answer
 none_is_limited_from p bids start answer h = record { begun = start; opened = record { each = refl; same = λ e. refl; kept = λ j. inl refl }; limited = none_is_limited p bids (total start) answer h }
 
--- an answer that there is no assignment is right, and behind a limit one of the bracket is
+-- an answer that there is no assignment is right, and after a limit one of the bracket is
 pub either_is_answer : (p : Problem) (r : Shorts) (rows : AreRowsOf p r) (prices : List ℤ) (holders : List ℕ) (owns : List ShortArc) (held : List (Option Held)) → IsProblem p → AreShorts r → AreHeld p holders owns held → (eps : ℤ) (reason : Reason) → Stands r eps prices holders owns
     → (answer : Answer) → IsInfeasibleAnswer p answer ⊎ (HasAssignment p × IsBracketAnswer p reason held prices answer) → IsAnswer p answer
 either_is_answer p r rows prices holders owns held is sound are eps reason stands (Answer.Optimal cert) (inl h) = absurd h

@@ -4,7 +4,7 @@ mod BidLaws
 mod MarketLaws
 mod Bounds
 mod ShortRows
-mod LinedLaws
+mod InOrderLaws
 mod PlacedLaws
 mod SpreadLaws
 mod FrameLaws

@@ -150,7 +150,7 @@ module _ (r : Shorts) (eps : ℤ) (prices : List ℤ) (holders : List ℕ) (owns
   pub others_have : (k : ℕ) → k ≢ i → k ≢ d → (own_at owns k).object ≢ NOBODY → (own_at left k).object ≢ NOBODY
   others_have k ni nd some e = some (sym (ap (λ (x : ShortArc). x.object) (own_off k ni nd)) ∙ e)
 
-  -- who has an object behind it, and isn't the bidder, had it before, and it isn't that of the bid
+  -- who has an object after it, and isn't the bidder, had it before, and it isn't that of the bid
   pub had_before : (k : ℕ) → k ≢ i → (own_at left k).object ≢ NOBODY → ((own_at left k) ≡ (own_at owns k)) × ((own_at owns k).object ≢ NOBODY) × ((own_at owns k).object ≢ j)
   had_before k ni some =
       let nd : k ≢ d = λ e. some (ap (λ (m : ℕ). (own_at left m).object) e ∙ gone) in

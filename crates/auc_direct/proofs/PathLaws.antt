@@ -1,4 +1,4 @@
--- What stands behind a path.
+-- What stands after a path.
 use Rattle.std.proofs.Common.{ℕ, ℤ, pos, ◌-◌, ◌<◌, ◌≤◌, ◌^◌, ◌≡◌, ◌≢◌, arith, List, length, Option, Some, None, inl, inr, sym, subst, get_or, ◌∙◌}
 use Rattle.std.specs.Prelude.{◌+ℤ◌, ◌≤ℤ◌, slice_index_or}
 use Rattle.std.proofs.lemmas.Bool.{cases_eq, cases_lt}

@@ -1,4 +1,4 @@
--- Slackness behind a path.
+-- Slackness after a path.
 use Rattle.std.proofs.Common.{ℕ, ℤ, pos, ◌-◌, ◌≤◌, ◌^◌, ◌≡◌, ◌≢◌, refl, arith, List, length, get_or, Option, Some, None, inl, inr, ap, sym, subst, ◌∙◌}
 use Rattle.std.specs.Prelude.{All, ◌⊎◌, ◌+ℤ◌, ◌≤ℤ◌}
 use Rattle.std.proofs.lemmas.Bool.{cases_eq, cases_lt}
@@ -39,7 +39,7 @@ module _ (t : Shorts) (eps : ℤ) (prices new : List ℤ) (holders : List ℕ) (
   pub unsettled_same : (k : ℕ) → place_of labels k ≡ 0 → price_at new k ≡ price_at prices k
   unsettled_same k un = let e = raised.each k in let l = ended.least k un in omega (arith, ints, e, l)
 
-  -- what an arc of a reached person costs him at least, behind the path
+  -- what an arc of a reached person costs him at least, after the path
   abbrev IsFloor : ℤ → ℕ → ShortArc → Type 0
   IsFloor own n b = ((pays t prices b +ℤ pos n) ≤ℤ (pays t new b +ℤ pos top)) ⊎ ((own +ℤ pos n) ≤ℤ (pays t new b +ℤ pos top))
 
@@ -114,7 +114,7 @@ module _ (t : Shorts) (eps : ℤ) (prices new : List ℤ) (holders : List ℕ) (
         | inr un ↦ slack_rises t eps prices new i s rise (unsettled_same s.object (omega (arith, un))) slack
       ]
 
-  -- The law: behind a path each person's arc is within eps of the best of his row.
+  -- The law: after a path each person's arc is within eps of the best of his row.
   pub slack_after_path : AreShorts t → All IsPrice prices → length prices ≡ t.objects → (sold : List ℕ) (left : List ShortArc) → Agree t holders owns → ((i : ℕ) → (own_at owns i).object ≢ NOBODY → i ≢ NOBODY) → ((i : ℕ) → (own_at owns i).object ≢ NOBODY → IsSlack t eps prices i (own_at owns i)) → AreTaken t labels top start holders sold owns left
       → (i : ℕ) → (own_at left i).object ≢ NOBODY → IsSlack t eps new i (own_at left i)
   slack_after_path sound within many sold left agree person slack taken i some = by (taken.moved i some)

@@ -193,7 +193,7 @@ module _ (r : Shorts) (prices : List ℤ) (holders : List ℕ) (owns : List Shor
   pub kept_left : AreKept prices lower
   kept_left k = elim (cases_eq k j) [ inl e ↦ inr (ap (price_at lower) e ∙ lower_here) | inr ne ↦ inl (lower_off k ne) ]
 
-  -- who has an object behind it had it before, and isn't the one who left
+  -- who has an object after it had it before, and isn't the one who left
   had : (k : ℕ) → (own_at rest k).object ≢ NOBODY → (k ≢ i) × (own_at rest k ≡ own_at owns k) × ((own_at owns k).object ≢ NOBODY)
   had k has =
       let ne : k ≢ i = λ e. has (ap (λ (m : ℕ). (own_at rest m).object) e ∙ ap (λ (s : ShortArc). s.object) rest_here) in

@@ -151,7 +151,7 @@ pub record AreLeft (labels : List Label) (line : List ℕ) (at : ℕ) (heap : Li
   pub covered : (k : ℕ) → 1 ≤ near_of labels k → ((m : ℕ) × (at ≤ m) × (slice_get line m ≡ Some k)) ⊎ ((m : ℕ) × (e : ℕ × ℕ) × (to ≤ m) × (slice_get heap m ≡ Some e) × (e.1 ≡ k))
   pub settled : (k : ℕ) → 1 ≤ place_of labels k → 1 ≤ near_of labels k
 
--- ---- the prices behind it
+-- ---- the prices after it
 
 -- each settled object stands in the line at its place
 pub record IsLine (labels : List Label) (line : List ℕ) : Type 0 where
@@ -164,7 +164,7 @@ pub record AreRaised (old new : List ℤ) (labels : List Label) (end : ℕ) : Ty
   pub many : length new ≡ length old
   pub each : (k : ℕ) → price_at new k ≡ (price_at old k +ℤ pos (near_of labels k - end))
 
--- ---- the holders behind it
+-- ---- the holders after it
 
 -- the labels lead from the end back to the free person, each time to an earlier place
 pub record IsChain (labels : List Label) (holders : List (Option Held)) (start end : ℕ) : Type 0 where
@@ -198,7 +198,7 @@ pub record IsLabelArc (t : Shorts) (labels : List Label) (k : ℕ) (s : ShortArc
 abbrev pub IsMoved : Shorts → List Label → ℕ → List ShortArc → List ShortArc → ℕ → Type 0
 IsMoved t labels end owns left i = (own_at left i ≡ own_at owns i) ⊎ ((k : ℕ) × (end ≤ near_of labels k) × ((label_of labels k).held.person ≡ i) × IsLabelArc t labels k (own_at left i))
 
--- The holders and the arcs behind a path: the free person has an object, who had one has one, and each object's holder has it.
+-- The holders and the arcs after a path: the free person has an object, who had one has one, and each object's holder has it.
 pub record AreTaken (t : Shorts) (labels : List Label) (end start : ℕ) (holders sold : List ℕ) (owns left : List ShortArc) : Type 0 where
   pub holders_are : length sold ≡ length holders
   pub owns_are : length left ≡ length owns

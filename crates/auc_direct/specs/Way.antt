@@ -1,4 +1,4 @@
--- Paths, as the phase above sees them: who is free behind one.
+-- Paths, as the phase above sees them: who is free after one.
 use Rattle.std.specs.Prelude.{ℕ, ℤ, ◌≡◌, ◌≢◌, ◌<◌, List, length, All}
 use Rattle.auc_graph.specs.Dual.{price_at}
 use Rattle.auc_letters.specs.Price.{IsPrice}

@@ -37,7 +37,7 @@ pub(crate) fn first_eps(rows: &ShortRows) -> i64
     if eps < LAST_EPS { LAST_EPS } else { eps }
 }
 
-/// An eighth of the last eps, and at least 1; none behind 1.
+/// An eighth of the last eps, and at least 1; none after 1.
 pub(crate) fn next_eps(eps: i64) -> Option<i64>
     requires { IsEps eps }
     ensures range { IfSome result IsEps }

@@ -17,7 +17,7 @@ use crate::walk::{fits, hand_over, raise};
 use std::alloc::AllocError;
 
 impl Market {
-    /// A free person goes by a cheapest path: he has an object behind it, and so has each whom it moves. Nothing changes where no object
+    /// A free person goes by a cheapest path: he has an object after it, and so has each whom it moves. Nothing changes where no object
     /// that nobody holds is in reach, or a price would pass the greatest.
     pub(crate) fn path(
         &mut self,

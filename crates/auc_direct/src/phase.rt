@@ -51,7 +51,7 @@ impl Market {
         Some(self.award(person, bid))
     }
 
-    /// A person bids, then whom he displaces, and so on, until nobody is displaced. `left` is how many bids the phase may still make. Behind each `patience` bids the one
+    /// A person bids, then whom he displaces, and so on, until nobody is displaced. `left` is how many bids the phase may still make. After each `patience` bids the one
     /// who is displaced looks for a path, which is no bid.
     fn chain(
         &mut self,

@@ -19,7 +19,7 @@ use crate::workspace::Workspace;
 use auc_cert::Reason;
 use std::alloc::{AllocError, Global};
 
-/// Behind how many bids of a chain a path is looked for in a run of one phase, at the last eps, where a bid raises a price by little. At least so many, and where a person
+/// After how many bids of a chain a path is looked for in a run of one phase, at the last eps, where a bid raises a price by little. At least so many, and where a person
 /// knows many objects half as many as he knows in the mean: a search looks at whole rows, and a bid at a list.
 const SOON: u64 = 16;
 
@@ -36,7 +36,7 @@ const FEW: u64 = 8;
 /// How many arcs a search may look at in the time of one bid.
 const LOOKS: usize = 100;
 
-/// Behind how many bids of a chain a path is looked for in a run that begins at this eps.
+/// After how many bids of a chain a path is looked for in a run that begins at this eps.
 pub(crate) fn patience_at(rows: &ShortRows, eps: i64) -> u64 {
     if eps == LAST_EPS {
         return if rows.is_table() {
@@ -56,7 +56,7 @@ pub(crate) struct Outcome {
 }
 
 /// A phase at this eps from the prices of the market, and then one at each next eps, from the prices of the one before: up to the last one, or the first that a limit
-/// stops. Each may make so many bids, and looks for a path behind `patience` of a chain.
+/// stops. Each may make so many bids, and looks for a path after `patience` of a chain.
 fn play_phases<W: Watch>(
     rows: &ShortRows,
     bids: u64,

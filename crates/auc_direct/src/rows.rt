@@ -11,7 +11,7 @@ use std::marker::Model;
 
 /// The arcs of each person, in the order of the problem's list, with no place in it; and the spread of all costs.
 ///
-/// All rows lie behind one another in one vector. Whether they are a full table is found once, since another order of phases is faster there; no clause needs it.
+/// All rows lie one after another in one vector. Whether they are a full table is found once, since another order of phases is faster there; no clause needs it.
 #[derive(Drop)]
 pub(crate) struct ShortRows {
     spread: i64,
@@ -32,7 +32,7 @@ impl Model for ShortRows {
     ghost invariant = { λ r. IsLaidOut r.starts.items r.arcs.items r.persons × AreShorts (record { objects = r.objects; spread = r.spread; rows = parts r.starts.items r.arcs.items r.persons }) };
 }
 
-/// Whether the arcs of row behind row lead to all of so many objects in order, over and over, and there are just so many rows of them.
+/// Whether the arcs of row after row lead to all of so many objects in order, over and over, and there are just so many rows of them.
 fn are_full(arcs: &[ShortArc], persons: u32, objects: u32) -> bool {
     if arcs.len() as u64 != u64::from(persons) * u64::from(objects) {
         return false;
@@ -47,7 +47,7 @@ fn are_full(arcs: &[ShortArc], persons: u32, objects: u32) -> bool {
     true
 }
 
-/// One of the rows that lie behind one another.
+/// One of the rows that lie one after another.
 #[inline(always)]
 fn part_of<'a>(starts: &[usize], arcs: &'a [ShortArc], persons: u32, person: u32) -> &'a [ShortArc]
     requires layout { IsLaidOut starts.now arcs.now persons }

@@ -83,7 +83,7 @@ impl Search {
         Ok(())
     }
 
-    /// An object is settled, behind all others.
+    /// An object is settled, after all others.
     #[inline]
     fn settle(&mut self, object: u32) -> Result<(), AllocError>
         requires { object < length self.old.labels.items }

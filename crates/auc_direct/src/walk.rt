@@ -1,4 +1,4 @@
-//! The prices, the holders and what they hold, behind a search that has found an object.
+//! The prices, the holders and what they hold, after a search that has found an object.
 
 ghost use Rattle.std.specs.Prelude.{◌≡◌, ◌≢◌, ◌<◌, ◌≤◌, ◌-◌, ◌+◌, ◌^◌, ℕ, pos, ◌+ℤ◌, ◌≤ℤ◌, IsTrue, All, length, set, slice_index_or};
 ghost use Rattle.auc_graph.specs.Dual.{price_at};

@@ -27,7 +27,7 @@ const SLICE: u64 = 16_384;
 /// How many searches for a path it makes between them at most, each of which may look at all arcs.
 const SEARCHES: u64 = 64;
 
-/// How many bids a slice of a phase makes at most that looks for a path behind so many bids of a chain.
+/// How many bids a slice of a phase makes at most that looks for a path after so many bids of a chain.
 fn slice_of(patience: u64) -> u64
     ensures { 1 ≤ result }
 {

@@ -11,7 +11,7 @@ use crate::search::Search;
 use crate::table_search::TableSearch;
 use std::alloc::{AllocError, Global};
 
-/// The lists of candidates, which stay through all phases; room for searches, and for those in a full table; and how many bids in a row have displaced somebody, behind the last
+/// The lists of candidates, which stay through all phases; room for searches, and for those in a full table; and how many bids in a row have displaced somebody, after the last
 /// search for a path.
 #[derive(Drop)]
 pub(crate) struct Workspace {

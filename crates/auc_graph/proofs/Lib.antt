@@ -4,7 +4,7 @@ pub mod PriceLaws
 pub mod DualLaws
 pub mod LowerLaws
 pub mod LowerRange
-pub mod ListingLaws
+pub mod InMemoryLaws
 pub mod Scale
 -- for this crate
 mod TokenLaws
@@ -19,7 +19,7 @@ mod EndLaws
 mod RowLaws
 mod CountLaws
 mod LayoutLaws
-mod LinedLaws
+mod InOrderLaws
 mod SpreadLaws
 mod LeastLaws
 mod BoundLaws

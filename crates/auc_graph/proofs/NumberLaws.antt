@@ -120,7 +120,7 @@ sign_text (b ∷ bytes) rest negative n is =
           ap (λ (m : ℕ). split_sign (take m (b ∷ bytes))) count ∙ unsigned_text b bytes n unsigned.1 ∙ sym (ap (λ x. (x.0, take n x.1)) (is ∙ unsigned.0))
     ]
 
--- what stands behind the sign
+-- what stands after the sign
 pub sign_drop : (bytes rest : List ℕ) (negative : Bool) → (negative, rest) ≡ split_sign bytes → rest ≡ drop (length bytes - length rest) bytes
 unfolding split_sign
 sign_drop [] rest negative is =
@@ -211,7 +211,7 @@ told negative n le = let t : nat_le n (10 ^ 18) ≡ true = grind (arith, nat_tes
 some_number : (n : ℕ) → Option ℕ
 some_number n = Some n
 
--- behind a sign or none
+-- after a sign or none
 pub number_of_signed : (token bytes : List ℕ) (negative : Bool) (value len : ℕ) → IsPlainToken bytes value len → split_sign token ≡ (negative, take len bytes) → number token ≡ Value (signed negative value)
 unfolding some_number
 number_of_signed token bytes negative value len is sign =

@@ -50,7 +50,7 @@ prefix_all p (x ∷ xs) more all =
       | inr fails ↦ let a : prefix_len p (x ∷ xs) ≡ 0 = rw fails refl in absurd (omega (arith, all, a))
     ]
 
--- ---- a token with a separator behind it
+-- ---- a token with a separator after it
 
 pub skip_one : (b : ℕ) (text : List ℕ) → is_separator b ≡ true → numbers (b ∷ text) ≡ numbers text
 unfolding numbers tokens
@@ -199,7 +199,7 @@ tail_of_front xs len kept le =
     let e : length (take len xs) ≡ len = grind (arith, common_steps) in
     ap (λ (m : ℕ). drop (m - kept) (take len xs)) e ∙ cut_front (len - kept) len xs
 
--- what stands there, and behind it what was read
+-- what stands there, and after it what was read
 pub front_and_more : (xs ys : List ℕ) (kept n k : ℕ) → kept ≤ length xs → n ≤ length ys → take (kept + n) (put_mid kept k xs ys) ≡ take kept xs ++ take n ys
 front_and_more xs ys kept n k le few =
     let len : length (take kept xs) ≡ kept = grind (arith, common_steps) in

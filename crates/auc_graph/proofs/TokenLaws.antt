@@ -69,7 +69,7 @@ prefix_len_is p (x ∷ xs) (suc i) le pass stop =
     let rest : prefix_len p xs ≡ i = prefix_len_is p xs i (omega arith) (λ k lt. pass (suc k) (omega arith)) (λ lt. stop (omega arith)) in
     rw (pass 0 (omega arith)) (omega arith)
 
--- The token at the front, by how many separators stand there and how long the token behind them is.
+-- The token at the front, by how many separators stand there and how long the token after them is.
 pub no_token : (text : List ℕ) → length text ≤ prefix_len is_separator text → tokens text ≡ []
 unfolding tokens
 no_token text h = sym (skip is_separator text) ∙ ap (parts is_separator) (drop_all _ text h)

@@ -48,7 +48,7 @@ same_front xs ys a b m k xlen ylen xall yall ais bis le same lt =
     let low : a % 2 ^ (8 * m) ≡ b % 2 ^ (8 * m) = sym (and_mask a (8 * m)) ∙ same ∙ and_mask b (8 * m) in
     byte_of_word xs a k xlen xall ais (omega (arith, le, lt)) ∙ same_byte a b m k low lt ∙ sym (byte_of_word ys b k ylen yall bis (omega (arith, le, lt)))
 
--- a token with a separator behind it is told by these bytes
+-- a token with a separator after it is told by these bytes
 pub same_token : (xs ys : List ℕ) (value n : ℕ) → length xs ≡ length ys → n < length ys → ((k : ℕ) → k < n + 1 → get_or xs k 0 ≡ get_or ys k 0) → IsPlainToken ys value n → IsPlainToken xs value n
 same_token xs ys value n len lt same h =
     let before : (k : ℕ) → k < n → is_separator (get_or xs k 0) ≡ false = λ k below. ap is_separator (same k (omega (arith, below))) ∙ fails_before_first is_separator ys k 0 (omega (arith, below, h.token)) in

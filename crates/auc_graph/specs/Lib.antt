@@ -6,7 +6,7 @@ pub mod Problem
 pub mod Reading
 pub mod Pieces
 pub mod Written
-pub mod Listing
+pub mod InMemory
 pub mod Assignment
 pub mod HallSet
 pub mod Price

@@ -22,7 +22,7 @@ is_magnitude bytes = is_nonempty (before_first is_point bytes) && list_all is_as
 unfoldable pub magnitude : List ℕ → Option ℕ
 magnitude bytes = if is_magnitude bytes then Some (digits_value 10 (before_first is_point bytes)) else None
 
--- whether a minus stands in front, and what stands behind the sign, where there is one
+-- whether a minus stands in front, and what stands after the sign, where there is one
 unfoldable pub split_sign : List ℕ → Bool × List ℕ
 split_sign [] = (false, [])
 split_sign (b ∷ bytes) = if b == 43 then (false, bytes) else (if b == 45 then (true, bytes) else (false, b ∷ bytes))
@@ -45,7 +45,7 @@ number token = option_map_or sized (numeral token) Bad
 unfoldable pub numbers : List ℕ → List Number
 numbers text = map number (tokens text)
 
--- how many bytes a point and the zeros behind it take at the front
+-- how many bytes a point and the zeros after it take at the front
 abbrev pub fraction_len : List ℕ → ℕ
 fraction_len [] = 0
 fraction_len (b ∷ bytes) = if is_point b then suc (prefix_len is_zero bytes) else 0

@@ -1,4 +1,4 @@
--- Reading a text that comes in pieces: what is known behind a piece, and what is kept of it.
+-- Reading a text that comes in pieces: what is known after a piece, and what is kept of it.
 use Rattle.std.specs.Prelude.{◌≡◌, ℕ, ◌≤◌, ◌<◌, ◌+◌, ◌^◌, List, [], ◌∷◌, ◌++◌, length, Result, Ok, Err, ⊤, if◌then◌else◌, Option}
 use Rattle.std.specs.Fmt.{decimal}
 use Rattle.std.specs.List.{position_or_len}
@@ -17,7 +17,7 @@ use Rattle.auc_graph.specs.Numbers.{number, numbers}
 use Rattle.auc_graph.specs.Problem.{Problem, IsProblem}
 use Rattle.auc_graph.specs.Reading.{problem, State, reading_on, reading}
 
--- what a text reads as that goes on here, behind a stage and so many arcs
+-- what a text reads as that goes on here, after a stage and so many arcs
 abbrev pub reading_at : ℕ → Stage → List Arc → List ℕ → Result Problem ReadError
 reading_at limit stage arcs text = reading_on limit (Ok (stage, arcs)) (numbers text)
 
@@ -49,7 +49,7 @@ IsKnown limit (Err e) arcs = ⊤
 abbrev pub IsPlain : List ℕ → Type 0
 IsPlain token = position_or_len is_separator token ≡ length token
 
--- whatever stands behind them, two texts are one number
+-- whatever stands after them, two texts are one number
 abbrev pub AreAlike : List ℕ → List ℕ → Type 0
 AreAlike a b = (more : List ℕ) → number (a ++ more) ≡ number (b ++ more)
 

@@ -40,7 +40,7 @@ arc_of person object c = record { person = person; object = object; cost = c }
 abbrev pub problem : ℕ → ℕ → List Arc → Problem
 problem persons objects arcs = record { persons = persons; objects = objects; arcs = arcs }
 
--- no triple stands behind the allowed number of them
+-- no triple stands after the allowed number of them
 abbrev pub room : ℕ → ℕ → Result ℕ ReadError
 room limit before = if nat_le limit before then Err TooManyArcs else Ok before
 
@@ -48,7 +48,7 @@ room limit before = if nat_le limit before then Err TooManyArcs else Ok before
 abbrev pub objects_for : ℕ → ℕ → Result ℕ ReadError
 objects_for wanted persons = if wanted == 0 then Ok persons else (if nat_lt wanted persons then Err TooFewObjects else Ok wanted)
 
--- the stage and the arcs behind some numbers of a text, or the first fault in them; the first stage knows how many objects are wanted,
+-- the stage and the arcs after some numbers of a text, or the first fault in them; the first stage knows how many objects are wanted,
 -- a later one the numbers of persons and objects, and of the next arc the person and the object, as far as they have been read
 abbrev pub State : Type 0
 State = Result (Stage × List Arc) ReadError
@@ -90,7 +90,7 @@ unfoldable pub finish : State → Result Problem ReadError
 finish (Ok (stage, arcs)) = finish_at stage arcs
 finish (Err e) = Err e
 
--- what a text reads as whose numbers stand behind this state: a step for each, and then the end
+-- what a text reads as whose numbers stand after this state: a step for each, and then the end
 unfoldable pub reading_on : ℕ → State → List Number → Result Problem ReadError
 reading_on limit state xs = finish (fold (step limit) state xs)
 

@@ -27,7 +27,7 @@ fn digit_of(byte: u8) -> u32
     (byte as u32).wrapping_sub(b'0' as u32)
 }
 
-/// The separators that may stand behind a short number.
+/// The separators that may stand after a short number.
 #[derive(Clone, Copy)]
 pub(crate) enum Separators {
     /// A space or a line feed: nearly all files have no others, and to ask for these alone is quickest.
@@ -68,7 +68,7 @@ pub(crate) fn short_number_at(separators: Separators, bytes: &[u8; SHORT]) -> Op
     None
 }
 
-/// The short number at the front, and the text behind the separator that follows it.
+/// The short number at the front, and the text after the separator that follows it.
 #[inline(always)]
 pub(crate) fn short_number(separators: Separators, bytes: &[u8]) -> Option<(u32, &[u8])>
     ensures found { IfSome result (λ x. (more : List ℕ) → numbers (bytes.now ++ more) ≡ Value (pos x.0) ∷ numbers (x.1.now ++ more)) }
@@ -112,7 +112,7 @@ fn signed_of(negative: bool, size: u32) -> i64
     }
 }
 
-/// The cost at the front, in range, of up to ten digits and behind a sign or none, and the text behind the separator that follows it.
+/// The cost at the front, in range, of up to ten digits and after a sign or none, and the text after the separator that follows it.
 #[inline(always)]
 fn long_cost(bytes: &[u8]) -> Option<(i64, &[u8])>
     ensures found { IfSome result (λ x. (more : List ℕ) → numbers (bytes.now ++ more) ≡ Value x.0 ∷ numbers (x.1.now ++ more)) }
@@ -148,7 +148,7 @@ pub(crate) fn cost_at(bytes: &[u8]) -> Option<(i64, &[u8])>
     }
 }
 
-/// The number at the front, where a separator stands behind it, and the text behind that.
+/// The number at the front, where a separator stands after it, and the text after that.
 #[cold]
 #[inline(never)]
 fn any_whole(bytes: &[u8]) -> Option<(Number, &[u8])>
@@ -168,7 +168,7 @@ fn any_whole(bytes: &[u8]) -> Option<(Number, &[u8])>
     }
 }
 
-/// The number at the front, where a separator stands behind it, and the text behind that. Nearly all numbers of a file
+/// The number at the front, where a separator stands after it, and the text after that. Nearly all numbers of a file
 /// are short, so these are read by a loop that knows where it ends.
 #[inline(always)]
 pub(crate) fn next_whole(bytes: &[u8]) -> Option<(Number, &[u8])>

@@ -7,14 +7,14 @@
 mod arc;
 mod dual;
 mod front;
+mod in_memory;
+mod in_order;
 mod indices;
 mod laws;
 mod layout;
 mod limits;
 mod line;
-mod lined;
-mod listing;
-mod listing_fault;
+mod list_faults;
 mod number;
 mod pieces;
 mod read_error;
@@ -27,14 +27,14 @@ mod unfinished;
 
 pub use arc::{Arc, ArcList};
 pub use dual::{dual_bound, is_lower, lower_of};
+pub use in_memory::{list_fault, objects_or};
 pub use indices::Indices;
 pub use laws::{
     assigned_persons_have_arcs, assignments_leave_no_price, bounds_fit, limits_are, prices_are_few,
     prices_bound_costs, slack_right_costs_least, wanted_objects_are_read,
 };
 pub use limits::{MOST_ARCS, MOST_COST, MOST_OBJECTS, MOST_PERSONS, MOST_READS};
-pub use listing::{list_fault, objects_or};
-pub use listing_fault::ListFault;
+pub use list_faults::ListFault;
 pub use number::{Number, number_of};
 pub use read_error::ReadError;
 pub use reading::{ReadLimits, read_arcs, read_arcs_from};

@@ -57,7 +57,7 @@ pub(crate) fn person_at(persons: u32, bytes: &[u8]) -> Option<WrittenPerson>
     })
 }
 
-/// The text behind the person and the separator, where the person is written so.
+/// The text after the person and the separator, where the person is written so.
 #[inline(always)]
 fn behind_person(written: WrittenPerson, bytes: &[u8]) -> Option<&[u8]>
     requires { IsWritten written }
@@ -72,7 +72,7 @@ fn behind_person(written: WrittenPerson, bytes: &[u8]) -> Option<&[u8]>
     Some(from_place(bytes, written.digits + 1))
 }
 
-/// The arc at the front and the text behind it, where the person is written so, the object is a short number, the cost one of up to
+/// The arc at the front and the text after it, where the person is written so, the object is a short number, the cost one of up to
 /// ten digits with or without a sign, and both are in range.
 #[inline(always)]
 pub(crate) fn short_arc(written: WrittenPerson, objects: u32, bytes: &[u8]) -> Option<(Arc, &[u8])>
@@ -82,7 +82,7 @@ pub(crate) fn short_arc(written: WrittenPerson, objects: u32, bytes: &[u8]) -> O
     ensures shorter { IfSome result (λ x. length x.1.now < length bytes.now) }
     ensures behind { IfSome result (λ x. x.1.now ≡ drop (length bytes.now - length x.1.now) bytes.now) }
 {
-    // One test of the length, behind which the compiler leaves out those of each number.
+    // One test of the length, after which the compiler leaves out those of each number.
     if bytes.len() < LINE {
         return None;
     }

@@ -16,8 +16,8 @@ use crate::stage::Stage;
 use crate::tokens::separators_len;
 use crate::unfinished::{MOST_KEPT, keep};
 
-/// The text behind the arcs of two short numbers and a cost each whose person is written so, as many as there is room for. They are put
-/// behind the others.
+/// The text after the arcs of two short numbers and a cost each whose person is written so, as many as there is room for. They are put
+/// after the others.
 #[inline(always)]
 fn behind_row<'a>(
     limit: u32,
@@ -52,7 +52,7 @@ fn behind_row<'a>(
     Ok(rest)
 }
 
-/// The text behind the arcs of two short numbers and a cost each, which are put behind the others. A function of its own, so that the
+/// The text after the arcs of two short numbers and a cost each, which are put after the others. A function of its own, so that the
 /// loop of a row has the registers.
 #[inline(never)]
 fn behind_short_arcs<'a>(
@@ -80,7 +80,7 @@ fn behind_short_arcs<'a>(
     Ok(rest)
 }
 
-/// The stage behind all numbers of a piece that a separator ends, and how many bytes the unfinished token behind them has.
+/// The stage after all numbers of a piece that a separator ends, and how many bytes the unfinished token after them has.
 pub(crate) fn stage_behind(
     limit: u32,
     first: Stage,
@@ -107,7 +107,7 @@ pub(crate) fn stage_behind(
     Ok((stage, rest.len() - separators_len(rest)))
 }
 
-/// What is known behind so many bytes of a piece, and how many bytes are kept at its front. A fault stays the first one.
+/// What is known after so many bytes of a piece, and how many bytes are kept at its front. A fault stays the first one.
 pub(crate) fn known_behind(
     limit: u32,
     before: Result<Stage, ReadError>,
@@ -134,7 +134,7 @@ pub(crate) fn known_behind(
     }
 }
 
-/// What a text reads as that ends behind this token.
+/// What a text reads as that ends after this token.
 pub(crate) fn problem_behind(
     limit: u32,
     stage: Stage,

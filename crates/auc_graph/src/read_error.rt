@@ -18,7 +18,7 @@ pub enum ReadError {
     /// The first token is no number of persons.
     #[error("the number of persons is out of range")]
     CountRange,
-    /// A token stands behind the last arc that is allowed.
+    /// A token stands after the last arc that is allowed.
     #[error("there are too many arcs")]
     TooManyArcs,
     /// The person of this arc is none of the problem.

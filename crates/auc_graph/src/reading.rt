@@ -45,7 +45,7 @@ impl ReadLimits {
 
 /// The problem that a text reads as, or the first fault in the order of the text.
 ///
-/// Bytes 9 to 13, 26 and 32 part the text into tokens. The first token is the number of persons; each three tokens behind it
+/// Bytes 9 to 13, 26 and 32 part the text into tokens. The first token is the number of persons; each three tokens after it
 /// are an arc: person, object, cost. In the text persons and objects are numbered from 1. The same pair listed twice is two
 /// arcs, and no arc at all is a lawful list.
 ///

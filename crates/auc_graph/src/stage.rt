@@ -88,7 +88,7 @@ fn objects_of(wanted: u32, persons: u32) -> Result<u32, ReadError>
     Ok(wanted)
 }
 
-/// The stage behind the number of persons.
+/// The stage after the number of persons.
 #[inline(always)]
 #[tactic(auto, unfolding(crate::specs::Reading::step_at))]
 fn after_count(wanted: u32, number: Number) -> Result<Stage, ReadError>
@@ -102,7 +102,7 @@ fn after_count(wanted: u32, number: Number) -> Result<Stage, ReadError>
     Ok(Stage::AtPerson { persons, objects })
 }
 
-/// The stage behind the person of an arc.
+/// The stage after the person of an arc.
 #[inline(always)]
 #[tactic(auto, unfolding(crate::specs::Reading::step_at))]
 fn after_person(
@@ -130,7 +130,7 @@ fn after_person(
     })
 }
 
-/// The stage behind the object of an arc.
+/// The stage after the object of an arc.
 #[inline(always)]
 #[tactic(auto, unfolding(crate::specs::Reading::step_at))]
 fn after_object(
@@ -158,7 +158,7 @@ fn after_object(
 }
 
 impl Stage {
-    /// The stage behind the next number. Where this ends an arc, the arc is put behind the others.
+    /// The stage after the next number. Where this ends an arc, the arc is put after the others.
     #[inline(always)]
     #[tactic(auto, unfolding(crate::specs::Reading::step_at))]
     pub(crate) fn after(

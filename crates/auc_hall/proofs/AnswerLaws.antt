@@ -13,7 +13,7 @@ use Rattle.auc_hall.specs.HallSet.{IsRowHallSet}
 use Rattle.auc_hall.specs.Partial.{pick}
 use Rattle.auc_hall.specs.Matched.{IsPlaced, IsMatched}
 use Rattle.auc_hall.specs.Search.{WasSeen, IsTrail, AreWalked, IsSearch}
-use Rattle.auc_hall.specs.Listing.{places, chosen, AreReached, ArePersons}
+use Rattle.auc_hall.specs.Chosen.{places, chosen, AreReached, ArePersons}
 use Rattle.auc_hall.proofs.QueueLaws.{blank, entry, get_kept, get_pushed, get_cases, get_front}
 use Rattle.auc_hall.proofs.FlagLaws.{count_set, count_none, seen_kept, seen_within, no_flag, place_only, place_all, length-places, places_rise}
 use Rattle.auc_hall.proofs.SearchLaws.{starts}

@@ -4,7 +4,7 @@ use Rattle.std.proofs.lemmas.List.{drop_more, get_or_past, get_or-set_same, get_
 use Rattle.std.proofs.lemmas.Bool.{cases_eq, cases_lt, both_ways, false≢true}
 use Rattle.auc_graph.specs.Rising.{IsRising}
 use Rattle.auc_hall.specs.Search.{marked, WasSeen}
-use Rattle.auc_hall.specs.Listing.{places}
+use Rattle.auc_hall.specs.Chosen.{places}
 use Rattle.auc_hall.proofs.Membership.{first_or_behind, behind, nothing}
 
 pub count_set : (xs : List Bool) (i : ℕ) → i < length xs → get_or xs i false ≡ false → marked (set xs i true) ≡ marked xs + 1

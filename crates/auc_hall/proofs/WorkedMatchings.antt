@@ -8,7 +8,7 @@ use Rattle.auc_hall.specs.Assignment.{IsRowAssignment, IsFull}
 use Rattle.auc_graph.specs.Rising.{IsRising}
 use Rattle.auc_hall.specs.HallSet.{IsRowHallSet}
 use Rattle.auc_hall.specs.Partial.{pick, MayPlace}
-use Rattle.auc_hall.specs.Listing.{places, chosen}
+use Rattle.auc_hall.specs.Chosen.{places, chosen}
 use Rattle.auc_hall.proofs.Membership.{first_or_behind, nothing}
 
 -- an arc to this object, at this place of the list

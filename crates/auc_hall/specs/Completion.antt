@@ -5,7 +5,7 @@ use Rattle.auc_graph.specs.Table.{Table, row_of}
 use Rattle.auc_hall.specs.declared.matching.Matching.{Matching}
 use Rattle.auc_hall.specs.declared.matching.Matching.TheVariants.{Full, Hall}
 use Rattle.auc_hall.specs.Assignment.{number_of}
-use Rattle.auc_hall.specs.Listing.{chosen}
+use Rattle.auc_hall.specs.Chosen.{chosen}
 use Rattle.auc_hall.specs.Matched.{IsPlaced}
 use Rattle.auc_hall.specs.Partial.{pick}
 

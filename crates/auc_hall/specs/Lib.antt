@@ -6,6 +6,6 @@ pub mod Matching
 pub mod Partial
 pub mod Matched
 pub mod Search
-pub mod Listing
+pub mod Chosen
 pub mod Completion
 pub mod Full

@@ -39,7 +39,7 @@ WasSeen seen j = slice_index_or seen j false ≡ true
 abbrev pub Reaches : List Reached → ℕ → Type 0
 Reaches queue j = (m : ℕ) × (e : Reached) × (slice_get queue m ≡ Some e) × (0 < m) × (e.arc.object ≡ j)
 
--- the objects that were seen are those of the queue behind its first person
+-- the objects that were seen are those of the queue after its first person
 pub record AreSeen (t : Table) (queue : List Reached) (seen : List Bool) : Type 0 where
   pub size : length seen ≡ t.objects
   pub reached : (m : ℕ) (e : Reached) → slice_get queue m ≡ Some e → 0 < m → WasSeen seen e.arc.object

@@ -5,7 +5,7 @@ ghost use Rattle.auc_hall.specs.Assignment.{number_of};
 ghost use Rattle.auc_hall.specs.Partial.{IsFor};
 ghost use Rattle.auc_hall.specs.Matching.{IsMatching};
 ghost use Rattle.auc_hall.specs.Matched.{IsMatched};
-ghost use Rattle.auc_hall.specs.Listing.{chosen};
+ghost use Rattle.auc_hall.specs.Chosen.{chosen};
 ghost use Rattle.auc_hall.specs.Completion.{HasGrown};
 
 use crate::exchange::exchange;

@@ -3,7 +3,7 @@
 ghost use Rattle.std.specs.Prelude.{◌≡◌, ◌<◌, ◌^◌, length, IfOk};
 ghost use Rattle.auc_hall.specs.Matching.{IsHall, IsMatching};
 ghost use Rattle.auc_hall.specs.Search.{IsSearch, AreWalked};
-ghost use Rattle.auc_hall.specs.Listing.{places, AreReached, ArePersons};
+ghost use Rattle.auc_hall.specs.Chosen.{places, AreReached, ArePersons};
 
 use crate::matching::Matching;
 use crate::search::Reached;

@@ -9,7 +9,6 @@ mod Posting
 mod Taking
 pub mod StepLaws
 pub mod EmptyBoxes
-mod Passing
 mod Outcomes
 pub mod RunLaws
 mod WorkedRows

@@ -2,7 +2,6 @@
 pub mod Limits
 pub mod Mail
 pub mod Step
-pub mod Passing
 pub mod Run
 pub mod Letters
 pub mod Equality

@@ -47,16 +47,6 @@ pub(crate) fn note_take(boxes: &mut Vec<MailBox>, at: u32, lane: u32)
     state.giver = lane;
 }
 
-// A letter of this lane passes the box: it is posted and taken, and the lane has given it.
-#[inline]
-pub(crate) fn note_pass(boxes: &mut Vec<MailBox>, at: u32, lane: u32)
-    requires { at < length boxes.old.items }
-    ensures { boxes.new.items ≡ slice_set boxes.old.items at (record { waiting = (box_of boxes.old.items at).waiting; last = (box_of boxes.old.items at).last; giver = lane; accepting = (box_of boxes.old.items at).accepting }) }
-{
-    let state = &mut boxes[at as usize];
-    state.giver = lane;
-}
-
 // Tells a box that it is closed.
 #[inline]
 pub(crate) fn note_close(boxes: &mut Vec<MailBox>, at: u32)
@@ -98,7 +88,7 @@ fn first_waiting<T: Copy>(lists: &NodePool<T>, from: u32, to: u32) -> Option<u32
     None
 }
 
-// The lane whose turn it is: the first of the box's that has a letter, in rotating order from the one behind the last giver.
+// The lane whose turn it is: the first of the box's that has a letter, in rotating order from the one after the last giver.
 #[inline(never)]
 pub(crate) fn lane_in_turn<T: Copy>(
     lists: &NodePool<T>,

@@ -21,7 +21,7 @@ pub enum Form {
     Zip,
     /// Text of 16-bit units.
     Utf16,
-    /// Text behind a byte order mark.
+    /// Text after a byte order mark.
     Marked,
     /// A matrix of the MatrixMarket's form.
     MatrixMarket,

@@ -44,7 +44,7 @@ fn is_help_command(word: &[u8]) -> bool
     word == b"help".as_slice()
 }
 
-/// The page that the words behind the program's name ask for, or none.
+/// The page that the words after the program's name ask for, or none.
 pub fn page_of(words: &[String]) -> Option<Page>
     ensures { result ≡ page_of (map string_bytes words.now) }
 {

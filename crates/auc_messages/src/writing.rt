@@ -35,7 +35,7 @@ fn write_place<W: Write>(writer: &mut W, name: &str, place: &Place) -> Result<()
     write_parts(writer, &parts)
 }
 
-/// Writes what stands behind the first bytes of a token.
+/// Writes what stands after the first bytes of a token.
 fn write_end<W: Write>(writer: &mut W, whole: bool, phrase: &[u8]) -> Result<(), WriteFault>
     ensures { Writes result (W.contents writer.old) (W.contents writer.new) (quoted_end whole phrase.now) }
 {
@@ -48,7 +48,7 @@ fn write_end<W: Write>(writer: &mut W, whole: bool, phrase: &[u8]) -> Result<(),
     write_parts(writer, &parts)
 }
 
-/// Writes the first bytes of a token, and what stands behind them.
+/// Writes the first bytes of a token, and what stands after them.
 fn write_quoted<W: Write>(writer: &mut W, place: &Place, phrase: &[u8]) -> Result<(), WriteFault>
     ensures { Writes result (W.contents writer.old) (W.contents writer.new) (map shown_byte place.now.front.items ++ quoted_end place.now.whole phrase.now) }
 {

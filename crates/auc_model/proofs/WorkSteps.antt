@@ -101,7 +101,7 @@ outbox_with_mail w (To.Object s) m (ObjectShard q) = refl
 outbox_with_mail w To.Hub m (PersonShard q) = refl
 outbox_with_mail w To.Hub m (ObjectShard q) = refl
 
--- whoever takes a letter has work behind him
+-- whoever takes a letter has work after him
 pub some_work : (l : Letter) → 0 < waiting_work l
 some_work (Letter.Bid i a j p) = omega arith
 some_work (Letter.Award i j p) = omega arith

@@ -23,7 +23,7 @@ waiting m b x = if nat_lt x m.senders then (lane_of m b x).waiting else []
 abbrev pub out_of : Phase → World → ℕ → List Out
 out_of g w x = if nat_lt x g.shards then w.person_out x else (if nat_lt x (2 * g.shards) then w.object_out (x - g.shards) else [])
 
--- Letters that met a closed box, by where they were to go and who sent them. They stand behind what waits there, and are
+-- Letters that met a closed box, by where they were to go and who sent them. They stand after what waits there, and are
 -- never taken.
 abbrev pub Lost : Type 0
 Lost = To → ℕ → List Letter

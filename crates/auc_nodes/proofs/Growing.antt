@@ -155,7 +155,7 @@ module _ {T : Type 0} (blank : T) (nodes : List (Node T)) {f : Ends} {ends : Lis
       (ap (map (contents blank (items_of (grown nodes item)))) lists_stay
       ∙ all_contents blank (items_of nodes) (items_of (grown nodes item)) (length nodes) other_item (chains (links_of nodes) ends) absent)
 
-  -- the new node goes behind the list k
+  -- the new node goes after the list k
   module _ (k : ℕ) (has : k < length ends) where
     has_up : k + 1 < length (single (length nodes) ∷ ends)
     has_up = omega (arith, has)

@@ -92,7 +92,7 @@ node_in_front links node back last lt none =
       others = λ o apart. chain_same links (set links node back.first) node same o.first o.len (apart node (omega (arith, once)));
     }
 
--- one node that goes behind a list
+-- one node that goes after a list
 module _ {links : List ℕ} {front : Ends} {node : ℕ} (can : CanJoin links front (single node)) where
   first_is : (b : Bool) → (front.len == 0) ≡ b → (if front.len == 0 then node else front.first) ≡ (if b then node else front.first)
   first_is b e = let pass : Bool → ℕ = λ b. if b then node else front.first in ap pass e

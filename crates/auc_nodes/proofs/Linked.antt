@@ -92,7 +92,7 @@ module _ {links : List ℕ} {ends : List Ends} (linked : IsLinked links ends) wh
     rest_last pos = ends_tail (end_of ends k).first (nodes_from links (rest_of links (end_of ends k))) (end_of ends k).last
         (subst (λ (c : List ℕ). EndsWith c (end_of ends k).last) front_is (linked.last k pos lt))
 
-    -- the first node, and the nodes behind it
+    -- the first node, and the nodes after it
     pub front_times : (i : ℕ) → times i (nodes_from links (end_of ends k)) ≡ times i (nodes_from links (single (end_of ends k).first)) + times i (nodes_from links (rest_of links (end_of ends k)))
     front_times i =
         let f = (end_of ends k).first in

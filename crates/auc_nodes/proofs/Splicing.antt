@@ -35,7 +35,7 @@ module _ {links : List ℕ} {ends : List Ends} (linked : IsLinked links ends) (a
       others = λ e far. j.others e (λ i some. far i (omega (arith, some)));
     }
 
-    -- a has gone behind b
+    -- a has gone after b
     pub goes_behind : IsJoined links links' (end_of ends b) (end_of ends a) both → (0 < b → EndsWith (nodes_from links (end_of ends b) ++ nodes_from links (end_of ends a)) both.last)
         → Moves links links' ends a b no_ends both [] (nodes_from links (end_of ends b) ++ nodes_from links (end_of ends a))
     goes_behind j last = record {
@@ -100,7 +100,7 @@ module _ {links : List ℕ} {ends : List Ends} (linked : IsLinked links ends) (a
             others = λ o far. j.others o (λ i s. far i (omega (arith, s, front_times linked a la some i)));
           }
 
-      -- the first node of a has gone behind b
+      -- the first node of a has gone after b
       pub first_behind : IsJoined links links' (end_of ends b) (single (end_of ends a).first) both
           → (0 < b → EndsWith (nodes_from links (end_of ends b) ++ nodes_from links (single (end_of ends a).first)) both.last)
           → Moves links links' ends a b (rest_of links (end_of ends a)) both (nodes_from links (rest_of links (end_of ends a)))

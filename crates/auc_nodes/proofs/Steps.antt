@@ -152,7 +152,7 @@ module _ {T : Type 0} (blank : T) (nodes : List (Node T)) {ends : List Ends} (li
               (drop_two_free all k (contents blank (items_of nodes') tail) (contents blank (items_of nodes') freed)
               ∙ ap (λ (xs : List T). set (drop 1 all) k (contents blank xs tail)) freed_items))
 
-      -- the first free node, which was read as x, goes behind k with an item
+      -- the first free node, which was read as x, goes after k with an item
       module _ (some : 0 < free.len) where
         free_node : 0 < (end_of ends 0).len
         free_node = omega (arith, some, ap (λ (e : Ends). e.len) free_is)

@@ -33,7 +33,7 @@ single node = record { first = node; last = node; len = 1 }
 abbrev pub behind : Ends → ℕ → Ends
 behind e node = record { first = if e.len == 0 then node else e.first; last = node; len = e.len + 1 }
 
--- the nodes, and behind them one that has this item and leads nowhere
+-- the nodes, and after them one that has this item and leads nowhere
 abbrev pub grown : {T : Type 0} → List (Node T) → T → List (Node T)
 grown nodes item = nodes ++ record { item = item; next = 0 } ∷ []
 

@@ -3,7 +3,7 @@
 ghost use Rattle.std.specs.Prelude.{◌≡◌, ◌+◌, ◌<◌, ◌++◌, ◌^◌, length, slice_set, vec_len, vec_capacity};
 ghost use Rattle.auc_nodes.specs.Links.{CanJoin, EndsWith, IsJoined, behind, end_of, grown, links_of, items_of, nodes_from, single};
 
-// A place for an item, and the number of the node behind it in its list.
+// A place for an item, and the number of the node after it in its list.
 #[derive(Clone, Copy)]
 pub struct Node<T> {
     pub item: T,
@@ -18,7 +18,7 @@ pub struct Ends {
     pub len: u32,
 }
 
-// Joins the second list of nodes behind the first, and answers the ends of both together. Writes one link at most.
+// Joins the second list of nodes after the first, and answers the ends of both together. Writes one link at most.
 #[inline]
 pub(crate) fn join<T: Copy>(nodes: &mut Vec<Node<T>>, front: Ends, back: Ends) -> Ends
     requires { CanJoin (links_of nodes.old.items) front back }
@@ -41,7 +41,7 @@ pub(crate) fn join<T: Copy>(nodes: &mut Vec<Node<T>>, front: Ends, back: Ends) -
     }
 }
 
-// Links a node behind a list. Writes one link at most, and the fields that change alone: this is what most calls come to.
+// Links a node after a list. Writes one link at most, and the fields that change alone: this is what most calls come to.
 #[inline(always)]
 pub(crate) fn link_behind<T: Copy>(
     nodes: &mut Vec<Node<T>>,
@@ -67,7 +67,7 @@ pub(crate) fn link_behind<T: Copy>(
     list.len += 1;
 }
 
-// Links a node that was never used behind a list, with this item. It stands apart, so that the push of a used node, which nearly
+// Links a node that was never used after a list, with this item. It stands apart, so that the push of a used node, which nearly
 // all are, keeps its values in registers.
 #[cold]
 #[inline(never)]

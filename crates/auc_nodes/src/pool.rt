@@ -128,7 +128,7 @@ impl<T: Copy> NodePool<T> {
         }
     }
 
-    /// Puts the item behind the list, or gives it back where no node is free. Takes O(1) time.
+    /// Puts the item after the list, or gives it back where no node is free. Takes O(1) time.
     #[inline(always)]
     pub fn push_back(&mut self, list: u32, item: T) -> Result<(), T>
         requires { HasList self.old list }
@@ -170,7 +170,7 @@ impl<T: Copy> NodePool<T> {
         Some(item)
     }
 
-    /// Puts all items of one list behind another, and leaves the first empty. Takes O(1) time.
+    /// Puts all items of one list after another, and leaves the first empty. Takes O(1) time.
     #[inline]
     pub fn append(&mut self, from: u32, to: u32)
         requires from { HasList self.old from }

@@ -30,7 +30,7 @@ pub nothing : tokens [] ≡ []
 unfolding tokens
 nothing = refl
 
--- a separator parts the tokens before it from those behind it
+-- a separator parts the tokens before it from those after it
 pub apart : (xs ys : List ℕ) (s : ℕ) → is_separator s ≡ true → tokens (xs ++ s ∷ ys) ≡ tokens xs ++ tokens ys
 unfolding tokens
 apart xs ys s h = ap (filter is_nonempty) (split_apart is_separator s xs ys h) ∙ filter-append is_nonempty (slice_split is_separator xs) (slice_split is_separator ys)

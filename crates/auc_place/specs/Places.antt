@@ -8,7 +8,7 @@ use Rattle.auc_place.specs.declared.place.TheConstants.{MOST_SHOWN}
 abbrev pub is_line_feed : ℕ → Bool
 is_line_feed b = b == 10
 
--- the line of what stands behind these bytes: one more than the line feeds among them
+-- the line of what stands after these bytes: one more than the line feeds among them
 abbrev pub line_behind : List ℕ → ℕ
 line_behind before = count_by is_line_feed before + 1
 
@@ -16,7 +16,7 @@ line_behind before = count_by is_line_feed before + 1
 abbrev pub column_behind : List ℕ → ℕ
 column_behind before = position_or_len is_line_feed (reverse before) + 1
 
--- The text is these three parts, one behind another, and the middle one is the token of this number, from 0 on, from its first byte to its
+-- The text is these three parts, one after another, and the middle one is the token of this number, from 0 on, from its first byte to its
 -- last one.
 pub record IsTokenOf (text : List ℕ) (number : ℕ) (before token behind : List ℕ) : Type 0 where
   pub parts : text ≡ before ++ token ++ behind

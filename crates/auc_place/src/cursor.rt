@@ -5,7 +5,7 @@ ghost use Rattle.auc_graph.specs.Tokens.{is_separator};
 ghost use Rattle.auc_place.specs.Places.{line_behind, column_behind};
 ghost use Rattle.auc_place.specs.Search.{HasTokens, IsCursor};
 
-/// What is known behind a beginning of a text.
+/// What is known after a beginning of a text.
 #[derive(Clone, Copy, Debug)]
 pub struct Cursor {
     /// How many tokens begin there.
@@ -27,7 +27,7 @@ pub(crate) fn is_separator_byte(byte: u8) -> bool
     matches!(byte, 9..=13 | 26 | 32)
 }
 
-/// The line and the column behind one more byte.
+/// The line and the column after one more byte.
 #[inline(always)]
 fn place_behind(line: u64, column: u64, byte: u8) -> (u64, u64)
     ensures { (seen : List ℕ) → length seen < 2 ^ 63 → line ≡ line_behind seen → column ≡ column_behind seen → (result.0 ≡ line_behind (seen ++ byte ∷ [])) × (result.1 ≡ column_behind (seen ++ byte ∷ [])) }
@@ -39,7 +39,7 @@ fn place_behind(line: u64, column: u64, byte: u8) -> (u64, u64)
     }
 }
 
-/// How many tokens begin behind one more byte, and whether the text ends inside one there.
+/// How many tokens begin after one more byte, and whether the text ends inside one there.
 #[inline(always)]
 fn tokens_behind(tokens: u64, inside: bool, byte: u8) -> (u64, bool)
     ensures has { (seen : List ℕ) → length seen < 2 ^ 63 → HasTokens seen tokens inside → HasTokens (seen ++ byte ∷ []) result.0 result.1 }
@@ -67,11 +67,11 @@ impl Cursor {
         }
     }
 
-    /// Behind one more byte. No text has more than 2^63.
+    /// After one more byte. No text has more than 2^63.
     #[inline(always)]
     pub(crate) fn behind(self, byte: u8) -> Cursor
         ensures is { (seen : List ℕ) → length seen < 2 ^ 63 → IsCursor seen self → IsCursor (seen ++ byte ∷ []) result }
-        // A token more begins there only with a byte of its own, behind a separator or at the front.
+        // A token more begins there only with a byte of its own, after a separator or at the front.
         ensures begins { self.tokens < result.tokens → (self.inside ≡ false) × (is_separator byte ≡ false) × (result.tokens ≡ self.tokens + 1) }
     {
         let (tokens, inside) = tokens_behind(self.tokens, self.inside, byte);

@@ -18,7 +18,7 @@ pub enum Finding {
     Behind(Place),
 }
 
-/// What is found behind one more byte, where the token has not begun before it.
+/// What is found after one more byte, where the token has not begun before it.
 #[inline(always)]
 fn begun(cursor: Cursor, number: u64, byte: u8) -> Finding
     ensures { (seen : List ℕ) → length seen < 2 ^ 63 → IsFinding number seen (Finding.Before cursor) → IsFinding number (seen ++ byte ∷ []) result }
@@ -31,7 +31,7 @@ fn begun(cursor: Cursor, number: u64, byte: u8) -> Finding
     }
 }
 
-/// What is found behind one more byte, where the token has begun before it.
+/// What is found after one more byte, where the token has begun before it.
 #[inline(always)]
 fn gone_on(place: Place, byte: u8) -> Finding
     ensures { (number : ℕ) (seen : List ℕ) → IsFinding number seen (Finding.Within place) → IsFinding number (seen ++ byte ∷ []) result }
@@ -47,7 +47,7 @@ fn gone_on(place: Place, byte: u8) -> Finding
     }
 }
 
-/// What is found behind one more byte.
+/// What is found after one more byte.
 #[inline(always)]
 fn next(finding: Finding, number: u64, byte: u8) -> Finding
     ensures { (seen : List ℕ) → length seen < 2 ^ 63 → IsFinding number seen finding → IsFinding number (seen ++ byte ∷ []) result }
@@ -68,7 +68,7 @@ impl Finding {
         Finding::Before(Cursor::new())
     }
 
-    /// Behind one more piece of the text.
+    /// After one more piece of the text.
     pub(crate) fn behind(self, number: u64, piece: &[u8]) -> Finding
         ensures { (seen : List ℕ) → length seen + length piece.now < 2 ^ 63 → IsFinding number seen self → IsFinding number (seen ++ piece.now) result }
     {

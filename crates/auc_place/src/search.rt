@@ -29,7 +29,7 @@ pub enum SearchFault {
 /// # Errors
 ///
 /// [`SearchFault::Failed`] at the first read that fails, also by an interrupt: no read is tried again. [`SearchFault::TooManyReads`] where
-/// `limit` reads gave bytes each, and the place of the token was not known behind them.
+/// `limit` reads gave bytes each, and the place of the token was not known after them.
 ///
 /// Takes O(bytes read) time, 4 kB on the stack, and no memory.
 pub fn find_token<R: Read>(

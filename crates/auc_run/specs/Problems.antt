@@ -33,7 +33,7 @@ BearOutInput bytes Failed = ⊤
 BearOutInput bytes TooManyInputReads = MOST_READS ≤ length bytes
 BearOutInput bytes NoMemoryToRead = ⊤
 
--- The bytes of a problem bear out the refusal of a job that has no other input. Of want of memory behind the reading nothing is known.
+-- The bytes of a problem bear out the refusal of a job that has no other input. Of want of memory after the reading nothing is known.
 abbrev pub BearOutRefusal : ℕ → List ℕ → Refusal → Type 0
 BearOutRefusal objects file (NoProblem error) = ReadsAsProblem objects file (Err error)
 BearOutRefusal objects file (NotRead fault) = ⊥

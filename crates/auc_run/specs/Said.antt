@@ -36,7 +36,7 @@ BearOutJob Mail file cert outcome = (replies : Result (List (Reply ℤ)) Refusal
 abbrev pub IsOutcome : Job → Option (List ℕ) → Option (List ℕ) → Result Report Refusal → Type 0
 IsOutcome job first second outcome = (file : List ℕ) × (cert : List ℕ) × AreKnown first file × AreKnown second cert × BearOutJob job file cert outcome
 
--- a job wrote, behind what the writer had, the text of an outcome on what the two readers had, and gave its status
+-- a job wrote, after what the writer had, the text of an outcome on what the two readers had, and gave its status
 abbrev pub Said : Job → Option (List ℕ) → Option (List ℕ) → Option (List ℕ) → Option (List ℕ) → ℕ → Type 0
 Said job first second before after status =
     (outcome : Result Report Refusal) × IsOutcome job first second outcome × Appends before after (outcome_text outcome) × (status ≡ outcome_status outcome)
@@ -45,7 +45,7 @@ Said job first second before after status =
 abbrev pub SaidInPart : Job → Option (List ℕ) → Option (List ℕ) → Option (List ℕ) → Option (List ℕ) → Type 0
 SaidInPart job first second before after = (outcome : Result Report Refusal) × IsOutcome job first second outcome × Begins before after (outcome_text outcome)
 
--- How a job ended that has this outcome: its text stands behind what the writer had, or a beginning of it where the status says so; and the
+-- How a job ended that has this outcome: its text stands after what the writer had, or a beginning of it where the status says so; and the
 -- refusal is the outcome's.
 pub record EndsBy (before after : Option (List ℕ)) (outcome : Result Report Refusal) (ending : Ending) : Type 0 where
   pub whole : ending.status ≢ 8 → Appends before after (outcome_text outcome) × (ending.status ≡ outcome_status outcome)

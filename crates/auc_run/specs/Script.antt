@@ -38,7 +38,7 @@ number_in least most k Bad = Err (Word k)
 number_in least most k Huge = Err (Range k)
 number_in least most k (Value z) = if is_between least most z then Ok z else Err (Range k)
 
--- the operand at token k, from least to most, and the tokens behind it
+-- the operand at token k, from least to most, and the tokens after it
 abbrev pub operand : ℤ → ℤ → ℕ → List (List ℕ) → Result (ℤ × List (List ℕ)) ScriptError
 operand least most k [] = Err (Cut k)
 operand least most k (token ∷ more) = do
@@ -57,7 +57,7 @@ count least most k more = do
   x ← operand (pos least) (pos most) k more
   Ok (unsigned_abs x.0, x.1)
 
--- a call, how many tokens there are up to its end, and the tokens behind it
+-- a call, how many tokens there are up to its end, and the tokens after it
 abbrev pub ReadCall : Type 0
 ReadCall = (Call ℤ × ℕ) × List (List ℕ)
 

@@ -92,7 +92,7 @@ abbrev pub MayLackThreads : ℕ → Type 0
 MayLackThreads zero = ⊥
 MayLackThreads (suc workers) = ⊤
 
--- The two files bear the answer of a solve from a start out, or the refusal. Of want of memory behind the reading nothing is known.
+-- The two files bear the answer of a solve from a start out, or the refusal. Of want of memory after the reading nothing is known.
 abbrev pub BearOutFrom : Bool → ℕ → ℕ → ℕ → ℕ → List ℕ → List ℕ → Result Answer Refusal → Type 0
 BearOutFrom direct objects workers bids audit file cert (Ok answer) = (p : Problem) × (start : List ℤ) × IsStartOf direct objects file cert p start × AnswersFrom direct workers bids audit p start answer
 BearOutFrom direct objects workers bids audit file cert (Err NoMemoryForJob) = ⊤

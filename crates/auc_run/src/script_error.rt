@@ -19,7 +19,7 @@ pub enum ScriptError {
     /// The text, which has so many tokens, ends inside a command, or has none.
     #[error("the script ends inside a command, behind {tokens} tokens")]
     Cut { tokens: u64 },
-    /// A token stands behind the last call that is allowed.
+    /// A token stands after the last call that is allowed.
     #[error("there are too many calls")]
     TooManyCalls,
     /// Memory ran out.

@@ -18,7 +18,7 @@ use auc_graph::{Number, number_of, token_at};
 use auc_mail::Call;
 use std::alloc::Global;
 
-/// The token at the front, and the text behind it.
+/// The token at the front, and the text after it.
 fn next_token(bytes: &[u8]) -> Option<(&[u8], &[u8])>
     ensures found { IfSome result (λ x. tokens bytes.now ≡ x.0.now ∷ tokens x.1.now) }
     ensures shorter { IfSome result (λ x. length x.1.now < length bytes.now) }
@@ -58,7 +58,7 @@ fn number_within(number: Number, place: u64, least: i64, most: i64) -> Result<i6
     }
 }
 
-/// The operand at token `place`, from `least` to `most`, and the text behind it.
+/// The operand at token `place`, from `least` to `most`, and the text after it.
 fn operand_of(bytes: &[u8], place: u64, least: i64, most: i64) -> Result<(i64, &[u8]), ScriptError>
     ensures exact { result_map_both (λ x. (x.0, tokens x.1.now)) (λ e. e) result ≡ operand least most place (tokens bytes.now) }
     ensures bounds { IfOk result (λ x. (least ≤ℤ x.0) × (x.0 ≤ℤ most)) }
@@ -71,7 +71,7 @@ fn operand_of(bytes: &[u8], place: u64, least: i64, most: i64) -> Result<(i64, &
     Ok((value, rest))
 }
 
-/// The operand at token `place`, from 1 to `most`, as a number from 0, and the text behind it.
+/// The operand at token `place`, from 1 to `most`, as a number from 0, and the text after it.
 fn index_of(bytes: &[u8], place: u64, most: u32) -> Result<(u32, &[u8]), ScriptError>
     ensures exact { result_map_both (λ x. (x.0, tokens x.1.now)) (λ e. e) result ≡ index most place (tokens bytes.now) }
     ensures below { IfOk result (λ x. x.0 < most) }
@@ -81,7 +81,7 @@ fn index_of(bytes: &[u8], place: u64, most: u32) -> Result<(u32, &[u8]), ScriptE
     Ok(((value - 1) as u32, rest))
 }
 
-/// The operand at token `place`, from `least` to `most`, and the text behind it.
+/// The operand at token `place`, from `least` to `most`, and the text after it.
 fn count_of(bytes: &[u8], place: u64, least: u32, most: u32) -> Result<(u32, &[u8]), ScriptError>
     ensures exact { result_map_both (λ x. (x.0, tokens x.1.now)) (λ e. e) result ≡ count least most place (tokens bytes.now) }
     ensures bounds { IfOk result (λ x. (least ≤ x.0) × (x.0 ≤ most)) }
@@ -91,7 +91,7 @@ fn count_of(bytes: &[u8], place: u64, least: u32, most: u32) -> Result<(u32, &[u
     Ok((value as u32, rest))
 }
 
-/// The call that is `post` at token `place`, the number of the token behind it, and the text behind it.
+/// The call that is `post` at token `place`, the number of the token after it, and the text after it.
 #[tactic(auto, unfolding(crate::specs::Script::post_at))]
 fn post_of(
     boxes: u32,
@@ -118,7 +118,7 @@ fn post_of(
     Ok((post, place + 5, rest))
 }
 
-/// The call whose command stands at token `place`, the number of the token behind it, and the text behind it.
+/// The call whose command stands at token `place`, the number of the token after it, and the text after it.
 fn call_of(
     boxes: u32,
     senders: u32,
@@ -146,7 +146,7 @@ fn call_of(
     }
 }
 
-/// The calls of a text behind the numbers of its mail.
+/// The calls of a text after the numbers of its mail.
 fn calls_of(
     alloc: Global,
     boxes: u32,
@@ -188,7 +188,7 @@ fn open_script(command: Option<CommandWord>) -> Result<u32, ScriptError>
 ///
 /// The text is parted into tokens, and its numbers are spelled, as those of a problem are. It begins with
 /// `mail BOXES SENDERS NODES MOST`: 1 to 1,000 boxes and senders, up to 1,000,000 waiting letters, up to 10^12 posts for
-/// each lane. Behind that stand the calls, each one of `post SENDER BOX ITEM RESERVE`, `take BOX` and `close BOX`.
+/// each lane. After that stand the calls, each one of `post SENDER BOX ITEM RESERVE`, `take BOX` and `close BOX`.
 ///
 /// # Errors
 ///

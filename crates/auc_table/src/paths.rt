@@ -86,7 +86,7 @@ impl Search {
         })
     }
 
-    /// Looks at one row behind another, till a free object is the nearest one; gives it. None where no object is left.
+    /// Looks at one row after another, till a free object is the nearest one; gives it. None where no object is left.
     fn find(
         &mut self,
         table: &Table,

@@ -1,13 +1,13 @@
 //! A table of costs, as it lies in memory.
 
-/// A row for each person, and in it an entry for each object, whose cost stands `stride` places behind that of the row before.
+/// A row for each person, and in it an entry for each object, whose cost stands `stride` places after that of the row before.
 #[derive(Clone, Copy)]
 pub struct Table<'a> {
     /// How many rows there are.
     pub persons: u32,
     /// How many entries a row has.
     pub objects: u32,
-    /// How many places a row begins behind the one before it.
+    /// How many places a row begins after the one before it.
     pub stride: usize,
     /// All costs.
     pub costs: &'a [i64],

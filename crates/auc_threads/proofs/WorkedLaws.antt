@@ -55,7 +55,7 @@ pub first_one : (why : Option Why) → first_some (why ∷ []) ≡ why
 first_one None = refl
 first_one (Some w) = refl
 
--- a reason that no worker behind the persons has
+-- a reason that no worker after the persons has
 never : (o : Option Why) (whys : List (Option Why)) (why : Why) → o ≢ Some why → first_some whys ≢ Some why → first_some (o ∷ whys) ≢ Some why
 never None whys why here later e = later e
 never (Some w) whys why here later e = here e

@@ -45,7 +45,7 @@ module _ (g : Phase) (one : g.shards ≡ 1) (small : g.persons < nobody) (allowe
 
   -- a letter waits
   module _ (t : Told) (ts : List Told) (first : s.told ≡ t ∷ ts) where
-    -- what is kept behind it
+    -- what is kept after it
     abbrev after : Alone
     after = record s { copies = set s.copies t.object t.price; told = ts; idle = s.idle ++ freed_by t }
 

@@ -153,7 +153,7 @@ module _ (x : Given) (s : Alone) (h : IsGoing x s) (more : s.count < s.persons) 
   unsold : s.count < goes.persons
   unsold = still_unsold x h.given s h more
 
-  -- what is kept behind it has these prices and holders too
+  -- what is kept after it has these prices and holders too
   stopped_by : (moved : Alone) (why : Why) → moved ≡ without_first s → StopEnds goes (seen h.parts) s why → IsStopped x moved why
   stopped_by moved why leaves ends = subst (λ (n : Alone). IsStopped x n why) (sym leaves) (record {
     given = h.given;

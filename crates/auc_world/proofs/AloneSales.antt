@@ -1,4 +1,4 @@
--- A bid of the only shard of the persons, and its answers by the only one of the objects: five turns, and what is kept behind them.
+-- A bid of the only shard of the persons, and its answers by the only one of the objects: five turns, and what is kept after them.
 use Rattle.std.proofs.Common.{ℕ, ◌+◌, ◌-◌, ◌*◌, ◌%◌, ◌<◌, ◌≤◌, ◌≡◌, ◌≢◌, ◌^◌, refl, arith, Bool, true, false, List, [], ◌∷◌, ◌++◌, Option, Some, None, drop, length, get_or, set, cond, inl, inr, sym, ap, subst, ◌∙◌, length-set, append_assoc}
 use Rattle.std.specs.Prelude.{ℤ, pos, ◌≤ℤ◌, ◌<ℤ◌, int_le}
 use Rattle.std.proofs.lemmas.Bool.{cases_eq}
@@ -190,7 +190,7 @@ module _ (g : Phase) (one : g.shards ≡ 1) (allowed most : ℕ) (enough : 2 * a
   abbrev answered : Sale → List Out → World
   answered sale letters = record w2 { objects_mail = m2; price = put w2.price j sale.price; holder = put w2.holder j sale.holder; object_out = put w2.object_out 0 letters }
 
-  -- ---- what is kept behind the turns
+  -- ---- what is kept after the turns
 
   abbrev k : ℕ
   k = shows.mails.heard

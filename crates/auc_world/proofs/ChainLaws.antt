@@ -66,7 +66,7 @@ ready_next t limits start done s next gathered ready left end more = (record { s
 pub begins_first : (t : Table) (n : ℕ) (prices : List ℤ) (eps : ℤ) → n ≡ t.objects → prices ≡ replicate n (pos 0) → eps ≡ first_eps t → Begins t None eps prices
 begins_first t n prices eps all zeros first = (first, zeros ∙ ap (λ (m : ℕ). replicate m (pos 0)) all)
 
--- where no phase comes behind, eps is 1
+-- where no phase comes after, eps is 1
 pub last_eps : (eps : ℤ) → IsEps eps → next_eps eps ≡ None → eps ≡ pos 1
 last_eps eps is none = by (int_le eps (pos 1)) refl
   where
@@ -76,7 +76,7 @@ last_eps eps is none = by (int_le eps (pos 1)) refl
 
 -- ---- more objects than persons: one phase, from prices of 0
 
--- where a phase comes behind another, there are no more objects than persons
+-- where a phase comes after another, there are no more objects than persons
 first_is_only : (t : Table) (next : ℤ) → length t.rows < t.objects → next_eps (first_eps t) ≡ Some next → ⊥
 first_is_only t next more e =
     let b : nat_lt (length t.rows) t.objects ≡ true = grind (arith, nat_tests, more) in

@@ -18,7 +18,7 @@ use Rattle.auc_answers.specs.Eps.{next_eps}
 use Rattle.auc_answers.specs.Begins.{Begins}
 use Rattle.auc_world.specs.Phases.{IsPlayed, Stage}
 
--- a phase at this eps and these prices comes behind r: every person had an object there, the eps is the next one, and the prices are those
+-- a phase at this eps and these prices comes after r: every person had an object there, the eps is the next one, and the prices are those
 -- that r has left
 pub record Follows (t : Table) (r : Stage) (eps : ℤ) (prices : List ℤ) : Type 0 where
   pub sold : r.world.end ≡ Some End.All
@@ -26,7 +26,7 @@ pub record Follows (t : Table) (r : Stage) (eps : ℤ) (prices : List ℤ) : Typ
   pub each : length prices ≡ t.objects
   pub kept : ArePricesOf r.world prices
 
--- The phases of a run, the last one first, each next one behind the one before. Where there is no start, it is from nothing.
+-- The phases of a run, the last one first, each next one after the one before. Where there is no start, it is from nothing.
 abbrev pub Chain : Table → Limits → Option (List ℤ) → List Stage → Type 0
 Chain t limits start [] = ⊥
 Chain t limits start (s ∷ []) = IsPlayed t limits s × Begins t start s.eps s.prices

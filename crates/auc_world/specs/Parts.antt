@@ -15,7 +15,7 @@ use Rattle.auc_answers.specs.Shards.{IsObjectShard, IsPersonShard, no_objects, n
 use Rattle.auc_world.specs.declared.mails.Mails.{Mails}
 
 -- The rows of the problem, how many shards there are of each kind, and eps; the shards; the outboxes of the shards of the
--- persons, and behind them those of the shards of the objects; which shards of the persons have made a Stop; the three mails;
+-- persons, and after them those of the shards of the objects; which shards of the persons have made a Stop; the three mails;
 -- how many First letters the hub has counted, and the end, once it is set.
 pub record Parts : Type 0 where
   pub table : Table
@@ -38,7 +38,7 @@ objects_at p q = slice_index_or p.objects q no_objects
 abbrev pub has_stopped : Parts → ℕ → Bool
 has_stopped p s = slice_index_or p.stopped s false
 
--- the outbox of a sender: the shards of the persons come first, those of the objects behind them
+-- the outbox of a sender: the shards of the persons come first, those of the objects after them
 abbrev pub outbox_at : Parts → ℕ → List Out
 outbox_at p x = slice_index_or p.outboxes x []
 

@@ -46,7 +46,7 @@ pub struct World<'a> {
     hub: Hub,
     persons: Vec<PersonShard>,
     objects: Vec<ObjectShard>,
-    // By sender: those of the shards of the persons, and behind them those of the shards of the objects.
+    // By sender: those of the shards of the persons, and after them those of the shards of the objects.
     outboxes: Vec<Outbox>,
     stopped: Vec<bool>,
     mails: Mails,

@@ -57,7 +57,7 @@ built_shape name rules = record (new_shape name) {
 abbrev pub row_of_value : Text × Text → Row
 row_of_value given = record { id = given.0; values = given.1 ∷ []; count = None; source = Some CommandLine; reading = reading_of parser.String }
 
--- the parser reads the name, and the value behind an equals sign, from the words of the option
+-- the parser reads the name, and the value after an equals sign, from the words of the option
 pub record IsLong (name : Text) : Type 0 where
   pub alone : long_of (codes "--" ++ name) ≡ Some (name, None)
   pub valued : (value : Text) → long_of ((codes "--" ++ name) ++ codes "=" ++ value) ≡ Some (name, Some value)
@@ -107,7 +107,7 @@ new_row given rows h =
 abbrev walk_at : List Row → Option (Text × List Text) → ℕ → Walk
 walk_at rows pending position = record { held = record { rows = rows; pending = pending; skip = 0 }; waiting = idle; position = position; is_trailing = false; stopped = None }
 
--- the walk behind an option that waits for its value
+-- the walk after an option that waits for its value
 abbrev walk_behind : List Row → Text → ℕ → Walk
 walk_behind rows name position = record (walk_at rows (Some (name, [])) position) { waiting = option name }
 
@@ -162,7 +162,7 @@ module _ (command : Text) (rules : List Rule) where
     unfolding clap_on_literals
     file_word name value has plain = let v = no_hyphen value plain in (simp (v.0, v.1, has.by_index, and_false, passes), simp (v.0, v.1, has.by_index, and_false, settles))
 
-  -- behind an option the next word is its value, if it begins with no hyphen
+  -- after an option the next word is its value, if it begins with no hyphen
   value_word : (rows : List Row) (name value : Text) (position : ℕ) → HasOption rules name → IsName value
       → (turn_passes shape [] (walk_behind rows name position) value ≡ true)
       × (walked rules [] (walk_behind rows name position) value ≡ walk_at rows (Some (name, value ∷ [])) position)
@@ -194,7 +194,7 @@ module _ (command : Text) (rules : List Rule) where
     passes : settle_passes rules false (walk_at so_far pending position).held ≡ true
     place : HasFiles rules position left
 
-  -- the parser takes these words, and stands so behind them
+  -- the parser takes these words, and stands so after them
   record Goes (w : Walk) (words : List Text) (rows : List Row) (left : List Text) : Type 0 where
     taken : walk_passes shape [] w words ≡ true
     stands : Stands (fold (walked rules []) w words) rows left

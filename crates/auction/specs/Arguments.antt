@@ -27,7 +27,7 @@ abbrev pub AreArgument : List (List ℕ) → List (List ℕ) → List (List ℕ)
 AreArgument options flags files left given words = ((files ≡ given.0 ∷ left) × IsName given.1 × (words ≡ given.1 ∷ []))
     ⊎ ((IsOneOf given.0 options × AreOption (codes "--" ++ given.0) given.1 words × (files ≡ left)) ⊎ (IsFlag flags given words × (files ≡ left)))
 
--- the words give these arguments their values, one behind the other: files in their order, and options and flags anywhere among them
+-- the words give these arguments their values, one after the other: files in their order, and options and flags anywhere among them
 abbrev pub AreArguments : List (List ℕ) → List (List ℕ) → List (List ℕ) → List (List ℕ × List ℕ) → List (List ℕ) → Type 0
 AreArguments options flags files [] words = words ≡ []
 AreArguments options flags files (first ∷ given) words =

@@ -85,7 +85,7 @@ fn solve_with_options<'a>(alloc: Global) -> Result<Command<'a>, AllocError>
     with_option(alloc, with_objects, "from")
 }
 
-/// The same with `[--seconds T] [--direct] [--progress]`. The numbers are read behind the parser, by [`crate::numbers`].
+/// The same with `[--seconds T] [--direct] [--progress]`. The numbers are read after the parser, by [`crate::numbers`].
 fn solve_command<'a>(alloc: Global) -> Result<Command<'a>, AllocError>
     ensures shape { IfOk result (λ c. app_of c ≡ solve_grammar) }
     ensures local { IfOk result (λ c. (fields_of c).has_globals ≡ false) }

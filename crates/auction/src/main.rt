@@ -33,7 +33,7 @@ use words::read_words;
 use words_error::WordsError;
 use wrong_words::fault_of;
 
-/// The most reads that look for the place of a token, 4,096 bytes each: in the first 64 MiB of a file. A token that stands behind them is
+/// The most reads that look for the place of a token, 4,096 bytes each: in the first 64 MiB of a file. A token that stands after them is
 /// told by its number, so that the answer isn't long past when the sentence comes.
 const MOST_PLACE_READS: u32 = 16_384;
 
@@ -120,7 +120,7 @@ fn with_second<
 }
 
 /// Where the token stands that the end of the job is about, looked up in the first file; none where there is no such token, it stands too far
-/// behind, or the file can't be read a second time, as a pipe.
+/// after, or the file can't be read a second time, as a pipe.
 fn place_in<F: Read + Seek>(file: &mut F, job: &Job, ended: &Ended) -> Option<Place> {
     let Ok(ending) = ended else {
         return None;

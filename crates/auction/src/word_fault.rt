@@ -11,7 +11,7 @@ const ALIKE: f64 = 0.7;
 /// What is wrong with some words.
 #[derive(Debug, Drop)]
 pub(crate) struct WordFault<'a> {
-    // What stands before the word in the sentence, the word, and what stands behind it where no right word is near.
+    // What stands before the word in the sentence, the word, and what stands after it where no right word is near.
     before: &'static str,
     word: Option<&'a str>,
     behind: &'static str,
@@ -43,7 +43,7 @@ impl<'a> WordFault<'a> {
         }
     }
 
-    /// The same, where this right word behind these hyphens is like it, if any is.
+    /// The same, where this right word after these hyphens is like it, if any is.
     pub fn with_nearest(
         self,
         hyphens: &'static str,

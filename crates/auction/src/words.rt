@@ -138,7 +138,7 @@ pub fn read_words(alloc: Global, words: &[String]) -> Result<Words, WordsError>
         → AsksFor (Job.Check objects) result (value_in given (codes "file")) (value_in given (codes "cert")) }
     // A hall that is asked for without options is read as that hall, of as many objects as persons, unless memory runs out.
     ensures hall { (file : Option (List ℕ)) → AreJob (codes "hall") (map string_bytes words.now) file → AsksFor (Job.Hall 0) result file None }
-    // A hall with a number of objects, before or behind its file, is read as the hall with that number, unless memory runs out.
+    // A hall with a number of objects, before or after its file, is read as the hall with that number, unless memory runs out.
     ensures hall_objects { (given : List (List ℕ × List ℕ)) (objects : ℕ) → AreHallOf (map string_bytes words.now) given → HasObjects (value_in given (codes "objects")) objects
         → AsksFor (Job.Hall objects) result (value_in given (codes "file")) None }
     // A mail that is asked for is read as that mail, unless memory runs out.
@@ -161,10 +161,10 @@ pub fn read_words(alloc: Global, words: &[String]) -> Result<Words, WordsError>
     // So is, of another one, a trail without threads.
     ensures audit_alone { (given : List (List ℕ × List ℕ)) (bids audit objects : ℕ) → AreSolve (map string_bytes words.now) given → AreNumbers (value_in given) 0 bids audit objects
         → is_direct (value_in given) ≡ false → 0 < audit → IsAuditAlone result }
-    // Behind it, so is a start from a certificate with a number of objects.
+    // After it, so is a start from a certificate with a number of objects.
     ensures from_objects { (given : List (List ℕ × List ℕ)) (workers bids audit objects : ℕ) → AreSolve (map string_bytes words.now) given → AreNumbers (value_in given) workers bids audit objects
         → is_direct (value_in given) ≡ false → (workers ≡ 0 → audit ≡ 0) → HasBoth (value_in given) → IsFromObjects result }
-    // Behind these, so is one that is to be watched.
+    // After these, so is one that is to be watched.
     ensures watch_alone { (given : List (List ℕ × List ℕ)) (workers bids audit objects : ℕ) → AreSolve (map string_bytes words.now) given → AreNumbers (value_in given) workers bids audit objects
         → is_direct (value_in given) ≡ false → (workers ≡ 0 → audit ≡ 0) → ¬ HasBoth (value_in given) → HasWatch (value_in given) → IsWatchAlone result }
     // A solve is watched as its options ask: for so many seconds, and with or without progress.

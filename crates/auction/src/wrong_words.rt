@@ -15,7 +15,7 @@ enum Command {
     Mail,
 }
 
-/// What an option wants behind it.
+/// What an option wants after it.
 #[derive(Clone, Copy, Debug, PartialEq, Eq)]
 enum Wanted {
     Workers,
@@ -27,13 +27,13 @@ enum Wanted {
     Nothing,
 }
 
-/// How far a walk over the words behind a command has come.
+/// How far a walk over the words after a command has come.
 #[derive(Drop)]
 struct Walk<'a> {
     command: Command,
     // How many names there were.
     names: u32,
-    // Whether all that comes is a name, behind --.
+    // Whether all that comes is a name, after --.
     is_plain: bool,
     // The option before this word, where its value is to come.
     awaited: Option<(&'a str, Wanted)>,
@@ -49,7 +49,7 @@ fn command_of(word: &str) -> Option<Command> {
     }
 }
 
-/// What an option of this command wants behind it; none where the command has no such option.
+/// What an option of this command wants after it; none where the command has no such option.
 fn wanted_of(command: Command, option: &str) -> Option<Wanted> {
     if option == "--objects" && command != Command::Mail {
         return Some(Wanted::Objects);
@@ -237,7 +237,7 @@ impl<'a> Walk<'a> {
     }
 }
 
-/// What is wrong with the words behind a command.
+/// What is wrong with the words after a command.
 fn fault_behind<'a>(
     alloc: Global,
     command: Command,

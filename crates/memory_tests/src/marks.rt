@@ -3,10 +3,10 @@
 use std::alloc::Global;
 use std::test::*;
 
-/// A block of this size marks that one growth behind it is refused.
+/// A block of this size marks that one growth after it is refused.
 const ONE: usize = 7_654_321;
 
-/// A block of this size marks that all growths behind it are refused.
+/// A block of this size marks that all growths after it are refused.
 const ALL: usize = 7_654_322;
 
 /// One growth is refused from here on, until the mark is dropped.

@@ -173,7 +173,7 @@ fn unwritten_certificates(rt: HostRuntime) -> Result<(), Fail> {
     Ok(())
 }
 
-/// What keeps the certificate of one person, 47 bytes, from being written byte by byte, where a write fails or takes nothing behind
+/// What keeps the certificate of one person, 47 bytes, from being written byte by byte, where a write fails or takes nothing after
 /// so many; and how many bytes were written.
 fn cut_at(rt: &HostRuntime, good: usize, fails: bool) -> Result<(Option<WriteFault>, usize), Fail> {
     let text = b"auction 1\noptimal 1 -7\nassign 1 1 -7\nprice 1 1\n";

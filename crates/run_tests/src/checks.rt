@@ -22,7 +22,7 @@ fn slow_readers(rt: HostRuntime) {
     assert!(rt; says(&rt, &CHECK, &mut first, &mut second, "valid optimal 3\n", 0));
 }
 
-/// The first reader fails behind the whole problem, and the second one is left alone.
+/// The first reader fails after the whole problem, and the second one is left alone.
 #[test]
 fn broken_first_reader(rt: HostRuntime) {
     let mut first = Broken {

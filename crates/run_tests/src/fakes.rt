@@ -20,7 +20,7 @@ impl<'a> Read for Slow<'a> {
     }
 }
 
-/// A reader that fails behind its bytes, which it does not tell.
+/// A reader that fails after its bytes, which it does not tell.
 #[derive(Drop)]
 pub struct Broken<'a> {
     pub rest: &'a [u8],
@@ -36,7 +36,7 @@ impl<'a> Read for Broken<'a> {
     }
 }
 
-/// A reader that gives at most so many bytes at each read, and fails once, behind so many reads.
+/// A reader that gives at most so many bytes at each read, and fails once, after so many reads.
 #[derive(Drop)]
 pub struct Flaky<'a> {
     pub rest: &'a [u8],
@@ -56,7 +56,7 @@ impl<'a> Read for Flaky<'a> {
     }
 }
 
-/// A writer that waits for a text, takes one byte of it at each write, and once, behind so many writes, fails or takes nothing. It
+/// A writer that waits for a text, takes one byte of it at each write, and once, after so many writes, fails or takes nothing. It
 /// takes nothing else than the text.
 #[derive(Drop)]
 pub struct Picky<'a> {

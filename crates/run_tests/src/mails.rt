@@ -65,7 +65,7 @@ fn slow_reader(rt: HostRuntime) {
     assert_same(&rt, second.rest.len(), 10);
 }
 
-/// A script whose reader fails behind it is no script.
+/// A script whose reader fails after it is no script.
 #[test]
 fn broken_reader(rt: HostRuntime) {
     let mut first = Broken {

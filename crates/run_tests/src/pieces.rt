@@ -10,7 +10,7 @@ use std::test::*;
 /// A number that is too long to be kept where a piece cuts it.
 const ZEROS: &str = "00000000000000000000000000000000000000000000000000000000000000000";
 
-/// What is read of a text that comes in pieces of so many bytes, by so many reads, of which one fails behind so many.
+/// What is read of a text that comes in pieces of so many bytes, by so many reads, of which one fails after so many.
 fn read(
     alloc: Global,
     text: &[u8],

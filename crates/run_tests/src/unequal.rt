@@ -97,7 +97,7 @@ fn claims(rt: HostRuntime) -> Result<(), Fail> {
     Ok(())
 }
 
-/// An object that is left over may stand behind as many objects as there are persons, and two may have a price.
+/// An object that is left over may stand after as many objects as there are persons, and two may have a price.
 #[test]
 fn left_over(rt: HostRuntime) -> Result<(), Fail> {
     let last = "auction 2\noptimal 1 3 3\nassign 1 2 3\nprice 1 0\nprice 2 5\nprice 3 1\n";

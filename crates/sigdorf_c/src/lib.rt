@@ -1,13 +1,13 @@
 //! The solver and the checker as C calls them: the exports alone, over [`auc_call`].
 //!
 //! Each export takes what a C program holds: numbers, references to `#[repr(C)]` structs, and slices as a pointer and a length. What a
-//! call answers is a status; the rest goes out through `&mut`. No call keeps anything behind its return. What the caller owes stands at
+//! call answers is a status; the rest goes out through `&mut`. No call keeps anything after its return. What the caller owes stands at
 //! the top of `c/sigdorf.h`.
 #![tactic(auto)]
 
 ghost use Rattle.std.specs.Prelude.{◌≡◌, ◌≢◌, ◌↔◌, Contains, None, length, pos};
 ghost use Rattle.auc_graph.specs.HallSet.{IsHallSet};
-ghost use Rattle.auc_graph.specs.Listing.{problem_from, list_fault};
+ghost use Rattle.auc_graph.specs.InMemory.{problem_from, list_fault};
 ghost use Rattle.auc_call.specs.Memory.{AreSizes, memory};
 ghost use Rattle.auc_call.specs.Shown.{IsLeastAt, IsHallAt};
 ghost use Rattle.auc_call.specs.Start.{start_fault, start_fault_by_messages};

@@ -1,4 +1,4 @@
-//! Closed boxes, and turns behind the end.
+//! Closed boxes, and turns after the end.
 
 use crate::limits::{bids, posts};
 use crate::moves::{
@@ -22,7 +22,7 @@ const CLOSE_ALL: [Step; 5] = [
     CLOSE_HUB,
 ];
 
-/// No box is closed before the end, and each one once behind it. A price for a closed box leaves the outbox.
+/// No box is closed before the end, and each one once after it. A price for a closed box leaves the outbox.
 #[test]
 fn boxes_close_once(rt: HostRuntime) -> Result<(), Fail> {
     let mut steps = Vec::new(rt.alloc());
@@ -76,7 +76,7 @@ fn closed_boxes_swallow_awards(rt: HostRuntime) -> Result<(), Fail> {
 
 /// The first two persons both bid for the second object, with one bid for each shard: the first shard stops while its bid waits, and
 /// the bid of the second one finds its box closed. A closed box keeps the bid that waits there, and takes no other; the shards
-/// go on behind the end.
+/// go on after the end.
 const KEPT: [Step; 18] = [
     BID,
     PERSON_POST,

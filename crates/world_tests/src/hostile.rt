@@ -30,8 +30,8 @@ fn steps_at(beyond: u32) -> [Step; 13] {
     ]
 }
 
-/// Turns out of range at the start, in the middle of each of six rounds, where letters wait everywhere, and behind the end: 29
-/// each time, with objects of another shard, and how the world stands before and behind them.
+/// Turns out of range at the start, in the middle of each of six rounds, where letters wait everywhere, and after the end: 29
+/// each time, with objects of another shard, and how the world stands before and after them.
 fn out_of_range_steps(rt: &HostRuntime) -> Result<Vec<Step>, Fail> {
     let mut steps = Vec::new(rt.alloc());
     for _ in 0..6 {
@@ -45,7 +45,7 @@ fn out_of_range_steps(rt: &HostRuntime) -> Result<Vec<Step>, Fail> {
     Ok(steps)
 }
 
-/// Whether how the world stands is told before and behind each run of these marks, and is the same.
+/// Whether how the world stands is told before and after each run of these marks, and is the same.
 fn stands_as_before(told: &str, marks: &str) -> bool {
     let mut before = None;
     for part in told.split(marks) {
@@ -64,7 +64,7 @@ fn stands_as_before(told: &str, marks: &str) -> bool {
 fn out_of_range(rt: HostRuntime) -> Result<(), Fail> {
     let steps = out_of_range_steps(&rt)?;
     let told = told(&rt, TWO, Limits::usual(2), steps.as_slice())?;
-    // None of them moved anything, nor changed how the world stands; the two turns behind a round are answered as they may.
+    // None of them moved anything, nor changed how the world stands; the two turns after a round are answered as they may.
     let none = ".............................";
     assert_same(&rt, told.as_str().matches(none).count(), 6);
     assert!(rt; stands_as_before(told.as_str(), none), "{told}");
@@ -72,7 +72,7 @@ fn out_of_range(rt: HostRuntime) -> Result<(), Fail> {
     Ok(())
 }
 
-/// A world that stands otherwise behind the marks than before is found out.
+/// A world that stands otherwise after the marks than before is found out.
 #[test]
 fn changes_are_seen(rt: HostRuntime) {
     assert!(rt; stands_as_before("[-:0 None]..[-:0 None]m[1:4 None]..[1:4 None]", ".."));
@@ -81,7 +81,7 @@ fn changes_are_seen(rt: HostRuntime) {
     assert!(rt; !stands_as_before("[-:0 None]..m[-:0 None]", ".."));
 }
 
-/// Where nothing waits, nothing is taken or posted; behind the end it is so again, and nobody is free to bid.
+/// Where nothing waits, nothing is taken or posted; after the end it is so again, and nobody is free to bid.
 #[test]
 fn nothing_waits(rt: HostRuntime) -> Result<(), Fail> {
     let empty = [PERSON_POST, PERSON_TAKE, OBJECT_TAKE, OBJECT_POST, HUB_TAKE];

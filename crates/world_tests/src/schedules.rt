@@ -132,7 +132,7 @@ fn is_well(world: &World) -> bool {
     matches!(world.end(), None | Some(End::All))
 }
 
-/// Takes some turns, and tells whether all was well behind each.
+/// Takes some turns, and tells whether all was well after each.
 fn takes_well(world: &mut World, shards: u32, starved: u32, numbers: &mut Numbers) -> bool
     requires { shards ≤ 16 }
 {

@@ -91,7 +91,7 @@ const STILL: [Step; 8] = [
     Look,
 ];
 
-/// He bids for the second object and gets it, and the hub counts both. The last award is heard behind the end.
+/// He bids for the second object and gets it, and the hub counts both. The last award is heard after the end.
 const SECOND_OBJECT: [Step; 11] = [
     BID,
     PERSON_POST,

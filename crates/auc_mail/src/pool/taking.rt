@@ -12,7 +12,7 @@ use crate::pool::MailPool;
 impl<T: Copy> MailPool<T> {
     /// Takes the first waiting letter of one of the box's lanes; where none has one, says whether one may still come.
     ///
-    /// Which lane is left open: it is the first with a letter, in rotating order from the one behind the last giver. Takes O(1)
+    /// Which lane is left open: it is the first with a letter, in rotating order from the one after the last giver. Takes O(1)
     /// time where all letters of the box wait in one lane, or none waits, and else O(senders).
     #[inline(always)]
     pub fn take(&mut self, at: u32) -> Taken<T>

@@ -1,7 +1,7 @@
 use Rattle.std.proofs.Common.{sym, subst, ◌∙◌, rules, w32, w64}
 use Rattle.std.specs.Prelude.{ℤ, FitsSigned, Contains}
 use Rattle.std.proofs.lemmas.Int.{to_z-of_z}
-use Rattle.auc_graph.specs.Listing.{problem_from}
+use Rattle.auc_graph.specs.InMemory.{problem_from}
 use Rattle.auc_call.specs.declared.found.Found.{Found}
 use Rattle.auc_call.specs.Telling.{check_status, check_statuses, KeepsChecked}
 use Rattle.auc_call.proofs.ToldChecks.{claim_known, claim_valid, claim_passes, claim_invalid, claim_refused, claim_sizes, sizes_claim, claim_same}

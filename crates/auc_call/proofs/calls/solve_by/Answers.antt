@@ -1,7 +1,7 @@
 use Rattle.std.proofs.Common.{sym, subst, ◌∙◌, rules, w32}
 use Rattle.std.specs.Prelude.{ℤ, FitsSigned, Contains}
 use Rattle.std.proofs.lemmas.Int.{to_z-of_z}
-use Rattle.auc_graph.specs.Listing.{problem_from}
+use Rattle.auc_graph.specs.InMemory.{problem_from}
 use Rattle.auc_call.specs.declared.found.Found.{Found}
 use Rattle.auc_call.specs.Memory.{memory}
 use Rattle.auc_call.specs.Telling.{solve_status, solve_statuses, KeepsFound, KeepsMemory}

@@ -3,7 +3,7 @@ use Rattle.std.specs.Prelude.{FitsSigned}
 use Rattle.std.proofs.lemmas.Int.{to_z-of_z}
 use Rattle.auc_graph.specs.declared.arc.Arc.{Arc}
 use Rattle.auc_graph.specs.Problem.{IsProblem}
-use Rattle.auc_graph.specs.Listing.{objects_or, problem_from}
+use Rattle.auc_graph.specs.InMemory.{objects_or, problem_from}
 use Rattle.auc_cert.specs.declared.cert.CertParts.{CertParts}
 use Rattle.auc_cert.specs.Claim.{chosen}
 use Rattle.auc_call.specs.Memory.{AreAt}

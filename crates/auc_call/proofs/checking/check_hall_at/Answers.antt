@@ -1,7 +1,7 @@
 use Rattle.std.proofs.Common.{List, refl, subst, ◌∙◌}
 use Rattle.auc_graph.specs.declared.arc.Arc.{Arc}
 use Rattle.auc_graph.specs.Problem.{IsProblem}
-use Rattle.auc_graph.specs.Listing.{problem_from}
+use Rattle.auc_graph.specs.InMemory.{problem_from}
 use Rattle.auc_call.proofs.MadeLaws.{made_of}
 use Rattle.auc_call.proofs.CheckLaws.{checks_hall}
 use Rattle.auc_call.proofs.checking.check_hall_at.Goals as goal

@@ -2,7 +2,7 @@ use Rattle.std.proofs.Common.{◌≡◌, List, refl, sym, subst, arith}
 use Rattle.std.specs.Prelude.{IfOk}
 use Rattle.auc_graph.specs.declared.arc.Arc.{Arc}
 use Rattle.auc_graph.specs.Problem.{Problem, IsProblem}
-use Rattle.auc_graph.specs.Listing.{objects_or, problem_from}
+use Rattle.auc_graph.specs.InMemory.{objects_or, problem_from}
 use Rattle.auc_call.specs.Memory.{AreSizes, memory}
 use Rattle.auc_call.specs.Drivers.{IsSolvedBy}
 use Rattle.auc_call.specs.Solving.{Runs}

@@ -1,6 +1,6 @@
 use Rattle.std.proofs.Common.{◌≡◌, ◌≤◌, length, None}
 use Rattle.auc_graph.specs.declared.limits.TheConstants.{MOST_ARCS}
-use Rattle.auc_graph.specs.Listing.{first_fault}
+use Rattle.auc_graph.specs.InMemory.{first_fault}
 use Rattle.auc_call.specs.Table.{table_arcs}
 use Rattle.auc_call.proofs.table.count_arcs.Given as goal
 

@@ -1,7 +1,7 @@
 use Rattle.std.proofs.Common.{sym, ◌∙◌, w64}
 use Rattle.std.specs.Prelude.{FitsSigned}
 use Rattle.std.proofs.lemmas.Int.{to_z-of_z}
-use Rattle.auc_graph.specs.Listing.{objects_or}
+use Rattle.auc_graph.specs.InMemory.{objects_or}
 use Rattle.auc_call.specs.Table.{table_arcs, table_problem}
 use Rattle.auc_call.proofs.FaultLaws.{counted_problem, first_refused, handed}
 use Rattle.auc_call.proofs.table_solving.arcs_of_problem.Goals as goal

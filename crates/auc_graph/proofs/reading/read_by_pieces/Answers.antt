@@ -14,7 +14,7 @@ use Rattle.auc_graph.proofs.StepLaws.{fault_stays}
 use Rattle.auc_graph.proofs.EndLaws.{answers_as, is_read}
 use Rattle.auc_graph.proofs.reading.read_by_pieces.Goals as goal
 
--- behind the last read there is nothing more than what was kept
+-- after the last read there is nothing more than what was kept
 pub returns-then-count-eq0 : goal.returns-then-count-eq0
 returns-then-count-eq0 g c =
     let told = c.loop-done.invariant.told in

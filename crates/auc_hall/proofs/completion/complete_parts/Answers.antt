@@ -1,7 +1,7 @@
 use Rattle.std.proofs.Common.{get_or, None, false, arith, refl, sym, inl, inr, subst, ◌∙◌}
 use Rattle.std.proofs.lemmas.Bool.{cases_eq, both_ways}
 use Rattle.auc_hall.specs.Matched.{IsPlaced}
-use Rattle.auc_hall.specs.Listing.{chosen}
+use Rattle.auc_hall.specs.Chosen.{chosen}
 use Rattle.auc_hall.specs.Completion.IsGrown.{stays}
 use Rattle.auc_hall.proofs.CompletionLaws.{grown_by, hall_answers}
 use Rattle.auc_hall.proofs.AnswerLaws.{is_assignment, done_more, walked_same}

@@ -1,5 +1,5 @@
 use Rattle.std.proofs.Common.{subst, ap, ◌∙◌, ℕ}
-use Rattle.auc_hall.specs.Listing.{places, AreReached}
+use Rattle.auc_hall.specs.Chosen.{places, AreReached}
 use Rattle.auc_hall.proofs.AnswerLaws.{is_hall_set, persons_of}
 use Rattle.auc_hall.proofs.hall_set.hall_set.Goals as goal
 

@@ -1,5 +1,5 @@
 use Rattle.std.proofs.Common.{◌≡◌, ◌++◌, drop}
-use Rattle.auc_hall.specs.Listing.{places}
+use Rattle.auc_hall.specs.Chosen.{places}
 use Rattle.auc_hall.proofs.hall_set.places_of.Given as goal
 
 abbrev pub invariant-loop-i : goal.invariant-loop-i

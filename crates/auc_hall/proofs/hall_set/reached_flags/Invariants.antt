@@ -1,5 +1,5 @@
 use Rattle.std.proofs.Common.{take}
-use Rattle.auc_hall.specs.Listing.{AreReached}
+use Rattle.auc_hall.specs.Chosen.{AreReached}
 use Rattle.auc_hall.proofs.hall_set.reached_flags.Given as goal
 
 abbrev pub invariant-loop-entry : goal.invariant-loop-entry

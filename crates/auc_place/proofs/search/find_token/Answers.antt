@@ -14,7 +14,7 @@ loop-done-init g c = record {
   told = ([], Consumes-nil (g.R.Read.remaining c.args.reader.now), omega arith, omega arith, c.new-finding.ensures.is c.args.number);
 }
 
--- behind the last read there is nothing more
+-- after the last read there is nothing more
 pub returns-in-Ok-eq0-clause-found : goal.returns-in-Ok-eq0-clause-found
 returns-in-Ok-eq0-clause-found g c =
     let told = c.loop-done.invariant.told in

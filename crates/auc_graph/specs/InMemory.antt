@@ -2,8 +2,8 @@
 use Rattle.std.specs.Prelude.{ℕ, suc, not, ◌==◌, ◌&&◌, nat_le, if◌then◌else◌, List, [], ◌∷◌, Option, Some, None, Result, Ok, Err, neg_ℤ}
 use Rattle.std.specs.Option.{option_or}
 use Rattle.auc_graph.specs.declared.arc.Arc.{Arc}
-use Rattle.auc_graph.specs.declared.listing_fault.ListFault.{ListFault}
-use Rattle.auc_graph.specs.declared.listing_fault.ListFault.TheVariants.{Persons, Objects, TooManyArcs, Person, Object, Cost}
+use Rattle.auc_graph.specs.declared.list_faults.ListFault.{ListFault}
+use Rattle.auc_graph.specs.declared.list_faults.ListFault.TheVariants.{Persons, Objects, TooManyArcs, Person, Object, Cost}
 use Rattle.auc_graph.specs.declared.limits.TheConstants.{MOST_PERSONS, MOST_OBJECTS, MOST_ARCS, MOST_COST}
 use Rattle.auc_graph.specs.Problem.{Problem}
 use Rattle.auc_graph.specs.Reading.{is_between, problem}

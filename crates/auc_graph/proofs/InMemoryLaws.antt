@@ -7,10 +7,10 @@ use Rattle.std.proofs.lemmas.Bool.{and_parts}
 use Rattle.std.proofs.lemmas.Bool.Decides.{nat_tests}
 use Rattle.std.proofs.lemmas.List.Elements.{All-nil, All-cons, All-head, All-tail}
 use Rattle.auc_graph.specs.declared.arc.Arc.{Arc}
-use Rattle.auc_graph.specs.declared.listing_fault.ListFault.{ListFault}
+use Rattle.auc_graph.specs.declared.list_faults.ListFault.{ListFault}
 use Rattle.auc_graph.specs.declared.limits.TheConstants.{MOST_ARCS, MOST_COST}
 use Rattle.auc_graph.specs.Problem.{IsWithin}
-use Rattle.auc_graph.specs.Listing.{fault_at, first_fault}
+use Rattle.auc_graph.specs.InMemory.{fault_at, first_fault}
 
 true_from : (b : Bool) → T b → b ≡ true
 true_from true t = refl

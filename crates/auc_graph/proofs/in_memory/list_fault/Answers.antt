@@ -1,8 +1,8 @@
 use Rattle.std.proofs.Common.{sym, ◌∙◌, ◌≡◌, ◌≤◌, ◌+◌, length, arith}
 use Rattle.auc_graph.specs.declared.limits.TheConstants.{MOST_ARCS}
-use Rattle.auc_graph.specs.Listing.{objects_or}
-use Rattle.auc_graph.proofs.ListingLaws.{sound, room, complete}
-use Rattle.auc_graph.proofs.listing.list_fault.Goals as goal
+use Rattle.auc_graph.specs.InMemory.{objects_or}
+use Rattle.auc_graph.proofs.InMemoryLaws.{sound, room, complete}
+use Rattle.auc_graph.proofs.in_memory.list_fault.Goals as goal
 
 pub returns-clause-none : goal.returns-clause-none
 returns-clause-none c =

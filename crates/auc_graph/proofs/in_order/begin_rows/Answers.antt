@@ -1,7 +1,7 @@
 use Rattle.std.proofs.Common.{◌∷◌, [], get_or, ap, ◌∙◌, arith, length}
 use Rattle.std.proofs.lemmas.List.{length-append}
-use Rattle.auc_graph.proofs.LinedLaws.{begun}
-use Rattle.auc_graph.proofs.lined.begin_rows.Goals as goal
+use Rattle.auc_graph.proofs.InOrderLaws.{begun}
+use Rattle.auc_graph.proofs.in_order.begin_rows.Goals as goal
 
 pub loop-offsets-preserved : goal.loop-offsets-preserved
 loop-offsets-preserved c = record {

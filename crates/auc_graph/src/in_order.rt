@@ -1,5 +1,5 @@
 //! Where the rows lie, of arcs that stand in the order of their persons, and the spread of their costs: one pass over them, each put
-//! behind the others.
+//! after the others.
 
 ghost use Rattle.std.specs.Prelude.{◌≡◌, ◌<◌, ◌≤◌, ◌+◌, ◌*◌, ◌^◌, ◌≤ℤ◌, pos, neg_ℤ, ℕ, length, slice_index, slice_index_or, slice_range, vec_capacity, All, IfOk, IfSome};
 ghost use Rattle.auc_graph.specs.Row.{row, IsSpread};
@@ -27,7 +27,7 @@ fn begin_rows(offsets: &mut Vec<usize>, len: usize, at: usize)
 }
 
 /// Where the rows lie, where there are arcs and they stand in the order of their persons.
-pub(crate) fn lined_of(
+pub(crate) fn rows_in_order(
     alloc: Global,
     persons: u32,
     arcs: &[Arc],

@@ -1,6 +1,6 @@
 use Rattle.std.proofs.Common.{◌≡◌, ◌≤◌, ◌-◌, ℕ, length, get_or}
 use Rattle.std.specs.Vec.{vec_capacity}
-use Rattle.auc_graph.proofs.lined.begin_rows.Given as goal
+use Rattle.auc_graph.proofs.in_order.begin_rows.Given as goal
 
 abbrev pub invariant-loop-offsets : goal.invariant-loop-offsets
 invariant-loop-offsets l = record {

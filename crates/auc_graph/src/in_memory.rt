@@ -2,11 +2,11 @@
 
 ghost use Rattle.std.specs.Prelude.{◌≡◌, ◌↔◌, None, IsOk};
 ghost use Rattle.auc_graph.specs.Problem.{IsProblem};
-ghost use Rattle.auc_graph.specs.Listing.{fault_at, first_fault, list_fault, listed, objects_or, problem_from};
+ghost use Rattle.auc_graph.specs.InMemory.{fault_at, first_fault, list_fault, listed, objects_or, problem_from};
 
 use crate::arc::{Arc, ArcList};
 use crate::limits::{MOST_ARCS, MOST_COST, MOST_OBJECTS, MOST_PERSONS};
-use crate::listing_fault::ListFault;
+use crate::list_faults::ListFault;
 
 /// The number of objects that is meant, where 0 stands for as many as persons.
 pub fn objects_or(wanted: u32, persons: u32) -> u32

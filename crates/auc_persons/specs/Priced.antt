@@ -1,9 +1,13 @@
 -- The values of the arcs of a row, at the prices that it is looked over at.
-use Rattle.std.specs.Prelude.{ℕ, ℤ, pos, List, slice_index_or}
+use Rattle.std.specs.Prelude.{ℕ, ℤ, ◌+◌, pos, List, length, slice_index_or}
 use Rattle.auc_graph.specs.declared.rows.RowArc.{RowArc}
 use Rattle.auc_graph.specs.Bid.{value}
+use Rattle.auc_graph.specs.Table.{row_of}
+use Rattle.auc_persons.specs.declared.person_row.PersonRow.{PersonRow}
 use Rattle.auc_persons.specs.declared.priced_row.PricedRow.{PricedRow}
-use Rattle.auc_persons.specs.Scan.{copy_in}
+use Rattle.auc_persons.specs.declared.scan.Scan.{Scan}
+use Rattle.auc_persons.specs.Candidates.{Kept, Listed}
+use Rattle.auc_persons.specs.Scan.{copy_in, IsScan}
 
 abbrev pub value_in : PricedRow → RowArc → ℤ
 value_in row = value row.scale (copy_in row.copies.now)
@@ -14,3 +18,19 @@ no_arc = record { cost = pos 0; object = 0; arc = 0 }
 -- the arc that stands at a place
 abbrev pub arc_at : List RowArc → ℕ → RowArc
 arc_at arcs place = slice_index_or arcs place no_arc
+
+-- the row of the person himself
+abbrev pub arcs_of : PersonRow → List RowArc
+arcs_of own = row_of own.rows.now own.person
+
+-- the value of an arc to him
+abbrev pub value_to : PersonRow → RowArc → ℤ
+value_to own = value (pos (length own.rows.now.rows + 1)) (copy_in own.copies.now)
+
+-- a pass over his row has found its best arc
+abbrev pub IsScanOf : PersonRow → Scan → Type 0
+IsScanOf own = IsScan (value_to own) (arcs_of own)
+
+-- all lists are right at his copies
+abbrev pub KeptAt : PersonRow → List Listed → Type 0
+KeptAt own = Kept own.rows.now own.copies.now

@@ -1,17 +1,17 @@
 //! What a person bids, found by what is kept beside his shard.
 
-ghost use Rattle.std.specs.Prelude.{◌≡◌, ◌<◌, ◌+◌, [], pos, length, All, IfSome, IfNone};
-ghost use Rattle.auc_graph.specs.Bid.{value};
+ghost use Rattle.std.specs.Prelude.{◌≡◌, ◌<◌, [], length, All, IfSome, IfNone};
 ghost use Rattle.auc_graph.specs.Table.{row_of};
 ghost use Rattle.auc_letters.specs.Price.{IsEps, IsPrice};
-ghost use Rattle.auc_persons.specs.Bid.{IsBidOf};
+ghost use Rattle.auc_persons.specs.Bid.{IsBidAt, IsBidOf};
 ghost use Rattle.auc_persons.specs.Candidates.{Kept};
 ghost use Rattle.auc_persons.specs.declared.method.Method.{Method};
-ghost use Rattle.auc_persons.specs.Scan.{copy_in, IsScan};
+ghost use Rattle.auc_persons.specs.Priced.{KeptAt, IsScanOf, arcs_of};
 
 use crate::amount::amount_of;
 use crate::bidder::Bidder;
 use crate::method::{Method, SHORT};
+use crate::person_row::PersonRow;
 use crate::priced_row::PricedRow;
 use crate::rising::scan_short;
 use crate::scan::Scan;
@@ -21,14 +21,11 @@ use auc_letters::Bid;
 
 /// The best arc of a person, in one pass over his row; nothing where he has none.
 #[inline]
-fn best_of_row(rows: &Rows, person: u32, copies: &[i64]) -> Option<Scan>
-    requires person { person < length rows.now.rows }
-    requires objects { rows.now.objects ≡ length copies.now }
-    requires copies { All IsPrice copies.now }
-    ensures some { IfSome result (IsScan (value (pos (length rows.now.rows + 1)) (copy_in copies.now)) (row_of rows.now person)) }
-    ensures none { IfNone result (row_of rows.now person ≡ []) }
+fn best_of_row(own: PersonRow) -> Option<Scan>
+    ensures some { IfSome result (IsScanOf own.entry) }
+    ensures none { IfNone result (arcs_of own.entry ≡ []) }
 {
-    let row = PricedRow::of(rows, person, copies);
+    let row = PricedRow::of(own);
     if row.arcs.len() <= SHORT {
         return scan_short(row);
     }
@@ -37,52 +34,43 @@ fn best_of_row(rows: &Rows, person: u32, copies: &[i64]) -> Option<Scan>
 
 /// What a person bids, whose best arc is found.
 #[inline]
-fn bid_on(rows: &Rows, eps: i64, person: u32, copies: &[i64], found: Scan) -> Bid
-    requires person { person < length rows.now.rows }
-    requires objects { rows.now.objects ≡ length copies.now }
-    requires copies { All IsPrice copies.now }
+fn bid_on(own: PersonRow, eps: i64, found: Scan) -> Bid
     requires eps { IsEps eps }
-    requires found { IsScan (value (pos (length rows.now.rows + 1)) (copy_in copies.now)) (row_of rows.now person) found }
-    ensures { IsBidOf rows.now eps copies.now person result }
+    requires found { IsScanOf own found }
+    ensures { IsBidAt own.entry eps result }
 {
-    let row = PricedRow::of(rows, person, copies);
+    let row = PricedRow::of(own);
     Bid {
-        person,
+        person: own.person,
         arc: found.best.arc,
         object: found.best.object,
-        amount: amount_of(row, rows.cost_spread(), eps, found),
+        amount: amount_of(row, own.rows.cost_spread(), eps, found),
     }
 }
 
 /// What a person bids, by one pass over his row; nothing where he has no arc.
 #[inline]
-pub(crate) fn plain_bid(rows: &Rows, eps: i64, person: u32, copies: &[i64]) -> Option<Bid>
-    requires person { person < length rows.now.rows }
-    requires objects { rows.now.objects ≡ length copies.now }
-    requires copies { All IsPrice copies.now }
+pub(crate) fn plain_bid(own: PersonRow, eps: i64) -> Option<Bid>
     requires eps { IsEps eps }
-    ensures some { IfSome result (IsBidOf rows.now eps copies.now person) }
-    ensures none { IfNone result (row_of rows.now person ≡ []) }
+    ensures some { IfSome result (IsBidAt own.entry eps) }
+    ensures none { IfNone result (arcs_of own.entry ≡ []) }
 {
-    let found = best_of_row(rows, person, copies)?;
-    Some(bid_on(rows, eps, person, copies, found))
+    let found = best_of_row(own)?;
+    Some(bid_on(own, eps, found))
 }
 
 impl Bidder {
     /// The best arc of a person, where his list or his blocks tell it.
     #[inline]
-    fn best_known(&mut self, rows: &Rows, person: u32, place: u32, copies: &[i64]) -> Option<Scan>
-        requires person { person < length rows.now.rows }
-        requires objects { rows.now.objects ≡ length copies.now }
-        requires copies { All IsPrice copies.now }
-        requires kept { Kept rows.now copies.now self.old }
-        ensures some { IfSome result (IsScan (value (pos (length rows.now.rows + 1)) (copy_in copies.now)) (row_of rows.now person)) }
-        ensures kept { Kept rows.now copies.now self.new }
+    fn best_known(&mut self, own: PersonRow, place: u32) -> Option<Scan>
+        requires kept { KeptAt own self.old }
+        ensures some { IfSome result (IsScanOf own.entry) }
+        ensures kept { KeptAt own.entry self.new }
     {
-        match self.method(rows, person) {
+        match self.method(own) {
             Method::Sorted | Method::Short => None,
-            Method::List => self.best_listed(rows, person, place, copies),
-            Method::Blocks => self.best_blocked(rows, person, place, copies),
+            Method::List => self.best_listed(own, place),
+            Method::Blocks => self.best_blocked(own, place),
         }
     }
 
@@ -90,107 +78,66 @@ impl Bidder {
     /// list is the one of number `number / of`.
     // Apart: docs/CODEGEN.md, "A search in line". So a list is divided for only where one is looked for, too.
     #[inline(never)]
-    fn best_apart(
-        &mut self,
-        rows: &Rows,
-        person: u32,
-        number: u32,
-        of: u32,
-        copies: &[i64],
-    ) -> Option<Scan>
-        requires person { person < length rows.now.rows }
-        requires objects { rows.now.objects ≡ length copies.now }
-        requires copies { All IsPrice copies.now }
+    fn best_apart(&mut self, own: PersonRow, number: u32, of: u32) -> Option<Scan>
         requires of { 0 < of }
-        requires kept { Kept rows.now copies.now self.old }
-        ensures some { IfSome result (IsScan (value (pos (length rows.now.rows + 1)) (copy_in copies.now)) (row_of rows.now person)) }
-        ensures none { IfNone result (row_of rows.now person ≡ []) }
-        ensures kept { Kept rows.now copies.now self.new }
+        requires kept { KeptAt own self.old }
+        ensures some { IfSome result (IsScanOf own.entry) }
+        ensures none { IfNone result (arcs_of own.entry ≡ []) }
+        ensures kept { KeptAt own.entry self.new }
     {
         // docs/CODEGEN.md, "No division with one shard".
         let place = if of == 1 { number } else { number / of };
-        let found = self.best_known(rows, person, place, copies);
+        let found = self.best_known(own, place);
         if found.is_some() {
             return found;
         }
-        best_of_row(rows, person, copies)
+        best_of_row(own)
     }
 
     /// The same, for a search that is made in line.
     // A function by itself: docs/CODEGEN.md, "The memory of a seldom answer".
     #[inline(always)]
-    fn best_seldom(
-        &mut self,
-        rows: &Rows,
-        person: u32,
-        number: u32,
-        of: u32,
-        copies: &[i64],
-    ) -> Option<Scan>
-        requires person { person < length rows.now.rows }
-        requires objects { rows.now.objects ≡ length copies.now }
-        requires copies { All IsPrice copies.now }
+    fn best_seldom(&mut self, own: PersonRow, number: u32, of: u32) -> Option<Scan>
         requires of { 0 < of }
-        requires kept { Kept rows.now copies.now self.old }
-        ensures some { IfSome result (IsScan (value (pos (length rows.now.rows + 1)) (copy_in copies.now)) (row_of rows.now person)) }
-        ensures none { IfNone result (row_of rows.now person ≡ []) }
-        ensures kept { Kept rows.now copies.now self.new }
+        requires kept { KeptAt own self.old }
+        ensures some { IfSome result (IsScanOf own.entry) }
+        ensures none { IfNone result (arcs_of own.entry ≡ []) }
+        ensures kept { KeptAt own.entry self.new }
     {
-        self.best_apart(rows, person, number, of, copies)
+        self.best_apart(own, number, of)
     }
 
     /// The best arc of a person, by the way for his row; nothing where he has none.
     #[inline(always)]
-    fn best(
-        &mut self,
-        rows: &Rows,
-        person: u32,
-        number: u32,
-        of: u32,
-        copies: &[i64],
-    ) -> Option<Scan>
-        requires person { person < length rows.now.rows }
-        requires objects { rows.now.objects ≡ length copies.now }
-        requires copies { All IsPrice copies.now }
+    fn best(&mut self, own: PersonRow, number: u32, of: u32) -> Option<Scan>
         requires of { 0 < of }
-        requires kept { Kept rows.now copies.now self.old }
-        ensures some { IfSome result (IsScan (value (pos (length rows.now.rows + 1)) (copy_in copies.now)) (row_of rows.now person)) }
-        ensures none { IfNone result (row_of rows.now person ≡ []) }
-        ensures kept { Kept rows.now copies.now self.new }
+        requires kept { KeptAt own self.old }
+        ensures some { IfSome result (IsScanOf own.entry) }
+        ensures none { IfNone result (arcs_of own.entry ≡ []) }
+        ensures kept { KeptAt own.entry self.new }
     {
-        if let Method::Sorted = self.method(rows, person) {
-            let found = self.best_sorted(rows, person, copies);
+        if let Method::Sorted = self.method(own) {
+            let found = self.best_sorted(own);
             if found.is_some() {
                 return found;
             }
         }
-        self.best_seldom(rows, person, number, of, copies)
+        self.best_seldom(own, number, of)
     }
 
     /// What a person bids at these copies of the prices; None where he has no arc. His list is the one of number `number / of`: it is divided where a
     /// list is looked for alone.
     #[inline(always)]
-    pub(crate) fn bid_by(
-        &mut self,
-        rows: &Rows,
-        eps: i64,
-        person: u32,
-        number: u32,
-        of: u32,
-        copies: &[i64],
-    ) -> Option<Bid>
-        requires person { person < length rows.now.rows }
-        requires objects { rows.now.objects ≡ length copies.now }
-        requires copies { All IsPrice copies.now }
+    pub(crate) fn bid_by(&mut self, own: PersonRow, eps: i64, number: u32, of: u32) -> Option<Bid>
         requires eps { IsEps eps }
         requires of { 0 < of }
-        requires kept { Kept rows.now copies.now self.old }
-        ensures some { IfSome result (IsBidOf rows.now eps copies.now person) }
-        ensures none { IfNone result (row_of rows.now person ≡ []) }
-        ensures kept { Kept rows.now copies.now self.new }
+        requires kept { KeptAt own self.old }
+        ensures some { IfSome result (IsBidAt own.entry eps) }
+        ensures none { IfNone result (arcs_of own.entry ≡ []) }
+        ensures kept { KeptAt own.entry self.new }
     {
-        let found = self.best(rows, person, number, of, copies)?;
-        Some(bid_on(rows, eps, person, copies, found))
+        let found = self.best(own, number, of)?;
+        Some(bid_on(own, eps, found))
     }
 
     /// What a person bids at these copies of the prices; None where he has no arc. The amount may be above the greatest price.
@@ -220,6 +167,11 @@ impl Bidder {
         ensures none { IfNone result (row_of rows.now person ≡ []) }
         ensures kept { Kept rows.now copies.now self.new }
     {
-        self.bid_by(rows, eps, person, place, 1, copies)
+        let own = PersonRow {
+            rows,
+            person,
+            copies,
+        };
+        self.bid_by(own, eps, place, 1)
     }
 }

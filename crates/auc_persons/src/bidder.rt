@@ -1,17 +1,16 @@
 //! What a shard's bids are found by: lists of candidates, blocks, and what is known of short rows.
 
-ghost use Rattle.std.specs.Prelude.{◌≡◌, ◌<◌, ◌+◌, List, ℤ, pos, length, All, IfOk, IfSome};
-ghost use Rattle.auc_graph.specs.Bid.{value};
-ghost use Rattle.auc_graph.specs.Table.{Table, row_of};
+ghost use Rattle.std.specs.Prelude.{◌≡◌, ◌<◌, List, ℤ, length, IfOk, IfSome};
+ghost use Rattle.auc_graph.specs.Table.{Table};
 ghost use Rattle.auc_persons.specs.Candidates.{Kept, Listed};
 ghost use Rattle.auc_persons.specs.declared.method.Method.{Method};
 ghost use Rattle.auc_persons.specs.Persons.{NeverFall};
-ghost use Rattle.auc_persons.specs.Scan.{copy_in, IsScan};
-ghost use Rattle.auc_letters.specs.Price.{IsPrice};
+ghost use Rattle.auc_persons.specs.Priced.{KeptAt, IsScanOf, arcs_of};
 
 use crate::amount::scaled;
 use crate::blocks::Blocks;
 use crate::method::{Method, SHORT, has_row_above};
+use crate::person_row::PersonRow;
 use crate::priced_row::PricedRow;
 use crate::scan::{Scan, scale_of};
 use crate::short::ShortRows;
@@ -53,29 +52,21 @@ fn first_delta(rows: &Rows, person: u32) -> i64
 }
 
 /// The best arc of a person, where his list tells it. `place` is where the list stands, if anywhere.
-#[inline]
-fn scan_list(
-    lists: &mut [Shortlist],
-    rows: &Rows,
-    person: u32,
-    place: u32,
-    copies: &[i64],
-) -> Option<Scan>
-    requires person { person < length rows.now.rows }
-    requires objects { rows.now.objects ≡ length copies.now }
-    requires copies { All IsPrice copies.now }
-    requires kept { Kept rows.now copies.now lists.old }
-    ensures some { IfSome result (λ f. IsScan (value (pos (length rows.now.rows + 1)) (copy_in copies.now)) (row_of rows.now person) f) }
-    ensures kept { Kept rows.now copies.now lists.new }
+// In line: docs/CODEGEN.md, "A person's row by value".
+#[inline(always)]
+fn scan_list(lists: &mut [Shortlist], own: PersonRow, place: u32) -> Option<Scan>
+    requires kept { KeptAt own lists.old }
+    ensures some { IfSome result (IsScanOf own.entry) }
+    ensures kept { KeptAt own.entry lists.new }
     ensures length { length lists.new ≡ length lists.old }
 {
     let place = place as usize;
     if place >= lists.len() {
         return None;
     }
-    let row = PricedRow::of(rows, person, copies);
+    let row = PricedRow::of(own);
     let list = &mut lists[place];
-    if list.person() != person {
+    if list.person() != own.person {
         return None;
     }
     list.scan(row)
@@ -125,71 +116,50 @@ impl Bidder {
 
     /// The way to look the row of a person over.
     #[inline(always)]
-    pub(crate) fn method(&self, rows: &Rows, person: u32) -> Method
-        requires { person < length rows.now.rows }
-        ensures { result ≡ Method.Blocks → 256 < length (row_of rows.now person) }
+    pub(crate) fn method(&self, own: PersonRow) -> Method
+        ensures { result ≡ Method.Blocks → 256 < length (arcs_of own.entry) }
     {
-        Method::of(rows.row(person).len(), self.short.knows(person))
+        let arcs = own.rows.row(own.person).len();
+        Method::of(arcs, self.short.knows(own.person))
     }
 
     /// The best arc of a person with a short row, by what is known of it.
     #[inline(always)]
-    pub(crate) fn best_sorted(&self, rows: &Rows, person: u32, copies: &[i64]) -> Option<Scan>
-        requires person { person < length rows.now.rows }
-        requires objects { rows.now.objects ≡ length copies.now }
-        requires copies { All IsPrice copies.now }
-        requires kept { Kept rows.now copies.now self.now }
-        ensures { IfSome result (IsScan (value (pos (length rows.now.rows + 1)) (copy_in copies.now)) (row_of rows.now person)) }
+    pub(crate) fn best_sorted(&self, own: PersonRow) -> Option<Scan>
+        requires kept { KeptAt own self.now }
+        ensures { IfSome result (IsScanOf own.entry) }
     {
-        self.short.best(rows, person, copies)
+        self.short.best(own)
     }
 
     /// The best arc of a person, where his list tells it. `place` is where the list stands, if anywhere.
     #[inline]
-    pub(crate) fn best_listed(
-        &mut self,
-        rows: &Rows,
-        person: u32,
-        place: u32,
-        copies: &[i64],
-    ) -> Option<Scan>
-        requires person { person < length rows.now.rows }
-        requires objects { rows.now.objects ≡ length copies.now }
-        requires copies { All IsPrice copies.now }
-        requires kept { Kept rows.now copies.now self.old }
-        ensures some { IfSome result (λ f. IsScan (value (pos (length rows.now.rows + 1)) (copy_in copies.now)) (row_of rows.now person) f) }
-        ensures kept { Kept rows.now copies.now self.new }
+    pub(crate) fn best_listed(&mut self, own: PersonRow, place: u32) -> Option<Scan>
+        requires kept { KeptAt own self.old }
+        ensures some { IfSome result (IsScanOf own.entry) }
+        ensures kept { KeptAt own.entry self.new }
     {
         let lists = self.lists.as_mut_slice();
-        scan_list(lists, rows, person, place, copies)
+        scan_list(lists, own, place)
     }
 
     /// The best arc of a person with a long row: by his list where that tells it, and else by his blocks, which make the list of a very long row
     /// anew. `place` is where these stand, if anywhere.
     #[inline]
-    pub(crate) fn best_blocked(
-        &mut self,
-        rows: &Rows,
-        person: u32,
-        place: u32,
-        copies: &[i64],
-    ) -> Option<Scan>
-        requires person { person < length rows.now.rows }
-        requires objects { rows.now.objects ≡ length copies.now }
-        requires copies { All IsPrice copies.now }
-        requires long { 256 < length (row_of rows.now person) }
-        requires kept { Kept rows.now copies.now self.old }
-        ensures some { IfSome result (λ f. IsScan (value (pos (length rows.now.rows + 1)) (copy_in copies.now)) (row_of rows.now person) f) }
-        ensures kept { Kept rows.now copies.now self.new }
+    pub(crate) fn best_blocked(&mut self, own: PersonRow, place: u32) -> Option<Scan>
+        requires long { 256 < length (arcs_of own) }
+        requires kept { KeptAt own self.old }
+        ensures some { IfSome result (IsScanOf own.entry) }
+        ensures kept { KeptAt own.entry self.new }
     {
         let lists = self.lists.as_mut_slice();
-        if let Some(scan) = scan_list(lists, rows, person, place, copies) {
+        if let Some(scan) = scan_list(lists, own, place) {
             return Some(scan);
         }
         let Some(blocks) = &mut self.blocks else {
             return None;
         };
-        blocks.scan(rows, person, place, copies, lists)
+        blocks.scan(own, place, lists)
     }
 }
 

@@ -1,16 +1,14 @@
 //! The blocks of the long rows of a shard's persons.
 
-ghost use Rattle.std.specs.Prelude.{◌≡◌, ◌<◌, ◌≤◌, ◌+◌, List, ℤ, pos, length, All, IfOk, IfSome};
-ghost use Rattle.auc_graph.specs.Bid.{value};
-ghost use Rattle.auc_graph.specs.Table.{row_of};
-ghost use Rattle.auc_letters.specs.Price.{IsPrice};
+ghost use Rattle.std.specs.Prelude.{◌≡◌, ◌<◌, ◌≤◌, List, ℤ, length, IfOk, IfSome};
 ghost use Rattle.auc_persons.specs.Blocks.{or_none};
 ghost use Rattle.auc_persons.specs.Candidates.{Kept};
-ghost use Rattle.auc_persons.specs.Scan.{copy_in, IsScan};
+ghost use Rattle.auc_persons.specs.Priced.{KeptAt, IsScanOf, arcs_of};
 
 use crate::bound::{BLOCK, Blocked, Bound};
 use crate::lists_by_blocks::scan_and_list;
 use crate::method::{LONG, has_row_above};
+use crate::person_row::PersonRow;
 use crate::scan::Scan;
 use crate::search::Hint;
 use crate::shortlist::Shortlist;
@@ -90,21 +88,16 @@ impl Blocks {
     /// stands among the persons of the shard.
     pub(crate) fn scan(
         &mut self,
-        rows: &Rows,
-        person: u32,
+        own: PersonRow,
         place: u32,
-        copies: &[i64],
         lists: &mut [Shortlist],
     ) -> Option<Scan>
-        requires person { person < length rows.now.rows }
-        requires objects { rows.now.objects ≡ length copies.now }
-        requires copies { All IsPrice copies.now }
-        requires long { 256 < length (row_of rows.now person) }
-        requires kept { Kept rows.now copies.now self.old }
-        requires lists { Kept rows.now copies.now lists.old }
-        ensures some { IfSome result (λ f. IsScan (value (pos (length rows.now.rows + 1)) (copy_in copies.now)) (row_of rows.now person) f) }
-        ensures kept { Kept rows.now copies.now self.new }
-        ensures lists { Kept rows.now copies.now lists.new }
+        requires long { 256 < length (arcs_of own) }
+        requires kept { KeptAt own self.old }
+        requires lists { KeptAt own lists.old }
+        ensures some { IfSome result (IsScanOf own.entry) }
+        ensures kept { KeptAt own.entry self.new }
+        ensures lists { KeptAt own.entry lists.new }
         ensures length { length lists.new ≡ length lists.old }
     {
         let place = place as usize;
@@ -112,22 +105,15 @@ impl Blocks {
             return None;
         }
         let blocked = self.persons[place];
-        let arcs = rows.row(person).len();
-        if blocked.person != person || blocked.arcs as usize != arcs {
+        let arcs = own.rows.row(own.person).len();
+        if blocked.person != own.person || blocked.arcs as usize != arcs {
             return None;
         }
         let list = &mut lists[place];
-        if list.person() != person {
+        if list.person() != own.person {
             return None;
         }
-        let search = scan_and_list(
-            rows,
-            &self.made,
-            copies,
-            blocked,
-            self.bounds.as_mut_slice(),
-            list,
-        )?;
+        let search = scan_and_list(own, &self.made, blocked, self.bounds.as_mut_slice(), list)?;
         self.persons[place] = Blocked {
             hint: search.hint,
             ..blocked

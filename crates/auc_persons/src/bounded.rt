@@ -1,18 +1,16 @@
 //! A person's best arc, in a pass over his row that leaves blocks out whose bound is too high.
 
-ghost use Rattle.std.specs.Prelude.{◌≡◌, ◌<◌, ◌≤◌, ◌+◌, ◌*◌, pos, All, length, slice_index_or, IfSome, ℕ};
+ghost use Rattle.std.specs.Prelude.{◌≡◌, ◌<◌, ◌≤◌, ◌+◌, length, slice_index_or, IfSome, ℕ};
 ghost use Rattle.std.specs.List.{AllWithin};
-ghost use Rattle.auc_graph.specs.Bid.{value};
 ghost use Rattle.auc_graph.specs.Table.{row_of};
 ghost use Rattle.auc_graph.specs.declared.rows.RowArc.{RowArc};
-ghost use Rattle.auc_letters.specs.Price.{IsPrice};
 ghost use Rattle.auc_persons.specs.Blocks.{Above, AreRight};
-ghost use Rattle.auc_persons.specs.Scan.{copy_in, IsScan};
 ghost use Rattle.auc_persons.specs.Search.{Covers, IsFound, IsLimit};
-ghost use Rattle.auc_persons.specs.Priced.{value_in};
+ghost use Rattle.auc_persons.specs.Priced.{IsScanOf, arcs_of, value_in};
 
 use crate::bound::{BLOCK, Blocked, Bound};
 use crate::least::least_of;
+use crate::person_row::PersonRow;
 use crate::priced_row::PricedRow;
 use crate::search::{Search, begun};
 use auc_graph::Rows;
@@ -73,24 +71,19 @@ fn with_block(row: PricedRow, begun: Search, from: usize, least: i64) -> Search
 // Apart: docs/CODEGEN.md, "Loops of their own".
 #[inline(never)]
 pub(crate) fn scan_blocks(
-    rows: &Rows,
+    own: PersonRow,
     _made: &Snapshot<Rows>,
-    copies: &[i64],
     blocked: Blocked,
     bounds: &mut [Bound],
 ) -> Option<Search>
-    requires person { blocked.person < length rows.now.rows }
-    requires objects { rows.now.objects ≡ length copies.now }
-    requires copies { All IsPrice copies.now }
-    requires long { 256 < length (row_of rows.now blocked.person) }
-    requires same { row_of _made.now.value blocked.person ≡ row_of rows.now blocked.person }
-    requires right { AreRight _made.now.value rows.now copies.now bounds.old }
-    ensures some { IfSome result (λ s. IsScan (value (pos (length rows.now.rows + 1)) (copy_in copies.now)) (row_of rows.now blocked.person) s.scan) }
-    ensures right { AreRight _made.now.value rows.now copies.now bounds.new }
+    requires long { 256 < length (arcs_of own) }
+    requires same { row_of _made.now.value own.person ≡ arcs_of own }
+    requires right { AreRight _made.now.value own.rows.now own.copies.now bounds.old }
+    ensures some { IfSome result (λ s. IsScanOf own.entry s.scan) }
+    ensures right { AreRight _made.now.value own.entry.rows.now own.entry.copies.now bounds.new }
     ensures length { length bounds.new ≡ length bounds.old }
 {
-    let person = blocked.person;
-    let row = PricedRow::of(rows, person, copies);
+    let row = PricedRow::of(own);
     let count = (row.arcs.len() - 1) / BLOCK + 1;
     if blocked.start > bounds.len() || count > bounds.len() - blocked.start {
         return None;
@@ -99,12 +92,12 @@ pub(crate) fn scan_blocks(
     for block in 0..count {
         let number = block as u32;
         let at = blocked.start + block;
-        if !bounds[at].is_above(search.limit, person, number) {
+        if !bounds[at].is_above(search.limit, own.person, number) {
             let from = block * BLOCK;
             let least = least_of(row, from);
             bounds[at] = Bound {
                 least,
-                person,
+                person: own.person,
                 block: number,
             };
             search = with_block(row, search, from, least);

@@ -21,6 +21,7 @@ mod bounded;
 mod least;
 mod lists_by_blocks;
 mod method;
+mod person_row;
 mod priced_row;
 mod rising;
 mod scan;

@@ -3,19 +3,18 @@
 //! The blocks have decided the bid, so the second of the whole row is known, and a block whose bound is not below that of the new list
 //! has no arc for it.
 
-ghost use Rattle.std.specs.Prelude.{true, false, ◌≡◌, ◌<◌, ◌≤◌, ◌+◌, ◌^◌, [], pos, neg_ℤ, ◌<ℤ◌, ◌≤ℤ◌, All, IfSome, length, take};
-ghost use Rattle.auc_graph.specs.Bid.{value};
+ghost use Rattle.std.specs.Prelude.{true, false, ◌≡◌, ◌<◌, ◌≤◌, ◌+◌, ◌^◌, [], pos, neg_ℤ, ◌<ℤ◌, ◌≤ℤ◌, IfSome, length, take};
 ghost use Rattle.auc_graph.specs.Table.{row_of};
-ghost use Rattle.auc_letters.specs.Price.{IsPrice};
 ghost use Rattle.auc_persons.specs.Blocks.{Above, AreRight};
 ghost use Rattle.auc_persons.specs.Candidates.{Gathered, Keeps, KeepsListed};
-ghost use Rattle.auc_persons.specs.Scan.{copy_in, endless, IsScan, IsValue};
-ghost use Rattle.auc_persons.specs.Priced.{value_in};
+ghost use Rattle.auc_persons.specs.Scan.{endless, IsValue};
+ghost use Rattle.auc_persons.specs.Priced.{IsScanOf, arcs_of, value_in, value_to};
 
 use crate::bound::{BLOCK, Blocked, Bound};
 use crate::bounded::{lesser, scan_blocks};
 use crate::least::least_of;
 use crate::method::VERY_LONG;
+use crate::person_row::PersonRow;
 use crate::priced_row::PricedRow;
 use crate::search::Search;
 use crate::shortlist::Shortlist;
@@ -48,29 +47,24 @@ impl Shortlist {
 // Apart: docs/CODEGEN.md, "Loops of their own".
 #[inline(never)]
 fn fill_by_blocks(
-    rows: &Rows,
+    own: PersonRow,
     _made: &Snapshot<Rows>,
-    copies: &[i64],
     blocked: Blocked,
     bounds: &mut [Bound],
     list: &mut Shortlist,
     bound: i64,
 ) -> bool
-    requires person { blocked.person < length rows.now.rows }
-    requires objects { rows.now.objects ≡ length copies.now }
-    requires copies { All IsPrice copies.now }
-    requires long { 256 < length (row_of rows.now blocked.person) }
-    requires same { row_of _made.now.value blocked.person ≡ row_of rows.now blocked.person }
-    requires right { AreRight _made.now.value rows.now copies.now bounds.old }
+    requires long { 256 < length (arcs_of own) }
+    requires same { row_of _made.now.value own.person ≡ arcs_of own }
+    requires right { AreRight _made.now.value own.rows.now own.copies.now bounds.old }
     requires low { neg_ℤ (pos (2 ^ 44)) <ℤ bound }
     requires high { bound ≤ℤ pos (2 ^ 62) }
-    ensures keeps { Keeps (value (pos (length rows.now.rows + 1)) (copy_in copies.now)) (row_of rows.now blocked.person) list.new.arcs list.new.bound }
+    ensures keeps { Keeps (value_to own.entry) (arcs_of own.entry) list.new.arcs list.new.bound }
     ensures owner { list.new.person ≡ list.old.person }
-    ensures right { AreRight _made.now.value rows.now copies.now bounds.new }
+    ensures right { AreRight _made.now.value own.entry.rows.now own.entry.copies.now bounds.new }
     ensures length { length bounds.new ≡ length bounds.old }
 {
-    let person = blocked.person;
-    let row = PricedRow::of(rows, person, copies);
+    let row = PricedRow::of(own);
     let count = (row.arcs.len() - 1) / BLOCK + 1;
     list.begin(bound);
     if blocked.start > bounds.len() || count > bounds.len() - blocked.start {
@@ -79,12 +73,12 @@ fn fill_by_blocks(
     for block in 0..count {
         let number = block as u32;
         let at = blocked.start + block;
-        if !bounds[at].is_above(bound - 1, person, number) {
+        if !bounds[at].is_above(bound - 1, own.person, number) {
             let from = block * BLOCK;
             let least = least_of(row, from);
             bounds[at] = Bound {
                 least,
-                person,
+                person: own.person,
                 block: number,
             };
             if !list.take_block(row, bound, from, least) {
@@ -97,25 +91,21 @@ fn fill_by_blocks(
 
 /// Makes the list of a person with a very long row anew, where one is wanted, so that it reaches above the second of his row.
 fn list_anew(
-    rows: &Rows,
+    own: PersonRow,
     made: &Snapshot<Rows>,
-    copies: &[i64],
     blocked: Blocked,
     bounds: &mut [Bound],
     list: &mut Shortlist,
     second: i64,
 )
-    requires person { blocked.person < length rows.now.rows }
-    requires objects { rows.now.objects ≡ length copies.now }
-    requires copies { All IsPrice copies.now }
-    requires long { 256 < length (row_of rows.now blocked.person) }
-    requires same { row_of made.now.value blocked.person ≡ row_of rows.now blocked.person }
-    requires right { AreRight made.now.value rows.now copies.now bounds.old }
+    requires long { 256 < length (arcs_of own) }
+    requires same { row_of made.now.value own.person ≡ arcs_of own }
+    requires right { AreRight made.now.value own.rows.now own.copies.now bounds.old }
     requires second { second <ℤ endless → IsValue second }
-    requires owner { list.old.person ≡ blocked.person }
-    requires keeps { KeepsListed rows.now copies.now list.old }
-    ensures keeps { KeepsListed rows.now copies.now list.new }
-    ensures right { AreRight made.now.value rows.now copies.now bounds.new }
+    requires owner { list.old.person ≡ own.person }
+    requires keeps { KeepsListed own.rows.now own.copies.now list.old }
+    ensures keeps { KeepsListed own.entry.rows.now own.entry.copies.now list.new }
+    ensures right { AreRight made.now.value own.entry.rows.now own.entry.copies.now bounds.new }
     ensures length { length bounds.new ≡ length bounds.old }
 {
     if blocked.arcs as usize <= VERY_LONG {
@@ -125,41 +115,29 @@ fn list_anew(
         return;
     }
     let bound = list.bound_above(second);
-    let fitted = fill_by_blocks(rows, made, copies, blocked, bounds, list, bound);
+    let fitted = fill_by_blocks(own, made, blocked, bounds, list, bound);
     list.adapt(fitted);
 }
 
 /// The best arc of a person with a long row, by his blocks; and where the row is very long and a list is wanted, they make it anew.
 pub(crate) fn scan_and_list(
-    rows: &Rows,
+    own: PersonRow,
     made: &Snapshot<Rows>,
-    copies: &[i64],
     blocked: Blocked,
     bounds: &mut [Bound],
     list: &mut Shortlist,
 ) -> Option<Search>
-    requires person { blocked.person < length rows.now.rows }
-    requires objects { rows.now.objects ≡ length copies.now }
-    requires copies { All IsPrice copies.now }
-    requires long { 256 < length (row_of rows.now blocked.person) }
-    requires same { row_of made.now.value blocked.person ≡ row_of rows.now blocked.person }
-    requires right { AreRight made.now.value rows.now copies.now bounds.old }
-    requires owner { list.old.person ≡ blocked.person }
-    requires keeps { KeepsListed rows.now copies.now list.old }
-    ensures some { IfSome result (λ s. IsScan (value (pos (length rows.now.rows + 1)) (copy_in copies.now)) (row_of rows.now blocked.person) s.scan) }
-    ensures keeps { KeepsListed rows.now copies.now list.new }
-    ensures right { AreRight made.now.value rows.now copies.now bounds.new }
+    requires long { 256 < length (arcs_of own) }
+    requires same { row_of made.now.value own.person ≡ arcs_of own }
+    requires right { AreRight made.now.value own.rows.now own.copies.now bounds.old }
+    requires owner { list.old.person ≡ own.person }
+    requires keeps { KeepsListed own.rows.now own.copies.now list.old }
+    ensures some { IfSome result (λ s. IsScanOf own.entry s.scan) }
+    ensures keeps { KeepsListed own.entry.rows.now own.entry.copies.now list.new }
+    ensures right { AreRight made.now.value own.entry.rows.now own.entry.copies.now bounds.new }
     ensures length { length bounds.new ≡ length bounds.old }
 {
-    let search = scan_blocks(rows, made, copies, blocked, bounds)?;
-    list_anew(
-        rows,
-        made,
-        copies,
-        blocked,
-        bounds,
-        list,
-        search.scan.second,
-    );
+    let search = scan_blocks(own, made, blocked, bounds)?;
+    list_anew(own, made, blocked, bounds, list, search.scan.second);
     Some(search)
 }

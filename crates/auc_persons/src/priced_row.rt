@@ -4,8 +4,9 @@ ghost use Rattle.std.specs.Prelude.{pos, ◌≤ℤ◌, All, length};
 ghost use Rattle.auc_graph.specs.Table.{IsRow};
 ghost use Rattle.auc_letters.specs.Price.{IsPrice};
 
+use crate::person_row::PersonRow;
 use crate::scan::{scale_of, value_of};
-use auc_graph::{RowArc, Rows};
+use auc_graph::RowArc;
 
 /// Arcs of one person, in the order of his row, and the copies of the prices, indexed by object, that their values are made of.
 #[derive(Clone, Copy)]
@@ -22,24 +23,20 @@ pub(crate) struct PricedRow<'a> {
 
 impl<'a> PricedRow<'a> {
     ghost use Rattle.std.specs.Prelude.{◌≡◌, ◌<◌, ◌+◌};
-    ghost use Rattle.auc_graph.specs.Table.{row_of};
-    ghost use Rattle.auc_persons.specs.Priced.{arc_at, value_in};
+    ghost use Rattle.auc_persons.specs.Priced.{arc_at, arcs_of, value_in};
     ghost use Rattle.auc_persons.specs.Scan.{IsValue};
 
     /// The row of a person.
     #[inline(always)]
-    pub fn of(rows: &'a Rows, person: u32, copies: &'a [i64]) -> PricedRow<'a>
-        requires person { person < length rows.now.rows }
-        requires objects { rows.now.objects ≡ length copies.now }
-        requires copies { All IsPrice copies.now }
-        ensures scale { result.scale ≡ pos (length rows.now.rows + 1) }
-        ensures arcs { result.arcs.now ≡ row_of rows.now person }
-        ensures copies { result.copies.now ≡ copies.now }
+    pub fn of(own: PersonRow<'a>) -> PricedRow<'a>
+        ensures scale { result.scale ≡ pos (length own.entry.rows.now.rows + 1) }
+        ensures arcs { result.arcs.now ≡ arcs_of own.entry }
+        ensures copies { result.copies.now ≡ own.entry.copies.now }
     {
         PricedRow {
-            scale: scale_of(rows.persons()),
-            arcs: rows.row(person),
-            copies,
+            scale: scale_of(own.rows.persons()),
+            arcs: own.rows.row(own.person),
+            copies: own.copies,
         }
     }
 

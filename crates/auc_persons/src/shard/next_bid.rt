@@ -10,6 +10,7 @@ ghost use Rattle.auc_persons.specs.Persons.{IsMadeFor, NextBid, NeverFall, SameS
 use crate::bid::plain_bid;
 use crate::bidder::Bidder;
 use crate::bidding::Bidding;
+use crate::person_row::PersonRow;
 use crate::shard::PersonShard;
 use auc_graph::Rows;
 use auc_letters::{Bid, MOST_PRICE, Why};
@@ -63,7 +64,12 @@ impl PersonShard {
         if self.bids == 0 {
             return Bidding::Stop { why: Why::Bids };
         }
-        let found = plain_bid(rows, eps, person, self.copies.as_slice());
+        let own = PersonRow {
+            rows,
+            person,
+            copies: self.copies.as_slice(),
+        };
+        let found = plain_bid(own, eps);
         self.bid_with(rows, eps, found)
     }
 
@@ -90,8 +96,12 @@ impl PersonShard {
         if self.bids == 0 {
             return Bidding::Stop { why: Why::Bids };
         }
-        let copies = self.copies.as_slice();
-        let found = bidder.bid_by(rows, eps, person, person, self.of, copies);
+        let own = PersonRow {
+            rows,
+            person,
+            copies: self.copies.as_slice(),
+        };
+        let found = bidder.bid_by(own, eps, person, self.of);
         self.bid_with(rows, eps, found)
     }
 

@@ -20,7 +20,7 @@ no_bound = record { least = pos 0; person = 0; block = 0 }
 
 pub with_block-search-requires-clause-found : goal.with_block-search-requires-clause-found
 with_block-search-requires-clause-found c =
-    let scale : c.of-row.result.scale ≡ pos (length c.args.rows.now.rows + 1) = c.of-row.ensures.scale in
+    let scale : c.of-row.result.scale ≡ pos (length c.args.own.rows.now.rows + 1) = c.of-row.ensures.scale in
     rw (scale, c.of-row.ensures.copies, c.of-row.ensures.arcs) c.loop-block.invariant.found
 
 pub with_block-search-requires-clause-least : goal.with_block-search-requires-clause-least
@@ -30,18 +30,18 @@ with_block-search-requires-clause-least c =
 
 pub returns-clause-some : goal.returns-clause-some
 returns-clause-some c =
-    let t = c.args.rows.now in
-    let row = row_of t c.args.blocked.person in
+    let t = c.args.own.rows.now in
+    let row = row_of t c.args.own.person in
     let inv = c.loop-block.invariant in
     let len = ap length c.of-row.ensures.arcs in
-    whole (value (pos (length t.rows + 1)) (copy_in c.args.copies.now)) row c.loop-block.search.scan inv.found (λ k d lt. inv.covered k d (omega (arith, c.loop-block-test.false, len, lt)) lt)
+    whole (value (pos (length t.rows + 1)) (copy_in c.args.own.copies.now)) row c.loop-block.search.scan inv.found (λ k d lt. inv.covered k d (omega (arith, c.loop-block-test.false, len, lt)) lt)
 
 pub loop-block-preserved : goal.loop-block-preserved
 loop-block-preserved c =
-    let t = c.args.rows.now in
+    let t = c.args.own.rows.now in
     let made = c.args._made.now.value in
-    let copies = c.args.copies.now in
-    let person = c.args.blocked.person in
+    let copies = c.args.own.copies.now in
+    let person = c.args.own.person in
     let row = row_of t person in
     let val = value (pos (length t.rows + 1)) (copy_in copies) in
     let block = c.loop-block.block in
@@ -81,7 +81,7 @@ loop-block-preserved c =
           rw (w.bounds-is, w.search-is) (record {
             found = inv.found;
             limit = inv.limit;
-            covered = λ k d lt below. covered_block val row c.loop-block.search.scan block k d (λ before. inv.covered k d before below) (λ low high. covered_above (pos (length t.rows + 1)) copies row c.loop-block.search.scan c.loop-block.search.limit b.least k d (rw (← scale) c.of-row.result.scale_low) (rw (← scale) c.of-row.result.scale_high) sound c.requires.copies inv.found inv.limit e.0 (says k d low high below) below) lt;
+            covered = λ k d lt below. covered_block val row c.loop-block.search.scan block k d (λ before. inv.covered k d before below) (λ low high. covered_above (pos (length t.rows + 1)) copies row c.loop-block.search.scan c.loop-block.search.limit b.least k d (rw (← scale) c.of-row.result.scale_low) (rw (← scale) c.of-row.result.scale_high) sound c.args.own.are_prices inv.found inv.limit e.0 (says k d low high below) below) lt;
             right = inv.right;
             length = inv.length;
           })

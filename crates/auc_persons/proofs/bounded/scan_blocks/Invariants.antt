@@ -9,9 +9,9 @@ use Rattle.auc_persons.proofs.bounded.scan_blocks.Given as goal
 
 abbrev pub invariant-loop-block : goal.invariant-loop-block
 invariant-loop-block l = record {
-  found : IsFound (value (pos (length l.rows.rows + 1)) (copy_in l.copies)) (row_of l.rows l.fn.blocked.person) l.search.scan;
+  found : IsFound (value (pos (length l.own.rows.now.rows + 1)) (copy_in l.own.copies.now)) (row_of l.own.rows.now l.own.person) l.search.scan;
   limit : IsLimit l.search.scan l.search.limit;
-  covered : (k : ℕ) (d : RowArc) → k < 16 * l.block → k < length (row_of l.rows l.fn.blocked.person) → Covers (value (pos (length l.rows.rows + 1)) (copy_in l.copies)) l.search.scan (get_or (row_of l.rows l.fn.blocked.person) k d);
-  right : AreRight l._made.value l.rows l.copies l.bounds;
+  covered : (k : ℕ) (d : RowArc) → k < 16 * l.block → k < length (row_of l.own.rows.now l.own.person) → Covers (value (pos (length l.own.rows.now.rows + 1)) (copy_in l.own.copies.now)) l.search.scan (get_or (row_of l.own.rows.now l.own.person) k d);
+  right : AreRight l._made.value l.own.rows.now l.own.copies.now l.bounds;
   length : length l.bounds ≡ length l.fn.bounds;
 }

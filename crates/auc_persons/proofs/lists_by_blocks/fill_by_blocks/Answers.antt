@@ -21,7 +21,7 @@ no_bound = record { least = pos 0; person = 0; block = 0 }
 pub take_block-requires-clause-gathered : goal.take_block-requires-clause-gathered
 take_block-requires-clause-gathered c =
     let f5 : FitsSigned w64 c.args.bound = c.ranges.bound in
-    let scale : c.of-row.result.scale ≡ pos (length c.args.rows.now.rows + 1) = c.of-row.ensures.scale in
+    let scale : c.of-row.result.scale ≡ pos (length c.args.own.rows.now.rows + 1) = c.of-row.ensures.scale in
     let at : c.loop-block.block * 16 ≡ 16 * c.loop-block.block = omega arith in
     let inv = simp to_z-of_z at c.loop-block.invariant in
     simp to_z-of_z (rw (scale, c.of-row.ensures.copies, c.of-row.ensures.arcs, at) inv.gathered)
@@ -29,10 +29,10 @@ take_block-requires-clause-gathered c =
 pub returns-then-not-take_block-clause-right : goal.returns-then-not-take_block-clause-right
 returns-then-not-take_block-clause-right c =
     let f2 : FitsSigned w64 c.least_of-least.result = search rules in
-    let t = c.args.rows.now in
+    let t = c.args.own.rows.now in
     let made = c.args._made.now.value in
-    let copies = c.args.copies.now in
-    let person = c.args.blocked.person in
+    let copies = c.args.own.copies.now in
+    let person = c.args.own.person in
     let row = row_of t person in
     let block = c.loop-block.block in
     let inv = c.loop-block.invariant in
@@ -49,21 +49,21 @@ returns-then-not-take_block-clause-right c =
 pub returns-clause-keeps : goal.returns-clause-keeps
 returns-clause-keeps c =
     let f5 : FitsSigned w64 c.args.bound = c.ranges.bound in
-    let t = c.args.rows.now in
-    let row = row_of t c.args.blocked.person in
+    let t = c.args.own.rows.now in
+    let row = row_of t c.args.own.person in
     let inv = simp to_z-of_z at c.loop-block.invariant in
     let len = ap length c.of-row.ensures.arcs in
     let b = inv.bound in
-    rw b (gathered_keeps (value (pos (length t.rows + 1)) (copy_in c.args.copies.now)) row c.loop-block.list.arcs c.args.bound (16 * c.loop-block.block) (omega (arith, c.loop-block-test.false, len)) inv.gathered)
+    rw b (gathered_keeps (value (pos (length t.rows + 1)) (copy_in c.args.own.copies.now)) row c.loop-block.list.arcs c.args.bound (16 * c.loop-block.block) (omega (arith, c.loop-block-test.false, len)) inv.gathered)
 
 pub loop-block-preserved : goal.loop-block-preserved
 loop-block-preserved c =
     let f5 : FitsSigned w64 c.args.bound = c.ranges.bound in
     let f6 : FitsSigned w64 (c.args.bound -ℤ pos 1) = omega (arith, ints, c.requires.low, c.requires.high) in
-    let t = c.args.rows.now in
+    let t = c.args.own.rows.now in
     let made = c.args._made.now.value in
-    let copies = c.args.copies.now in
-    let person = c.args.blocked.person in
+    let copies = c.args.own.copies.now in
+    let person = c.args.own.person in
     let row = row_of t person in
     let val = value (pos (length t.rows + 1)) (copy_in copies) in
     let block = c.loop-block.block in

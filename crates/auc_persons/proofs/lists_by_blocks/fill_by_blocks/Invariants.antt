@@ -8,9 +8,9 @@ use Rattle.auc_persons.proofs.lists_by_blocks.fill_by_blocks.Given as goal
 
 abbrev pub invariant-loop-block : goal.invariant-loop-block
 invariant-loop-block l = record {
-  gathered : Gathered (value (pos (length l.rows.rows + 1)) (copy_in l.copies)) (take (16 * l.block) (row_of l.rows l.fn.blocked.person)) l.list.arcs l.bound;
+  gathered : Gathered (value (pos (length l.own.rows.now.rows + 1)) (copy_in l.own.copies.now)) (take (16 * l.block) (row_of l.own.rows.now l.own.person)) l.list.arcs l.bound;
   bound : l.list.bound ≡ l.bound;
   owner : l.list.person ≡ l.fn.list.person;
-  right : AreRight l._made.value l.rows l.copies l.bounds;
+  right : AreRight l._made.value l.own.rows.now l.own.copies.now l.bounds;
   length : length l.bounds ≡ length l.fn.bounds;
 }

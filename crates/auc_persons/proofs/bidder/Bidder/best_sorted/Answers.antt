@@ -5,8 +5,8 @@ use Rattle.auc_persons.specs.Candidates.{KeepsListed}
 use Rattle.auc_persons.proofs.KeptBlocks.{behind}
 use Rattle.auc_persons.proofs.bidder.Bidder.best_sorted.Goals as goal
 
-pub best-requires-clause-kept : goal.best-requires-clause-kept
-best-requires-clause-kept c =
-    let P = KeepsListed c.args.rows.now c.args.copies.now in
+pub best-requires : goal.best-requires
+best-requires c =
+    let P = KeepsListed c.args.own.rows.now c.args.own.copies.now in
     let kept = All-same P (c.self.inside.lists.items ++ (or_none c.self.inside.blocks ++ c.self.inside.short)) c.args.self.now c.self.view_is c.requires.kept in
-    behind P (or_none c.self.inside.blocks) c.self.inside.short (behind P c.self.inside.lists.items (or_none c.self.inside.blocks ++ c.self.inside.short) kept)
+    record { kept = behind P (or_none c.self.inside.blocks) c.self.inside.short (behind P c.self.inside.lists.items (or_none c.self.inside.blocks ++ c.self.inside.short) kept) }

@@ -11,9 +11,9 @@ use Rattle.auc_persons.proofs.blocks.Blocks.scan.Goals as goal
 
 pub scan_and_list-requires-clause-same : goal.scan_and_list-requires-clause-same
 scan_and_list-requires-clause-same c =
-    let t = c.args.rows.now in
+    let t = c.args.own.rows.now in
     let made = c.self.inside.made.value in
-    let copies = c.args.copies.now in
+    let copies = c.args.own.copies.now in
     let persons = c.self.inside.persons.items in
     let bounds = c.self.inside.bounds.items in
     let b = c.index-blocked.result.now in
@@ -21,17 +21,17 @@ scan_and_list-requires-clause-same c =
     let kept = All-same (KeepsListed t copies) (map (of_blocked made) persons ++ map (of_bound made) bounds) c.args.self.now c.self.view_is c.requires.kept in
     let here : KeepsListed t copies (of_blocked made b) = rw c.index-blocked.ensures (All-get_or (λ x. KeepsListed t copies (of_blocked made x)) persons c.args.place b lt (kept_persons made t copies persons bounds kept)) in
     let has : HasArcs made b = rw c.index-blocked.ensures (All-get_or (HasArcs made) persons c.args.place b lt c.self.invariant) in
-    let e : b.person ≡ c.args.person = omega (arith, c.if-blocked-person.false) in
-    let f : length (row_of t b.person) ≡ length (row_of t c.args.person) = ap (λ n. length (row_of t n)) e in
+    let e : b.person ≡ c.args.own.person = omega (arith, c.if-blocked-own.false) in
+    let f : length (row_of t b.person) ≡ length (row_of t c.args.own.person) = ap (λ n. length (row_of t n)) e in
     let sound = rw c.row-arcs.ensures.row at c.row-arcs.ensures.sound in
     let rises : Rises (row_of t b.person) = subst (λ n. Rises (row_of t n)) (sym e) sound.rising in
-    same_as made t copies b here has (omega (arith, c.if-blocked-arcs.false, ap length c.row-arcs.ensures.row, f)) rises
+    subst (λ n. row_of made n ≡ row_of t n) e (same_as made t copies b here has (omega (arith, c.if-blocked-arcs.false, ap length c.row-arcs.ensures.row, f)) rises)
 
 pub scan_and_list-requires-clause-right : goal.scan_and_list-requires-clause-right
 scan_and_list-requires-clause-right c =
-    let t = c.args.rows.now in
+    let t = c.args.own.rows.now in
     let made = c.self.inside.made.value in
-    let copies = c.args.copies.now in
+    let copies = c.args.own.copies.now in
     let persons = c.self.inside.persons.items in
     let bounds = c.self.inside.bounds.items in
     let kept = All-same (KeepsListed t copies) (map (of_blocked made) persons ++ map (of_bound made) bounds) c.args.self.now c.self.view_is c.requires.kept in
@@ -39,9 +39,9 @@ scan_and_list-requires-clause-right c =
 
 pub returns-in_err-search-clause-kept : goal.returns-in_err-search-clause-kept
 returns-in_err-search-clause-kept c =
-    let t = c.args.rows.now in
+    let t = c.args.own.rows.now in
     let made = c.self.inside.made.value in
-    let copies = c.args.copies.now in
+    let copies = c.args.own.copies.now in
     let persons = c.self.inside.persons.items in
     let bounds = c.self.inside.bounds.items in
     let kept = All-same (KeepsListed t copies) (map (of_blocked made) persons ++ map (of_bound made) bounds) c.args.self.now c.self.view_is c.requires.kept in
@@ -59,9 +59,9 @@ invariant_of-self-2 c =
 
 pub returns-clause-kept : goal.returns-clause-kept
 returns-clause-kept c =
-    let t = c.args.rows.now in
+    let t = c.args.own.rows.now in
     let made = c.self.inside.made.value in
-    let copies = c.args.copies.now in
+    let copies = c.args.own.copies.now in
     let persons = c.self.inside.persons.items in
     let bounds = c.self.inside.bounds.items in
     let b = c.index-blocked.result.now in
@@ -72,15 +72,15 @@ returns-clause-kept c =
     let len : length c.scan_and_list.new.bounds ≡ c.self.inside.bounds.len = omega (arith, c.scan_and_list.ensures.length, c.as_mut_slice.ensures.len, ap length c.as_mut_slice.ensures.value) in
     rw (with_items_is c.self.inside.bounds c.scan_and_list.new.bounds len) (kept_of made t copies _ c.scan_and_list.new.bounds (All-set (λ x. KeepsListed t copies (of_blocked made x)) persons c.args.place _ here own) c.scan_and_list.ensures.right)
 
-pub returns-then-person-clause-lists : goal.returns-then-person-clause-lists
-returns-then-person-clause-lists c =
-    let P = KeepsListed c.args.rows.now c.args.copies.now in
+pub returns-then-person-own-clause-lists : goal.returns-then-person-own-clause-lists
+returns-then-person-own-clause-lists c =
+    let P = KeepsListed c.args.own.rows.now c.args.own.copies.now in
     let lists = c.args.lists.now in
     let lt : c.args.place < length lists = omega (arith, c.if-place-lists.false) in
     All-set P lists c.args.place (get_or lists c.args.place c.index-lists-place.result) (All-get_or P lists c.args.place c.index-lists-place.result lt c.requires.lists) c.requires.lists
 
 pub returns-in_err-search-clause-lists : goal.returns-in_err-search-clause-lists
-returns-in_err-search-clause-lists c = All-set (KeepsListed c.args.rows.now c.args.copies.now) c.args.lists.now c.args.place c.scan_and_list.new.list c.scan_and_list.ensures.keeps c.requires.lists
+returns-in_err-search-clause-lists c = All-set (KeepsListed c.args.own.rows.now c.args.own.copies.now) c.args.lists.now c.args.place c.scan_and_list.new.list c.scan_and_list.ensures.keeps c.requires.lists
 
 pub returns-clause-lists : goal.returns-clause-lists
-returns-clause-lists c = All-set (KeepsListed c.args.rows.now c.args.copies.now) c.args.lists.now c.args.place c.scan_and_list.new.list c.scan_and_list.ensures.keeps c.requires.lists
+returns-clause-lists c = All-set (KeepsListed c.args.own.rows.now c.args.own.copies.now) c.args.lists.now c.args.place c.scan_and_list.new.list c.scan_and_list.ensures.keeps c.requires.lists

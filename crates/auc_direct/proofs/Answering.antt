@@ -1,10 +1,11 @@
 -- What the last phase leaves is an answer.
-use Rattle.std.proofs.Common.{Bool, true, false, ℕ, ℤ, pos, ◌≡◌, ◌≢◌, ◌<◌, refl, arith, inl, inr, List, [], ◌∷◌, length, get_or, map, Contains, Option, ap, sym, subst, ◌∙◌}
+use Rattle.std.proofs.Common.{Bool, true, false, ℕ, ℤ, pos, ◌≡◌, ◌≢◌, ◌<◌, refl, arith, inl, inr, List, [], ◌∷◌, length, get_or, map, Contains, Option, Some, ap, sym, subst, ◌∙◌}
 use Rattle.std.specs.Prelude.{All, IfOk, Result, Ok, Err, ◌⊎◌}
-use Rattle.std.proofs.lemmas.Bool.{false≢true}
-use Rattle.std.proofs.lemmas.Bool.{cases_lt}
+use Rattle.std.specs.List.{slice_get}
+use Rattle.std.proofs.lemmas.Bool.{cases_lt, false≢true}
 use Rattle.std.proofs.lemmas.List.{get_or-map, length-map}
 use Rattle.std.proofs.lemmas.List.Elements.{All-weaker, Contains-get_or}
+use Rattle.std.proofs.lemmas.Option.{slice_get-get_or}
 use Rattle.auc_cert.specs.declared.reason.Reason.{Reason}
 use Rattle.auc_cert.specs.Claim.{pick_of}
 use Rattle.auc_cert.proofs.ClaimLaws.{faultless_is_allowed}
@@ -20,27 +21,27 @@ use Rattle.auc_hall.proofs.Membership.{contains_at}
 use Rattle.auc_hall.proofs.ProblemLaws.{length-rows, row_is}
 use Rattle.auc_letters.specs.Price.{IsPrice}
 use Rattle.auc_letters.specs.declared.state.Held.{Held}
+use Rattle.auc_model.proofs.Chosen.{Found, row_arc_listed}
 use Rattle.auc_answers.specs.declared.answer.Answer.{Answer}
 use Rattle.auc_answers.specs.Answers.{HasAssignment, IsAnswer, IsBracketAnswer, IsCertified, IsInfeasibleAnswer, IsOptimalAnswer}
 use Rattle.auc_answers.specs.Claims.{BoundFits, claim_of}
 use Rattle.auc_answers.specs.Prepared.{NobodyStuck}
 use Rattle.auc_answers.proofs.BracketLaws.{bound_fits, holders_price_few}
-use Rattle.auc_direct.specs.declared.arc.ShortArc.{ShortArc}
+use Rattle.auc_rows.specs.declared.arc.ShortArc.{ShortArc}
+use Rattle.auc_rows.specs.Rows.{AreRowsOf, AreSameRows, EachHasArc, FlatTable, IsFlatTable, flat_row_of, short, short_row}
 use Rattle.auc_direct.specs.declared.ending.Ending.{Ending}
 use Rattle.auc_direct.specs.declared.market.TheConstants.{NOBODY}
 use Rattle.auc_direct.specs.Endings.{IsLeft, IsLimit, IsLimited, IsLimitedBy, IsLimitedFrom}
-use Rattle.auc_direct.specs.Held.{AreHeld}
-use Rattle.auc_direct.specs.Market.{EachHasArc, HaveObjects, Stands, holder_at, own_at}
-use Rattle.auc_direct.specs.Rows.{AreRowsOf, AreShorts, AreShortsOf, EachHasRow, Shorts, arc_by, short, short_row, shorts_of}
+use Rattle.auc_direct.specs.Held.{AreHeld, arc_by}
+use Rattle.auc_direct.specs.Market.{EachHasRow, HaveObjects, Stands, holder_at, own_at}
 use Rattle.auc_direct.specs.Starts.{AreOpened}
 use Rattle.auc_direct.proofs.Choices as choices
 use Rattle.auc_direct.proofs.MarketLaws.{holder_has, owner_below}
-use Rattle.auc_direct.proofs.RowLaws.{arc_for}
 
 in_range : (prices : List ℤ) → All IsPrice prices → All IsPriceText prices
 in_range prices = All-weaker IsPrice IsPriceText (λ z h. record { low = h.low; high = h.high }) prices
 
-module _ (p : Problem) (t : Table) (r : Shorts) (prices : List ℤ) (holders : List ℕ) (owns : List ShortArc) (held : List (Option Held)) (is : IsProblem p) (its : IsTableOf p t) (same : AreShortsOf t r) (sound : AreShorts r) (are : AreHeld p holders owns held) where
+module _ (p : Problem) (t : Table) (r : FlatTable) (prices : List ℤ) (holders : List ℕ) (owns : List ShortArc) (held : List (Option Held)) (is : IsProblem p) (its : IsTableOf p t) (same : AreSameRows t r) (sound : IsFlatTable r) (are : AreHeld p holders owns held) where
   -- ---- each person has an object
 
   module _ (stands : Stands r (pos 1) prices holders owns) (all : HaveObjects (length r.rows) owns) where
@@ -83,7 +84,7 @@ sold_is_limited p bids begun held prices (Answer.Infeasible cert) h = tt
 sold_is_limited p bids begun held prices (Answer.Bracket cert) h = absurd h
 sold_is_limited p bids begun held prices (Answer.Broken guard) h = tt
 
-pub stopped_is_limited : (p : Problem) (t : Table) (r : Shorts) (bids : ℕ) (begun : ℤ) (reason : Reason) (held : List (Option Held)) (prices : List ℤ) → IsTableOf p t → AreShortsOf t r → IsLimit r bids begun reason prices → (answer : Answer) → IsBracketAnswer p reason held prices answer → IsLimited p bids begun answer
+pub stopped_is_limited : (p : Problem) (t : Table) (r : FlatTable) (bids : ℕ) (begun : ℤ) (reason : Reason) (held : List (Option Held)) (prices : List ℤ) → IsTableOf p t → AreSameRows t r → IsLimit r bids begun reason prices → (answer : Answer) → IsBracketAnswer p reason held prices answer → IsLimited p bids begun answer
 stopped_is_limited p t r bids begun reason held prices its same limit (Answer.Optimal cert) h = tt
 stopped_is_limited p t r bids begun reason held prices its same limit (Answer.Infeasible cert) h = tt
 stopped_is_limited p t r bids begun reason held prices its same limit (Answer.Bracket cert) h = subst (IsLimitedBy p bids begun) (sym h.1.is) (t, r, its, same, limit)
@@ -100,7 +101,7 @@ pub none_is_limited_from : (p : Problem) (bids : ℕ) (start : List ℤ) (answer
 none_is_limited_from p bids start answer h = record { begun = start; opened = record { each = refl; same = λ e. refl; kept = λ j. inl refl }; limited = none_is_limited p bids (total start) answer h }
 
 -- an answer that there is no assignment is right, and after a limit one of the bracket is
-pub either_is_answer : (p : Problem) (r : Shorts) (rows : AreRowsOf p r) (prices : List ℤ) (holders : List ℕ) (owns : List ShortArc) (held : List (Option Held)) → IsProblem p → AreShorts r → AreHeld p holders owns held → (eps : ℤ) (reason : Reason) → Stands r eps prices holders owns
+pub either_is_answer : (p : Problem) (r : FlatTable) (rows : AreRowsOf p r) (prices : List ℤ) (holders : List ℕ) (owns : List ShortArc) (held : List (Option Held)) → IsProblem p → IsFlatTable r → AreHeld p holders owns held → (eps : ℤ) (reason : Reason) → Stands r eps prices holders owns
     → (answer : Answer) → IsInfeasibleAnswer p answer ⊎ (HasAssignment p × IsBracketAnswer p reason held prices answer) → IsAnswer p answer
 either_is_answer p r rows prices holders owns held is sound are eps reason stands (Answer.Optimal cert) (inl h) = absurd h
 either_is_answer p r rows prices holders owns held is sound are eps reason stands (Answer.Infeasible cert) (inl h) = h
@@ -108,12 +109,12 @@ either_is_answer p r rows prices holders owns held is sound are eps reason stand
 either_is_answer p r rows prices holders owns held is sound are eps reason stands (Answer.Broken guard) (inl h) = absurd h
 either_is_answer p r rows prices holders owns held is sound are eps reason stands answer (inr h) = stopped_is_answer p rows.table r prices holders owns held is rows.of rows.same sound are eps reason stands h.0 answer h.1
 
-pub either_is_limited : (p : Problem) (r : Shorts) (rows : AreRowsOf p r) (bids : ℕ) (begun : ℤ) (reason : Reason) (held : List (Option Held)) (prices : List ℤ) → IsLimit r bids begun reason prices → (answer : Answer) → IsInfeasibleAnswer p answer ⊎ (HasAssignment p × IsBracketAnswer p reason held prices answer) → IsLimited p bids begun answer
+pub either_is_limited : (p : Problem) (r : FlatTable) (rows : AreRowsOf p r) (bids : ℕ) (begun : ℤ) (reason : Reason) (held : List (Option Held)) (prices : List ℤ) → IsLimit r bids begun reason prices → (answer : Answer) → IsInfeasibleAnswer p answer ⊎ (HasAssignment p × IsBracketAnswer p reason held prices answer) → IsLimited p bids begun answer
 either_is_limited p r rows bids begun reason held prices limit answer (inl h) = none_is_limited p bids begun answer h
 either_is_limited p r rows bids begun reason held prices limit answer (inr h) = stopped_is_limited p rows.table r bids begun reason held prices rows.of rows.same limit answer h.1
 
 -- what is opened for the rows of a problem is opened for the problem
-pub limited_from : (p : Problem) (t : Table) (r : Shorts) (bids : ℕ) (start begun : List ℤ) → IsTableOf p t → AreShortsOf t r → AreOpened r.objects (length r.rows) start begun → (answer : Answer) → IsLimited p bids (total begun) answer → IsLimitedFrom p bids start answer
+pub limited_from : (p : Problem) (t : Table) (r : FlatTable) (bids : ℕ) (start begun : List ℤ) → IsTableOf p t → AreSameRows t r → AreOpened r.objects (length r.rows) start begun → (answer : Answer) → IsLimited p bids (total begun) answer → IsLimitedFrom p bids start answer
 limited_from p t r bids start begun its same opened answer limited = record {
   begun = begun;
   opened = record { each = opened.each; same = λ e. opened.same (let a = its.objects in let b = same.objects in let c = same.persons in let d = length-rows p t its in omega (arith, a, b, c, d, e)); kept = opened.kept };
@@ -126,13 +127,22 @@ pub of_answers : {E : Type 0} (P Q : Answer → Type 0) (r : Result Answer E) �
 of_answers P Q (Ok a) f h = f a h
 of_answers P Q (Err e) f h = tt
 
-pub left_stands : (r : Shorts) (ending : Ending) (prices : List ℤ) (holders : List ℕ) (owns : List ShortArc) → IsLeft r ending prices holders owns → (eps : ℤ) × Stands r eps prices holders owns
+pub left_stands : (r : FlatTable) (ending : Ending) (prices : List ℤ) (holders : List ℕ) (owns : List ShortArc) → IsLeft r ending prices holders owns → (eps : ℤ) × Stands r eps prices holders owns
 left_stands r Ending.Sold prices holders owns h = (pos 1, h.0)
 left_stands r (Ending.Stopped reason) prices holders owns h = h
 
 length_zero : {X : Type 0} (xs : List X) → length xs ≡ 0 → xs ≡ []
 length_zero [] e = refl
 length_zero (x ∷ xs) e = absurd (omega (arith, e))
+
+-- the arc of the problem for which one of a row stands
+arc_for : (i : ℕ) (arcs : List Arc) (a : RowArc) → Contains (row i arcs) a → slice_get arcs a.arc ≡ Some (record { cost = a.cost; person = i; object = a.object })
+unfolding row Found
+arc_for i arcs a c =
+    let f = row_arc_listed i 0 arcs a c in
+    let arc : Arc = record { cost = a.cost; person = i; object = a.object } in
+    let place : a.arc ≡ f.0 = (let e = f.2 in omega (arith, e)) in
+    ap (slice_get arcs) place ∙ slice_get-get_or arcs f.0 arc f.1 ∙ ap Some (f.3 arc)
 
 -- the arc of a row is one of the problem
 listed_at : (p : Problem) (i : ℕ) (s : ShortArc) → Contains (short_row i p.arcs) s → Contains p.arcs (arc_by i s)
@@ -149,25 +159,25 @@ rows_of_nobody_stuck p t its some i lt none =
     let l : i < length t.rows = (let f = length-rows p t its in omega (arith, lt, f)) in
     some i l (row_is p t its i lt ∙ length_zero (row i p.arcs) (let m = length-map (row i p.arcs) short in let z = ap (λ (xs : List ShortArc). length xs) none in omega (arith, m, z)))
 
-module _ (p : Problem) (r : Shorts) (rows : AreRowsOf p r) where
+module _ (p : Problem) (r : FlatTable) (rows : AreRowsOf p r) where
   pub persons_are : length r.rows ≡ p.persons
   persons_are = let e = rows.same.persons in let f = length-rows p rows.table rows.of in omega (arith, e, f)
 
   pub objects_are : r.objects ≡ p.objects
   objects_are = rows.same.objects ∙ rows.of.objects
 
-  row_at : (i : ℕ) → i < p.persons → shorts_of r i ≡ short_row i p.arcs
+  row_at : (i : ℕ) → i < p.persons → flat_row_of r i ≡ short_row i p.arcs
   row_at i lt = rows.same.rows i (let f = length-rows p rows.table rows.of in omega (arith, lt, f)) ∙ ap (map short) (row_is p rows.table rows.of i lt)
 
   pub each_has_arc : EachHasRow p → EachHasArc r
   each_has_arc has i lt =
       let l : i < p.persons = (let e = persons_are in omega (arith, lt, e)) in
-      elim (cases_lt 0 (length (shorts_of r i))) [
+      elim (cases_lt 0 (length (flat_row_of r i))) [
         | inl some ↦ some
-        | inr none ↦ absurd (has i l (sym (row_at i l) ∙ length_zero (shorts_of r i) (omega (arith, none))))
+        | inr none ↦ absurd (has i l (sym (row_at i l) ∙ length_zero (flat_row_of r i) (omega (arith, none))))
       ]
 
-  pub own_listed : (eps : ℤ) (prices : List ℤ) (holders : List ℕ) (owns : List ShortArc) → AreShorts r → Stands r eps prices holders owns → (j : ℕ) → holder_at holders j ≢ NOBODY → Contains p.arcs (arc_by (holder_at holders j) (own_at owns (holder_at holders j)))
+  pub own_listed : (eps : ℤ) (prices : List ℤ) (holders : List ℕ) (owns : List ShortArc) → IsFlatTable r → Stands r eps prices holders owns → (j : ℕ) → holder_at holders j ≢ NOBODY → Contains p.arcs (arc_by (holder_at holders j) (own_at owns (holder_at holders j)))
   own_listed eps prices holders owns sound stands j some =
       let i = holder_at holders j in
       let has = holder_has r eps prices holders owns sound stands j some in

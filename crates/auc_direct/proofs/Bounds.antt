@@ -6,9 +6,8 @@ use Rattle.std.proofs.lemmas.List.Elements.{All-get_or}
 use Rattle.std.proofs.Math.Nat.{mul-le-mul_left}
 use Rattle.auc_graph.specs.Dual.{price_at}
 use Rattle.auc_letters.specs.Price.{IsPrice}
-use Rattle.auc_direct.specs.declared.arc.ShortArc.{ShortArc}
-use Rattle.auc_direct.specs.Market.{scale_in}
-use Rattle.auc_direct.specs.Rows.{AreShorts, IsShort, Shorts}
+use Rattle.auc_rows.specs.declared.arc.ShortArc.{ShortArc}
+use Rattle.auc_rows.specs.Rows.{FlatTable, IsFlatTable, IsShort, scale_in}
 use Rattle.auc_direct.specs.Scan.{IsValue, short_value}
 
 pub product_abs : (s c : ℤ) (m n : ℕ) → unsigned_abs s ≤ m → unsigned_abs c ≤ n → unsigned_abs (s *ℤ c) ≤ m * n
@@ -55,7 +54,7 @@ pub price_fits : (p : ℤ) → IsPrice p → FitsSigned w64 p
 price_fits p h = omega (arith, ints, h.low, h.high)
 
 -- what an arc is worth
-pub value_in : (r : Shorts) (prices : List ℤ) (s : ShortArc) → AreShorts r → All IsPrice prices → length prices ≡ r.objects → IsShort r.objects s → IsValue (short_value (scale_in r) prices s)
+pub value_in : (r : FlatTable) (prices : List ℤ) (s : ShortArc) → IsFlatTable r → All IsPrice prices → length prices ≡ r.objects → IsShort r.objects s → IsValue (short_value (scale_in r) prices s)
 value_in r prices s sound within many is =
     let p = All-get_or IsPrice prices s.object (pos 0) (let o = is.object in omega (arith, o, many)) within in
     let m = sound.most in

@@ -21,11 +21,11 @@ use Rattle.auc_letters.specs.declared.state.Held.{Held}
 use Rattle.auc_model.specs.Channels.{Each}
 use Rattle.auc_answers.specs.Claims.{ArePlaceable, HasNoPriceUnheld, HoldsAt, HoldsBy, IsChoiceOf, NobodyHoldsTwo, holder_at as held_at}
 use Rattle.auc_answers.proofs.FoundLaws.{person_at}
-use Rattle.auc_direct.specs.declared.arc.ShortArc.{ShortArc}
+use Rattle.auc_rows.specs.declared.arc.ShortArc.{ShortArc}
+use Rattle.auc_rows.specs.Rows.{AreSameRows, FlatTable, IsFlatTable, flat_row_of, scale_in, short}
 use Rattle.auc_direct.specs.declared.market.TheConstants.{NOBODY}
-use Rattle.auc_direct.specs.Held.{AreHeld, IsHeld}
-use Rattle.auc_direct.specs.Market.{AreSpare, HaveObjects, Stands, holder_at, own_at, scale_in}
-use Rattle.auc_direct.specs.Rows.{AreShorts, AreShortsOf, Shorts, arc_by, short, shorts_of}
+use Rattle.auc_direct.specs.Held.{AreHeld, IsHeld, arc_by}
+use Rattle.auc_direct.specs.Market.{AreSpare, HaveObjects, Stands, holder_at, own_at}
 use Rattle.auc_direct.specs.Scan.{short_value}
 use Rattle.auc_direct.proofs.MarketLaws.{holder_has, owner_below}
 
@@ -37,7 +37,7 @@ same_value price m n c j e = ap (λ (k : ℕ). pos (k + 1) *ℤ c +ℤ price j) 
 in_map : (xs : List RowArc) (a : RowArc) → Contains xs a → Contains (map short xs) (short a)
 in_map xs a (k, l, e) = (k, (let m = length-map xs short in omega (arith, l, m)), get_or-map short xs k a (short a) l ∙ ap short e)
 
-module _ (p : Problem) (t : Table) (r : Shorts) (eps : ℤ) (prices : List ℤ) (holders : List ℕ) (owns : List ShortArc) (held : List (Option Held)) (its : IsTableOf p t) (same : AreShortsOf t r) (sound : AreShorts r) (stands : Stands r eps prices holders owns) (are : AreHeld p holders owns held) where
+module _ (p : Problem) (t : Table) (r : FlatTable) (eps : ℤ) (prices : List ℤ) (holders : List ℕ) (owns : List ShortArc) (held : List (Option Held)) (its : IsTableOf p t) (same : AreSameRows t r) (sound : IsFlatTable r) (stands : Stands r eps prices holders owns) (are : AreHeld p holders owns held) where
   persons_are : length r.rows ≡ p.persons
   persons_are = let e = same.persons in let f = length-rows p t its in omega (arith, e, f)
 
@@ -103,9 +103,9 @@ module _ (p : Problem) (t : Table) (r : Shorts) (eps : ℤ) (prices : List ℤ) 
       let b : Arc = get_or p.arcs k d in
       let lt = has_below i some in
       let listed : Contains (row_of t i) (row_arc (k, b)) = subst (λ (xs : List RowArc). Contains xs (row_arc (k, b))) (sym (row_is p t its i lt)) (in_row i p.arcs k b (slice_get-get_or p.arcs k d l) his) in
-      let row_same : shorts_of r i ≡ map short (row_of t i) = same.rows i (let n = length-rows p t its in omega (arith, lt, n)) in
-      let own : Contains (shorts_of r i) (short (row_arc (k, b))) = subst (λ (xs : List ShortArc). Contains xs (short (row_arc (k, b)))) (sym row_same) (in_map (row_of t i) (row_arc (k, b)) listed) in
-      let le = All-contains (λ (s : ShortArc). short_value (scale_in r) prices (own_at owns i) ≤ℤ (short_value (scale_in r) prices s +ℤ eps)) (shorts_of r i) (short (row_arc (k, b))) (stands.slack i some).least own in
+      let row_same : flat_row_of r i ≡ map short (row_of t i) = same.rows i (let n = length-rows p t its in omega (arith, lt, n)) in
+      let own : Contains (flat_row_of r i) (short (row_arc (k, b))) = subst (λ (xs : List ShortArc). Contains xs (short (row_arc (k, b)))) (sym row_same) (in_map (row_of t i) (row_arc (k, b)) listed) in
+      let le = All-contains (λ (s : ShortArc). short_value (scale_in r) prices (own_at owns i) ≤ℤ (short_value (scale_in r) prices s +ℤ eps)) (flat_row_of r i) (short (row_arc (k, b))) (stands.slack i some).least own in
       let mine = same_value (price_at prices) (length r.rows) p.persons (own_at owns i).cost (own_at owns i).object persons_are in
       let theirs = same_value (price_at prices) (length r.rows) p.persons b.cost b.object persons_are in
       omega (arith, ints, le, mine, theirs)

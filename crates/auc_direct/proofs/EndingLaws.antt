@@ -3,36 +3,36 @@ use Rattle.std.proofs.Common.{Bool, true, inl, inr, ℕ, ℤ, pos, ◌≡◌, re
 use Rattle.std.specs.Prelude.{◌≤ℤ◌, ◌⊎◌}
 use Rattle.std.proofs.lemmas.Int.{ints}
 use Rattle.auc_cert.specs.declared.reason.Reason.{Reason}
-use Rattle.auc_direct.specs.declared.arc.ShortArc.{ShortArc}
+use Rattle.auc_rows.specs.declared.arc.ShortArc.{ShortArc}
+use Rattle.auc_rows.specs.Rows.{FlatTable}
 use Rattle.auc_direct.specs.declared.ending.Ending.{Ending}
 use Rattle.auc_direct.specs.Endings.{IsEnding, IsLeft, IsLimit, IsSold, IsStopped}
 use Rattle.auc_direct.specs.Market.{Stands}
-use Rattle.auc_direct.specs.Rows.{Shorts}
 
 -- a limit of a phase is one of a run that began with no greater sum
-limit_earlier : (r : Shorts) (bids : ℕ) (begun after : ℤ) (reason : Reason) (prices : List ℤ) → begun ≤ℤ after → IsLimit r bids after reason prices → IsLimit r bids begun reason prices
+limit_earlier : (r : FlatTable) (bids : ℕ) (begun after : ℤ) (reason : Reason) (prices : List ℤ) → begun ≤ℤ after → IsLimit r bids after reason prices → IsLimit r bids begun reason prices
 limit_earlier r bids begun after Reason.Bids prices le h = omega (arith, ints, le, h)
 limit_earlier r bids begun after Reason.Ceiling prices le h = h
 limit_earlier r bids begun after Reason.Posts prices le h = h
 limit_earlier r bids begun after Reason.Trail prices le h = h
 limit_earlier r bids begun after Reason.Mail prices le h = h
 
-pub ended_stopped : (r : Shorts) (bids : ℕ) (begun after : ℤ) (ending : Ending) (prices : List ℤ) (owns : List ShortArc) → begun ≤ℤ after → IsEnding r bids after ending prices owns → IsStopped r bids begun ending prices
+pub ended_stopped : (r : FlatTable) (bids : ℕ) (begun after : ℤ) (ending : Ending) (prices : List ℤ) (owns : List ShortArc) → begun ≤ℤ after → IsEnding r bids after ending prices owns → IsStopped r bids begun ending prices
 ended_stopped r bids begun after Ending.Sold prices owns le is = tt
 ended_stopped r bids begun after (Ending.Stopped reason) prices owns le is = limit_earlier r bids begun after reason prices le is
 
 -- what a phase leaves is what all leave, where it was the last
-pub sold_left : (r : Shorts) (eps : ℤ) (ending : Ending) (prices : List ℤ) (holders : List ℕ) (owns : List ShortArc) → Stands r eps prices holders owns → IsSold r ending owns → (ending ≡ Ending.Sold → eps ≡ pos 1) → IsLeft r ending prices holders owns
+pub sold_left : (r : FlatTable) (eps : ℤ) (ending : Ending) (prices : List ℤ) (holders : List ℕ) (owns : List ShortArc) → Stands r eps prices holders owns → IsSold r ending owns → (ending ≡ Ending.Sold → eps ≡ pos 1) → IsLeft r ending prices holders owns
 sold_left r eps Ending.Sold prices holders owns stands is last = (subst (λ (e : ℤ). Stands r e prices holders owns) (last refl) stands, is)
 sold_left r eps (Ending.Stopped reason) prices holders owns stands is last = (eps, stands)
 
 -- only a limit has stopped the run, or who watched it
-pub watched_stopped : (told : Bool) (r : Shorts) (bids : ℕ) (begun after : ℤ) (ending : Ending) (prices : List ℤ) (owns : List ShortArc) → begun ≤ℤ after → (told ≡ true) ⊎ IsEnding r bids after ending prices owns → (told ≡ true) ⊎ IsStopped r bids begun ending prices
+pub watched_stopped : (told : Bool) (r : FlatTable) (bids : ℕ) (begun after : ℤ) (ending : Ending) (prices : List ℤ) (owns : List ShortArc) → begun ≤ℤ after → (told ≡ true) ⊎ IsEnding r bids after ending prices owns → (told ≡ true) ⊎ IsStopped r bids begun ending prices
 watched_stopped told r bids begun after ending prices owns le (inl e) = inl e
 watched_stopped told r bids begun after ending prices owns le (inr is) = inr (ended_stopped r bids begun after ending prices owns le is)
 
 -- the same of a run that began earlier, with no higher prices
-pub stopped_before : (told : Bool) (r : Shorts) (bids : ℕ) (begun after : ℤ) (ending : Ending) (prices : List ℤ) → begun ≤ℤ after → (told ≡ true) ⊎ IsStopped r bids after ending prices → (told ≡ true) ⊎ IsStopped r bids begun ending prices
+pub stopped_before : (told : Bool) (r : FlatTable) (bids : ℕ) (begun after : ℤ) (ending : Ending) (prices : List ℤ) → begun ≤ℤ after → (told ≡ true) ⊎ IsStopped r bids after ending prices → (told ≡ true) ⊎ IsStopped r bids begun ending prices
 stopped_before told r bids begun after ending prices le (inl e) = inl e
 stopped_before told r bids begun after Ending.Sold prices le (inr is) = inr tt
 stopped_before told r bids begun after (Ending.Stopped reason) prices le (inr is) = inr (limit_earlier r bids begun after reason prices le is)

@@ -6,12 +6,11 @@ use Rattle.auc_graph.specs.declared.arc.Arc.{Arc}
 use Rattle.auc_graph.specs.Problem.{Problem}
 use Rattle.auc_answers.specs.Claims.{holder_at as held_at}
 use Rattle.auc_letters.specs.declared.state.Held.{Held}
-use Rattle.auc_direct.specs.declared.arc.ShortArc.{ShortArc}
+use Rattle.auc_rows.specs.declared.arc.ShortArc.{ShortArc}
+use Rattle.auc_rows.proofs.ArcLaws.{none}
 use Rattle.auc_direct.specs.declared.market.TheConstants.{NOBODY}
-use Rattle.auc_direct.specs.Held.{AreHeld, IsHeld}
+use Rattle.auc_direct.specs.Held.{AreHeld, IsHeld, arc_by}
 use Rattle.auc_direct.specs.Market.{holder_at, own_at}
-use Rattle.auc_direct.specs.Rows.{arc_by}
-use Rattle.auc_direct.proofs.RowLaws.{none}
 
 module _ (p : Problem) (holders : List ℕ) (owns : List ShortArc) where
   -- an arc is the one by which this person holds

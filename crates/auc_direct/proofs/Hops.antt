@@ -3,16 +3,16 @@ use Rattle.std.proofs.Common.{ℕ, ℤ, pos, ◌-◌, ◌≤◌, ◌≡◌, ◌�
 use Rattle.std.specs.Prelude.{if◌then◌else◌, ◌+ℤ◌, ◌≤ℤ◌}
 use Rattle.std.proofs.lemmas.Bool.{eq-eqb, ne_eqb}
 use Rattle.std.proofs.lemmas.Int.{ints}
-use Rattle.auc_direct.specs.declared.arc.ShortArc.{ShortArc}
+use Rattle.auc_rows.specs.declared.arc.ShortArc.{ShortArc}
+use Rattle.auc_rows.specs.Rows.{FlatTable}
 use Rattle.auc_direct.specs.declared.market.TheConstants.{NOBODY}
 use Rattle.auc_direct.specs.Market.{own_at}
 use Rattle.auc_direct.specs.Path.{IsAsNear, IsNoNearer, nothing, own_value, pays}
-use Rattle.auc_direct.specs.Rows.{Shorts}
 
-pub own_none : (t : Shorts) (owns : List ShortArc) (prices : List ℤ) (i : ℕ) → (own_at owns i).object ≡ NOBODY → own_value t owns prices i ≡ nothing
+pub own_none : (t : FlatTable) (owns : List ShortArc) (prices : List ℤ) (i : ℕ) → (own_at owns i).object ≡ NOBODY → own_value t owns prices i ≡ nothing
 own_none t owns prices i none = ap (λ (b : Bool). if b then nothing else pays t prices (own_at owns i)) (eq-eqb (own_at owns i).object NOBODY none)
 
-pub own_some : (t : Shorts) (owns : List ShortArc) (prices : List ℤ) (i : ℕ) → (own_at owns i).object ≢ NOBODY → own_value t owns prices i ≡ pays t prices (own_at owns i)
+pub own_some : (t : FlatTable) (owns : List ShortArc) (prices : List ℤ) (i : ℕ) → (own_at owns i).object ≢ NOBODY → own_value t owns prices i ≡ pays t prices (own_at owns i)
 own_some t owns prices i some = ap (λ (b : Bool). if b then nothing else pays t prices (own_at owns i)) (ne_eqb (own_at owns i).object NOBODY some)
 
 -- a hop of this length

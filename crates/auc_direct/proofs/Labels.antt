@@ -10,10 +10,9 @@ use Rattle.std.proofs.lemmas.List.{get_or-set_same, get_or-set_other, get_or_pas
 use Rattle.std.proofs.lemmas.List.Elements.{All-cons, All-contains, All-tail, All-weaker}
 use Rattle.std.proofs.lemmas.List.Sorted.{All-permutation, Contains-permutation, first_le_from_greatest}
 use Rattle.std.proofs.lemmas.Option.{none-some, same_Some, slice_get-get_or, slice_get_within}
-use Rattle.auc_direct.specs.Market.{scale_in}
+use Rattle.auc_rows.specs.Rows.{FlatTable, flat_row_of, scale_in}
+use Rattle.auc_rows.specs.declared.arc.ShortArc.{ShortArc}
 use Rattle.auc_direct.specs.Scan.{short_value}
-use Rattle.auc_direct.specs.Rows.{Shorts, shorts_of}
-use Rattle.auc_direct.specs.declared.arc.ShortArc.{ShortArc}
 use Rattle.auc_hall.proofs.Membership.{behind, first_or_behind}
 use Rattle.auc_letters.specs.declared.state.Held.{Held}
 use Rattle.auc_answers.specs.Claims.{holder_at}
@@ -68,7 +67,7 @@ nearer : (own : ℤ) (n : ℕ) (v : ℤ) (m more : ℕ) → m ≤ more → IsAsN
 nearer own n v m more le (inl p) = inl (omega (arith, p, le))
 nearer own n v m more le (inr p) = inr (omega (arith, ints, p, le))
 
-module _ (t : Shorts) (owns : List ShortArc) (prices : List ℤ) (holders : List (Option Held)) (start : ℕ) where
+module _ (t : FlatTable) (owns : List ShortArc) (prices : List ℤ) (holders : List (Option Held)) (start : ℕ) where
   label_kept : (labels new : List Label) → ((j : ℕ) → 1 ≤ place_of labels j → (1 ≤ place_of new j) × (near_of new j ≡ near_of labels j)) → (k : ℕ) (l : Label) → IsLabel t owns prices holders start labels k l → IsLabel t owns prices holders start new k l
   label_kept labels new kept k l x = record {
     at = x.at;
@@ -81,7 +80,7 @@ module _ (t : Shorts) (owns : List ShortArc) (prices : List ℤ) (holders : List
   }
 
   pub reaches_more : (labels new : List Label) (i n : ℕ) → ((k : ℕ) → near_of labels k ≤ near_of new k) → Reaches t owns prices labels i n → Reaches t owns prices new i n
-  reaches_more labels new i n more r = λ k d lt. nearer (own_value t owns prices i) n (pays t prices (get_or (shorts_of t i) k d)) (near_of labels (get_or (shorts_of t i) k d).object) (near_of new (get_or (shorts_of t i) k d).object) (more (get_or (shorts_of t i) k d).object) (r k d lt)
+  reaches_more labels new i n more r = λ k d lt. nearer (own_value t owns prices i) n (pays t prices (get_or (flat_row_of t i) k d)) (near_of labels (get_or (flat_row_of t i) k d).object) (near_of new (get_or (flat_row_of t i) k d).object) (more (get_or (flat_row_of t i) k d).object) (r k d lt)
 
   -- ---- nothing is labelled yet
 
@@ -345,9 +344,9 @@ module _ (t : Shorts) (owns : List ShortArc) (prices : List ℤ) (holders : List
               at = y.at;
               from = subst (λ (h : Held). IsFrom holders start next l.before h.person y.at) (sym f) (subst (λ (b : Option ℕ). IsFrom holders start next b (label_of labels j).held.person y.at) (sym g) y.from);
               arc = y.arc;
-              listed = subst (λ (h : Held). Contains (shorts_of t h.person) y.arc) (sym f) y.listed;
+              listed = subst (λ (h : Held). Contains (flat_row_of t h.person) y.arc) (sym f) y.listed;
               leads = y.leads;
-              stands = subst (λ (h : Held). slice_get (shorts_of t h.person) h.arc ≡ Some y.arc) (sym f) y.stands;
+              stands = subst (λ (h : Held). slice_get (flat_row_of t h.person) h.arc ≡ Some y.arc) (sym f) y.stands;
               no_nearer = subst (λ (h : Held). IsNoNearer (own_value t owns prices h.person) y.at (pays t prices y.arc) l.near) (sym f) (subst (λ (m : ℕ). IsNoNearer (own_value t owns prices (label_of labels j).held.person) y.at (pays t prices y.arc) m) (sym e) y.no_nearer);
             }
 
@@ -466,7 +465,7 @@ module _ (t : Shorts) (owns : List ShortArc) (prices : List ℤ) (holders : List
         same = λ k up. step_grows.same k (let a = grows.place k in omega (arith, a, up)) ∙ grows.same k up;
       }
 
-      pub relaxed : (heap2 : List (ℕ × ℕ)) → IsPermutation ((r, b.object) ∷ heap) heap2 → KeepsHeap compare heap heap2 → IsFrom holders start old left person now → Contains (shorts_of t person) b → slice_get (shorts_of t person) at ≡ Some b → IsNoNearer own now (pays t prices b) r → AreLabels t owns prices holders start set_new line heap2 now
+      pub relaxed : (heap2 : List (ℕ × ℕ)) → IsPermutation ((r, b.object) ∷ heap) heap2 → KeepsHeap compare heap heap2 → IsFrom holders start old left person now → Contains (flat_row_of t person) b → slice_get (flat_row_of t person) at ≡ Some b → IsNoNearer own now (pays t prices b) r → AreLabels t owns prices holders start set_new line heap2 now
       relaxed heap2 perm keeps from listed there no_nearer =
           relabelled labels line heap now are b.object r (record { person = person; arc = at }) left inside closer below heap2 perm keeps
           (record {
@@ -491,20 +490,20 @@ module _ (t : Shorts) (owns : List ShortArc) (prices : List ℤ) (holders : List
 -- ---- a row
 
 -- on a scale that is one more than the persons, from what a person pays for what he holds
-pub as_pays : (t : Shorts) (prices : List ℤ) (own his : ℤ) (now : ℕ) (b : ShortArc) (m : ℕ) (scale : ℤ) → scale ≡ scale_in t → own ≡ his → IsAsNear own now (short_value scale prices b) m → IsAsNear his now (pays t prices b) m
+pub as_pays : (t : FlatTable) (prices : List ℤ) (own his : ℤ) (now : ℕ) (b : ShortArc) (m : ℕ) (scale : ℤ) → scale ≡ scale_in t → own ≡ his → IsAsNear own now (short_value scale prices b) m → IsAsNear his now (pays t prices b) m
 as_pays t prices own his now b m scale e f n = subst (λ (o : ℤ). IsAsNear o now (pays t prices b) m) f (subst (λ (z : ℤ). IsAsNear own now (short_value z prices b) m) e n)
 
-pub less_pays : (t : Shorts) (prices : List ℤ) (own his : ℤ) (now : ℕ) (b : ShortArc) (m : ℕ) (scale : ℤ) → scale ≡ scale_in t → own ≡ his → IsNoNearer own now (short_value scale prices b) m → IsNoNearer his now (pays t prices b) m
+pub less_pays : (t : FlatTable) (prices : List ℤ) (own his : ℤ) (now : ℕ) (b : ShortArc) (m : ℕ) (scale : ℤ) → scale ≡ scale_in t → own ≡ his → IsNoNearer own now (short_value scale prices b) m → IsNoNearer his now (pays t prices b) m
 less_pays t prices own his now b m scale e f n = subst (λ (o : ℤ). IsNoNearer o now (pays t prices b) m) f (subst (λ (z : ℤ). IsNoNearer own now (short_value z prices b) m) e n)
 
 -- it is labelled to its end
-pub all_walked : (t : Shorts) (owns : List ShortArc) (prices : List ℤ) (person : ℕ) (now : ℕ) (labels : List Label) (row : List ShortArc) (at : ℕ) → row ≡ shorts_of t person → length row ≤ at → All (λ x. IsAsNear (own_value t owns prices person) now (pays t prices x) (near_of labels x.object)) (take at row) → Reaches t owns prices labels person now
+pub all_walked : (t : FlatTable) (owns : List ShortArc) (prices : List ℤ) (person : ℕ) (now : ℕ) (labels : List Label) (row : List ShortArc) (at : ℕ) → row ≡ flat_row_of t person → length row ≤ at → All (λ x. IsAsNear (own_value t owns prices person) now (pays t prices x) (near_of labels x.object)) (take at row) → Reaches t owns prices labels person now
 all_walked t owns prices person now labels row at is over walked =
     subst (λ (xs : List ShortArc). All (λ x. IsAsNear (own_value t owns prices person) now (pays t prices x) (near_of labels x.object)) xs) is (subst (λ (xs : List ShortArc). All (λ x. IsAsNear (own_value t owns prices person) now (pays t prices x) (near_of labels x.object)) xs) (take_all at row over) walked)
 
 -- ---- parts of what a search keeps
 
-module _ (t : Shorts) (owns : List ShortArc) (prices : List ℤ) (holders : List (Option Held)) (start : ℕ) (labels : List Label) (line : List ℕ) (heap : List (ℕ × ℕ)) where
+module _ (t : FlatTable) (owns : List ShortArc) (prices : List ℤ) (holders : List (Option Held)) (start : ℕ) (labels : List Label) (line : List ℕ) (heap : List (ℕ × ℕ)) where
   pub line_of : (now : ℕ) → AreLabels t owns prices holders start labels line heap now → IsLine labels line
   line_of now are = record { high = are.high; listed = are.listed; placed = are.placed }
 

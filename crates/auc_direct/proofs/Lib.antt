@@ -3,12 +3,6 @@ mod Shortlists
 mod BidLaws
 mod MarketLaws
 mod Bounds
-mod ShortRows
-mod InOrderLaws
-mod PlacedLaws
-mod SpreadLaws
-mod FrameLaws
-mod RowLaws
 mod Opening
 mod StartLaws
 mod EndingLaws

@@ -9,11 +9,11 @@ use Rattle.auc_graph.specs.Assignment.{total}
 use Rattle.auc_graph.specs.Dual.{price_at}
 use Rattle.auc_graph.specs.declared.limits.TheConstants.{MOST_PERSONS}
 use Rattle.auc_letters.specs.Price.{IsEps, IsPrice}
-use Rattle.auc_direct.specs.declared.arc.ShortArc.{ShortArc}
+use Rattle.auc_rows.specs.declared.arc.ShortArc.{ShortArc}
+use Rattle.auc_rows.specs.Rows.{FlatTable, IsFlatTable, IsShort, flat_row_of, scale_in}
 use Rattle.auc_direct.specs.declared.market.TheConstants.{NOBODY}
 use Rattle.auc_direct.specs.Bid.{IsRaise}
-use Rattle.auc_direct.specs.Market.{AreSpare, HaveAllBut, HaveObjects, IsAwarded, IsSlack, Stands, holder_at, no_own, own_at, scale_in}
-use Rattle.auc_direct.specs.Rows.{AreShorts, IsShort, Shorts, shorts_of}
+use Rattle.auc_direct.specs.Market.{AreSpare, HaveAllBut, HaveObjects, IsAwarded, IsSlack, Stands, holder_at, no_own, own_at}
 use Rattle.auc_direct.proofs.BidLaws.{risen}
 
 -- ---- sums of prices
@@ -29,7 +29,7 @@ total_low (z ∷ zs) all = let first = (all 0 (pos 0) (omega arith)).low in let 
 
 -- ---- who holds, and who has
 
-module _ (r : Shorts) (eps : ℤ) (prices : List ℤ) (holders : List ℕ) (owns : List ShortArc) (sound : AreShorts r) (stands : Stands r eps prices holders owns) where
+module _ (r : FlatTable) (eps : ℤ) (prices : List ℤ) (holders : List ℕ) (owns : List ShortArc) (sound : IsFlatTable r) (stands : Stands r eps prices holders owns) where
   -- who has an object is a person
   pub owner_below : (i : ℕ) → (own_at owns i).object ≢ NOBODY → i < length r.rows
   owner_below i some =
@@ -61,21 +61,21 @@ module _ (r : Shorts) (eps : ℤ) (prices : List ℤ) (holders : List ℕ) (owns
 
 -- ---- slackness at prices that have risen
 
-pub slack_rises : (r : Shorts) (eps : ℤ) (prices new : List ℤ) (i : ℕ) (s : ShortArc) → ((k : ℕ) → price_at prices k ≤ℤ price_at new k) → price_at new s.object ≡ price_at prices s.object → IsSlack r eps prices i s → IsSlack r eps new i s
+pub slack_rises : (r : FlatTable) (eps : ℤ) (prices new : List ℤ) (i : ℕ) (s : ShortArc) → ((k : ℕ) → price_at prices k ≤ℤ price_at new k) → price_at new s.object ≡ price_at prices s.object → IsSlack r eps prices i s → IsSlack r eps new i s
 slack_rises r eps prices new i s rise same h = record {
   listed = h.listed;
-  least = λ k d lt. (let b = get_or (shorts_of r i) k d in let o = h.least k d lt in let up = rise b.object in omega (arith, ints, o, up, same));
+  least = λ k d lt. (let b = get_or (flat_row_of r i) k d in let o = h.least k d lt in let up = rise b.object in omega (arith, ints, o, up, same));
 }
 
 -- ---- an award
 
-module _ (r : Shorts) (eps : ℤ) (prices : List ℤ) (holders : List ℕ) (owns : List ShortArc) (i : ℕ) (s : ShortArc) (amount : ℤ) (sound : AreShorts r) (stands : Stands r eps prices holders owns) (known : i < length r.rows) (none : (own_at owns i).object ≡ NOBODY)
+module _ (r : FlatTable) (eps : ℤ) (prices : List ℤ) (holders : List ℕ) (owns : List ShortArc) (i : ℕ) (s : ShortArc) (amount : ℤ) (sound : IsFlatTable r) (stands : Stands r eps prices holders owns) (known : i < length r.rows) (none : (own_at owns i).object ≡ NOBODY)
     (up : price_at prices s.object ≤ℤ amount) (fits : IsSlack r eps (set prices s.object amount) i s) where
   abbrev j : ℕ
   j = s.object
 
   pub object_in : j < r.objects
-  object_in = (All-contains (IsShort r.objects) (shorts_of r i) s (sound.each i) fits.listed).object
+  object_in = (All-contains (IsShort r.objects) (flat_row_of r i) s (sound.each i) fits.listed).object
 
   pub price_in : j < length prices
   price_in = let e = stands.prices_are in let l = object_in in omega (arith, e, l)
@@ -232,21 +232,21 @@ pub all_have : (n : ℕ) (owns : List ShortArc) (d : ℕ) → d ≡ NOBODY → n
 all_have n owns d nobody few h i l = h.others i l (λ e. omega (arith, l, e, nobody, few))
 
 -- a bid at prices and by a row that are these
-pub raise_by : (r : Shorts) (scale eps : ℤ) (i : ℕ) (prices these : List ℤ) (row : List ShortArc) (s : ShortArc) (amount : ℤ) → scale ≡ scale_in r → these ≡ prices → row ≡ shorts_of r i → IsRaise scale eps these row s amount → IsRaise (scale_in r) eps prices (shorts_of r i) s amount
+pub raise_by : (r : FlatTable) (scale eps : ℤ) (i : ℕ) (prices these : List ℤ) (row : List ShortArc) (s : ShortArc) (amount : ℤ) → scale ≡ scale_in r → these ≡ prices → row ≡ flat_row_of r i → IsRaise scale eps these row s amount → IsRaise (scale_in r) eps prices (flat_row_of r i) s amount
 raise_by r scale eps i prices these row s amount e f g h =
-    subst (λ (z : ℤ). IsRaise z eps prices (shorts_of r i) s amount) e
-    (subst (λ (ps : List ℤ). IsRaise scale eps ps (shorts_of r i) s amount) f
+    subst (λ (z : ℤ). IsRaise z eps prices (flat_row_of r i) s amount) e
+    (subst (λ (ps : List ℤ). IsRaise scale eps ps (flat_row_of r i) s amount) f
     (subst (λ (xs : List ShortArc). IsRaise scale eps these xs s amount) g h))
 
 -- what holds of lists holds of those that are the same
-pub stands_by : (r : Shorts) (eps : ℤ) (prices these : List ℤ) (holders they : List ℕ) (owns those : List ShortArc) → these ≡ prices → they ≡ holders → those ≡ owns → Stands r eps prices holders owns → Stands r eps these they those
+pub stands_by : (r : FlatTable) (eps : ℤ) (prices these : List ℤ) (holders they : List ℕ) (owns those : List ShortArc) → these ≡ prices → they ≡ holders → those ≡ owns → Stands r eps prices holders owns → Stands r eps these they those
 stands_by r eps prices these holders they owns those e f g h =
     subst (λ (ps : List ℤ). Stands r eps ps they those) (sym e)
     (subst (λ (hs : List ℕ). Stands r eps prices hs those) (sym f)
     (subst (λ (os : List ShortArc). Stands r eps prices holders os) (sym g) h))
 
-pub awarded : (r : Shorts) (eps : ℤ) (person : ℕ) (prices new : List ℤ) (holders sold : List ℕ) (owns left : List ShortArc) (d : ℕ) (s : ShortArc) (amount : ℤ) → AreShorts r → IsEps eps → Stands r eps prices holders owns → person < length r.rows → (own_at owns person).object ≡ NOBODY
-    → IsRaise (scale_in r) eps prices (shorts_of r person) s amount → amount ≤ℤ pos (2 ^ 61) → new ≡ set prices s.object amount → sold ≡ set holders s.object person → left ≡ set (set owns person s) (holder_at holders s.object) no_own → d ≡ holder_at holders s.object
+pub awarded : (r : FlatTable) (eps : ℤ) (person : ℕ) (prices new : List ℤ) (holders sold : List ℕ) (owns left : List ShortArc) (d : ℕ) (s : ShortArc) (amount : ℤ) → IsFlatTable r → IsEps eps → Stands r eps prices holders owns → person < length r.rows → (own_at owns person).object ≡ NOBODY
+    → IsRaise (scale_in r) eps prices (flat_row_of r person) s amount → amount ≤ℤ pos (2 ^ 61) → new ≡ set prices s.object amount → sold ≡ set holders s.object person → left ≡ set (set owns person s) (holder_at holders s.object) no_own → d ≡ holder_at holders s.object
     → IsAwarded r eps person prices new sold owns left d
 awarded r eps person prices new holders sold owns left d s amount sound is_eps stands known none raise high e f g h =
     let m = raise.more in

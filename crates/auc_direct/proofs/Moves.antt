@@ -5,12 +5,12 @@ use Rattle.std.proofs.lemmas.Bool.{cases_eq}
 use Rattle.std.proofs.lemmas.List.{get_or-set_same, get_or-set_other, get_or_past, length-set}
 use Rattle.std.proofs.lemmas.Option.{same_Some}
 use Rattle.auc_graph.specs.declared.limits.TheConstants.{MOST_OBJECTS, MOST_PERSONS}
-use Rattle.auc_direct.specs.declared.arc.ShortArc.{ShortArc}
+use Rattle.auc_rows.specs.declared.arc.ShortArc.{ShortArc}
+use Rattle.auc_rows.specs.Rows.{FlatTable}
 use Rattle.auc_direct.specs.declared.label.Label.{Label}
 use Rattle.auc_direct.specs.declared.market.TheConstants.{NOBODY}
 use Rattle.auc_direct.specs.Market.{holder_at, no_own, own_at}
 use Rattle.auc_direct.specs.Path.{AreTaken, Agree, IsChain, IsFrom, IsLabelArc, IsMoved, label_of, near_of, place_of, seats}
-use Rattle.auc_direct.specs.Rows.{Shorts}
 use Rattle.auc_direct.proofs.Labels.{settled_within}
 use Rattle.auc_direct.proofs.Seats.{free_at, seat_is}
 
@@ -23,7 +23,7 @@ none_some : {j : ℕ} → ◌≡◌ {A = Option ℕ} None (Some j) → ⊥
 none_some e = cc
 
 -- The last who has taken an object has left `next`, which nobody has any more though he still stands there.
-pub record AreMoving (t : Shorts) (labels : List Label) (top start : ℕ) (holders now : List ℕ) (owns left : List ShortArc) (next : Option ℕ) : Type 0 where
+pub record AreMoving (t : FlatTable) (labels : List Label) (top start : ℕ) (holders now : List ℕ) (owns left : List ShortArc) (next : Option ℕ) : Type 0 where
   pub holders_are : length now ≡ length holders
   pub owns_are : length left ≡ length owns
   pub last : ℕ
@@ -40,7 +40,7 @@ pub record AreMoving (t : Shorts) (labels : List Label) (top start : ℕ) (holde
   pub have : (i : ℕ) → (own_at owns i).object ≢ NOBODY → (own_at left i).object ≢ NOBODY
   pub has : (own_at left last).object ≢ NOBODY
 
-module _ (t : Shorts) (holders : List ℕ) (owns : List ShortArc) (labels : List Label) (start end : ℕ) (agree : Agree t holders owns) (few : t.objects ≤ MOST_OBJECTS) (persons : length t.rows ≤ MOST_PERSONS) (sizes : length labels ≡ t.objects) (free : (own_at owns start).object ≡ NOBODY) (chain : IsChain labels (seats holders) start end)
+module _ (t : FlatTable) (holders : List ℕ) (owns : List ShortArc) (labels : List Label) (start end : ℕ) (agree : Agree t holders owns) (few : t.objects ≤ MOST_OBJECTS) (persons : length t.rows ≤ MOST_PERSONS) (sizes : length labels ≡ t.objects) (free : (own_at owns start).object ≡ NOBODY) (chain : IsChain labels (seats holders) start end)
     (arcs : (k : ℕ) → near_of labels end ≤ near_of labels k → (s : ShortArc) × IsLabelArc t labels k s) (below : (k : ℕ) → near_of labels end ≤ near_of labels k → (label_of labels k).held.person < length t.rows) where
   abbrev top : ℕ
   top = near_of labels end

@@ -11,11 +11,11 @@ use Rattle.auc_graph.specs.Problem.{Problem}
 use Rattle.auc_graph.specs.Table.{IsTableOf, Table}
 use Rattle.auc_letters.specs.Price.{IsEps, IsPrice}
 use Rattle.auc_answers.proofs.NewShards.{replicate_default}
-use Rattle.auc_direct.specs.declared.arc.ShortArc.{ShortArc}
+use Rattle.auc_rows.specs.declared.arc.ShortArc.{ShortArc}
+use Rattle.auc_rows.specs.Rows.{AreSameRows, FlatTable}
 use Rattle.auc_direct.specs.declared.market.TheConstants.{NOBODY}
 use Rattle.auc_direct.specs.Endings.{IsStart}
 use Rattle.auc_direct.specs.Market.{AreSpare, Stands, holder_at, no_own, own_at}
-use Rattle.auc_direct.specs.Rows.{AreShortsOf, Shorts}
 use Rattle.auc_direct.specs.Starts.{ArePricesOf, AreStartPrices}
 
 -- a list of so many times the same
@@ -24,7 +24,7 @@ all_same a xs ys n len enough same =
     same_lists xs (replicate (length ys) a) (len ∙ sym (length-replicate (length ys) a))
     (λ k d lt. get_or_default xs k d a lt ∙ same k (omega (arith, lt, enough)) ∙ sym (get_or-replicate (length ys) k a d (omega (arith, lt, len))))
 
-pub stands_opened : (r : Shorts) (first eps : ℤ) (prices : List ℤ) (holders : List ℕ) (owns : List ShortArc) (n m : ℕ) → IsStart r first prices → n ≡ r.objects → m ≡ length r.rows → holders ≡ replicate n NOBODY → owns ≡ replicate m no_own → Stands r eps prices holders owns
+pub stands_opened : (r : FlatTable) (first eps : ℤ) (prices : List ℤ) (holders : List ℕ) (owns : List ShortArc) (n m : ℕ) → IsStart r first prices → n ≡ r.objects → m ≡ length r.rows → holders ≡ replicate n NOBODY → owns ≡ replicate m no_own → Stands r eps prices holders owns
 stands_opened r first eps prices holders owns n m start objects persons nobody none = record {
   prices_are = start.each;
   holders_are = ap length nobody ∙ length-replicate n NOBODY ∙ objects;
@@ -47,7 +47,7 @@ stands_opened r first eps prices holders owns n m start objects persons nobody n
     spare (inr zeros) = inr (λ j free. zeros.1 j)
 
 -- the next phase begins with the prices that the one before has left, where there are as many objects as persons
-pub start_next : (r : Shorts) (eps next : ℤ) (prices new : List ℤ) (holders : List ℕ) (owns : List ShortArc) → IsEps next → next <ℤ eps → IsStart r eps prices → Stands r eps new holders owns → IsStart r next new
+pub start_next : (r : FlatTable) (eps next : ℤ) (prices new : List ℤ) (holders : List ℕ) (owns : List ShortArc) → IsEps next → next <ℤ eps → IsStart r eps prices → Stands r eps new holders owns → IsStart r next new
 start_next r eps next prices new holders owns is_eps less start stands = record { each = stands.prices_are; within = stands.within; spare = by start.spare }
   where
     by : (r.objects ≡ length r.rows) ⊎ ((eps ≡ pos 1) × ((j : ℕ) → price_at prices j ≡ pos 0)) → (r.objects ≡ length r.rows) ⊎ ((next ≡ pos 1) × ((j : ℕ) → price_at new j ≡ pos 0))
@@ -63,7 +63,7 @@ zero_price : IsPrice (pos 0)
 zero_price = record { low = omega (arith, ints); high = omega (arith, ints) }
 
 -- no price at all
-pub start_none : (r : Shorts) (eps : ℤ) (n : ℕ) (prices : List ℤ) → n ≡ r.objects → prices ≡ replicate n (pos 0) → (r.objects ≡ length r.rows) ⊎ (eps ≡ pos 1) → IsStart r eps prices
+pub start_none : (r : FlatTable) (eps : ℤ) (n : ℕ) (prices : List ℤ) → n ≡ r.objects → prices ≡ replicate n (pos 0) → (r.objects ≡ length r.rows) ⊎ (eps ≡ pos 1) → IsStart r eps prices
 start_none r eps n prices many zeros start = record {
   each = ap length zeros ∙ length-replicate n (pos 0) ∙ many;
   within = subst (All IsPrice) (sym zeros) (All-replicate IsPrice n (pos 0) zero_price);
@@ -83,12 +83,12 @@ pub total_none : (n : ℕ) (prices : List ℤ) → prices ≡ replicate n (pos 0
 total_none n prices e = ap total e ∙ total_of_none n
 
 -- start prices, a price for each object
-pub prices_of_start : (p : Problem) (t : Table) (r : Shorts) (start : List ℤ) → IsTableOf p t → AreShortsOf t r → AreStartPrices p start → ArePricesOf r start
+pub prices_of_start : (p : Problem) (t : Table) (r : FlatTable) (start : List ℤ) → IsTableOf p t → AreSameRows t r → AreStartPrices p start → ArePricesOf r start
 prices_of_start p t r start its same is = record {
   each = is.each ∙ (let a = its.objects in let b = same.objects in omega (arith, a, b));
   within = All-weaker IsStartPrice IsPrice (λ z h. record { low = h.low; high = (let u = h.high in omega (arith, ints, u)) }) start is.within;
 }
 
 -- and where there are as many objects as persons, a run may begin with them
-pub start_at : (r : Shorts) (start prices : List ℤ) → ArePricesOf r start → r.objects ≡ length r.rows → prices ≡ start → IsStart r (pos 1) prices
+pub start_at : (r : FlatTable) (start prices : List ℤ) → ArePricesOf r start → r.objects ≡ length r.rows → prices ≡ start → IsStart r (pos 1) prices
 start_at r start prices is square e = record { each = ap length e ∙ is.each; within = subst (All IsPrice) (sym e) is.within; spare = inl square }

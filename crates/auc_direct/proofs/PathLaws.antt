@@ -9,35 +9,35 @@ use Rattle.std.proofs.lemmas.Option.{same_Some, slice_get-get_or, slice_get_with
 use Rattle.auc_graph.specs.Assignment.{total}
 use Rattle.auc_graph.specs.Dual.{price_at}
 use Rattle.auc_letters.specs.Price.{IsEps, IsPrice}
-use Rattle.auc_direct.specs.declared.arc.ShortArc.{ShortArc}
+use Rattle.auc_rows.specs.declared.arc.ShortArc.{ShortArc}
+use Rattle.auc_rows.specs.Rows.{IsFlatTable, IsShort, FlatTable, flat_row_of}
 use Rattle.auc_direct.specs.declared.label.Label.{Label}
 use Rattle.auc_direct.specs.declared.market.TheConstants.{NOBODY}
 use Rattle.auc_direct.specs.Market.{AreSpare, HaveAllBut, HaveObjects, Stands, holder_at, no_own, own_at}
 use Rattle.auc_direct.specs.Path.{Agree, AreHolders, AreOwns, AreRaised, AreTaken, IsEnd, IsFrom, IsLabelArc, label_of, near_of, place_of, seat, seats}
-use Rattle.auc_direct.specs.Rows.{AreShorts, IsShort, Shorts, shorts_of}
 use Rattle.auc_direct.proofs.MarketLaws.{holder_below, owner_below}
 use Rattle.auc_direct.proofs.Seats.{seat_is}
 use Rattle.auc_direct.proofs.Slackness.{rise, slack_after_path, unsettled_same}
 use Rattle.auc_direct.proofs.Walks.{total_rises}
 
 -- the arc of a label is the one that stands there
-pub label_arc : (t : Shorts) (labels : List Label) (k : ℕ) → ((s : ShortArc) × IsLabelArc t labels k s) → IsLabelArc t labels k (slice_index_or (shorts_of t (label_of labels k).held.person) (label_of labels k).held.arc no_own)
+pub label_arc : (t : FlatTable) (labels : List Label) (k : ℕ) → ((s : ShortArc) × IsLabelArc t labels k s) → IsLabelArc t labels k (slice_index_or (flat_row_of t (label_of labels k).held.person) (label_of labels k).held.arc no_own)
 label_arc t labels k x =
-    let w = slice_get_within (shorts_of t (label_of labels k).held.person) (label_of labels k).held.arc x.0 x.1.listed in
-    let e = same_Some x.0 (slice_index_or (shorts_of t (label_of labels k).held.person) (label_of labels k).held.arc no_own) (sym x.1.listed ∙ slice_get-get_or (shorts_of t (label_of labels k).held.person) (label_of labels k).held.arc no_own w) in
+    let w = slice_get_within (flat_row_of t (label_of labels k).held.person) (label_of labels k).held.arc x.0 x.1.listed in
+    let e = same_Some x.0 (slice_index_or (flat_row_of t (label_of labels k).held.person) (label_of labels k).held.arc no_own) (sym x.1.listed ∙ slice_get-get_or (flat_row_of t (label_of labels k).held.person) (label_of labels k).held.arc no_own w) in
     subst (IsLabelArc t labels k) e x.1
 
 -- and it is one of his row
-pub label_arc_within : (t : Shorts) (labels : List Label) (k : ℕ) → ((s : ShortArc) × IsLabelArc t labels k s) → (label_of labels k).held.arc < length (shorts_of t (label_of labels k).held.person)
-label_arc_within t labels k x = slice_get_within (shorts_of t (label_of labels k).held.person) (label_of labels k).held.arc x.0 x.1.listed
+pub label_arc_within : (t : FlatTable) (labels : List Label) (k : ℕ) → ((s : ShortArc) × IsLabelArc t labels k s) → (label_of labels k).held.arc < length (flat_row_of t (label_of labels k).held.person)
+label_arc_within t labels k x = slice_get_within (flat_row_of t (label_of labels k).held.person) (label_of labels k).held.arc x.0 x.1.listed
 
-module _ (t : Shorts) (eps : ℤ) (prices : List ℤ) (holders : List ℕ) (owns : List ShortArc) (sound : AreShorts t) (stands : Stands t eps prices holders owns) where
+module _ (t : FlatTable) (eps : ℤ) (prices : List ℤ) (holders : List ℕ) (owns : List ShortArc) (sound : IsFlatTable t) (stands : Stands t eps prices holders owns) where
   pub agree_of : Agree t holders owns
   agree_of = record { holders_are = stands.holders_are; owns_are = stands.owns_are; held = stands.held; holds = stands.holds }
 
   -- each arc that somebody has is one of his row
   pub owns_known : AreOwns t owns
-  owns_known = record { many = stands.owns_are; short = λ i some. All-contains (IsShort t.objects) (shorts_of t i) (own_at owns i) (sound.each i) (stands.slack i some).listed }
+  owns_known = record { many = stands.owns_are; short = λ i some. All-contains (IsShort t.objects) (flat_row_of t i) (own_at owns i) (sound.each i) (stands.slack i some).listed }
 
   pub holders_known : AreHolders t (seats holders)
   holders_known = record {

@@ -5,11 +5,11 @@ use Rattle.std.proofs.lemmas.Bool.{cases_eq, cases_lt}
 use Rattle.std.proofs.lemmas.Int.{ints}
 use Rattle.std.proofs.lemmas.List.{get_or_default, get_or_past, get_or-set_same, get_or-set_other, length-set}
 use Rattle.std.proofs.lemmas.List.Elements.{All-contains, All-get_or, All-nil, All-push, All-set, All-weaker, Contains-append_left, Contains-get_or, Contains-push}
-use Rattle.auc_direct.specs.declared.arc.ShortArc.{ShortArc}
+use Rattle.auc_rows.specs.declared.arc.ShortArc.{ShortArc}
+use Rattle.auc_rows.specs.Rows.{FlatTable, IsShort, flat_row_of, scale_in}
 use Rattle.auc_direct.specs.declared.best.Best.{Best}
 use Rattle.auc_direct.specs.declared.scan.Found.{Found}
-use Rattle.auc_direct.specs.Market.{AreHigher, scale_in}
-use Rattle.auc_direct.specs.Rows.{IsShort, Shorts, shorts_of}
+use Rattle.auc_direct.specs.Market.{AreHigher}
 use Rattle.auc_direct.specs.Scan.{IsFound, IsValue, endless, no_arc, short_value}
 use Rattle.auc_direct.specs.Shortlist.{Gathered, IsBest, IsReplaced, Keeps, Kept, Listed, list_at, no_list}
 
@@ -166,13 +166,13 @@ keeps_rises scale prices new row l higher (inr g) = inr (record {
     by b (inl there) = inl there
     by b (inr out) = inr (let up = higher b.object in omega (arith, ints, out, up))
 
-pub kept_rises : (r : Shorts) (prices new : List ℤ) (lists : List Listed) → AreHigher prices new → Kept r prices lists → Kept r new lists
-kept_rises r prices new lists higher kept i = keeps_rises (scale_in r) prices new (shorts_of r i) (list_at lists i) higher (kept i)
+pub kept_rises : (r : FlatTable) (prices new : List ℤ) (lists : List Listed) → AreHigher prices new → Kept r prices lists → Kept r new lists
+kept_rises r prices new lists higher kept i = keeps_rises (scale_in r) prices new (flat_row_of r i) (list_at lists i) higher (kept i)
 
 -- ---- the lists of all persons
 
 -- lists with no arc say nothing
-pub kept_none : (r : Shorts) (prices : List ℤ) (lists : List Listed) → All (λ l. l.arcs ≡ []) lists → Kept r prices lists
+pub kept_none : (r : FlatTable) (prices : List ℤ) (lists : List Listed) → All (λ l. l.arcs ≡ []) lists → Kept r prices lists
 kept_none r prices lists none i =
     elim (cases_lt i (length lists)) [
       | inl lt ↦ inl (All-get_or (λ l. l.arcs ≡ []) lists i no_list lt none)
@@ -180,9 +180,9 @@ kept_none r prices lists none i =
     ]
 
 -- one of them is another one
-pub kept_set : (r : Shorts) (prices : List ℤ) (lists : List Listed) (i : ℕ) (l : Listed) → i < length lists → Keeps (short_value (scale_in r) prices) (shorts_of r i) l → Kept r prices lists → Kept r prices (set lists i l)
+pub kept_set : (r : FlatTable) (prices : List ℤ) (lists : List Listed) (i : ℕ) (l : Listed) → i < length lists → Keeps (short_value (scale_in r) prices) (flat_row_of r i) l → Kept r prices lists → Kept r prices (set lists i l)
 kept_set r prices lists i l lt keeps kept k =
     elim (cases_eq k i) [
-      | inl e ↦ subst (λ (m : ℕ). Keeps (short_value (scale_in r) prices) (shorts_of r m) (list_at (set lists i l) m)) (sym e) (subst (Keeps (short_value (scale_in r) prices) (shorts_of r i)) (sym (get_or-set_same lists i l no_list lt)) keeps)
-      | inr ne ↦ subst (Keeps (short_value (scale_in r) prices) (shorts_of r k)) (sym (get_or-set_other lists i k l no_list ne)) (kept k)
+      | inl e ↦ subst (λ (m : ℕ). Keeps (short_value (scale_in r) prices) (flat_row_of r m) (list_at (set lists i l) m)) (sym e) (subst (Keeps (short_value (scale_in r) prices) (flat_row_of r i)) (sym (get_or-set_same lists i l no_list lt)) keeps)
+      | inr ne ↦ subst (Keeps (short_value (scale_in r) prices) (flat_row_of r k)) (sym (get_or-set_other lists i k l no_list ne)) (kept k)
     ]

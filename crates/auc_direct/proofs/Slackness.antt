@@ -7,26 +7,26 @@ use Rattle.std.proofs.lemmas.Option.{same_Some}
 use Rattle.auc_graph.specs.Dual.{price_at}
 use Rattle.auc_letters.specs.Price.{IsEps, IsPrice}
 use Rattle.auc_answers.specs.Claims.{holder_at as held_at}
-use Rattle.auc_direct.specs.declared.arc.ShortArc.{ShortArc}
+use Rattle.auc_rows.specs.declared.arc.ShortArc.{ShortArc}
+use Rattle.auc_rows.specs.Rows.{IsFlatTable, FlatTable, flat_row_of}
 use Rattle.auc_direct.specs.declared.label.Label.{Label}
 use Rattle.auc_direct.specs.declared.market.TheConstants.{NOBODY}
 use Rattle.auc_direct.specs.Market.{IsSlack, holder_at, own_at}
 use Rattle.auc_direct.specs.Path.{AreRaised, AreTaken, Agree, IsAsNear, IsEnd, IsFrom, IsLabelArc, IsMoved, Reaches, label_of, near_of, own_value, pays, place_of, seats}
-use Rattle.auc_direct.specs.Rows.{AreShorts, Shorts, shorts_of}
 use Rattle.auc_direct.proofs.Bounds.{value_in}
 use Rattle.auc_direct.proofs.Hops.{own_none, own_some}
 use Rattle.auc_direct.proofs.MarketLaws.{slack_rises}
 use Rattle.auc_direct.proofs.Seats.{somebody_at}
 
 -- no arc of a person is worth less than what he pays for what he holds by more than eps
-own_below : (t : Shorts) (eps : ℤ) (owns : List ShortArc) (prices : List ℤ) (i : ℕ) → AreShorts t → All IsPrice prices → length prices ≡ t.objects → IsEps eps → ((own_at owns i).object ≢ NOBODY → IsSlack t eps prices i (own_at owns i)) → All (λ b. own_value t owns prices i ≤ℤ (pays t prices b +ℤ eps)) (shorts_of t i)
+own_below : (t : FlatTable) (eps : ℤ) (owns : List ShortArc) (prices : List ℤ) (i : ℕ) → IsFlatTable t → All IsPrice prices → length prices ≡ t.objects → IsEps eps → ((own_at owns i).object ≢ NOBODY → IsSlack t eps prices i (own_at owns i)) → All (λ b. own_value t owns prices i ≤ℤ (pays t prices b +ℤ eps)) (flat_row_of t i)
 own_below t eps owns prices i sound within many is_eps slack k d lt =
     elim (cases_eq (own_at owns i).object NOBODY) [
-      | inl none ↦ (let e = own_none t owns prices i none in let v = (value_in t prices (get_or (shorts_of t i) k d) sound within many (sound.each i k d lt)).low in let low = is_eps.low in omega (arith, ints, e, v, low))
+      | inl none ↦ (let e = own_none t owns prices i none in let v = (value_in t prices (get_or (flat_row_of t i) k d) sound within many (sound.each i k d lt)).low in let low = is_eps.low in omega (arith, ints, e, v, low))
       | inr some ↦ (let e = own_some t owns prices i some in let l = (slack some).least k d lt in omega (arith, ints, e, l))
     ]
 
-module _ (t : Shorts) (eps : ℤ) (prices new : List ℤ) (holders : List ℕ) (owns : List ShortArc) (start : ℕ) (labels : List Label) (line : List ℕ) (heap : List (ℕ × ℕ)) (end : ℕ) (ended : IsEnd t owns prices (seats holders) start labels line heap end) (raised : AreRaised prices new labels (near_of labels end)) (is_eps : IsEps eps) where
+module _ (t : FlatTable) (eps : ℤ) (prices new : List ℤ) (holders : List ℕ) (owns : List ShortArc) (start : ℕ) (labels : List Label) (line : List ℕ) (heap : List (ℕ × ℕ)) (end : ℕ) (ended : IsEnd t owns prices (seats holders) start labels line heap end) (raised : AreRaised prices new labels (near_of labels end)) (is_eps : IsEps eps) where
   abbrev top : ℕ
   top = near_of labels end
 
@@ -49,12 +49,12 @@ module _ (t : Shorts) (eps : ℤ) (prices new : List ℤ) (holders : List ℕ) (
 
   -- no arc of the person is better than this one by more than eps, at these prices
   abbrev IsBest : List ℤ → ℕ → ShortArc → Type 0
-  IsBest q i a = All (λ b. pays t q a ≤ℤ (pays t q b +ℤ eps)) (shorts_of t i)
+  IsBest q i a = All (λ b. pays t q a ≤ℤ (pays t q b +ℤ eps)) (flat_row_of t i)
 
   -- who stays at a settled object
   stays : (i n : ℕ) (a : ShortArc) → top ≤ n → near_of labels a.object ≡ n → own_value t owns prices i ≡ pays t prices a → IsBest prices i a → Reaches t owns prices labels i n → IsBest new i a
   stays i n a le here own best r k d lt =
-      let b : ShortArc = get_or (shorts_of t i) k d in
+      let b : ShortArc = get_or (flat_row_of t i) k d in
       let mine = pays_new a in
       let old : pays t prices a ≤ℤ (pays t prices b +ℤ eps) = best k d lt in
       let low = is_eps.low in
@@ -77,7 +77,7 @@ module _ (t : Shorts) (eps : ℤ) (prices new : List ℤ) (holders : List ℕ) (
       )
 
   -- who takes an object by its label
-  moves : (k : ℕ) (s : ShortArc) → top ≤ near_of labels k → IsLabelArc t labels k s → All (λ b. own_value t owns prices (label_of labels k).held.person ≤ℤ (pays t prices b +ℤ eps)) (shorts_of t (label_of labels k).held.person) → IsSlack t eps new (label_of labels k).held.person s
+  moves : (k : ℕ) (s : ShortArc) → top ≤ near_of labels k → IsLabelArc t labels k s → All (λ b. own_value t owns prices (label_of labels k).held.person ≤ℤ (pays t prices b +ℤ eps)) (flat_row_of t (label_of labels k).held.person) → IsSlack t eps new (label_of labels k).held.person s
   moves k s le its below =
       let some = ended.search.found.some in
       let x = ended.search.found.labelled k (omega (arith, le, some)) in
@@ -92,7 +92,7 @@ module _ (t : Shorts) (eps : ℤ) (prices new : List ℤ) (holders : List ℕ) (
       (record {
         listed = x.listed;
         least = λ n d lt. (
-            let b : ShortArc = get_or (shorts_of t i) n d in
+            let b : ShortArc = get_or (flat_row_of t i) n d in
             let own = below n d lt in
             elim (floor_of (own_value t owns prices i) x.at b above (r.0 n d lt)) [
               | inl p ↦ omega (arith, ints, mine, here, no_nearer.0, no_nearer.1, own, p, le)
@@ -115,7 +115,7 @@ module _ (t : Shorts) (eps : ℤ) (prices new : List ℤ) (holders : List ℕ) (
       ]
 
   -- The law: after a path each person's arc is within eps of the best of his row.
-  pub slack_after_path : AreShorts t → All IsPrice prices → length prices ≡ t.objects → (sold : List ℕ) (left : List ShortArc) → Agree t holders owns → ((i : ℕ) → (own_at owns i).object ≢ NOBODY → i ≢ NOBODY) → ((i : ℕ) → (own_at owns i).object ≢ NOBODY → IsSlack t eps prices i (own_at owns i)) → AreTaken t labels top start holders sold owns left
+  pub slack_after_path : IsFlatTable t → All IsPrice prices → length prices ≡ t.objects → (sold : List ℕ) (left : List ShortArc) → Agree t holders owns → ((i : ℕ) → (own_at owns i).object ≢ NOBODY → i ≢ NOBODY) → ((i : ℕ) → (own_at owns i).object ≢ NOBODY → IsSlack t eps prices i (own_at owns i)) → AreTaken t labels top start holders sold owns left
       → (i : ℕ) → (own_at left i).object ≢ NOBODY → IsSlack t eps new i (own_at left i)
   slack_after_path sound within many sold left agree person slack taken i some = by (taken.moved i some)
     where

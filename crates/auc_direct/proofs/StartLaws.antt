@@ -8,11 +8,11 @@ use Rattle.std.proofs.lemmas.List.Elements.{All-contains, All-get_or, All-set}
 use Rattle.auc_answers.proofs.NewShards.{replicate_default}
 use Rattle.auc_graph.specs.Dual.{price_at}
 use Rattle.auc_letters.specs.Price.{IsPrice}
-use Rattle.auc_direct.specs.declared.arc.ShortArc.{ShortArc}
+use Rattle.auc_rows.specs.declared.arc.ShortArc.{ShortArc}
+use Rattle.auc_rows.specs.Rows.{FlatTable, IsFlatTable, IsShort, flat_row_of, scale_in}
 use Rattle.auc_direct.specs.declared.market.TheConstants.{NOBODY}
 use Rattle.auc_direct.specs.Endings.{IsStart}
-use Rattle.auc_direct.specs.Market.{AreSpare, IsSlack, Stands, holder_at, no_own, own_at, scale_in}
-use Rattle.auc_direct.specs.Rows.{AreShorts, IsShort, Shorts, shorts_of}
+use Rattle.auc_direct.specs.Market.{AreSpare, IsSlack, Stands, holder_at, no_own, own_at}
 use Rattle.auc_direct.specs.declared.scan.Found.{Found}
 use Rattle.auc_direct.specs.Scan.{IsFound, no_arc, short_value}
 use Rattle.auc_direct.specs.Starts.{AreKept, AreOpened, ArePricesOf, AreSeated, IsFreeWithin, any_eps}
@@ -22,12 +22,12 @@ use Rattle.auc_direct.proofs.Opening.{stands_opened}
 
 -- ---- any arc is within any eps
 
-pub any_slack : (r : Shorts) (prices : List ℤ) (i : ℕ) (s : ShortArc) → AreShorts r → All IsPrice prices → length prices ≡ r.objects → Contains (shorts_of r i) s → IsSlack r any_eps prices i s
+pub any_slack : (r : FlatTable) (prices : List ℤ) (i : ℕ) (s : ShortArc) → IsFlatTable r → All IsPrice prices → length prices ≡ r.objects → Contains (flat_row_of r i) s → IsSlack r any_eps prices i s
 any_slack r prices i s sound within many listed = record {
   listed = listed;
   least = λ k d lt. (
-      let a = value_in r prices s sound within many (All-contains (IsShort r.objects) (shorts_of r i) s (sound.each i) listed) in
-      let b = value_in r prices (get_or (shorts_of r i) k d) sound within many (sound.each i k d lt) in
+      let a = value_in r prices s sound within many (All-contains (IsShort r.objects) (flat_row_of r i) s (sound.each i) listed) in
+      let b = value_in r prices (get_or (flat_row_of r i) k d) sound within many (sound.each i k d lt) in
       let h = a.high in
       let l = b.low in
       omega (arith, ints, h, l)
@@ -42,7 +42,7 @@ found_least val row found f k d lt = subst (λ (b : ShortArc). found.value ≤�
 ])
 
 -- an arc of a person that is worth no more than that and eps
-pub within_found : (r : Shorts) (eps : ℤ) (prices : List ℤ) (i : ℕ) (row : List ShortArc) (s : ShortArc) (scale value : ℤ) (found : Found) → row ≡ shorts_of r i → scale ≡ scale_in r → IsFound (short_value scale prices) row (length row) found → Contains row s → value ≡ short_value scale prices s → value ≤ℤ (found.value +ℤ eps) → IsSlack r eps prices i s
+pub within_found : (r : FlatTable) (eps : ℤ) (prices : List ℤ) (i : ℕ) (row : List ShortArc) (s : ShortArc) (scale value : ℤ) (found : Found) → row ≡ flat_row_of r i → scale ≡ scale_in r → IsFound (short_value scale prices) row (length row) found → Contains row s → value ≡ short_value scale prices s → value ≤ℤ (found.value +ℤ eps) → IsSlack r eps prices i s
 within_found r eps prices i row s scale value found e f is listed worth le =
     let all = found_least (short_value scale prices) row found is in
     let slack : All (λ b. short_value scale prices s ≤ℤ (short_value scale prices b +ℤ eps)) row = λ k d lt. (let l = all k d lt in omega (arith, ints, l, worth, le)) in
@@ -69,7 +69,7 @@ kept_on a b c first second j = by (first j) (second j)
 
 -- ---- before anybody keeps anything
 
-pub seated_none : (r : Shorts) (eps : ℤ) (start prices : List ℤ) (holders : List ℕ) (owns : List ShortArc) (n m : ℕ) → IsStart r (pos 1) prices → AreKept start prices → (r.objects ≡ length r.rows → prices ≡ start) → n ≡ r.objects → m ≡ length r.rows → holders ≡ replicate n NOBODY → owns ≡ replicate m no_own → AreSeated r eps start prices holders owns
+pub seated_none : (r : FlatTable) (eps : ℤ) (start prices : List ℤ) (holders : List ℕ) (owns : List ShortArc) (n m : ℕ) → IsStart r (pos 1) prices → AreKept start prices → (r.objects ≡ length r.rows → prices ≡ start) → n ≡ r.objects → m ≡ length r.rows → holders ≡ replicate n NOBODY → owns ≡ replicate m no_own → AreSeated r eps start prices holders owns
 seated_none r eps start prices holders owns n m is kept same objects persons nobody none = record {
   stands = stands_opened r (pos 1) any_eps prices holders owns n m is objects persons nobody none;
   within = λ i some. absurd (some (ap (λ (os : List ShortArc). (own_at os i).object) none ∙ ap (λ (s : ShortArc). s.object) (replicate_default m i no_own)));
@@ -82,7 +82,7 @@ nothing_owned owns m e i = ap (λ (os : List ShortArc). (own_at os i).object) e 
 
 -- ---- a person takes an object at its start price
 
-module _ (r : Shorts) (eps : ℤ) (start prices : List ℤ) (holders : List ℕ) (owns : List ShortArc) (i : ℕ) (s : ShortArc) (sound : AreShorts r) (priced : ArePricesOf r start) (seated : AreSeated r eps start prices holders owns) (known : i < length r.rows) (none : (own_at owns i).object ≡ NOBODY) (is : IsFreeWithin r eps start holders i s) where
+module _ (r : FlatTable) (eps : ℤ) (start prices : List ℤ) (holders : List ℕ) (owns : List ShortArc) (i : ℕ) (s : ShortArc) (sound : IsFlatTable r) (priced : ArePricesOf r start) (seated : AreSeated r eps start prices holders owns) (known : i < length r.rows) (none : (own_at owns i).object ≡ NOBODY) (is : IsFreeWithin r eps start holders i s) where
   abbrev amount : ℤ
   amount = price_at start s.object
 
@@ -96,7 +96,7 @@ module _ (r : Shorts) (eps : ℤ) (start prices : List ℤ) (holders : List ℕ)
   left = set (set owns i s) (holder_at holders s.object) no_own
 
   pub object_in : s.object < r.objects
-  object_in = (All-contains (IsShort r.objects) (shorts_of r i) s (sound.each i) is.slack.listed).object
+  object_in = (All-contains (IsShort r.objects) (flat_row_of r i) s (sound.each i) is.slack.listed).object
 
   price : IsPrice amount
   price = All-get_or IsPrice start s.object (pos 0) (let o = object_in in let e = priced.each in omega (arith, o, e)) priced.within
@@ -150,7 +150,7 @@ module _ (r : Shorts) (eps : ℤ) (start prices : List ℤ) (holders : List ℕ)
 
 -- ---- a person leaves his object
 
-module _ (r : Shorts) (prices : List ℤ) (holders : List ℕ) (owns : List ShortArc) (i : ℕ) (sound : AreShorts r) (stands : Stands r any_eps prices holders owns) (some : (own_at owns i).object ≢ NOBODY) where
+module _ (r : FlatTable) (prices : List ℤ) (holders : List ℕ) (owns : List ShortArc) (i : ℕ) (sound : IsFlatTable r) (stands : Stands r any_eps prices holders owns) (some : (own_at owns i).object ≢ NOBODY) where
   abbrev j : ℕ
   j = (own_at owns i).object
 
@@ -237,12 +237,12 @@ module _ (r : Shorts) (prices : List ℤ) (holders : List ℕ) (owns : List Shor
     spare = spare_left stands.spare;
     held = held_left;
     holds = holds_left;
-    slack = λ k has. (let h = had k has in any_slack r lower k (own_at rest k) sound within_left many_left (subst (Contains (shorts_of r k)) (sym h.1) (stands.slack k h.2).listed));
+    slack = λ k has. (let h = had k has in any_slack r lower k (own_at rest k) sound within_left many_left (subst (Contains (flat_row_of r k)) (sym h.1) (stands.slack k h.2).listed));
   }
 
 -- ---- where each who has an object is within eps of his best
 
-pub stands_within : (r : Shorts) (eps : ℤ) (prices : List ℤ) (holders : List ℕ) (owns : List ShortArc) → AreShorts r → Stands r any_eps prices holders owns → ((i : ℕ) → i < length r.rows → (own_at owns i).object ≢ NOBODY → IsSlack r eps prices i (own_at owns i)) → Stands r eps prices holders owns
+pub stands_within : (r : FlatTable) (eps : ℤ) (prices : List ℤ) (holders : List ℕ) (owns : List ShortArc) → IsFlatTable r → Stands r any_eps prices holders owns → ((i : ℕ) → i < length r.rows → (own_at owns i).object ≢ NOBODY → IsSlack r eps prices i (own_at owns i)) → Stands r eps prices holders owns
 stands_within r eps prices holders owns sound stands all = record {
   prices_are = stands.prices_are;
   holders_are = stands.holders_are;
@@ -255,19 +255,19 @@ stands_within r eps prices holders owns sound stands all = record {
 }
 
 -- one person more
-pub within_next : (r : Shorts) (eps : ℤ) (prices : List ℤ) (owns : List ShortArc) (n : ℕ) → ((i : ℕ) → i < n → (own_at owns i).object ≢ NOBODY → IsSlack r eps prices i (own_at owns i)) → ((own_at owns n).object ≢ NOBODY → IsSlack r eps prices n (own_at owns n)) → (i : ℕ) → i < n + 1 → (own_at owns i).object ≢ NOBODY → IsSlack r eps prices i (own_at owns i)
+pub within_next : (r : FlatTable) (eps : ℤ) (prices : List ℤ) (owns : List ShortArc) (n : ℕ) → ((i : ℕ) → i < n → (own_at owns i).object ≢ NOBODY → IsSlack r eps prices i (own_at owns i)) → ((own_at owns n).object ≢ NOBODY → IsSlack r eps prices n (own_at owns n)) → (i : ℕ) → i < n + 1 → (own_at owns i).object ≢ NOBODY → IsSlack r eps prices i (own_at owns i)
 within_next r eps prices owns n below here i lt =
     elim (cases_eq i n) [
       | inl e ↦ subst (λ (m : ℕ). (own_at owns m).object ≢ NOBODY → IsSlack r eps prices m (own_at owns m)) (sym e) here
       | inr ne ↦ below i (grind (arith, lt, ne))
     ]
 
-pub stands_seated : (r : Shorts) (eps : ℤ) (start prices : List ℤ) (holders : List ℕ) (owns : List ShortArc) → AreShorts r → AreSeated r eps start prices holders owns → r.objects ≡ length r.rows → Stands r eps prices holders owns
+pub stands_seated : (r : FlatTable) (eps : ℤ) (start prices : List ℤ) (holders : List ℕ) (owns : List ShortArc) → IsFlatTable r → AreSeated r eps start prices holders owns → r.objects ≡ length r.rows → Stands r eps prices holders owns
 stands_seated r eps start prices holders owns sound seated square =
     stands_within r eps prices holders owns sound seated.stands (λ i lt some. subst (λ (ps : List ℤ). IsSlack r eps ps i (own_at owns i)) (sym (seated.same square)) (seated.within i some))
 
-pub opened_same : (r : Shorts) (start prices : List ℤ) → r.objects ≡ length r.rows → prices ≡ start → AreOpened r.objects (length r.rows) start prices
+pub opened_same : (r : FlatTable) (start prices : List ℤ) → r.objects ≡ length r.rows → prices ≡ start → AreOpened r.objects (length r.rows) start prices
 opened_same r start prices square e = record { each = ap length e; same = λ s. e; kept = kept_all start prices e }
 
-pub opened_spare : (r : Shorts) (start prices : List ℤ) → length r.rows < r.objects → length prices ≡ length start → AreKept start prices → AreOpened r.objects (length r.rows) start prices
+pub opened_spare : (r : FlatTable) (start prices : List ℤ) → length r.rows < r.objects → length prices ≡ length start → AreKept start prices → AreOpened r.objects (length r.rows) start prices
 opened_spare r start prices more each kept = record { each = each; same = λ s. absurd (omega (arith, more, s)); kept = kept }

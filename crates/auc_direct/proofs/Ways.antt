@@ -8,10 +8,10 @@ use Rattle.std.proofs.lemmas.List.Elements.{All-from_get_or, All-get_or}
 use Rattle.auc_graph.specs.Assignment.{total}
 use Rattle.auc_graph.specs.Dual.{price_at}
 use Rattle.auc_letters.specs.Price.{IsPrice}
-use Rattle.auc_direct.specs.declared.arc.ShortArc.{ShortArc}
+use Rattle.auc_rows.specs.declared.arc.ShortArc.{ShortArc}
+use Rattle.auc_rows.specs.Rows.{FlatTable, IsFlatTable, flat_row_of, scale_in}
 use Rattle.auc_direct.specs.declared.market.TheConstants.{NOBODY}
-use Rattle.auc_direct.specs.Market.{AreHigher, AreSpare, HaveAllBut, IsSlack, Stands, holder_at, no_own, own_at, scale_in}
-use Rattle.auc_direct.specs.Rows.{AreShorts, Shorts, shorts_of}
+use Rattle.auc_direct.specs.Market.{AreHigher, AreSpare, HaveAllBut, IsSlack, Stands, holder_at, no_own, own_at}
 use Rattle.auc_direct.specs.Scan.{short_value}
 use Rattle.auc_direct.specs.Way.{AreProposed, IsWay}
 use Rattle.auc_direct.proofs.MarketLaws as market
@@ -26,7 +26,7 @@ pub record MayRise (prices : List ℤ) (holders : List ℕ) (new : List ℤ) (k 
   pub high : price_at new k ≤ℤ pos (2 ^ 61)
   pub free : holder_at holders k ≡ NOBODY → price_at new k ≡ price_at prices k
 
-pub proposed_of : (r : Shorts) (prices : List ℤ) (holders : List ℕ) (new : List ℤ) → length prices ≡ r.objects → length new ≡ length prices → All IsPrice prices → ((k : ℕ) → k < length new → MayRise prices holders new k) → AreProposed r prices holders new
+pub proposed_of : (r : FlatTable) (prices : List ℤ) (holders : List ℕ) (new : List ℤ) → length prices ≡ r.objects → length new ≡ length prices → All IsPrice prices → ((k : ℕ) → k < length new → MayRise prices holders new k) → AreProposed r prices holders new
 proposed_of r prices holders new many same within all = record {
   each = same ∙ many;
   within = All-from_get_or IsPrice new (pos 0) price;
@@ -50,7 +50,7 @@ proposed_of r prices holders new many same within all = record {
     free j e = elim (cases_lt j (length new)) [ inl lt ↦ (all j lt).free e | inr over ↦ past j over ]
 
 -- at prices that may be taken, where all who have an object stay slack
-pub stands_at : (r : Shorts) (eps : ℤ) (prices : List ℤ) (holders : List ℕ) (owns : List ShortArc) (new : List ℤ) → AreShorts r → Stands r eps prices holders owns → AreProposed r prices holders new → ((i : ℕ) → i < length r.rows → (own_at owns i).object ≢ NOBODY → IsSlack r eps new i (own_at owns i)) → Stands r eps new holders owns
+pub stands_at : (r : FlatTable) (eps : ℤ) (prices : List ℤ) (holders : List ℕ) (owns : List ShortArc) (new : List ℤ) → IsFlatTable r → Stands r eps prices holders owns → AreProposed r prices holders new → ((i : ℕ) → i < length r.rows → (own_at owns i).object ≢ NOBODY → IsSlack r eps new i (own_at owns i)) → Stands r eps new holders owns
 stands_at r eps prices holders owns new sound stands are slack = record {
   prices_are = are.each;
   holders_are = stands.holders_are;
@@ -67,14 +67,14 @@ stands_at r eps prices holders owns new sound stands are slack = record {
     spare (inr none) = inr (λ j e. are.free j e ∙ none j e)
 
 -- by a pass over his row that found nothing worth less than this
-pub slack_of : (r : Shorts) (eps : ℤ) (prices : List ℤ) (i : ℕ) (s : ShortArc) (scale least : ℤ) (row : List ShortArc) → scale ≡ scale_in r → row ≡ shorts_of r i → Contains (shorts_of r i) s → least ≡ (short_value scale prices s -ℤ eps) → All (λ b. least ≤ℤ short_value scale prices b) row → IsSlack r eps prices i s
+pub slack_of : (r : FlatTable) (eps : ℤ) (prices : List ℤ) (i : ℕ) (s : ShortArc) (scale least : ℤ) (row : List ShortArc) → scale ≡ scale_in r → row ≡ flat_row_of r i → Contains (flat_row_of r i) s → least ≡ (short_value scale prices s -ℤ eps) → All (λ b. least ≤ℤ short_value scale prices b) row → IsSlack r eps prices i s
 slack_of r eps prices i s scale least row e f listed l all =
-    let mine : All (λ b. least ≤ℤ short_value (scale_in r) prices b) (shorts_of r i) = subst (λ (xs : List ShortArc). All (λ b. least ≤ℤ short_value (scale_in r) prices b) xs) f (subst (λ (z : ℤ). All (λ b. least ≤ℤ short_value z prices b) row) e all) in
+    let mine : All (λ b. least ≤ℤ short_value (scale_in r) prices b) (flat_row_of r i) = subst (λ (xs : List ShortArc). All (λ b. least ≤ℤ short_value (scale_in r) prices b) xs) f (subst (λ (z : ℤ). All (λ b. least ≤ℤ short_value z prices b) row) e all) in
     let own : least ≡ (short_value (scale_in r) prices s -ℤ eps) = l ∙ ap (λ (z : ℤ). short_value z prices s -ℤ eps) e in
     record { listed = listed; least = λ k d lt. (let a = mine k d lt in omega (arith, ints, a, own)) }
 
 -- an arc that is worth no more than one that is slack
-pub slack_below : (r : Shorts) (eps : ℤ) (prices : List ℤ) (i : ℕ) (s had : ShortArc) (scale a b : ℤ) → scale ≡ scale_in r → a ≡ short_value scale prices s → b ≡ short_value scale prices had → a ≤ℤ b → Contains (shorts_of r i) s → IsSlack r eps prices i had → IsSlack r eps prices i s
+pub slack_below : (r : FlatTable) (eps : ℤ) (prices : List ℤ) (i : ℕ) (s had : ShortArc) (scale a b : ℤ) → scale ≡ scale_in r → a ≡ short_value scale prices s → b ≡ short_value scale prices had → a ≤ℤ b → Contains (flat_row_of r i) s → IsSlack r eps prices i had → IsSlack r eps prices i s
 slack_below r eps prices i s had scale a b e f g le listed slack =
     let mine : a ≡ short_value (scale_in r) prices s = f ∙ ap (λ (z : ℤ). short_value z prices s) e in
     let his : b ≡ short_value (scale_in r) prices had = g ∙ ap (λ (z : ℤ). short_value z prices had) e in
@@ -83,7 +83,7 @@ slack_below r eps prices i s had scale a b e f g le listed slack =
 -- ---- who is free
 
 -- the arc by which he held his object is slack still
-pub freed_slack : (r : Shorts) (eps : ℤ) (prices new : List ℤ) (holders : List ℕ) (owns : List ShortArc) (j person : ℕ) (had : ShortArc) → Stands r eps prices holders owns → new ≡ set prices j (price_at prices j) → (person ≢ NOBODY → had ≡ own_at owns person) → (person ≡ NOBODY → had.object ≡ NOBODY) → had.object ≢ NOBODY → IsSlack r eps new person had
+pub freed_slack : (r : FlatTable) (eps : ℤ) (prices new : List ℤ) (holders : List ℕ) (owns : List ShortArc) (j person : ℕ) (had : ShortArc) → Stands r eps prices holders owns → new ≡ set prices j (price_at prices j) → (person ≢ NOBODY → had ≡ own_at owns person) → (person ≡ NOBODY → had.object ≡ NOBODY) → had.object ≢ NOBODY → IsSlack r eps new person had
 freed_slack r eps prices new holders owns j person had stands e is none has =
     let same : had ≡ own_at owns person = is (λ z. has (none z)) in
     let own : (own_at owns person).object ≢ NOBODY = λ z. has (ap (λ (s : ShortArc). s.object) same ∙ z) in
@@ -92,7 +92,7 @@ freed_slack r eps prices new holders owns j person had stands e is none has =
 higher_same : (prices : List ℤ) → AreHigher prices prices
 higher_same prices k = omega (arith, ints)
 
-pub way_on : (r : Shorts) (eps : ℤ) (person free next : ℕ) (prices mid new : List ℤ) (held sold : List ℕ) (owns had left : List ShortArc) → IsWay r eps person prices mid held owns had free → IsWay r eps free mid new sold had left next → IsWay r eps person prices new sold owns left next
+pub way_on : (r : FlatTable) (eps : ℤ) (person free next : ℕ) (prices mid new : List ℤ) (held sold : List ℕ) (owns had left : List ShortArc) → IsWay r eps person prices mid held owns had free → IsWay r eps free mid new sold had left next → IsWay r eps person prices new sold owns left next
 way_on r eps person free next prices mid new held sold owns had left a b = record {
   stands = b.stands;
   higher = λ k. (let x = a.higher k in let y = b.higher k in omega (arith, ints, x, y));
@@ -101,7 +101,7 @@ way_on r eps person free next prices mid new held sold owns had left a b = recor
   but = λ n h. b.but n (a.but n h);
 }
 
-pub way_from : (r : Shorts) (eps : ℤ) (person free : ℕ) (prices mid new : List ℤ) (sold : List ℕ) (owns left : List ShortArc) → AreHigher prices mid → IsWay r eps person mid new sold owns left free → IsWay r eps person prices new sold owns left free
+pub way_from : (r : FlatTable) (eps : ℤ) (person free : ℕ) (prices mid new : List ℤ) (sold : List ℕ) (owns left : List ShortArc) → AreHigher prices mid → IsWay r eps person mid new sold owns left free → IsWay r eps person prices new sold owns left free
 way_from r eps person free prices mid new sold owns left up a = record {
   stands = a.stands;
   higher = λ k. (let x = up k in let y = a.higher k in omega (arith, ints, x, y));
@@ -111,7 +111,7 @@ way_from r eps person free prices mid new sold owns left up a = record {
 }
 
 -- a person takes an object at its price
-pub way_passed : (r : Shorts) (eps : ℤ) (person : ℕ) (prices new : List ℤ) (holders sold : List ℕ) (owns left : List ShortArc) (d : ℕ) (s : ShortArc) → AreShorts r → Stands r eps prices holders owns → person < length r.rows → (own_at owns person).object ≡ NOBODY → IsSlack r eps prices person s → new ≡ set prices s.object (price_at prices s.object) → sold ≡ set holders s.object person → left ≡ set (set owns person s) (holder_at holders s.object) no_own → d ≡ holder_at holders s.object → IsWay r eps person prices new sold owns left d
+pub way_passed : (r : FlatTable) (eps : ℤ) (person : ℕ) (prices new : List ℤ) (holders sold : List ℕ) (owns left : List ShortArc) (d : ℕ) (s : ShortArc) → IsFlatTable r → Stands r eps prices holders owns → person < length r.rows → (own_at owns person).object ≡ NOBODY → IsSlack r eps prices person s → new ≡ set prices s.object (price_at prices s.object) → sold ≡ set holders s.object person → left ≡ set (set owns person s) (holder_at holders s.object) no_own → d ≡ holder_at holders s.object → IsWay r eps person prices new sold owns left d
 way_passed r eps person prices new holders sold owns left d s sound stands known none slack e f g h =
     let same : set prices s.object (price_at prices s.object) ≡ prices = set-get_or prices s.object (pos 0) in
     let up : price_at prices s.object ≤ℤ price_at prices s.object = omega (arith, ints) in
@@ -127,7 +127,7 @@ way_passed r eps person prices new holders sold owns left d s sound stands known
     }
 
 -- a person who has gone by a path whole: nobody is free in his place
-pub way_placed : (r : Shorts) (eps : ℤ) (person : ℕ) (prices new : List ℤ) (sold : List ℕ) (owns left : List ShortArc) → AreShorts r → Stands r eps new sold left → AreHigher prices new → (own_at left person).object ≢ NOBODY → ((i : ℕ) → (own_at owns i).object ≢ NOBODY → (own_at left i).object ≢ NOBODY) → IsWay r eps person prices new sold owns left NOBODY
+pub way_placed : (r : FlatTable) (eps : ℤ) (person : ℕ) (prices new : List ℤ) (sold : List ℕ) (owns left : List ShortArc) → IsFlatTable r → Stands r eps new sold left → AreHigher prices new → (own_at left person).object ≢ NOBODY → ((i : ℕ) → (own_at owns i).object ≢ NOBODY → (own_at left i).object ≢ NOBODY) → IsWay r eps person prices new sold owns left NOBODY
 way_placed r eps person prices new sold owns left sound stands up placed have =
     let none : (own_at left NOBODY).object ≡ NOBODY = ap (λ (s : ShortArc). s.object) (get_or_past left NOBODY no_own (let m = sound.most in let e = stands.owns_are in omega (arith, m, e))) in
     record {
@@ -139,5 +139,5 @@ way_placed r eps person prices new sold owns left sound stands up placed have =
     }
 
 -- the sum of prices doesn't fall
-pub way_total : (r : Shorts) (eps other : ℤ) (person free : ℕ) (prices new : List ℤ) (holders sold : List ℕ) (owns left these : List ShortArc) → Stands r other prices holders these → IsWay r eps person prices new sold owns left free → total prices ≤ℤ total new
+pub way_total : (r : FlatTable) (eps other : ℤ) (person free : ℕ) (prices new : List ℤ) (holders sold : List ℕ) (owns left these : List ShortArc) → Stands r other prices holders these → IsWay r eps person prices new sold owns left free → total prices ≤ℤ total new
 way_total r eps other person free prices new holders sold owns left these stands way = total_rises prices new (let a = stands.prices_are in let b = way.stands.prices_are in omega (arith, a, b)) way.higher

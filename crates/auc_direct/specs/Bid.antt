@@ -1,7 +1,7 @@
 -- What a person bids.
 use Rattle.std.specs.Prelude.{ℤ, ◌+ℤ◌, ◌≤ℤ◌, List, All, Contains, set}
 use Rattle.auc_graph.specs.Dual.{price_at}
-use Rattle.auc_direct.specs.declared.arc.ShortArc.{ShortArc}
+use Rattle.auc_rows.specs.declared.arc.ShortArc.{ShortArc}
 use Rattle.auc_direct.specs.Scan.{short_value}
 
 -- A bid by an arc of his raises its object's price by eps or more, and at the price that it makes no other arc of his is better by more than eps.

@@ -8,18 +8,18 @@ use Rattle.auc_graph.specs.Problem.{Problem}
 use Rattle.auc_graph.specs.Table.{IsTableOf, Table}
 use Rattle.auc_letters.specs.Price.{IsPrice}
 use Rattle.auc_answers.specs.declared.answer.Answer.{Answer}
-use Rattle.auc_direct.specs.declared.arc.ShortArc.{ShortArc}
+use Rattle.auc_rows.specs.declared.arc.ShortArc.{ShortArc}
+use Rattle.auc_rows.specs.Rows.{AreSameRows, FlatTable}
 use Rattle.auc_direct.specs.declared.ending.Chain.{Chain}
 use Rattle.auc_direct.specs.declared.ending.Ending.{Ending}
 use Rattle.auc_direct.specs.declared.ending.PathStep.{PathStep}
 use Rattle.auc_direct.specs.declared.market.TheConstants.{NOBODY}
 use Rattle.auc_direct.specs.Market.{AreHigher, HaveObjects, IsAbove, Stands, own_at}
-use Rattle.auc_direct.specs.Rows.{AreShortsOf, Shorts}
 use Rattle.auc_direct.specs.Starts.{AreOpened}
 
 -- Why a phase may be stopped: the prices add up to more than those that the run began with, by no less than the bids that a phase may
 -- take, each of which has raised one; or somebody would bid more than the greatest price.
-abbrev pub IsLimit : Shorts → ℕ → ℤ → Reason → List ℤ → Type 0
+abbrev pub IsLimit : FlatTable → ℕ → ℤ → Reason → List ℤ → Type 0
 IsLimit r bids begun Reason.Bids prices = (begun +ℤ pos bids) ≤ℤ total prices
 IsLimit r bids begun Reason.Ceiling prices = (eps : ℤ) × IsAbove r eps prices
 IsLimit r bids begun Reason.Posts prices = ⊥
@@ -27,39 +27,39 @@ IsLimit r bids begun Reason.Trail prices = ⊥
 IsLimit r bids begun Reason.Mail prices = ⊥
 
 -- the first n persons have objects; or the bids have run out; or a bid would be too high
-abbrev pub IsChain : Shorts → ℤ → ℕ → ℕ → Chain → List ℤ → List ShortArc → Type 0
+abbrev pub IsChain : FlatTable → ℤ → ℕ → ℕ → Chain → List ℤ → List ShortArc → Type 0
 IsChain r eps n left Chain.Placed prices owns = HaveObjects n owns
 IsChain r eps n left Chain.Bids prices owns = left ≡ 0
 IsChain r eps n left Chain.Ceiling prices owns = IsAbove r eps prices
 
 -- each person has an object; or a limit has stopped the phase
-abbrev pub IsEnding : Shorts → ℕ → ℤ → Ending → List ℤ → List ShortArc → Type 0
+abbrev pub IsEnding : FlatTable → ℕ → ℤ → Ending → List ℤ → List ShortArc → Type 0
 IsEnding r bids begun Ending.Sold prices owns = HaveObjects (length r.rows) owns
 IsEnding r bids begun (Ending.Stopped reason) prices owns = IsLimit r bids begun reason prices
 
 -- where a phase has sold all, each person has an object
-abbrev pub IsSold : Shorts → Ending → List ShortArc → Type 0
+abbrev pub IsSold : FlatTable → Ending → List ShortArc → Type 0
 IsSold r Ending.Sold owns = HaveObjects (length r.rows) owns
 IsSold r (Ending.Stopped reason) owns = Unit {0}
 
 -- what a phase at this eps begins with: as many objects as persons, or no price
-pub record IsStart (r : Shorts) (eps : ℤ) (prices : List ℤ) : Type 0 where
+pub record IsStart (r : FlatTable) (eps : ℤ) (prices : List ℤ) : Type 0 where
   pub each : length prices ≡ r.objects
   pub within : All IsPrice prices
   pub spare : (r.objects ≡ length r.rows) ⊎ ((eps ≡ pos 1) × ((j : ℕ) → price_at prices j ≡ pos 0))
 
 -- what all phases leave: the last one, at eps 1, has given each person an object; or one of them was stopped
-abbrev pub IsLeft : Shorts → Ending → List ℤ → List ℕ → List ShortArc → Type 0
+abbrev pub IsLeft : FlatTable → Ending → List ℤ → List ℕ → List ShortArc → Type 0
 IsLeft r Ending.Sold prices holders owns = Stands r (pos 1) prices holders owns × HaveObjects (length r.rows) owns
 IsLeft r (Ending.Stopped reason) prices holders owns = (eps : ℤ) × Stands r eps prices holders owns
 
 -- only a limit has stopped one
-abbrev pub IsStopped : Shorts → ℕ → ℤ → Ending → List ℤ → Type 0
+abbrev pub IsStopped : FlatTable → ℕ → ℤ → Ending → List ℤ → Type 0
 IsStopped r bids begun Ending.Sold prices = Unit {0}
 IsStopped r bids begun (Ending.Stopped reason) prices = IsLimit r bids begun reason prices
 
 -- what a run from start prices comes to: it began with what its opening has left of them, and only a limit has stopped it, or who watched it
-pub record IsOutcomeFrom (r : Shorts) (bids : ℕ) (start : List ℤ) (told : Bool) (ending : Ending) (prices : List ℤ) (holders : List ℕ) (owns : List ShortArc) : Type 0 where
+pub record IsOutcomeFrom (r : FlatTable) (bids : ℕ) (start : List ℤ) (told : Bool) (ending : Ending) (prices : List ℤ) (holders : List ℕ) (owns : List ShortArc) : Type 0 where
   pub left : IsLeft r ending prices holders owns
   pub begun : List ℤ
   pub opened : AreOpened r.objects (length r.rows) start begun
@@ -68,7 +68,7 @@ pub record IsOutcomeFrom (r : Shorts) (bids : ℕ) (start : List ℤ) (told : Bo
 abbrev pub IsLimitedBy : Problem → ℕ → ℤ → CertParts → Type 0
 IsLimitedBy p bids begun (CertParts.Optimal cost choice prices) = Unit {0}
 IsLimitedBy p bids begun (CertParts.Infeasible persons objects) = Unit {0}
-IsLimitedBy p bids begun (CertParts.Bracket reason lower cost choice prices) = (t : Table) × (r : Shorts) × IsTableOf p t × AreShortsOf t r × IsLimit r bids begun reason prices
+IsLimitedBy p bids begun (CertParts.Bracket reason lower cost choice prices) = (t : Table) × (r : FlatTable) × IsTableOf p t × AreSameRows t r × IsLimit r bids begun reason prices
 
 -- a bracket is answered only where a limit has stopped a phase of a run that began with prices of this sum
 abbrev pub IsLimited : Problem → ℕ → ℤ → Answer → Type 0
@@ -84,6 +84,6 @@ pub record IsLimitedFrom (p : Problem) (bids : ℕ) (start : List ℤ) (answer :
   pub limited : IsLimited p bids (total begun) answer
 
 -- A path leaves what stands between two bids, the person has an object, and no price has fallen; or nothing has changed.
-abbrev pub IsPathStep : Shorts → ℤ → ℕ → PathStep → List ℤ → List ℕ → List ShortArc → List ℤ → List ℕ → List ShortArc → Type 0
+abbrev pub IsPathStep : FlatTable → ℤ → ℕ → PathStep → List ℤ → List ℕ → List ShortArc → List ℤ → List ℕ → List ShortArc → Type 0
 IsPathStep r eps start PathStep.Placed prices holders owns new sold left = Stands r eps new sold left × (total prices ≤ℤ total new) × ((own_at left start).object ≢ NOBODY) × ((i : ℕ) → (own_at owns i).object ≢ NOBODY → (own_at left i).object ≢ NOBODY) × AreHigher prices new
 IsPathStep r eps start PathStep.Stayed prices holders owns new sold left = (new ≡ prices) × (sold ≡ holders) × (left ≡ owns)

@@ -1,12 +1,16 @@
 -- The holders as the arcs of the problem by which they hold.
 use Rattle.std.specs.Prelude.{ℕ, ◌≡◌, ◌≢◌, List, Option, Some, None, slice_get}
+use Rattle.auc_graph.specs.declared.arc.Arc.{Arc}
 use Rattle.auc_graph.specs.Problem.{Problem}
 use Rattle.auc_letters.specs.declared.state.Held.{Held}
 use Rattle.auc_answers.specs.Claims.{holder_at as held_at}
-use Rattle.auc_direct.specs.declared.arc.ShortArc.{ShortArc}
+use Rattle.auc_rows.specs.declared.arc.ShortArc.{ShortArc}
 use Rattle.auc_direct.specs.declared.market.TheConstants.{NOBODY}
 use Rattle.auc_direct.specs.Market.{holder_at, own_at}
-use Rattle.auc_direct.specs.Rows.{arc_by}
+
+-- the arc of a person for which one of his row stands
+abbrev pub arc_by : ℕ → ShortArc → Arc
+arc_by i s = record { person = i; object = s.object; cost = s.cost }
 
 -- nobody holds the object; or its holder does by the arc that he has, which stands there in the problem's list
 abbrev pub IsHeld : Problem → List ℕ → List ShortArc → ℕ → Option Held → Type 0

@@ -1,12 +1,13 @@
 -- The state of a phase: the prices, who holds each object, and by which arc each person holds his.
-use Rattle.std.specs.Prelude.{ℕ, ℤ, pos, ◌≡◌, ◌≢◌, ◌⊎◌, ◌+◌, ◌<◌, ◌^◌, ◌+ℤ◌, ◌≤ℤ◌, ◌<ℤ◌, List, length, All, Contains, slice_index_or}
+use Rattle.std.specs.Prelude.{ℕ, ℤ, pos, ◌≡◌, ◌≢◌, ◌⊎◌, ◌<◌, ◌^◌, ◌+ℤ◌, ◌≤ℤ◌, ◌<ℤ◌, List, [], length, All, Contains, slice_index_or}
 use Rattle.auc_graph.specs.Assignment.{total}
 use Rattle.auc_graph.specs.Dual.{price_at}
+use Rattle.auc_graph.specs.Problem.{Problem}
 use Rattle.auc_letters.specs.Price.{IsPrice}
-use Rattle.auc_direct.specs.declared.arc.ShortArc.{ShortArc}
+use Rattle.auc_rows.specs.declared.arc.ShortArc.{ShortArc}
+use Rattle.auc_rows.specs.Rows.{FlatTable, flat_row_of, scale_in, short_row}
 use Rattle.auc_direct.specs.declared.market.TheConstants.{NOBODY}
 use Rattle.auc_direct.specs.Bid.{IsRaise}
-use Rattle.auc_direct.specs.Rows.{Shorts, shorts_of}
 use Rattle.auc_direct.specs.Scan.{short_value}
 
 -- who holds an object
@@ -21,21 +22,17 @@ no_own = record { object = NOBODY; cost = pos 0 }
 abbrev pub own_at : List ShortArc → ℕ → ShortArc
 own_at owns i = slice_index_or owns i no_own
 
--- by what costs are multiplied: one more than the persons
-abbrev pub scale_in : Shorts → ℤ
-scale_in r = pos (length r.rows + 1)
-
 -- an arc of a person, and no other one of his is better by more than eps
-pub record IsSlack (r : Shorts) (eps : ℤ) (prices : List ℤ) (i : ℕ) (s : ShortArc) : Type 0 where
-  pub listed : Contains (shorts_of r i) s
-  pub least : All (λ b. short_value (scale_in r) prices s ≤ℤ (short_value (scale_in r) prices b +ℤ eps)) (shorts_of r i)
+pub record IsSlack (r : FlatTable) (eps : ℤ) (prices : List ℤ) (i : ℕ) (s : ShortArc) : Type 0 where
+  pub listed : Contains (flat_row_of r i) s
+  pub least : All (λ b. short_value (scale_in r) prices s ≤ℤ (short_value (scale_in r) prices b +ℤ eps)) (flat_row_of r i)
 
 -- there are as many objects as persons, or one that nobody holds has no price
-abbrev pub AreSpare : Shorts → List ℤ → List ℕ → Type 0
+abbrev pub AreSpare : FlatTable → List ℤ → List ℕ → Type 0
 AreSpare r prices holders = (r.objects ≡ length r.rows) ⊎ ((j : ℕ) → holder_at holders j ≡ NOBODY → price_at prices j ≡ pos 0)
 
 -- What holds between two bids: each object's holder has it, and each person who has one is its holder.
-pub record Stands (r : Shorts) (eps : ℤ) (prices : List ℤ) (holders : List ℕ) (owns : List ShortArc) : Type 0 where
+pub record Stands (r : FlatTable) (eps : ℤ) (prices : List ℤ) (holders : List ℕ) (owns : List ShortArc) : Type 0 where
   pub prices_are : length prices ≡ r.objects
   pub holders_are : length holders ≡ r.objects
   pub owns_are : length owns ≡ length r.rows
@@ -54,17 +51,17 @@ pub record HaveAllBut (n : ℕ) (owns : List ShortArc) (person : ℕ) : Type 0 w
   pub none : (own_at owns person).object ≡ NOBODY
   pub others : (i : ℕ) → i < n → i ≢ person → (own_at owns i).object ≢ NOBODY
 
--- each person has an arc
-abbrev pub EachHasArc : Shorts → Type 0
-EachHasArc r = (i : ℕ) → i < length r.rows → 0 < length (shorts_of r i)
+-- each person of a problem has an arc
+abbrev pub EachHasRow : Problem → Type 0
+EachHasRow p = (i : ℕ) → i < p.persons → short_row i p.arcs ≢ []
 
 -- at these prices and this eps somebody would bid more than the greatest price
-pub record IsAbove (r : Shorts) (eps : ℤ) (prices : List ℤ) : Type 0 where
+pub record IsAbove (r : FlatTable) (eps : ℤ) (prices : List ℤ) : Type 0 where
   pub person : ℕ
   pub known : person < length r.rows
   pub arc : ShortArc
   pub amount : ℤ
-  pub raise : IsRaise (scale_in r) eps prices (shorts_of r person) arc amount
+  pub raise : IsRaise (scale_in r) eps prices (flat_row_of r person) arc amount
   pub above : pos (2 ^ 61) <ℤ amount
 
 -- no price is lower than before
@@ -72,7 +69,7 @@ abbrev pub AreHigher : List ℤ → List ℤ → Type 0
 AreHigher prices new = (k : ℕ) → price_at prices k ≤ℤ price_at new k
 
 -- What a bid that was awarded comes to: the bidder has an object, and who has held it has none.
-pub record IsAwarded (r : Shorts) (eps : ℤ) (person : ℕ) (prices new : List ℤ) (sold : List ℕ) (owns left : List ShortArc) (displaced : ℕ) : Type 0 where
+pub record IsAwarded (r : FlatTable) (eps : ℤ) (person : ℕ) (prices new : List ℤ) (sold : List ℕ) (owns left : List ShortArc) (displaced : ℕ) : Type 0 where
   pub stands : Stands r eps new sold left
   pub more : (total prices +ℤ pos 1) ≤ℤ total new
   pub but : (n : ℕ) → HaveAllBut n owns person → HaveAllBut n left displaced
@@ -80,7 +77,7 @@ pub record IsAwarded (r : Shorts) (eps : ℤ) (person : ℕ) (prices new : List 
   pub higher : AreHigher prices new
 
 -- and one that would be too high: nothing has changed
-pub record IsTooHigh (r : Shorts) (eps : ℤ) (prices new : List ℤ) (holders sold : List ℕ) (owns left : List ShortArc) : Type 0 where
+pub record IsTooHigh (r : FlatTable) (eps : ℤ) (prices new : List ℤ) (holders sold : List ℕ) (owns left : List ShortArc) : Type 0 where
   pub prices_are : new ≡ prices
   pub holders_are : sold ≡ holders
   pub owns_are : left ≡ owns

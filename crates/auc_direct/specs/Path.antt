@@ -5,13 +5,13 @@ use Rattle.std.specs.declared.cmp.Ordering.{Ordering}
 use Rattle.std.specs.Ordering.{nat_cmp, ordering_then}
 use Rattle.std.specs.BinaryHeap.{IsHeap}
 use Rattle.auc_graph.specs.Dual.{price_at}
-use Rattle.auc_direct.specs.Rows.{IsShort, Shorts, shorts_of}
-use Rattle.auc_direct.specs.declared.arc.ShortArc.{ShortArc}
 use Rattle.auc_letters.specs.declared.state.Held.{Held}
 use Rattle.auc_answers.specs.Claims.{holder_at}
+use Rattle.auc_rows.specs.Rows.{FlatTable, IsShort, flat_row_of, scale_in}
+use Rattle.auc_rows.specs.declared.arc.ShortArc.{ShortArc}
 use Rattle.auc_direct.specs.declared.label.Label.{Label}
 use Rattle.auc_direct.specs.declared.market.TheConstants.{NOBODY}
-use Rattle.auc_direct.specs.Market.{holder_at as seat_at, own_at, scale_in}
+use Rattle.auc_direct.specs.Market.{holder_at as seat_at, own_at}
 use Rattle.auc_direct.specs.Scan.{short_value}
 
 -- ---- labels
@@ -37,11 +37,11 @@ settled_at labels k place = set labels k (record { near = near_of labels k; held
 -- ---- hops
 
 -- what a person pays for an arc of his at these prices, in scaled costs
-abbrev pub pays : Shorts → List ℤ → ShortArc → ℤ
+abbrev pub pays : FlatTable → List ℤ → ShortArc → ℤ
 pays t prices a = short_value (scale_in t) prices a
 
 -- each person who has an arc has one to an object of the problem
-pub record AreOwns (t : Shorts) (owns : List ShortArc) : Type 0 where
+pub record AreOwns (t : FlatTable) (owns : List ShortArc) : Type 0 where
   pub many : length owns ≡ length t.rows
   pub short : (i : ℕ) → (own_at owns i).object ≢ NOBODY → IsShort t.objects (own_at owns i)
 
@@ -50,7 +50,7 @@ abbrev pub nothing : ℤ
 nothing = neg_ℤ (pos (2 ^ 44))
 
 -- what a person pays for what he holds
-abbrev pub own_value : Shorts → List ShortArc → List ℤ → ℕ → ℤ
+abbrev pub own_value : FlatTable → List ShortArc → List ℤ → ℕ → ℤ
 own_value t owns prices i = if (own_at owns i).object == NOBODY then nothing else pays t prices (own_at owns i)
 
 -- Who is at n and pays own for what he holds finds by an arc that he pays v for an object that is no less near than m: a hop is as long as
@@ -63,8 +63,8 @@ abbrev pub IsNoNearer : ℤ → ℕ → ℤ → ℕ → Type 0
 IsNoNearer own n v m = (m ≤ n) × ((v +ℤ pos m) ≤ℤ (own +ℤ pos n))
 
 -- a person at n: each object of his row is as near as a hop leads from there
-abbrev pub Reaches : Shorts → List ShortArc → List ℤ → List Label → ℕ → ℕ → Type 0
-Reaches t owns prices labels i n = All (λ b. IsAsNear (own_value t owns prices i) n (pays t prices b) (near_of labels b.object)) (shorts_of t i)
+abbrev pub Reaches : FlatTable → List ShortArc → List ℤ → List Label → ℕ → ℕ → Type 0
+Reaches t owns prices labels i n = All (λ b. IsAsNear (own_value t owns prices i) n (pays t prices b) (near_of labels b.object)) (flat_row_of t i)
 
 -- ---- the search
 
@@ -74,13 +74,13 @@ IsFrom holders start labels None person n = (person ≡ start) × (n ≡ 2 ^ 62)
 IsFrom holders start labels (Some j) person n = (h : Held) × (holder_at holders j ≡ Some h) × (h.person ≡ person) × (1 ≤ place_of labels j) × (near_of labels j ≡ n)
 
 -- an object's label says who takes it by which arc, and a hop leads to it from where he is
-pub record IsLabel (t : Shorts) (owns : List ShortArc) (prices : List ℤ) (holders : List (Option Held)) (start : ℕ) (labels : List Label) (k : ℕ) (l : Label) : Type 0 where
+pub record IsLabel (t : FlatTable) (owns : List ShortArc) (prices : List ℤ) (holders : List (Option Held)) (start : ℕ) (labels : List Label) (k : ℕ) (l : Label) : Type 0 where
   pub at : ℕ
   pub from : IsFrom holders start labels l.before l.held.person at
   pub arc : ShortArc
-  pub listed : Contains (shorts_of t l.held.person) arc
+  pub listed : Contains (flat_row_of t l.held.person) arc
   pub leads : arc.object ≡ k
-  pub stands : slice_get (shorts_of t l.held.person) l.held.arc ≡ Some arc
+  pub stands : slice_get (flat_row_of t l.held.person) l.held.arc ≡ Some arc
   pub no_nearer : IsNoNearer (own_value t owns prices l.held.person) at (pays t prices arc) l.near
 
 -- pairs by their first numbers
@@ -95,7 +95,7 @@ pub record IsEntry (objects now : ℕ) (e : ℕ × ℕ) : Type 0 where
 
 -- The labels, the settled objects in order, and those that wait, where all that are settled are as near as now, or nearer, and the
 -- others no nearer.
-pub record AreLabels (t : Shorts) (owns : List ShortArc) (prices : List ℤ) (holders : List (Option Held)) (start : ℕ) (labels : List Label) (line : List ℕ) (heap : List (ℕ × ℕ)) (now : ℕ) : Type 0 where
+pub record AreLabels (t : FlatTable) (owns : List ShortArc) (prices : List ℤ) (holders : List (Option Held)) (start : ℕ) (labels : List Label) (line : List ℕ) (heap : List (ℕ × ℕ)) (now : ℕ) : Type 0 where
   pub some : 1 ≤ now
   pub most : now ≤ 2 ^ 62
   pub size : length labels ≡ t.objects
@@ -111,13 +111,13 @@ pub record AreLabels (t : Shorts) (owns : List ShortArc) (prices : List ℤ) (ho
   pub waiting : (k : ℕ) → 1 ≤ near_of labels k → place_of labels k ≡ 0 → Contains heap (near_of labels k, k)
 
 -- the rows of the free person and of the holders of all settled objects are labelled
-pub record IsSearch (t : Shorts) (owns : List ShortArc) (prices : List ℤ) (holders : List (Option Held)) (start : ℕ) (labels : List Label) (line : List ℕ) (heap : List (ℕ × ℕ)) (now : ℕ) : Type 0 where
+pub record IsSearch (t : FlatTable) (owns : List ShortArc) (prices : List ℤ) (holders : List (Option Held)) (start : ℕ) (labels : List Label) (line : List ℕ) (heap : List (ℕ × ℕ)) (now : ℕ) : Type 0 where
   pub found : AreLabels t owns prices holders start labels line heap now
   pub first : Reaches t owns prices labels start (2 ^ 62)
   pub reached : (k : ℕ) (h : Held) → 1 ≤ place_of labels k → holder_at holders k ≡ Some h → Reaches t owns prices labels h.person (near_of labels k)
 
 -- it has ended at an object that nobody holds, and none that isn't settled is nearer
-pub record IsEnd (t : Shorts) (owns : List ShortArc) (prices : List ℤ) (holders : List (Option Held)) (start : ℕ) (labels : List Label) (line : List ℕ) (heap : List (ℕ × ℕ)) (end : ℕ) : Type 0 where
+pub record IsEnd (t : FlatTable) (owns : List ShortArc) (prices : List ℤ) (holders : List (Option Held)) (start : ℕ) (labels : List Label) (line : List ℕ) (heap : List (ℕ × ℕ)) (end : ℕ) : Type 0 where
   pub search : IsSearch t owns prices holders start labels line heap (near_of labels end)
   pub within : end < t.objects
   pub free : holder_at holders end ≡ None
@@ -130,7 +130,7 @@ pub record Grows (old new : List Label) : Type 0 where
   pub same : (k : ℕ) → 1 ≤ place_of old k → label_of new k ≡ label_of old k
 
 -- each holder is a person
-pub record AreHolders (t : Shorts) (holders : List (Option Held)) : Type 0 where
+pub record AreHolders (t : FlatTable) (holders : List (Option Held)) : Type 0 where
   pub many : length holders ≡ t.objects
   pub known : (j : ℕ) (h : Held) → holder_at holders j ≡ Some h → h.person < length t.rows
 
@@ -183,23 +183,23 @@ abbrev pub seats : List ℕ → List (Option Held)
 seats holders = map seat holders
 
 -- each object's holder has it, and each person who has one is its holder
-pub record Agree (t : Shorts) (holders : List ℕ) (owns : List ShortArc) : Type 0 where
+pub record Agree (t : FlatTable) (holders : List ℕ) (owns : List ShortArc) : Type 0 where
   pub holders_are : length holders ≡ t.objects
   pub owns_are : length owns ≡ length t.rows
   pub held : (j : ℕ) → seat_at holders j ≢ NOBODY → (own_at owns (seat_at holders j)).object ≡ j
   pub holds : (i : ℕ) → (own_at owns i).object ≢ NOBODY → seat_at holders (own_at owns i).object ≡ i
 
 -- the arc that a label tells of
-pub record IsLabelArc (t : Shorts) (labels : List Label) (k : ℕ) (s : ShortArc) : Type 0 where
-  pub listed : slice_get (shorts_of t (label_of labels k).held.person) (label_of labels k).held.arc ≡ Some s
+pub record IsLabelArc (t : FlatTable) (labels : List Label) (k : ℕ) (s : ShortArc) : Type 0 where
+  pub listed : slice_get (flat_row_of t (label_of labels k).held.person) (label_of labels k).held.arc ≡ Some s
   pub leads : s.object ≡ k
 
 -- a person has what he had; or he has an object by its label, which is no less near than the end
-abbrev pub IsMoved : Shorts → List Label → ℕ → List ShortArc → List ShortArc → ℕ → Type 0
+abbrev pub IsMoved : FlatTable → List Label → ℕ → List ShortArc → List ShortArc → ℕ → Type 0
 IsMoved t labels end owns left i = (own_at left i ≡ own_at owns i) ⊎ ((k : ℕ) × (end ≤ near_of labels k) × ((label_of labels k).held.person ≡ i) × IsLabelArc t labels k (own_at left i))
 
 -- The holders and the arcs after a path: the free person has an object, who had one has one, and each object's holder has it.
-pub record AreTaken (t : Shorts) (labels : List Label) (end start : ℕ) (holders sold : List ℕ) (owns left : List ShortArc) : Type 0 where
+pub record AreTaken (t : FlatTable) (labels : List Label) (end start : ℕ) (holders sold : List ℕ) (owns left : List ShortArc) : Type 0 where
   pub holders_are : length sold ≡ length holders
   pub owns_are : length left ≡ length owns
   pub held : (j : ℕ) → seat_at sold j ≢ NOBODY → (own_at left (seat_at sold j)).object ≡ j

@@ -1,9 +1,8 @@
 -- Lists of candidates: what they say of a row, and that it stays true while prices rise.
 use Rattle.std.specs.Prelude.{ℕ, ℤ, pos, ◌≡◌, ◌⊎◌, ◌<◌, ◌≤ℤ◌, List, [], length, All, Contains, set, slice_index_or}
-use Rattle.auc_direct.specs.declared.arc.ShortArc.{ShortArc}
+use Rattle.auc_rows.specs.declared.arc.ShortArc.{ShortArc}
+use Rattle.auc_rows.specs.Rows.{FlatTable, flat_row_of, scale_in}
 use Rattle.auc_direct.specs.declared.best.Best.{Best}
-use Rattle.auc_direct.specs.Market.{scale_in}
-use Rattle.auc_direct.specs.Rows.{Shorts, shorts_of}
 use Rattle.auc_direct.specs.Scan.{IsValue, endless, no_arc, short_value}
 
 -- An arc of the row and what it is worth, and what no other one is worth less than: the second, or there is none.
@@ -44,5 +43,5 @@ abbrev pub list_at : List Listed → ℕ → Listed
 list_at lists i = slice_index_or lists i no_list
 
 -- each person's list is right at these prices
-abbrev pub Kept : Shorts → List ℤ → List Listed → Type 0
-Kept r prices lists = (i : ℕ) → Keeps (short_value (scale_in r) prices) (shorts_of r i) (list_at lists i)
+abbrev pub Kept : FlatTable → List ℤ → List Listed → Type 0
+Kept r prices lists = (i : ℕ) → Keeps (short_value (scale_in r) prices) (flat_row_of r i) (list_at lists i)

@@ -4,10 +4,10 @@ use Rattle.auc_cert.specs.Start.{IsStartPrice}
 use Rattle.auc_graph.specs.Dual.{price_at}
 use Rattle.auc_graph.specs.Problem.{Problem}
 use Rattle.auc_letters.specs.Price.{IsPrice}
-use Rattle.auc_direct.specs.declared.arc.ShortArc.{ShortArc}
+use Rattle.auc_rows.specs.declared.arc.ShortArc.{ShortArc}
+use Rattle.auc_rows.specs.Rows.{FlatTable}
 use Rattle.auc_direct.specs.declared.market.TheConstants.{NOBODY}
 use Rattle.auc_direct.specs.Market.{IsSlack, Stands, holder_at, own_at}
-use Rattle.auc_direct.specs.Rows.{Shorts}
 
 -- for each object a price from which a run may start, from 0 to 2^60
 pub record AreStartPrices (p : Problem) (start : List ℤ) : Type 0 where
@@ -15,7 +15,7 @@ pub record AreStartPrices (p : Problem) (start : List ℤ) : Type 0 where
   pub within : All IsStartPrice start
 
 -- a price for each object
-pub record ArePricesOf (r : Shorts) (prices : List ℤ) : Type 0 where
+pub record ArePricesOf (r : FlatTable) (prices : List ℤ) : Type 0 where
   pub each : length prices ≡ r.objects
   pub within : All IsPrice prices
 
@@ -35,13 +35,13 @@ any_eps = pos (2 ^ 62)
 
 -- While persons take objects at start prices: each who has one is within eps of his best at those prices, and only what is held has a
 -- price of them where there are more objects than persons.
-pub record AreSeated (r : Shorts) (eps : ℤ) (start prices : List ℤ) (holders : List ℕ) (owns : List ShortArc) : Type 0 where
+pub record AreSeated (r : FlatTable) (eps : ℤ) (start prices : List ℤ) (holders : List ℕ) (owns : List ShortArc) : Type 0 where
   pub stands : Stands r any_eps prices holders owns
   pub within : (i : ℕ) → (own_at owns i).object ≢ NOBODY → IsSlack r eps start i (own_at owns i)
   pub kept : AreKept start prices
   pub same : r.objects ≡ length r.rows → prices ≡ start
 
 -- an arc to an object that nobody holds, within eps of the person's best
-pub record IsFreeWithin (r : Shorts) (eps : ℤ) (start : List ℤ) (holders : List ℕ) (i : ℕ) (s : ShortArc) : Type 0 where
+pub record IsFreeWithin (r : FlatTable) (eps : ℤ) (start : List ℤ) (holders : List ℕ) (i : ℕ) (s : ShortArc) : Type 0 where
   pub free : holder_at holders s.object ≡ NOBODY
   pub slack : IsSlack r eps start i s

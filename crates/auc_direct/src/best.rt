@@ -2,12 +2,12 @@
 
 ghost use Rattle.std.specs.Prelude.{◌<◌, pos, ◌≤ℤ◌, All, length};
 ghost use Rattle.auc_letters.specs.Price.{IsPrice};
-ghost use Rattle.auc_direct.specs.Rows.{IsShort};
+ghost use Rattle.auc_rows.specs.Rows.{IsShort};
 ghost use Rattle.auc_direct.specs.Scan.{short_value};
 ghost use Rattle.auc_direct.specs.Shortlist.{IsBest};
 
-use crate::arc::ShortArc;
 use crate::scan::scan;
+use auc_rows::ShortArc;
 
 /// What a person's best arc is worth, what no other one of his is worth less than (the greatest number where he has no other), and the arc.
 #[derive(Clone, Copy)]

@@ -3,8 +3,9 @@
 ghost use Rattle.std.specs.Prelude.{true, ◌≡◌, ◌⊎◌, pos, ◌≤ℤ◌, IfOk, IfSome, OnOk};
 ghost use Rattle.std.specs.BinaryHeap.{heap_items};
 ghost use Rattle.auc_graph.specs.Assignment.{total};
+ghost use Rattle.auc_rows.specs.Rows.{EachHasArc};
 ghost use Rattle.auc_direct.specs.Endings.{IsEnding, IsSold};
-ghost use Rattle.auc_direct.specs.Market.{EachHasArc, Stands};
+ghost use Rattle.auc_direct.specs.Market.{Stands};
 ghost use Rattle.auc_direct.specs.Path.{IsClean};
 ghost use Rattle.auc_direct.specs.Shortlist.{Kept};
 
@@ -12,10 +13,10 @@ use crate::ending::Ending;
 use crate::eps::LAST_EPS;
 use crate::market::Market;
 use crate::phases::patience_at;
-use crate::rows::ShortRows;
 use crate::watch::{Progress, Watch};
 use crate::workspace::Workspace;
 use auc_cert::Reason;
+use auc_rows::FlatRows;
 use std::alloc::AllocError;
 
 /// How many arcs its searches may look at: as many as take some tens of milliseconds. Where it takes more, phases are faster.
@@ -25,7 +26,7 @@ impl Market {
     /// Plays it where the rows are a full table, and asks the watch before it. None where they aren't, or where it was given up.
     pub(crate) fn play_early<W: Watch>(
         &mut self,
-        rows: &ShortRows,
+        rows: &FlatRows,
         bids: u64,
         work: &mut Workspace,
         watch: &mut W,
@@ -41,7 +42,7 @@ impl Market {
         ensures clean { OnOk result (IsClean rows.now.objects work.new.search.labels.items work.new.search.line.items (heap_items work.new.search.heap)) }
         ensures kept { OnOk result (Kept rows.now self.new.prices.items work.new.lists.lists.items) }
     {
-        if !rows.is_table() {
+        if !rows.is_full() {
             return Ok(None);
         }
         let progress = Progress {

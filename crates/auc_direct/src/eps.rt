@@ -2,9 +2,9 @@
 
 ghost use Rattle.std.specs.Prelude.{◌≡◌, ◌⊎◌, pos, ◌<ℤ◌, length, IfSome, IfNone};
 ghost use Rattle.auc_letters.specs.Price.{IsEps};
-ghost use Rattle.auc_direct.specs.Rows.{AreShorts};
+ghost use Rattle.auc_rows.specs.Rows.{IsFlatTable};
 
-use crate::rows::ShortRows;
+use auc_rows::FlatRows;
 
 /// The last eps: prices within 1 of slackness in scaled costs show that a cost is least.
 pub(crate) const LAST_EPS: i64 = 1;
@@ -13,15 +13,15 @@ pub(crate) const LAST_EPS: i64 = 1;
 const STEP: i64 = 8;
 
 /// Half of the arcs that a person knows in the mean.
-pub(crate) fn half_of_mean(rows: &ShortRows) -> usize {
-    rows.many()
+pub(crate) fn half_of_mean(rows: &FlatRows) -> usize {
+    rows.arc_count()
         .checked_div(2 * rows.persons() as usize)
         .unwrap_or(0)
 }
 
 /// The scaled spread of the costs divided by half of the mean row, by a power of 2 from 8 to 32, and at least 1. Where there are more objects than persons it is 1, so that there is one phase: a later one would
 /// leave prices to objects that nobody holds.
-pub(crate) fn first_eps(rows: &ShortRows) -> i64
+pub(crate) fn first_eps(rows: &FlatRows) -> i64
     ensures range { IsEps result }
     ensures start { (rows.now.objects ≡ length rows.now.rows) ⊎ (result ≡ pos 1) }
 {

@@ -2,15 +2,14 @@
 
 ghost use Rattle.std.specs.Prelude.{ℕ, true, false, ◌≡◌, ◌≢◌, ◌<◌, Contains, length, IfOk};
 ghost use Rattle.auc_direct.specs.declared.market.TheConstants.{NOBODY};
-ghost use Rattle.auc_direct.specs.Held.{AreHeld};
+ghost use Rattle.auc_direct.specs.Held.{AreHeld, arc_by};
 ghost use Rattle.auc_direct.specs.Market.{holder_at, own_at};
-ghost use Rattle.auc_direct.specs.Rows.{arc_by};
 
-use crate::arc::ShortArc;
 use crate::market::Market;
 use auc_answers::Gathered;
 use auc_graph::{Arc, ArcList};
 use auc_letters::Held;
+use auc_rows::ShortArc;
 use std::alloc::{AllocError, Global};
 
 /// Whether an arc is the one by which its person holds what he has, or just as one.

@@ -2,21 +2,20 @@
 
 ghost use Rattle.std.specs.Prelude.{◌≡◌, ◌<◌, ◌≤◌, ◌+◌, ◌^◌, pos, ◌≤ℤ◌, All, length};
 ghost use Rattle.auc_letters.specs.Price.{IsPrice};
+ghost use Rattle.auc_rows.specs.Rows.{IsShort};
 ghost use Rattle.auc_direct.specs.Path.{AreOwns, IsAsNear, IsNoNearer, own_value};
-ghost use Rattle.auc_direct.specs.Rows.{IsShort};
 ghost use Rattle.auc_direct.specs.Scan.{IsValue, short_value};
 
-use crate::arc::ShortArc;
 use crate::market::NOBODY;
-use crate::rows::ShortRows;
 use crate::scan::value_of;
+use auc_rows::{FlatRows, ShortArc};
 
 /// Stands for what a person pays who holds nothing: no arc is worth less, so each hop of his is as long as its arc is dear.
 const NOTHING: i64 = -17_592_186_044_416;
 
 /// What a person pays for what he holds at these prices, of which there is one for each object.
 #[inline]
-pub(crate) fn value_of_own(rows: &ShortRows, owns: &[ShortArc], prices: &[i64], person: u32) -> i64
+pub(crate) fn value_of_own(rows: &FlatRows, owns: &[ShortArc], prices: &[i64], person: u32) -> i64
     requires person { person < length rows.now.rows }
     requires owns { AreOwns rows.now owns.now }
     requires many { length prices.now ≡ rows.now.objects }

@@ -3,7 +3,6 @@
 //! [`solve_direct`] answers as `auc_world::solve_serial` does, with no shards, letters or mails: by certificates in which the checker finds no fault.
 #![tactic(auto)]
 
-mod arc;
 mod best;
 mod bid;
 mod early;
@@ -12,13 +11,11 @@ mod eps;
 mod gathering;
 mod hop;
 mod label;
-mod layout;
 mod lists;
 mod market;
 mod path;
 mod phase;
 mod phases;
-mod rows;
 mod scan;
 mod search;
 mod shortlist;

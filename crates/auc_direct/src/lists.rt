@@ -2,14 +2,13 @@
 
 ghost use Rattle.std.specs.Prelude.{◌≡◌, ◌<◌, List, ℤ, All, length, IfOk};
 ghost use Rattle.auc_letters.specs.Price.{IsPrice};
-ghost use Rattle.auc_direct.specs.Market.{EachHasArc, scale_in};
-ghost use Rattle.auc_direct.specs.Rows.{shorts_of};
+ghost use Rattle.auc_rows.specs.Rows.{EachHasArc, flat_row_of, scale_in};
 ghost use Rattle.auc_direct.specs.Scan.{short_value};
 ghost use Rattle.auc_direct.specs.Shortlist.{IsBest, Kept};
 
 use crate::best::{Best, best_of};
-use crate::rows::ShortRows;
 use crate::shortlist::Shortlist;
+use auc_rows::FlatRows;
 use std::alloc::{AllocError, Global};
 
 /// With so many arcs and more a row has a list.
@@ -22,7 +21,7 @@ pub(crate) struct Lists {
 }
 
 /// Whether some row is long enough for a list.
-fn has_long_row(rows: &ShortRows) -> bool {
+fn has_long_row(rows: &FlatRows) -> bool {
     for person in 0..rows.persons() {
         if rows.row(person).len() >= LONG {
             return true;
@@ -33,7 +32,7 @@ fn has_long_row(rows: &ShortRows) -> bool {
 
 impl Lists {
     /// Lists with no arc, which say nothing. 184 bytes a person where some row is long.
-    pub(crate) fn new(alloc: Global, rows: &ShortRows) -> Result<Lists, AllocError>
+    pub(crate) fn new(alloc: Global, rows: &FlatRows) -> Result<Lists, AllocError>
         ensures { IfOk result (λ l. (prices : List ℤ) → Kept rows.now prices l.lists.items) }
     {
         if !has_long_row(rows) {
@@ -49,14 +48,14 @@ impl Lists {
 
     /// The best arc of a person at these prices: by his list where his row is long, and else by a pass over the row.
     #[inline(always)]
-    pub(crate) fn best(&mut self, rows: &ShortRows, scale: i64, person: u32, prices: &[i64]) -> Best
+    pub(crate) fn best(&mut self, rows: &FlatRows, scale: i64, person: u32, prices: &[i64]) -> Best
         requires person { person < length rows.now.rows }
         requires arcs { EachHasArc rows.now }
         requires scale { scale ≡ scale_in rows.now }
         requires many { length prices.now ≡ rows.now.objects }
         requires prices { All IsPrice prices.now }
         requires kept { Kept rows.now prices.now self.old.lists.items }
-        ensures best { IsBest (short_value scale prices.now) (shorts_of rows.now person) result }
+        ensures best { IsBest (short_value scale prices.now) (flat_row_of rows.now person) result }
         ensures kept { Kept rows.now prices.now self.new.lists.items }
     {
         let row = rows.row(person);

@@ -3,8 +3,8 @@
 ghost use Rattle.std.specs.Prelude.{◌≡◌, ◌≢◌, ◌<◌, pos, length, replicate, set, IfOk};
 ghost use Rattle.auc_direct.specs.Market.{holder_at, no_own, own_at};
 
-use crate::arc::ShortArc;
 use crate::bid::Bid;
+use auc_rows::ShortArc;
 use std::alloc::{AllocError, Global};
 
 /// Stands for the holder of an object that nobody holds, and for the object of a person who holds none.

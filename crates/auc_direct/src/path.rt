@@ -3,17 +3,17 @@
 ghost use Rattle.std.specs.Prelude.{◌≡◌, ◌<◌, length, IfOk, OnOk};
 ghost use Rattle.std.specs.BinaryHeap.{heap_items};
 ghost use Rattle.auc_letters.specs.Price.{IsEps};
+ghost use Rattle.auc_rows.specs.Rows.{IsFlatTable};
 ghost use Rattle.auc_direct.specs.declared.market.TheConstants.{NOBODY};
 ghost use Rattle.auc_direct.specs.Endings.{IsPathStep};
 ghost use Rattle.auc_direct.specs.Market.{Stands, own_at};
 ghost use Rattle.auc_direct.specs.Path.{IsClean};
-ghost use Rattle.auc_direct.specs.Rows.{AreShorts};
 
 use crate::ending::PathStep;
 use crate::market::Market;
-use crate::rows::ShortRows;
 use crate::search::Search;
 use crate::walk::{fits, hand_over, raise};
+use auc_rows::FlatRows;
 use std::alloc::AllocError;
 
 impl Market {
@@ -21,14 +21,14 @@ impl Market {
     /// that nobody holds is in reach, or a price would pass the greatest.
     pub(crate) fn path(
         &mut self,
-        rows: &ShortRows,
+        rows: &FlatRows,
         _eps: i64,
         start: u32,
         search: &mut Search,
     ) -> Result<PathStep, AllocError>
         requires start { start < length rows.now.rows }
         requires eps { IsEps _eps }
-        requires sound { AreShorts rows.now }
+        requires sound { IsFlatTable rows.now }
         requires stands { Stands rows.now _eps self.old.prices.items self.old.holders.items self.old.owns.items }
         requires none { (own_at self.old.owns.items start).object ≡ NOBODY }
         requires clean { IsClean rows.now.objects search.old.labels.items search.old.line.items (heap_items search.old.heap) }

@@ -4,8 +4,9 @@ ghost use Rattle.std.specs.Prelude.{◌≡◌, ◌+◌, ◌<◌, ◌≤◌, pos,
 ghost use Rattle.std.specs.BinaryHeap.{heap_items};
 ghost use Rattle.auc_graph.specs.Assignment.{total};
 ghost use Rattle.auc_letters.specs.Price.{IsEps};
+ghost use Rattle.auc_rows.specs.Rows.{EachHasArc, scale_in};
 ghost use Rattle.auc_direct.specs.Endings.{IsChain, IsEnding};
-ghost use Rattle.auc_direct.specs.Market.{EachHasArc, HaveAllBut, IsAwarded, IsTooHigh, Stands, own_at, scale_in};
+ghost use Rattle.auc_direct.specs.Market.{HaveAllBut, IsAwarded, IsTooHigh, Stands, own_at};
 ghost use Rattle.auc_direct.specs.Path.{IsClean};
 ghost use Rattle.auc_direct.specs.Shortlist.{Kept};
 
@@ -13,9 +14,9 @@ use crate::bid::bid_of;
 use crate::ending::{Chain, Ending};
 use crate::lists::Lists;
 use crate::market::{Market, NOBODY};
-use crate::rows::ShortRows;
 use crate::workspace::Workspace;
 use auc_cert::Reason;
+use auc_rows::FlatRows;
 use std::alloc::AllocError;
 
 impl Market {
@@ -23,7 +24,7 @@ impl Market {
     #[inline(always)]
     fn step(
         &mut self,
-        rows: &ShortRows,
+        rows: &FlatRows,
         scale: i64,
         spread: i64,
         eps: i64,
@@ -55,7 +56,7 @@ impl Market {
     /// who is displaced looks for a path, which is no bid.
     fn chain(
         &mut self,
-        rows: &ShortRows,
+        rows: &FlatRows,
         eps: i64,
         first: u32,
         left: &mut u64,
@@ -106,7 +107,7 @@ impl Market {
     /// Plays a phase of at most so many bids, in which those bid who hold nothing yet.
     pub(crate) fn play(
         &mut self,
-        rows: &ShortRows,
+        rows: &FlatRows,
         eps: i64,
         bids: u64,
         patience: u64,
@@ -140,7 +141,7 @@ impl Market {
     /// Plays a phase as [`Market::play`] does, but gives it up, with what it has come to, once searches in the table have looked at more than so many arcs: None then.
     pub(crate) fn play_within(
         &mut self,
-        rows: &ShortRows,
+        rows: &FlatRows,
         eps: i64,
         bids: u64,
         patience: u64,

@@ -4,8 +4,8 @@ ghost use Rattle.std.specs.Prelude.{true, ◌≡◌, ◌⊎◌, pos, length, IfO
 ghost use Rattle.std.specs.BinaryHeap.{heap_items};
 ghost use Rattle.auc_graph.specs.Assignment.{total};
 ghost use Rattle.auc_letters.specs.Price.{IsEps};
+ghost use Rattle.auc_rows.specs.Rows.{EachHasArc};
 ghost use Rattle.auc_direct.specs.Endings.{IsLeft, IsOutcomeFrom, IsStart, IsStopped};
-ghost use Rattle.auc_direct.specs.Market.{EachHasArc};
 ghost use Rattle.auc_direct.specs.Path.{IsClean};
 ghost use Rattle.auc_direct.specs.Shortlist.{Kept};
 ghost use Rattle.auc_direct.specs.Starts.{AreKept, ArePricesOf};
@@ -13,10 +13,10 @@ ghost use Rattle.auc_direct.specs.Starts.{AreKept, ArePricesOf};
 use crate::ending::Ending;
 use crate::eps::{LAST_EPS, first_eps, half_of_mean, next_eps};
 use crate::market::Market;
-use crate::rows::ShortRows;
 use crate::watch::{Progress, Watch};
 use crate::workspace::Workspace;
 use auc_cert::Reason;
+use auc_rows::FlatRows;
 use std::alloc::{AllocError, Global};
 
 /// After how many bids of a chain a path is looked for in a run of one phase, at the last eps, where a bid raises a price by little. At least so many, and where a person
@@ -37,15 +37,15 @@ const FEW: u64 = 8;
 const LOOKS: usize = 100;
 
 /// After how many bids of a chain a path is looked for in a run that begins at this eps.
-pub(crate) fn patience_at(rows: &ShortRows, eps: i64) -> u64 {
+pub(crate) fn patience_at(rows: &FlatRows, eps: i64) -> u64 {
     if eps == LAST_EPS {
-        return if rows.is_table() {
+        return if rows.is_full() {
             AT_ONCE
         } else {
             SOON.max(half_of_mean(rows) as u64)
         };
     }
-    LATE.max((rows.many() / LOOKS) as u64)
+    LATE.max((rows.arc_count() / LOOKS) as u64)
 }
 
 /// How the last phase has ended, and what it leaves.
@@ -58,7 +58,7 @@ pub(crate) struct Outcome {
 /// A phase at this eps from the prices of the market, and then one at each next eps, from the prices of the one before: up to the last one, or the first that a limit
 /// stops. Each may make so many bids, and looks for a path after `patience` of a chain.
 fn play_phases<W: Watch>(
-    rows: &ShortRows,
+    rows: &FlatRows,
     bids: u64,
     eps: i64,
     patience: u64,
@@ -96,7 +96,7 @@ fn play_phases<W: Watch>(
 /// All phases from this eps and these prices on, each of at most so many bids. In a full table one at the last eps comes before them, which mostly is the only one.
 pub(crate) fn play_all<W: Watch>(
     alloc: Global,
-    rows: &ShortRows,
+    rows: &FlatRows,
     bids: u64,
     eps: i64,
     prices: Vec<i64>,
@@ -124,7 +124,7 @@ pub(crate) fn play_all<W: Watch>(
 /// table has one. None too where there is one phase alone, in which it would take many searches for a path to see that nothing comes of it.
 pub(crate) fn play_quickly<W: Watch>(
     alloc: Global,
-    rows: &ShortRows,
+    rows: &FlatRows,
     bids: u64,
     eps: i64,
     prices: Vec<i64>,
@@ -136,7 +136,7 @@ pub(crate) fn play_quickly<W: Watch>(
     ensures left { IfOk result (λ x. IfSome x (λ o. IsLeft rows.now o.ending o.market.prices.items o.market.holders.items o.market.owns.items)) }
     ensures stopped { IfOk result (λ x. IfSome x (λ o. (W.has_stopped watch.new ≡ true) ⊎ IsStopped rows.now bids (total prices.items) o.ending o.market.prices.items)) }
 {
-    if rows.is_table() {
+    if rows.is_full() {
         let outcome = play_all(alloc, rows, bids, eps, prices, watch)?;
         return Ok(Some(outcome));
     }
@@ -166,7 +166,7 @@ pub(crate) fn play_quickly<W: Watch>(
 }
 
 /// The prices before anybody holds anything: those of the start where there are as many objects as persons, and else none.
-fn prices_before(alloc: Global, rows: &ShortRows, start: &[i64]) -> Result<Vec<i64>, AllocError>
+fn prices_before(alloc: Global, rows: &FlatRows, start: &[i64]) -> Result<Vec<i64>, AllocError>
     requires start { ArePricesOf rows.now start.now }
     ensures start { IfOk result (λ v. IsStart rows.now (pos 1) v.items) }
     ensures kept { IfOk result (λ v. AreKept start.now v.items) }
@@ -184,7 +184,7 @@ fn prices_before(alloc: Global, rows: &ShortRows, start: &[i64]) -> Result<Vec<i
 /// phases follow. Each may make so many bids.
 pub(crate) fn play_from<W: Watch>(
     alloc: Global,
-    rows: &ShortRows,
+    rows: &FlatRows,
     bids: u64,
     start: &[i64],
     watch: &mut W,
@@ -197,7 +197,7 @@ pub(crate) fn play_from<W: Watch>(
     let prices = prices_before(alloc, rows, start)?;
     let mut market = Market::new(alloc, rows.persons(), prices)?;
     market.open_at(rows, LAST_EPS, start);
-    if rows.is_table() && rows.persons() == rows.objects() {
+    if rows.is_full() && rows.persons() == rows.objects() {
         return match market.play_early(rows, bids, &mut work, watch)? {
             Some(ending) => Ok(Outcome { ending, market }),
             None => {

@@ -2,10 +2,10 @@
 
 ghost use Rattle.std.specs.Prelude.{◌≡◌, ◌<◌, ◌+◌, ◌^◌, pos, neg_ℤ, ◌+ℤ◌, ◌*ℤ◌, ◌≤ℤ◌, All, length};
 ghost use Rattle.auc_letters.specs.Price.{IsPrice};
-ghost use Rattle.auc_direct.specs.Rows.{IsShort};
+ghost use Rattle.auc_rows.specs.Rows.{IsShort};
 ghost use Rattle.auc_direct.specs.Scan.{IsFound, IsValue, Lowered, short_value};
 
-use crate::arc::ShortArc;
+use auc_rows::ShortArc;
 
 /// What a pass has found: the least value, the least one of the other arcs (the greatest number where there is none), and where the arc of the least
 /// value stands in the row.

@@ -5,13 +5,12 @@ ghost use Rattle.std.specs.BinaryHeap.{heap_items};
 ghost use Rattle.auc_letters.specs.Price.{IsPrice};
 ghost use Rattle.auc_direct.specs.Path.{AreHolders, AreLabels, AreLeft, AreOwns, Grows, IsClean, IsEnd, IsFrom, Reaches, seats, settled_at};
 
-use crate::arc::ShortArc;
 use crate::hop::{reach, value_of_own};
 use crate::label::{BLANK, Label};
 use crate::market::NOBODY;
-use crate::rows::ShortRows;
 use crate::wipe::{wipe_entries, wipe_line};
 use auc_letters::Held;
+use auc_rows::{FlatRows, ShortArc};
 use std::alloc::{AllocError, Global};
 use std::collections::BinaryHeap;
 
@@ -29,7 +28,7 @@ pub(crate) struct Search {
 
 impl Search {
     /// Nothing is labelled.
-    pub(crate) fn new(alloc: Global, rows: &ShortRows) -> Result<Search, AllocError>
+    pub(crate) fn new(alloc: Global, rows: &FlatRows) -> Result<Search, AllocError>
         ensures { IfOk result (λ s. IsClean rows.now.objects s.labels.items s.line.items (heap_items s.heap)) }
     {
         let labels = vec![in alloc; BLANK; rows.objects() as usize]?;
@@ -41,7 +40,7 @@ impl Search {
     /// Labels the objects of a person's row. He is at `near`, which is no nearer than all that are settled.
     fn relax(
         &mut self,
-        rows: &ShortRows,
+        rows: &FlatRows,
         owns: &[ShortArc],
         prices: &[i64],
         _holders: &[u32],
@@ -105,7 +104,7 @@ impl Search {
     /// Searches from a free person on, the nearest object first, up to the first one that nobody holds. None where there is none in reach.
     pub(crate) fn find(
         &mut self,
-        rows: &ShortRows,
+        rows: &FlatRows,
         owns: &[ShortArc],
         prices: &[i64],
         holders: &[u32],

@@ -2,14 +2,13 @@
 
 ghost use Rattle.std.specs.Prelude.{◌≡◌, ◌<◌, pos, ◌≤ℤ◌, All, Contains, IsTrue, length};
 ghost use Rattle.auc_letters.specs.Price.{IsEps, IsPrice};
-ghost use Rattle.auc_direct.specs.declared.arc.ShortArc.{ShortArc};
+ghost use Rattle.auc_rows.specs.declared.arc.ShortArc.{ShortArc};
+ghost use Rattle.auc_rows.specs.Rows.{IsShort, flat_row_of};
 ghost use Rattle.auc_direct.specs.Market.{IsSlack};
-ghost use Rattle.auc_direct.specs.Rows.{IsShort, shorts_of};
 ghost use Rattle.auc_direct.specs.Scan.{short_value};
 
-use crate::arc::ShortArc;
-use crate::rows::ShortRows;
 use crate::scan::value_of;
+use auc_rows::{FlatRows, ShortArc};
 
 /// Whether no arc of a row is worth less than this.
 #[inline(never)]
@@ -30,14 +29,14 @@ fn none_below(scale: i64, row: &[ShortArc], prices: &[i64], least: i64) -> bool
 
 /// Whether an arc of a person's row is within eps of his best at these prices.
 pub(crate) fn is_slack(
-    rows: &ShortRows,
+    rows: &FlatRows,
     eps: i64,
     prices: &[i64],
     person: u32,
     arc: ShortArc,
 ) -> bool
     requires person { person < length rows.now.rows }
-    requires listed { Contains (shorts_of rows.now person) arc }
+    requires listed { Contains (flat_row_of rows.now person) arc }
     requires many { length prices.now ≡ rows.now.objects }
     requires prices { All IsPrice prices.now }
     requires eps { IsEps eps }

@@ -5,21 +5,21 @@ ghost use Rattle.auc_graph.specs.Assignment.{total};
 ghost use Rattle.auc_graph.specs.Price.{IsPrice as IsPriceText};
 ghost use Rattle.auc_letters.specs.Price.{IsEps};
 ghost use Rattle.auc_answers.specs.Answers.{HasAssignment, IsAnswer, IsBracketAnswer, IsInfeasibleAnswer};
+ghost use Rattle.auc_rows.specs.Rows.{AreRowsOf, EachHasArc, IsFlatTable};
 ghost use Rattle.auc_direct.specs.Endings.{IsLeft, IsLimited, IsLimitedFrom, IsStart, IsStopped};
-ghost use Rattle.auc_direct.specs.Market.{EachHasArc};
-ghost use Rattle.auc_direct.specs.Rows.{AreRowsOf, AreShorts, EachHasRow};
+ghost use Rattle.auc_direct.specs.Market.{EachHasRow};
 ghost use Rattle.auc_direct.specs.Starts.{AreStartPrices};
 
 use crate::ending::Ending;
 use crate::eps::first_eps;
 use crate::gathering::gather;
 use crate::phases::{Outcome, play_all, play_from, play_quickly};
-use crate::rows::ShortRows;
 use crate::watch::{Onward, Watch};
 use auc_answers::finish::{bracket, optimal};
 use auc_answers::{Answer, Gathered, Prepared, prepare};
 use auc_cert::Reason;
 use auc_graph::{ArcList, Rows};
+use auc_rows::FlatRows;
 use std::alloc::{AllocError, Global};
 
 /// How much the solver may use.
@@ -65,18 +65,18 @@ fn bracketed(
 fn answer_of(
     alloc: Global,
     problem: &ArcList,
-    _shorts: ShortRows,
+    _flat: FlatRows,
     outcome: Outcome,
 ) -> Result<Answer, AllocError>
-    requires rows { AreRowsOf problem.now _shorts }
-    requires sound { AreShorts _shorts }
-    requires left { IsLeft _shorts outcome.ending outcome.market.prices.items outcome.market.holders.items outcome.market.owns.items }
+    requires rows { AreRowsOf problem.now _flat }
+    requires sound { IsFlatTable _flat }
+    requires left { IsLeft _flat outcome.ending outcome.market.prices.items outcome.market.holders.items outcome.market.owns.items }
     ensures is { IfOk result (IsAnswer problem.now) }
-    ensures limit { (bids : ℕ) (begun : ℤ) → IsStopped _shorts bids begun outcome.ending outcome.market.prices.items → IfOk result (IsLimited problem.now bids begun) }
+    ensures limit { (bids : ℕ) (begun : ℤ) → IsStopped _flat bids begun outcome.ending outcome.market.prices.items → IfOk result (IsLimited problem.now bids begun) }
 {
     // Read here, so that the proof knows what every problem keeps.
     let _ = problem.arcs();
-    drop(_shorts);
+    drop(_flat);
     let Outcome { ending, market } = outcome;
     let gathered = gather(alloc, problem, market)?;
     match ending {
@@ -100,16 +100,16 @@ fn solve_quickly<W: Watch>(
     if problem.persons() < problem.objects() {
         return Ok(None);
     }
-    let shorts = ShortRows::build(alloc, problem)?;
-    if !shorts.each_has_arc() {
+    let flat = FlatRows::build(alloc, problem)?;
+    if !flat.each_has_arc() {
         return Ok(None);
     }
-    let prices = vec![in alloc; 0; shorts.objects() as usize]?;
-    let eps = first_eps(&shorts);
-    let Some(outcome) = play_quickly(alloc, &shorts, bids, eps, prices, watch)? else {
+    let prices = vec![in alloc; 0; flat.objects() as usize]?;
+    let eps = first_eps(&flat);
+    let Some(outcome) = play_quickly(alloc, &flat, bids, eps, prices, watch)? else {
         return Ok(None);
     };
-    let answer = answer_of(alloc, problem, shorts, outcome)?;
+    let answer = answer_of(alloc, problem, flat, outcome)?;
     Ok(Some(answer))
 }
 
@@ -117,44 +117,44 @@ fn solve_quickly<W: Watch>(
 fn solve_rows<W: Watch>(
     alloc: Global,
     problem: &ArcList,
-    shorts: ShortRows,
+    flat: FlatRows,
     bids: u64,
     eps: i64,
     prices: Vec<i64>,
     watch: &mut W,
 ) -> Result<Answer, AllocError>
-    requires rows { AreRowsOf problem.now shorts }
+    requires rows { AreRowsOf problem.now flat }
     requires arcs { EachHasRow problem.now }
     requires eps { IsEps eps }
-    requires start { IsStart shorts eps prices.items }
+    requires start { IsStart flat eps prices.items }
     ensures is { IfOk result (IsAnswer problem.now) }
     ensures limit { IfOk result (λ a. (W.has_stopped watch.new ≡ true) ⊎ IsLimited problem.now bids (total prices.items) a) }
 {
     // Read here, so that the proof knows what all rows keep.
-    let _ = shorts.persons();
-    let outcome = play_all(alloc, &shorts, bids, eps, prices, watch)?;
-    answer_of(alloc, problem, shorts, outcome)
+    let _ = flat.persons();
+    let outcome = play_all(alloc, &flat, bids, eps, prices, watch)?;
+    answer_of(alloc, problem, flat, outcome)
 }
 
 /// The same in one phase from start prices.
 fn solve_rows_from<W: Watch>(
     alloc: Global,
     problem: &ArcList,
-    shorts: ShortRows,
+    flat: FlatRows,
     bids: u64,
     start: &[i64],
     watch: &mut W,
 ) -> Result<Answer, AllocError>
-    requires rows { AreRowsOf problem.now shorts }
-    requires arcs { EachHasArc shorts }
+    requires rows { AreRowsOf problem.now flat }
+    requires arcs { EachHasArc flat }
     requires start { AreStartPrices problem.now start.now }
     ensures is { IfOk result (IsAnswer problem.now) }
     ensures limit { IfOk result (λ a. (W.has_stopped watch.new ≡ true) ⊎ IsLimitedFrom problem.now bids start.now a) }
 {
     // Read here, so that the proof knows what all rows keep.
-    let _ = shorts.persons();
-    let outcome = play_from(alloc, &shorts, bids, start, watch)?;
-    answer_of(alloc, problem, shorts, outcome)
+    let _ = flat.persons();
+    let outcome = play_from(alloc, &flat, bids, start, watch)?;
+    answer_of(alloc, problem, flat, outcome)
 }
 
 /// Solves a problem: an arc for each person, no object twice, of the least cost together; or persons who together know fewer objects than they number; or, where
@@ -235,10 +235,10 @@ pub fn solve_direct_watched<W: Watch>(
     if let Some(answer) = answered(alloc, problem)? {
         return Ok(answer);
     }
-    let shorts = ShortRows::build(alloc, problem)?;
-    let prices = vec![in alloc; 0; shorts.objects() as usize]?;
-    let eps = first_eps(&shorts);
-    solve_rows(alloc, problem, shorts, limits.bids, eps, prices, watch)
+    let flat = FlatRows::build(alloc, problem)?;
+    let prices = vec![in alloc; 0; flat.objects() as usize]?;
+    let eps = first_eps(&flat);
+    solve_rows(alloc, problem, flat, limits.bids, eps, prices, watch)
 }
 
 /// Solves a problem from start prices as [`solve_direct_from`] does, and asks as [`solve_direct_watched`] does.
@@ -259,14 +259,14 @@ pub fn solve_direct_watched_from<W: Watch>(
 {
     // A full table has an assignment, so no search for one is made there.
     if problem.arcs().len() as u64 == u64::from(problem.persons()) * u64::from(problem.objects()) {
-        let shorts = ShortRows::build(alloc, problem)?;
-        if shorts.is_table() && shorts.each_has_arc() {
-            return solve_rows_from(alloc, problem, shorts, limits.bids, start, watch);
+        let flat = FlatRows::build(alloc, problem)?;
+        if flat.is_full() && flat.each_has_arc() {
+            return solve_rows_from(alloc, problem, flat, limits.bids, start, watch);
         }
     }
     if let Some(answer) = answered(alloc, problem)? {
         return Ok(answer);
     }
-    let shorts = ShortRows::build(alloc, problem)?;
-    solve_rows_from(alloc, problem, shorts, limits.bids, start, watch)
+    let flat = FlatRows::build(alloc, problem)?;
+    solve_rows_from(alloc, problem, flat, limits.bids, start, watch)
 }

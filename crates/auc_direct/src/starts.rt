@@ -2,19 +2,18 @@
 
 ghost use Rattle.std.specs.Prelude.{ℕ, ◌≡◌, ◌≢◌, ◌<◌, ◌↔◌, length, false, IsTrue, IfSome};
 ghost use Rattle.auc_letters.specs.Price.{IsEps};
+ghost use Rattle.auc_rows.specs.Rows.{EachHasArc, IsFlatTable};
 ghost use Rattle.auc_direct.specs.declared.market.TheConstants.{NOBODY};
-ghost use Rattle.auc_direct.specs.Market.{EachHasArc, Stands, own_at};
-ghost use Rattle.auc_direct.specs.Rows.{AreShorts};
+ghost use Rattle.auc_direct.specs.Market.{Stands, own_at};
 ghost use Rattle.auc_direct.specs.Starts.{AreKept, AreOpened, ArePricesOf, AreSeated, AreStartPrices, IsFreeWithin, any_eps};
 
-use crate::arc::ShortArc;
 use crate::bid::Bid;
 use crate::market::{Market, NOBODY};
-use crate::rows::ShortRows;
 use crate::scan::{scan, value_of};
 use crate::slack::is_slack;
 use auc_cert::HIGHEST_START;
 use auc_graph::ArcList;
+use auc_rows::{FlatRows, ShortArc};
 
 /// How often all persons are passed over before the start prices are given up.
 const PASSES: u32 = 8;
@@ -31,13 +30,7 @@ pub fn may_start(problem: &ArcList, start: &[i64]) -> bool
 
 impl Market {
     /// The first arc of a person to an object that nobody holds, and that is within eps of his best at the start prices.
-    fn free_within(
-        &self,
-        rows: &ShortRows,
-        eps: i64,
-        start: &[i64],
-        person: u32,
-    ) -> Option<ShortArc>
+    fn free_within(&self, rows: &FlatRows, eps: i64, start: &[i64], person: u32) -> Option<ShortArc>
         requires person { person < length rows.now.rows }
         requires arcs { EachHasArc rows.now }
         requires eps { IsEps eps }
@@ -60,11 +53,11 @@ impl Market {
     }
 
     /// A person takes such an object, which has its start price then.
-    fn seat(&mut self, rows: &ShortRows, eps: i64, start: &[i64], person: u32)
+    fn seat(&mut self, rows: &FlatRows, eps: i64, start: &[i64], person: u32)
         requires person { person < length rows.now.rows }
         requires arcs { EachHasArc rows.now }
         requires eps { IsEps eps }
-        requires sound { AreShorts rows.now }
+        requires sound { IsFlatTable rows.now }
         requires start { ArePricesOf rows.now start.now }
         requires seated { AreSeated rows.now eps start.now self.old.prices.items self.old.holders.items self.old.owns.items }
         requires none { (own_at self.old.owns.items person).object ≡ NOBODY }
@@ -79,7 +72,7 @@ impl Market {
     }
 
     /// Each person in order does.
-    fn seat_all(&mut self, rows: &ShortRows, eps: i64, start: &[i64])
+    fn seat_all(&mut self, rows: &FlatRows, eps: i64, start: &[i64])
         requires arcs { EachHasArc rows.now }
         requires eps { IsEps eps }
         requires start { ArePricesOf rows.now start.now }
@@ -93,7 +86,7 @@ impl Market {
     }
 
     /// Each person in order whose object isn't within eps of his best leaves it, and it has no price then; gives whether anybody has.
-    fn release(&mut self, rows: &ShortRows, eps: i64) -> bool
+    fn release(&mut self, rows: &FlatRows, eps: i64) -> bool
         requires arcs { EachHasArc rows.now }
         requires eps { IsEps eps }
         requires stands { Stands rows.now any_eps self.old.prices.items self.old.holders.items self.old.owns.items }
@@ -117,7 +110,7 @@ impl Market {
     }
 
     /// Persons leave objects until each who has one is within eps of his best. Nobody keeps anything where that takes too long.
-    fn settle(&mut self, rows: &ShortRows, eps: i64)
+    fn settle(&mut self, rows: &FlatRows, eps: i64)
         requires arcs { EachHasArc rows.now }
         requires eps { IsEps eps }
         requires stands { Stands rows.now any_eps self.old.prices.items self.old.holders.items self.old.owns.items }
@@ -134,7 +127,7 @@ impl Market {
 
     /// Opens a market in which nobody holds anything, at start prices: persons keep what is within eps of their best at them. Where there are more objects than
     /// persons, nothing that nobody keeps has a price, so some of those who keep one at the start prices may yet leave it.
-    pub(crate) fn open_at(&mut self, rows: &ShortRows, eps: i64, start: &[i64])
+    pub(crate) fn open_at(&mut self, rows: &FlatRows, eps: i64, start: &[i64])
         requires arcs { EachHasArc rows.now }
         requires eps { IsEps eps }
         requires start { ArePricesOf rows.now start.now }

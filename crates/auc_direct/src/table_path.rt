@@ -2,19 +2,18 @@
 
 ghost use Rattle.std.specs.Prelude.{◌≡◌, ◌<◌, ◌≢◌, ℕ, All, Contains, IsTrue, IfOk, length};
 ghost use Rattle.auc_letters.specs.Price.{IsEps, IsPrice};
+ghost use Rattle.auc_rows.specs.Rows.{EachHasArc, IsFlatTable, flat_row_of};
 ghost use Rattle.auc_direct.specs.declared.market.TheConstants.{NOBODY};
-ghost use Rattle.auc_direct.specs.Market.{AreHigher, EachHasArc, IsSlack, Stands, holder_at, own_at};
-ghost use Rattle.auc_direct.specs.Rows.{AreShorts, shorts_of};
+ghost use Rattle.auc_direct.specs.Market.{AreHigher, IsSlack, Stands, holder_at, own_at};
 ghost use Rattle.auc_direct.specs.Way.{AreProposed, IsWay};
 
-use crate::arc::ShortArc;
 use crate::bid::Bid;
 use crate::market::{Market, NO_OWN, NOBODY};
-use crate::rows::ShortRows;
 use crate::scan::value_of;
 use crate::slack::is_slack;
 use crate::table_search::{Step, TableSearch};
 use auc_letters::MOST_PRICE;
+use auc_rows::{FlatRows, ShortArc};
 use std::alloc::AllocError;
 use std::mem;
 
@@ -26,13 +25,13 @@ struct Freed {
 }
 
 /// Whether an arc of a free person is within eps of his best. Where he had an object by an arc that is, no pass over his row is needed for one that is worth no more.
-fn suits(rows: &ShortRows, eps: i64, prices: &[i64], freed: Freed, arc: ShortArc) -> bool
+fn suits(rows: &FlatRows, eps: i64, prices: &[i64], freed: Freed, arc: ShortArc) -> bool
     requires person { freed.person < length rows.now.rows }
-    requires listed { Contains (shorts_of rows.now freed.person) arc }
+    requires listed { Contains (flat_row_of rows.now freed.person) arc }
     requires had { freed.had.object ≢ NOBODY → IsSlack rows.now eps prices.now freed.person freed.had }
     requires many { length prices.now ≡ rows.now.objects }
     requires prices { All IsPrice prices.now }
-    requires sound { AreShorts rows.now }
+    requires sound { IsFlatTable rows.now }
     requires eps { IsEps eps }
     ensures { IsTrue result → IsSlack rows.now eps prices.now freed.person arc }
 {
@@ -45,7 +44,7 @@ fn suits(rows: &ShortRows, eps: i64, prices: &[i64], freed: Freed, arc: ShortArc
 
 impl Market {
     /// Whether these may be prices: none is lower than it was or above the greatest, and what nobody holds keeps its own.
-    fn may_rise(&self, _rows: &ShortRows, proposed: &[i64]) -> bool
+    fn may_rise(&self, _rows: &FlatRows, proposed: &[i64]) -> bool
         requires prices { length self.now.prices.items ≡ _rows.now.objects }
         requires holders { length self.now.holders.items ≡ _rows.now.objects }
         requires within { All IsPrice self.now.prices.items }
@@ -74,11 +73,11 @@ impl Market {
     }
 
     /// Whether a person who has an object would be within eps of his best at these prices.
-    fn would_stay(&self, rows: &ShortRows, eps: i64, proposed: &[i64], person: u32) -> bool
+    fn would_stay(&self, rows: &FlatRows, eps: i64, proposed: &[i64], person: u32) -> bool
         requires person { person < length rows.now.rows }
         requires arcs { EachHasArc rows.now }
         requires eps { IsEps eps }
-        requires sound { AreShorts rows.now }
+        requires sound { IsFlatTable rows.now }
         requires stands { Stands rows.now eps self.now.prices.items self.now.holders.items self.now.owns.items }
         requires proposed { AreProposed rows.now self.now.prices.items self.now.holders.items proposed.now }
         ensures { IsTrue result → (own_at self.now.owns.items person).object ≢ NOBODY → IsSlack rows.now eps proposed.now person (own_at self.now.owns.items person) }
@@ -95,10 +94,10 @@ impl Market {
     }
 
     /// Whether all would.
-    fn would_all_stay(&self, rows: &ShortRows, eps: i64, proposed: &[i64]) -> bool
+    fn would_all_stay(&self, rows: &FlatRows, eps: i64, proposed: &[i64]) -> bool
         requires arcs { EachHasArc rows.now }
         requires eps { IsEps eps }
-        requires sound { AreShorts rows.now }
+        requires sound { IsFlatTable rows.now }
         requires stands { Stands rows.now eps self.now.prices.items self.now.holders.items self.now.owns.items }
         requires proposed { AreProposed rows.now self.now.prices.items self.now.holders.items proposed.now }
         ensures { IsTrue result → (i : ℕ) → i < length rows.now.rows → (own_at self.now.owns.items i).object ≢ NOBODY → IsSlack rows.now eps proposed.now i (own_at self.now.owns.items i) }
@@ -112,10 +111,10 @@ impl Market {
     }
 
     /// Takes these prices where each person who has an object is within eps of his best at them too; gives whether it has.
-    fn take_prices(&mut self, rows: &ShortRows, eps: i64, proposed: &mut Vec<i64>) -> bool
+    fn take_prices(&mut self, rows: &FlatRows, eps: i64, proposed: &mut Vec<i64>) -> bool
         requires arcs { EachHasArc rows.now }
         requires eps { IsEps eps }
-        requires sound { AreShorts rows.now }
+        requires sound { IsFlatTable rows.now }
         requires stands { Stands rows.now eps self.old.prices.items self.old.holders.items self.old.owns.items }
         ensures stands { Stands rows.now eps self.new.prices.items self.old.holders.items self.old.owns.items }
         ensures holders { self.new.holders.items ≡ self.old.holders.items }
@@ -154,12 +153,12 @@ impl Market {
     }
 
     /// A free person takes the object at this place of his row at its price, where that is within eps of his best; gives who is free then.
-    fn pass(&mut self, rows: &ShortRows, eps: i64, freed: Freed, place: usize) -> Freed
+    fn pass(&mut self, rows: &FlatRows, eps: i64, freed: Freed, place: usize) -> Freed
         requires person { freed.person < length rows.now.rows }
         requires had { freed.had.object ≢ NOBODY → IsSlack rows.now eps self.old.prices.items freed.person freed.had }
         requires arcs { EachHasArc rows.now }
         requires eps { IsEps eps }
-        requires sound { AreShorts rows.now }
+        requires sound { IsFlatTable rows.now }
         requires stands { Stands rows.now eps self.old.prices.items self.old.holders.items self.old.owns.items }
         requires none { (own_at self.old.owns.items freed.person).object ≡ NOBODY }
         ensures way { IsWay rows.now eps freed.person self.old.prices.items self.new.prices.items self.new.holders.items self.old.owns.items self.new.owns.items result.person }
@@ -181,11 +180,11 @@ impl Market {
     }
 
     /// Takes steps in order, each where it is the free person's; gives who is free then.
-    fn follow(&mut self, rows: &ShortRows, eps: i64, start: u32, route: &[Step]) -> u32
+    fn follow(&mut self, rows: &FlatRows, eps: i64, start: u32, route: &[Step]) -> u32
         requires person { start < length rows.now.rows }
         requires arcs { EachHasArc rows.now }
         requires eps { IsEps eps }
-        requires sound { AreShorts rows.now }
+        requires sound { IsFlatTable rows.now }
         requires stands { Stands rows.now eps self.old.prices.items self.old.holders.items self.old.owns.items }
         requires none { (own_at self.old.owns.items start).object ≡ NOBODY }
         ensures { IsWay rows.now eps start self.old.prices.items self.new.prices.items self.new.holders.items self.old.owns.items self.new.owns.items result }
@@ -209,7 +208,7 @@ impl Market {
     /// A free person of a full table goes by a cheapest path; gives who is free then. That is he himself where the rows are no table or no path is found.
     pub(crate) fn path_by_table(
         &mut self,
-        rows: &ShortRows,
+        rows: &FlatRows,
         eps: i64,
         start: u32,
         search: &mut TableSearch,
@@ -217,12 +216,12 @@ impl Market {
         requires person { start < length rows.now.rows }
         requires arcs { EachHasArc rows.now }
         requires eps { IsEps eps }
-        requires sound { AreShorts rows.now }
+        requires sound { IsFlatTable rows.now }
         requires stands { Stands rows.now eps self.old.prices.items self.old.holders.items self.old.owns.items }
         requires none { (own_at self.old.owns.items start).object ≡ NOBODY }
         ensures { IfOk result (IsWay rows.now eps start self.old.prices.items self.new.prices.items self.new.holders.items self.old.owns.items self.new.owns.items) }
     {
-        if !rows.is_table() {
+        if !rows.is_full() {
             return Ok(start);
         }
         let is_found = search.propose(

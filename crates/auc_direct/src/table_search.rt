@@ -4,9 +4,8 @@
 //! Nothing is proved of what it finds but that it ends: [`Market::take_prices`](crate::market::Market) and `follow` try what it proposes before they take it. So it may
 //! count as it likes, by sums that wrap and with no thought of what prices are too high for it.
 
-use crate::arc::ShortArc;
 use crate::market::NOBODY;
-use crate::rows::ShortRows;
+use auc_rows::{FlatRows, ShortArc};
 use std::alloc::{AllocError, Global};
 
 /// How far an object is that is settled, or that nobody has come to.
@@ -122,8 +121,8 @@ fn raise(proposed: &mut [i64], prices: &[i64], line: &[Settled], end: i64) {
 
 impl TableSearch {
     /// Nothing is kept yet. 28 bytes an object where the rows are a full table, and else none.
-    pub(crate) fn new(alloc: Global, rows: &ShortRows) -> Result<TableSearch, AllocError> {
-        let objects = if rows.is_table() { rows.objects() } else { 0 };
+    pub(crate) fn new(alloc: Global, rows: &FlatRows) -> Result<TableSearch, AllocError> {
+        let objects = if rows.is_full() { rows.objects() } else { 0 };
         let objects = objects as usize;
         Ok(TableSearch {
             keys: vec![in alloc; 0; objects]?,
@@ -173,7 +172,7 @@ impl TableSearch {
     /// Searches from a free person on, the nearest object first, up to the first one that nobody holds. None where none is reached.
     fn find(
         &mut self,
-        rows: &ShortRows,
+        rows: &FlatRows,
         prices: &[i64],
         holders: &[u32],
         owns: &[ShortArc],
@@ -242,7 +241,7 @@ impl TableSearch {
     /// Only where memory was refused.
     pub(crate) fn propose(
         &mut self,
-        rows: &ShortRows,
+        rows: &FlatRows,
         prices: &[i64],
         holders: &[u32],
         owns: &[ShortArc],

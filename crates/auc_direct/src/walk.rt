@@ -3,16 +3,15 @@
 ghost use Rattle.std.specs.Prelude.{◌≡◌, ◌≢◌, ◌<◌, ◌≤◌, ◌-◌, ◌+◌, ◌^◌, ℕ, pos, ◌+ℤ◌, ◌≤ℤ◌, IsTrue, All, length, set, slice_index_or};
 ghost use Rattle.auc_graph.specs.Dual.{price_at};
 ghost use Rattle.auc_letters.specs.Price.{IsPrice};
-ghost use Rattle.auc_direct.specs.declared.arc.ShortArc.{ShortArc};
+ghost use Rattle.auc_rows.specs.declared.arc.ShortArc.{ShortArc};
+ghost use Rattle.auc_rows.specs.Rows.{IsFlatTable, flat_row_of};
 ghost use Rattle.auc_direct.specs.declared.market.TheConstants.{NOBODY};
 ghost use Rattle.auc_direct.specs.Market.{holder_at, no_own, own_at};
 ghost use Rattle.auc_direct.specs.Path.{Agree, AreRaised, AreTaken, IsChain, IsLabelArc, IsLine, label_of, near_of, place_of, seats};
-ghost use Rattle.auc_direct.specs.Rows.{AreShorts, shorts_of};
 
-use crate::arc::ShortArc;
 use crate::label::Label;
-use crate::rows::ShortRows;
 use auc_letters::{Held, MOST_PRICE};
+use auc_rows::{FlatRows, ShortArc};
 
 /// How much the price of an object that is so near rises.
 #[inline]
@@ -56,13 +55,13 @@ pub(crate) fn raise(prices: &mut [i64], labels: &[Label], line: &[u32], end: u64
 
 /// An object is taken as its label says.
 #[inline]
-fn take(rows: &ShortRows, holders: &mut [u32], owns: &mut [ShortArc], object: u32, held: Held)
+fn take(rows: &FlatRows, holders: &mut [u32], owns: &mut [ShortArc], object: u32, held: Held)
     requires object { object < length holders.old }
     requires person { held.person < length owns.old }
     requires known { held.person < length rows.now.rows }
-    requires arc { held.arc < length (shorts_of rows.now held.person) }
+    requires arc { held.arc < length (flat_row_of rows.now held.person) }
     ensures holders { holders.new ≡ set holders.old object held.person }
-    ensures owns { owns.new ≡ set owns.old held.person (slice_index_or (shorts_of rows.now held.person) held.arc no_own) }
+    ensures owns { owns.new ≡ set owns.old held.person (slice_index_or (flat_row_of rows.now held.person) held.arc no_own) }
 {
     let arc = rows.row(held.person)[held.arc as usize];
     holders[object as usize] = held.person;
@@ -71,14 +70,14 @@ fn take(rows: &ShortRows, holders: &mut [u32], owns: &mut [ShortArc], object: u3
 
 /// Along the labels, from the end back to the free person, each takes the object that he reaches.
 pub(crate) fn hand_over(
-    rows: &ShortRows,
+    rows: &FlatRows,
     holders: &mut [u32],
     owns: &mut [ShortArc],
     labels: &[Label],
     end: u32,
     _start: u32,
 )
-    requires sound { AreShorts rows.now }
+    requires sound { IsFlatTable rows.now }
     requires sizes { length labels.now ≡ rows.now.objects }
     requires agree { Agree rows.now holders.old owns.old }
     requires free { (own_at owns.old _start).object ≡ NOBODY }

@@ -5,20 +5,20 @@ ghost use Rattle.std.specs.BinaryHeap.{heap_items};
 ghost use Rattle.auc_cert.specs.declared.reason.Reason.{Reason};
 ghost use Rattle.auc_graph.specs.Assignment.{total};
 ghost use Rattle.auc_letters.specs.Price.{IsEps};
-ghost use Rattle.auc_direct.specs.declared.arc.ShortArc.{ShortArc};
+ghost use Rattle.auc_rows.specs.declared.arc.ShortArc.{ShortArc};
+ghost use Rattle.auc_rows.specs.Rows.{EachHasArc, FlatTable};
 ghost use Rattle.auc_direct.specs.declared.ending.Ending.{Ending};
 ghost use Rattle.auc_direct.specs.Endings.{IsEnding, IsSold};
-ghost use Rattle.auc_direct.specs.Market.{EachHasArc, Stands};
+ghost use Rattle.auc_direct.specs.Market.{Stands};
 ghost use Rattle.auc_direct.specs.Path.{IsClean};
-ghost use Rattle.auc_direct.specs.Rows.{Shorts};
 ghost use Rattle.auc_direct.specs.Shortlist.{Kept};
 
 use crate::ending::Ending;
 use crate::market::{Market, NOBODY};
-use crate::rows::ShortRows;
 use crate::watch::{Progress, Watch};
 use crate::workspace::Workspace;
 use auc_cert::Reason;
+use auc_rows::FlatRows;
 use std::alloc::AllocError;
 
 /// How many bids a phase makes between two questions at most: as many as take some milliseconds.
@@ -37,7 +37,7 @@ fn slice_of(patience: u64) -> u64
 /// Whether bids have run out. Any other ending of a slice is one of its phase.
 fn ran_out(ending: Ending) -> bool
     ensures yes { result ≡ true → ending ≡ Ending.Stopped Reason.Bids }
-    ensures no { result ≡ false → (r : Shorts) (bids other : ℕ) (begun before : ℤ) (prices : List ℤ) (owns : List ShortArc) → IsEnding r bids begun ending prices owns → IsEnding r other before ending prices owns }
+    ensures no { result ≡ false → (r : FlatTable) (bids other : ℕ) (begun before : ℤ) (prices : List ℤ) (owns : List ShortArc) → IsEnding r bids begun ending prices owns → IsEnding r other before ending prices owns }
 {
     match ending {
         Ending::Sold => false,
@@ -66,7 +66,7 @@ impl Market {
     /// Plays a phase of at most so many bids as [`Market::play`] does, in slices; before each of them the watch is asked whether the run goes on.
     pub(crate) fn play_watched<W: Watch>(
         &mut self,
-        rows: &ShortRows,
+        rows: &FlatRows,
         eps: i64,
         bids: u64,
         patience: u64,

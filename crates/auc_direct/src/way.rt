@@ -3,24 +3,24 @@
 ghost use Rattle.std.specs.Prelude.{◌≡◌, ◌<◌, length, IfOk, OnOk};
 ghost use Rattle.std.specs.BinaryHeap.{heap_items};
 ghost use Rattle.auc_letters.specs.Price.{IsEps};
+ghost use Rattle.auc_rows.specs.Rows.{EachHasArc, IsFlatTable};
 ghost use Rattle.auc_direct.specs.declared.market.TheConstants.{NOBODY};
-ghost use Rattle.auc_direct.specs.Market.{EachHasArc, Stands, own_at};
+ghost use Rattle.auc_direct.specs.Market.{Stands, own_at};
 ghost use Rattle.auc_direct.specs.Path.{IsClean};
-ghost use Rattle.auc_direct.specs.Rows.{AreShorts};
 ghost use Rattle.auc_direct.specs.Shortlist.{Kept};
 ghost use Rattle.auc_direct.specs.Way.{IsWay};
 
 use crate::ending::PathStep;
 use crate::market::{Market, NOBODY};
-use crate::rows::ShortRows;
 use crate::workspace::Workspace;
+use auc_rows::FlatRows;
 use std::alloc::AllocError;
 
 impl Market {
     /// A free person goes by a path where one is found; gives who is free then.
     pub(crate) fn find_way(
         &mut self,
-        rows: &ShortRows,
+        rows: &FlatRows,
         eps: i64,
         person: u32,
         work: &mut Workspace,
@@ -28,7 +28,7 @@ impl Market {
         requires person { person < length rows.now.rows }
         requires arcs { EachHasArc rows.now }
         requires eps { IsEps eps }
-        requires sound { AreShorts rows.now }
+        requires sound { IsFlatTable rows.now }
         requires stands { Stands rows.now eps self.old.prices.items self.old.holders.items self.old.owns.items }
         requires none { (own_at self.old.owns.items person).object ≡ NOBODY }
         requires clean { IsClean rows.now.objects work.old.search.labels.items work.old.search.line.items (heap_items work.old.search.heap) }

@@ -6,9 +6,9 @@ ghost use Rattle.auc_direct.specs.Path.{IsClean};
 ghost use Rattle.auc_direct.specs.Shortlist.{Kept};
 
 use crate::lists::Lists;
-use crate::rows::ShortRows;
 use crate::search::Search;
 use crate::table_search::TableSearch;
+use auc_rows::FlatRows;
 use std::alloc::{AllocError, Global};
 
 /// The lists of candidates, which stay through all phases; room for searches, and for those in a full table; and how many bids in a row have displaced somebody, after the last
@@ -23,7 +23,7 @@ pub(crate) struct Workspace {
 
 impl Workspace {
     /// With lists that say nothing, and nothing labelled.
-    pub(crate) fn new(alloc: Global, rows: &ShortRows) -> Result<Workspace, AllocError>
+    pub(crate) fn new(alloc: Global, rows: &FlatRows) -> Result<Workspace, AllocError>
         ensures kept { IfOk result (λ w. (prices : List ℤ) → Kept rows.now prices w.lists.lists.items) }
         ensures clean { IfOk result (λ w. IsClean rows.now.objects w.search.labels.items w.search.line.items (heap_items w.search.heap)) }
     {

@@ -4,14 +4,14 @@
 
 ghost use Rattle.std.specs.Prelude.{false, true, ◌≡◌, ◌⊎◌, ◌<◌, ◌++◌, ◌∷◌, [], List, pos, ◌≤ℤ◌, All, length, set};
 ghost use Rattle.auc_letters.specs.Price.{IsPrice};
-ghost use Rattle.auc_direct.specs.declared.arc.ShortArc.{ShortArc};
-ghost use Rattle.auc_direct.specs.Rows.{IsShort};
+ghost use Rattle.auc_rows.specs.declared.arc.ShortArc.{ShortArc};
+ghost use Rattle.auc_rows.specs.Rows.{IsShort};
 ghost use Rattle.auc_direct.specs.Scan.{IsValue, short_value};
 ghost use Rattle.auc_direct.specs.Shortlist.{Gathered, IsReplaced};
 
-use crate::arc::ShortArc;
 use crate::scan::value_of;
 use crate::shortlist::{ROOM, Shortlist};
+use auc_rows::ShortArc;
 
 /// Where an arc stands in a list, and what it is worth.
 #[derive(Clone, Copy)]

@@ -9,8 +9,8 @@ pub solve_rows-requires-clause-start : goal.solve_rows-requires-clause-start
 solve_rows-requires-clause-start g c =
     let f : FitsSigned w64 c.first_eps-eps.result = search rules in
     let zeros : c.in_ok-prices.prices.items ≡ replicate c.objects.result (pos 0) = search rules in
-    let start : (c.in_ok-shorts.shorts.objects ≡ length c.in_ok-shorts.shorts.rows) ⊎ (c.first_eps-eps.result ≡ pos 1) = search rules in
-    simp to_z-of_z (start_none c.in_ok-shorts.shorts c.first_eps-eps.result c.objects.result c.in_ok-prices.prices.items c.objects.ensures.objects zeros start)
+    let start : (c.in_ok-flat.flat.objects ≡ length c.in_ok-flat.flat.rows) ⊎ (c.first_eps-eps.result ≡ pos 1) = search rules in
+    simp to_z-of_z (start_none c.in_ok-flat.flat c.first_eps-eps.result c.objects.result c.in_ok-prices.prices.items c.objects.ensures.objects zeros start)
 
 pub returns-clause-limit : goal.returns-clause-limit
 returns-clause-limit g c =

@@ -10,8 +10,8 @@ pub play_quickly-requires-clause-start : goal.play_quickly-requires-clause-start
 play_quickly-requires-clause-start g c =
     let f : FitsSigned w64 c.first_eps-eps.result = search rules in
     let zeros : c.in_ok-prices.prices.items ≡ replicate c.objects-2.result (pos 0) = search rules in
-    let start : (c.in_ok-shorts.shorts.objects ≡ length c.in_ok-shorts.shorts.rows) ⊎ (c.first_eps-eps.result ≡ pos 1) = search rules in
-    simp to_z-of_z (start_none c.in_ok-shorts.shorts c.first_eps-eps.result c.objects-2.result c.in_ok-prices.prices.items c.objects-2.ensures.objects zeros start)
+    let start : (c.in_ok-flat.flat.objects ≡ length c.in_ok-flat.flat.rows) ⊎ (c.first_eps-eps.result ≡ pos 1) = search rules in
+    simp to_z-of_z (start_none c.in_ok-flat.flat c.first_eps-eps.result c.objects-2.result c.in_ok-prices.prices.items c.objects-2.ensures.objects zeros start)
 
 pub returns-clause-limit : goal.returns-clause-limit
 returns-clause-limit g c =

@@ -2,15 +2,15 @@ use Rattle.std.proofs.Common.{arith, rules, w64}
 use Rattle.std.specs.Prelude.{FitsSigned, ◌≤ℤ◌}
 use Rattle.std.proofs.lemmas.Int.{ints, to_z-of_z}
 use Rattle.std.proofs.lemmas.List.Elements.{All-contains}
-use Rattle.auc_direct.specs.Rows.{IsShort, shorts_of}
+use Rattle.auc_rows.specs.Rows.{IsShort, flat_row_of}
 use Rattle.auc_direct.proofs.Ways.{slack_below}
 use Rattle.auc_direct.proofs.table_path.suits.Goals as goal
 
 pub value_of-requires-clause-arc : goal.value_of-requires-clause-arc
-value_of-requires-clause-arc c = rw c.requires.many (All-contains (IsShort c.args.rows.now.objects) (shorts_of c.args.rows.now c.args.freed.person) c.args.arc (c.requires.sound.each c.args.freed.person) c.requires.listed)
+value_of-requires-clause-arc c = rw c.requires.many (All-contains (IsShort c.args.rows.now.objects) (flat_row_of c.args.rows.now c.args.freed.person) c.args.arc (c.requires.sound.each c.args.freed.person) c.requires.listed)
 
 pub value_of-requires-2-clause-arc : goal.value_of-requires-2-clause-arc
-value_of-requires-2-clause-arc c = rw c.requires.many (All-contains (IsShort c.args.rows.now.objects) (shorts_of c.args.rows.now c.args.freed.person) c.args.freed.had (c.requires.sound.each c.args.freed.person) (c.requires.had c.if-freed-eq-NOBODY.false).listed)
+value_of-requires-2-clause-arc c = rw c.requires.many (All-contains (IsShort c.args.rows.now.objects) (flat_row_of c.args.rows.now c.args.freed.person) c.args.freed.had (c.requires.sound.each c.args.freed.person) (c.requires.had c.if-freed-eq-NOBODY.false).listed)
 
 pub returns : goal.returns
 returns c = λ t. (

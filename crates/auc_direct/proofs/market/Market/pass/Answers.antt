@@ -4,8 +4,8 @@ use Rattle.std.proofs.lemmas.Int.{to_z-of_z}
 use Rattle.std.proofs.lemmas.List.Elements.{All-get_or, Contains-get_or}
 use Rattle.auc_graph.specs.Dual.{price_at}
 use Rattle.auc_letters.specs.Price.{IsPrice}
-use Rattle.auc_direct.specs.declared.arc.ShortArc.{ShortArc}
-use Rattle.auc_direct.specs.Rows.{IsShort}
+use Rattle.auc_rows.specs.declared.arc.ShortArc.{ShortArc}
+use Rattle.auc_rows.specs.Rows.{IsShort}
 use Rattle.auc_direct.specs.Scan.{no_arc}
 use Rattle.auc_direct.proofs.Bounds.{price_fits}
 use Rattle.auc_direct.proofs.MarketLaws.{holder_below}

@@ -2,9 +2,9 @@ use Rattle.std.proofs.Common.{ℕ, pos, ◌≡◌, ◌<◌, ◌^◌, arith, refl
 use Rattle.std.specs.Prelude.{All, FitsSigned, ◌≤ℤ◌}
 use Rattle.std.proofs.lemmas.Int.{to_z-of_z}
 use Rattle.std.proofs.lemmas.List.Elements.{All-contains}
-use Rattle.auc_direct.specs.declared.arc.ShortArc.{ShortArc}
+use Rattle.auc_rows.specs.declared.arc.ShortArc.{ShortArc}
+use Rattle.auc_rows.specs.Rows.{IsShort}
 use Rattle.auc_direct.specs.Market.{IsAwarded}
-use Rattle.auc_direct.specs.Rows.{IsShort}
 use Rattle.auc_direct.proofs.MarketLaws.{awarded, holder_below, raise_by}
 use Rattle.auc_direct.proofs.Shortlists.{kept_rises}
 use Rattle.auc_direct.proofs.market.Market.step.Goals as goal

@@ -5,10 +5,10 @@ use Rattle.std.proofs.lemmas.List.{get_or_read}
 use Rattle.std.proofs.lemmas.List.Elements.{All-get_or}
 use Rattle.auc_graph.specs.Dual.{price_at}
 use Rattle.auc_letters.specs.Price.{IsPrice}
-use Rattle.auc_direct.specs.declared.arc.ShortArc.{ShortArc}
+use Rattle.auc_rows.specs.declared.arc.ShortArc.{ShortArc}
+use Rattle.auc_rows.specs.Rows.{flat_row_of}
 use Rattle.auc_direct.specs.declared.market.TheConstants.{NOBODY}
 use Rattle.auc_direct.specs.Market.{no_own, own_at}
-use Rattle.auc_direct.specs.Rows.{shorts_of}
 use Rattle.auc_direct.proofs.Bounds.{price_fits}
 use Rattle.auc_direct.proofs.MarketLaws.{own_below, slack_rises}
 use Rattle.auc_direct.proofs.market.Market.would_stay.Goals as goal
@@ -37,4 +37,4 @@ is_slack-requires-clause-listed c =
     let many = c.requires.stands.owns_are in
     let read = get_or_read c.args.self.now.owns.items c.args.person c.index-own.result.now (omega (arith, known, many)) c.index-own.ensures no_own in
     let some = λ (e : (own_at c.args.self.now.owns.items c.args.person).object ≡ NOBODY). c.if-own.false (ap (λ (s : ShortArc). s.object) read ∙ e) in
-    subst (λ (s : ShortArc). Contains (shorts_of c.args.rows.now c.args.person) s) (sym read) (c.requires.stands.slack c.args.person some).listed
+    subst (λ (s : ShortArc). Contains (flat_row_of c.args.rows.now c.args.person) s) (sym read) (c.requires.stands.slack c.args.person some).listed

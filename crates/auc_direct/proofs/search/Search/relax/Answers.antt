@@ -5,11 +5,10 @@ use Rattle.std.proofs.lemmas.List.{get_or_read}
 use Rattle.std.proofs.lemmas.List.Elements.{All-get_or, All-more, Contains-get_or}
 use Rattle.std.proofs.lemmas.Option.{slice_get-get_or}
 use Rattle.std.specs.List.{slice_get}
-use Rattle.auc_direct.specs.Market.{scale_in}
-use Rattle.auc_direct.specs.declared.arc.ShortArc.{ShortArc}
+use Rattle.auc_rows.specs.declared.arc.ShortArc.{ShortArc}
+use Rattle.auc_rows.specs.Rows.{IsShort, flat_row_of, scale_in}
 use Rattle.auc_direct.specs.declared.label.Label.{Label}
 use Rattle.auc_direct.specs.Path.{IsAsNear, blank, near_of, own_value, pays, seats}
-use Rattle.auc_direct.specs.Rows.{IsShort, shorts_of}
 use Rattle.auc_direct.specs.Scan.{no_arc}
 use Rattle.auc_direct.proofs.Labels.{all_walked, as_pays, less_pays, passed, relaxed, relaxed_grows, relaxed_here, relaxed_walked}
 use Rattle.auc_direct.proofs.search.Search.relax.Goals.{then-reached-index+in_ok-push, else-reached-index}
@@ -37,7 +36,7 @@ loop-place-preserved c =
           let closer : near_of c.loop-place.self.labels.items b.object < r = (let t = w.if-reached-index.true in omega (arith, t, same)) in
           let most = c.reach-reached.ensures.most in
           let listed = subst (λ (xs : List ShortArc). Contains xs b) c.row-row.ensures.row (Contains-get_or row at no_arc lt) in
-          let there : slice_get (shorts_of c.args.rows.now c.args.person) at ≡ Some b = subst (λ (xs : List ShortArc). slice_get xs at ≡ Some b) c.row-row.ensures.row (slice_get-get_or row at no_arc lt) in
+          let there : slice_get (flat_row_of c.args.rows.now c.args.person) at ≡ Some b = subst (λ (xs : List ShortArc). slice_get xs at ≡ Some b) c.row-row.ensures.row (slice_get-get_or row at no_arc lt) in
           let no_nearer = less_pays c.args.rows.now c.args.prices.now c.value_of_own-own.result his c.args.near b r c.scale-scale.result scale own (simp to_z-of_z at (c.reach-reached.ensures.no_nearer (omega (arith, closer)))) in
           let new : List Label = set c.loop-place.self.labels.items b.object (record { near = r; held = record { person = c.args.person; arc = at }; before = c.args.before; place = 0 }) in
           rw w.self-is (record {

@@ -1,0 +1,9 @@
+-- for use above
+pub mod ArcLaws
+-- for this crate
+mod ShortRows
+mod InOrderLaws
+mod PlacedLaws
+mod SpreadLaws
+mod FrameLaws
+mod RowLaws

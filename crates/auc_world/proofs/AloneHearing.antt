@@ -1,5 +1,5 @@
 -- The end of a round with one shard of each kind: the only shard of the persons hears, and the hub counts.
-use Rattle.std.proofs.Common.{ℕ, ◌+◌, ◌*◌, ◌<◌, ◌≡◌, refl, arith, List, [], ◌∷◌, ◌++◌, None, length, get_or, set, cond, inr, sym, ap, subst, ◌∙◌, length-set, append-nil}
+use Rattle.std.proofs.Common.{ℕ, ◌+◌, ◌*◌, ◌<◌, ◌≡◌, refl, arith, List, [], ◌∷◌, ◌++◌, None, length, get_or, set, cond, sym, ap, subst, ◌∙◌, length-set, append-nil}
 use Rattle.std.specs.Prelude.{ℤ, pos}
 use Rattle.std.proofs.lemmas.Bool.{eq-eqb, ne_eqb}
 use Rattle.auc_letters.specs.declared.letter.Letter.{Letter}
@@ -9,7 +9,7 @@ use Rattle.auc_mail.specs.declared.call.Call.{Call}
 use Rattle.auc_mail.specs.declared.call.Reply.{Reply}
 use Rattle.auc_mail.specs.declared.call.Taken.{Taken}
 use Rattle.auc_model.specs.Hearing.{FitsLetter, PersonTakeTurn, Rises, after_letter}
-use Rattle.auc_model.specs.Mails.{Takes, TakesNone}
+use Rattle.auc_model.specs.Mails.{Takes}
 use Rattle.auc_model.specs.Put.{put}
 use Rattle.auc_model.specs.Schedule.{Reached, Turned}
 use Rattle.auc_model.specs.World.{Phase, World}
@@ -18,7 +18,7 @@ use Rattle.auc_model.specs.declared.turn.TurnReply.{TurnReply}
 use Rattle.auc_model.proofs.Reached.{hears_well, kept_reached, reached_turn}
 use Rattle.auc_world.specs.declared.alone.told.Told.{Told}
 use Rattle.auc_world.specs.Alone.{Alone, AreTold, IsTold, Shows, freed_by, lane, nobody, one_box}
-use Rattle.auc_world.proofs.AloneMails.{gives_nothing, step_at, take_second}
+use Rattle.auc_world.proofs.AloneMails.{step_at, take_second}
 use Rattle.auc_world.proofs.AloneSales.{set_shows}
 
 -- what hearing comes to

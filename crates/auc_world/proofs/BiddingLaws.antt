@@ -1,7 +1,8 @@
--- What a shard of the persons has to send, and its turns.
+-- Turns by which a shard of the persons bids.
 use Rattle.std.proofs.Common.{ℕ, ◌<◌, ◌≡◌, ◌≢◌, [], ◌∷◌, true, List, drop, length, set, refl, ap, sym, subst, ◌∙◌, inr, arith}
+use Rattle.std.specs.Prelude.{All}
 use Rattle.std.proofs.lemmas.List.{set-get_or}
-use Rattle.std.proofs.lemmas.List.Elements.{All-get_or}
+use Rattle.std.proofs.lemmas.List.Elements.{All-cons, All-get_or, All-nil}
 use Rattle.auc_letters.specs.declared.letter.Letter.{Letter}
 use Rattle.auc_letters.specs.declared.letter.Why.{Why}
 use Rattle.auc_letters.specs.declared.out.Out.{Out}
@@ -16,8 +17,8 @@ use Rattle.auc_model.specs.declared.turn.TurnReply.{TurnReply}
 use Rattle.auc_model.proofs.Tables.{first_and_rest}
 use Rattle.auc_answers.specs.Shards.{IsPersonShard, no_persons}
 use Rattle.auc_answers.specs.Boxes.{Reaches}
-use Rattle.auc_world.specs.Parts.{AreParts, MayAskForBid, Parts, outbox_at, persons_at, phase, seen}
-use Rattle.auc_world.proofs.Seen.{outbox_seen, seen_bid, seen_outbox, seen_stop}
+use Rattle.auc_world.specs.Parts.{AreParts, MayAskForBid, Parts, persons_at, phase, seen}
+use Rattle.auc_world.proofs.Seen.{outbox_seen, seen_bid, seen_stop}
 
 -- the shard is as it was, and so are all parts
 pub same_persons : (p : Parts) (s : ℕ) (n : Persons) → n ≡ persons_at p s → set p.persons s n ≡ p.persons
@@ -53,21 +54,18 @@ module _ (p : Parts) (s : ℕ) (are : AreParts p) (may : MayAskForBid p s) where
   pub asks_idle : (n : Parts) → NextBid p.table p.eps (persons_at p s) Bidding.Idle (persons_at n s) → n ≡ record p { persons = set p.persons s (persons_at n s) } → BidTurn (phase p) (seen p) s TurnReply.Nothing (seen n)
   asks_idle n h e = barred (inr (inr (inr h.0))) refl (ap seen (e ∙ ap (λ (xs : List Persons). record p { persons = xs }) (same_persons p s (persons_at n s) h.1)))
 
-  pub idle_known : (n : Parts) → n ≡ record p { persons = set p.persons s (persons_at n s) } → (s < n.shards) × (outbox_at n s ≡ [])
-  idle_known n e = (subst (λ (k : ℕ). s < k) (sym (ap (λ (z : Parts). z.shards) e)) may.known, ap (λ (z : Parts). outbox_at z s) e ∙ may.empty)
-
-  pub asks_stop : (n m : Parts) (why : Why) → NextBid p.table p.eps (persons_at p s) (Bidding.Stop why) (persons_at n s) → n ≡ record p { persons = set p.persons s (persons_at n s) } → m ≡ record n { stopped = set n.stopped s true }
-      → BidTurn (phase p) (seen p) s TurnReply.Moved (with_outbox (seen m) (PersonShard s) (to_hub (Letter.Stop why) ∷ []))
-  asks_stop n m why h e1 e2 =
+  pub asks_stop : (n m : Parts) (why : Why) (v : World) → NextBid p.table p.eps (persons_at p s) (Bidding.Stop why) (persons_at n s) → n ≡ record p { persons = set p.persons s (persons_at n s) } → m ≡ record n { stopped = set n.stopped s true }
+      → v ≡ with_outbox (seen m) (PersonShard s) (to_hub (Letter.Stop why) ∷ []) → BidTurn (phase p) (seen p) s TurnReply.Moved v
+  asks_stop n m why v h e1 e2 put =
       let same : n ≡ p = e1 ∙ ap (λ (xs : List Persons). record p { persons = xs }) (same_persons p s (persons_at n s) h.2) in
       let after : m ≡ record p { stopped = set p.stopped s true } = e2 ∙ ap (λ (z : Parts). record z { stopped = set z.stopped s true }) same in
       let k = may.known in
       stops (first_idle (persons_at p s)) (drop 1 (persons_at p s).idle) why (may_bid h.0) (stops_same p s (first_idle (persons_at p s)) why h.1) refl
-      (ap (λ (w : World). with_outbox w (PersonShard s) (to_hub (Letter.Stop why) ∷ [])) (ap seen after ∙ seen_stop p s (omega (arith, are.stopped_are))))
+      (put ∙ ap (λ (w : World). with_outbox w (PersonShard s) (to_hub (Letter.Stop why) ∷ [])) (ap seen after ∙ seen_stop p s (omega (arith, are.stopped_are))))
 
-  pub asks_bid : (n : Parts) (out : Out) → NextBid p.table p.eps (persons_at p s) (Bidding.Out out) (persons_at n s) → n ≡ record p { persons = set p.persons s (persons_at n s) }
-      → BidTurn (phase p) (seen p) s TurnReply.Moved (with_outbox (seen n) (PersonShard s) (out ∷ []))
-  asks_bid n out h e =
+  pub asks_bid : (n : Parts) (out : Out) (v : World) → NextBid p.table p.eps (persons_at p s) (Bidding.Out out) (persons_at n s) → n ≡ record p { persons = set p.persons s (persons_at n s) }
+      → v ≡ with_outbox (seen n) (PersonShard s) (out ∷ []) → BidTurn (phase p) (seen p) s TurnReply.Moved v
+  asks_bid n out v h e put =
       let x = persons_at p s in
       let i = first_idle x in
       let arc = h.2.0 in
@@ -75,22 +73,15 @@ module _ (p : Parts) (s : ℕ) (are : AreParts p) (may : MayAskForBid p s) where
       let letter : out ≡ bid_out p.shards (bid_of i arc.arc arc.object amount) = h.2.4 ∙ ap (λ (n : ℕ). to_object n arc.object (Letter.Bid i arc.arc arc.object amount)) is.object_shards in
       let after : n ≡ record p { persons = set p.persons s (after_bid x i arc.object) } = e ∙ ap (λ (y : Persons). record p { persons = set p.persons s y }) h.2.5 in
       bids i (drop 1 x.idle) arc amount (may_bid h.0) h.1 h.2.2 h.2.3 refl
-      (ap (λ (o : Out). with_outbox (seen n) (PersonShard s) (o ∷ [])) letter ∙ ap (λ (w : World). with_outbox w (PersonShard s) (bid_out p.shards (bid_of i arc.arc arc.object amount) ∷ [])) (ap seen after ∙ seen_bid p s there is i arc.object (owns_first h.0)))
+      (put ∙ (ap (λ (o : Out). with_outbox (seen n) (PersonShard s) (o ∷ [])) letter ∙ ap (λ (w : World). with_outbox w (PersonShard s) (bid_out p.shards (bid_of i arc.arc arc.object amount) ∷ [])) (ap seen after ∙ seen_bid p s there is i arc.object (owns_first h.0))))
 
-  pub bid_known : (n : Parts) (out : Out) → NextBid p.table p.eps (persons_at p s) (Bidding.Out out) (persons_at n s) → n ≡ record p { persons = set p.persons s (persons_at n s) } → (s < n.shards) × (outbox_at n s ≡ []) × Reaches n.shards out
+  pub bid_known : (n : Parts) (out : Out) → NextBid p.table p.eps (persons_at p s) (Bidding.Out out) (persons_at n s) → n ≡ record p { persons = set p.persons s (persons_at n s) } → (s < n.shards) × All (Reaches n.shards) (out ∷ [])
   bid_known n out h e =
       let some = are.some in
       let shards : n.shards ≡ p.shards = ap (λ (z : Parts). z.shards) e in
       let letter : out ≡ to_object p.shards h.2.0.object (Letter.Bid (first_idle (persons_at p s)) h.2.0.arc h.2.0.object h.2.1) = h.2.4 ∙ ap (λ (n : ℕ). to_object n h.2.0.object (Letter.Bid (first_idle (persons_at p s)) h.2.0.arc h.2.0.object h.2.1)) is.object_shards in
-      (rw shards may.known, ap (λ (z : Parts). outbox_at z s) e ∙ may.empty, rw (shards, letter) (omega arith))
+      let reach : Reaches n.shards out = rw (shards, letter) (omega arith) in
+      (rw shards may.known, All-cons (Reaches n.shards) out [] reach (All-nil (Reaches n.shards)))
 
-  pub stop_known : (n m : Parts) (why : Why) → n ≡ record p { persons = set p.persons s (persons_at n s) } → m ≡ record n { stopped = set n.stopped s true } → (s < m.shards) × (outbox_at m s ≡ []) × Reaches m.shards (to_hub (Letter.Stop why))
-  stop_known n m why e1 e2 =
-      let here = idle_known n e1 in
-      (subst (λ (k : ℕ). s < k) (sym (ap (λ (z : Parts). z.shards) e2)) here.0, ap (λ (z : Parts). outbox_at z s) e2 ∙ here.1, omega arith)
-
--- the letter is put into the outbox
-pub bid_put : (p n v : Parts) (s : ℕ) (o : Out) → AreParts n → s < n.shards → BidTurn (phase p) (seen p) s TurnReply.Moved (with_outbox (seen n) (PersonShard s) (o ∷ [])) → v ≡ record n { outboxes = set n.outboxes s (o ∷ []) }
-    → BidTurn (phase p) (seen p) s TurnReply.Moved (seen v)
-bid_put p n v s o are known turn e =
-    subst (λ (w : World). BidTurn (phase p) (seen p) s TurnReply.Moved w) (sym (ap seen e ∙ seen_outbox n (o ∷ []) (PersonShard s) known are.outboxes_are)) turn
+  pub stop_known : (n m : Parts) → n ≡ record p { persons = set p.persons s (persons_at n s) } → m ≡ record n { stopped = set n.stopped s true } → s < m.shards
+  stop_known n m e1 e2 = subst (λ (k : ℕ). s < k) (sym (ap (λ (z : Parts). z.shards) e2 ∙ ap (λ (z : Parts). z.shards) e1)) may.known

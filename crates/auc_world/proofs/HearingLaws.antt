@@ -14,10 +14,10 @@ use Rattle.auc_model.specs.declared.turn.TurnReply.{TurnReply}
 use Rattle.auc_answers.specs.Reasons.{reason_for}
 use Rattle.auc_answers.specs.Hub.{ending}
 use Rattle.auc_answers.specs.Shards.{IsPersonShard, no_persons}
-use Rattle.auc_world.specs.Mails.{TakesOne}
+use Rattle.auc_world.specs.Mails.{Letters, TakesOne}
 use Rattle.auc_world.specs.Parts.{AreParts, Parts, persons_at, phase, seen}
 use Rattle.auc_world.proofs.BiddingLaws.{same_persons}
-use Rattle.auc_world.proofs.Seen.{own_number, seen_freed, seen_held, seen_price}
+use Rattle.auc_world.proofs.Seen.{letters_of, own_number, seen_freed, seen_held, seen_price, with_letters, with_mails}
 
 module _ (p : Parts) (s : ℕ) (there : s < length p.persons) (is : IsPersonShard p.table p.shards s (persons_at p s)) where
   -- an answer fits the shard where it fits the world
@@ -94,7 +94,16 @@ module _ (p : Parts) (s : ℕ) (are : AreParts p) (known : s < p.shards) where
   there_too : s < length p.persons
   there_too = omega (arith, are.persons_are)
 
-  module _ (t v : Parts) (l : Letter) (m : Mail Letter) (takes : TakesOne p.mails.persons s l m) (e1 : t ≡ record p { mails = record p.mails { persons = m } }) where
+  module _ (after : Letters) (v : Parts) (l : Letter) (takes : TakesOne p.mails.persons s l after.mails.persons) (rest : after ≡ record (letters_of p) { mails = record p.mails { persons = after.mails.persons } }) where
+    abbrev m : Mail Letter
+    m = after.mails.persons
+
+    abbrev t : Parts
+    t = with_letters p after
+
+    e1 : t ≡ record p { mails = record p.mails { persons = m } }
+    e1 = with_mails p after (record p.mails { persons = m }) rest
+
     pub letter_heard : (u : Unit {0}) → OnLetter (persons_at t s) l (Ok u) (persons_at v s) → v ≡ record t { persons = set t.persons s (persons_at v s) } → PersonTakeTurn (phase p) (seen p) s TurnReply.Moved (seen v)
     letter_heard u h e2 =
         let n = persons_at v s in

@@ -1,18 +1,17 @@
 -- Turns of the hub.
-use Rattle.std.proofs.Common.{ℕ, ◌≡◌, ◌≢◌, Bool, true, false, length, refl, ap, ◌∙◌}
+use Rattle.std.proofs.Common.{ℕ, ◌≡◌, ◌≢◌, Bool, true, false, length, refl, ap, sym, subst, ◌∙◌}
 use Rattle.std.specs.Prelude.{if◌then◌else◌, nat_lt, None}
 use Rattle.auc_letters.specs.declared.letter.Letter.{Letter}
-use Rattle.auc_mail.specs.Mail.{Mail}
 use Rattle.auc_mail.specs.Step.{Step}
 use Rattle.auc_mail.specs.declared.call.Call.{Call}
 use Rattle.auc_mail.specs.declared.call.Reply.{Reply}
 use Rattle.auc_model.specs.Hub.{HubCloseTurn, HubTakeTurn, closes, counted, hub_after, takes}
-use Rattle.auc_model.specs.Mails.{mail_named}
 use Rattle.auc_model.specs.declared.turn.MailName.{MailName}
 use Rattle.auc_model.specs.declared.turn.TurnReply.{TurnReply}
 use Rattle.auc_answers.specs.Hub.{Counting, counting, hearing}
-use Rattle.auc_world.specs.Mails.{TakesOne, named, with_named}
+use Rattle.auc_world.specs.Mails.{Letters, TakesOne, named, with_named}
 use Rattle.auc_world.specs.Parts.{IsOpenBox, Parts, phase, seen}
+use Rattle.auc_world.proofs.Seen.{letters_of, with_letters}
 
 seen_if : (p : Parts) (b : Bool) (x y : Counting) → seen (record p { hub = if b then x else y }) ≡ (if b then seen (record p { hub = x }) else seen (record p { hub = y }))
 seen_if p true x y = refl
@@ -31,18 +30,22 @@ heard_seen p (Letter.Refused i j q) = refl
 heard_seen p (Letter.Outbid i j q) = refl
 heard_seen p (Letter.Price j q) = refl
 
-pub hub_heard : (p t v : Parts) (l : Letter) (m : Mail Letter) → t ≡ record p { mails = record p.mails { hub = m } } → TakesOne p.mails.hub 0 l m → v ≡ record t { hub = hearing (length t.table.rows) l t.hub } → HubTakeTurn (phase p) (seen p) TurnReply.Moved (seen v)
-hub_heard p t v l m e1 took e2 =
-    takes took.0 took.1 l m took.2 refl
-    (ap seen (e2 ∙ ap (λ (z : Parts). record z { hub = hearing (length z.table.rows) l z.hub }) e1) ∙ heard_seen (record p { mails = record p.mails { hub = m } }) l)
+pub hub_heard : (q p : Parts) → p ≡ q → (l : Letter) (s : Letters) (after : Counting) → TakesOne p.mails.hub 0 l s.mails.hub → s ≡ record (letters_of p) { mails = record p.mails { hub = s.mails.hub } } → after ≡ hearing (length p.table.rows) l p.hub
+    → HubTakeTurn (phase q) (seen q) TurnReply.Moved (seen (record (with_letters p s) { hub = after }))
+hub_heard q p same l s after took rest heard =
+    subst (λ (z : Parts). HubTakeTurn (phase z) (seen z) TurnReply.Moved (seen (record (with_letters p s) { hub = after }))) same
+    (takes took.0 took.1 l s.mails.hub took.2 refl
+    (ap (λ (h : Counting). seen (record (with_letters p s) { hub = h })) heard
+    ∙ (ap (λ (k : Letters). seen (record (with_letters p k) { hub = hearing (length p.table.rows) l p.hub })) rest ∙ heard_seen (record p { mails = record p.mails { hub = s.mails.hub } }) l)))
 
-pub mail_by_name : (p : Parts) (name : MailName) → mail_named (seen p) name ≡ named p.mails name
-mail_by_name p MailName.Objects = refl
-mail_by_name p MailName.Persons = refl
-mail_by_name p MailName.Hub = refl
+closed_by_name : (p : Parts) (l : Letters) (name : MailName) (at : ℕ) → (seen p).end ≢ None → IsOpenBox (named p.mails name) at → Step (named p.mails name) (Call.Close at) (Reply.WasOpen true) (named l.mails name)
+    → l ≡ record (letters_of p) { mails = with_named p.mails name (named l.mails name) } → HubCloseTurn (seen p) name at TurnReply.Moved (seen (with_letters p l))
+closed_by_name p l MailName.Objects at ends box step e = closes l.mails.objects box.known ends step refl (ap (λ (k : Letters). seen (with_letters p k)) e)
+closed_by_name p l MailName.Persons at ends box step e = closes l.mails.persons box.known ends step refl (ap (λ (k : Letters). seen (with_letters p k)) e)
+closed_by_name p l MailName.Hub at ends box step e = closes l.mails.hub box.known ends step refl (ap (λ (k : Letters). seen (with_letters p k)) e)
 
-pub box_closed : (p v : Parts) (name : MailName) (at : ℕ) → (seen p).end ≢ None → IsOpenBox (named p.mails name) at → Step (named p.mails name) (Call.Close at) (Reply.WasOpen true) (named v.mails name)
-    → v ≡ record p { mails = with_named p.mails name (named v.mails name) } → HubCloseTurn (seen p) name at TurnReply.Moved (seen v)
-box_closed p v MailName.Objects at ends box step e = closes v.mails.objects box.known ends step refl (ap seen e)
-box_closed p v MailName.Persons at ends box step e = closes v.mails.persons box.known ends step refl (ap seen e)
-box_closed p v MailName.Hub at ends box step e = closes v.mails.hub box.known ends step refl (ap seen e)
+pub box_closed : (q p : Parts) → p ≡ q → (l : Letters) (name : MailName) (at : ℕ) → (seen q).end ≢ None → IsOpenBox (named q.mails name) at → Step (named p.mails name) (Call.Close at) (Reply.WasOpen true) (named l.mails name)
+    → l ≡ record (letters_of p) { mails = with_named p.mails name (named l.mails name) } → HubCloseTurn (seen q) name at TurnReply.Moved (seen (with_letters p l))
+box_closed q p same l name at ends box step e =
+    subst (λ (z : Parts). HubCloseTurn (seen z) name at TurnReply.Moved (seen (with_letters p l))) same
+    (closed_by_name p l name at (subst (λ (z : Parts). (seen z).end ≢ None) (sym same) ends) (subst (λ (z : Parts). IsOpenBox (named z.mails name) at) (sym same) box) step e)

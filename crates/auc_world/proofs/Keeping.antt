@@ -1,6 +1,6 @@
 -- What holds of each world holds still when a shard, an outbox or a mail is another.
-use Rattle.std.proofs.Common.{ℕ, ◌*◌, ◌<◌, ◌≡◌, List, [], ◌∷◌, drop, length, get_or, set, inl, inr, ap, subst, ◌∙◌, arith, length-set}
-use Rattle.std.specs.Prelude.{IfSome, ℤ, Option, Some, None, All, Result}
+use Rattle.std.proofs.Common.{ℕ, ◌*◌, ◌<◌, ◌≡◌, List, [], length, get_or, set, inl, inr, ap, ◌∙◌, arith, length-set}
+use Rattle.std.specs.Prelude.{ℤ, All, Result}
 use Rattle.std.proofs.lemmas.Bool.{cases_eq}
 use Rattle.std.proofs.lemmas.List.{get_or-set_same, get_or-set_other}
 use Rattle.auc_letters.specs.declared.letter.Letter.{Letter}
@@ -20,8 +20,7 @@ use Rattle.auc_model.specs.declared.turn.MailName.{MailName}
 use Rattle.auc_answers.specs.Boxes.{Reaches, boxes_in}
 use Rattle.auc_answers.specs.Shards.{IsObjectShard, IsPersonShard, no_objects, no_persons}
 use Rattle.auc_answers.proofs.ShardLaws.{answers_reach, hears_own, next_bid_own, objects_shape, persons_shape}
-use Rattle.auc_world.specs.declared.mails.Mails.{Mails}
-use Rattle.auc_world.specs.Mails.{named, with_named}
+use Rattle.auc_world.specs.Mails.{Mails, named, with_named}
 use Rattle.auc_world.specs.Parts.{AreMails, AreParts, IsMail, Parts, objects_at, persons_at}
 
 -- a fact about each element stays where it holds of the new one
@@ -137,8 +136,3 @@ module _ (p : Parts) (are : AreParts p) where
     each_outbox = are.each_outbox;
     mails_are = mails_step p.shards p.mails name m c r step are.mails_are;
   }
-
--- the first letter of an outbox goes to a box that is there
-pub first_reaches : (r : Option Out) (os : List Out) (n : ℕ) → All (Reaches n) os → IfSome r (λ o. os ≡ o ∷ drop 1 os) → IfSome r (Reaches n)
-first_reaches None os n reach h = tt
-first_reaches (Some o) os n reach h = (subst (λ (xs : List Out). All (Reaches n) xs) h reach) 0 o (omega arith)

@@ -15,7 +15,20 @@ use Rattle.auc_model.proofs.Places.{put_at, put_off}
 use Rattle.auc_model.specs.Hearing as hearing
 use Rattle.auc_model.proofs.Dealt.{shards_set, shards_same, both_set, both_same, numbers_set, numbers_same}
 use Rattle.auc_answers.specs.Shards.{IsPersonShard, no_objects, no_persons}
+use Rattle.auc_world.specs.Mails.{Letters, Mails}
 use Rattle.auc_world.specs.Parts.{Parts, objects_at, outbox_at, persons_at, phase, seen}
+
+-- the letters of a world
+abbrev pub letters_of : Parts → Letters
+letters_of p = record { outboxes = p.outboxes; mails = p.mails }
+
+-- other letters in their place
+abbrev pub with_letters : Parts → Letters → Parts
+with_letters p l = record p { outboxes = l.outboxes; mails = l.mails }
+
+-- the mails alone are others
+pub with_mails : (p : Parts) (l : Letters) (s : Mails) → l ≡ record (letters_of p) { mails = s } → with_letters p l ≡ record p { mails = s }
+with_mails p l s e = ap (λ (k : Letters). with_letters p k) e
 
 -- a test of the order
 inside : {X : Type 0} (k n : ℕ) (x y : X) → k < n → (if nat_lt k n then x else y) ≡ x

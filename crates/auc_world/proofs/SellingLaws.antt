@@ -1,5 +1,5 @@
--- What a shard of the objects has done with a letter, its turns, and the prices that it tells.
-use Rattle.std.proofs.Common.{ℕ, ◌+◌, ◌%◌, ◌<◌, ◌≡◌, List, [], ◌∷◌, length, get_or, set, refl, ap, sym, ◌∙◌, subst, inr, arith}
+-- Turns by which a shard of the objects takes a bid or tells a price.
+use Rattle.std.proofs.Common.{ℕ, ◌%◌, ◌<◌, ◌≡◌, List, [], ◌∷◌, length, get_or, set, refl, ap, sym, ◌∙◌, subst, arith}
 use Rattle.std.specs.Prelude.{All, ℤ}
 use Rattle.auc_letters.specs.declared.letter.Letter.{Letter}
 use Rattle.auc_letters.specs.declared.letter.Why.{Why}
@@ -9,8 +9,8 @@ use Rattle.auc_letters.specs.Award.{Sale, answers, award, bid_letter, bid_of}
 use Rattle.auc_letters.specs.Routing.{price_told}
 use Rattle.auc_mail.specs.Mail.{Mail}
 use Rattle.auc_objects.specs.Objects.{IsBidIn, Objects, after_bid, price_of, sale_of}
-use Rattle.auc_model.specs.Mails.{ObjectShard, TakesNone, with_outbox}
-use Rattle.auc_model.specs.Selling.{FitsBid, ObjectTakeTurn, TellTurn, answers_bid, no_letter, strays, tells, sale_of as known_of}
+use Rattle.auc_model.specs.Mails.{ObjectShard, with_outbox}
+use Rattle.auc_model.specs.Selling.{FitsBid, ObjectTakeTurn, TellTurn, answers_bid, strays, tells, sale_of as known_of}
 use Rattle.auc_model.specs.Put.{put}
 use Rattle.auc_model.specs.World.{World}
 use Rattle.auc_model.specs.declared.turn.End.{End}
@@ -18,9 +18,9 @@ use Rattle.auc_model.specs.declared.turn.TurnReply.{TurnReply}
 use Rattle.auc_answers.specs.Hub.{ending}
 use Rattle.auc_answers.specs.Shards.{IsObjectShard, no_objects}
 use Rattle.auc_answers.specs.Boxes.{Reaches}
-use Rattle.auc_world.specs.Mails.{TakesOne}
-use Rattle.auc_world.specs.Parts.{AreParts, MayAnswer, OwnsObject, Parts, objects_at, outbox_at, phase, seen}
-use Rattle.auc_world.proofs.Seen.{seen_outbox, seen_sold}
+use Rattle.auc_world.specs.Mails.{Letters, TakesOne}
+use Rattle.auc_world.specs.Parts.{AreParts, MayAnswer, OwnsObject, Parts, objects_at, phase, seen}
+use Rattle.auc_world.proofs.Seen.{letters_of, seen_sold, with_letters, with_mails}
 
 -- a letter that is no bid of the shard's fits it in no way
 module _ (p : Parts) (q : ℕ) (are : AreParts p) (known : q < p.shards) where
@@ -42,10 +42,6 @@ module _ (p : Parts) (q : ℕ) (are : AreParts p) (known : q < p.shards) where
   unfit (Letter.First j) none f = f
   unfit (Letter.Stop y) none f = f
 
--- letters are put into the outbox of a shard of the objects
-pub put_seen : (n v : Parts) (q : ℕ) (os : List Out) → AreParts n → q < n.shards → v ≡ record n { outboxes = set n.outboxes (n.shards + q) os } → seen v ≡ with_outbox (seen n) (ObjectShard q) os
-put_seen n v q os are known e = ap seen e ∙ seen_outbox n os (ObjectShard q) known are.outboxes_are
-
 module _ (p : Parts) (q : ℕ) (are : AreParts p) (may : MayAnswer p q) where
   there : q < length p.objects
   there = let k = may.known in omega (arith, are.objects_are)
@@ -56,26 +52,29 @@ module _ (p : Parts) (q : ℕ) (are : AreParts p) (may : MayAnswer p q) where
   price_here : (j : ℕ) → j % p.shards ≡ q → (seen p).price j ≡ price_of (objects_at p q) j
   price_here j own = ap (λ (n : ℕ). price_of (get_or p.objects n no_objects) j) own
 
-  pub price_told_out : (j s : ℕ) (v : Parts) (out : Out) → s < p.shards → OwnsObject p q j → out ≡ price_told (length p.table.rows) s j (price_of (objects_at p q) j)
-      → v ≡ record p { outboxes = set p.outboxes (p.shards + q) (out ∷ []) } → TellTurn (phase p) (seen p) q j s TurnReply.Moved (seen v)
+  pub price_told_out : (j s : ℕ) (v : World) (out : Out) → s < p.shards → OwnsObject p q j → out ≡ price_told (length p.table.rows) s j (price_of (objects_at p q) j)
+      → v ≡ with_outbox (seen p) (ObjectShard q) (out ∷ []) → TellTurn (phase p) (seen p) q j s TurnReply.Moved v
   price_told_out j s v out to owns letter e =
       let same : out ≡ price_told (length p.table.rows) s j ((seen p).price j) = letter ∙ ap (λ (z : ℤ). price_told (length p.table.rows) s j z) (sym (price_here j owns.own)) in
       tells may.known to owns.known owns.own may.empty refl
-      (put_seen p v q (out ∷ []) are may.known e ∙ ap (λ (o : Out). with_outbox (seen p) (ObjectShard q) (o ∷ [])) same)
+      (e ∙ ap (λ (o : Out). with_outbox (seen p) (ObjectShard q) (o ∷ [])) same)
 
-  pub none_dealt : (n : Parts) → TakesNone p.mails.objects q → n ≡ p → ObjectTakeTurn (phase p) (seen p) q TurnReply.Nothing (seen n)
-  none_dealt n none e = no_letter (inr (inr none)) refl (ap seen e)
+  module _ (after : Letters) (l : Letter) (takes : TakesOne p.mails.objects q l after.mails.objects) (rest : after ≡ record (letters_of p) { mails = record p.mails { objects = after.mails.objects } }) where
+    abbrev m : Mail Letter
+    m = after.mails.objects
 
-  module _ (t : Parts) (l : Letter) (m : Mail Letter) (takes : TakesOne p.mails.objects q l m) (e1 : t ≡ record p { mails = record p.mails { objects = m } }) where
+    abbrev t : Parts
+    t = with_letters p after
+
+    e1 : t ≡ record p { mails = record p.mails { objects = m } }
+    e1 = with_mails p after (record p.mails { objects = m }) rest
+
     pub stray_dealt : (v : Parts) → (FitsBid (phase t) q l → ⊥) → v ≡ record t { hub = ending t.hub (End.Stopped Why.Stray) } → ObjectTakeTurn (phase p) (seen p) q TurnReply.Moved (seen v)
     stray_dealt v unfit e2 =
         strays takes.0 takes.1 l m may.known may.empty takes.2 (subst (λ (z : Parts). FitsBid (phase z) q l → ⊥) e1 unfit) refl
         (ap seen (e2 ∙ ap (λ (z : Parts). record z { hub = ending z.hub (End.Stopped Why.Stray) }) e1))
 
-    pub stray_empty : (v : Parts) → v ≡ record t { hub = ending t.hub (End.Stopped Why.Stray) } → outbox_at v (v.shards + q) ≡ []
-    stray_empty v e2 = ap (λ (z : Parts). outbox_at z (z.shards + q)) (e2 ∙ ap (λ (z : Parts). record z { hub = ending z.hub (End.Stopped Why.Stray) }) e1) ∙ may.empty
-
-    module _ (u : Parts) (letters : List Out) (bid : Bid) (fits : IsBidIn (objects_at t q) l bid) (after : objects_at u q ≡ after_bid (objects_at t q) t.eps bid) (answered : letters ≡ answers t.shards t.eps (sale_of (objects_at t q) bid.object) bid)
+    module _ (u : Parts) (letters : List Out) (bid : Bid) (fits : IsBidIn (objects_at t q) l bid) (awarded : objects_at u q ≡ after_bid (objects_at t q) t.eps bid) (answered : letters ≡ answers t.shards t.eps (sale_of (objects_at t q) bid.object) bid)
         (e2 : u ≡ record t { objects = set t.objects q (objects_at u q) }) where
       offer : IsBidIn (objects_at p q) l bid
       offer = subst (λ (z : Parts). IsBidIn (objects_at z q) l bid) e1 fits
@@ -97,28 +96,23 @@ module _ (p : Parts) (q : ℕ) (are : AreParts p) (may : MayAnswer p q) where
       seen_after =
           let x : Objects = after_bid (objects_at p q) p.eps bid in
           let known = offer.owns.known in
-          let same : u ≡ record p { mails = record p.mails { objects = m }; objects = set p.objects q x } = e2 ∙ (ap (λ (y : Objects). record t { objects = set t.objects q y }) after ∙ ap (λ (z : Parts). record z { objects = set z.objects q (after_bid (objects_at z q) z.eps bid) }) e1) in
+          let same : u ≡ record p { mails = record p.mails { objects = m }; objects = set p.objects q x } = e2 ∙ (ap (λ (y : Objects). record t { objects = set t.objects q y }) awarded ∙ ap (λ (z : Parts). record z { objects = set z.objects q (after_bid (objects_at z q) z.eps bid) }) e1) in
           ap seen same ∙ seen_sold (record p { mails = record p.mails { objects = m } }) q bid.object (award p.eps sale bid) there own known (omega (arith, is.objects, is.holders, known))
 
       letters_are : letters ≡ answers p.shards p.eps sale bid
       letters_are = answered ∙ ap (λ (z : Parts). answers z.shards z.eps (sale_of (objects_at z q) bid.object) bid) e1
 
-      pub bid_dealt : ObjectTakeTurn (phase p) (seen p) q TurnReply.Moved (with_outbox (seen u) (ObjectShard q) letters)
-      bid_dealt =
+      pub bid_dealt : (v : World) → v ≡ with_outbox (seen u) (ObjectShard q) letters → ObjectTakeTurn (phase p) (seen p) q TurnReply.Moved v
+      bid_dealt v put =
           let takes_bid : TakesOne p.mails.objects q (bid_letter bid) m = subst (λ (x : Letter). TakesOne p.mails.objects q x m) offer.letter_is takes in
           answers_bid takes_bid.0 takes_bid.1 bid m may.known may.empty takes_bid.2 (subst (λ (n : ℕ). bid.object < n) is.objects offer.owns.known, own, offer.amount) refl
-          (ap (λ (os : List Out). with_outbox (seen u) (ObjectShard q) os) letters_are
-          ∙ (ap (λ (w : World). with_outbox w (ObjectShard q) (answers p.shards p.eps sale bid)) seen_after ∙ ap (λ (s : Sale). with_outbox (now_known (award p.eps s bid)) (ObjectShard q) (answers p.shards p.eps s bid)) sale_is))
+          (put
+          ∙ (ap (λ (os : List Out). with_outbox (seen u) (ObjectShard q) os) letters_are
+          ∙ (ap (λ (w : World). with_outbox w (ObjectShard q) (answers p.shards p.eps sale bid)) seen_after ∙ ap (λ (s : Sale). with_outbox (now_known (award p.eps s bid)) (ObjectShard q) (answers p.shards p.eps s bid)) sale_is)))
 
-      pub bid_known : All (Reaches t.shards) letters → (q < u.shards) × (outbox_at u (u.shards + q) ≡ []) × All (Reaches u.shards) letters
+      pub bid_known : All (Reaches t.shards) letters → (q < u.shards) × All (Reaches u.shards) letters
       bid_known reach =
           let same : u ≡ record p { mails = record p.mails { objects = m }; objects = set p.objects q (objects_at u q) } = e2 ∙ ap (λ (z : Parts). record z { objects = set z.objects q (objects_at u q) }) e1 in (
             subst (λ (n : ℕ). q < n) (sym (ap (λ (z : Parts). z.shards) same)) may.known,
-            ap (λ (z : Parts). outbox_at z (z.shards + q)) same ∙ may.empty,
             subst (λ (n : ℕ). All (Reaches n) letters) (sym (ap (λ (z : Parts). z.shards) e2)) reach,
           )
-
--- the answers are put into the outbox
-pub answers_put : (p n v : Parts) (q : ℕ) (os : List Out) → AreParts n → q < n.shards → ObjectTakeTurn (phase p) (seen p) q TurnReply.Moved (with_outbox (seen n) (ObjectShard q) os) → v ≡ record n { outboxes = set n.outboxes (n.shards + q) os }
-    → ObjectTakeTurn (phase p) (seen p) q TurnReply.Moved (seen v)
-answers_put p n v q os are known turn e = subst (λ (w : World). ObjectTakeTurn (phase p) (seen p) q TurnReply.Moved w) (sym (put_seen n v q os are known e)) turn

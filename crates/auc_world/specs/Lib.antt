@@ -6,8 +6,6 @@ pub mod Phases
 pub mod Chain
 pub mod Mails
 pub mod Posting
-pub mod Bidding
-pub mod Selling
 pub mod Lists
 pub mod Alone
 pub mod Lots

@@ -1,10 +1,16 @@
--- The three mails of a world, by name and by where a letter goes.
-use Rattle.std.specs.Prelude.{ℕ}
+-- The three mails of a world, and the letters that wait there and in the outboxes.
+use Rattle.std.specs.Prelude.{ℕ, List, [], slice_index_or}
 use Rattle.auc_mail.specs.Mail.{Mail}
 use Rattle.auc_letters.specs.declared.letter.Letter.{Letter}
+use Rattle.auc_letters.specs.declared.out.Out.{Out}
 use Rattle.auc_model.specs.declared.turn.MailName.{MailName}
 use Rattle.auc_model.specs.Mails.{Takes}
-use Rattle.auc_world.specs.declared.mails.Mails.{Mails}
+
+-- bids to the shards of the objects, answers to those of the persons, and letters to the hub
+pub record Mails : Type 0 where
+  pub objects : Mail Letter
+  pub persons : Mail Letter
+  pub hub : Mail Letter
 
 -- the mail of that name
 abbrev pub named : Mails → MailName → Mail Letter
@@ -21,3 +27,12 @@ with_named m MailName.Hub x = record m { hub = x }
 -- a take from box b gives the letter l of some sender, and leaves n
 abbrev pub TakesOne : Mail Letter → ℕ → Letter → Mail Letter → Type 0
 TakesOne m b l n = (x : ℕ) × (k : ℕ) × Takes m b x k l n
+
+-- what a post office has: the outbox of each sender, the next letter first, and the three mails
+pub record Letters : Type 0 where
+  pub outboxes : List (List Out)
+  pub mails : Mails
+
+-- what a sender has still to post
+abbrev pub outbox_of : Letters → ℕ → List Out
+outbox_of p x = slice_index_or p.outboxes x []

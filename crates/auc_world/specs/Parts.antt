@@ -12,7 +12,7 @@ use Rattle.auc_model.specs.Mails.{Shard}
 use Rattle.auc_answers.specs.Hub.{Counting}
 use Rattle.auc_answers.specs.Boxes.{Reaches}
 use Rattle.auc_answers.specs.Shards.{IsObjectShard, IsPersonShard, no_objects, no_persons}
-use Rattle.auc_world.specs.declared.mails.Mails.{Mails}
+use Rattle.auc_world.specs.Mails.{Mails}
 
 -- The rows of the problem, how many shards there are of each kind, and eps; the shards; the outboxes of the shards of the
 -- persons, and after them those of the shards of the objects; which shards of the persons have made a Stop; the three mails;

@@ -1,4 +1,4 @@
-//! The serial solver, and the world of one phase that it plays: shards of persons and of objects, their outboxes, three mails and a
+//! The serial solver, and the world of one phase that it plays: shards of persons and of objects, a post office for their letters, and a
 //! hub.
 //!
 //! [`solve_serial`] answers a least-cost assignment, or persons who together know too few objects: a certificate in which the
@@ -8,10 +8,9 @@
 
 mod alone;
 pub mod laws;
-mod mails;
 mod making;
-mod outbox;
 mod playing;
+mod post_office;
 mod solving;
 mod world;
 

@@ -1,13 +1,10 @@
 //! The lists of a new world.
 
-ghost use Rattle.std.specs.Prelude.{ℕ, ℤ, List, ◌≡◌, ◌<◌, ◌≤◌, ◌+◌, ◌*◌, [], length, All, slice_index_or, IfOk};
-ghost use Rattle.auc_graph.specs.Table.{IsTable};
+ghost use Rattle.std.specs.Prelude.{ℕ, ℤ, List, ◌≡◌, ◌<◌, length, All, slice_index_or, IfOk};
 ghost use Rattle.auc_letters.specs.Price.{IsPrice};
 ghost use Rattle.auc_answers.specs.Shards.{new_objects, new_persons, no_objects, no_persons};
-ghost use Rattle.auc_answers.specs.Limits.{nodes_or};
 ghost use Rattle.auc_world.specs.Lists.{MayKeep};
 
-use crate::outbox::Outbox;
 use auc_graph::Rows;
 use auc_objects::ObjectShard;
 use auc_persons::{Bidder, PersonShard};
@@ -69,18 +66,6 @@ pub(crate) fn new_object_shards(
     for shard in 0..shards {
         let one = ObjectShard::make(alloc, shard, shards, shards, persons, prices)?;
         made.push(one)?;
-    }
-    Ok(made)
-}
-
-/// Empty outboxes, so many.
-pub(crate) fn new_outboxes(alloc: Global, count: u32) -> Result<Vec<Outbox>, AllocError>
-    ensures many { IfOk result (λ v. length v.items ≡ count) }
-    ensures each { IfOk result (λ v. All (λ x. x ≡ []) v.items) }
-{
-    let mut made = Vec::with_capacity(alloc, count as usize)?;
-    for _outbox in 0..count {
-        made.push(Outbox::new())?;
     }
     Ok(made)
 }

@@ -1,17 +1,14 @@
-//! The world of one phase: its shards, their outboxes, the three mails and the hub.
+//! The world of one phase: its shards, the post office for their letters, and the hub.
 
-ghost use Rattle.std.specs.Prelude.{ℕ, ◌≡◌, ◌<◌, pos, slice_index_or, IfSome, IfNone, IfOk, IsTrue, ◌↔◌};
+ghost use Rattle.std.specs.Prelude.{ℕ, ◌≡◌, ◌<◌, pos, slice_index_or, IfOk, IsTrue, ◌↔◌};
 ghost use Rattle.auc_graph.specs.Table.{IsTable};
 ghost use Rattle.auc_letters.specs.Price.{IsEps, IsPrice};
-ghost use Rattle.auc_model.specs.Mails.{TakesNone};
 ghost use Rattle.auc_model.specs.Schedule.{Reached};
 ghost use Rattle.auc_model.specs.Start.{Lawful, Starts, UsualNodes};
 ghost use Rattle.auc_model.specs.World.{phase_of};
 ghost use Rattle.auc_answers.specs.Hub.{ending};
-ghost use Rattle.auc_answers.specs.Boxes.{boxes_in};
 ghost use Rattle.auc_answers.specs.Limits.{AreLimits};
 ghost use Rattle.auc_answers.specs.Begins.{ArePrices};
-ghost use Rattle.auc_world.specs.Mails.{TakesOne, named, with_named};
 ghost use Rattle.auc_world.specs.Lists.{AreKept, MayKeep};
 ghost use Rattle.auc_world.specs.Making.{IsMade};
 ghost use Rattle.auc_world.specs.Parts.{AreParts, OwnsObject, phase, seen};
@@ -25,19 +22,18 @@ mod rounds;
 mod selling;
 mod turns;
 
-use crate::mails::{Mails, new_mail};
-use crate::making::{new_bidders, new_object_shards, new_outboxes, new_person_shards};
-use crate::outbox::Outbox;
-use auc_answers::{Hub, Limits, nodes_or};
+use crate::making::{new_bidders, new_object_shards, new_person_shards};
+use crate::post_office::PostOffice;
+use auc_answers::{Hub, Limits};
 use auc_graph::Rows;
-use auc_letters::{Held, Letter, shard_of};
-use auc_model::{End, MailName};
+use auc_letters::{Held, shard_of};
+use auc_model::End;
 use auc_objects::ObjectShard;
 use auc_persons::{Bidder, PersonShard};
 use std::alloc::{AllocError, Global};
 use std::marker::Model;
 
-/// The world of one phase: its shards, their outboxes, three mails and the hub.
+/// The world of one phase: its shards, the post office for their letters, and the hub.
 #[derive(Drop)]
 pub struct World<'a> {
     rows: &'a Rows,
@@ -46,10 +42,8 @@ pub struct World<'a> {
     hub: Hub,
     persons: Vec<PersonShard>,
     objects: Vec<ObjectShard>,
-    // By sender: those of the shards of the persons, and after them those of the shards of the objects.
-    outboxes: Vec<Outbox>,
     stopped: Vec<bool>,
-    mails: Mails,
+    post: PostOffice,
     // By shard of the persons; of no importance to what any turn does, so no contract of a turn speaks of it.
     bidders: Vec<Bidder>,
 }
@@ -60,9 +54,9 @@ impl<'a> Model for World<'a> {
 
     ghost Value = { Parts };
 
-    ghost view = { λ w. record { table = w.rows.now; shards = w.shards; eps = w.eps; persons = w.persons.items; objects = w.objects.items; outboxes = w.outboxes.items; stopped = w.stopped.items; mails = w.mails; hub = w.hub } };
+    ghost view = { λ w. record { table = w.rows.now; shards = w.shards; eps = w.eps; persons = w.persons.items; objects = w.objects.items; outboxes = w.post.outboxes; stopped = w.stopped.items; mails = w.post.mails; hub = w.hub } };
 
-    ghost invariant = { λ w. AreParts (record { table = w.rows.now; shards = w.shards; eps = w.eps; persons = w.persons.items; objects = w.objects.items; outboxes = w.outboxes.items; stopped = w.stopped.items; mails = w.mails; hub = w.hub }) × AreKept w.rows.now w.persons.items w.bidders.items };
+    ghost invariant = { λ w. AreParts (record { table = w.rows.now; shards = w.shards; eps = w.eps; persons = w.persons.items; objects = w.objects.items; outboxes = w.post.outboxes; stopped = w.stopped.items; mails = w.post.mails; hub = w.hub }) × AreKept w.rows.now w.persons.items w.bidders.items };
 }
 
 impl<'a> World<'a> {
@@ -152,22 +146,8 @@ impl<'a> World<'a> {
         ensures made { IfOk result (IsMade rows.now limits.now prices.now eps) }
         ensures table { IsTable rows.now }
     {
-        let Limits {
-            shards,
-            bids,
-            posts,
-            nodes,
-            ..
-        } = *limits;
-        let persons = rows.persons();
-        let objects_nodes = nodes_or(nodes, persons);
-        let persons_nodes = nodes_or(nodes, 4 * persons);
-        let hub_nodes = nodes_or(nodes, persons + 2 * shards);
-        let mails = Mails {
-            objects: new_mail(alloc, shards, shards, objects_nodes, posts)?,
-            persons: new_mail(alloc, shards, shards, persons_nodes, posts)?,
-            hub: new_mail(alloc, 1, shards, hub_nodes, posts)?,
-        };
+        let Limits { shards, bids, .. } = *limits;
+        let post = PostOffice::make(alloc, limits, rows.persons())?;
         Ok(World {
             rows,
             eps,
@@ -175,9 +155,8 @@ impl<'a> World<'a> {
             hub: Hub::new(),
             persons: new_person_shards(alloc, shards, rows, bids, prices)?,
             objects: new_object_shards(alloc, shards, rows, prices)?,
-            outboxes: new_outboxes(alloc, 2 * shards)?,
             stopped: vec![in alloc; false; shards as usize]?,
-            mails,
+            post,
             bidders,
         })
     }
@@ -236,19 +215,6 @@ impl<'a> World<'a> {
     {
         let shard = shard_of(object, self.shards);
         self.objects[shard as usize].holder(object)
-    }
-
-    /// Takes a letter out of a box, if one waits there.
-    #[inline]
-    pub(crate) fn take(&mut self, mail: MailName, at: u32) -> Option<Letter>
-        requires { at < boxes_in self.old.shards mail }
-        ensures some { IfSome result (λ l. TakesOne (named self.old.mails mail) at l (named self.new.mails mail)) }
-        ensures none { IfNone result (TakesNone (named self.old.mails mail) at) }
-        ensures still { IfNone result (self.new ≡ self.old) }
-        ensures rest { self.new ≡ record self.old { mails = with_named self.old.mails mail (named self.new.mails mail) } }
-        ensures sound { AreParts self.old }
-    {
-        self.mails.take(mail, at)
     }
 
     /// How the phase has ended, once it has. O(1).

@@ -1,11 +1,9 @@
 //! Bidding: a shard of the persons asks its person that has been free longest for a bid.
 
-ghost use Rattle.std.specs.Prelude.{◌≡◌, ◌<◌, ◌↔◌, true, [], ◌∷◌, slice_set, IsTrue, IfSome, IfNone};
+ghost use Rattle.std.specs.Prelude.{◌≡◌, ◌<◌, ◌↔◌, true, [], ◌∷◌, slice_set, IsTrue};
 ghost use Rattle.auc_model.specs.Bidding.{BidTurn};
 ghost use Rattle.auc_model.specs.declared.turn.Turn.{Turn};
 ghost use Rattle.auc_persons.specs.Persons.{NextBid};
-ghost use Rattle.auc_persons.specs.declared.bidding.Bidding.{Bidding};
-ghost use Rattle.auc_world.specs.Bidding.{Asks};
 ghost use Rattle.auc_world.specs.Parts.{AreParts, MayAskForBid, SamePhase, persons_at, phase, seen};
 ghost use Rattle.auc_world.specs.Rounds.{Plays};
 
@@ -15,17 +13,6 @@ use auc_letters::{Letter, Out, To};
 use auc_model::TurnReply;
 use auc_persons::Bidding;
 
-/// What a shard of the persons has to send.
-#[derive(Clone, Copy)]
-pub(crate) enum Asked {
-    /// It may not bid: there is no such shard, its outbox isn't empty, or it has made its Stop.
-    Barred,
-    /// Nobody is free. Its outbox is empty.
-    Idle,
-    /// This letter, which is still to be put into its outbox, which is empty, or posted.
-    Sends { out: Out },
-}
-
 impl<'a> World<'a> {
     /// Whether a shard of the persons may bid: it is there, its outbox is empty, and it has made no Stop.
     #[inline]
@@ -33,9 +20,7 @@ impl<'a> World<'a> {
         ensures is { IsTrue result ↔ MayAskForBid self.now shard }
         ensures sound { AreParts self.now }
     {
-        shard < self.shards
-            && self.outboxes[shard as usize].is_empty()
-            && !self.stopped[shard as usize]
+        shard < self.shards && self.post.has_posted_all(shard) && !self.stopped[shard as usize]
     }
 
     /// Asks a shard of the persons for its next bid.
@@ -62,41 +47,31 @@ impl<'a> World<'a> {
         self.stopped[shard as usize] = true;
     }
 
-    /// Asks a shard of the persons for what it has to send: its next bid, or why there is none.
-    #[inline]
-    pub(crate) fn ask(&mut self, shard: u32) -> Asked
-        ensures asks { Asks self.old shard result self.new }
-        ensures phase { SamePhase self.old self.new }
-    {
-        if !self.may_bid(shard) {
-            return Asked::Barred;
-        }
-        match self.next_bid(shard) {
-            Bidding::Idle => Asked::Idle,
-            Bidding::Stop { why } => {
-                self.note_stop(shard);
-                Asked::Sends {
-                    out: Out {
-                        letter: Letter::Stop { why },
-                        to: To::Hub,
-                        reserve: 0,
-                    },
-                }
-            }
-            Bidding::Out { out } => Asked::Sends { out },
-        }
-    }
-
     /// A shard of the persons puts its next bid, or why there is none, into its outbox.
     #[inline]
     pub(crate) fn bid(&mut self, shard: u32) -> TurnReply
         ensures turn { BidTurn (phase self.old) (seen self.old) shard result (seen self.new) }
         ensures phase { SamePhase self.old self.new }
     {
-        match self.ask(shard) {
-            Asked::Barred | Asked::Idle => TurnReply::Nothing,
-            Asked::Sends { out } => {
-                self.put(shard, out);
+        if !self.may_bid(shard) {
+            return TurnReply::Nothing;
+        }
+        match self.next_bid(shard) {
+            Bidding::Idle => TurnReply::Nothing,
+            Bidding::Stop { why } => {
+                self.note_stop(shard);
+                self.post.put(
+                    shard,
+                    Out {
+                        letter: Letter::Stop { why },
+                        to: To::Hub,
+                        reserve: 0,
+                    },
+                );
+                TurnReply::Moved
+            }
+            Bidding::Out { out } => {
+                self.post.put(shard, out);
                 TurnReply::Moved
             }
         }

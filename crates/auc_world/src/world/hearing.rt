@@ -32,7 +32,7 @@ impl<'a> World<'a> {
         if !self.is_shard(shard) {
             return TurnReply::Nothing;
         }
-        let Some(letter) = self.take(MailName::Persons, shard) else {
+        let Some(letter) = self.post.take(MailName::Persons, shard) else {
             return TurnReply::Nothing;
         };
         if let Err(fault) = self.hear(shard, letter) {

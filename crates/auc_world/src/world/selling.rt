@@ -1,6 +1,6 @@
 //! Selling: a shard of the objects deals with a bid, or tells a price.
 
-ghost use Rattle.std.specs.Prelude.{◌≡◌, ◌<◌, ◌+◌, true, [], ◌∷◌, length, slice_set, All, IfSome, IfNone, IsTrue, ◌↔◌};
+ghost use Rattle.std.specs.Prelude.{◌≡◌, ◌<◌, ◌+◌, [], ◌∷◌, length, slice_set, All, IfSome, IfNone, IsTrue, ◌↔◌};
 ghost use Rattle.auc_letters.specs.Award.{answers};
 ghost use Rattle.auc_letters.specs.Price.{IsPrice};
 ghost use Rattle.auc_letters.specs.Routing.{price_told};
@@ -9,9 +9,8 @@ ghost use Rattle.auc_model.specs.declared.turn.Turn.{Turn};
 ghost use Rattle.auc_objects.specs.Answers.{letters_of};
 ghost use Rattle.auc_objects.specs.Objects.{IsBidIn, Owns, after_bid, price_of, sale_of};
 ghost use Rattle.auc_answers.specs.Boxes.{Reaches};
-ghost use Rattle.auc_world.specs.Parts.{AreParts, MayAnswer, OwnsObject, SamePhase, objects_at, outbox_at, phase, seen};
+ghost use Rattle.auc_world.specs.Parts.{AreParts, MayAnswer, OwnsObject, SamePhase, objects_at, phase, seen};
 ghost use Rattle.auc_world.specs.Rounds.{Plays};
-ghost use Rattle.auc_world.specs.Selling.{Deals};
 
 use crate::world::World;
 use crate::world::rounds::{either, has_moved};
@@ -19,27 +18,14 @@ use auc_letters::{Bid, Letter, Out, Why};
 use auc_model::{End, MailName, TurnReply};
 use auc_objects::Answers;
 
-/// What a shard of the objects has done with a letter.
-#[derive(Clone, Copy)]
-pub(crate) enum Dealt {
-    /// It may not take one: there is no such shard, or its outbox isn't empty.
-    Barred,
-    /// There was none. Its outbox is empty.
-    Nothing,
-    /// It fits no bid on an object of the shard: the phase has ended.
-    Strayed,
-    /// It was a bid, and these letters answer it: they are still to be put into the shard's outbox, which is empty, or posted.
-    Answered { answers: Answers },
-}
-
 impl<'a> World<'a> {
     /// Whether there is such a shard of the objects, and its outbox is empty.
     #[inline]
-    pub(crate) fn may_answer(&self, shard: u32) -> bool
+    fn may_answer(&self, shard: u32) -> bool
         ensures is { IsTrue result ↔ MayAnswer self.now shard }
         ensures sound { AreParts self.now }
     {
-        shard < self.shards && self.outboxes[(self.shards + shard) as usize].is_empty()
+        shard < self.shards && self.post.has_posted_all(self.shards + shard)
     }
 
     /// The bid that a letter to a shard of the objects is, where it fits: the object is the shard's, and the amount is in range.
@@ -81,41 +67,26 @@ impl<'a> World<'a> {
         objects.tell(object, to)
     }
 
-    /// A shard of the objects takes a letter and deals with it.
-    #[inline]
-    fn deal(&mut self, shard: u32) -> Dealt
-        ensures deals { Deals self.old shard result self.new }
-        ensures phase { SamePhase self.old self.new }
-    {
-        if !self.may_answer(shard) {
-            return Dealt::Barred;
-        }
-        let Some(letter) = self.take(MailName::Objects, shard) else {
-            return Dealt::Nothing;
-        };
-        let Some(bid) = self.bid_in(shard, letter) else {
-            self.end_with(End::Stopped { why: Why::Stray });
-            return Dealt::Strayed;
-        };
-        Dealt::Answered {
-            answers: self.answer(shard, bid),
-        }
-    }
-
-    /// A shard of the objects takes a bid and answers it into its outbox.
+    /// A shard of the objects takes a bid and answers it into its outbox. A letter that fits no bid on an object of the shard ends the
+    /// phase.
     #[inline]
     pub(crate) fn object_take(&mut self, shard: u32) -> TurnReply
         ensures turn { ObjectTakeTurn (phase self.old) (seen self.old) shard result (seen self.new) }
         ensures phase { SamePhase self.old self.new }
     {
-        match self.deal(shard) {
-            Dealt::Barred | Dealt::Nothing => TurnReply::Nothing,
-            Dealt::Strayed => TurnReply::Moved,
-            Dealt::Answered { answers } => {
-                self.put_all(self.shards() + shard, answers.into_list());
-                TurnReply::Moved
-            }
+        if !self.may_answer(shard) {
+            return TurnReply::Nothing;
         }
+        let Some(letter) = self.post.take(MailName::Objects, shard) else {
+            return TurnReply::Nothing;
+        };
+        let Some(bid) = self.bid_in(shard, letter) else {
+            self.end_with(End::Stopped { why: Why::Stray });
+            return TurnReply::Moved;
+        };
+        let answers = self.answer(shard, bid);
+        self.post.put_all(self.shards + shard, answers.into_list());
+        TurnReply::Moved
     }
 
     /// A shard of the objects puts a price into its outbox.
@@ -127,7 +98,7 @@ impl<'a> World<'a> {
             return TurnReply::Nothing;
         }
         let out = self.price_letter(shard, object, to);
-        self.put(self.shards() + shard, out);
+        self.post.put(self.shards + shard, out);
         TurnReply::Moved
     }
 

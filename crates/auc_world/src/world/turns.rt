@@ -1,6 +1,5 @@
 //! The turns of a world.
 
-ghost use Rattle.std.specs.Prelude.{◌≡◌};
 ghost use Rattle.auc_world.specs.Parts.{SamePhase, phase, seen};
 ghost use Rattle.auc_model.specs.Schedule.{Reached, Turned};
 

@@ -1,4 +1,4 @@
-use Rattle.std.proofs.Common.{◌≡◌, ◌+◌, ◌*◌, length, arith, refl, ap, ◌∙◌, w64}
+use Rattle.std.proofs.Common.{◌+◌, ◌*◌, arith, refl, ap, ◌∙◌, w64}
 use Rattle.std.proofs.lemmas.Grind.{common_steps}
 use Rattle.std.proofs.lemmas.Int.{to_z-of_z}
 use Rattle.auc_mail.specs.Mail.{empty_mail}
@@ -13,10 +13,8 @@ returns-clause-made c =
     let shards = c.args.limits.now.shards in
     let nodes = c.args.limits.now.nodes in
     let posts = c.args.limits.now.posts in
-    let persons : c.persons-persons.result ≡ length c.args.rows.now.rows = c.persons-persons.ensures.persons in
-    let objects_nodes : c.nodes_or-objects_nodes.result ≡ nodes_or nodes (length c.args.rows.now.rows) = c.nodes_or-objects_nodes.ensures ∙ ap (λ n. nodes_or nodes n) persons in
-    let persons_nodes : c.nodes_or-persons_nodes.result ≡ nodes_or nodes (4 * length c.args.rows.now.rows) = c.nodes_or-persons_nodes.ensures ∙ ap (λ n. nodes_or nodes (4 * n)) persons in
-    let hub_nodes : c.nodes_or-hub_nodes.result ≡ nodes_or nodes (length c.args.rows.now.rows + 2 * shards) = c.nodes_or-hub_nodes.ensures ∙ ap (λ n. nodes_or nodes (n + 2 * shards)) persons in
+    let persons = c.persons.ensures.persons in
+    let new = c.in_ok-post.ensures in
     record {
       table = refl;
       shards = refl;
@@ -25,18 +23,18 @@ returns-clause-made c =
       each_persons = c.in_ok-new_person_shards.ensures.each;
       objects_are = c.in_ok-new_object_shards.ensures.many;
       each_objects = c.in_ok-new_object_shards.ensures.each;
-      outboxes_are = c.in_ok-new_outboxes.ensures.many;
-      each_outbox = c.in_ok-new_outboxes.ensures.each;
+      outboxes_are = new.outboxes;
+      each_outbox = new.empty;
       stopped_are = grind (arith, common_steps);
-      objects_mail = c.in_ok-new_mail.ensures ∙ ap (λ n. empty_mail shards (2 * shards + 1) n posts) objects_nodes;
-      persons_mail = c.in_ok-new_mail-2.ensures ∙ ap (λ n. empty_mail shards (2 * shards + 1) n posts) persons_nodes;
-      hub_mail = c.in_ok-new_mail-3.ensures ∙ ap (λ n. empty_mail 1 (2 * shards + 1) n posts) hub_nodes;
+      objects_mail = new.objects ∙ ap (λ n. empty_mail shards (2 * shards + 1) (nodes_or nodes n) posts) persons;
+      persons_mail = new.persons ∙ ap (λ n. empty_mail shards (2 * shards + 1) (nodes_or nodes (4 * n)) posts) persons;
+      hub_mail = new.hub ∙ ap (λ n. empty_mail 1 (2 * shards + 1) (nodes_or nodes (n + 2 * shards)) posts) persons;
       count = ap (λ (h : Counting). h.count) c.new.ensures;
       end = ap (λ (h : Counting). h.end) c.new.ensures;
     }
 
 pub invariant_of-result : goal.invariant_of-result
 invariant_of-result c = (
-  made_are c.args.rows.now c.args.limits.now c.args.prices.now c.args.eps _ (returns-clause-made c) c.persons-persons.ensures.table c.requires.limits c.requires.prices c.requires.eps,
+  made_are c.args.rows.now c.args.limits.now c.args.prices.now c.args.eps _ (returns-clause-made c) c.persons.ensures.table c.requires.limits c.requires.prices c.requires.eps,
   kept_made c.args.rows.now c.args.limits.now c.args.prices.now c.args.eps _ c.args.bidders.items (returns-clause-made c) c.requires.kept,
 )

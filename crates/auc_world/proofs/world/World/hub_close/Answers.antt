@@ -9,4 +9,4 @@ pub returns-clause-turn : goal.returns-clause-turn
 returns-clause-turn c =
     let ends : (seen c.args.self.now).end ≢ None = grind (arith, common_steps) in
     let box : IsOpenBox (named c.args.self.now.mails c.args.mail) c.args.at = grind (arith, common_steps) in
-    box_closed c.args.self.now c.close.new.self c.args.mail c.args.at ends box c.close.ensures.step c.close.ensures.rest
+    box_closed c.args.self.now _ c.self.view_is c.close.new.self c.args.mail c.args.at ends box c.close.ensures.step c.close.ensures.rest

@@ -2,4 +2,4 @@ use Rattle.auc_world.proofs.HubLaws.{hub_heard}
 use Rattle.auc_world.proofs.world.World.hub_take.Goals as goal
 
 pub returns-clause-turn : goal.returns-clause-turn
-returns-clause-turn c = hub_heard c.args.self.now c.take.new.self c.hub_hears.new.self c.in-Some.letter _ c.take.ensures.rest c.in-Some.ensures.some c.hub_hears.ensures
+returns-clause-turn c = hub_heard c.args.self.now _ c.self.view_is c.in-Some.letter c.take.new.self c.hear.new.self c.in-Some.ensures.some c.take.ensures.rest (rw c.persons.ensures.persons at c.hear.ensures)

@@ -8,6 +8,7 @@ mod bid;
 mod early;
 mod ending;
 mod eps;
+mod from_start;
 mod gathering;
 mod hop;
 mod label;

@@ -5,13 +5,12 @@ ghost use Rattle.std.specs.BinaryHeap.{heap_items};
 ghost use Rattle.auc_graph.specs.Assignment.{total};
 ghost use Rattle.auc_letters.specs.Price.{IsEps};
 ghost use Rattle.auc_rows.specs.Rows.{EachHasArc};
-ghost use Rattle.auc_direct.specs.Endings.{IsLeft, IsOutcomeFrom, IsStart, IsStopped};
+ghost use Rattle.auc_direct.specs.Endings.{IsLeft, IsStart, IsStopped};
 ghost use Rattle.auc_direct.specs.Path.{IsClean};
 ghost use Rattle.auc_direct.specs.Shortlist.{Kept};
-ghost use Rattle.auc_direct.specs.Starts.{AreKept, ArePricesOf};
 
 use crate::ending::Ending;
-use crate::eps::{LAST_EPS, first_eps, half_of_mean, next_eps};
+use crate::eps::{LAST_EPS, half_of_mean, next_eps};
 use crate::market::Market;
 use crate::watch::{Progress, Watch};
 use crate::workspace::Workspace;
@@ -62,7 +61,7 @@ pub(crate) struct Outcome {
 
 /// A phase at this eps from the prices of the market, and then one at each next eps, from the prices of the one before: up to the last one, or the first that a limit
 /// stops. Each may make so many bids, and looks for a path after `patience` of a chain.
-fn play_phases<W: Watch>(
+pub(crate) fn play_phases<W: Watch>(
     rows: &FlatRows,
     bids: u64,
     eps: i64,
@@ -168,51 +167,4 @@ pub(crate) fn play_quickly<W: Watch>(
             Ok(Some(outcome))
         }
     }
-}
-
-/// The prices before anybody holds anything: those of the start where there are as many objects as persons, and else none.
-fn prices_before(alloc: Global, rows: &FlatRows, start: &[i64]) -> Result<Vec<i64>, AllocError>
-    requires start { ArePricesOf rows.now start.now }
-    ensures start { IfOk result (λ v. IsStart rows.now (pos 1) v.items) }
-    ensures kept { IfOk result (λ v. AreKept start.now v.items) }
-    ensures same { IfOk result (λ v. rows.now.objects ≡ length rows.now.rows → v.items ≡ start.now) }
-{
-    if rows.persons() == rows.objects() {
-        let prices = start.to_vec(alloc)?;
-        return Ok(prices);
-    }
-    let none = vec![in alloc; 0; rows.objects() as usize]?;
-    Ok(none)
-}
-
-/// One phase at the last eps, from start prices, at which persons keep what they may. In a full table with as many objects as persons it is given up where it takes long, and all
-/// phases follow. Each may make so many bids.
-pub(crate) fn play_from<W: Watch>(
-    alloc: Global,
-    rows: &FlatRows,
-    bids: u64,
-    start: &[i64],
-    watch: &mut W,
-) -> Result<Outcome, AllocError>
-    requires arcs { EachHasArc rows.now }
-    requires start { ArePricesOf rows.now start.now }
-    ensures { IfOk result (λ o. IsOutcomeFrom rows.now bids start.now (W.has_stopped watch.new) o.ending o.market.prices.items o.market.holders.items o.market.owns.items) }
-{
-    let mut work = Workspace::new(alloc, rows)?;
-    let prices = prices_before(alloc, rows, start)?;
-    let mut market = Market::new(alloc, rows.persons(), prices)?;
-    market.open_at(rows, LAST_EPS, start);
-    if rows.is_full() && rows.persons() == rows.objects() {
-        return match market.play_early(rows, bids, &mut work, watch)? {
-            Some(ending) => Ok(Outcome { ending, market }),
-            None => {
-                let eps = first_eps(rows);
-                let patience = patience_at(rows, eps);
-                play_phases(rows, bids, eps, patience, market, work, watch)
-            }
-        };
-    }
-    let patience = patience_at(rows, LAST_EPS);
-    let ending = market.play_watched(rows, LAST_EPS, bids, patience, &mut work, watch)?;
-    Ok(Outcome { ending, market })
 }

@@ -12,8 +12,9 @@ ghost use Rattle.auc_direct.specs.Starts.{AreStartPrices};
 
 use crate::ending::Ending;
 use crate::eps::first_eps;
+use crate::from_start::{play_from, play_from_unasked};
 use crate::gathering::gather;
-use crate::phases::{Outcome, play_all, play_from, play_quickly};
+use crate::phases::{Outcome, play_all, play_quickly};
 use crate::watch::{Onward, Watch};
 use auc_answers::finish::{bracket, optimal};
 use auc_answers::{Answer, Gathered, Prepared, prepare};
@@ -157,6 +158,35 @@ fn solve_rows_from<W: Watch>(
     answer_of(alloc, problem, flat, outcome)
 }
 
+/// The answer of a run from start prices that doesn't ask first whether there is an assignment. None where a search for a path has found none, so that there may be no assignment.
+///
+/// For as many objects as persons, and full tables, alone.
+fn solve_from_unasked<W: Watch>(
+    alloc: Global,
+    problem: &ArcList,
+    bids: u64,
+    start: &[i64],
+    watch: &mut W,
+) -> Result<Option<Answer>, AllocError>
+    requires start { AreStartPrices problem.now start.now }
+    ensures is { IfOk result (λ o. IfSome o (IsAnswer problem.now)) }
+    ensures limit { IfOk result (λ o. IfSome o (λ a. (W.has_stopped watch.new ≡ true) ⊎ IsLimitedFrom problem.now bids start.now a)) }
+{
+    let full = u64::from(problem.persons()) * u64::from(problem.objects());
+    if problem.persons() < problem.objects() && problem.arcs().len() as u64 != full {
+        return Ok(None);
+    }
+    let flat = FlatRows::build(alloc, problem)?;
+    if !flat.each_has_arc() {
+        return Ok(None);
+    }
+    let Some(outcome) = play_from_unasked(alloc, &flat, bids, start, watch)? else {
+        return Ok(None);
+    };
+    let answer = answer_of(alloc, problem, flat, outcome)?;
+    Ok(Some(answer))
+}
+
 /// Solves a problem: an arc for each person, no object twice, of the least cost together; or persons who together know fewer objects than they number; or, where
 /// a phase would take more than so many bids or a price above 2^61, an assignment and a bound on what any costs. Each claim has passed the checker. `Broken`
 /// is never answered.
@@ -192,6 +222,8 @@ pub fn solve_direct(
 /// too. Where that doesn't end within a few passes over all persons, the run begins with no prices.
 ///
 /// A limit on bids counts from the prices that are left then: clause `limit`. With as many objects as persons these are the start's.
+///
+/// With as many objects as persons the search for an assignment of any cost comes only after a search for a path that has found none, and for a bracket.
 ///
 /// Takes two passes over the arcs for what persons keep, and with more objects than persons up to eight more; beside that the time and memory of [`solve_direct`].
 ///
@@ -241,7 +273,8 @@ pub fn solve_direct_watched<W: Watch>(
     solve_rows(alloc, problem, flat, limits.bids, eps, prices, watch)
 }
 
-/// Solves a problem from start prices as [`solve_direct_from`] does, and asks as [`solve_direct_watched`] does.
+/// Solves a problem from start prices as [`solve_direct_from`] does, and asks as [`solve_direct_watched`] does; with as many objects as persons after 1,024 bids already, or 4 searches
+/// for a path where that takes more.
 ///
 /// # Errors
 ///
@@ -257,12 +290,8 @@ pub fn solve_direct_watched_from<W: Watch>(
     ensures is { IfOk result (IsAnswer problem.now) }
     ensures limit { IfOk result (λ a. (W.has_stopped watch.new ≡ true) ⊎ IsLimitedFrom problem.now limits.now.bids start.now a) }
 {
-    // A full table has an assignment, so no search for one is made there.
-    if problem.arcs().len() as u64 == u64::from(problem.persons()) * u64::from(problem.objects()) {
-        let flat = FlatRows::build(alloc, problem)?;
-        if flat.is_full() && flat.each_has_arc() {
-            return solve_rows_from(alloc, problem, flat, limits.bids, start, watch);
-        }
+    if let Some(answer) = solve_from_unasked(alloc, problem, limits.bids, start, watch)? {
+        return Ok(answer);
     }
     if let Some(answer) = answered(alloc, problem)? {
         return Ok(answer);

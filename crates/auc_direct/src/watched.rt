@@ -1,6 +1,6 @@
 //! A phase in slices, before each of which somebody is asked whether it goes on.
 
-ghost use Rattle.std.specs.Prelude.{ℕ, ℤ, List, true, false, ◌≡◌, ◌⊎◌, ◌<◌, ◌≤◌, ◌≤ℤ◌, length, IfOk, OnOk};
+ghost use Rattle.std.specs.Prelude.{ℕ, ℤ, List, true, false, ◌≡◌, ◌⊎◌, ◌<◌, ◌≤◌, ◌≤ℤ◌, length, IfOk, IfSome, OnOk};
 ghost use Rattle.std.specs.BinaryHeap.{heap_items};
 ghost use Rattle.auc_cert.specs.declared.reason.Reason.{Reason};
 ghost use Rattle.auc_graph.specs.Assignment.{total};
@@ -27,11 +27,14 @@ const SLICE: u64 = 16_384;
 /// How many searches for a path it makes between them at most, each of which may look at all arcs.
 const SEARCHES: u64 = 64;
 
-/// How many bids a slice of a phase makes at most that looks for a path after so many bids of a chain.
-fn slice_of(patience: u64) -> u64
+/// The same where it matters that one has found none.
+const FEW_SEARCHES: u64 = 4;
+
+/// How many bids a slice makes at most, with so many searches, of a phase that looks for a path after so many bids of a chain.
+fn slice_of(patience: u64, searches: u64) -> u64
     ensures { 1 ≤ result }
 {
-    SLICE.min(patience.saturating_mul(SEARCHES)).max(1)
+    SLICE.min(patience.saturating_mul(searches)).max(1)
 }
 
 /// Whether bids have run out. Any other ending of a slice is one of its phase.
@@ -95,7 +98,7 @@ impl Market {
             if !watch.goes_on(progress) {
                 return Ok(Ending::Stopped(Reason::Bids));
             }
-            let slice = left.min(slice_of(patience));
+            let slice = left.min(slice_of(patience, SEARCHES));
             let ending = self.play(rows, eps, slice, patience, work)?;
             if !ran_out(ending) {
                 return Ok(ending);
@@ -103,6 +106,50 @@ impl Market {
             left -= slice;
             if left == 0 {
                 return Ok(ending);
+            }
+        }
+    }
+
+    /// The same, but given up soon after a search for a path has found none: None then. Where there is no assignment, some chain of bids doesn't end until one has.
+    pub(crate) fn play_unless_stuck<W: Watch>(
+        &mut self,
+        rows: &FlatRows,
+        eps: i64,
+        bids: u64,
+        patience: u64,
+        work: &mut Workspace,
+        watch: &mut W,
+    ) -> Result<Option<Ending>, AllocError>
+        requires arcs { EachHasArc rows.now }
+        requires eps { IsEps eps }
+        requires stands { Stands rows.now eps self.old.prices.items self.old.holders.items self.old.owns.items }
+        requires clean { IsClean rows.now.objects work.old.search.labels.items work.old.search.line.items (heap_items work.old.search.heap) }
+        requires kept { Kept rows.now self.old.prices.items work.old.lists.lists.items }
+        ensures stands { OnOk result (Stands rows.now eps self.new.prices.items self.new.holders.items self.new.owns.items) }
+        ensures sold { IfOk result (λ o. IfSome o (λ e. IsSold rows.now e self.new.owns.items)) }
+        ensures ending { IfOk result (λ o. IfSome o (λ e. (W.has_stopped watch.new ≡ true) ⊎ IsEnding rows.now bids (total self.old.prices.items) e self.new.prices.items self.new.owns.items)) }
+    {
+        let mut left = bids;
+        loop {
+            let progress = Progress {
+                eps,
+                held: count_held(self),
+                bids: bids - left,
+            };
+            if !watch.goes_on(progress) {
+                return Ok(Some(Ending::Stopped(Reason::Bids)));
+            }
+            let slice = left.min(slice_of(patience, FEW_SEARCHES));
+            let ending = self.play(rows, eps, slice, patience, work)?;
+            if !ran_out(ending) {
+                return Ok(Some(ending));
+            }
+            left -= slice;
+            if left == 0 {
+                return Ok(Some(ending));
+            }
+            if work.found_none {
+                return Ok(None);
             }
         }
     }

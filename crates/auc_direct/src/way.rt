@@ -43,7 +43,10 @@ impl Market {
         }
         match self.path(rows, eps, free, &mut work.search)? {
             PathStep::Placed => Ok(NOBODY),
-            PathStep::Stayed => Ok(free),
+            PathStep::Stayed => {
+                work.found_none = true;
+                Ok(free)
+            }
         }
     }
 }

@@ -11,14 +11,15 @@ use crate::table_search::TableSearch;
 use auc_rows::FlatRows;
 use std::alloc::{AllocError, Global};
 
-/// The lists of candidates, which stay through all phases; room for searches, and for those in a full table; and how many bids in a row have displaced somebody, after the last
-/// search for a path.
+/// The lists of candidates, which stay through all phases; room for searches, and for those in a full table; how many bids in a row have displaced somebody, after the last
+/// search for a path; and whether such a search has found none.
 #[derive(Drop)]
 pub(crate) struct Workspace {
     pub(crate) lists: Lists,
     pub(crate) search: Search,
     pub(crate) table: TableSearch,
     pub(crate) walked: u64,
+    pub(crate) found_none: bool,
 }
 
 impl Workspace {
@@ -35,6 +36,7 @@ impl Workspace {
             search,
             table,
             walked: 0,
+            found_none: false,
         })
     }
 }

@@ -59,3 +59,26 @@ fn prices_of_a_solve(rt: HostRuntime) -> Result<(), Fail> {
     );
     Ok(())
 }
+
+/// Where there is no assignment, a run from start prices says so: an arc is missing; or each person has one, and too few objects are known, so that a search for a path finds none.
+#[test]
+fn no_assignment_from_prices(rt: HostRuntime) -> Result<(), Fail> {
+    let problem = problem_of(&rt, "2\n1 1 1\n", 0)?;
+    let told = answered_from(&rt, &problem, &AMPLE, &[3, 0])?;
+    assert!(rt;
+        told.as_slice()
+            .starts_with(b"auction 1\ninfeasible 1 0\nperson 2\n")
+    );
+    let problem = problem_of(
+        &rt,
+        "4\n1 1 5 1 2 8\n2 1 7 2 2 0\n3 1 1 3 2 2\n4 3 4 4 4 4\n",
+        0,
+    )?;
+    let told = answered_from(&rt, &problem, &AMPLE, &[9, 0, 0, 2])?;
+    assert!(rt;
+        told.as_slice().starts_with(
+            b"auction 1\ninfeasible 3 2\nperson 1\nperson 2\nperson 3\nobject 1\nobject 2\n"
+        )
+    );
+    Ok(())
+}

@@ -1,7 +1,7 @@
 use Rattle.std.proofs.Common.{◌≡◌, arith, inr, length, pos, refl, replicate, rules}
 use Rattle.auc_direct.proofs.Opening.{start_at, start_none}
 use Rattle.auc_direct.proofs.StartLaws.{kept_all, kept_none}
-use Rattle.auc_direct.proofs.phases.prices_before.Goals as goal
+use Rattle.auc_direct.proofs.from_start.prices_before.Goals as goal
 
 pub returns-then-persons-objects-clause-start : goal.returns-then-persons-objects-clause-start
 returns-then-persons-objects-clause-start c =

@@ -1,40 +1,29 @@
-use Rattle.std.proofs.Common.{◌≡◌, ◌⊎◌, arith, length, pos, refl, true, Err, Ok, Result}
+use Rattle.std.proofs.Common.{◌≡◌, ◌⊎◌, arith, pos, refl, true, Err, Ok, Result}
 use Rattle.std.specs.Prelude.{◌≤ℤ◌, IfOk}
 use Rattle.std.proofs.lemmas.Int.{ints}
 use Rattle.auc_graph.specs.Assignment.{total}
 use Rattle.auc_direct.specs.Endings.{IsLeft, IsOutcomeFrom, IsStopped}
 use Rattle.auc_direct.proofs.EndingLaws.{sold_left, stopped_before, watched_stopped}
-use Rattle.auc_direct.proofs.StartLaws.{nothing_owned, seated_none}
-use Rattle.auc_direct.proofs.phases.play_from.Goals.{in-Some, in-None}
-use Rattle.auc_direct.proofs.phases.play_from.Goals as goal
-
-pub open_at-requires-clause-seated : goal.open_at-requires-clause-seated
-open_at-requires-clause-seated g c =
-    let first = c.in_ok-prices.ensures in
-    let empty = c.in_ok-market.ensures in
-    let prices = c.in_ok-prices.prices.items in
-    rw empty.prices (seated_none c.args.rows.now (pos 1) c.args.start.now prices c.in_ok-market.market.holders.items c.in_ok-market.market.owns.items (length prices) c.persons.result first.start first.kept first.same first.start.each c.persons.ensures.persons empty.holders empty.owns)
-
-pub open_at-requires-clause-none : goal.open_at-requires-clause-none
-open_at-requires-clause-none g c = nothing_owned c.in_ok-market.market.owns.items c.persons.result c.in_ok-market.ensures.owns
+use Rattle.auc_direct.proofs.from_start.play_from.Goals.{in-Some, in-None}
+use Rattle.auc_direct.proofs.from_start.play_from.Goals as goal
 
 pub returns : goal.returns
 returns g c =
     let after = c.in_ok-ending-2.ensures in
-    let begun = c.open_at.new.self.prices.items in
+    let begun = c.in_ok-market.market.prices.items in
     let same : total begun ≤ℤ total begun = omega (arith, ints) in
     record {
       left = sold_left c.args.rows.now (pos 1) c.in_ok-ending-2.ending c.play_watched.new.self.prices.items c.play_watched.new.self.holders.items c.play_watched.new.self.owns.items after.stands after.sold (λ e. refl);
       begun = begun;
-      opened = c.open_at.ensures.opened;
+      opened = c.in_ok-market.ensures.opened;
       stopped = watched_stopped (g.W.Watch.has_stopped c.play_watched.new.watch) c.args.rows.now c.args.bids (total begun) (total begun) c.in_ok-ending-2.ending c.play_watched.new.self.prices.items c.play_watched.new.self.owns.items same after.ending;
     }
 
 pub play_watched-requires-clause-kept : goal.play_watched-requires-clause-kept
-play_watched-requires-clause-kept g c = c.in_ok-work.ensures.kept c.open_at.new.self.prices.items
+play_watched-requires-clause-kept g c = c.in_ok-work.ensures.kept c.in_ok-market.market.prices.items
 
 pub play_early-requires-clause-kept : goal.play_early-requires-clause-kept
-play_early-requires-clause-kept g c = c.in_ok-work.ensures.kept c.open_at.new.self.prices.items
+play_early-requires-clause-kept g c = c.in_ok-work.ensures.kept c.in_ok-market.market.prices.items
 
 both : {X Y : Type 0} (r : Result X Y) (P Q R : X → Type 0) → ((x : X) → P x → Q x → R x) → IfOk r P → IfOk r Q → IfOk r R
 both (Ok x) P Q R f p q = f x p q
@@ -43,13 +32,13 @@ both (Err e) P Q R f p q = tt
 pub returns-then-persons-objects : goal.returns-then-persons-objects
 returns-then-persons-objects g c =
     let after = c.in_ok-ending.ensures in
-    let begun = c.open_at.new.self.prices.items in
+    let begun = c.in_ok-market.market.prices.items in
     let same : total begun ≤ℤ total begun = omega (arith, ints) in
-    elim c.match-branch-5.branch [
+    elim c.match-branch-4.branch [
       | in-Some w ↦ rw (w.watch-is, w.result-is) (record {
         left = sold_left c.args.rows.now (pos 1) w.in-Some.ending c.play_early.new.self.prices.items c.play_early.new.self.holders.items c.play_early.new.self.owns.items after.stands (rw w.in-Some.is at after.sold) (λ e. refl);
         begun = begun;
-        opened = c.open_at.ensures.opened;
+        opened = c.in_ok-market.ensures.opened;
         stopped = watched_stopped (g.W.Watch.has_stopped c.play_early.new.watch) c.args.rows.now c.args.bids (total begun) (total begun) w.in-Some.ending c.play_early.new.self.prices.items c.play_early.new.self.owns.items same (rw w.in-Some.is at after.ending);
       })
       | in-None w ↦ rw (w.watch-is, w.result-is) (both w.play_phases.result
@@ -59,7 +48,7 @@ returns-then-persons-objects g c =
           (λ o left stopped. record {
             left = left;
             begun = begun;
-            opened = c.open_at.ensures.opened;
+            opened = c.in_ok-market.ensures.opened;
             stopped = stopped_before (g.W.Watch.has_stopped w.play_phases.new.watch) c.args.rows.now c.args.bids (total begun) (total c.play_early.new.self.prices.items) o.ending o.market.prices.items after.risen stopped;
           })
           w.play_phases.ensures.left w.play_phases.ensures.stopped)

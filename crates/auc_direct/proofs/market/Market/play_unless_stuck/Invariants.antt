@@ -1,0 +1,20 @@
+use Rattle.std.proofs.Common.{pos, ◌≤◌}
+use Rattle.std.specs.Prelude.{◌+ℤ◌, ◌≤ℤ◌}
+use Rattle.auc_graph.specs.Assignment.{total}
+use Rattle.std.specs.BinaryHeap.{heap_items}
+use Rattle.auc_direct.specs.Market.{Stands}
+use Rattle.auc_direct.specs.Path.{IsClean}
+use Rattle.auc_direct.specs.Shortlist.{Kept}
+use Rattle.auc_direct.proofs.market.Market.play_unless_stuck.Given as goal
+
+abbrev pub invariant-loop-eps : goal.invariant-loop-eps
+invariant-loop-eps g l = record {
+  stands : Stands l.rows l.eps l.self.prices.items l.self.holders.items l.self.owns.items;
+  clean : IsClean l.rows.objects l.work.search.labels.items l.work.search.line.items (heap_items l.work.search.heap);
+  kept : Kept l.rows l.self.prices.items l.work.lists.lists.items;
+  raised : (total l.fn.self.prices.items +ℤ pos l.bids) ≤ℤ (total l.self.prices.items +ℤ pos l.left);
+  fewer : l.left ≤ l.bids;
+}
+
+abbrev pub decreases-loop-eps : goal.decreases-loop-eps
+decreases-loop-eps g l = l.left

@@ -1,7 +1,7 @@
 -- The eps and the prices with which a run begins, and those with which a phase may.
 use Rattle.std.specs.Prelude.{◌≡◌, ℤ, pos, List, Option, Some, None, All, length, replicate}
 use Rattle.auc_graph.specs.Table.{Table}
-use Rattle.auc_letters.specs.Price.{IsPrice}
+use Rattle.auc_graph.specs.Price.{IsPrice}
 use Rattle.auc_answers.specs.Eps.{first_eps}
 
 -- one price for each object, in range

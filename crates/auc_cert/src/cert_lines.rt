@@ -4,7 +4,7 @@ ghost use Rattle.std.specs.Prelude.{◌≡◌, ◌<◌, ◌≤◌, IfSome};
 ghost use Rattle.auc_cert.specs.Fields.{viewed, after, head_at, pick_line_at, price_line_at, number_at};
 
 use crate::fields::{field_of, index_of};
-use crate::limits::{HIGHEST_PRICE, MOST_COST};
+use crate::limits::{MOST_COST, MOST_PRICE};
 use crate::lists::Pick;
 use crate::version::Version;
 
@@ -34,7 +34,7 @@ pub(crate) fn price_of(bytes: &[u8], object: u32) -> Option<(i64, &[u8])>
 {
     let place = object as i64 + 1;
     let (_, rest) = field_of(bytes, b"price ", place, place, b' ')?;
-    field_of(rest, b"", 0, HIGHEST_PRICE, b'\n')
+    field_of(rest, b"", 0, MOST_PRICE, b'\n')
 }
 
 /// The number, from `least` to below `end`, on the line at the front, and what stands after the line.

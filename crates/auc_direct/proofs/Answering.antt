@@ -4,7 +4,7 @@ use Rattle.std.specs.Prelude.{All, IfOk, Result, Ok, Err, ◌⊎◌}
 use Rattle.std.specs.List.{slice_get}
 use Rattle.std.proofs.lemmas.Bool.{cases_lt, false≢true}
 use Rattle.std.proofs.lemmas.List.{get_or-map, length-map}
-use Rattle.std.proofs.lemmas.List.Elements.{All-weaker, Contains-get_or}
+use Rattle.std.proofs.lemmas.List.Elements.{Contains-get_or}
 use Rattle.std.proofs.lemmas.Option.{slice_get-get_or}
 use Rattle.auc_cert.specs.declared.reason.Reason.{Reason}
 use Rattle.auc_cert.specs.Claim.{pick_of}
@@ -12,14 +12,12 @@ use Rattle.auc_cert.proofs.ClaimLaws.{faultless_is_allowed}
 use Rattle.auc_cert.proofs.Converse.{assignment_spelled, slack_right_faultless}
 use Rattle.auc_graph.specs.Assignment.{total, total_cost}
 use Rattle.auc_graph.specs.declared.arc.Arc.{Arc}
-use Rattle.auc_graph.specs.Price.{IsPrice as IsPriceText}
 use Rattle.auc_graph.specs.Problem.{IsProblem, Problem}
 use Rattle.auc_graph.specs.Row.{row}
 use Rattle.auc_graph.specs.Table.{IsTableOf, Table}
 use Rattle.auc_graph.specs.declared.rows.RowArc.{RowArc}
 use Rattle.auc_hall.proofs.Membership.{contains_at}
 use Rattle.auc_hall.proofs.ProblemLaws.{length-rows, row_is}
-use Rattle.auc_letters.specs.Price.{IsPrice}
 use Rattle.auc_letters.specs.declared.state.Held.{Held}
 use Rattle.auc_model.proofs.Chosen.{Found, row_arc_listed}
 use Rattle.auc_answers.specs.declared.answer.Answer.{Answer}
@@ -38,9 +36,6 @@ use Rattle.auc_direct.specs.Starts.{AreOpened}
 use Rattle.auc_direct.proofs.Choices as choices
 use Rattle.auc_direct.proofs.MarketLaws.{holder_has, owner_below}
 
-in_range : (prices : List ℤ) → All IsPrice prices → All IsPriceText prices
-in_range prices = All-weaker IsPrice IsPriceText (λ z h. record { low = h.low; high = h.high }) prices
-
 module _ (p : Problem) (t : Table) (r : FlatTable) (prices : List ℤ) (holders : List ℕ) (owns : List ShortArc) (held : List (Option Held)) (is : IsProblem p) (its : IsTableOf p t) (same : AreSameRows t r) (sound : IsFlatTable r) (are : AreHeld p holders owns held) where
   -- ---- each person has an object
 
@@ -52,7 +47,7 @@ module _ (p : Problem) (t : Table) (r : FlatTable) (prices : List ℤ) (holders 
     certified =
         let given = choices.assigned p t r (pos 1) prices holders owns held its same sound stands are all in
         let many = choices.many_prices p t r (pos 1) prices holders owns held its same sound stands are in
-        let spelled = assignment_spelled p choice prices is given many (in_range prices stands.within) in
+        let spelled = assignment_spelled p choice prices is given many stands.within in
         let faultless = slack_right_faultless p choice given prices many (total_cost choice) refl (choices.slack_all p t r (pos 1) prices holders owns held its same sound stands are all) (choices.no_price_left p t r (pos 1) prices holders owns held its same sound stands are all is) in
         record { spelled = spelled; faultless = faultless; allowed = faultless_is_allowed p (claim_of choice prices) is spelled faultless }
 
@@ -68,7 +63,7 @@ module _ (p : Problem) (t : Table) (r : FlatTable) (prices : List ℤ) (holders 
     fits : BoundFits p prices
     fits =
         let many = choices.many_prices p t r eps prices holders owns held its same sound stands are in
-        bound_fits p reason prices is many (in_range prices stands.within) (holders_price_few p held prices is (choices.placeable p t r eps prices holders owns held its same sound stands are) many (choices.spare p t r eps prices holders owns held its same sound stands are)) has
+        bound_fits p reason prices is many stands.within (holders_price_few p held prices is (choices.placeable p t r eps prices holders owns held its same sound stands are) many (choices.spare p t r eps prices holders owns held its same sound stands are)) has
 
     pub stopped_is_answer : (answer : Answer) → IsBracketAnswer p reason held prices answer → IsAnswer p answer
     stopped_is_answer (Answer.Optimal cert) h = absurd h

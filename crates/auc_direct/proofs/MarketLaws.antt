@@ -8,7 +8,8 @@ use Rattle.std.proofs.lemmas.List.Elements.{All-contains, All-set}
 use Rattle.auc_graph.specs.Assignment.{total}
 use Rattle.auc_graph.specs.Dual.{price_at}
 use Rattle.auc_graph.specs.declared.limits.TheConstants.{MOST_PERSONS}
-use Rattle.auc_letters.specs.Price.{IsEps, IsPrice}
+use Rattle.auc_graph.specs.Price.{IsPrice}
+use Rattle.auc_letters.specs.Price.{IsEps}
 use Rattle.auc_rows.specs.declared.arc.ShortArc.{ShortArc}
 use Rattle.auc_rows.specs.Rows.{FlatTable, IsFlatTable, IsShort, flat_row_of, scale_in}
 use Rattle.auc_direct.specs.declared.market.TheConstants.{NOBODY}

@@ -8,7 +8,8 @@ use Rattle.std.proofs.lemmas.List.Elements.{All-contains, All-from_get_or, All-g
 use Rattle.std.proofs.lemmas.Option.{same_Some, slice_get-get_or, slice_get_within}
 use Rattle.auc_graph.specs.Assignment.{total}
 use Rattle.auc_graph.specs.Dual.{price_at}
-use Rattle.auc_letters.specs.Price.{IsEps, IsPrice}
+use Rattle.auc_graph.specs.Price.{IsPrice}
+use Rattle.auc_letters.specs.Price.{IsEps}
 use Rattle.auc_rows.specs.declared.arc.ShortArc.{ShortArc}
 use Rattle.auc_rows.specs.Rows.{IsFlatTable, IsShort, FlatTable, flat_row_of}
 use Rattle.auc_direct.specs.declared.label.Label.{Label}

@@ -1,7 +1,7 @@
 //! A person's best arc, and what his other arcs are worth at least.
 
 ghost use Rattle.std.specs.Prelude.{◌<◌, pos, ◌≤ℤ◌, All, length};
-ghost use Rattle.auc_letters.specs.Price.{IsPrice};
+ghost use Rattle.auc_graph.specs.Price.{IsPrice};
 ghost use Rattle.auc_rows.specs.Rows.{IsShort};
 ghost use Rattle.auc_direct.specs.Scan.{short_value};
 ghost use Rattle.auc_direct.specs.Shortlist.{IsBest};

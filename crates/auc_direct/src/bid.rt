@@ -1,14 +1,15 @@
 //! What a person bids at the present prices.
 
 ghost use Rattle.std.specs.Prelude.{true, false, ◌≡◌, ◌<◌, ◌+◌, ◌*◌, ◌^◌, pos, ◌+ℤ◌, ◌-ℤ◌, ◌*ℤ◌, ◌≤ℤ◌, ◌<ℤ◌, All, length};
-ghost use Rattle.auc_letters.specs.Price.{IsEps, IsPrice};
+ghost use Rattle.auc_graph.specs.Price.{IsPrice};
+ghost use Rattle.auc_letters.specs.Price.{IsEps};
 ghost use Rattle.auc_rows.specs.Rows.{IsShort};
 ghost use Rattle.auc_direct.specs.Bid.{IsRaise};
 ghost use Rattle.auc_direct.specs.Scan.{IsValue, endless, short_value};
 ghost use Rattle.auc_direct.specs.Shortlist.{IsBest};
 
 use crate::best::Best;
-use auc_letters::MOST_PRICE;
+use auc_graph::MOST_PRICE;
 use auc_rows::ShortArc;
 
 /// What is bid: an amount, in scaled costs, which the object's price is then; and the arc that it is bid by.

@@ -1,7 +1,7 @@
 //! What a person pays for what he holds, and how near he is to an object.
 
 ghost use Rattle.std.specs.Prelude.{◌≡◌, ◌<◌, ◌≤◌, ◌+◌, ◌^◌, pos, ◌≤ℤ◌, All, length};
-ghost use Rattle.auc_letters.specs.Price.{IsPrice};
+ghost use Rattle.auc_graph.specs.Price.{IsPrice};
 ghost use Rattle.auc_rows.specs.Rows.{IsShort};
 ghost use Rattle.auc_direct.specs.Path.{AreOwns, IsAsNear, IsNoNearer, own_value};
 ghost use Rattle.auc_direct.specs.Scan.{IsValue, short_value};

@@ -1,7 +1,7 @@
 //! The lists of candidates of all persons, by which most bids of long rows look at a few arcs alone.
 
 ghost use Rattle.std.specs.Prelude.{◌≡◌, ◌<◌, List, ℤ, All, length, IfOk};
-ghost use Rattle.auc_letters.specs.Price.{IsPrice};
+ghost use Rattle.auc_graph.specs.Price.{IsPrice};
 ghost use Rattle.auc_rows.specs.Rows.{EachHasArc, flat_row_of, scale_in};
 ghost use Rattle.auc_direct.specs.Scan.{short_value};
 ghost use Rattle.auc_direct.specs.Shortlist.{IsBest, Kept};

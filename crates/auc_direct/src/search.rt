@@ -2,7 +2,7 @@
 
 ghost use Rattle.std.specs.Prelude.{◌≡◌, ◌<◌, ◌+◌, ◌++◌, ◌∷◌, [], ℕ, All, length, IfOk, IfSome, OnOk};
 ghost use Rattle.std.specs.BinaryHeap.{heap_items};
-ghost use Rattle.auc_letters.specs.Price.{IsPrice};
+ghost use Rattle.auc_graph.specs.Price.{IsPrice};
 ghost use Rattle.auc_direct.specs.Path.{AreHolders, AreLabels, AreLeft, AreOwns, Grows, IsClean, IsEnd, IsFrom, Reaches, seats, settled_at};
 
 use crate::hop::{reach, value_of_own};

@@ -2,7 +2,7 @@
 
 ghost use Rattle.std.specs.Prelude.{ℕ, ℤ, true, ◌≡◌, ◌⊎◌, pos, All, length, IfOk, IfSome, IfNone};
 ghost use Rattle.auc_graph.specs.Assignment.{total};
-ghost use Rattle.auc_graph.specs.Price.{IsPrice as IsPriceText};
+ghost use Rattle.auc_graph.specs.Price.{IsPrice};
 ghost use Rattle.auc_letters.specs.Price.{IsEps};
 ghost use Rattle.auc_answers.specs.Answers.{HasAssignment, IsAnswer, IsBracketAnswer, IsInfeasibleAnswer};
 ghost use Rattle.auc_rows.specs.Rows.{AreRowsOf, EachHasArc, IsFlatTable};
@@ -50,7 +50,7 @@ fn bracketed(
 ) -> Result<Answer, AllocError>
     requires holders { length gathered.holders.items ≡ problem.now.objects }
     requires prices { length gathered.prices.items ≡ problem.now.objects }
-    requires within { All IsPriceText gathered.prices.items }
+    requires within { All IsPrice gathered.prices.items }
     ensures { IfOk result (λ a. IsInfeasibleAnswer problem.now a ⊎ (HasAssignment problem.now × IsBracketAnswer problem.now reason gathered.holders.items gathered.prices.items a)) }
 {
     match prepare(alloc, problem)? {

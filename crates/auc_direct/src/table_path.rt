@@ -1,7 +1,8 @@
 //! A path in a full table: a search of which nothing is proved proposes prices and steps, and each is tried before it is taken.
 
 ghost use Rattle.std.specs.Prelude.{◌≡◌, ◌<◌, ◌≢◌, ℕ, All, Contains, IsTrue, IfOk, length};
-ghost use Rattle.auc_letters.specs.Price.{IsEps, IsPrice};
+ghost use Rattle.auc_graph.specs.Price.{IsPrice};
+ghost use Rattle.auc_letters.specs.Price.{IsEps};
 ghost use Rattle.auc_rows.specs.Rows.{EachHasArc, IsFlatTable, flat_row_of};
 ghost use Rattle.auc_direct.specs.declared.market.TheConstants.{NOBODY};
 ghost use Rattle.auc_direct.specs.Market.{AreHigher, IsSlack, Stands, holder_at, own_at};
@@ -12,7 +13,7 @@ use crate::market::{Market, NO_OWN, NOBODY};
 use crate::scan::value_of;
 use crate::slack::is_slack;
 use crate::table_search::{Step, TableSearch};
-use auc_letters::MOST_PRICE;
+use auc_graph::MOST_PRICE;
 use auc_rows::{FlatRows, ShortArc};
 use std::alloc::AllocError;
 use std::mem;

@@ -2,7 +2,7 @@
 
 ghost use Rattle.std.specs.Prelude.{◌≡◌, ◌≢◌, ◌<◌, ◌≤◌, ◌-◌, ◌+◌, ◌^◌, ℕ, pos, ◌+ℤ◌, ◌≤ℤ◌, IsTrue, All, length, set, slice_index_or};
 ghost use Rattle.auc_graph.specs.Dual.{price_at};
-ghost use Rattle.auc_letters.specs.Price.{IsPrice};
+ghost use Rattle.auc_graph.specs.Price.{IsPrice};
 ghost use Rattle.auc_rows.specs.declared.arc.ShortArc.{ShortArc};
 ghost use Rattle.auc_rows.specs.Rows.{IsFlatTable, flat_row_of};
 ghost use Rattle.auc_direct.specs.declared.market.TheConstants.{NOBODY};
@@ -10,7 +10,8 @@ ghost use Rattle.auc_direct.specs.Market.{holder_at, no_own, own_at};
 ghost use Rattle.auc_direct.specs.Path.{Agree, AreRaised, AreTaken, IsChain, IsLabelArc, IsLine, label_of, near_of, place_of, seats};
 
 use crate::label::Label;
-use auc_letters::{Held, MOST_PRICE};
+use auc_graph::MOST_PRICE;
+use auc_letters::Held;
 use auc_rows::{FlatRows, ShortArc};
 
 /// How much the price of an object that is so near rises.

@@ -1,4 +1,4 @@
--- Prices of objects: scaled costs.
+-- Prices of objects, copies of prices and amounts of bids: scaled costs.
 use Rattle.std.specs.Prelude.{◌^◌, ℤ, pos, ◌≤ℤ◌}
 
 -- from 0 to 2^61

@@ -1,7 +1,7 @@
 //! Laws of the definitions, as contracts of functions without a body: what prices show of the cost of every assignment, and the numbers
 //! of the limits.
 
-ghost use Rattle.std.specs.Prelude.{◌≡◌, ◌+◌, ◌≤◌, ◌-ℤ◌, ◌*ℤ◌, ◌≤ℤ◌, ℕ, List, ℤ, pos, neg_ℤ, length, All, FitsSigned, Ok, true};
+ghost use Rattle.std.specs.Prelude.{◌≡◌, ◌+◌, ◌^◌, ◌≤◌, ◌-ℤ◌, ◌*ℤ◌, ◌≤ℤ◌, ℕ, List, ℤ, pos, neg_ℤ, length, All, FitsSigned, Ok, true};
 ghost use Rattle.std.specs.Int.{w64};
 ghost use Rattle.auc_graph.specs.declared.arc.Arc.{Arc};
 ghost use Rattle.auc_graph.specs.Problem.{Problem, IsSquare, IsWithin};
@@ -10,7 +10,7 @@ ghost use Rattle.auc_graph.specs.Assignment.{IsAssignment, IsLeast, total, total
 ghost use Rattle.auc_graph.specs.Price.{IsPrice};
 ghost use Rattle.auc_graph.specs.Dual.{scale_of, dual, is_lower, IsLower, IsSlackRight, AreNotNegative, AreFewPriced, IsNoPriceLeft, EachHasArc};
 
-use crate::limits::{MOST_ARCS, MOST_COST, MOST_OBJECTS, MOST_PERSONS, MOST_READS};
+use crate::limits::{MOST_ARCS, MOST_COST, MOST_OBJECTS, MOST_PERSONS, MOST_PRICE, MOST_READS};
 
 /// Weak duality: at prices that aren't negative no assignment costs, scaled, less than the dual bound; so none costs less than
 /// the least number that reaches this bound when scaled. There may be more objects than persons.
@@ -66,4 +66,5 @@ pub fn limits_are()
     ensures arcs { MOST_ARCS ≡ 33554432 }
     ensures reads { MOST_READS ≡ 1073741824 }
     ensures cost { MOST_COST ≡ pos 1000000000 }
+    ensures price { MOST_PRICE ≡ pos (2 ^ 61) }
 {}

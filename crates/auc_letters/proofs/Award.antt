@@ -3,7 +3,8 @@ use Rattle.std.proofs.Common.{◌^◌, ◌&&◌, pos, ◌≡◌, ℕ, Bool, true
 use Rattle.std.specs.Prelude.{ℤ, ◌≤ℤ◌, ◌<ℤ◌, int_le}
 use Rattle.std.proofs.lemmas.Int.{ints}
 use Rattle.auc_letters.specs.declared.letter.Bid.{Bid}
-use Rattle.auc_letters.specs.Price.{IsEps, IsPrice, is_amount}
+use Rattle.auc_graph.specs.Price.{IsPrice}
+use Rattle.auc_letters.specs.Price.{IsEps, is_amount}
 use Rattle.auc_letters.specs.Award.{Sale, answers, award, award_all, awards, is_accepted, least_amount, refusal, sold_by}
 
 le_true : (a b : ℤ) → a ≤ℤ b → int_le a b ≡ true

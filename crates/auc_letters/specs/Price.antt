@@ -1,9 +1,5 @@
--- Prices, copies of prices, amounts of bids: scaled costs from 0 to 2^61; and eps, from 1 to 2^60.
+-- Eps, from 1 to 2^60 in scaled costs, and what passes as the amount of a bid.
 use Rattle.std.specs.Prelude.{◌^◌, ◌&&◌, ℤ, pos, ◌≤ℤ◌, int_le, Bool}
-
-pub record IsPrice (price : ℤ) : Type 0 where
-  pub low : pos 0 ≤ℤ price
-  pub high : price ≤ℤ pos (2 ^ 61)
 
 pub record IsEps (eps : ℤ) : Type 0 where
   pub low : pos 1 ≤ℤ eps

@@ -2,9 +2,10 @@
 
 ghost use Rattle.std.specs.Prelude.{◌≡◌, ◌^◌, ℤ, pos, ◌≤ℤ◌, ◌↔◌, true, List, None, IsTrue};
 ghost use Rattle.auc_letters.specs.contracts.letter.LetterPartialEq.TheImpl.{eq-value as letter_eq};
-ghost use Rattle.auc_letters.specs.declared.limits.TheConstants.{MOST_PRICE as most_price, MOST_EPS as most_eps, MOST_SHARDS as most_shards};
+ghost use Rattle.auc_letters.specs.declared.limits.TheConstants.{MOST_EPS as most_eps, MOST_SHARDS as most_shards};
 ghost use Rattle.auc_letters.specs.declared.letter.Bid.{Bid as ABid};
-ghost use Rattle.auc_letters.specs.Price.{IsPrice, IsEps, is_amount};
+ghost use Rattle.auc_graph.specs.Price.{IsPrice};
+ghost use Rattle.auc_letters.specs.Price.{IsEps, is_amount};
 ghost use Rattle.auc_letters.specs.Award.{Sale, award_all};
 
 use crate::letter::Letter;
@@ -16,7 +17,6 @@ pub fn equal_letters_are_same()
 
 /// The numbers of the limits; and what passes as an amount is what may be a price.
 pub fn limits_are()
-    ensures price { most_price ≡ pos (2 ^ 61) }
     ensures eps { most_eps ≡ pos (2 ^ 60) }
     ensures shards { most_shards ≡ 16 }
     ensures amounts { (amount : ℤ) → IsTrue (is_amount amount) ↔ IsPrice amount }

@@ -1,7 +1,4 @@
-//! The limits of prices, of eps and of shards.
-
-/// The greatest price, copy of a price and amount of a bid, 2 to the 61st, in scaled costs. The least is 0.
-pub const MOST_PRICE: i64 = 2_305_843_009_213_693_952;
+//! The limits of eps and of shards.
 
 /// The greatest eps, 2 to the 60th, in scaled costs. The least is 1.
 pub const MOST_EPS: i64 = 1_152_921_504_606_846_976;

@@ -6,7 +6,7 @@ use Rattle.auc_graph.specs.declared.rows.RowArc.{RowArc}
 use Rattle.auc_letters.specs.Routing.{price_told, to_hub}
 use Rattle.auc_letters.specs.declared.letter.Letter.{Letter}
 use Rattle.auc_letters.specs.declared.letter.Why.{Why}
-use Rattle.auc_letters.specs.declared.limits.TheConstants.{MOST_PRICE}
+use Rattle.auc_graph.specs.declared.limits.TheConstants.{MOST_PRICE}
 use Rattle.auc_letters.specs.declared.out.Out.{Out}
 use Rattle.auc_letters.specs.declared.out.To.{To}
 use Rattle.auc_letters.specs.declared.state.PersonState.{PersonState}

@@ -6,7 +6,7 @@ use Rattle.auc_letters.specs.declared.letter.Why.{Why}
 use Rattle.auc_letters.specs.declared.out.To.{To}
 use Rattle.auc_letters.specs.declared.out.Out.{Out}
 use Rattle.auc_letters.specs.declared.state.Held.{Held}
-use Rattle.auc_letters.specs.Price.{IsPrice}
+use Rattle.auc_graph.specs.Price.{IsPrice}
 use Rattle.auc_mail.specs.Mail.{Mail, lane_of}
 use Rattle.auc_model.specs.World.{Phase, World}
 use Rattle.auc_model.specs.Mails.{mail_of, box_of}

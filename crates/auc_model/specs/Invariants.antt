@@ -5,7 +5,7 @@ use Rattle.auc_letters.specs.declared.letter.Letter.{Letter}
 use Rattle.auc_letters.specs.declared.letter.Why.{Why}
 use Rattle.auc_letters.specs.declared.out.To.{To}
 use Rattle.auc_letters.specs.declared.state.Held.{Held}
-use Rattle.auc_letters.specs.Price.{IsPrice}
+use Rattle.auc_graph.specs.Price.{IsPrice}
 use Rattle.auc_model.specs.declared.turn.End.{End}
 use Rattle.auc_model.specs.World.{Phase, World, senders}
 use Rattle.auc_model.specs.Mails.{mail_of, box_of}

@@ -4,7 +4,7 @@ use Rattle.auc_mail.specs.Mail.{Mail, empty_mail}
 use Rattle.auc_letters.specs.declared.letter.Letter.{Letter}
 use Rattle.auc_letters.specs.declared.state.PersonState.{PersonState}
 use Rattle.auc_letters.specs.Persons.{is_free}
-use Rattle.auc_letters.specs.Price.{IsPrice}
+use Rattle.auc_graph.specs.Price.{IsPrice}
 use Rattle.auc_model.specs.World.{Phase, World, senders}
 
 -- what the numbers of a phase meet

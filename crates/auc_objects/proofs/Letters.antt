@@ -5,7 +5,8 @@ use Rattle.std.proofs.lemmas.Bool.{cases_Bool, cases_eq, eq-eqb, eqb-true, ne_eq
 use Rattle.auc_letters.specs.declared.letter.Letter.{Letter}
 use Rattle.auc_letters.specs.declared.letter.Bid.{Bid}
 use Rattle.auc_letters.specs.Award.{award, award_all, bid_letter, bid_on, bids_on, bid_of}
-use Rattle.auc_letters.specs.Price.{IsPrice, is_amount}
+use Rattle.auc_graph.specs.Price.{IsPrice}
+use Rattle.auc_letters.specs.Price.{is_amount}
 use Rattle.auc_letters.proofs.Award.{amount_is_price, price_is_amount}
 use Rattle.auc_objects.specs.Objects.{AreObjects, IsBidIn, Objects, Owns, after_bid, sale_of}
 use Rattle.auc_objects.proofs.Sales.{sale_here, sale_other}

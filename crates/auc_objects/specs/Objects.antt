@@ -4,7 +4,7 @@ use Rattle.auc_letters.specs.declared.letter.Letter.{Letter}
 use Rattle.auc_letters.specs.declared.letter.Bid.{Bid}
 use Rattle.auc_letters.specs.declared.state.Held.{Held}
 use Rattle.auc_letters.specs.Award.{Sale, award, bid_letter}
-use Rattle.auc_letters.specs.Price.{IsPrice}
+use Rattle.auc_graph.specs.Price.{IsPrice}
 
 -- The shard's number, of how many; how many shards of persons and how many persons there are; and by object the price and
 -- the holder.

@@ -1,7 +1,7 @@
 //! An object as its shard keeps it: its price and its holder in 16 bytes, so that a bid finds both at one place of memory.
 
 ghost use Rattle.std.specs.Prelude.{◌≡◌, None, Some};
-ghost use Rattle.auc_letters.specs.Price.{IsPrice};
+ghost use Rattle.auc_graph.specs.Price.{IsPrice};
 ghost use Rattle.auc_objects.specs.PackedSales.{holder_in, price_in};
 
 use auc_letters::Held;

@@ -1,7 +1,8 @@
 //! One shard of the objects.
 
 ghost use Rattle.std.specs.Prelude.{map, ◌≡◌, ◌<◌, ◌≤◌, ◌^◌, ◌*◌, pos, ◌+ℤ◌, ◌≤ℤ◌, ◌<ℤ◌, length, replicate, ◌∷◌, [], ◌↔◌, All, IfOk, IfSome, IfNone, IsTrue, Some, None};
-ghost use Rattle.auc_letters.specs.Price.{IsPrice, IsEps};
+ghost use Rattle.auc_graph.specs.Price.{IsPrice};
+ghost use Rattle.auc_letters.specs.Price.{IsEps};
 ghost use Rattle.auc_letters.specs.Routing.{to_person, to_hub, price_told};
 ghost use Rattle.auc_letters.specs.Award.{Sale, answers, bid_of};
 ghost use Rattle.auc_objects.specs.Objects.{AreObjects, Objects, IsBidIn, Owns, SameShape, after_bid, holder_of, price_of, sale_of, with_sale};
@@ -11,7 +12,8 @@ ghost use Rattle.auc_objects.specs.PackedSales.{holder_in, price_in};
 use crate::answers::Answers;
 use crate::packed_sale::PackedSale;
 use arrayvec::ArrayVec;
-use auc_letters::{Bid, Held, Letter, MOST_PRICE, Out, To, shard_of};
+use auc_graph::MOST_PRICE;
+use auc_letters::{Bid, Held, Letter, Out, To, shard_of};
 use std::alloc::{AllocError, Global};
 use std::marker::Model;
 

@@ -9,7 +9,7 @@ use Rattle.std.proofs.lemmas.List.Elements.{All-get_or}
 use Rattle.auc_graph.specs.declared.rows.RowArc.{RowArc}
 use Rattle.auc_graph.specs.Bid.{value}
 use Rattle.auc_graph.specs.Table.{IsRow, IsRowArc}
-use Rattle.auc_letters.specs.Price.{IsPrice}
+use Rattle.auc_graph.specs.Price.{IsPrice}
 use Rattle.auc_persons.specs.declared.scan.Scan.{Scan}
 use Rattle.auc_persons.specs.Blocks.{Above}
 use Rattle.auc_persons.specs.Scan.{IsValue, copy_in}

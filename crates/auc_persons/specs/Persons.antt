@@ -9,7 +9,7 @@ use Rattle.auc_letters.specs.declared.state.PersonState.TheVariants.{Free, Waits
 use Rattle.auc_persons.specs.declared.bidding.Bidding.{Bidding}
 use Rattle.auc_persons.specs.declared.bidding.PersonFault.{PersonFault}
 use Rattle.auc_letters.specs.Persons.{is_free}
-use Rattle.auc_letters.specs.Price.{IsPrice}
+use Rattle.auc_graph.specs.Price.{IsPrice}
 use Rattle.auc_letters.specs.Award.{bid_of, bid_out}
 use Rattle.auc_graph.specs.Bid.{IsBid}
 use Rattle.auc_persons.specs.Scan.{copy_in}

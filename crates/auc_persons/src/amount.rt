@@ -2,7 +2,8 @@
 
 ghost use Rattle.std.specs.Prelude.{◌≡◌, ◌*◌, ◌^◌, pos, ◌+ℤ◌, ◌-ℤ◌, ◌*ℤ◌, ◌≤ℤ◌};
 ghost use Rattle.auc_graph.specs.Bid.{IsBid};
-ghost use Rattle.auc_letters.specs.Price.{IsPrice, IsEps};
+ghost use Rattle.auc_graph.specs.Price.{IsPrice};
+ghost use Rattle.auc_letters.specs.Price.{IsEps};
 ghost use Rattle.auc_persons.specs.Scan.{copy_in, IsScan, IsValue};
 ghost use Rattle.auc_persons.specs.Priced.{value_in};
 

@@ -2,7 +2,8 @@
 
 ghost use Rattle.std.specs.Prelude.{◌≡◌, ◌<◌, [], length, All, IfSome, IfNone};
 ghost use Rattle.auc_graph.specs.Table.{row_of};
-ghost use Rattle.auc_letters.specs.Price.{IsEps, IsPrice};
+ghost use Rattle.auc_graph.specs.Price.{IsPrice};
+ghost use Rattle.auc_letters.specs.Price.{IsEps};
 ghost use Rattle.auc_persons.specs.Bid.{IsBidAt, IsBidOf};
 ghost use Rattle.auc_persons.specs.Candidates.{Kept};
 ghost use Rattle.auc_persons.specs.declared.method.Method.{Method};

@@ -3,7 +3,7 @@
 //! What must hold of them is told here once. It goes by value through all ways to find a bid.
 
 ghost use Rattle.std.specs.Prelude.{◌≡◌, ◌<◌, All, length};
-ghost use Rattle.auc_letters.specs.Price.{IsPrice};
+ghost use Rattle.auc_graph.specs.Price.{IsPrice};
 
 use auc_graph::Rows;
 

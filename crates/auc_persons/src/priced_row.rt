@@ -2,7 +2,7 @@
 
 ghost use Rattle.std.specs.Prelude.{pos, ◌≤ℤ◌, All, length};
 ghost use Rattle.auc_graph.specs.Table.{IsRow};
-ghost use Rattle.auc_letters.specs.Price.{IsPrice};
+ghost use Rattle.auc_graph.specs.Price.{IsPrice};
 
 use crate::person_row::PersonRow;
 use crate::scan::{scale_of, value_of};

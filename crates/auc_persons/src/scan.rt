@@ -1,7 +1,7 @@
 //! A person's best arc, in one pass over his row.
 
 ghost use Rattle.std.specs.Prelude.{◌≡◌, ◌≢◌, ◌≤◌, ◌+◌, ◌*◌, ◌^◌, pos, neg_ℤ, ◌+ℤ◌, ◌*ℤ◌, ◌≤ℤ◌, IfSome, IfNone, []};
-ghost use Rattle.auc_letters.specs.Price.{IsPrice};
+ghost use Rattle.auc_graph.specs.Price.{IsPrice};
 ghost use Rattle.auc_persons.specs.Scan.{Chosen, Judged, Joined, Passed, IsScan, IsValue};
 ghost use Rattle.auc_persons.specs.Priced.{value_in};
 

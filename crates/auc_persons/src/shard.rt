@@ -5,7 +5,7 @@
 ghost use Rattle.std.specs.Prelude.{◌≡◌, ◌≢◌, ◌<◌, ◌≤◌, ◌-◌, drop, [], ◌∷◌, ◌++◌, length, replicate, slice_set, All, IfOk};
 ghost use Rattle.std.specs.VecDeque.{deque_capacity};
 ghost use Rattle.auc_letters.specs.Persons.{persons_of};
-ghost use Rattle.auc_letters.specs.Price.{IsPrice};
+ghost use Rattle.auc_graph.specs.Price.{IsPrice};
 ghost use Rattle.auc_persons.specs.Persons.{Persons, Owns, copy_of, first_idle, state_of, with_copy};
 
 mod hearing;

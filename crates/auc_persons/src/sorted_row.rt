@@ -2,7 +2,7 @@
 
 ghost use Rattle.std.specs.Prelude.{pos, ◌≤ℤ◌, All, length};
 ghost use Rattle.auc_graph.specs.Table.{IsRowArc};
-ghost use Rattle.auc_letters.specs.Price.{IsPrice};
+ghost use Rattle.auc_graph.specs.Price.{IsPrice};
 ghost use Rattle.auc_persons.specs.Rising.{IsRisingRow};
 
 use crate::priced_row::PricedRow;

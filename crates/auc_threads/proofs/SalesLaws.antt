@@ -10,7 +10,7 @@ use Rattle.auc_letters.specs.declared.letter.Bid.{Bid}
 use Rattle.auc_letters.specs.declared.letter.Why.{Why}
 use Rattle.auc_letters.specs.declared.out.Out.{Out}
 use Rattle.auc_letters.specs.Award.{Sale, award, award_all, bid_letter, bid_on, bids_on}
-use Rattle.auc_letters.specs.Price.{IsPrice}
+use Rattle.auc_graph.specs.Price.{IsPrice}
 use Rattle.auc_letters.proofs.Award.{price_is_amount}
 use Rattle.auc_objects.specs.Objects.{Objects, Owns, SameShape, after_bid, sale_of}
 use Rattle.auc_objects.proofs.Letters.{stray as stray_letter}

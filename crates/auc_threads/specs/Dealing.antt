@@ -6,7 +6,7 @@ use Rattle.auc_letters.specs.declared.letter.Bid.{Bid}
 use Rattle.auc_letters.specs.declared.letter.Why.{Why}
 use Rattle.auc_letters.specs.declared.out.Out.{Out}
 use Rattle.auc_letters.specs.Award.{answers, bid_letter, is_accepted}
-use Rattle.auc_letters.specs.Price.{IsPrice}
+use Rattle.auc_graph.specs.Price.{IsPrice}
 use Rattle.auc_letters.specs.Routing.{price_told}
 use Rattle.auc_objects.specs.Objects.{IsBidIn, Objects, Owns, after_bid, price_of, sale_of}
 use Rattle.auc_book.specs.Seat.{Account}

@@ -2,7 +2,7 @@
 
 ghost use Rattle.std.specs.Prelude.{ℕ, ◌≡◌, ◌≢◌, ◌<◌, ◌%◌, ◌↔◌, ◌++◌, [], ◌∷◌, map, length, pos, Some, None, IsTrue, IfOk, IfSome, All, slice_index_or};
 ghost use Rattle.auc_letters.specs.declared.letter.Why.{Why};
-ghost use Rattle.auc_letters.specs.Price.{IsPrice};
+ghost use Rattle.auc_graph.specs.Price.{IsPrice};
 ghost use Rattle.auc_model.specs.declared.turn.End.{End};
 ghost use Rattle.auc_threads.specs.Gathering.{Gathers, IsOwnShard};
 ghost use Rattle.auc_threads.specs.Placed.{Placed};

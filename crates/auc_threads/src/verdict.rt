@@ -2,7 +2,7 @@
 
 ghost use Rattle.std.specs.Prelude.{◌≡◌, ◌≢◌, length, All, IfOk, Some};
 ghost use Rattle.auc_graph.specs.Table.{IsTableOf};
-ghost use Rattle.auc_letters.specs.Price.{IsPrice};
+ghost use Rattle.auc_graph.specs.Price.{IsPrice};
 ghost use Rattle.auc_answers.specs.Begins.{ArePrices};
 ghost use Rattle.auc_threads.specs.Verdict.{Decides, verdict_of};
 

@@ -8,7 +8,7 @@ use Rattle.auc_cert.specs.declared.reason.Reason.{Reason}
 use Rattle.auc_letters.specs.declared.letter.Letter.{Letter}
 use Rattle.auc_letters.specs.declared.state.Held.{Held}
 use Rattle.auc_letters.specs.Persons.{persons_of}
-use Rattle.auc_letters.specs.Price.{IsPrice}
+use Rattle.auc_graph.specs.Price.{IsPrice}
 use Rattle.auc_mail.specs.Mail.{blank_lane, empty_mail}
 use Rattle.auc_model.specs.Start.{Starts}
 use Rattle.auc_model.specs.Schedule.{Reached}

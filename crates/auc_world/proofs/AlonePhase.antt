@@ -10,7 +10,7 @@ use Rattle.auc_letters.specs.declared.letter.Bid.{Bid}
 use Rattle.auc_letters.specs.declared.letter.Why.{Why}
 use Rattle.auc_letters.specs.declared.state.Held.{Held}
 use Rattle.auc_letters.specs.Award.{Sale, is_accepted}
-use Rattle.auc_letters.specs.Price.{IsPrice}
+use Rattle.auc_graph.specs.Price.{IsPrice}
 use Rattle.auc_model.specs.Start.{Lawful}
 use Rattle.auc_model.specs.World.{Phase, phase_of, scale}
 use Rattle.auc_model.proofs.Tables.{table_lawful}

@@ -3,8 +3,6 @@ use Rattle.std.proofs.Common.{ℕ, ℤ, pos, ◌+◌, ◌<◌, ◌≡◌, ◌⊎
 use Rattle.std.specs.Prelude.{All, map}
 use Rattle.auc_cert.specs.declared.cert.CertParts.TheVariants.{Optimal}
 use Rattle.auc_cert.specs.Claim.{pick_of}
-use Rattle.std.proofs.lemmas.List.Elements.{All-weaker}
-use Rattle.auc_graph.specs.Price.{IsPrice as IsPriceText}
 use Rattle.auc_cert.proofs.ClaimLaws.{faultless_is_allowed}
 use Rattle.auc_cert.proofs.Converse.{assignment_spelled, slack_right_faultless}
 use Rattle.auc_graph.specs.declared.arc.Arc.{Arc}
@@ -20,16 +18,12 @@ use Rattle.auc_model.proofs.Theorems.{of_every_schedule}
 use Rattle.auc_answers.proofs.FoundLaws.{person_at}
 use Rattle.auc_answers.specs.Answers.{IsCertified}
 use Rattle.auc_graph.specs.Table.{IsTable, IsTableOf, Table}
-use Rattle.auc_letters.specs.Price.{IsPrice}
+use Rattle.auc_graph.specs.Price.{IsPrice}
 use Rattle.auc_model.specs.Chosen.{ArePricesOf, IsHeldArc}
 use Rattle.auc_model.specs.Schedule.{Reached}
 use Rattle.auc_model.specs.World.{World, phase_of}
 use Rattle.auc_model.proofs.Chosen.{holders_are_assignment}
 use Rattle.auc_model.proofs.CountedSlack.{held_slack_right}
-
--- prices of letters are prices
-pub in_range : (prices : List ℤ) → All IsPrice prices → All IsPriceText prices
-in_range prices = All-weaker IsPrice IsPriceText (λ z h. record { low = h.low; high = h.high }) prices
 
 module _ (p : Problem) (t : Table) (shards : ℕ) (v : World) (prices : List ℤ) (is : IsProblem p) (table : IsTable t) (of : IsTableOf p t) (reached : Reached (phase_of t shards (pos 1)) v) (true_prices : ArePricesOf v prices) (many : length prices ≡ p.objects) (range : All IsPrice prices) where
   slack : (choice : List Arc) → IsAssignment p choice → All (IsHeldArc p v) choice → All (IsSlackRight (pos 1) (scale_of p) prices p.arcs) choice
@@ -61,7 +55,7 @@ module _ (p : Problem) (t : Table) (shards : ℕ) (v : World) (prices : List ℤ
 
   certified : (IsSquare p ⊎ ((j : ℕ) → v.holder j ≡ None → v.price j ≡ pos 0)) → (choice : List Arc) → IsAssignment p choice → All (IsHeldArc p v) choice → IsCertified p (Optimal (total_cost choice) (map pick_of choice) prices)
   certified priced choice given held =
-      let spelled = assignment_spelled p choice prices is given many (in_range prices range) in
+      let spelled = assignment_spelled p choice prices is given many range in
       let faultless = slack_right_faultless p choice given prices many (total_cost choice) refl (slack choice given held) (no_price_left priced choice given held) in
       record { spelled = spelled; faultless = faultless; allowed = faultless_is_allowed p (Optimal (total_cost choice) (map pick_of choice) prices) is spelled faultless }
 

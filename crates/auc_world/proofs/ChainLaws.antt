@@ -45,7 +45,7 @@ use Rattle.auc_hall.proofs.ProblemLaws.{length-rows, row_is, stands_for}
 use Rattle.auc_graph.specs.Row.{row}
 use Rattle.auc_graph.specs.declared.rows.RowArc.{RowArc}
 use Rattle.auc_cert.specs.declared.reason.Reason.{Reason}
-use Rattle.auc_world.proofs.Bridge.{counted_are_certified, in_range}
+use Rattle.auc_world.proofs.Bridge.{counted_are_certified}
 use Rattle.auc_cert.specs.Claim.{pick_of}
 use Rattle.std.specs.List.{slice_get}
 
@@ -213,7 +213,7 @@ module _ (p : Problem) (t : Table) (limits : Limits) (start : Option (List ℤ))
   bound_is_cost : HasAssignment p → BoundFits p gathered.prices.items
   bound_is_cost has =
       let priced = left.sales.prices_are ∙ its.objects in
-      bound_fits p Reason.Bids gathered.prices.items is priced (in_range gathered.prices.items left.within)
+      bound_fits p Reason.Bids gathered.prices.items is priced left.within
       (holders_price_few p gathered.holders.items gathered.prices.items is placeable priced (priced_gathered p t limits start done s gathered ok table its ready left)) has
 
   module _ (reason : Reason) (stopped : s.world.end ≡ Some (End.Stopped (why_of reason))) (has : HasAssignment p) where

@@ -9,7 +9,8 @@ use Rattle.auc_graph.specs.Table.{IsTable, Table}
 use Rattle.auc_letters.specs.declared.letter.Letter.{Letter}
 use Rattle.auc_letters.specs.declared.out.Out.{Out}
 use Rattle.auc_letters.specs.declared.state.PersonState.{PersonState}
-use Rattle.auc_letters.specs.Price.{IsEps, IsPrice}
+use Rattle.auc_graph.specs.Price.{IsPrice}
+use Rattle.auc_letters.specs.Price.{IsEps}
 use Rattle.auc_mail.specs.Mail.{Mail, empty_mail}
 use Rattle.auc_objects.specs.Objects.{Objects, holder_of, price_of}
 use Rattle.auc_persons.specs.Persons.{Persons, copy_of, state_of}

@@ -15,7 +15,8 @@ use Rattle.auc_model.specs.Schedule.{Reached}
 use Rattle.auc_model.proofs.Reached.{reached_on, reached_start}
 use Rattle.auc_model.proofs.Rests.{rests_ended}
 use Rattle.auc_model.proofs.Theorems.{of_every_schedule, stuck_only}
-use Rattle.auc_letters.specs.Price.{IsEps, IsPrice}
+use Rattle.auc_graph.specs.Price.{IsPrice}
+use Rattle.auc_letters.specs.Price.{IsEps}
 use Rattle.auc_answers.specs.declared.answer.Guard.{Guard}
 use Rattle.auc_answers.specs.declared.gathered.Gathered.{Gathered}
 use Rattle.auc_answers.specs.declared.limits.Limits.{Limits}

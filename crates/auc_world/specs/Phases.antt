@@ -1,7 +1,7 @@
 -- A phase of a run, and what it comes to.
 use Rattle.std.specs.Prelude.{ℕ, ℤ, ◌≡◌, ◌≢◌, List, Some, None, All}
 use Rattle.auc_graph.specs.Table.{Table}
-use Rattle.auc_letters.specs.Price.{IsPrice}
+use Rattle.auc_graph.specs.Price.{IsPrice}
 use Rattle.auc_model.specs.declared.turn.End.{End}
 use Rattle.auc_model.specs.Schedule.{Reached}
 use Rattle.auc_model.specs.World.{World, phase_of}

@@ -9,7 +9,7 @@ ghost use Rattle.auc_graph.specs.declared.rows.RowArc.{RowArc};
 ghost use Rattle.auc_graph.specs.Assignment.{IsAssignment, total_cost};
 ghost use Rattle.auc_graph.specs.Problem.{Problem, IsProblem, IsSquare};
 ghost use Rattle.auc_graph.specs.Table.{Table, IsTable, IsTableOf};
-ghost use Rattle.auc_letters.specs.Price.{IsPrice};
+ghost use Rattle.auc_graph.specs.Price.{IsPrice};
 ghost use Rattle.auc_letters.specs.declared.letter.Letter.{Letter};
 ghost use Rattle.auc_letters.specs.declared.letter.Why.{Why};
 ghost use Rattle.auc_letters.specs.declared.out.Out.{Out};

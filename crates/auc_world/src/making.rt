@@ -1,7 +1,7 @@
 //! The lists of a new world.
 
 ghost use Rattle.std.specs.Prelude.{ℕ, ℤ, List, ◌≡◌, ◌<◌, length, All, slice_index_or, IfOk};
-ghost use Rattle.auc_letters.specs.Price.{IsPrice};
+ghost use Rattle.auc_graph.specs.Price.{IsPrice};
 ghost use Rattle.auc_answers.specs.Shards.{new_objects, new_persons, no_objects, no_persons};
 ghost use Rattle.auc_world.specs.Lists.{MayKeep};
 

@@ -2,7 +2,8 @@
 
 ghost use Rattle.std.specs.Prelude.{ℕ, ◌≡◌, ◌<◌, pos, slice_index_or, IfOk, IsTrue, ◌↔◌};
 ghost use Rattle.auc_graph.specs.Table.{IsTable};
-ghost use Rattle.auc_letters.specs.Price.{IsEps, IsPrice};
+ghost use Rattle.auc_graph.specs.Price.{IsPrice};
+ghost use Rattle.auc_letters.specs.Price.{IsEps};
 ghost use Rattle.auc_model.specs.Schedule.{Reached};
 ghost use Rattle.auc_model.specs.Start.{Lawful, Starts, UsualNodes};
 ghost use Rattle.auc_model.specs.World.{phase_of};

@@ -1,7 +1,8 @@
 //! What a person bids by a `Bidder` alone, with no shard.
 
 ghost use Rattle.std.specs.Prelude.{All};
-ghost use Rattle.auc_letters.specs.Price.{IsEps, IsPrice};
+ghost use Rattle.auc_graph.specs.Price.{IsPrice};
+ghost use Rattle.auc_letters.specs.Price.{IsEps};
 
 use crate::desk::rows_of;
 use crate::same::assert_same;

@@ -1,7 +1,8 @@
 //! A person shard beside the rows that it was made for.
 
 ghost use Rattle.std.specs.Prelude.{◌≡◌, ◌<◌, All};
-ghost use Rattle.auc_letters.specs.Price.{IsPrice, IsEps};
+ghost use Rattle.auc_graph.specs.Price.{IsPrice};
+ghost use Rattle.auc_letters.specs.Price.{IsEps};
 ghost use Rattle.auc_persons.specs.Persons.{IsMadeFor};
 
 use auc_graph::{ReadLimits, Rows, read_arcs};

@@ -1,7 +1,7 @@
 //! An object shard beside the number of its objects.
 
 ghost use Rattle.std.specs.Prelude.{◌≡◌, length, All, IfSome};
-ghost use Rattle.auc_letters.specs.Price.{IsPrice};
+ghost use Rattle.auc_graph.specs.Price.{IsPrice};
 ghost use Rattle.auc_objects.specs.Objects.{IsBidIn};
 
 use arrayvec::ArrayVec;

@@ -6,7 +6,7 @@ use crate::problems::{NO_OBJECT, ONE, ONE_OBJECT, TWO, in_range, problem_of};
 use crate::same::assert_same;
 use crate::telling::Step::{Look, Round, Rounds};
 use crate::telling::{told, told_at};
-use auc_letters::MOST_PRICE;
+use auc_graph::MOST_PRICE;
 use auc_world::{Answer, Limits, solve_serial};
 use std::test::*;
 

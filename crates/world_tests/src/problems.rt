@@ -1,7 +1,7 @@
 //! Problems, and what is made of them.
 
 ghost use Rattle.std.specs.Prelude.{◌≡◌, All, IfOk};
-ghost use Rattle.auc_letters.specs.Price.{IsPrice};
+ghost use Rattle.auc_graph.specs.Price.{IsPrice};
 ghost use Rattle.auc_answers.specs.Limits.{AreLimits};
 
 use auc_graph::{ArcList, ReadLimits, Rows, read_arcs};

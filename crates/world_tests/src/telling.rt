@@ -3,7 +3,7 @@
 //! Only the functions of this file have a world in hand: a test that has one is slow to prove.
 
 ghost use Rattle.std.specs.Prelude.{All};
-ghost use Rattle.auc_letters.specs.Price.{IsPrice};
+ghost use Rattle.auc_graph.specs.Price.{IsPrice};
 
 use crate::problems::{rows_of, world_at};
 use crate::rounds::{play_round, play_rounds};

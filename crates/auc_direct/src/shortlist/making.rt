@@ -3,7 +3,7 @@
 //! Where it is full, the arc of the greatest value goes for a lesser one, and the bound is at most what that was worth.
 
 ghost use Rattle.std.specs.Prelude.{false, true, ◌≡◌, ◌⊎◌, ◌<◌, ◌++◌, ◌∷◌, [], List, pos, ◌≤ℤ◌, All, length, set};
-ghost use Rattle.auc_letters.specs.Price.{IsPrice};
+ghost use Rattle.auc_graph.specs.Price.{IsPrice};
 ghost use Rattle.auc_rows.specs.declared.arc.ShortArc.{ShortArc};
 ghost use Rattle.auc_rows.specs.Rows.{IsShort};
 ghost use Rattle.auc_direct.specs.Scan.{IsValue, short_value};

@@ -1,13 +1,14 @@
 //! What a shard of the persons hears: answers and prices.
 
 ghost use Rattle.std.specs.Prelude.{◌≡◌, ◌≢◌, ◌<◌, length, IsTrue, ◌↔◌};
-ghost use Rattle.auc_letters.specs.Price.{IsPrice};
+ghost use Rattle.auc_graph.specs.Price.{IsPrice};
 ghost use Rattle.auc_letters.specs.declared.state.PersonState.{PersonState};
 ghost use Rattle.auc_persons.specs.Persons.{Answered, FitsAnswer, FitsPrice, OnLetter, Priced, Raised, NeverFall, SameShape, free_after, held_after};
 
 use crate::bidding::PersonFault;
 use crate::shard::PersonShard;
-use auc_letters::{Letter, MOST_PRICE, PersonState, shard_of};
+use auc_graph::MOST_PRICE;
+use auc_letters::{Letter, PersonState, shard_of};
 
 impl PersonShard {
     /// Whether an answer to a person fits where he stands as it wants.

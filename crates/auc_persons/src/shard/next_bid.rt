@@ -12,8 +12,8 @@ use crate::bidder::Bidder;
 use crate::bidding::Bidding;
 use crate::person_row::PersonRow;
 use crate::shard::PersonShard;
-use auc_graph::Rows;
-use auc_letters::{Bid, MOST_PRICE, Why};
+use auc_graph::{MOST_PRICE, Rows};
+use auc_letters::{Bid, Why};
 
 impl PersonShard {
     /// What comes of the bid of the person who has been free longest, where he has one.

@@ -3,7 +3,8 @@
 ghost use Rattle.std.specs.Prelude.{ℕ, ℤ, ◌≡◌, ◌<◌, ◌≤◌, ◌+◌, ◌*◌, [], ◌∷◌, ◌++◌, None, Some, ◌-◌, length, map, replicate, drop, slice_index_or, slice_set, IsTrue, ◌↔◌, IfOk, IfSome, IfNone};
 ghost use Rattle.std.specs.VecDeque.{deque_capacity};
 ghost use Rattle.auc_letters.specs.Persons.{persons_of};
-ghost use Rattle.auc_letters.specs.Price.{IsEps, IsPrice};
+ghost use Rattle.auc_graph.specs.Price.{IsPrice};
+ghost use Rattle.auc_letters.specs.Price.{IsEps};
 ghost use Rattle.auc_world.specs.Alone.{first_of, freed_by, sale_at, told_of_sale};
 ghost use Rattle.auc_world.specs.AlonePhase.{answered, begun, noted, with_sale, with_told, without_first, without_told};
 ghost use Rattle.auc_world.specs.Lots.{holder_in, price_in};

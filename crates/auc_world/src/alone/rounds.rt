@@ -9,7 +9,7 @@ ghost use Rattle.auc_world.specs.AlonePhase.{IsGoing, IsHalfway, IsStopped, left
 use crate::alone::kept::AloneWorld;
 use crate::alone::task::Task;
 use auc_cert::Reason;
-use auc_letters::MOST_PRICE;
+use auc_graph::MOST_PRICE;
 use auc_persons::Bidder;
 
 /// A phase that has been played.

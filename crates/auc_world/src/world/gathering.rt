@@ -1,7 +1,7 @@
 //! What a phase leaves: who holds each object, and its price.
 
 ghost use Rattle.std.specs.Prelude.{◌<◌, All, IfOk};
-ghost use Rattle.auc_letters.specs.Price.{IsPrice};
+ghost use Rattle.auc_graph.specs.Price.{IsPrice};
 ghost use Rattle.auc_world.specs.Gathering.{IsGathered};
 
 use crate::world::World;

@@ -2,7 +2,7 @@
 
 ghost use Rattle.std.specs.Prelude.{◌≡◌, ◌<◌, ◌+◌, [], ◌∷◌, length, slice_set, All, IfSome, IfNone, IsTrue, ◌↔◌};
 ghost use Rattle.auc_letters.specs.Award.{answers};
-ghost use Rattle.auc_letters.specs.Price.{IsPrice};
+ghost use Rattle.auc_graph.specs.Price.{IsPrice};
 ghost use Rattle.auc_letters.specs.Routing.{price_told};
 ghost use Rattle.auc_model.specs.Selling.{FitsBid, ObjectTakeTurn, TellTurn};
 ghost use Rattle.auc_model.specs.declared.turn.Turn.{Turn};

@@ -2,7 +2,7 @@ use Rattle.std.proofs.Common.{◌≡◌, get_or, pos, w64, rules}
 use Rattle.std.specs.Prelude.{FitsSigned, ◌-ℤ◌, ◌<ℤ◌, ◌≤ℤ◌}
 use Rattle.std.proofs.lemmas.Int.{to_z-of_z}
 use Rattle.std.proofs.lemmas.List.Elements.{All-get_or}
-use Rattle.auc_letters.specs.Price.{IsPrice}
+use Rattle.auc_graph.specs.Price.{IsPrice}
 use Rattle.auc_direct.specs.Scan.{endless, short_value}
 use Rattle.auc_direct.proofs.BidLaws.{lead_is, raise_is}
 use Rattle.auc_direct.proofs.Bounds.{price_fits}

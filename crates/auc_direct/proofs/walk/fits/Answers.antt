@@ -3,7 +3,7 @@ use Rattle.std.specs.Prelude.{FitsSigned, ◌+ℤ◌}
 use Rattle.std.proofs.lemmas.Int.{ints, to_z-of_z}
 use Rattle.std.proofs.lemmas.List.Elements.{All-get_or}
 use Rattle.std.proofs.lemmas.Option.{slice_get-get_or}
-use Rattle.auc_letters.specs.Price.{IsPrice}
+use Rattle.auc_graph.specs.Price.{IsPrice}
 use Rattle.auc_direct.proofs.Bounds.{price_fits}
 use Rattle.auc_direct.proofs.Walks.{all_fit, fit_more, line_within}
 use Rattle.auc_direct.proofs.walk.fits.Goals as goal

@@ -4,7 +4,7 @@ use Rattle.std.proofs.lemmas.Int.{ints, to_z-of_z}
 use Rattle.std.proofs.lemmas.List.Elements.{All-get_or}
 use Rattle.std.proofs.lemmas.Option.{slice_get-get_or}
 use Rattle.auc_graph.specs.Dual.{price_at}
-use Rattle.auc_letters.specs.Price.{IsPrice}
+use Rattle.auc_graph.specs.Price.{IsPrice}
 use Rattle.auc_direct.proofs.Walks.{all_risen, line_within, not_yet, one_risen}
 use Rattle.auc_direct.proofs.walk.raise.Goals as goal
 

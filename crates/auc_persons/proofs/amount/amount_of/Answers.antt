@@ -3,7 +3,7 @@ use Rattle.std.specs.Prelude.{FitsSigned}
 use Rattle.std.proofs.lemmas.Int.{ints, to_z-of_z}
 use Rattle.std.proofs.lemmas.List.Elements.{All-get_or, All-contains}
 use Rattle.auc_graph.specs.Table.{IsRowArc}
-use Rattle.auc_letters.specs.Price.{IsPrice}
+use Rattle.auc_graph.specs.Price.{IsPrice}
 use Rattle.auc_persons.specs.Scan.{copy_in}
 use Rattle.auc_persons.proofs.Bounds.{price_fits}
 use Rattle.auc_persons.proofs.Amounts.{next_bid, only_bid}

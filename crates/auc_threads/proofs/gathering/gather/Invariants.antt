@@ -1,6 +1,6 @@
 use Rattle.std.proofs.Common.{ℕ, ◌≡◌, ◌<◌, ◌≤◌, ◌%◌, None, length, get_or, vec_capacity}
 use Rattle.std.specs.Prelude.{pos, All}
-use Rattle.auc_letters.specs.Price.{IsPrice}
+use Rattle.auc_graph.specs.Price.{IsPrice}
 use Rattle.auc_threads.specs.Gathering.{Gathers}
 use Rattle.auc_threads.proofs.gathering.gather.Given as goal
 

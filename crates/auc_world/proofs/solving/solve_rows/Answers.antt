@@ -4,7 +4,6 @@ use Rattle.std.proofs.lemmas.Int.{to_z-of_z}
 use Rattle.auc_answers.specs.Answers.{IsAnswer, IsBracketAnswer, IsOptimalAnswer}
 use Rattle.auc_world.specs.Chain.{IsOfRun}
 use Rattle.auc_world.specs.Phases.{Stage}
-use Rattle.auc_world.proofs.Bridge.{in_range}
 use Rattle.auc_world.proofs.ChainLaws.{IsReady, last_eps, of_answers, ready_next, sold_is_answer, sold_is_of_run, stopped_is_answer, stopped_is_of_run}
 use Rattle.auc_world.proofs.PhaseLaws.{later_prices}
 use Rattle.auc_world.proofs.solving.solve_rows.Goals as goal
@@ -68,7 +67,7 @@ pub bracket-requires-clause-prices : goal.bracket-requires-clause-prices
 bracket-requires-clause-prices c = let stopped = rw c.in-Stopped.is at c.in_ok-played.ensures.comes in stopped.1.sales.prices_are ∙ c.requires.rows.objects
 
 pub bracket-requires-clause-within : goal.bracket-requires-clause-within
-bracket-requires-clause-within c = let stopped = rw c.in-Stopped.is at c.in_ok-played.ensures.comes in in_range c.in-Stopped.gathered.prices.items stopped.1.within
+bracket-requires-clause-within c = let stopped = rw c.in-Stopped.is at c.in_ok-played.ensures.comes in stopped.1.within
 
 pub returns-in-Stopped-clause-is : goal.returns-in-Stopped-clause-is
 returns-in-Stopped-clause-is c =

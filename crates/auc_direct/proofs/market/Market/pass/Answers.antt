@@ -3,7 +3,7 @@ use Rattle.std.specs.Prelude.{FitsSigned}
 use Rattle.std.proofs.lemmas.Int.{to_z-of_z}
 use Rattle.std.proofs.lemmas.List.Elements.{All-get_or, Contains-get_or}
 use Rattle.auc_graph.specs.Dual.{price_at}
-use Rattle.auc_letters.specs.Price.{IsPrice}
+use Rattle.auc_graph.specs.Price.{IsPrice}
 use Rattle.auc_rows.specs.declared.arc.ShortArc.{ShortArc}
 use Rattle.auc_rows.specs.Rows.{IsShort}
 use Rattle.auc_direct.specs.Scan.{no_arc}

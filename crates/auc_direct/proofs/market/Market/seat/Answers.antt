@@ -3,7 +3,7 @@ use Rattle.std.specs.Prelude.{FitsSigned}
 use Rattle.std.proofs.lemmas.Int.{to_z-of_z}
 use Rattle.std.proofs.lemmas.List.Elements.{All-get_or}
 use Rattle.auc_graph.specs.Dual.{price_at}
-use Rattle.auc_letters.specs.Price.{IsPrice}
+use Rattle.auc_graph.specs.Price.{IsPrice}
 use Rattle.auc_direct.proofs.Bounds.{price_fits}
 use Rattle.auc_direct.proofs.StartLaws.{none_after, object_in, seated_after}
 use Rattle.auc_direct.proofs.market.Market.seat.Goals as goal

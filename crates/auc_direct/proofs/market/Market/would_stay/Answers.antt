@@ -4,7 +4,7 @@ use Rattle.std.proofs.lemmas.Int.{to_z-of_z}
 use Rattle.std.proofs.lemmas.List.{get_or_read}
 use Rattle.std.proofs.lemmas.List.Elements.{All-get_or}
 use Rattle.auc_graph.specs.Dual.{price_at}
-use Rattle.auc_letters.specs.Price.{IsPrice}
+use Rattle.auc_graph.specs.Price.{IsPrice}
 use Rattle.auc_rows.specs.declared.arc.ShortArc.{ShortArc}
 use Rattle.auc_rows.specs.Rows.{flat_row_of}
 use Rattle.auc_direct.specs.declared.market.TheConstants.{NOBODY}

@@ -1,5 +1,5 @@
 use Rattle.std.proofs.Common.{rules, subst, arith, map, ◌≡◌, ◌<◌, pos, length, slice_index_or, sym, ap, ◌∙◌}
-use Rattle.auc_letters.specs.Price.{IsPrice}
+use Rattle.auc_graph.specs.Price.{IsPrice}
 use Rattle.auc_objects.specs.PackedSales.{price_in}
 use Rattle.std.proofs.lemmas.List.{get_or-map, length-map}
 use Rattle.std.proofs.lemmas.List.Elements.{All-get_or}

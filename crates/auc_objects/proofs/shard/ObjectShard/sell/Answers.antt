@@ -1,5 +1,5 @@
 use Rattle.std.proofs.Common.{map, ◌≡◌, List, set, w64, ℤ, Some, ap, ◌∙◌}
-use Rattle.auc_letters.specs.Price.{IsPrice}
+use Rattle.auc_graph.specs.Price.{IsPrice}
 use Rattle.auc_objects.specs.PackedSales.{holder_in, price_in}
 use Rattle.auc_letters.specs.declared.state.Held.{Held}
 use Rattle.auc_objects.specs.Objects.{Objects, with_sale}

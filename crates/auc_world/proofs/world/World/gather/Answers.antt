@@ -2,7 +2,7 @@ use Rattle.std.proofs.Common.{pos, None, arith, rules, w64}
 use Rattle.std.specs.Prelude.{FitsSigned}
 use Rattle.std.proofs.lemmas.Int.{to_z-of_z}
 use Rattle.std.proofs.lemmas.List.Elements.{All-push}
-use Rattle.auc_letters.specs.Price.{IsPrice}
+use Rattle.auc_graph.specs.Price.{IsPrice}
 use Rattle.auc_world.specs.Parts.{seen}
 use Rattle.auc_world.proofs.GatherLaws.{all_gathered, one_longer, one_more}
 use Rattle.auc_world.proofs.world.World.gather.Goals as goal

@@ -1,6 +1,6 @@
 use Rattle.std.proofs.Common.{ℕ, pos, ◌≡◌, ◌<◌, None, length, get_or}
 use Rattle.std.specs.Prelude.{All}
-use Rattle.auc_letters.specs.Price.{IsPrice}
+use Rattle.auc_graph.specs.Price.{IsPrice}
 use Rattle.auc_world.specs.Parts.{seen}
 use Rattle.auc_world.proofs.world.World.gather.Given as goal
 

@@ -4,7 +4,8 @@ use Rattle.std.specs.Int.Signed.{lt_z}
 use Rattle.std.proofs.lemmas.Bool.{cases_lt}
 use Rattle.std.proofs.lemmas.Int.{ints, to_z-of_z}
 use Rattle.auc_graph.specs.Table.{Table, row_of}
-use Rattle.auc_letters.specs.Price.{IsEps, IsPrice}
+use Rattle.auc_graph.specs.Price.{IsPrice}
+use Rattle.auc_letters.specs.Price.{IsEps}
 use Rattle.auc_persons.specs.Candidates.{Kept}
 use Rattle.auc_world.specs.Alone.{Alone}
 use Rattle.auc_world.specs.AlonePhase.{Given, answered}

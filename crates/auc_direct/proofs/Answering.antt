@@ -1,6 +1,6 @@
 -- What the last phase leaves is an answer.
 use Rattle.std.proofs.Common.{Bool, true, false, ℕ, ℤ, pos, ◌≡◌, ◌≢◌, ◌<◌, refl, arith, inl, inr, List, [], ◌∷◌, length, get_or, map, Contains, Option, Some, ap, sym, subst, ◌∙◌}
-use Rattle.std.specs.Prelude.{All, IfOk, Result, Ok, Err, ◌⊎◌}
+use Rattle.std.specs.Prelude.{IfOk, Result, Ok, Err, ◌⊎◌}
 use Rattle.std.specs.List.{slice_get}
 use Rattle.std.proofs.lemmas.Bool.{cases_lt, false≢true}
 use Rattle.std.proofs.lemmas.List.{get_or-map, length-map}

@@ -1,9 +1,9 @@
 -- Lists of candidates.
-use Rattle.std.proofs.Common.{◌≡◌, ℕ, ◌<◌, ◌≤◌, inl, inr, List, [], ◌∷◌, ◌++◌, length, get_or, set, ap, sym, subst, ◌∙◌, arith}
+use Rattle.std.proofs.Common.{◌≡◌, ℕ, ◌+◌, ◌*◌, ◌<◌, ◌≤◌, inl, inr, List, [], ◌∷◌, ◌++◌, length, get_or, set, take, ap, refl, sym, subst, ◌∙◌, arith}
 use Rattle.std.specs.Prelude.{ℤ, ◌≤ℤ◌, ◌⊎◌, All, Contains}
 use Rattle.std.proofs.lemmas.Bool.{cases_eq, cases_lt}
 use Rattle.std.proofs.lemmas.Int.{ints}
-use Rattle.std.proofs.lemmas.List.{get_or_default, get_or_past, get_or-set_same, get_or-set_other, length-set}
+use Rattle.std.proofs.lemmas.List.{get_or_default, get_or_past, get_or-set_same, get_or-set_other, get_or-take, length-set, length-take}
 use Rattle.std.proofs.lemmas.List.Elements.{All-contains, All-get_or, All-nil, All-push, All-set, All-weaker, Contains-append_left, Contains-get_or, Contains-push}
 use Rattle.auc_rows.specs.declared.arc.ShortArc.{ShortArc}
 use Rattle.auc_rows.specs.Rows.{FlatTable, IsShort, flat_row_of, scale_in}
@@ -11,7 +11,7 @@ use Rattle.auc_direct.specs.declared.best.Best.{Best}
 use Rattle.auc_direct.specs.declared.scan.Found.{Found}
 use Rattle.auc_direct.specs.Market.{AreHigher}
 use Rattle.auc_direct.specs.Scan.{IsFound, IsValue, endless, no_arc, short_value}
-use Rattle.auc_direct.specs.Shortlist.{Gathered, IsBest, IsReplaced, Keeps, Kept, Listed, list_at, no_list}
+use Rattle.auc_direct.specs.Shortlist.{Above, AreBounds, Gathered, IsBest, IsReplaced, Keeps, Kept, Listed, Says, SaysNothing, list_at, no_list, nothing}
 
 -- ---- the best arc
 
@@ -68,7 +68,7 @@ module _ (val : ShortArc → ℤ) (row : List ShortArc) (l : Listed) (b : Best) 
     second_is = inr value;
   }
 
-  pub best_told : 2 ≤ length l.arcs → Keeps val row l → IsBest val row b
+  pub best_told : 2 ≤ length l.arcs → Says val row l → IsBest val row b
   best_told two (inl none) = absurd (let e = ap length none in omega (arith, e, two))
   best_told two (inr g) = best_gathered g
 
@@ -78,6 +78,13 @@ pub gathered_none : (val : ShortArc → ℤ) (l : Listed) → l.arcs ≡ [] → 
 gathered_none val l none = record {
   members = subst (All (Contains [])) (sym none) (All-nil (Contains []));
   rest = All-nil (λ b. Contains l.arcs b ⊎ (l.bound ≤ℤ val b));
+}
+
+-- a list with the same arcs and the same bound
+pub gathered_same : (val : ShortArc → ℤ) (seen : List ShortArc) (old new : Listed) → new.arcs ≡ old.arcs → new.bound ≡ old.bound → Gathered val seen old → Gathered val seen new
+gathered_same val seen old new arcs bound g = record {
+  members = subst (All (Contains seen)) (sym arcs) g.members;
+  rest = rw (arcs, bound) g.rest;
 }
 
 -- the list has its arcs still, and the bound has not risen
@@ -144,9 +151,58 @@ module _ (val : ShortArc → ℤ) (seen : List ShortArc) (a : ShortArc) where
       rest = subst (λ (xs : List ShortArc). All (λ b. Contains xs b ⊎ (new.bound ≤ℤ val b)) more) (sym r.arcs) (All-push (λ b. Contains sets b ⊎ (new.bound ≤ℤ val b)) seen a (All-weaker (λ b. Contains old.arcs b ⊎ (old.bound ≤ℤ val b)) (λ b. Contains sets b ⊎ (new.bound ≤ℤ val b)) by_old seen g.rest) (inl in_sets));
     }
 
+-- ---- a list by blocks
+
+-- one arc more
+pub above_more : (val : ShortArc → ℤ) (row : List ShortArc) (from i : ℕ) (old new : ℤ) → i < length row → Above val row from i old → new ≤ℤ old → new ≤ℤ val (get_or row i no_arc) → Above val row from (i + 1) new
+above_more val row from i old new lt above low is k d start end there =
+    elim (cases_lt k i) [
+      | inl before ↦ (let out = above k d start before there in omega (arith, ints, low, out))
+      | inr at ↦ subst (λ (a : ShortArc). new ≤ℤ val a) (get_or_default row i no_arc d lt ∙ ap (λ (m : ℕ). get_or row m d) (omega (arith, at, end))) is
+    ]
+
+-- the bound of a list is below that of a block, so none of its arcs is taken
+pub gathered_above : (val : ShortArc → ℤ) (row : List ShortArc) (block : ℕ) (l : Listed) (least : ℤ) → l.bound ≤ℤ least → Above val row (16 * block) (16 * block + 16) least → Gathered val (take (16 * block) row) l → Gathered val (take (16 * block + 16) row) l
+gathered_above val row block l least low above g = record {
+  members = All-weaker (Contains (take (16 * block) row)) (Contains (take (16 * block + 16) row)) (λ b there. longer b there) l.arcs g.members;
+  rest = all;
+}
+  where
+    longer : (b : ShortArc) → Contains (take (16 * block) row) b → Contains (take (16 * block + 16) row) b
+    longer b (k, lt, is) = (k, (let m = length-take (16 * block) row in let n = length-take (16 * block + 16) row in omega (arith, lt, m, n)), (let short : k < 16 * block = (let m = length-take (16 * block) row in omega (arith, lt, m)) in get_or-take (16 * block + 16) row k b (omega (arith, short)) ∙ (sym (get_or-take (16 * block) row k b short) ∙ is)))
+
+    all : All (λ b. Contains l.arcs b ⊎ (l.bound ≤ℤ val b)) (take (16 * block + 16) row)
+    all k d lt =
+        let n = length-take (16 * block + 16) row in
+        let here : get_or (take (16 * block + 16) row) k d ≡ get_or row k d = get_or-take (16 * block + 16) row k d (omega (arith, lt, n)) in
+        elim (cases_lt k (16 * block)) [
+          | inl before ↦ (
+              let m = length-take (16 * block) row in
+              let seen = g.rest k d (omega (arith, before, lt, n, m)) in
+              subst (λ (b : ShortArc). Contains l.arcs b ⊎ (l.bound ≤ℤ val b)) (get_or-take (16 * block) row k d before ∙ sym here) seen
+              )
+          | inr within ↦ inr (subst (λ (b : ShortArc). l.bound ≤ℤ val b) (sym here) (let out = above k d (omega (arith, within)) (omega (arith, lt, n)) (omega (arith, lt, n)) in omega (arith, ints, low, out)))
+        ]
+
+-- the bound of one block is another one
+pub bounds_set : (val : ShortArc → ℤ) (row : List ShortArc) (bounds : List ℤ) (block : ℕ) (least : ℤ) → block < length bounds → Above val row (16 * block) (16 * block + 16) least → AreBounds val row bounds → AreBounds val row (set bounds block least)
+bounds_set val row bounds block least lt above are b =
+    elim (cases_eq b block) [
+      | inl e ↦ (λ says k d from to there. (
+          let is : get_or (set bounds block least) b nothing ≡ least = ap (λ (m : ℕ). get_or (set bounds block least) m nothing) e ∙ get_or-set_same bounds block least nothing lt in
+          let out = above k d (omega (arith, e, from)) (omega (arith, e, to)) there in
+          omega (arith, ints, is, out)
+          ))
+      | inr ne ↦ (λ says k d from to there. (
+          let is : get_or (set bounds block least) b nothing ≡ get_or bounds b nothing = get_or-set_other bounds block b least nothing ne in
+          let out = are b (omega (arith, ints, is, says)) k d from to there in
+          omega (arith, ints, is, out)
+          ))
+    ]
+
 -- ---- the arcs of a list
 
-pub arcs_short : (val : ShortArc → ℤ) (objects : ℕ) (row : List ShortArc) (l : Listed) → All (IsShort objects) row → Keeps val row l → All (IsShort objects) l.arcs
+pub arcs_short : (val : ShortArc → ℤ) (objects : ℕ) (row : List ShortArc) (l : Listed) → All (IsShort objects) row → Says val row l → All (IsShort objects) l.arcs
 arcs_short val objects row l all (inl none) = subst (All (IsShort objects)) (sym none) (All-nil (IsShort objects))
 arcs_short val objects row l all (inr g) = All-weaker (Contains row) (IsShort objects) (λ b there. All-contains (IsShort objects) row b all there) l.arcs g.members
 
@@ -155,9 +211,9 @@ replaced_short val objects a old new r one all = subst (All (IsShort objects)) (
 
 -- ---- prices rise
 
-pub keeps_rises : (scale : ℤ) (prices new : List ℤ) (row : List ShortArc) (l : Listed) → AreHigher prices new → Keeps (short_value scale prices) row l → Keeps (short_value scale new) row l
-keeps_rises scale prices new row l higher (inl none) = inl none
-keeps_rises scale prices new row l higher (inr g) = inr (record {
+says_rises : (scale : ℤ) (prices new : List ℤ) (row : List ShortArc) (l : Listed) → AreHigher prices new → Says (short_value scale prices) row l → Says (short_value scale new) row l
+says_rises scale prices new row l higher (inl none) = inl none
+says_rises scale prices new row l higher (inr g) = inr (record {
   members = g.members;
   rest = All-weaker (λ b. Contains l.arcs b ⊎ (l.bound ≤ℤ short_value scale prices b)) (λ b. Contains l.arcs b ⊎ (l.bound ≤ℤ short_value scale new b)) by row g.rest;
 })
@@ -166,17 +222,34 @@ keeps_rises scale prices new row l higher (inr g) = inr (record {
     by b (inl there) = inl there
     by b (inr out) = inr (let up = higher b.object in omega (arith, ints, out, up))
 
+bounds_rise : (scale : ℤ) (prices new : List ℤ) (row : List ShortArc) (bounds : List ℤ) → AreHigher prices new → AreBounds (short_value scale prices) row bounds → AreBounds (short_value scale new) row bounds
+bounds_rise scale prices new row bounds higher are b says k d from to lt = let out = are b says k d from to lt in let up = higher (get_or row k d).object in omega (arith, ints, out, up)
+
+pub keeps_rises : (scale : ℤ) (prices new : List ℤ) (row : List ShortArc) (l : Listed) → AreHigher prices new → Keeps (short_value scale prices) row l → Keeps (short_value scale new) row l
+keeps_rises scale prices new row l higher k = record { says = says_rises scale prices new row l higher k.says; bounds = bounds_rise scale prices new row l.blocks higher k.bounds }
+
 pub kept_rises : (r : FlatTable) (prices new : List ℤ) (lists : List Listed) → AreHigher prices new → Kept r prices lists → Kept r new lists
 kept_rises r prices new lists higher kept i = keeps_rises (scale_in r) prices new (flat_row_of r i) (list_at lists i) higher (kept i)
 
 -- ---- the lists of all persons
 
--- lists with no arc say nothing
-pub kept_none : (r : FlatTable) (prices : List ℤ) (lists : List Listed) → All (λ l. l.arcs ≡ []) lists → Kept r prices lists
+-- bounds that say nothing are right
+bounds_none : (val : ShortArc → ℤ) (row : List ShortArc) (bounds : List ℤ) → All (λ b. b ≡ nothing) bounds → AreBounds val row bounds
+bounds_none val row bounds none b says =
+    elim (cases_lt b (length bounds)) [
+      | inl lt ↦ absurd (let e = All-get_or (λ (z : ℤ). z ≡ nothing) bounds b nothing lt none in omega (arith, ints, e, says))
+      | inr past ↦ absurd (let e = get_or_past bounds b nothing (omega (arith, past)) in omega (arith, ints, e, says))
+    ]
+
+keeps_none : (val : ShortArc → ℤ) (row : List ShortArc) (l : Listed) → SaysNothing l → Keeps val row l
+keeps_none val row l n = record { says = inl n.none; bounds = bounds_none val row l.blocks n.blocks }
+
+-- lists that say nothing are right
+pub kept_none : (r : FlatTable) (prices : List ℤ) (lists : List Listed) → All SaysNothing lists → Kept r prices lists
 kept_none r prices lists none i =
     elim (cases_lt i (length lists)) [
-      | inl lt ↦ inl (All-get_or (λ l. l.arcs ≡ []) lists i no_list lt none)
-      | inr past ↦ inl (ap (λ (l : Listed). l.arcs) (get_or_past lists i no_list (omega (arith, past))))
+      | inl lt ↦ keeps_none (short_value (scale_in r) prices) (flat_row_of r i) (list_at lists i) (All-get_or SaysNothing lists i no_list lt none)
+      | inr past ↦ keeps_none (short_value (scale_in r) prices) (flat_row_of r i) (list_at lists i) (subst SaysNothing (sym (get_or_past lists i no_list (omega (arith, past)))) (record { none = refl; blocks = All-nil (λ b. b ≡ nothing) }))
     ]
 
 -- one of them is another one

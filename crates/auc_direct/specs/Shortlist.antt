@@ -1,5 +1,5 @@
 -- Lists of candidates: what they say of a row, and that it stays true while prices rise.
-use Rattle.std.specs.Prelude.{ℕ, ℤ, pos, ◌≡◌, ◌⊎◌, ◌<◌, ◌≤ℤ◌, List, [], length, All, Contains, set, slice_index_or}
+use Rattle.std.specs.Prelude.{ℕ, ℤ, pos, neg_ℤ, ◌≡◌, ◌⊎◌, ◌+◌, ◌*◌, ◌^◌, ◌<◌, ◌≤◌, ◌<ℤ◌, ◌≤ℤ◌, List, [], length, All, Contains, set, slice_index_or}
 use Rattle.auc_rows.specs.declared.arc.ShortArc.{ShortArc}
 use Rattle.auc_rows.specs.Rows.{FlatTable, flat_row_of, scale_in}
 use Rattle.auc_direct.specs.declared.best.Best.{Best}
@@ -14,13 +14,31 @@ pub record IsBest (val : ShortArc → ℤ) (row : List ShortArc) (b : Best) : Ty
   pub least : b.value ≤ℤ b.second
   pub second_is : ((b.second ≡ endless) × All (λ a. a ≡ b.arc) row) ⊎ IsValue b.second
 
--- some arcs of a row, and a bound
+-- some arcs of a row, and a bound; and a bound for each block of 16 arcs of the row, one after another, as far as there are any
 pub record Listed : Type 0 where
   pub bound : ℤ
   pub arcs : List ShortArc
+  pub blocks : List ℤ
 
 abbrev pub no_list : Listed
-no_list = record { bound = pos 0; arcs = [] }
+no_list = record { bound = pos 0; arcs = []; blocks = [] }
+
+-- the bound of a block that says nothing
+abbrev pub nothing : ℤ
+nothing = neg_ℤ (pos (2 ^ 63))
+
+-- the arcs of a row from this place to that are worth this or more
+abbrev pub Above : (ShortArc → ℤ) → List ShortArc → ℕ → ℕ → ℤ → Type 0
+Above val row from to least = (k : ℕ) (d : ShortArc) → from ≤ k → k < to → k < length row → least ≤ℤ val (slice_index_or row k d)
+
+-- the bound of each block is right, or says nothing
+abbrev pub AreBounds : (ShortArc → ℤ) → List ShortArc → List ℤ → Type 0
+AreBounds val row bounds = (b : ℕ) → nothing <ℤ slice_index_or bounds b nothing → Above val row (16 * b) (16 * b + 16) (slice_index_or bounds b nothing)
+
+-- a list with no arc, whose blocks say nothing
+pub record SaysNothing (l : Listed) : Type 0 where
+  pub none : l.arcs ≡ []
+  pub blocks : All (λ b. b ≡ nothing) l.blocks
 
 -- what a list says of the arcs that were seen: its arcs are among them, and each other one is worth no less than the bound
 pub record Gathered (val : ShortArc → ℤ) (seen : List ShortArc) (l : Listed) : Type 0 where
@@ -34,10 +52,16 @@ pub record IsReplaced (val : ShortArc → ℤ) (arc : ShortArc) (old new : Liste
   pub arcs : new.arcs ≡ set old.arcs place arc
   pub bound : new.bound ≤ℤ old.bound
   pub out : new.bound ≤ℤ val (slice_index_or old.arcs place no_arc)
+  pub blocks : new.blocks ≡ old.blocks
 
--- what a list says of a row: it has no arc, or that
-abbrev pub Keeps : (ShortArc → ℤ) → List ShortArc → Listed → Type 0
-Keeps val row l = (l.arcs ≡ []) ⊎ Gathered val row l
+-- what the arcs of a list and its bound say of a row: it has no arc, or that
+abbrev pub Says : (ShortArc → ℤ) → List ShortArc → Listed → Type 0
+Says val row l = (l.arcs ≡ []) ⊎ Gathered val row l
+
+-- what a list says of a row
+pub record Keeps (val : ShortArc → ℤ) (row : List ShortArc) (l : Listed) : Type 0 where
+  pub says : Says val row l
+  pub bounds : AreBounds val row l.blocks
 
 abbrev pub list_at : List Listed → ℕ → Listed
 list_at lists i = slice_index_or lists i no_list

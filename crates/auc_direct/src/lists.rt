@@ -7,17 +7,18 @@ ghost use Rattle.auc_direct.specs.Scan.{short_value};
 ghost use Rattle.auc_direct.specs.Shortlist.{IsBest, Kept};
 
 use crate::best::{Best, best_of};
-use crate::shortlist::Shortlist;
+use crate::shortlist::{ROOM, Shortlist, Values};
 use auc_rows::FlatRows;
 use std::alloc::{AllocError, Global};
 
 /// With so many arcs and more a row has a list.
 const LONG: usize = 48;
 
-/// A list for each person, indexed by person, where some row is long; else none.
+/// A list for each person, indexed by person, where some row is long; else none. And what they are made with.
 #[derive(Drop)]
 pub(crate) struct Lists {
     pub(crate) lists: Vec<Shortlist>,
+    values: Values,
 }
 
 /// Whether some row is long enough for a list.
@@ -31,19 +32,21 @@ fn has_long_row(rows: &FlatRows) -> bool {
 }
 
 impl Lists {
-    /// Lists with no arc, which say nothing. 184 bytes a person where some row is long.
+    /// Lists with no arc, which say nothing. 216 bytes a person where some row is long, and 8 for 16 arcs of a longer one.
     pub(crate) fn new(alloc: Global, rows: &FlatRows) -> Result<Lists, AllocError>
         ensures { IfOk result (λ l. (prices : List ℤ) → Kept rows.now prices l.lists.items) }
     {
+        let values = [0; ROOM];
         if !has_long_row(rows) {
             let lists = Vec::new(alloc);
-            return Ok(Lists { lists });
+            return Ok(Lists { lists, values });
         }
         let mut lists = Vec::with_capacity(alloc, rows.persons() as usize)?;
-        for _ in 0..rows.persons() {
-            lists.push(Shortlist::new())?;
+        for person in 0..rows.persons() {
+            let list = Shortlist::new(alloc, rows.row(person).len())?;
+            lists.push(list)?;
         }
-        Ok(Lists { lists })
+        Ok(Lists { lists, values })
     }
 
     /// The best arc of a person at these prices: by his list where his row is long, and else by a pass over the row.
@@ -63,6 +66,6 @@ impl Lists {
         if row.len() < LONG || place >= self.lists.len() {
             return best_of(scale, row, prices);
         }
-        self.lists[place].best(scale, row, prices)
+        self.lists[place].best(scale, row, prices, &mut self.values)
     }
 }

@@ -1,58 +1,55 @@
 //! How a list is made: one pass over the row, in which the list keeps the arcs that are worth least.
 //!
-//! Where it is full, the arc of the greatest value goes for a lesser one, and the bound is at most what that was worth.
+//! Where it is full, the arc of the greatest value goes for a lesser one, and the bound is at most what that was worth. Where many lists of a person were made, as in a price
+//! war, and his row has blocks, those whose bound is above that of the list are left out.
 
-ghost use Rattle.std.specs.Prelude.{false, true, ◌≡◌, ◌⊎◌, ◌<◌, ◌++◌, ◌∷◌, [], List, pos, ◌≤ℤ◌, All, length, set};
+ghost use Rattle.std.specs.Prelude.{ℕ, false, true, ◌≡◌, ◌+◌, ◌*◌, ◌<◌, ◌≤◌, ◌++◌, ◌∷◌, [], List, pos, ◌≤ℤ◌, All, length, set, take};
 ghost use Rattle.auc_graph.specs.Price.{IsPrice};
 ghost use Rattle.auc_rows.specs.declared.arc.ShortArc.{ShortArc};
 ghost use Rattle.auc_rows.specs.Rows.{IsShort};
 ghost use Rattle.auc_direct.specs.Scan.{IsValue, short_value};
-ghost use Rattle.auc_direct.specs.Shortlist.{Gathered, IsReplaced};
+ghost use Rattle.auc_direct.specs.Shortlist.{Above, AreBounds, Gathered, IsReplaced};
 
 use crate::scan::value_of;
-use crate::shortlist::{ROOM, Shortlist};
+use crate::shortlist::{BLOCK, ROOM, Shortlist, Values};
 use auc_rows::ShortArc;
 
-/// Where an arc stands in a list, and what it is worth.
-#[derive(Clone, Copy)]
-struct Valued {
-    place: usize,
-    value: i64,
-}
+/// So many lists of a person are made by passes over his row, and later ones by its blocks: these cost more at first, and lists that last are not made so often.
+const PASSES: u32 = 4;
 
-impl Valued {
-    /// The one of two that is worth more.
-    #[inline(always)]
-    fn dearer(self, other: Valued) -> Valued
-        ensures { (result ≡ self) ⊎ (result ≡ other) }
-    {
-        if other.value > self.value {
-            other
-        } else {
-            self
-        }
-    }
-}
-
-/// The arc of the greatest value.
-fn dearest(scale: i64, arcs: &[ShortArc], prices: &[i64]) -> Valued
+/// What the arc of the greatest value is worth.
+fn dearest(scale: i64, arcs: &[ShortArc], prices: &[i64]) -> i64
     requires scale_low { pos 1 ≤ℤ scale }
     requires scale_high { scale ≤ℤ pos 10001 }
     requires some { 0 < length arcs.now }
     requires arcs { All (IsShort (length prices.now)) arcs.now }
     requires prices { All IsPrice prices.now }
-    ensures within { result.place < length arcs.now }
-    ensures range { IsValue result.value }
+    ensures { IsValue result }
 {
-    let mut dearest = Valued {
-        place: 0,
-        value: value_of(scale, arcs[0], prices),
-    };
+    let mut dearest = value_of(scale, arcs[0], prices);
     for place in 1..arcs.len() {
         let value = value_of(scale, arcs[place], prices);
-        dearest = dearest.dearer(Valued { place, value });
+        if value > dearest {
+            dearest = value;
+        }
     }
     dearest
+}
+
+/// No arc of a row from one place to another is worth less than this. It is looked for by itself, with no branch: mostly it tells that a block has nothing to say.
+fn least_of(scale: i64, row: &[ShortArc], prices: &[i64], from: usize, to: usize) -> i64
+    requires scale_low { pos 1 ≤ℤ scale }
+    requires scale_high { scale ≤ℤ pos 10001 }
+    requires within { to ≤ length row.now }
+    requires row { All (IsShort (length prices.now)) row.now }
+    requires prices { All IsPrice prices.now }
+    ensures { Above (short_value scale prices.now) row.now from to result }
+{
+    let mut least = i64::MAX;
+    for place in from..to {
+        least = least.min(value_of(scale, row[place], prices));
+    }
+    least
 }
 
 impl Shortlist {
@@ -92,6 +89,7 @@ impl Shortlist {
         ensures arcs { self.new.arcs ≡ self.old.arcs }
         ensures old { self.new.bound ≤ℤ self.old.bound }
         ensures to { self.new.bound ≤ℤ to }
+        ensures blocks { self.new.blocks ≡ self.old.blocks }
     {
         if to >= self.bound {
             return;
@@ -110,34 +108,45 @@ impl Shortlist {
         if arcs.len() == 0 {
             return i64::MAX;
         }
-        dearest(scale, arcs, prices).value + 1
+        dearest(scale, arcs, prices) + 1
     }
 
     /// No arc, and this bound.
     fn begin(&mut self, bound: i64)
-        ensures { self.new.arcs ≡ [] }
+        ensures arcs { self.new.arcs ≡ [] }
+        ensures blocks { self.new.blocks ≡ self.old.blocks }
     {
         self.bound = bound;
         self.count = 0;
     }
 
     /// Looks for the arc of the greatest value in a full list; none that is worth as much is taken then.
-    fn mark(&mut self, scale: i64, prices: &[i64])
-        requires scale_low { pos 1 ≤ℤ scale }
-        requires scale_high { scale ≤ℤ pos 10001 }
-        requires some { 0 < length self.old.arcs }
-        requires arcs { All (IsShort (length prices.now)) self.old.arcs }
-        requires prices { All IsPrice prices.now }
+    fn mark(&mut self, values: &Values)
         ensures arcs { self.new.arcs ≡ self.old.arcs }
         ensures bound { self.new.bound ≤ℤ self.old.bound }
+        ensures blocks { self.new.blocks ≡ self.old.blocks }
     {
-        let worst = dearest(scale, self.arcs(), prices);
-        self.worst = worst.place;
-        self.lower(worst.value);
+        let mut worst = 0;
+        let mut greatest = values[0];
+        for place in 1..ROOM {
+            if values[place] > greatest {
+                worst = place;
+                greatest = values[place];
+            }
+        }
+        self.worst = worst;
+        self.lower(greatest);
     }
 
     /// An arc in the place of the one that was marked, and the bound is at most what that was worth.
-    fn replace(&mut self, scale: i64, arc: ShortArc, prices: &[i64])
+    fn replace(
+        &mut self,
+        scale: i64,
+        arc: ShortArc,
+        prices: &[i64],
+        value: i64,
+        values: &mut Values,
+    )
         requires scale_low { pos 1 ≤ℤ scale }
         requires scale_high { scale ≤ℤ pos 10001 }
         requires some { 0 < length self.old.arcs }
@@ -148,13 +157,14 @@ impl Shortlist {
         let worst = self.worst;
         let arcs = self.arcs();
         let place = if worst < arcs.len() { worst } else { 0 };
-        let value = value_of(scale, arcs[place], prices);
+        let out = value_of(scale, arcs[place], prices);
         self.put(place, arc);
-        self.lower(value);
+        self.lower(out);
+        values[place] = value;
     }
 
     /// An arc more; where the list is full, in the place of the one that was marked.
-    fn add(&mut self, scale: i64, arc: ShortArc, prices: &[i64])
+    fn add(&mut self, scale: i64, arc: ShortArc, prices: &[i64], value: i64, values: &mut Values)
         requires scale_low { pos 1 ≤ℤ scale }
         requires scale_high { scale ≤ℤ pos 10001 }
         requires arc { IsShort (length prices.now) arc }
@@ -162,19 +172,20 @@ impl Shortlist {
         requires prices { All IsPrice prices.now }
         ensures gathered { (seen : List ShortArc) → Gathered (short_value scale prices.now) seen self.old → Gathered (short_value scale prices.now) (seen ++ arc ∷ []) self.new }
         ensures arcs { All (IsShort (length prices.now)) self.new.arcs }
-        ensures some { 0 < length self.new.arcs }
+        ensures blocks { self.new.blocks ≡ self.old.blocks }
     {
         if self.is_full() {
-            self.replace(scale, arc, prices);
+            self.replace(scale, arc, prices, value, values);
             return;
         }
+        values[self.count] = value;
         self.push(arc);
     }
 
-    /// Takes an arc, and marks the one of the greatest value where the list is full then.
+    /// Takes an arc that is worth so much, and marks the one of the greatest value where the list is full then.
     // Apart: few arcs of a row come to it, and the pass over the row has its registers for itself.
     #[inline(never)]
-    fn take(&mut self, scale: i64, arc: ShortArc, prices: &[i64])
+    fn take(&mut self, scale: i64, arc: ShortArc, prices: &[i64], value: i64, values: &mut Values)
         requires scale_low { pos 1 ≤ℤ scale }
         requires scale_high { scale ≤ℤ pos 10001 }
         requires arc { IsShort (length prices.now) arc }
@@ -182,31 +193,123 @@ impl Shortlist {
         requires prices { All IsPrice prices.now }
         ensures gathered { (seen : List ShortArc) → Gathered (short_value scale prices.now) seen self.old → Gathered (short_value scale prices.now) (seen ++ arc ∷ []) self.new }
         ensures arcs { All (IsShort (length prices.now)) self.new.arcs }
+        ensures blocks { self.new.blocks ≡ self.old.blocks }
     {
-        self.add(scale, arc, prices);
+        self.add(scale, arc, prices, value, values);
         if self.is_full() {
-            self.mark(scale, prices);
+            self.mark(values);
         }
     }
 
+    /// Takes the arcs of a row from one place to another that are worth less than the bound.
+    #[inline(always)]
+    fn take_part(
+        &mut self,
+        scale: i64,
+        row: &[ShortArc],
+        prices: &[i64],
+        values: &mut Values,
+        from: usize,
+        to: usize,
+    )
+        requires scale_low { pos 1 ≤ℤ scale }
+        requires scale_high { scale ≤ℤ pos 10001 }
+        requires order { from ≤ to }
+        requires within { to ≤ length row.now }
+        requires row { All (IsShort (length prices.now)) row.now }
+        requires prices { All IsPrice prices.now }
+        requires gathered { Gathered (short_value scale prices.now) (take from row.now) self.old }
+        requires arcs { All (IsShort (length prices.now)) self.old.arcs }
+        ensures gathered { Gathered (short_value scale prices.now) (take to row.now) self.new }
+        ensures arcs { All (IsShort (length prices.now)) self.new.arcs }
+        ensures blocks { self.new.blocks ≡ self.old.blocks }
+    {
+        for place in from..to {
+            let arc = row[place];
+            let value = value_of(scale, arc, prices);
+            if value >= self.bound() {
+                continue;
+            }
+            self.take(scale, arc, prices, value, values);
+        }
+    }
+
+    /// The same of a block of the row, unless its bound tells that it has none. Where it is looked at, it gets its least value as bound.
+    #[inline(always)]
+    fn take_block(
+        &mut self,
+        scale: i64,
+        row: &[ShortArc],
+        prices: &[i64],
+        values: &mut Values,
+        block: usize,
+    )
+        requires scale_low { pos 1 ≤ℤ scale }
+        requires scale_high { scale ≤ℤ pos 10001 }
+        requires block { block < length self.old.blocks }
+        requires start { 16 * block ≤ length row.now }
+        requires row { All (IsShort (length prices.now)) row.now }
+        requires prices { All IsPrice prices.now }
+        requires gathered { Gathered (short_value scale prices.now) (take (16 * block) row.now) self.old }
+        requires arcs { All (IsShort (length prices.now)) self.old.arcs }
+        requires bounds { AreBounds (short_value scale prices.now) row.now self.old.blocks }
+        ensures gathered { Gathered (short_value scale prices.now) (take (16 * block + 16) row.now) self.new }
+        ensures arcs { All (IsShort (length prices.now)) self.new.arcs }
+        ensures bounds { AreBounds (short_value scale prices.now) row.now self.new.blocks }
+        ensures length { length self.new.blocks ≡ length self.old.blocks }
+    {
+        if self.blocks[block] > self.bound {
+            return;
+        }
+        let from = BLOCK * block;
+        let to = from + BLOCK.min(row.len() - from);
+        let least = least_of(scale, row, prices, from, to);
+        self.blocks[block] = least;
+        if least >= self.bound {
+            return;
+        }
+        self.take_part(scale, row, prices, values, from, to);
+    }
+
+    /// By how many blocks of a row of so many arcs the next list is made, which is counted.
+    #[inline(always)]
+    fn next_blocks(&mut self, arcs: usize) -> usize
+        ensures within { result ≤ length self.old.blocks }
+        ensures start { (b : ℕ) → b < result → 16 * b ≤ arcs }
+        ensures same { self.new ≡ self.old }
+    {
+        if self.made < PASSES {
+            self.made += 1;
+            return 0;
+        }
+        self.blocks.len().min(arcs / BLOCK + 1)
+    }
+
     /// Makes the list anew: the arcs of the row that are worth least at these prices.
-    pub(crate) fn remake(&mut self, scale: i64, row: &[ShortArc], prices: &[i64])
+    pub(crate) fn remake(
+        &mut self,
+        scale: i64,
+        row: &[ShortArc],
+        prices: &[i64],
+        values: &mut Values,
+    )
         requires scale_low { pos 1 ≤ℤ scale }
         requires scale_high { scale ≤ℤ pos 10001 }
         requires arcs { All (IsShort (length prices.now)) self.old.arcs }
         requires row { All (IsShort (length prices.now)) row.now }
         requires prices { All IsPrice prices.now }
+        requires bounds { AreBounds (short_value scale prices.now) row.now self.old.blocks }
         ensures gathered { Gathered (short_value scale prices.now) row.now self.new }
         ensures arcs { All (IsShort (length prices.now)) self.new.arcs }
+        ensures bounds { AreBounds (short_value scale prices.now) row.now self.new.blocks }
     {
         let bound = self.ceiling(scale, prices);
         self.begin(bound);
-        for place in 0..row.len() {
-            let arc = row[place];
-            if value_of(scale, arc, prices) >= self.bound() {
-                continue;
-            }
-            self.take(scale, arc, prices);
+        let blocks = self.next_blocks(row.len());
+        for block in 0..blocks {
+            self.take_block(scale, row, prices, values, block);
         }
+        let from = row.len().min(BLOCK * blocks);
+        self.take_part(scale, row, prices, values, from, row.len());
     }
 }

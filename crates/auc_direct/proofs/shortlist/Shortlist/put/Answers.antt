@@ -19,4 +19,4 @@ returns c =
     let n = length-take c.self.inside.count c.self.inside.arcs in
     let e = ap length v in
     let lt : c.args.place < c.self.inside.count = omega (arith, e, n, c.requires) in
-    rw (← c.self.view_is) (ap (λ (xs : List ShortArc). record { bound = c.self.inside.bound; arcs = xs }) (take-set-lt c.self.inside.count c.self.inside.arcs c.args.place c.args.arc lt))
+    rw (← c.self.view_is) (ap (λ (xs : List ShortArc). record { bound = c.self.inside.bound; arcs = xs; blocks = c.self.inside.blocks.items }) (take-set-lt c.self.inside.count c.self.inside.arcs c.args.place c.args.arc lt))

@@ -72,6 +72,24 @@ fn problem_of(rt: &HostRuntime, dice: &mut Dice, shape: Shape) -> Result<ArcList
     ArcList::from_arcs(persons, objects, arcs).map_err(|_| Fail::new("no problem"))
 }
 
+/// A price war: all want the same objects in the same order, and know nearly all, each some 15 of 16. So many lists of a person are made, the later ones by blocks.
+fn war(rt: &HostRuntime) -> Result<ArcList, Fail> {
+    let persons = 300;
+    let mut arcs = Vec::new(rt.alloc());
+    for person in 0..persons {
+        for object in 0..persons {
+            if (3 * person + object) % 16 > 0 {
+                arcs.push(Arc {
+                    cost: i64::from(person + 1) * i64::from(object + 1),
+                    person,
+                    object,
+                })?;
+            }
+        }
+    }
+    ArcList::from_arcs(persons, persons, arcs).map_err(|_| Fail::new("no problem"))
+}
+
 /// The second line of a text: what it claims, how many, and the cost.
 fn claim_of(text: &[u8]) -> &[u8] {
     let mut lines = text.split(|byte| *byte == b'\n');
@@ -90,15 +108,20 @@ fn usual() -> Result<Limits, Fail>
     Ok(limits)
 }
 
-/// Whether both solvers make the same claim of the problems of a shape.
+/// Whether both solvers make the same claim of a problem.
+fn is_alike(rt: &HostRuntime, problem: &ArcList) -> Result<bool, Fail> {
+    let limits = usual()?;
+    let direct = answered(rt, problem, &AMPLE)?;
+    let serial = text_of(rt, problem, solve_serial(rt.alloc(), problem, &limits)?)?;
+    Ok(claim_of(direct.as_slice()) == claim_of(serial.as_slice()))
+}
+
+/// Whether they do of the problems of a shape.
 fn are_alike(rt: &HostRuntime, shape: Shape) -> Result<bool, Fail> {
     let mut dice = Dice { state: 7 };
-    let limits = usual()?;
     for _ in 0..shape.problems {
         let problem = problem_of(rt, &mut dice, shape)?;
-        let direct = answered(rt, &problem, &AMPLE)?;
-        let serial = text_of(rt, &problem, solve_serial(rt.alloc(), &problem, &limits)?)?;
-        if claim_of(direct.as_slice()) != claim_of(serial.as_slice()) {
+        if !is_alike(rt, &problem)? {
             return Ok(false);
         }
     }
@@ -129,5 +152,12 @@ fn long_rows(rt: HostRuntime) -> Result<(), Fail> {
     assert!(rt; are_alike(&rt, LONG)?);
     assert!(rt; are_alike(&rt, Shape { costs: 4, ..LONG })?);
     assert!(rt; are_alike(&rt, Shape { more: 3, ..LONG })?);
+    Ok(())
+}
+
+#[test]
+fn price_war(rt: HostRuntime) -> Result<(), Fail> {
+    let problem = war(&rt)?;
+    assert!(rt; is_alike(&rt, &problem)?);
     Ok(())
 }

@@ -11,7 +11,7 @@ ghost use Rattle.auc_answers.specs.Claims.{BoundFits, IsBracketBy, picks_of};
 
 use crate::answer::{Answer, Guard};
 use crate::gathered::Gathered;
-use crate::picks::{picks_of_holders, picks_of_matching};
+use crate::picks::{picks_of_holders, picks_of_matching, places_of_holders};
 use crate::placing::place_holders;
 use auc_cert::{Cert, CertParts, CertRefused, Pick, Picks, Prices, Reason, check, cost_of};
 use auc_graph::{ArcList, Indices, Rows, dual_bound, lower_of};
@@ -70,9 +70,10 @@ pub fn optimal(alloc: Global, problem: &ArcList, gathered: Gathered) -> Result<A
     let Ok(cost) = i64::try_from(cost_of(picks.as_slice())) else {
         return Ok(Answer::Broken(Guard::Check));
     };
+    let places = places_of_holders(alloc, problem.persons(), holders.as_slice())?;
     let parts = CertParts::Optimal {
         cost,
-        choice: Picks::new(picks),
+        choice: Picks::with_places(picks, places),
         prices: Prices::new(prices),
     };
     match certified(alloc, problem, parts)? {
@@ -81,13 +82,14 @@ pub fn optimal(alloc: Global, problem: &ArcList, gathered: Gathered) -> Result<A
     }
 }
 
-/// What a bracket claims: these picks, what they cost together, and the bound that the prices give. None where that has more than 64
+/// What a bracket claims: these picks, by the arcs at these places, what they cost together, and the bound that the prices give. None where that has more than 64
 /// bits, as it may where there are more objects than persons, and too many of them have a price.
 fn bracket_parts(
     alloc: Global,
     problem: &ArcList,
     reason: Reason,
     picks: Vec<Pick>,
+    places: Indices,
     prices: Vec<i64>,
 ) -> Result<Option<CertParts>, AllocError>
     requires assignment { IsAssignment problem.now (chosen 0 picks.items) }
@@ -109,7 +111,7 @@ fn bracket_parts(
         reason,
         lower,
         cost,
-        choice: Picks::new(picks),
+        choice: Picks::with_places(picks, places),
         prices: Prices::new(prices),
     }))
 }
@@ -149,7 +151,7 @@ pub fn bracket(
         }
     };
     let picks = picks_of_matching(alloc, problem, numbers.as_slice())?;
-    let Some(parts) = bracket_parts(alloc, problem, reason, picks, prices)? else {
+    let Some(parts) = bracket_parts(alloc, problem, reason, picks, numbers, prices)? else {
         return Ok(Answer::Broken(Guard::Check));
     };
     match certified(alloc, problem, parts)? {

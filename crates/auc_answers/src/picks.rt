@@ -9,7 +9,7 @@ ghost use Rattle.auc_hall.specs.OfProblem.{IsFullOf};
 ghost use Rattle.auc_answers.specs.Claims.{IsChoiceOf, pick_at};
 
 use auc_cert::Pick;
-use auc_graph::{Arc, ArcList};
+use auc_graph::{Arc, ArcList, Indices};
 use auc_letters::Held;
 use std::alloc::{AllocError, Global};
 
@@ -64,6 +64,25 @@ pub(crate) fn picks_of_holders(
         });
     }
     all_of(alloc, found.as_slice())
+}
+
+/// Where the arcs of holders stand in the problem's list, indexed by person; 0 of whoever holds nothing.
+pub(crate) fn places_of_holders(
+    alloc: Global,
+    persons: u32,
+    holders: &[Option<Held>],
+) -> Result<Indices, AllocError> {
+    let mut places = vec![in alloc; 0; persons as usize]?;
+    for holder in holders {
+        let Some(held) = holder else {
+            continue;
+        };
+        let person = held.person as usize;
+        if person < places.len() {
+            places[person] = held.arc;
+        }
+    }
+    Ok(Indices::new(places))
 }
 
 /// The picks by the arcs of these numbers.

@@ -38,7 +38,7 @@ pub(crate) fn hand_optimal(
             choice: picks,
             prices: shown,
         } => {
-            set_places(problem.arcs(), picks.as_slice(), choice);
+            set_places(problem.arcs(), picks.as_slice(), picks.places(), choice);
             prices.copy_from_slice(shown.as_slice());
             Solved::Optimal { cost: *cost }
         }
@@ -67,7 +67,7 @@ pub(crate) fn hand_bracket(
             choice: picks,
             prices: shown,
         } => {
-            set_places(problem.arcs(), picks.as_slice(), choice);
+            set_places(problem.arcs(), picks.as_slice(), picks.places(), choice);
             prices.copy_from_slice(shown.as_slice());
             Solved::Bracket {
                 reason: *reason,

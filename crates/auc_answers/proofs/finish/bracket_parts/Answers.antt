@@ -41,4 +41,4 @@ returns-clause-some c =
     let lower = simp to_z-of_z at c.in-Ok.ensures.1 in
     let cost = (simp to_z-of_z at c.in-Ok-try_from.ensures.1) ∙ (c.cost_of.ensures ∙ ap (λ (picks : List Pick). total_cost (chosen 0 picks)) c.as_slice-2.ensures.value) in
     simp to_z-of_z
-    (rw (c.new.ensures, c.new-2.ensures, lower) (bracket_is c.args.problem.now c.args.reason c.args.prices.items c.lower_of.result c.in-Ok-try_from.cost c.args.picks.items c.requires.assignment bound cost))
+    (rw (c.with_places.ensures, c.new.ensures, lower) (bracket_is c.args.problem.now c.args.reason c.args.prices.items c.lower_of.result c.in-Ok-try_from.cost c.args.picks.items c.requires.assignment bound cost))

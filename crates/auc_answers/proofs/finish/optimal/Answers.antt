@@ -30,7 +30,7 @@ returns-in-Some-2 c =
     let narrow : FitsSigned w64 c.in-Ok.cost = search rules in
     let is = simp to_z-of_z at c.in-Ok.ensures.1 in
     let made = rw c.in-Some-2.is at c.in_ok-cert.ensures.some in
-    let named = rw (c.new.ensures, c.new-2.ensures) at (simp to_z-of_z at made.0) in
+    let named = rw (c.with_places.ensures, c.new.ensures) at (simp to_z-of_z at made.0) in
     (chosen 0 c.in-Some.picks.items, choice, named ∙ claim_is c.in-Ok.cost c.in-Some.picks.items c.args.gathered.prices.items (is ∙ cost), made.1)
 
 pub returns : goal.returns
@@ -40,5 +40,5 @@ returns c =
     let wide : FitsSigned w128 c.cost_of.result = search rules in
     let narrow : FitsSigned w64 c.in-Ok.cost = search rules in
     let is = simp to_z-of_z at c.in-Ok.ensures.1 in
-    let none = rw (c.new.ensures, c.new-2.ensures) at (simp to_z-of_z at (rw c.in-None.is at c.in_ok-cert.ensures.none)) in
+    let none = rw (c.with_places.ensures, c.new.ensures) at (simp to_z-of_z at (rw c.in-None.is at c.in_ok-cert.ensures.none)) in
     (refl, refused_claim c.args.problem.now c.args.gathered.holders.items c.args.gathered.prices.items c.in-Some.picks.items choice c.in-Ok.cost (is ∙ cost) none)

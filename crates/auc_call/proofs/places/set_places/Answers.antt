@@ -1,6 +1,6 @@
-use Rattle.std.proofs.Common.{arith}
-use Rattle.auc_call.proofs.PlaceLaws.{all_placed}
+use Rattle.std.proofs.Common.{◌∙◌, sym}
+use Rattle.auc_call.proofs.PlaceLaws.{as_many}
 use Rattle.auc_call.proofs.places.set_places.Goals as goal
 
-pub returns : goal.returns
-returns c = all_placed c.args.arcs.now c.args.picks.now c.loop-place.choice c.loop-place.place (omega arith) (omega (arith, c.requires.size)) c.requires.there c.loop-place.invariant
+pub copy_from_slice-requires : goal.copy_from_slice-requires
+copy_from_slice-requires c = c.requires.size ∙ sym (as_many c.args.arcs.now c.args.picks.now c.in-Some.places.now (c.are_places.ensures c.if-are_places.true))

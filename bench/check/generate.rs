@@ -9,35 +9,17 @@
 //! a price, and the cost of an arc is the level less the price and plus what the arc is worse than the person's best. The
 //! planted arcs are worse by nothing. So cost and price together are, for each person, least at the planted arc.
 
+#[allow(dead_code)]
+#[path = "../random.rs"]
+mod random;
+
+use random::Random;
 use std::fs::File;
 use std::io::{BufWriter, Result, Write};
 
 const MOST_PERSONS: u64 = 10_000;
 const MOST_ARCS: u64 = 33_554_432;
 const MOST_COST: i64 = 1_000_000_000;
-
-/// The generator `splitmix64` of Sebastiano Vigna, in the public domain.
-struct Random(u64);
-
-impl Random {
-    fn next(&mut self) -> u64 {
-        self.0 = self.0.wrapping_add(0x9e37_79b9_7f4a_7c15);
-        let mut z = self.0;
-        z = (z ^ (z >> 30)).wrapping_mul(0xbf58_476d_1ce4_e5b9);
-        z = (z ^ (z >> 27)).wrapping_mul(0x94d0_49bb_1331_11eb);
-        z ^ (z >> 31)
-    }
-
-    /// A number below this one, which is not 0.
-    fn below(&mut self, bound: u64) -> u64 {
-        ((u128::from(self.next()) * u128::from(bound)) >> 64) as u64
-    }
-
-    /// A number from the first to the second.
-    fn between(&mut self, least: i64, most: i64) -> i64 {
-        least + self.below((most - least) as u64 + 1) as i64
-    }
-}
 
 struct Plan {
     /// The object of each person.

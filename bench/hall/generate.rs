@@ -17,6 +17,11 @@
 //! object of his own. The second half knows the first half of the objects alone. Each of these persons sets one of the first
 //! half to his own object, and the search for it walks over all those of the second half who came before.
 
+#[allow(dead_code)]
+#[path = "../random.rs"]
+mod random;
+
+use random::Random;
 use std::fs::File;
 use std::io::{BufWriter, Result, Write};
 use std::iter::once;
@@ -25,37 +30,6 @@ const USAGE: &str = "usage: generate full|hall|random|complete|halves PERSONS [D
 const MOST_PERSONS: usize = 10_000;
 const MOST_COST: usize = 100;
 
-/// The generator `splitmix64` of Sebastiano Vigna, in the public domain.
-struct Random(u64);
-
-impl Random {
-    fn next(&mut self) -> u64 {
-        self.0 = self.0.wrapping_add(0x9e37_79b9_7f4a_7c15);
-        let mut z = self.0;
-        z = (z ^ (z >> 30)).wrapping_mul(0xbf58_476d_1ce4_e5b9);
-        z = (z ^ (z >> 27)).wrapping_mul(0x94d0_49bb_1331_11eb);
-        z ^ (z >> 31)
-    }
-
-    /// A number below this one, which is not 0.
-    fn below(&mut self, bound: usize) -> usize {
-        ((u128::from(self.next()) * bound as u128) >> 64) as usize
-    }
-
-    fn shuffle(&mut self, numbers: &mut [usize]) {
-        for last in (1..numbers.len()).rev() {
-            numbers.swap(last, self.below(last + 1));
-        }
-    }
-
-    /// The numbers below `count` in any order.
-    fn order(&mut self, count: usize) -> Vec<usize> {
-        let mut numbers: Vec<usize> = (0..count).collect();
-        self.shuffle(&mut numbers);
-        numbers
-    }
-}
-
 /// The objects of each person, in the order of the file.
 type Rows = Vec<Vec<usize>>;
 
@@ -63,7 +37,7 @@ type Rows = Vec<Vec<usize>>;
 fn fill<'a>(rows: impl Iterator<Item = &'a mut Vec<usize>>, degree: usize, objects: &[usize], random: &mut Random) {
     for row in rows {
         while row.len() < degree {
-            row.push(objects[random.below(objects.len())]);
+            row.push(objects[random.index(objects.len())]);
         }
         random.shuffle(row);
     }
@@ -118,7 +92,7 @@ fn write_problem(rows: &Rows, random: &mut Random, out: &mut impl Write) -> Resu
     writeln!(out, "{}", rows.len())?;
     for (person, row) in rows.iter().enumerate() {
         for object in row {
-            writeln!(out, "{} {} {}", person + 1, object + 1, random.below(MOST_COST) + 1)?;
+            writeln!(out, "{} {} {}", person + 1, object + 1, random.index(MOST_COST) + 1)?;
         }
     }
     out.flush()

@@ -6,28 +6,15 @@
 //! and a box are drawn for each post; a take goes to a box that has a letter, so each take gives one. BACKLOG is the mail's
 //! room too, so no post is refused.
 
+#[allow(dead_code)]
+#[path = "../random.rs"]
+mod random;
+
+use random::Random;
 use std::fs::File;
 use std::io::{BufWriter, Result, Write};
 
 const MOST_ITEM: u64 = 1_000_000_000;
-
-/// The generator `splitmix64` of Sebastiano Vigna, in the public domain.
-struct Random(u64);
-
-impl Random {
-    fn next(&mut self) -> u64 {
-        self.0 = self.0.wrapping_add(0x9e37_79b9_7f4a_7c15);
-        let mut z = self.0;
-        z = (z ^ (z >> 30)).wrapping_mul(0xbf58_476d_1ce4_e5b9);
-        z = (z ^ (z >> 27)).wrapping_mul(0x94d0_49bb_1331_11eb);
-        z ^ (z >> 31)
-    }
-
-    /// A number below this one, which is not 0.
-    fn below(&mut self, bound: u64) -> u64 {
-        ((u128::from(self.next()) * u128::from(bound)) >> 64) as u64
-    }
-}
 
 struct Shape {
     boxes: u64,

@@ -28,6 +28,11 @@
 //! from `LEAST_DEAR` to `MOST_DEAR`. Those whose planted object is a cheap one have a dear one that is drawn. So the
 //! prices of the cheap objects rise until most persons prefer their dear one.
 
+#[allow(dead_code)]
+#[path = "../random.rs"]
+mod random;
+
+use random::Random;
 use std::fs::File;
 use std::io::{BufWriter, Result, Write};
 
@@ -41,36 +46,9 @@ const MOST_CHEAP: usize = 10;
 const LEAST_DEAR: usize = 9_000;
 const MOST_DEAR: usize = 10_000;
 
-/// The generator `splitmix64` of Sebastiano Vigna, in the public domain.
-struct Random(u64);
-
-impl Random {
-    fn next(&mut self) -> u64 {
-        self.0 = self.0.wrapping_add(0x9e37_79b9_7f4a_7c15);
-        let mut z = self.0;
-        z = (z ^ (z >> 30)).wrapping_mul(0xbf58_476d_1ce4_e5b9);
-        z = (z ^ (z >> 27)).wrapping_mul(0x94d0_49bb_1331_11eb);
-        z ^ (z >> 31)
-    }
-
-    /// A number below this one, which is not 0.
-    fn below(&mut self, bound: usize) -> usize {
-        ((u128::from(self.next()) * bound as u128) >> 64) as usize
-    }
-
-    /// A number from the first to the second.
-    fn between(&mut self, least: usize, most: usize) -> usize {
-        least + self.below(most - least + 1)
-    }
-
-    /// The numbers below `count` in any order.
-    fn order(&mut self, count: usize) -> Vec<usize> {
-        let mut numbers: Vec<usize> = (0..count).collect();
-        for last in (1..count).rev() {
-            numbers.swap(last, self.below(last + 1));
-        }
-        numbers
-    }
+/// A number from the first to the second.
+fn number_from(random: &mut Random, least: usize, most: usize) -> usize {
+    least + random.index(most - least + 1)
 }
 
 /// An arc of a person.
@@ -93,8 +71,8 @@ fn share(persons: usize, percent: usize, most: usize, random: &mut Random) -> Ro
     let mut row_of = |planted: usize| {
         let mut row = Vec::new();
         for object in 0..persons {
-            if object == planted || random.below(100) < percent {
-                row.push(Arc { object, cost: random.between(1, most) });
+            if object == planted || random.index(100) < percent {
+                row.push(Arc { object, cost: number_from(random, 1, most) });
             }
         }
         row
@@ -113,7 +91,7 @@ fn drawn(degrees: &[usize], random: &mut Random, cost: impl Fn(&mut Random) -> u
         let mut objects = vec![planted];
         known_to[planted] = person;
         while objects.len() < degree {
-            let object = random.below(persons);
+            let object = random.index(persons);
             if known_to[object] != person {
                 known_to[object] = person;
                 objects.push(object);
@@ -127,14 +105,14 @@ fn drawn(degrees: &[usize], random: &mut Random, cost: impl Fn(&mut Random) -> u
 
 fn uniform(persons: usize, degree: usize, most: usize, random: &mut Random) -> Rows {
     require_cost(most);
-    drawn(&vec![degree; persons], random, |random| random.between(1, most))
+    drawn(&vec![degree; persons], random, |random| number_from(random, 1, most))
 }
 
 fn shuffled(persons: usize, degree: usize, most: usize, random: &mut Random) -> Rows {
     let mut rows = uniform(persons, degree, most, random);
     for row in &mut rows {
         for last in (1..row.len()).rev() {
-            row.swap(last, random.below(last + 1));
+            row.swap(last, random.index(last + 1));
         }
     }
     rows
@@ -143,20 +121,20 @@ fn shuffled(persons: usize, degree: usize, most: usize, random: &mut Random) -> 
 fn mixed(persons: usize, least: usize, greatest: usize, most: usize, random: &mut Random) -> Rows {
     require_cost(most);
     assert!(least <= greatest, "LEAST is at most GREATEST");
-    let degrees: Vec<usize> = (0..persons).map(|_| random.between(least, greatest)).collect();
-    drawn(&degrees, random, |random| random.between(1, most))
+    let degrees: Vec<usize> = (0..persons).map(|_| number_from(random, least, greatest)).collect();
+    drawn(&degrees, random, |random| number_from(random, 1, most))
 }
 
 fn lone(persons: usize, degree: usize, long: usize, most: usize, random: &mut Random) -> Rows {
     require_cost(most);
     let mut degrees = vec![degree; persons];
     degrees[persons / 2] = long;
-    drawn(&degrees, random, |random| random.between(1, most))
+    drawn(&degrees, random, |random| number_from(random, 1, most))
 }
 
 fn levels(persons: usize, degree: usize, most: usize, random: &mut Random) -> Rows {
     require_cost(most);
-    drawn(&vec![degree; persons], random, |random| if random.below(2) == 0 { 1 } else { most })
+    drawn(&vec![degree; persons], random, |random| if random.index(2) == 0 { 1 } else { most })
 }
 
 fn distance((x, y): (usize, usize), (u, v): (usize, usize)) -> usize {
@@ -165,7 +143,7 @@ fn distance((x, y): (usize, usize), (u, v): (usize, usize)) -> usize {
 
 fn plane(persons: usize, nearest: usize, random: &mut Random) -> Rows {
     assert!((1..=persons).contains(&nearest), "NEAREST goes from 1 to PERSONS");
-    let mut points = || -> Vec<(usize, usize)> { (0..persons).map(|_| (random.below(SIDE), random.below(SIDE))).collect() };
+    let mut points = || -> Vec<(usize, usize)> { (0..persons).map(|_| (random.index(SIDE), random.index(SIDE))).collect() };
     let (places, objects) = (points(), points());
     let planted = random.order(persons);
     let row_of = |place: (usize, usize), planted: usize| {
@@ -192,13 +170,13 @@ fn few(persons: usize, cheap: usize, degree: usize, random: &mut Random) -> Rows
             objects.swap(0, place);
         }
         for place in usize::from(planted < cheap)..degree {
-            objects.swap(place, random.between(place, cheap - 1));
+            objects.swap(place, number_from(random, place, cheap - 1));
         }
         let mut known = objects[..degree].to_vec();
         known.sort_unstable();
-        let mut row: Vec<Arc> = known.into_iter().map(|object| Arc { object, cost: random.between(1, MOST_CHEAP) }).collect();
-        let object = if planted < cheap { random.between(cheap, persons - 1) } else { planted };
-        row.push(Arc { object, cost: random.between(LEAST_DEAR, MOST_DEAR) });
+        let mut row: Vec<Arc> = known.into_iter().map(|object| Arc { object, cost: number_from(random, 1, MOST_CHEAP) }).collect();
+        let object = if planted < cheap { number_from(random, cheap, persons - 1) } else { planted };
+        row.push(Arc { object, cost: number_from(random, LEAST_DEAR, MOST_DEAR) });
         row
     };
     planted.into_iter().map(|object| row_of(object)).collect()

@@ -1,6 +1,6 @@
 -- All of this is the crate's own.
 mod Noting
-mod Desks
+mod LockedMailLaws
 mod Lines
 mod Seats
 mod Telling

@@ -4,6 +4,6 @@ pub mod Trail
 pub mod Replies
 pub mod State
 pub mod Seat
-pub mod Desk
+pub mod LockedMail
 pub mod Seats
 pub mod Settling

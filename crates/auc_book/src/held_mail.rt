@@ -8,8 +8,8 @@ ghost use Rattle.auc_book.specs.Seat.{SeatCalls};
 
 use crate::bell::Bell;
 use crate::brand::MailBrand;
-use crate::desk::Desk;
 use crate::error::{CallRefused, TrailFull};
+use crate::locked_mail::LockedMail;
 use crate::seat::Seat;
 use auc_mail::Taken;
 use std::marker::Model;
@@ -19,7 +19,7 @@ use std::sync::MutexGuard;
 ///
 /// It can't be dropped: [`HeldMail::release`] gives the lock up. Contracts see it as the `State` that lies under the lock.
 pub struct HeldMail<'b, T: Copy, N: MailBrand> {
-    desk: MutexGuard<'b, Desk<T, N>>,
+    locked: MutexGuard<'b, LockedMail<T, N>>,
     bells: &'b [Bell],
     // The boxes from `first` to before `end` are rung when the lock is given up: those that something was posted to, and what lies between.
     first: usize,
@@ -31,16 +31,19 @@ impl<'b, T: Copy, N: MailBrand> Model for HeldMail<'b, T, N> {
 
     ghost Value = { State T };
 
-    ghost view = { λ h. h.desk.value };
+    ghost view = { λ h. h.locked.value };
 }
 
 impl<'b, T: Copy, N: MailBrand> HeldMail<'b, T, N> {
     // The mail while its lock is held.
-    pub(crate) fn new(desk: MutexGuard<'b, Desk<T, N>>, bells: &'b [Bell]) -> HeldMail<'b, T, N>
-        ensures { result ≡ desk.entry.value }
+    pub(crate) fn new(
+        locked: MutexGuard<'b, LockedMail<T, N>>,
+        bells: &'b [Bell],
+    ) -> HeldMail<'b, T, N>
+        ensures { result ≡ locked.entry.value }
     {
         HeldMail {
-            desk,
+            locked,
             bells,
             first: bells.len(),
             end: 0,
@@ -72,7 +75,7 @@ impl<'b, T: Copy, N: MailBrand> HeldMail<'b, T, N> {
         ensures calls { Calls self.old seat.old.worker (Call.Post seat.old.worker to item reserve) (post_reply result) self.new }
         ensures seat { SeatCalls N.room seat.old (Call.Post seat.old.worker to item reserve) (post_reply result) seat.new }
     {
-        let answer = self.desk.post(seat, to, item, reserve);
+        let answer = self.locked.post(seat, to, item, reserve);
         if answer.is_ok() {
             self.ring(to);
         }
@@ -85,7 +88,7 @@ impl<'b, T: Copy, N: MailBrand> HeldMail<'b, T, N> {
         ensures calls { Calls self.old seat.old.worker (Call.Take at) (take_reply result) self.new }
         ensures seat { SeatCalls N.room seat.old (Call.Take at) (take_reply result) seat.new }
     {
-        self.desk.take(seat, at)
+        self.locked.take(seat, at)
     }
 
     /// Closes as `SharedMail::close` does.
@@ -94,7 +97,7 @@ impl<'b, T: Copy, N: MailBrand> HeldMail<'b, T, N> {
         ensures calls { Calls self.old seat.old.worker (Call.Close at) (close_reply result) self.new }
         ensures seat { SeatCalls N.room seat.old (Call.Close at) (close_reply result) seat.new }
     {
-        let answer = self.desk.close(seat, at);
+        let answer = self.locked.close(seat, at);
         self.ring(at);
         answer
     }
@@ -103,13 +106,13 @@ impl<'b, T: Copy, N: MailBrand> HeldMail<'b, T, N> {
     /// where no more calls can be noted, since that ends each wait.
     pub fn release(self) {
         let HeldMail {
-            desk,
+            locked,
             bells,
             first,
             end,
         } = self;
-        let is_full = desk.state().is_full();
-        drop(desk);
+        let is_full = locked.state().is_full();
+        drop(locked);
         let (first, end) = if is_full {
             (0, bells.len())
         } else {

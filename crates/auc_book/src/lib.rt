@@ -8,11 +8,11 @@
 
 mod bell;
 mod brand;
-mod desk;
 mod error;
 mod held_mail;
 mod limits;
 mod line;
+mod locked_mail;
 mod seat;
 mod settling;
 mod shared;

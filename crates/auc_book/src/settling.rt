@@ -6,9 +6,9 @@ ghost use Rattle.auc_book.specs.Seats.{IsPlaceOf, TakesSeat};
 ghost use Rattle.auc_book.specs.Settling.{Differ, IsSettled, IsUnsettled, IsUnseated};
 
 use crate::brand::MailBrand;
-use crate::desk::Desk;
 use crate::error::SettleError;
 use crate::line::same_lines;
+use crate::locked_mail::LockedMail;
 use crate::seat::Seat;
 use crate::trail::Trail;
 
@@ -36,23 +36,23 @@ fn take_seat<T: Copy, N: MailBrand>(seats: &mut Vec<Seat<T, N>>, worker: u32) ->
 
 // Compares the seats with the trail. They are taken out in the workers' order, whatever order they came in, and none may be left.
 pub(crate) fn settle<T: Copy + Eq, N: MailBrand>(
-    desk: Desk<T, N>,
+    locked: LockedMail<T, N>,
     workers: u32,
     seats: Vec<Seat<T, N>>,
 ) -> Result<Trail<T>, SettleError>
     requires workers { workers ≡ N.workers }
     requires same { EqualIsSame T.eq }
     ensures settled { IfOk result (IsSettled N.boxes N.workers N.nodes N.most N.room seats.items) }
-    ensures trail { IfOk result (λ trail. trail ≡ desk.trail) }
+    ensures trail { IfOk result (λ trail. trail ≡ locked.trail) }
     ensures unsettled { IfErr result (IsUnsettled N.workers N.room seats.items) }
 
     // `SharedMail::settle` can't say this, since what lies under a lock has no name in a contract
-    ensures differs { IfErr result (λ e. e ≡ SettleError.Differs → Differ N.workers seats.items desk.trail) }
+    ensures differs { IfErr result (λ e. e ≡ SettleError.Differs → Differ N.workers seats.items locked.trail) }
 {
-    if desk.room() == 0 {
+    if locked.room() == 0 {
         return Err(SettleError::NoTrail);
     }
-    let lines = desk.into_lines();
+    let lines = locked.into_lines();
     let mut seats = seats;
     let mut same = true;
     for worker in 0..workers {

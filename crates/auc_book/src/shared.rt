@@ -8,14 +8,14 @@ ghost use Rattle.auc_mail.specs.Limits.{LanesFit, NodesFit};
 ghost use Rattle.auc_book.specs.Limits.{RoomFits, IsRefusedWithRoom};
 ghost use Rattle.auc_book.specs.Replies.{close_reply, post_reply, take_reply};
 ghost use Rattle.auc_book.specs.Seat.{new_account, SeatCalls};
-ghost use Rattle.auc_book.specs.Desk.{IsNumbered, IsWaiting};
+ghost use Rattle.auc_book.specs.LockedMail.{IsNumbered, IsWaiting};
 ghost use Rattle.auc_book.specs.Settling.{IsSettled, IsUnsettled};
 
 use crate::bell::{Bell, new_bells};
 use crate::brand::MailBrand;
-use crate::desk::Desk;
 use crate::error::{CallRefused, SettleError, TrailFull};
 use crate::held_mail::HeldMail;
+use crate::locked_mail::LockedMail;
 use crate::seat::Seat;
 use crate::settling;
 use crate::state::MailState;
@@ -33,7 +33,7 @@ use std::sync::{Mutex, MutexGuard, Wait};
 /// Nothing is said of whether a thread ever gets the lock, or of whether one that waits is ever woken.
 #[derive(Drop)]
 pub struct SharedMail<T: Copy, N: MailBrand> {
-    desk: Mutex<Desk<T, N>>,
+    locked: Mutex<LockedMail<T, N>>,
     // A bell for each box.
     bells: Vec<Bell>,
     workers: u32,
@@ -98,7 +98,7 @@ impl<T: Copy, N: MailBrand> SharedMail<T, N> {
             return Err(MailError::NoMemory);
         };
         let mail = SharedMail {
-            desk: Mutex::new(Desk::new(state, total)),
+            locked: Mutex::new(LockedMail::new(state, total)),
             bells,
             workers,
         };
@@ -110,10 +110,10 @@ impl<T: Copy, N: MailBrand> SharedMail<T, N> {
     pub fn hold<'b, R: Wait>(&'b self, rt: &R) -> HeldMail<'b, T, N>
         ensures { IsNumbered N.boxes N.workers N.nodes N.most N.room result }
     {
-        let desk = self.desk.lock(rt);
+        let locked = self.locked.lock(rt);
         // Read here, so that the proof knows what lies under the lock.
-        let _ = desk.state();
-        HeldMail::new(desk, self.bells.as_slice())
+        let _ = locked.state();
+        HeldMail::new(locked, self.bells.as_slice())
     }
 
     /// Takes the lock once a take from the box would give a letter, or say that none will come, or be refused. To wait is no call.
@@ -124,12 +124,12 @@ impl<T: Copy, N: MailBrand> SharedMail<T, N> {
         ensures numbers { IsNumbered N.boxes N.workers N.nodes N.most N.room result }
         ensures ready { ¬ (IsWaiting result at) }
     {
-        let desk = self.lock_for(rt, at);
-        let desk = self.bells[at as usize]
+        let locked = self.lock_for(rt, at);
+        let locked = self.bells[at as usize]
             .changed
-            .wait_while(rt, desk, |desk| desk.is_waiting(at));
-        let _ = desk.state();
-        HeldMail::new(desk, self.bells.as_slice())
+            .wait_while(rt, locked, |locked| locked.is_waiting(at));
+        let _ = locked.state();
+        HeldMail::new(locked, self.bells.as_slice())
     }
 
     /// Posts `item` to the box `to` in the name of the seat's worker, and answers the letter's number in its lane, from 1. Wakes who waits at this
@@ -211,8 +211,8 @@ impl<T: Copy, N: MailBrand> SharedMail<T, N> {
         requires { F.IsAlwaysCallable f }
         ensures { (state : _) × F.post f state result × IsNumbered N.boxes N.workers N.nodes N.most N.room state.now }
     {
-        let desk = self.desk.lock(rt);
-        f(desk.state())
+        let locked = self.locked.lock(rt);
+        f(locked.state())
     }
 
     /// Ends the mail: the trail, where each worker's seat is among these and its lines are the trail's lines of that worker, in order and with
@@ -230,24 +230,24 @@ impl<T: Copy, N: MailBrand> SharedMail<T, N> {
         ensures unsettled { IfErr result (IsUnsettled N.workers N.room seats.items) }
     {
         let SharedMail {
-            desk,
+            locked,
             bells: _,
             workers,
         } = self;
-        settling::settle(desk.into_inner(), workers, seats)
+        settling::settle(locked.into_inner(), workers, seats)
     }
     // Takes the lock. Where a take from the box would find nothing yet, looks for a while first, without the lock.
-    fn lock_for<R: Wait>(&self, rt: &R, at: u32) -> MutexGuard<'_, Desk<T, N>>
+    fn lock_for<R: Wait>(&self, rt: &R, at: u32) -> MutexGuard<'_, LockedMail<T, N>>
         requires { at < N.boxes }
     {
-        let desk = self.desk.lock(rt);
-        if !desk.is_waiting(at) {
-            return desk;
+        let locked = self.locked.lock(rt);
+        if !locked.is_waiting(at) {
+            return locked;
         }
         let bell = &self.bells[at as usize];
         let heard = bell.rung();
-        drop(desk);
+        drop(locked);
         bell.look(heard);
-        self.desk.lock(rt)
+        self.locked.lock(rt)
     }
 }

@@ -1,7 +1,7 @@
 //! A worker's calls of one mail, under one lock.
 
 ghost use Rattle.std.specs.Prelude.{◌≡◌, ◌<◌, [], ◌∷◌, All, Ok};
-ghost use Rattle.auc_book.specs.Desk.{IsWaiting};
+ghost use Rattle.auc_book.specs.LockedMail.{IsWaiting};
 ghost use Rattle.auc_model.specs.Mails.{box_of};
 ghost use Rattle.auc_threads.specs.Taking.{GoesWithin, TookMore, letter_of};
 ghost use Rattle.auc_threads.specs.Posting.{IsOver, PostsAt, step_after, step_without};

@@ -28,7 +28,7 @@ use Rattle.auc_world.specs.Alone.{Alone, MailsTell, lane, one_box}
 use Rattle.auc_world.specs.AlonePhase.{Given, IsGiven, IsGoing, IsStopped, begun}
 use Rattle.auc_world.specs.Lists.{MayKeep}
 use Rattle.auc_world.specs.Making.{IsMade}
-use Rattle.auc_world.specs.Parts.{Parts, seen}
+use Rattle.auc_world.specs.Parts.{Parts, world_of}
 use Rattle.auc_world.specs.Phases.{ComesOf}
 use Rattle.auc_world.specs.Rounds.{Rounds}
 use Rattle.auc_world.proofs.AlonePhase.{law, price_fit}
@@ -94,13 +94,13 @@ module _ (x : Given) (is : IsGiven x) where
       empty (suc zero) l = refl
       empty (suc (suc k)) l = absurd (omega (arith, l))
 
-  starts : Starts (phase_of x.table shards x.eps) (seen parts)
+  starts : Starts (phase_of x.table shards x.eps) (world_of parts)
   starts = made_starts x.table x.limits x.prices x.eps parts is_made is.table is.limits is.prices is.eps
 
-  starts_one : Starts (phase_of x.table 1 x.eps) (seen parts)
-  starts_one = subst (λ (k : ℕ). Starts (phase_of x.table k x.eps) (seen parts)) is.alone.one starts
+  starts_one : Starts (phase_of x.table 1 x.eps) (world_of parts)
+  starts_one = subst (λ (k : ℕ). Starts (phase_of x.table k x.eps) (world_of parts)) is.alone.one starts
 
-  mails_tell : MailsTell (phase_of x.table 1 x.eps) x.limits.bids x.limits.posts (begun x) 0 (seen parts)
+  mails_tell : MailsTell (phase_of x.table 1 x.eps) x.limits.bids x.limits.posts (begun x) 0 (world_of parts)
   mails_tell = record {
     taken = 0;
     objects = new_box shards (nodes_or x.limits.nodes n) x.limits.posts is.alone.one ∙ ap (λ k. one_box (nodes_or k n) x.limits.posts (lane 0 []) blank_lane) is.alone.usual;
@@ -130,9 +130,9 @@ module _ (x : Given) (is : IsGiven x) where
     made = is_made;
     going = record {
       rounds = 0;
-      world = seen parts;
+      world = world_of parts;
       led = refl;
-      reached = reached_start (phase_of x.table 1 x.eps) (seen parts) (law x is) starts_one;
+      reached = reached_start (phase_of x.table 1 x.eps) (world_of parts) (law x is) starts_one;
       shows = record {
         price = price_is x.table x.limits x.prices x.eps parts is_made is.table is.limits is.prices is.eps;
         holder = λ j. starts.nobody_holds j ∙ sym (replicate_default (length x.prices) j None);
@@ -174,7 +174,7 @@ module _ (x : Given) (s : Alone) (h : IsGoing x s) (done : s.persons ≤ s.count
         parts = h.parts;
         made = h.made;
         rounds = h.going.rounds;
-        played = subst (λ (k : ℕ). Rounds (phase_of x.table k x.eps) (seen h.parts) h.going.rounds h.going.world) (sym h.given.alone.one) h.going.led;
+        played = subst (λ (k : ℕ). Rounds (phase_of x.table k x.eps) (world_of h.parts) h.going.rounds h.going.world) (sym h.given.alone.one) h.going.led;
         ended = λ none. (let both : ◌≡◌ {A = Option End} None (Some End.All) = sym none ∙ ended in cc);
       };
       reached = subst (λ (k : ℕ). Reached (phase_of x.table k x.eps) h.going.world) (sym h.given.alone.one) h.going.reached;
@@ -215,7 +215,7 @@ comes_to_stop x s reason h gathered holders prices =
           parts = h.parts;
           made = h.made;
           rounds = h.ends.rounds;
-          played = subst (λ (k : ℕ). Rounds (phase_of x.table k x.eps) (seen h.parts) h.ends.rounds h.ends.world) (sym one) h.ends.led;
+          played = subst (λ (k : ℕ). Rounds (phase_of x.table k x.eps) (world_of h.parts) h.ends.rounds h.ends.world) (sym one) h.ends.led;
           ended = λ none. (let both : ◌≡◌ {A = Option End} None (Some (End.Stopped (why_of reason))) = sym none ∙ h.ends.end in cc);
         };
         reached = subst (λ (k : ℕ). Reached (phase_of x.table k x.eps) h.ends.world) (sym one) h.ends.reached;

@@ -21,7 +21,7 @@ use Rattle.auc_persons.proofs.Rise.{rises_set}
 use Rattle.auc_world.specs.declared.alone.told.Told.{Told}
 use Rattle.auc_world.specs.Alone.{Alone, nobody, sale_at, told_of}
 use Rattle.auc_world.specs.AlonePhase.{Given, IsGiven, IsGoing, IsHalfway, IsStopped, StopEnds, answered, left_of, noted, without_first, without_told}
-use Rattle.auc_world.specs.Parts.{seen}
+use Rattle.auc_world.specs.Parts.{world_of}
 use Rattle.auc_world.proofs.AloneStops.{never_still, stops_at_ceiling, stops_for_bids}
 use Rattle.auc_world.proofs.AloneLaws.{TellsRight, copy_fits, hears, idle_is, price_fits, rests, sells, tells_right, told_fits}
 
@@ -67,13 +67,13 @@ module _ (x : Given) (is : IsGiven x) where
 
   module _ (s : Alone) where
     pub person_known : IsGoing x s → (i : ℕ) → s.idle ≡ i ∷ drop 1 s.idle → i < length x.table.rows
-    person_known h i first = idle_is g refl small (seen h.parts) x.limits.bids x.limits.posts is.alone.enough s i h.going first
+    person_known h i first = idle_is g refl small (world_of h.parts) x.limits.bids x.limits.posts is.alone.enough s i h.going first
 
     pub copies_fit : IsGoing x s → All IsPrice s.copies
-    copies_fit h = All-from_get_or IsPrice s.copies (pos 0) (λ i l. copy_fits g refl small (seen h.parts) x.limits.bids x.limits.posts is.alone.enough s h.going i)
+    copies_fit h = All-from_get_or IsPrice s.copies (pos 0) (λ i l. copy_fits g refl small (world_of h.parts) x.limits.bids x.limits.posts is.alone.enough s h.going i)
 
     pub price_fit : IsGoing x s → (j : ℕ) → IsPrice (get_or s.prices j (pos 0))
-    price_fit h j = price_fits g refl small (seen h.parts) x.limits.bids x.limits.posts is.alone.enough s h.going j
+    price_fit h j = price_fits g refl small (world_of h.parts) x.limits.bids x.limits.posts is.alone.enough s h.going j
 
     pub still_unsold : IsGoing x s → s.count < s.persons → s.count < length x.table.rows
     still_unsold h more = let all = h.persons in omega (arith, all, more)
@@ -83,7 +83,7 @@ module _ (x : Given) (is : IsGiven x) where
       given = is;
       parts = h.parts;
       made = h.made;
-      half = rests g refl small (seen h.parts) x.limits.bids x.limits.posts is.alone.enough s h.going (still_unsold h more) none;
+      half = rests g refl small (world_of h.parts) x.limits.bids x.limits.posts is.alone.enough s h.going (still_unsold h more) none;
       persons = h.persons;
     }
 
@@ -99,22 +99,22 @@ module _ (x : Given) (is : IsGiven x) where
           given = is;
           parts = h.parts;
           made = h.made;
-          half = sells g refl small (seen h.parts) x.limits.bids x.limits.posts is.alone.enough s bid by.0 h.going (still_unsold h more) first' some what where_it_stands bids high;
+          half = sells g refl small (world_of h.parts) x.limits.bids x.limits.posts is.alone.enough s bid by.0 h.going (still_unsold h more) first' some what where_it_stands bids high;
           persons = h.persons;
         }
 
     pub told_has_room : IsHalfway x s → length s.told ≤ 4 * s.persons
-    told_has_room h = let all = h.persons in let fits = told_fits g refl small (seen h.parts) x.limits.bids x.limits.posts is.alone.enough s h.half in omega (arith, all, fits)
+    told_has_room h = let all = h.persons in let fits = told_fits g refl small (world_of h.parts) x.limits.bids x.limits.posts is.alone.enough s h.half in omega (arith, all, fits)
 
     pub tells : IsHalfway x s → (t : Told) → s.told ≡ t ∷ drop 1 s.told → TellsRight g s t
-    tells h t first = tells_right g refl small (seen h.parts) x.limits.bids x.limits.posts is.alone.enough s t h.half first
+    tells h t first = tells_right g refl small (world_of h.parts) x.limits.bids x.limits.posts is.alone.enough s t h.half first
 
     pub noticed : IsHalfway x s → (t : Told) → s.told ≡ t ∷ drop 1 s.told → IsGoing x (noted (without_told s) t)
     noticed h t first = record {
       given = is;
       parts = h.parts;
       made = h.made;
-      going = hears g refl small (seen h.parts) x.limits.bids x.limits.posts is.alone.enough s t h.half first;
+      going = hears g refl small (world_of h.parts) x.limits.bids x.limits.posts is.alone.enough s t h.half first;
       persons = h.persons;
     }
 
@@ -154,7 +154,7 @@ module _ (x : Given) (s : Alone) (h : IsGoing x s) (more : s.count < s.persons) 
   unsold = still_unsold x h.given s h more
 
   -- what is kept after it has these prices and holders too
-  stopped_by : (moved : Alone) (why : Why) → moved ≡ without_first s → StopEnds goes (seen h.parts) s why → IsStopped x moved why
+  stopped_by : (moved : Alone) (why : Why) → moved ≡ without_first s → StopEnds goes (world_of h.parts) s why → IsStopped x moved why
   stopped_by moved why leaves ends = subst (λ (n : Alone). IsStopped x n why) (sym leaves) (record {
     given = h.given;
     parts = h.parts;
@@ -165,7 +165,7 @@ module _ (x : Given) (s : Alone) (h : IsGoing x s) (more : s.count < s.persons) 
   })
 
   pub out_of_bids : (moved : Alone) → moved ≡ without_first s → (i : ℕ) → s.idle ≡ i ∷ drop 1 s.idle → moved.bids ≡ 0 → IsStopped x moved Why.Bids
-  out_of_bids moved leaves i first none = stopped_by moved Why.Bids leaves (stops_for_bids goes refl (seen h.parts) x.limits.bids x.limits.posts h.given.alone.enough s h.going unsold i first (ap (λ (n : Alone). n.bids) (sym leaves) ∙ none))
+  out_of_bids moved leaves i first none = stopped_by moved Why.Bids leaves (stops_for_bids goes refl (world_of h.parts) x.limits.bids x.limits.posts h.given.alone.enough s h.going unsold i first (ap (λ (n : Alone). n.bids) (sym leaves) ∙ none))
 
   pub at_ceiling : (moved : Alone) (table : Table) (eps : ℤ) (copies : List ℤ) → moved ≡ without_first s → table ≡ x.table → eps ≡ x.eps → copies ≡ moved.copies → (i : ℕ) → s.idle ≡ i ∷ drop 1 s.idle → 0 < moved.bids
       → (bid : Bid) → IsBidOf table eps copies i bid → pos (2 ^ 61) <ℤ bid.amount → IsStopped x moved Why.Ceiling
@@ -174,7 +174,7 @@ module _ (x : Given) (s : Alone) (h : IsGoing x s) (more : s.count < s.persons) 
       let at_copies : IsBidOf table eps s.copies i bid = subst (λ (cs : List ℤ). IsBidOf table eps cs i bid) (same_copies ∙ ap (λ (n : Alone). n.copies) leaves) by in
       let at_eps : IsBidOf table x.eps s.copies i bid = subst (λ (e : ℤ). IsBidOf table e s.copies i bid) same_eps at_copies in
       let by' : IsBidOf x.table x.eps s.copies i bid = subst (λ (t : Table). IsBidOf t x.eps s.copies i bid) same_table at_eps in
-      stopped_by moved Why.Ceiling leaves (stops_at_ceiling goes refl (seen h.parts) x.limits.bids x.limits.posts h.given.alone.enough s h.going unsold i first some by'.0 bid.amount by'.1 high)
+      stopped_by moved Why.Ceiling leaves (stops_at_ceiling goes refl (world_of h.parts) x.limits.bids x.limits.posts h.given.alone.enough s h.going unsold i first some by'.0 bid.amount by'.1 high)
 
   pub waits_still : (moved : Alone) → moved ≡ without_first s → s.idle ≡ [] → moved.told ≢ []
-  waits_still moved leaves none silent = never_still goes refl (seen h.parts) x.limits.bids x.limits.posts h.given.alone.enough s h.going unsold none (ap (λ (n : Alone). n.told) (sym leaves) ∙ silent)
+  waits_still moved leaves none silent = never_still goes refl (world_of h.parts) x.limits.bids x.limits.posts h.given.alone.enough s h.going unsold none (ap (λ (n : Alone). n.told) (sym leaves) ∙ silent)

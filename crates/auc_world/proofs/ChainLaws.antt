@@ -27,7 +27,7 @@ use Rattle.auc_answers.specs.Eps.{first_eps, next_eps}
 use Rattle.auc_answers.proofs.BracketLaws.{bound_fits, holders_price_few}
 use Rattle.auc_answers.proofs.FoundLaws.{one_choice, person_at}
 use Rattle.auc_world.specs.Making.{IsMade}
-use Rattle.auc_world.specs.Parts.{Parts, seen}
+use Rattle.auc_world.specs.Parts.{Parts, world_of}
 use Rattle.auc_world.proofs.RoundLaws.{rounds_schedule}
 use Rattle.auc_graph.specs.Table.{IsTable, IsTableOf, Table}
 use Rattle.auc_letters.specs.Price.{IsEps}
@@ -90,7 +90,7 @@ followed_is_square t limits (Some prices) r [] next more chain e = let square = 
 followed_is_square t limits start r (q ∷ rest) next more chain e = followed_is_square t limits start q rest r.eps more chain.2 chain.1.next
 
 -- a phase from prices of 0 leaves none to what nobody holds
-made_price : (t : Table) (limits : Limits) (prices : List ℤ) (eps : ℤ) (made : Parts) → AreLimits limits → IsMade t limits prices eps made → (j : ℕ) → (seen made).price j ≡ price_at prices j
+made_price : (t : Table) (limits : Limits) (prices : List ℤ) (eps : ℤ) (made : Parts) → AreLimits limits → IsMade t limits prices eps made → (j : ℕ) → (world_of made).price j ≡ price_at prices j
 made_price t limits prices eps made ok is j =
     let some = ok.some in
     let lt : j % made.shards < limits.shards = rw is.shards (omega arith) in
@@ -98,8 +98,8 @@ made_price t limits prices eps made ok is j =
 
 free_from_zeros : (t : Table) (limits : Limits) (s : Stage) → AreLimits limits → IsPlayed t limits s → s.prices ≡ replicate t.objects (pos 0) → (j : ℕ) → s.world.holder j ≡ None → s.world.price j ≡ pos 0
 free_from_zeros t limits s ok played zeros j none =
-    let run = rounds_schedule (phase_of t limits.shards s.eps) (seen played.parts) played.rounds s.world played.played in
-    let stays = unheld_schedule (phase_of t limits.shards s.eps) (seen played.parts) run.0 s.world run.1 j none in
+    let run = rounds_schedule (phase_of t limits.shards s.eps) (world_of played.parts) played.rounds s.world played.played in
+    let stays = unheld_schedule (phase_of t limits.shards s.eps) (world_of played.parts) run.0 s.world run.1 j none in
     stays.1 ∙ made_price t limits s.prices s.eps played.parts ok played.made j ∙ ap (λ (zs : List ℤ). price_at zs j) zeros ∙ replicate_default t.objects j (pos 0)
 
 -- what a phase of a chain leaves

@@ -15,13 +15,13 @@ use Rattle.auc_answers.specs.Reasons.{reason_for}
 use Rattle.auc_answers.specs.Hub.{ending}
 use Rattle.auc_answers.specs.Shards.{IsPersonShard, no_persons}
 use Rattle.auc_world.specs.Mails.{Letters, TakesOne}
-use Rattle.auc_world.specs.Parts.{AreParts, Parts, persons_at, phase, seen}
+use Rattle.auc_world.specs.Parts.{AreParts, Parts, persons_at, phase, world_of}
 use Rattle.auc_world.proofs.BiddingLaws.{same_persons}
-use Rattle.auc_world.proofs.Seen.{letters_of, own_number, seen_freed, seen_held, seen_price, with_letters, with_mails}
+use Rattle.auc_world.proofs.WorldOf.{letters_of, own_number, seen_freed, seen_held, seen_price, with_letters, with_mails}
 
 module _ (p : Parts) (s : ℕ) (there : s < length p.persons) (is : IsPersonShard p.table p.shards s (persons_at p s)) where
   -- an answer fits the shard where it fits the world
-  fits_to : (i j : ℕ) (q : ℤ) (wanted : PersonState) → Fitting (persons_at p s) i j q wanted → FitsAnswer (phase p) (seen p) s i j q wanted
+  fits_to : (i j : ℕ) (q : ℤ) (wanted : PersonState) → Fitting (persons_at p s) i j q wanted → FitsAnswer (phase p) (world_of p) s i j q wanted
   fits_to i j q wanted h =
       let own = own_number p s there is i (record { known = h.0; own = h.1 }) in (
         subst (λ n. i < n) (sym is.fits.persons) h.0,
@@ -31,7 +31,7 @@ module _ (p : Parts) (s : ℕ) (there : s < length p.persons) (is : IsPersonShar
         ap (λ (n : ℕ). state_of (get_or p.persons n no_persons) i) own ∙ h.4,
       )
 
-  fits_from : (i j : ℕ) (q : ℤ) (wanted : PersonState) → FitsAnswer (phase p) (seen p) s i j q wanted → Fitting (persons_at p s) i j q wanted
+  fits_from : (i j : ℕ) (q : ℤ) (wanted : PersonState) → FitsAnswer (phase p) (world_of p) s i j q wanted → Fitting (persons_at p s) i j q wanted
   fits_from i j q wanted h = (
     subst (λ n. i < n) is.fits.persons h.0,
     subst (λ n. i % n ≡ (persons_at p s).shard) (sym is.of) (h.1 ∙ sym is.number),
@@ -45,33 +45,33 @@ module _ (p : Parts) (s : ℕ) (there : s < length p.persons) (is : IsPersonShar
 
   -- a letter that is heard
   heard : (l : Letter) (m : Mail Letter) (n : Persons) (u : Unit {0}) → OnLetter (persons_at p s) l (Ok u) n
-      → FitsLetter (phase p) (seen p) s l × Rises (seen p) s l × (seen (record p { mails = record p.mails { persons = m }; persons = set p.persons s n }) ≡ after_letter (record (seen p) { persons_mail = m }) s l)
+      → FitsLetter (phase p) (world_of p) s l × Rises (world_of p) s l × (world_of (record p { mails = record p.mails { persons = m }; persons = set p.persons s n }) ≡ after_letter (record (world_of p) { persons_mail = m }) s l)
   heard (Letter.Award i j q) m n u h = (
     fits_to i j q (PersonState.Waits j) h.0,
     h.1,
-    ap (λ (y : Persons). seen (record p { mails = record p.mails { persons = m }; persons = set p.persons s y })) h.2 ∙ seen_held (record p { mails = record p.mails { persons = m } }) s there is i j q (owner i j q (PersonState.Waits j) h.0) h.0.2,
+    ap (λ (y : Persons). world_of (record p { mails = record p.mails { persons = m }; persons = set p.persons s y })) h.2 ∙ seen_held (record p { mails = record p.mails { persons = m } }) s there is i j q (owner i j q (PersonState.Waits j) h.0) h.0.2,
   )
   heard (Letter.Refused i j q) m n u h = (
     fits_to i j q (PersonState.Waits j) h.0,
     h.1,
-    ap (λ (y : Persons). seen (record p { mails = record p.mails { persons = m }; persons = set p.persons s y })) h.2 ∙ seen_freed (record p { mails = record p.mails { persons = m } }) s there is i j q (owner i j q (PersonState.Waits j) h.0) h.0.2,
+    ap (λ (y : Persons). world_of (record p { mails = record p.mails { persons = m }; persons = set p.persons s y })) h.2 ∙ seen_freed (record p { mails = record p.mails { persons = m } }) s there is i j q (owner i j q (PersonState.Waits j) h.0) h.0.2,
   )
   heard (Letter.Outbid i j q) m n u h = (
     fits_to i j q (PersonState.Holds j) h.0,
     h.1,
-    ap (λ (y : Persons). seen (record p { mails = record p.mails { persons = m }; persons = set p.persons s y })) h.2 ∙ seen_freed (record p { mails = record p.mails { persons = m } }) s there is i j q (owner i j q (PersonState.Holds j) h.0) h.0.2,
+    ap (λ (y : Persons). world_of (record p { mails = record p.mails { persons = m }; persons = set p.persons s y })) h.2 ∙ seen_freed (record p { mails = record p.mails { persons = m } }) s there is i j q (owner i j q (PersonState.Holds j) h.0) h.0.2,
   )
   heard (Letter.Price j q) m n u h = (
     (subst (λ k. j < k) (sym is.fits.objects) h.0.0, h.0.1),
     h.1,
-    ap (λ (y : Persons). seen (record p { mails = record p.mails { persons = m }; persons = set p.persons s y })) h.2 ∙ seen_price (record p { mails = record p.mails { persons = m } }) s there is j q h.0.0,
+    ap (λ (y : Persons). world_of (record p { mails = record p.mails { persons = m }; persons = set p.persons s y })) h.2 ∙ seen_price (record p { mails = record p.mails { persons = m } }) s there is j q h.0.0,
   )
   heard (Letter.Bid i a j q) m n u h = absurd (let e = h.0 in cc)
   heard (Letter.First j) m n u h = absurd (let e = h.0 in cc)
   heard (Letter.Stop y) m n u h = absurd (let e = h.0 in cc)
 
   -- a letter that doesn't fit
-  strayed : (l : Letter) (n : Persons) → OnLetter (persons_at p s) l (Err PersonFault.Stray) n → (FitsLetter (phase p) (seen p) s l → ⊥) × (n ≡ persons_at p s)
+  strayed : (l : Letter) (n : Persons) → OnLetter (persons_at p s) l (Err PersonFault.Stray) n → (FitsLetter (phase p) (world_of p) s l → ⊥) × (n ≡ persons_at p s)
   strayed (Letter.Award i j q) n h = ((λ f. h.0 (fits_from i j q (PersonState.Waits j) f)), h.1)
   strayed (Letter.Refused i j q) n h = ((λ f. h.0 (fits_from i j q (PersonState.Waits j) f)), h.1)
   strayed (Letter.Outbid i j q) n h = ((λ f. h.0 (fits_from i j q (PersonState.Holds j) f)), h.1)
@@ -81,7 +81,7 @@ module _ (p : Parts) (s : ℕ) (there : s < length p.persons) (is : IsPersonShar
   strayed (Letter.Stop y) n h = ((λ f. f), h.1)
 
   -- a letter whose price is below the copy
-  fell : (l : Letter) (n : Persons) → OnLetter (persons_at p s) l (Err PersonFault.Fell) n → FitsLetter (phase p) (seen p) s l × Falls (seen p) s l × (n ≡ persons_at p s)
+  fell : (l : Letter) (n : Persons) → OnLetter (persons_at p s) l (Err PersonFault.Fell) n → FitsLetter (phase p) (world_of p) s l × Falls (world_of p) s l × (n ≡ persons_at p s)
   fell (Letter.Award i j q) n h = (fits_to i j q (PersonState.Waits j) h.0, h.1, h.2)
   fell (Letter.Refused i j q) n h = (fits_to i j q (PersonState.Waits j) h.0, h.1, h.2)
   fell (Letter.Outbid i j q) n h = (fits_to i j q (PersonState.Holds j) h.0, h.1, h.2)
@@ -104,21 +104,21 @@ module _ (p : Parts) (s : ℕ) (are : AreParts p) (known : s < p.shards) where
     e1 : t ≡ record p { mails = record p.mails { persons = m } }
     e1 = with_mails p after (record p.mails { persons = m }) rest
 
-    pub letter_heard : (u : Unit {0}) → OnLetter (persons_at t s) l (Ok u) (persons_at v s) → v ≡ record t { persons = set t.persons s (persons_at v s) } → PersonTakeTurn (phase p) (seen p) s TurnReply.Moved (seen v)
+    pub letter_heard : (u : Unit {0}) → OnLetter (persons_at t s) l (Ok u) (persons_at v s) → v ≡ record t { persons = set t.persons s (persons_at v s) } → PersonTakeTurn (phase p) (world_of p) s TurnReply.Moved (world_of v)
     letter_heard u h e2 =
         let n = persons_at v s in
         let by = heard p s there_too (are.each_persons s known) l m n u (subst (λ (z : Parts). OnLetter (persons_at z s) l (Ok u) n) e1 h) in
-        hears takes.0 takes.1 l m known takes.2 by.0 by.1 refl (ap seen (e2 ∙ ap (λ (z : Parts). record z { persons = set z.persons s n }) e1) ∙ by.2)
+        hears takes.0 takes.1 l m known takes.2 by.0 by.1 refl (ap world_of (e2 ∙ ap (λ (z : Parts). record z { persons = set z.persons s n }) e1) ∙ by.2)
 
     module _ (n : Persons) (w : Parts) (e2 : w ≡ record t { persons = set t.persons s n }) (why : Why) (e3 : v ≡ record w { hub = ending w.hub (End.Stopped why) }) where
-      after_fault : n ≡ persons_at p s → seen v ≡ ended (record (seen p) { persons_mail = m }) why
+      after_fault : n ≡ persons_at p s → world_of v ≡ ended (record (world_of p) { persons_mail = m }) why
       after_fault same =
           let a : v ≡ record t { persons = set t.persons s n; hub = ending t.hub (End.Stopped why) } = e3 ∙ ap (λ (z : Parts). record z { hub = ending z.hub (End.Stopped why) }) e2 in
           let b : v ≡ record p { mails = record p.mails { persons = m }; persons = set p.persons s n; hub = ending p.hub (End.Stopped why) } = a ∙ ap (λ (z : Parts). record z { persons = set z.persons s n; hub = ending z.hub (End.Stopped why) }) e1 in
-          ap seen b ∙ ap (λ (xs : List Persons). seen (record p { mails = record p.mails { persons = m }; persons = xs; hub = ending p.hub (End.Stopped why) })) (same_persons p s n same)
+          ap world_of b ∙ ap (λ (xs : List Persons). world_of (record p { mails = record p.mails { persons = m }; persons = xs; hub = ending p.hub (End.Stopped why) })) (same_persons p s n same)
 
     -- a fault ends the phase
-    pub letter_faulty : (w : Parts) (fault : PersonFault) → OnLetter (persons_at t s) l (Err fault) (persons_at w s) → w ≡ record t { persons = set t.persons s (persons_at w s) } → v ≡ record w { hub = ending w.hub (End.Stopped (reason_for fault)) } → PersonTakeTurn (phase p) (seen p) s TurnReply.Moved (seen v)
+    pub letter_faulty : (w : Parts) (fault : PersonFault) → OnLetter (persons_at t s) l (Err fault) (persons_at w s) → w ≡ record t { persons = set t.persons s (persons_at w s) } → v ≡ record w { hub = ending w.hub (End.Stopped (reason_for fault)) } → PersonTakeTurn (phase p) (world_of p) s TurnReply.Moved (world_of v)
     letter_faulty w PersonFault.Stray h e2 e3 =
         let n = persons_at w s in
         let by = strayed p s there_too (are.each_persons s known) l n (subst (λ (z : Parts). OnLetter (persons_at z s) l (Err PersonFault.Stray) n) e1 h) in

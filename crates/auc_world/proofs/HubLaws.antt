@@ -10,18 +10,18 @@ use Rattle.auc_model.specs.declared.turn.MailName.{MailName}
 use Rattle.auc_model.specs.declared.turn.TurnReply.{TurnReply}
 use Rattle.auc_answers.specs.Hub.{Counting, counting, hearing}
 use Rattle.auc_world.specs.Mails.{Letters, TakesOne, named, with_named}
-use Rattle.auc_world.specs.Parts.{IsOpenBox, Parts, phase, seen}
-use Rattle.auc_world.proofs.Seen.{letters_of, with_letters}
+use Rattle.auc_world.specs.Parts.{IsOpenBox, Parts, phase, world_of}
+use Rattle.auc_world.proofs.WorldOf.{letters_of, with_letters}
 
-seen_if : (p : Parts) (b : Bool) (x y : Counting) → seen (record p { hub = if b then x else y }) ≡ (if b then seen (record p { hub = x }) else seen (record p { hub = y }))
+seen_if : (p : Parts) (b : Bool) (x y : Counting) → world_of (record p { hub = if b then x else y }) ≡ (if b then world_of (record p { hub = x }) else world_of (record p { hub = y }))
 seen_if p true x y = refl
 seen_if p false x y = refl
 
-counted_seen : (p : Parts) → seen (record p { hub = counting (length p.table.rows) p.hub }) ≡ counted (phase p) (seen p)
+counted_seen : (p : Parts) → world_of (record p { hub = counting (length p.table.rows) p.hub }) ≡ counted (phase p) (world_of p)
 counted_seen p = seen_if p (nat_lt p.hub.count (length p.table.rows)) _ p.hub
 
 -- the hub hears as the model's hub does
-heard_seen : (p : Parts) (l : Letter) → seen (record p { hub = hearing (length p.table.rows) l p.hub }) ≡ hub_after (phase p) l (seen p)
+heard_seen : (p : Parts) (l : Letter) → world_of (record p { hub = hearing (length p.table.rows) l p.hub }) ≡ hub_after (phase p) l (world_of p)
 heard_seen p (Letter.First j) = counted_seen p
 heard_seen p (Letter.Stop y) = refl
 heard_seen p (Letter.Bid i a j q) = refl
@@ -31,21 +31,21 @@ heard_seen p (Letter.Outbid i j q) = refl
 heard_seen p (Letter.Price j q) = refl
 
 pub hub_heard : (q p : Parts) → p ≡ q → (l : Letter) (s : Letters) (after : Counting) → TakesOne p.mails.hub 0 l s.mails.hub → s ≡ record (letters_of p) { mails = record p.mails { hub = s.mails.hub } } → after ≡ hearing (length p.table.rows) l p.hub
-    → HubTakeTurn (phase q) (seen q) TurnReply.Moved (seen (record (with_letters p s) { hub = after }))
+    → HubTakeTurn (phase q) (world_of q) TurnReply.Moved (world_of (record (with_letters p s) { hub = after }))
 hub_heard q p same l s after took rest heard =
-    subst (λ (z : Parts). HubTakeTurn (phase z) (seen z) TurnReply.Moved (seen (record (with_letters p s) { hub = after }))) same
+    subst (λ (z : Parts). HubTakeTurn (phase z) (world_of z) TurnReply.Moved (world_of (record (with_letters p s) { hub = after }))) same
     (takes took.0 took.1 l s.mails.hub took.2 refl
-    (ap (λ (h : Counting). seen (record (with_letters p s) { hub = h })) heard
-    ∙ (ap (λ (k : Letters). seen (record (with_letters p k) { hub = hearing (length p.table.rows) l p.hub })) rest ∙ heard_seen (record p { mails = record p.mails { hub = s.mails.hub } }) l)))
+    (ap (λ (h : Counting). world_of (record (with_letters p s) { hub = h })) heard
+    ∙ (ap (λ (k : Letters). world_of (record (with_letters p k) { hub = hearing (length p.table.rows) l p.hub })) rest ∙ heard_seen (record p { mails = record p.mails { hub = s.mails.hub } }) l)))
 
-closed_by_name : (p : Parts) (l : Letters) (name : MailName) (at : ℕ) → (seen p).end ≢ None → IsOpenBox (named p.mails name) at → Step (named p.mails name) (Call.Close at) (Reply.WasOpen true) (named l.mails name)
-    → l ≡ record (letters_of p) { mails = with_named p.mails name (named l.mails name) } → HubCloseTurn (seen p) name at TurnReply.Moved (seen (with_letters p l))
-closed_by_name p l MailName.Objects at ends box step e = closes l.mails.objects box.known ends step refl (ap (λ (k : Letters). seen (with_letters p k)) e)
-closed_by_name p l MailName.Persons at ends box step e = closes l.mails.persons box.known ends step refl (ap (λ (k : Letters). seen (with_letters p k)) e)
-closed_by_name p l MailName.Hub at ends box step e = closes l.mails.hub box.known ends step refl (ap (λ (k : Letters). seen (with_letters p k)) e)
+closed_by_name : (p : Parts) (l : Letters) (name : MailName) (at : ℕ) → (world_of p).end ≢ None → IsOpenBox (named p.mails name) at → Step (named p.mails name) (Call.Close at) (Reply.WasOpen true) (named l.mails name)
+    → l ≡ record (letters_of p) { mails = with_named p.mails name (named l.mails name) } → HubCloseTurn (world_of p) name at TurnReply.Moved (world_of (with_letters p l))
+closed_by_name p l MailName.Objects at ends box step e = closes l.mails.objects box.known ends step refl (ap (λ (k : Letters). world_of (with_letters p k)) e)
+closed_by_name p l MailName.Persons at ends box step e = closes l.mails.persons box.known ends step refl (ap (λ (k : Letters). world_of (with_letters p k)) e)
+closed_by_name p l MailName.Hub at ends box step e = closes l.mails.hub box.known ends step refl (ap (λ (k : Letters). world_of (with_letters p k)) e)
 
-pub box_closed : (q p : Parts) → p ≡ q → (l : Letters) (name : MailName) (at : ℕ) → (seen q).end ≢ None → IsOpenBox (named q.mails name) at → Step (named p.mails name) (Call.Close at) (Reply.WasOpen true) (named l.mails name)
-    → l ≡ record (letters_of p) { mails = with_named p.mails name (named l.mails name) } → HubCloseTurn (seen q) name at TurnReply.Moved (seen (with_letters p l))
+pub box_closed : (q p : Parts) → p ≡ q → (l : Letters) (name : MailName) (at : ℕ) → (world_of q).end ≢ None → IsOpenBox (named q.mails name) at → Step (named p.mails name) (Call.Close at) (Reply.WasOpen true) (named l.mails name)
+    → l ≡ record (letters_of p) { mails = with_named p.mails name (named l.mails name) } → HubCloseTurn (world_of q) name at TurnReply.Moved (world_of (with_letters p l))
 box_closed q p same l name at ends box step e =
-    subst (λ (z : Parts). HubCloseTurn (seen z) name at TurnReply.Moved (seen (with_letters p l))) same
-    (closed_by_name p l name at (subst (λ (z : Parts). (seen z).end ≢ None) (sym same) ends) (subst (λ (z : Parts). IsOpenBox (named z.mails name) at) (sym same) box) step e)
+    subst (λ (z : Parts). HubCloseTurn (world_of z) name at TurnReply.Moved (world_of (with_letters p l))) same
+    (closed_by_name p l name at (subst (λ (z : Parts). (world_of z).end ≢ None) (sym same) ends) (subst (λ (z : Parts). IsOpenBox (named z.mails name) at) (sym same) box) step e)

@@ -1,6 +1,6 @@
 -- Hall sets' certificates, what steps keep of a shard, what a new shard is, and what a matching and new prices are to a phase are for the crates above too; the rest is this crate's own.
 pub mod Keeping
-mod Seen
+mod WorldOf
 mod PostingLaws
 mod BiddingLaws
 mod HearingLaws

@@ -17,7 +17,7 @@ use Rattle.auc_answers.specs.Shards.{no_persons}
 use Rattle.auc_world.specs.Gathering.{IsGathered}
 use Rattle.auc_world.specs.Lists.{AreKept, MayKeep}
 use Rattle.auc_world.specs.Making.{IsMade}
-use Rattle.auc_world.specs.Parts.{AreParts, Parts, phase, seen}
+use Rattle.auc_world.specs.Parts.{AreParts, Parts, phase, world_of}
 
 pub kept_made : (t : Table) (limits : Limits) (prices : List ℤ) (eps : ℤ) (p : Parts) (lists : List (List Listed)) → IsMade t limits prices eps p → MayKeep t limits.shards prices lists → AreKept p.table p.persons lists
 kept_made t limits prices eps p lists made may = record {
@@ -62,12 +62,12 @@ pub kept_at : (t : Table) (persons : List Persons) (lists : List (List Listed)) 
 kept_at t persons lists s x list lt is is_list are = rw (is, is_list) (are.each s lt)
 
 -- no copy is above the price that the phase has left
-pub kept_left : (g : Phase) (p : Parts) (shards : ℕ) (holders : List (Option Held)) (prices : List ℤ) (lists : List (List Listed)) → Reached g (seen p) → length p.persons ≡ shards → IsGathered p holders prices → AreKept p.table p.persons lists → MayKeep p.table shards prices lists
+pub kept_left : (g : Phase) (p : Parts) (shards : ℕ) (holders : List (Option Held)) (prices : List ℤ) (lists : List (List Listed)) → Reached g (world_of p) → length p.persons ≡ shards → IsGathered p holders prices → AreKept p.table p.persons lists → MayKeep p.table shards prices lists
 kept_left g p shards holders prices lists reached many gathered are = record {
   many = let m = are.many in omega (arith, m, many);
   each = All-from_get_or (Kept p.table prices) lists [] (λ s lt.
       kept_rises p.table (get_or p.persons s no_persons).copies prices (get_or lists s [])
-      (λ j. (let low = (of_every_schedule g (seen p) reached).1 s j in let is = gathered.price_is j in rw is low))
+      (λ j. (let low = (of_every_schedule g (world_of p) reached).1 s j in let is = gathered.price_is j in rw is low))
       (are.each s lt));
 }
 
@@ -78,7 +78,7 @@ keeps_rows t u q l many row k = rw (← many, ← row) k
 kept_rows : (t u : Table) (q : List ℤ) (lists : List Listed) → length t.rows ≡ length u.rows → ((i : ℕ) → row_of t i ≡ row_of u i) → Kept t q lists → Kept u q lists
 kept_rows t u q lists many rows kept = All-weaker (KeepsListed t q) (KeepsListed u q) (λ l k. keeps_rows t u q l many (rows l.person) k) lists kept
 
-pub left_for : (t : Table) (shards : ℕ) (eps : ℤ) (v : Parts) (holders : List (Option Held)) (prices : List ℤ) (lists : List (List Listed)) → AreParts v → phase v ≡ phase_of t shards eps → Reached (phase_of t shards eps) (seen v) → IsGathered v holders prices
+pub left_for : (t : Table) (shards : ℕ) (eps : ℤ) (v : Parts) (holders : List (Option Held)) (prices : List ℤ) (lists : List (List Listed)) → AreParts v → phase v ≡ phase_of t shards eps → Reached (phase_of t shards eps) (world_of v) → IsGathered v holders prices
     → AreKept v.table v.persons lists → MayKeep t shards prices lists
 left_for t shards eps v holders prices lists parts same reached gathered are =
     let many : v.shards ≡ shards = ap (λ (g : Phase). g.shards) same in

@@ -24,7 +24,7 @@ use Rattle.auc_answers.specs.Shards.{IsObjectShard, IsPersonShard, no_objects, n
 use Rattle.auc_answers.specs.Boxes.{Reaches}
 use Rattle.auc_answers.proofs.NewShards.{new_persons_are, replicate_default}
 use Rattle.auc_world.specs.Making.{IsMade}
-use Rattle.auc_world.specs.Parts.{AreParts, IsMail, Parts, phase, seen}
+use Rattle.auc_world.specs.Parts.{AreParts, IsMail, Parts, phase, world_of}
 
 empty_at : (xs : List (List Out)) → All (λ x. x ≡ []) xs → (x : ℕ) → get_or xs x [] ≡ []
 empty_at xs all x = elim (cases_lt x (length xs)) [ inl l ↦ all x [] l | inr n ↦ get_or_past xs x [] n ]
@@ -87,16 +87,16 @@ module _ (t : Table) (limits : Limits) (prices : List ℤ) (eps : ℤ) (p : Part
   own_shard i = let some = ok.some in rw made.shards (omega arith)
 
   -- the price of each object, and each copy of it
-  pub price_is : (j : ℕ) → (seen p).price j ≡ get_or prices j (pos 0)
+  pub price_is : (j : ℕ) → (world_of p).price j ≡ get_or prices j (pos 0)
   price_is j = ap (λ (x : Objects). price_of x j) (made.each_objects (j % p.shards) (own_shard j))
 
-  pub copy_is : (s j : ℕ) → s < limits.shards → (seen p).copy s j ≡ get_or prices j (pos 0)
+  pub copy_is : (s j : ℕ) → s < limits.shards → (world_of p).copy s j ≡ get_or prices j (pos 0)
   copy_is s j l = ap (λ (x : Persons). copy_of x j) (made.each_persons s l)
 
-  copy_past : (s j : ℕ) → limits.shards ≤ s → (seen p).copy s j ≡ pos 0
+  copy_past : (s j : ℕ) → limits.shards ≤ s → (world_of p).copy s j ≡ pos 0
   copy_past s j l = ap (λ (x : Persons). copy_of x j) (get_or_past p.persons s no_persons (rw made.persons_are l))
 
-  idle_here : (s i : ℕ) → occurs i ((seen p).idle s) ≡ free_in (phase p) PersonState.Free s i
+  idle_here : (s i : ℕ) → occurs i ((world_of p).idle s) ≡ free_in (phase p) PersonState.Free s i
   idle_here s i =
       elim (cases_lt s limits.shards) [
         | inl l ↦ rw (ap (λ (x : Persons). x.idle) (made.each_persons s l), made.table, made.shards) (occurs_persons (phase_of t limits.shards eps) s i)
@@ -106,7 +106,7 @@ module _ (t : Table) (limits : Limits) (prices : List ℤ) (eps : ℤ) (p : Part
             )
       ]
 
-  pub made_starts : Starts (phase p) (seen p)
+  pub made_starts : Starts (phase p) (world_of p)
   made_starts = record {
     price_range = λ j. rw (price_is j) (price_at prices are.within j);
     copies_above = λ s j. elim (cases_lt s limits.shards) [ inl l ↦ rw (copy_is s j l) (price_at prices are.within j).low | inr n ↦ rw (copy_past s j n) (omega (arith, ints)) ];
@@ -124,7 +124,7 @@ module _ (t : Table) (limits : Limits) (prices : List ℤ) (eps : ℤ) (p : Part
     no_end = made.end;
   }
 
-  pub made_usual : limits.nodes ≡ 0 → UsualNodes (phase p) (seen p)
+  pub made_usual : limits.nodes ≡ 0 → UsualNodes (phase p) (world_of p)
   made_usual none = record {
     objects = rw made.table (ap (λ (x : Mail Letter). x.nodes) made.objects_mail ∙ ap (λ n. nodes_or n (length t.rows)) none);
     persons = rw made.table (ap (λ (x : Mail Letter). x.nodes) made.persons_mail ∙ ap (λ n. nodes_or n (4 * length t.rows)) none);

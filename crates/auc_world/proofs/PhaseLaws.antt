@@ -26,7 +26,7 @@ use Rattle.auc_answers.specs.Prepared.{NobodyStuck}
 use Rattle.auc_world.specs.declared.solving.Outcome.{Outcome}
 use Rattle.auc_world.specs.Gathering.{AreSales, IsGathered}
 use Rattle.auc_world.specs.Making.{IsMade}
-use Rattle.auc_world.specs.Parts.{Parts, phase, seen}
+use Rattle.auc_world.specs.Parts.{Parts, phase, world_of}
 use Rattle.auc_world.specs.Phases.{ComesOf, IsPlayed, Leaves, Stage}
 use Rattle.auc_world.specs.Rounds.{Rounds}
 use Rattle.auc_world.proofs.RoundLaws.{rounds_schedule}
@@ -59,46 +59,46 @@ never_guarded g v Why.Stray guard r arcs e s = (of_every_schedule g v r).0.1 e
 -- ---- what a played phase comes to, of the parts of its worlds
 
 module _ (t : Table) (limits : Limits) (prices : List ℤ) (eps : ℤ) (table : IsTable t) (arcs : NobodyStuck t) (p v : Parts) (made : IsMade t limits prices eps p) (same : phase p ≡ phase_of t limits.shards eps) (lawful : Lawful (phase p))
-    (starts : Starts (phase p) (seen p)) (rounds : (n : ℕ) × Rounds (phase p) (seen p) n (seen v)) (kept : phase v ≡ phase p) where
+    (starts : Starts (phase p) (world_of p)) (rounds : (n : ℕ) × Rounds (phase p) (world_of p) n (world_of v)) (kept : phase v ≡ phase p) where
   abbrev g : Phase
   g = phase_of t limits.shards eps
 
   law : Lawful g
   law = subst Lawful same lawful
 
-  begins : Starts g (seen p)
-  begins = subst (λ (h : Phase). Starts h (seen p)) same starts
+  begins : Starts g (world_of p)
+  begins = subst (λ (h : Phase). Starts h (world_of p)) same starts
 
-  led : Rounds g (seen p) rounds.0 (seen v)
-  led = subst (λ (h : Phase). Rounds h (seen p) rounds.0 (seen v)) same rounds.1
+  led : Rounds g (world_of p) rounds.0 (world_of v)
+  led = subst (λ (h : Phase). Rounds h (world_of p) rounds.0 (world_of v)) same rounds.1
 
-  reached : Reached g (seen v)
-  reached = let run = rounds_schedule g (seen p) rounds.0 (seen v) led in reached_on g (seen p) (seen v) run.0 (reached_start g (seen p) law begins) run.1
+  reached : Reached g (world_of v)
+  reached = let run = rounds_schedule g (world_of p) rounds.0 (world_of v) led in reached_on g (world_of p) (world_of v) run.0 (reached_start g (world_of p) law begins) run.1
 
-  pub is_reached : Reached g (seen v)
+  pub is_reached : Reached g (world_of v)
   is_reached = reached
 
-  played : (e : End) → (seen v).end ≡ Some e → IsPlayed t limits (record { eps = eps; prices = prices; world = seen v })
+  played : (e : End) → (world_of v).end ≡ Some e → IsPlayed t limits (record { eps = eps; prices = prices; world = world_of v })
   played e end = record { parts = p; made = made; rounds = rounds.0; played = led; ended = λ none. (let b : ◌≡◌ {A = Option End} None (Some e) = sym none ∙ end in cc) }
 
-  left : (e : End) (gathered : Gathered) → (seen v).end ≡ Some e → IsGathered v gathered.holders.items gathered.prices.items → All IsPrice gathered.prices.items → Leaves t limits (record { eps = eps; prices = prices; world = seen v }) gathered
+  left : (e : End) (gathered : Gathered) → (world_of v).end ≡ Some e → IsGathered v gathered.holders.items gathered.prices.items → All IsPrice gathered.prices.items → Leaves t limits (record { eps = eps; prices = prices; world = world_of v }) gathered
   left e gathered end sales range =
       let objects : v.table.objects ≡ t.objects = ap (λ (h : Phase). h.objects) (kept ∙ same) in
-      record { played = played e end; reached = reached; sales = subst (λ (n : ℕ). AreSales n (seen v) gathered.holders.items gathered.prices.items) objects sales; within = range }
+      record { played = played e end; reached = reached; sales = subst (λ (n : ℕ). AreSales n (world_of v) gathered.holders.items gathered.prices.items) objects sales; within = range }
 
-  pub comes_to_sale : (gathered : Gathered) → (seen v).end ≡ Some End.All → IsGathered v gathered.holders.items gathered.prices.items → All IsPrice gathered.prices.items → ComesOf t limits prices eps (Outcome.Sold gathered)
-  comes_to_sale gathered end sales range = (seen v, left End.All gathered end sales range, end)
+  pub comes_to_sale : (gathered : Gathered) → (world_of v).end ≡ Some End.All → IsGathered v gathered.holders.items gathered.prices.items → All IsPrice gathered.prices.items → ComesOf t limits prices eps (Outcome.Sold gathered)
+  comes_to_sale gathered end sales range = (world_of v, left End.All gathered end sales range, end)
 
-  pub comes_to_stop : (why : Why) (reason : Reason) (gathered : Gathered) → stop_of why ≡ Ok reason → (seen v).end ≡ Some (End.Stopped why) → IsGathered v gathered.holders.items gathered.prices.items → All IsPrice gathered.prices.items → ComesOf t limits prices eps (Outcome.Stopped reason gathered)
-  comes_to_stop why reason gathered stop end sales range = (seen v, left (End.Stopped why) gathered end sales range, end ∙ ap (λ (w : Why). Some (End.Stopped w)) (stop_is why reason stop))
+  pub comes_to_stop : (why : Why) (reason : Reason) (gathered : Gathered) → stop_of why ≡ Ok reason → (world_of v).end ≡ Some (End.Stopped why) → IsGathered v gathered.holders.items gathered.prices.items → All IsPrice gathered.prices.items → ComesOf t limits prices eps (Outcome.Stopped reason gathered)
+  comes_to_stop why reason gathered stop end sales range = (world_of v, left (End.Stopped why) gathered end sales range, end ∙ ap (λ (w : Why). Some (End.Stopped w)) (stop_is why reason stop))
 
-  pub comes_to_no_guard : (why : Why) (guard : Guard) → stop_of why ≡ Err guard → (seen v).end ≡ Some (End.Stopped why) → ⊥
-  comes_to_no_guard why guard stop end = never_guarded g (seen v) why guard reached (nobody_stuck t limits.shards eps arcs) end stop
+  pub comes_to_no_guard : (why : Why) (guard : Guard) → stop_of why ≡ Err guard → (world_of v).end ≡ Some (End.Stopped why) → ⊥
+  comes_to_no_guard why guard stop end = never_guarded g (world_of v) why guard reached (nobody_stuck t limits.shards eps arcs) end stop
 
-  pub comes_to_no_stall : (seen v).end ≡ None → Rests (phase v) (seen v) → ⊥
+  pub comes_to_no_stall : (world_of v).end ≡ None → Rests (phase v) (world_of v) → ⊥
   comes_to_no_stall end rests =
       let some = table.some in
-      rests_ended g reached.start (seen v) reached.turns law (omega (arith, some)) reached.starts reached.leads (subst (λ (h : Phase). Rests h (seen v)) (kept ∙ same) rests) end
+      rests_ended g reached.start (world_of v) reached.turns law (omega (arith, some)) reached.starts reached.leads (subst (λ (h : Phase). Rests h (world_of v)) (kept ∙ same) rests) end
 
 -- ---- from phase to phase
 

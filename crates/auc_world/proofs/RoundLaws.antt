@@ -13,7 +13,7 @@ use Rattle.auc_model.specs.declared.turn.TurnReply.{TurnReply}
 use Rattle.auc_model.proofs.Ends.{end_schedule}
 use Rattle.auc_model.proofs.Small.{nothing_changes, schedules_join}
 use Rattle.auc_model.proofs.Work.{moves_less, turns_never_more}
-use Rattle.auc_world.specs.Parts.{Parts, phase, seen}
+use Rattle.auc_world.specs.Parts.{Parts, phase, world_of}
 use Rattle.auc_world.specs.Rounds.{Plays, Rounds, answers_of, bids_of, has_moved, hearings_of, round_of}
 
 -- ---- turns, one after another
@@ -48,22 +48,22 @@ next : (s : ℕ) → suc s ≡ s + 1
 next s = omega arith
 
 -- the same of the parts of a world, and of the flags that the code keeps
-pub bids_more : (p u v : Parts) (s : ℕ) (moved here o : Bool) → Plays (phase p) (seen p) (bids_of s) moved (seen u) → phase u ≡ phase p → Plays (phase u) (seen u) (Turn.Bid s ∷ Turn.PersonPost s ∷ []) here (seen v) → o ≡ (moved || here) → Plays (phase p) (seen p) (bids_of (s + 1)) o (seen v)
+pub bids_more : (p u v : Parts) (s : ℕ) (moved here o : Bool) → Plays (phase p) (world_of p) (bids_of s) moved (world_of u) → phase u ≡ phase p → Plays (phase u) (world_of u) (Turn.Bid s ∷ Turn.PersonPost s ∷ []) here (world_of v) → o ≡ (moved || here) → Plays (phase p) (world_of p) (bids_of (s + 1)) o (world_of v)
 bids_more p u v s moved here o before same after e =
-    let after' = subst (λ (g : Phase). Plays g (seen u) (Turn.Bid s ∷ Turn.PersonPost s ∷ []) here (seen v)) same after in
-    subst (λ (n : ℕ). Plays (phase p) (seen p) (bids_of n) o (seen v)) (next s) (as_moved (phase p) (seen p) (bids_of (suc s)) (moved || here) o (seen v) (sym e) (plays_join (phase p) (seen p) (bids_of s) (Turn.Bid s ∷ Turn.PersonPost s ∷ []) (seen u) (seen v) moved here before after'))
+    let after' = subst (λ (g : Phase). Plays g (world_of u) (Turn.Bid s ∷ Turn.PersonPost s ∷ []) here (world_of v)) same after in
+    subst (λ (n : ℕ). Plays (phase p) (world_of p) (bids_of n) o (world_of v)) (next s) (as_moved (phase p) (world_of p) (bids_of (suc s)) (moved || here) o (world_of v) (sym e) (plays_join (phase p) (world_of p) (bids_of s) (Turn.Bid s ∷ Turn.PersonPost s ∷ []) (world_of u) (world_of v) moved here before after'))
 
-pub answers_more : (p u v : Parts) (q : ℕ) (moved here o : Bool) → Plays (phase p) (seen p) (answers_of q) moved (seen u) → phase u ≡ phase p → Plays (phase u) (seen u) (Turn.ObjectTake q ∷ Turn.ObjectPost q ∷ Turn.ObjectPost q ∷ []) here (seen v) → o ≡ (moved || here) → Plays (phase p) (seen p) (answers_of (q + 1)) o (seen v)
+pub answers_more : (p u v : Parts) (q : ℕ) (moved here o : Bool) → Plays (phase p) (world_of p) (answers_of q) moved (world_of u) → phase u ≡ phase p → Plays (phase u) (world_of u) (Turn.ObjectTake q ∷ Turn.ObjectPost q ∷ Turn.ObjectPost q ∷ []) here (world_of v) → o ≡ (moved || here) → Plays (phase p) (world_of p) (answers_of (q + 1)) o (world_of v)
 answers_more p u v q moved here o before same after e =
-    let after' = subst (λ (g : Phase). Plays g (seen u) (Turn.ObjectTake q ∷ Turn.ObjectPost q ∷ Turn.ObjectPost q ∷ []) here (seen v)) same after in
-    subst (λ (n : ℕ). Plays (phase p) (seen p) (answers_of n) o (seen v)) (next q) (as_moved (phase p) (seen p) (answers_of (suc q)) (moved || here) o (seen v) (sym e) (plays_join (phase p) (seen p) (answers_of q) (Turn.ObjectTake q ∷ Turn.ObjectPost q ∷ Turn.ObjectPost q ∷ []) (seen u) (seen v) moved here before after'))
+    let after' = subst (λ (g : Phase). Plays g (world_of u) (Turn.ObjectTake q ∷ Turn.ObjectPost q ∷ Turn.ObjectPost q ∷ []) here (world_of v)) same after in
+    subst (λ (n : ℕ). Plays (phase p) (world_of p) (answers_of n) o (world_of v)) (next q) (as_moved (phase p) (world_of p) (answers_of (suc q)) (moved || here) o (world_of v) (sym e) (plays_join (phase p) (world_of p) (answers_of q) (Turn.ObjectTake q ∷ Turn.ObjectPost q ∷ Turn.ObjectPost q ∷ []) (world_of u) (world_of v) moved here before after'))
 
-pub hear_played : (p u v : Parts) (s : ℕ) (moved : Bool) (r : TurnReply) (i o : Bool) → Plays (phase p) (seen p) (hearings_of s) moved (seen u) → phase u ≡ phase p
-    → Turned (phase u) (seen u) (Turn.PersonTake s) r (seen v) → i ≡ has_moved r → o ≡ (moved || i) → Plays (phase p) (seen p) (hearings_of (s + 1)) o (seen v)
+pub hear_played : (p u v : Parts) (s : ℕ) (moved : Bool) (r : TurnReply) (i o : Bool) → Plays (phase p) (world_of p) (hearings_of s) moved (world_of u) → phase u ≡ phase p
+    → Turned (phase u) (world_of u) (Turn.PersonTake s) r (world_of v) → i ≡ has_moved r → o ≡ (moved || i) → Plays (phase p) (world_of p) (hearings_of (s + 1)) o (world_of v)
 hear_played p u v s moved r i o before same take a b =
-    let take' = subst (λ (g : Phase). Turned g (seen u) (Turn.PersonTake s) r (seen v)) same take in
+    let take' = subst (λ (g : Phase). Turned g (world_of u) (Turn.PersonTake s) r (world_of v)) same take in
     let is : (moved || has_moved r) ≡ o = cc in
-    subst (λ (n : ℕ). Plays (phase p) (seen p) (hearings_of n) o (seen v)) (next s) (as_moved (phase p) (seen p) (hearings_of (suc s)) (moved || has_moved r) o (seen v) is (hear_more (phase p) (seen p) (seen u) (seen v) s moved r before take'))
+    subst (λ (n : ℕ). Plays (phase p) (world_of p) (hearings_of n) o (world_of v)) (next s) (as_moved (phase p) (world_of p) (hearings_of (suc s)) (moved || has_moved r) o (world_of v) is (hear_more (phase p) (world_of p) (world_of u) (world_of v) s moved r before take'))
 
 -- the four stages of a round, one after another
 pub round_played : (g : Phase) (w a b c v : World) (n : ℕ) (i j k : Bool) (r : TurnReply) → Plays g w (bids_of n) i a → Plays g a (answers_of n) j b → Plays g b (hearings_of n) k c → Turned g c Turn.HubTake r v
@@ -251,43 +251,43 @@ rounds_schedule g w (suc n) v (m, moved, before, none, played) =
 same_shards : (p u : Parts) → phase u ≡ phase p → u.shards ≡ p.shards
 same_shards p u e = ap (λ (g : Phase). g.shards) e
 
-pub round_in_parts : (p a b c v : Parts) (i j k h x y o : Bool) (r : TurnReply) → Plays (phase p) (seen p) (bids_of p.shards) i (seen a) → phase a ≡ phase p → Plays (phase a) (seen a) (answers_of a.shards) j (seen b) → phase b ≡ phase a
-    → Plays (phase b) (seen b) (hearings_of b.shards) k (seen c) → phase c ≡ phase b → Turned (phase c) (seen c) Turn.HubTake r (seen v)
-    → h ≡ has_moved r → x ≡ (i || j) → y ≡ (x || k) → o ≡ (y || h) → Plays (phase p) (seen p) (round_of p.shards) o (seen v)
+pub round_in_parts : (p a b c v : Parts) (i j k h x y o : Bool) (r : TurnReply) → Plays (phase p) (world_of p) (bids_of p.shards) i (world_of a) → phase a ≡ phase p → Plays (phase a) (world_of a) (answers_of a.shards) j (world_of b) → phase b ≡ phase a
+    → Plays (phase b) (world_of b) (hearings_of b.shards) k (world_of c) → phase c ≡ phase b → Turned (phase c) (world_of c) Turn.HubTake r (world_of v)
+    → h ≡ has_moved r → x ≡ (i || j) → y ≡ (x || k) → o ≡ (y || h) → Plays (phase p) (world_of p) (round_of p.shards) o (world_of v)
 round_in_parts p a b c v i j k h x y o r bids ea answers eb hearings ec count e1 e2 e3 e4 =
     let eb' : phase b ≡ phase p = eb ∙ ea in
-    let answers' = subst (λ (n : ℕ). Plays (phase p) (seen a) (answers_of n) j (seen b)) (same_shards p a ea) (subst (λ (g : Phase). Plays g (seen a) (answers_of a.shards) j (seen b)) ea answers) in
-    let hearings' = subst (λ (n : ℕ). Plays (phase p) (seen b) (hearings_of n) k (seen c)) (same_shards p b eb') (subst (λ (g : Phase). Plays g (seen b) (hearings_of b.shards) k (seen c)) eb' hearings) in
-    let count' = subst (λ (g : Phase). Turned g (seen c) Turn.HubTake r (seen v)) (ec ∙ eb') count in
+    let answers' = subst (λ (n : ℕ). Plays (phase p) (world_of a) (answers_of n) j (world_of b)) (same_shards p a ea) (subst (λ (g : Phase). Plays g (world_of a) (answers_of a.shards) j (world_of b)) ea answers) in
+    let hearings' = subst (λ (n : ℕ). Plays (phase p) (world_of b) (hearings_of n) k (world_of c)) (same_shards p b eb') (subst (λ (g : Phase). Plays g (world_of b) (hearings_of b.shards) k (world_of c)) eb' hearings) in
+    let count' = subst (λ (g : Phase). Turned g (world_of c) Turn.HubTake r (world_of v)) (ec ∙ eb') count in
     let is : (i || j || k || has_moved r) ≡ o = cc in
-    as_moved (phase p) (seen p) (round_of p.shards) (i || j || k || has_moved r) o (seen v) is (round_played (phase p) (seen p) (seen a) (seen b) (seen c) (seen v) p.shards i j k r bids answers' hearings' count')
+    as_moved (phase p) (world_of p) (round_of p.shards) (i || j || k || has_moved r) o (world_of v) is (round_played (phase p) (world_of p) (world_of a) (world_of b) (world_of c) (world_of v) p.shards i j k r bids answers' hearings' count')
 
-pub run_more : (p l v : Parts) (moved : Bool) → ((n : ℕ) × Rounds (phase p) (seen p) n (seen l)) → phase l ≡ phase p → (seen l).end ≡ None → Plays (phase l) (seen l) (round_of l.shards) moved (seen v) → (n : ℕ) × Rounds (phase p) (seen p) n (seen v)
+pub run_more : (p l v : Parts) (moved : Bool) → ((n : ℕ) × Rounds (phase p) (world_of p) n (world_of l)) → phase l ≡ phase p → (world_of l).end ≡ None → Plays (phase l) (world_of l) (round_of l.shards) moved (world_of v) → (n : ℕ) × Rounds (phase p) (world_of p) n (world_of v)
 run_more p l v moved before same none played =
-    let played' = subst (λ (n : ℕ). Plays (phase p) (seen l) (round_of n) moved (seen v)) (same_shards p l same) (subst (λ (g : Phase). Plays g (seen l) (round_of l.shards) moved (seen v)) same played) in
-    (suc before.0, one_round (phase p) (seen p) (seen l) (seen v) before.0 moved before.1 none played')
+    let played' = subst (λ (n : ℕ). Plays (phase p) (world_of l) (round_of n) moved (world_of v)) (same_shards p l same) (subst (λ (g : Phase). Plays g (world_of l) (round_of l.shards) moved (world_of v)) same played) in
+    (suc before.0, one_round (phase p) (world_of p) (world_of l) (world_of v) before.0 moved before.1 none played')
 
-pub run_still_ends : (l v : Parts) (moved : Bool) → (seen l).end ≡ None → Plays (phase l) (seen l) (round_of l.shards) moved (seen v) → moved ≡ false → None ≡ (seen v).end
-run_still_ends l v moved none played e = sym (ap (λ (w : World). w.end) (plays_nothing (phase l) (seen l) (round_of l.shards) moved (seen v) played e).0 ∙ none)
+pub run_still_ends : (l v : Parts) (moved : Bool) → (world_of l).end ≡ None → Plays (phase l) (world_of l) (round_of l.shards) moved (world_of v) → moved ≡ false → None ≡ (world_of v).end
+run_still_ends l v moved none played e = sym (ap (λ (w : World). w.end) (plays_nothing (phase l) (world_of l) (round_of l.shards) moved (world_of v) played e).0 ∙ none)
 
-pub run_rests : (l v : Parts) (moved : Bool) → phase v ≡ phase l → Plays (phase l) (seen l) (round_of l.shards) moved (seen v) → moved ≡ false → Rests (phase v) (seen v)
-run_rests l v moved same played e = subst (λ (g : Phase). Rests g (seen v)) (sym same) (round_rests (phase l) (seen l) (seen v) moved played e)
+pub run_rests : (l v : Parts) (moved : Bool) → phase v ≡ phase l → Plays (phase l) (world_of l) (round_of l.shards) moved (world_of v) → moved ≡ false → Rests (phase v) (world_of v)
+run_rests l v moved same played e = subst (λ (g : Phase). Rests g (world_of v)) (sym same) (round_rests (phase l) (world_of l) (world_of v) moved played e)
 
-pub run_less : (l v : Parts) (moved : Bool) → phase v ≡ phase l → (seen l).end ≡ None → Plays (phase l) (seen l) (round_of l.shards) moved (seen v) → moved ≡ true → left (phase v) (seen v) < left (phase l) (seen l)
-run_less l v moved same none played e = subst (λ (g : Phase). left g (seen v) < left (phase l) (seen l)) (sym same) (round_less (phase l) (seen l) (seen v) moved played e none)
+pub run_less : (l v : Parts) (moved : Bool) → phase v ≡ phase l → (world_of l).end ≡ None → Plays (phase l) (world_of l) (round_of l.shards) moved (world_of v) → moved ≡ true → left (phase v) (world_of v) < left (phase l) (world_of l)
+run_less l v moved same none played e = subst (λ (g : Phase). left g (world_of v) < left (phase l) (world_of l)) (sym same) (round_less (phase l) (world_of l) (world_of v) moved played e none)
 
 -- ---- turns of the parts of a world, and the flags that the code keeps
 
-pub two_turns : (p n v : Parts) (t u : Turn) (r s : TurnReply) (i j o : Bool) → Turned (phase p) (seen p) t r (seen n) → phase n ≡ phase p → Turned (phase n) (seen n) u s (seen v) → i ≡ has_moved r → j ≡ has_moved s → o ≡ (i || j) → Plays (phase p) (seen p) (t ∷ u ∷ []) o (seen v)
+pub two_turns : (p n v : Parts) (t u : Turn) (r s : TurnReply) (i j o : Bool) → Turned (phase p) (world_of p) t r (world_of n) → phase n ≡ phase p → Turned (phase n) (world_of n) u s (world_of v) → i ≡ has_moved r → j ≡ has_moved s → o ≡ (i || j) → Plays (phase p) (world_of p) (t ∷ u ∷ []) o (world_of v)
 two_turns p n v t u r s i j o first same second a b e =
-    let second' = subst (λ (g : Phase). Turned g (seen n) u s (seen v)) same second in
+    let second' = subst (λ (g : Phase). Turned g (world_of n) u s (world_of v)) same second in
     let flat : (has_moved r || has_moved s) ≡ o = cc in
-    as_moved (phase p) (seen p) (t ∷ u ∷ []) (has_moved r || has_moved s) o (seen v) flat (two_plays (phase p) (seen p) (seen n) (seen v) t u r s first second')
+    as_moved (phase p) (world_of p) (t ∷ u ∷ []) (has_moved r || has_moved s) o (world_of v) flat (two_plays (phase p) (world_of p) (world_of n) (world_of v) t u r s first second')
 
-pub three_turns : (p n m v : Parts) (t u x : Turn) (r s y : TurnReply) (i j k l o : Bool) → Turned (phase p) (seen p) t r (seen n) → phase n ≡ phase p → Turned (phase n) (seen n) u s (seen m) → phase m ≡ phase p → Turned (phase m) (seen m) x y (seen v)
-    → i ≡ has_moved r → j ≡ has_moved s → k ≡ has_moved y → l ≡ (j || k) → o ≡ (i || l) → Plays (phase p) (seen p) (t ∷ u ∷ x ∷ []) o (seen v)
+pub three_turns : (p n m v : Parts) (t u x : Turn) (r s y : TurnReply) (i j k l o : Bool) → Turned (phase p) (world_of p) t r (world_of n) → phase n ≡ phase p → Turned (phase n) (world_of n) u s (world_of m) → phase m ≡ phase p → Turned (phase m) (world_of m) x y (world_of v)
+    → i ≡ has_moved r → j ≡ has_moved s → k ≡ has_moved y → l ≡ (j || k) → o ≡ (i || l) → Plays (phase p) (world_of p) (t ∷ u ∷ x ∷ []) o (world_of v)
 three_turns p n m v t u x r s y i j k l o first same second same2 third a b c d e =
-    let second' = subst (λ (g : Phase). Turned g (seen n) u s (seen m)) same second in
-    let third' = subst (λ (g : Phase). Turned g (seen m) x y (seen v)) same2 third in
+    let second' = subst (λ (g : Phase). Turned g (world_of n) u s (world_of m)) same second in
+    let third' = subst (λ (g : Phase). Turned g (world_of m) x y (world_of v)) same2 third in
     let flat : (has_moved r || (has_moved s || has_moved y)) ≡ o = cc in
-    as_moved (phase p) (seen p) (t ∷ u ∷ x ∷ []) (has_moved r || (has_moved s || has_moved y)) o (seen v) flat (three_plays (phase p) (seen p) (seen n) (seen m) (seen v) t u x r s y first second' third')
+    as_moved (phase p) (world_of p) (t ∷ u ∷ x ∷ []) (has_moved r || (has_moved s || has_moved y)) o (world_of v) flat (three_plays (phase p) (world_of p) (world_of n) (world_of m) (world_of v) t u x r s y first second' third')

@@ -19,8 +19,8 @@ use Rattle.auc_answers.specs.Hub.{ending}
 use Rattle.auc_answers.specs.Shards.{IsObjectShard, no_objects}
 use Rattle.auc_answers.specs.Boxes.{Reaches}
 use Rattle.auc_world.specs.Mails.{Letters, TakesOne}
-use Rattle.auc_world.specs.Parts.{AreParts, MayAnswer, OwnsObject, Parts, objects_at, phase, seen}
-use Rattle.auc_world.proofs.Seen.{letters_of, seen_sold, with_letters, with_mails}
+use Rattle.auc_world.specs.Parts.{AreParts, MayAnswer, OwnsObject, Parts, objects_at, phase, world_of}
+use Rattle.auc_world.proofs.WorldOf.{letters_of, seen_sold, with_letters, with_mails}
 
 -- a letter that is no bid of the shard's fits it in no way
 module _ (p : Parts) (q : ℕ) (are : AreParts p) (known : q < p.shards) where
@@ -49,15 +49,15 @@ module _ (p : Parts) (q : ℕ) (are : AreParts p) (may : MayAnswer p q) where
   is : IsObjectShard p.table p.shards q (objects_at p q)
   is = are.each_objects q may.known
 
-  price_here : (j : ℕ) → j % p.shards ≡ q → (seen p).price j ≡ price_of (objects_at p q) j
+  price_here : (j : ℕ) → j % p.shards ≡ q → (world_of p).price j ≡ price_of (objects_at p q) j
   price_here j own = ap (λ (n : ℕ). price_of (get_or p.objects n no_objects) j) own
 
   pub price_told_out : (j s : ℕ) (v : World) (out : Out) → s < p.shards → OwnsObject p q j → out ≡ price_told (length p.table.rows) s j (price_of (objects_at p q) j)
-      → v ≡ with_outbox (seen p) (ObjectShard q) (out ∷ []) → TellTurn (phase p) (seen p) q j s TurnReply.Moved v
+      → v ≡ with_outbox (world_of p) (ObjectShard q) (out ∷ []) → TellTurn (phase p) (world_of p) q j s TurnReply.Moved v
   price_told_out j s v out to owns letter e =
-      let same : out ≡ price_told (length p.table.rows) s j ((seen p).price j) = letter ∙ ap (λ (z : ℤ). price_told (length p.table.rows) s j z) (sym (price_here j owns.own)) in
+      let same : out ≡ price_told (length p.table.rows) s j ((world_of p).price j) = letter ∙ ap (λ (z : ℤ). price_told (length p.table.rows) s j z) (sym (price_here j owns.own)) in
       tells may.known to owns.known owns.own may.empty refl
-      (e ∙ ap (λ (o : Out). with_outbox (seen p) (ObjectShard q) (o ∷ [])) same)
+      (e ∙ ap (λ (o : Out). with_outbox (world_of p) (ObjectShard q) (o ∷ [])) same)
 
   module _ (after : Letters) (l : Letter) (takes : TakesOne p.mails.objects q l after.mails.objects) (rest : after ≡ record (letters_of p) { mails = record p.mails { objects = after.mails.objects } }) where
     abbrev m : Mail Letter
@@ -69,10 +69,10 @@ module _ (p : Parts) (q : ℕ) (are : AreParts p) (may : MayAnswer p q) where
     e1 : t ≡ record p { mails = record p.mails { objects = m } }
     e1 = with_mails p after (record p.mails { objects = m }) rest
 
-    pub stray_dealt : (v : Parts) → (FitsBid (phase t) q l → ⊥) → v ≡ record t { hub = ending t.hub (End.Stopped Why.Stray) } → ObjectTakeTurn (phase p) (seen p) q TurnReply.Moved (seen v)
+    pub stray_dealt : (v : Parts) → (FitsBid (phase t) q l → ⊥) → v ≡ record t { hub = ending t.hub (End.Stopped Why.Stray) } → ObjectTakeTurn (phase p) (world_of p) q TurnReply.Moved (world_of v)
     stray_dealt v unfit e2 =
         strays takes.0 takes.1 l m may.known may.empty takes.2 (subst (λ (z : Parts). FitsBid (phase z) q l → ⊥) e1 unfit) refl
-        (ap seen (e2 ∙ ap (λ (z : Parts). record z { hub = ending z.hub (End.Stopped Why.Stray) }) e1))
+        (ap world_of (e2 ∙ ap (λ (z : Parts). record z { hub = ending z.hub (End.Stopped Why.Stray) }) e1))
 
     module _ (u : Parts) (letters : List Out) (bid : Bid) (fits : IsBidIn (objects_at t q) l bid) (awarded : objects_at u q ≡ after_bid (objects_at t q) t.eps bid) (answered : letters ≡ answers t.shards t.eps (sale_of (objects_at t q) bid.object) bid)
         (e2 : u ≡ record t { objects = set t.objects q (objects_at u q) }) where
@@ -86,28 +86,28 @@ module _ (p : Parts) (q : ℕ) (are : AreParts p) (may : MayAnswer p q) where
       abbrev sale : Sale
       sale = sale_of (objects_at p q) bid.object
 
-      sale_is : sale ≡ known_of (seen p) bid.object
+      sale_is : sale ≡ known_of (world_of p) bid.object
       sale_is = ap (λ (n : ℕ). sale_of (get_or p.objects n no_objects) bid.object) (sym own)
 
       abbrev now_known : Sale → World
-      now_known new = record (seen p) { objects_mail = m; price = put (seen p).price bid.object new.price; holder = put (seen p).holder bid.object new.holder }
+      now_known new = record (world_of p) { objects_mail = m; price = put (world_of p).price bid.object new.price; holder = put (world_of p).holder bid.object new.holder }
 
-      seen_after : seen u ≡ now_known (award p.eps sale bid)
+      seen_after : world_of u ≡ now_known (award p.eps sale bid)
       seen_after =
           let x : Objects = after_bid (objects_at p q) p.eps bid in
           let known = offer.owns.known in
           let same : u ≡ record p { mails = record p.mails { objects = m }; objects = set p.objects q x } = e2 ∙ (ap (λ (y : Objects). record t { objects = set t.objects q y }) awarded ∙ ap (λ (z : Parts). record z { objects = set z.objects q (after_bid (objects_at z q) z.eps bid) }) e1) in
-          ap seen same ∙ seen_sold (record p { mails = record p.mails { objects = m } }) q bid.object (award p.eps sale bid) there own known (omega (arith, is.objects, is.holders, known))
+          ap world_of same ∙ seen_sold (record p { mails = record p.mails { objects = m } }) q bid.object (award p.eps sale bid) there own known (omega (arith, is.objects, is.holders, known))
 
       letters_are : letters ≡ answers p.shards p.eps sale bid
       letters_are = answered ∙ ap (λ (z : Parts). answers z.shards z.eps (sale_of (objects_at z q) bid.object) bid) e1
 
-      pub bid_dealt : (v : World) → v ≡ with_outbox (seen u) (ObjectShard q) letters → ObjectTakeTurn (phase p) (seen p) q TurnReply.Moved v
+      pub bid_dealt : (v : World) → v ≡ with_outbox (world_of u) (ObjectShard q) letters → ObjectTakeTurn (phase p) (world_of p) q TurnReply.Moved v
       bid_dealt v put =
           let takes_bid : TakesOne p.mails.objects q (bid_letter bid) m = subst (λ (x : Letter). TakesOne p.mails.objects q x m) offer.letter_is takes in
           answers_bid takes_bid.0 takes_bid.1 bid m may.known may.empty takes_bid.2 (subst (λ (n : ℕ). bid.object < n) is.objects offer.owns.known, own, offer.amount) refl
           (put
-          ∙ (ap (λ (os : List Out). with_outbox (seen u) (ObjectShard q) os) letters_are
+          ∙ (ap (λ (os : List Out). with_outbox (world_of u) (ObjectShard q) os) letters_are
           ∙ (ap (λ (w : World). with_outbox w (ObjectShard q) (answers p.shards p.eps sale bid)) seen_after ∙ ap (λ (s : Sale). with_outbox (now_known (award p.eps s bid)) (ObjectShard q) (answers p.shards p.eps s bid)) sale_is)))
 
       pub bid_known : All (Reaches t.shards) letters → (q < u.shards) × All (Reaches u.shards) letters

@@ -17,7 +17,7 @@ use Rattle.auc_answers.specs.Prepared.{NobodyStuck}
 use Rattle.auc_world.specs.declared.alone.told.Told.{Told}
 use Rattle.auc_world.specs.Alone.{Alone, Going, Halfway, first_of, firsts_of, freed_by, sale_at, told_of, told_of_sale}
 use Rattle.auc_world.specs.Making.{IsMade}
-use Rattle.auc_world.specs.Parts.{Parts, seen}
+use Rattle.auc_world.specs.Parts.{Parts, world_of}
 use Rattle.auc_world.specs.Rounds.{Rounds}
 
 -- what a phase is given: the rows of the problem, the limits, the prices that it begins with, and eps
@@ -94,7 +94,7 @@ pub record IsGoing (x : Given) (s : Alone) : Type 0 where
   pub given : IsGiven x
   pub parts : Parts
   pub made : IsMade x.table x.limits x.prices x.eps parts
-  pub going : Going (phase_of x.table 1 x.eps) (seen parts) x.limits.bids x.limits.posts s
+  pub going : Going (phase_of x.table 1 x.eps) (world_of parts) x.limits.bids x.limits.posts s
   pub persons : s.persons ≡ length x.table.rows
 
 -- whole rounds, and the turns of the next one up to the answers to a bid
@@ -102,7 +102,7 @@ pub record IsHalfway (x : Given) (s : Alone) : Type 0 where
   pub given : IsGiven x
   pub parts : Parts
   pub made : IsMade x.table x.limits x.prices x.eps parts
-  pub half : Halfway (phase_of x.table 1 x.eps) (seen parts) x.limits.bids x.limits.posts s
+  pub half : Halfway (phase_of x.table 1 x.eps) (world_of parts) x.limits.bids x.limits.posts s
   pub persons : s.persons ≡ length x.table.rows
 
 -- A limit has stopped the phase, for this reason, after whole rounds: so stand its prices and holders.
@@ -119,7 +119,7 @@ pub record IsStopped (x : Given) (s : Alone) (why : Why) : Type 0 where
   pub given : IsGiven x
   pub parts : Parts
   pub made : IsMade x.table x.limits x.prices x.eps parts
-  pub ends : StopEnds (phase_of x.table 1 x.eps) (seen parts) s why
+  pub ends : StopEnds (phase_of x.table 1 x.eps) (world_of parts) s why
   pub prices_are : length s.prices ≡ x.table.objects
   pub holders_are : length s.holders ≡ x.table.objects
 

@@ -2,7 +2,7 @@
 use Rattle.std.specs.Prelude.{ℕ, ◌≡◌, ℤ, pos, List, Option, None, length, slice_index_or}
 use Rattle.auc_letters.specs.declared.state.Held.{Held}
 use Rattle.auc_model.specs.World.{World}
-use Rattle.auc_world.specs.Parts.{Parts, seen}
+use Rattle.auc_world.specs.Parts.{Parts, world_of}
 
 -- by object who holds it, and its price, of so many objects
 pub record AreSales (objects : ℕ) (w : World) (holders : List (Option Held)) (prices : List ℤ) : Type 0 where
@@ -13,4 +13,4 @@ pub record AreSales (objects : ℕ) (w : World) (holders : List (Option Held)) (
 
 -- the holders and the prices of all objects of the world
 abbrev pub IsGathered : Parts → List (Option Held) → List ℤ → Type 0
-IsGathered p holders prices = AreSales p.table.objects (seen p) holders prices
+IsGathered p holders prices = AreSales p.table.objects (world_of p) holders prices

@@ -52,8 +52,8 @@ abbrev pub phase : Parts → Phase
 phase p = phase_of p.table p.shards p.eps
 
 -- The world: the price and the holder of an object stand in its own shard, and so does the state of a person.
-abbrev pub seen : Parts → World
-seen p = record {
+abbrev pub world_of : Parts → World
+world_of p = record {
   price = λ j. price_of (slice_index_or p.objects (j % p.shards) no_objects) j;
   holder = λ j. holder_of (slice_index_or p.objects (j % p.shards) no_objects) j;
   state = λ i. state_of (slice_index_or p.persons (i % p.shards) no_persons) i;

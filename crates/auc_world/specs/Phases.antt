@@ -11,7 +11,7 @@ use Rattle.auc_answers.specs.Answers.{why_of}
 use Rattle.auc_world.specs.declared.solving.Outcome.{Outcome}
 use Rattle.auc_world.specs.Gathering.{AreSales}
 use Rattle.auc_world.specs.Making.{IsMade}
-use Rattle.auc_world.specs.Parts.{Parts, seen}
+use Rattle.auc_world.specs.Parts.{Parts, world_of}
 use Rattle.auc_world.specs.Rounds.{Rounds}
 
 -- one phase: its eps, the prices that it begins with, and the world that its last round led to
@@ -26,7 +26,7 @@ pub record IsPlayed (t : Table) (limits : Limits) (s : Stage) : Type 0 where
   pub parts : Parts
   pub made : IsMade t limits s.prices s.eps parts
   pub rounds : ℕ
-  pub played : Rounds (phase_of t limits.shards s.eps) (seen parts) rounds s.world
+  pub played : Rounds (phase_of t limits.shards s.eps) (world_of parts) rounds s.world
   pub ended : s.world.end ≢ None
 
 -- these are the holders and the prices that the phase left

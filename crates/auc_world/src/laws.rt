@@ -28,7 +28,7 @@ ghost use Rattle.auc_model.specs.Start.{UsualNodes};
 ghost use Rattle.auc_model.specs.World.{World as Model, phase_of};
 ghost use Rattle.auc_model.specs.declared.turn.End.{End};
 ghost use Rattle.auc_answers.specs.Answers.{IsCertified};
-ghost use Rattle.auc_world.specs.Parts.{phase, seen};
+ghost use Rattle.auc_world.specs.Parts.{phase, world_of};
 
 use crate::world::World;
 
@@ -38,33 +38,33 @@ impl<'a> World<'a> {
     /// of the objects takes is a bid that fits it, and the next one that the hub takes is a First or a Stop. With the usual
     /// numbers of letters that may wait, only a Price meets a full mail. A law, which does nothing.
     pub fn no_guard_is_hit(&self)
-        requires { Reached (phase self.now) (seen self.now) }
-        ensures fell { (seen self.now).end ≢ Some (End.Stopped Why.Fell) }
-        ensures stray { (seen self.now).end ≢ Some (End.Stopped Why.Stray) }
-        ensures trail { (seen self.now).end ≢ Some (End.Stopped Why.Trail) }
-        ensures mail { UsualNodes (phase self.now) (seen self.now) → (seen self.now).end ≢ Some (End.Stopped Why.Mail) }
-        ensures hears { (s x k : ℕ) (l : Letter) (m : Mail Letter) → Takes (seen self.now).persons_mail s x k l m → FitsLetter (phase self.now) (seen self.now) s l × Rises (seen self.now) s l }
-        ensures sells { (q x k : ℕ) (l : Letter) (m : Mail Letter) → Takes (seen self.now).objects_mail q x k l m → FitsBid (phase self.now) q l }
-        ensures counts { (x k : ℕ) (l : Letter) (m : Mail Letter) → Takes (seen self.now).hub_mail 0 x k l m → IsForHub l }
-        ensures room { UsualNodes (phase self.now) (seen self.now) → (h : Shard) (o : Out) (rest : List Out) → MayPost (phase self.now) (seen self.now) h o rest → Refuses (phase self.now) (seen self.now) h o PostRefused.Full → is_price o.letter ≡ true }
+        requires { Reached (phase self.now) (world_of self.now) }
+        ensures fell { (world_of self.now).end ≢ Some (End.Stopped Why.Fell) }
+        ensures stray { (world_of self.now).end ≢ Some (End.Stopped Why.Stray) }
+        ensures trail { (world_of self.now).end ≢ Some (End.Stopped Why.Trail) }
+        ensures mail { UsualNodes (phase self.now) (world_of self.now) → (world_of self.now).end ≢ Some (End.Stopped Why.Mail) }
+        ensures hears { (s x k : ℕ) (l : Letter) (m : Mail Letter) → Takes (world_of self.now).persons_mail s x k l m → FitsLetter (phase self.now) (world_of self.now) s l × Rises (world_of self.now) s l }
+        ensures sells { (q x k : ℕ) (l : Letter) (m : Mail Letter) → Takes (world_of self.now).objects_mail q x k l m → FitsBid (phase self.now) q l }
+        ensures counts { (x k : ℕ) (l : Letter) (m : Mail Letter) → Takes (world_of self.now).hub_mail 0 x k l m → IsForHub l }
+        ensures room { UsualNodes (phase self.now) (world_of self.now) → (h : Shard) (o : Out) (rest : List Out) → MayPost (phase self.now) (world_of self.now) h o rest → Refuses (phase self.now) (world_of self.now) h o PostRefused.Full → is_price o.letter ≡ true }
     {}
 
     /// No copy of a price is above the true one, nobody holds two objects, and each holder's arc is one of his to that object,
     /// slack-right at eps at the true prices; the hub has counted no more than there are persons. A law, which does nothing.
     pub fn holders_are_slack_right(&self)
-        requires { Reached (phase self.now) (seen self.now) }
-        ensures copies_low { (s j : ℕ) → (seen self.now).copy s j ≤ℤ (seen self.now).price j }
-        ensures held_once { (j k : ℕ) (a b : Held) → (seen self.now).holder j ≡ Some a → (seen self.now).holder k ≡ Some b → a.person ≡ b.person → j ≡ k }
-        ensures slack { (j : ℕ) (h : Held) → (seen self.now).holder j ≡ Some h → (a : RowArc) × Contains ((phase self.now).row h.person) a × (a.object ≡ j) × (a.arc ≡ h.arc) × SlackRight (phase self.now) (seen self.now).price h.person a }
-        ensures counted { (seen self.now).count ≤ (phase self.now).persons }
+        requires { Reached (phase self.now) (world_of self.now) }
+        ensures copies_low { (s j : ℕ) → (world_of self.now).copy s j ≤ℤ (world_of self.now).price j }
+        ensures held_once { (j k : ℕ) (a b : Held) → (world_of self.now).holder j ≡ Some a → (world_of self.now).holder k ≡ Some b → a.person ≡ b.person → j ≡ k }
+        ensures slack { (j : ℕ) (h : Held) → (world_of self.now).holder j ≡ Some h → (a : RowArc) × Contains ((phase self.now).row h.person) a × (a.object ≡ j) × (a.arc ≡ h.arc) × SlackRight (phase self.now) (world_of self.now).price h.person a }
+        ensures counted { (world_of self.now).count ≤ (phase self.now).persons }
     {}
 
     /// Where the hub has counted as many as there are persons, each person holds an object, and the holders' arcs are an
     /// assignment of the problem, at any eps. A law, which does nothing.
     pub fn counted_holders_are_assigned(&self)
-        requires { Reached (phase self.now) (seen self.now) }
-        ensures everyone { (seen self.now).count ≡ (phase self.now).persons → (i : ℕ) → i < (phase self.now).persons → (j : ℕ) × (h : Held) × ((seen self.now).holder j ≡ Some h) × (h.person ≡ i) }
-        ensures assigned { (p : Problem) → IsTableOf p self.now.table → (seen self.now).count ≡ (phase self.now).persons → (choice : List Arc) × IsAssignment p choice × All (IsHeldArc p (seen self.now)) choice }
+        requires { Reached (phase self.now) (world_of self.now) }
+        ensures everyone { (world_of self.now).count ≡ (phase self.now).persons → (i : ℕ) → i < (phase self.now).persons → (j : ℕ) × (h : Held) × ((world_of self.now).holder j ≡ Some h) × (h.person ≡ i) }
+        ensures assigned { (p : Problem) → IsTableOf p self.now.table → (world_of self.now).count ≡ (phase self.now).persons → (choice : List Arc) × IsAssignment p choice × All (IsHeldArc p (world_of self.now)) choice }
     {}
 }
 

@@ -12,7 +12,7 @@ ghost use Rattle.auc_answers.specs.Limits.{AreLimits};
 ghost use Rattle.auc_answers.specs.Begins.{ArePrices};
 ghost use Rattle.auc_world.specs.Lists.{AreKept, MayKeep};
 ghost use Rattle.auc_world.specs.Making.{IsMade};
-ghost use Rattle.auc_world.specs.Parts.{AreParts, OwnsObject, phase, seen};
+ghost use Rattle.auc_world.specs.Parts.{AreParts, OwnsObject, phase, world_of};
 
 mod bidding;
 mod gathering;
@@ -85,11 +85,11 @@ impl<'a> World<'a> {
         ensures phase { IfOk result (λ w. phase w ≡ phase_of rows.now limits.now.shards eps) }
         ensures table { IsTable rows.now }
         ensures lawful { IfOk result (λ w. Lawful (phase w)) }
-        ensures starts { IfOk result (λ w. Starts (phase w) (seen w)) }
-        ensures reached { IfOk result (λ w. Reached (phase w) (seen w)) }
-        ensures usual { limits.now.nodes ≡ 0 → IfOk result (λ w. UsualNodes (phase w) (seen w)) }
-        ensures prices { IfOk result (λ w. (j : ℕ) → (seen w).price j ≡ slice_index_or prices.now j (pos 0)) }
-        ensures copies { IfOk result (λ w. (s j : ℕ) → s < limits.now.shards → (seen w).copy s j ≡ slice_index_or prices.now j (pos 0)) }
+        ensures starts { IfOk result (λ w. Starts (phase w) (world_of w)) }
+        ensures reached { IfOk result (λ w. Reached (phase w) (world_of w)) }
+        ensures usual { limits.now.nodes ≡ 0 → IfOk result (λ w. UsualNodes (phase w) (world_of w)) }
+        ensures prices { IfOk result (λ w. (j : ℕ) → (world_of w).price j ≡ slice_index_or prices.now j (pos 0)) }
+        ensures copies { IfOk result (λ w. (s j : ℕ) → s < limits.now.shards → (world_of w).copy s j ≡ slice_index_or prices.now j (pos 0)) }
     {
         // Read here, so that the proof knows what all rows keep.
         let _ = rows.persons();
@@ -116,7 +116,7 @@ impl<'a> World<'a> {
         ensures phase { IfOk result (λ w. phase w ≡ phase_of rows.now limits.now.shards eps) }
         ensures table { IsTable rows.now }
         ensures lawful { IfOk result (λ w. Lawful (phase w)) }
-        ensures starts { IfOk result (λ w. Starts (phase w) (seen w)) }
+        ensures starts { IfOk result (λ w. Starts (phase w) (world_of w)) }
     {
         let world = World::assemble(alloc, rows, limits, prices, eps, bidders)?;
         Ok(world)
@@ -201,7 +201,7 @@ impl<'a> World<'a> {
     #[inline]
     pub(crate) fn price(&self, object: u32) -> i64
         requires { object < self.now.table.objects }
-        ensures present { result ≡ (seen self.now).price object }
+        ensures present { result ≡ (world_of self.now).price object }
         ensures range { IsPrice result }
     {
         let shard = shard_of(object, self.shards);
@@ -212,7 +212,7 @@ impl<'a> World<'a> {
     #[inline]
     pub(crate) fn holder(&self, object: u32) -> Option<Held>
         requires { object < self.now.table.objects }
-        ensures { result ≡ (seen self.now).holder object }
+        ensures { result ≡ (world_of self.now).holder object }
     {
         let shard = shard_of(object, self.shards);
         self.objects[shard as usize].holder(object)
@@ -221,7 +221,7 @@ impl<'a> World<'a> {
     /// How the phase has ended, once it has. O(1).
     #[inline]
     pub fn end(&self) -> Option<End>
-        ensures { result ≡ (seen self.now).end }
+        ensures { result ≡ (world_of self.now).end }
     {
         self.hub.end()
     }

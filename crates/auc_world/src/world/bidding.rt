@@ -4,7 +4,7 @@ ghost use Rattle.std.specs.Prelude.{◌≡◌, ◌<◌, ◌↔◌, true, [], ◌
 ghost use Rattle.auc_model.specs.Bidding.{BidTurn};
 ghost use Rattle.auc_model.specs.declared.turn.Turn.{Turn};
 ghost use Rattle.auc_persons.specs.Persons.{NextBid};
-ghost use Rattle.auc_world.specs.Parts.{AreParts, MayAskForBid, SamePhase, persons_at, phase, seen};
+ghost use Rattle.auc_world.specs.Parts.{AreParts, MayAskForBid, SamePhase, persons_at, phase, world_of};
 ghost use Rattle.auc_world.specs.Rounds.{Plays};
 
 use crate::world::World;
@@ -50,7 +50,7 @@ impl<'a> World<'a> {
     /// A shard of the persons puts its next bid, or why there is none, into its outbox.
     #[inline]
     pub(crate) fn bid(&mut self, shard: u32) -> TurnReply
-        ensures turn { BidTurn (phase self.old) (seen self.old) shard result (seen self.new) }
+        ensures turn { BidTurn (phase self.old) (world_of self.old) shard result (world_of self.new) }
         ensures phase { SamePhase self.old self.new }
     {
         if !self.may_bid(shard) {
@@ -79,7 +79,7 @@ impl<'a> World<'a> {
 
     /// A shard of the persons bids and posts, by two turns. Whether anything moved.
     pub(crate) fn bid_and_post(&mut self, shard: u32) -> bool
-        ensures plays { Plays (phase self.old) (seen self.old) (Turn.Bid shard ∷ Turn.PersonPost shard ∷ []) result (seen self.new) }
+        ensures plays { Plays (phase self.old) (world_of self.old) (Turn.Bid shard ∷ Turn.PersonPost shard ∷ []) result (world_of self.new) }
         ensures phase { SamePhase self.old self.new }
     {
         let bids = has_moved(self.bid(shard));

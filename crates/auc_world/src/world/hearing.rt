@@ -3,7 +3,7 @@
 ghost use Rattle.std.specs.Prelude.{◌≡◌, ◌<◌, slice_set};
 ghost use Rattle.auc_model.specs.Hearing.{PersonTakeTurn};
 ghost use Rattle.auc_persons.specs.Persons.{OnLetter};
-ghost use Rattle.auc_world.specs.Parts.{SamePhase, persons_at, phase, seen};
+ghost use Rattle.auc_world.specs.Parts.{SamePhase, persons_at, phase, world_of};
 
 use crate::world::World;
 use auc_answers::reason_for;
@@ -26,7 +26,7 @@ impl<'a> World<'a> {
     /// A shard of the persons takes a letter and hears it.
     #[inline]
     pub(crate) fn person_take(&mut self, shard: u32) -> TurnReply
-        ensures turn { PersonTakeTurn (phase self.old) (seen self.old) shard result (seen self.new) }
+        ensures turn { PersonTakeTurn (phase self.old) (world_of self.old) shard result (world_of self.new) }
         ensures phase { SamePhase self.old self.new }
     {
         if !self.is_shard(shard) {

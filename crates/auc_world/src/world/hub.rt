@@ -3,7 +3,7 @@
 ghost use Rattle.std.specs.Prelude.{◌↔◌, IsTrue};
 ghost use Rattle.auc_model.specs.Hub.{HubCloseTurn, HubTakeTurn};
 ghost use Rattle.auc_world.specs.Mails.{named};
-ghost use Rattle.auc_world.specs.Parts.{IsOpenBox, SamePhase, phase, seen};
+ghost use Rattle.auc_world.specs.Parts.{IsOpenBox, SamePhase, phase, world_of};
 
 use crate::world::World;
 use auc_model::{MailName, TurnReply};
@@ -24,7 +24,7 @@ impl<'a> World<'a> {
     /// The hub takes a letter and hears it.
     #[inline]
     pub(crate) fn hub_take(&mut self) -> TurnReply
-        ensures turn { HubTakeTurn (phase self.old) (seen self.old) result (seen self.new) }
+        ensures turn { HubTakeTurn (phase self.old) (world_of self.old) result (world_of self.new) }
         ensures phase { SamePhase self.old self.new }
     {
         let Some(letter) = self.post.take(MailName::Hub, 0) else {
@@ -36,7 +36,7 @@ impl<'a> World<'a> {
 
     /// The hub closes a box, once the phase has ended.
     pub(crate) fn hub_close(&mut self, mail: MailName, at: u32) -> TurnReply
-        ensures turn { HubCloseTurn (seen self.old) mail at result (seen self.new) }
+        ensures turn { HubCloseTurn (world_of self.old) mail at result (world_of self.new) }
         ensures phase { SamePhase self.old self.new }
     {
         if self.end().is_none() || !self.is_open(mail, at) {

@@ -3,7 +3,7 @@
 ghost use Rattle.std.specs.Prelude.{◌≡◌, ◌<◌, ◌*◌};
 ghost use Rattle.auc_model.specs.Mails.{Shard, number};
 ghost use Rattle.auc_model.specs.Posting.{PostTurn};
-ghost use Rattle.auc_world.specs.Parts.{SamePhase, phase, seen, sender_of};
+ghost use Rattle.auc_world.specs.Parts.{SamePhase, phase, world_of, sender_of};
 
 use crate::post_office::Posted;
 use crate::world::World;
@@ -14,7 +14,7 @@ impl<'a> World<'a> {
     #[inline]
     fn post_first(&mut self, sender: u32) -> TurnReply
         requires known { sender < 2 * self.old.shards }
-        ensures turn { (h : Shard) → sender_of self.old h ≡ sender → number h < self.old.shards → PostTurn (phase self.old) (seen self.old) h result (seen self.new) }
+        ensures turn { (h : Shard) → sender_of self.old h ≡ sender → number h < self.old.shards → PostTurn (phase self.old) (world_of self.old) h result (world_of self.new) }
         ensures phase { SamePhase self.old self.new }
     {
         match self.post.post_first(sender) {
@@ -30,7 +30,7 @@ impl<'a> World<'a> {
     /// A shard of the persons posts the first letter of its outbox.
     #[inline]
     pub(crate) fn person_post(&mut self, shard: u32) -> TurnReply
-        ensures turn { PostTurn (phase self.old) (seen self.old) (Shard.PersonShard shard) result (seen self.new) }
+        ensures turn { PostTurn (phase self.old) (world_of self.old) (Shard.PersonShard shard) result (world_of self.new) }
         ensures phase { SamePhase self.old self.new }
     {
         if !self.is_shard(shard) {
@@ -42,7 +42,7 @@ impl<'a> World<'a> {
     /// A shard of the objects posts the first letter of its outbox.
     #[inline]
     pub(crate) fn object_post(&mut self, shard: u32) -> TurnReply
-        ensures turn { PostTurn (phase self.old) (seen self.old) (Shard.ObjectShard shard) result (seen self.new) }
+        ensures turn { PostTurn (phase self.old) (world_of self.old) (Shard.ObjectShard shard) result (world_of self.new) }
         ensures phase { SamePhase self.old self.new }
     {
         if !self.is_shard(shard) {

@@ -2,7 +2,7 @@
 
 ghost use Rattle.std.specs.Prelude.{ℕ, ◌≡◌, ◌||◌, IfNone};
 ghost use Rattle.auc_model.specs.Still.{Rests};
-ghost use Rattle.auc_world.specs.Parts.{phase, seen};
+ghost use Rattle.auc_world.specs.Parts.{phase, world_of};
 ghost use Rattle.auc_world.specs.Rounds.{Plays, Rounds, answers_of, bids_of, has_moved, hearings_of, round_of};
 
 use crate::world::World;
@@ -30,7 +30,7 @@ pub(crate) fn either(first: bool, second: bool) -> bool
 impl<'a> World<'a> {
     /// Each shard of the persons bids and posts. Whether anything moved.
     fn bid_all(&mut self) -> bool
-        ensures plays { Plays (phase self.old) (seen self.old) (bids_of self.old.shards) result (seen self.new) }
+        ensures plays { Plays (phase self.old) (world_of self.old) (bids_of self.old.shards) result (world_of self.new) }
         ensures phase { phase self.new ≡ phase self.old }
     {
         let mut moved = false;
@@ -43,7 +43,7 @@ impl<'a> World<'a> {
 
     /// Each shard of the objects takes a bid and posts its answers. Whether anything moved.
     fn answer_all(&mut self) -> bool
-        ensures plays { Plays (phase self.old) (seen self.old) (answers_of self.old.shards) result (seen self.new) }
+        ensures plays { Plays (phase self.old) (world_of self.old) (answers_of self.old.shards) result (world_of self.new) }
         ensures phase { phase self.new ≡ phase self.old }
     {
         let mut moved = false;
@@ -56,7 +56,7 @@ impl<'a> World<'a> {
 
     /// Each shard of the persons hears a letter. Whether anything moved.
     fn hear_all(&mut self) -> bool
-        ensures plays { Plays (phase self.old) (seen self.old) (hearings_of self.old.shards) result (seen self.new) }
+        ensures plays { Plays (phase self.old) (world_of self.old) (hearings_of self.old.shards) result (world_of self.new) }
         ensures phase { phase self.new ≡ phase self.old }
     {
         let mut moved = false;
@@ -71,7 +71,7 @@ impl<'a> World<'a> {
     /// Whether anything moved.
     #[inline]
     fn round(&mut self) -> bool
-        ensures plays { Plays (phase self.old) (seen self.old) (round_of self.old.shards) result (seen self.new) }
+        ensures plays { Plays (phase self.old) (world_of self.old) (round_of self.old.shards) result (world_of self.new) }
         ensures phase { phase self.new ≡ phase self.old }
     {
         let bids = self.bid_all();
@@ -85,10 +85,10 @@ impl<'a> World<'a> {
     ///
     /// Each turn that moves uses up a bid, a Stop or a letter, or sets the end: so the rounds end.
     pub(crate) fn run(&mut self) -> Option<End>
-        ensures rounds { (n : ℕ) × Rounds (phase self.old) (seen self.old) n (seen self.new) }
+        ensures rounds { (n : ℕ) × Rounds (phase self.old) (world_of self.old) n (world_of self.new) }
         ensures phase { phase self.new ≡ phase self.old }
-        ensures end { result ≡ (seen self.new).end }
-        ensures rests { IfNone result (Rests (phase self.new) (seen self.new)) }
+        ensures end { result ≡ (world_of self.new).end }
+        ensures rests { IfNone result (Rests (phase self.new) (world_of self.new)) }
     {
         while self.end().is_none() {
             if !self.round() {

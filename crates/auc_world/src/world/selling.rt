@@ -9,7 +9,7 @@ ghost use Rattle.auc_model.specs.declared.turn.Turn.{Turn};
 ghost use Rattle.auc_objects.specs.Answers.{letters_of};
 ghost use Rattle.auc_objects.specs.Objects.{IsBidIn, Owns, after_bid, price_of, sale_of};
 ghost use Rattle.auc_answers.specs.Boxes.{Reaches};
-ghost use Rattle.auc_world.specs.Parts.{AreParts, MayAnswer, OwnsObject, SamePhase, objects_at, phase, seen};
+ghost use Rattle.auc_world.specs.Parts.{AreParts, MayAnswer, OwnsObject, SamePhase, objects_at, phase, world_of};
 ghost use Rattle.auc_world.specs.Rounds.{Plays};
 
 use crate::world::World;
@@ -71,7 +71,7 @@ impl<'a> World<'a> {
     /// phase.
     #[inline]
     pub(crate) fn object_take(&mut self, shard: u32) -> TurnReply
-        ensures turn { ObjectTakeTurn (phase self.old) (seen self.old) shard result (seen self.new) }
+        ensures turn { ObjectTakeTurn (phase self.old) (world_of self.old) shard result (world_of self.new) }
         ensures phase { SamePhase self.old self.new }
     {
         if !self.may_answer(shard) {
@@ -91,7 +91,7 @@ impl<'a> World<'a> {
 
     /// A shard of the objects puts a price into its outbox.
     pub(crate) fn tell(&mut self, shard: u32, object: u32, to: u32) -> TurnReply
-        ensures turn { TellTurn (phase self.old) (seen self.old) shard object to result (seen self.new) }
+        ensures turn { TellTurn (phase self.old) (world_of self.old) shard object to result (world_of self.new) }
         ensures phase { SamePhase self.old self.new }
     {
         if !self.may_answer(shard) || !self.is_shard(to) || !self.owns(shard, object) {
@@ -104,7 +104,7 @@ impl<'a> World<'a> {
 
     /// A shard of the objects takes a bid and posts its answers, by three turns. Whether anything moved.
     pub(crate) fn take_and_post(&mut self, shard: u32) -> bool
-        ensures plays { Plays (phase self.old) (seen self.old) (Turn.ObjectTake shard ∷ Turn.ObjectPost shard ∷ Turn.ObjectPost shard ∷ []) result (seen self.new) }
+        ensures plays { Plays (phase self.old) (world_of self.old) (Turn.ObjectTake shard ∷ Turn.ObjectPost shard ∷ Turn.ObjectPost shard ∷ []) result (world_of self.new) }
         ensures phase { SamePhase self.old self.new }
     {
         let takes = has_moved(self.object_take(shard));

@@ -1,6 +1,6 @@
 //! The turns of a world.
 
-ghost use Rattle.auc_world.specs.Parts.{SamePhase, phase, seen};
+ghost use Rattle.auc_world.specs.Parts.{SamePhase, phase, world_of};
 ghost use Rattle.auc_model.specs.Schedule.{Reached, Turned};
 
 use crate::world::World;
@@ -12,9 +12,9 @@ impl<'a> World<'a> {
     /// Nothing is answered where nothing can move: there is no such shard, box or object; the outbox isn't empty, or is; no
     /// letter waits; nobody is free; the box is closed. Then the world is as it was.
     pub fn turn(&mut self, turn: Turn) -> TurnReply
-        ensures turn { Turned (phase self.old) (seen self.old) turn result (seen self.new) }
+        ensures turn { Turned (phase self.old) (world_of self.old) turn result (world_of self.new) }
         ensures phase { SamePhase self.old self.new }
-        ensures reached { Reached (phase self.old) (seen self.old) → Reached (phase self.new) (seen self.new) }
+        ensures reached { Reached (phase self.old) (world_of self.old) → Reached (phase self.new) (world_of self.new) }
     {
         self.take_turn(turn)
     }
@@ -22,7 +22,7 @@ impl<'a> World<'a> {
     /// One turn.
     #[inline]
     fn take_turn(&mut self, turn: Turn) -> TurnReply
-        ensures turn { Turned (phase self.old) (seen self.old) turn result (seen self.new) }
+        ensures turn { Turned (phase self.old) (world_of self.old) turn result (world_of self.new) }
         ensures phase { SamePhase self.old self.new }
     {
         match turn {

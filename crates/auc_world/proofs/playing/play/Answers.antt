@@ -3,7 +3,7 @@ use Rattle.auc_model.specs.Schedule.{Reached}
 use Rattle.auc_model.specs.World.{Phase}
 use Rattle.auc_model.proofs.Copies.{copy_schedule}
 use Rattle.auc_model.proofs.Reached.{reached_on}
-use Rattle.auc_world.specs.Parts.{phase, seen}
+use Rattle.auc_world.specs.Parts.{phase, world_of}
 use Rattle.auc_world.proofs.TurnByTurn.{same_phase, turn_more}
 use Rattle.auc_world.proofs.playing.play.Goals as goal
 
@@ -16,10 +16,10 @@ loop-turn-preserved c =
     }
 
 pub returns-clause-copies : goal.returns-clause-copies
-returns-clause-copies c = λ s j. copy_schedule (phase c.args.world.now) (seen c.args.world.now) (take c.loop-turn.turn-index c.args.turns.now) (seen c.loop-turn.world) s j c.loop-turn.invariant.schedule
+returns-clause-copies c = λ s j. copy_schedule (phase c.args.world.now) (world_of c.args.world.now) (take c.loop-turn.turn-index c.args.turns.now) (world_of c.loop-turn.world) s j c.loop-turn.invariant.schedule
 
 pub returns-clause-reached : goal.returns-clause-reached
 returns-clause-reached c = λ before.
     let p = c.args.world.now in
     let all = c.loop-turn.invariant in
-    subst (λ (g : Phase). Reached g (seen c.loop-turn.world)) (sym all.phase) (reached_on (phase p) (seen p) (seen c.loop-turn.world) (take c.loop-turn.turn-index c.args.turns.now) before all.schedule)
+    subst (λ (g : Phase). Reached g (world_of c.loop-turn.world)) (sym all.phase) (reached_on (phase p) (world_of p) (world_of c.loop-turn.world) (take c.loop-turn.turn-index c.args.turns.now) before all.schedule)

@@ -3,7 +3,7 @@ use Rattle.std.specs.Prelude.{FitsSigned}
 use Rattle.std.proofs.lemmas.Int.{to_z-of_z}
 use Rattle.std.proofs.lemmas.List.Elements.{All-push}
 use Rattle.auc_graph.specs.Price.{IsPrice}
-use Rattle.auc_world.specs.Parts.{seen}
+use Rattle.auc_world.specs.Parts.{world_of}
 use Rattle.auc_world.proofs.GatherLaws.{all_gathered, one_longer, one_more}
 use Rattle.auc_world.proofs.world.World.gather.Goals as goal
 
@@ -15,8 +15,8 @@ loop-object-preserved c =
     record {
       holders_are = one_longer c.loop-object.holders.items c.push_reserved.new.self.items c.holder.result c.loop-object.object c.push_reserved.ensures.items before.holders_are;
       prices_are = one_longer c.loop-object.prices.items c.push_reserved-in-loop-object.new.self.items c.price.result c.loop-object.object items before.prices_are;
-      holder_is = one_more c.loop-object.holders.items c.push_reserved.new.self.items None c.holder.result c.loop-object.object (λ j. (seen c.args.self.now).holder j) c.push_reserved.ensures.items before.holders_are c.holder.ensures before.holder_is;
-      price_is = one_more c.loop-object.prices.items c.push_reserved-in-loop-object.new.self.items (pos 0) c.price.result c.loop-object.object (λ j. (seen c.args.self.now).price j) items before.prices_are c.price.ensures.present before.price_is;
+      holder_is = one_more c.loop-object.holders.items c.push_reserved.new.self.items None c.holder.result c.loop-object.object (λ j. (world_of c.args.self.now).holder j) c.push_reserved.ensures.items before.holders_are c.holder.ensures before.holder_is;
+      price_is = one_more c.loop-object.prices.items c.push_reserved-in-loop-object.new.self.items (pos 0) c.price.result c.loop-object.object (λ j. (world_of c.args.self.now).price j) items before.prices_are c.price.ensures.present before.price_is;
       range = rw items (All-push IsPrice c.loop-object.prices.items c.price.result before.range c.price.ensures.range);
     }
 

@@ -2,7 +2,7 @@ use Rattle.auc_model.proofs.Reached.{reached_turn}
 use Rattle.auc_model.specs.Schedule.{Reached}
 use Rattle.auc_model.specs.World.{Phase}
 use Rattle.std.proofs.Common.{subst, sym}
-use Rattle.auc_world.specs.Parts.{phase, seen}
+use Rattle.auc_world.specs.Parts.{phase, world_of}
 use Rattle.auc_world.proofs.TurnByTurn.{same_phase}
 use Rattle.auc_world.proofs.world.World.turn.Goals as goal
 
@@ -10,4 +10,4 @@ pub returns-clause-reached : goal.returns-clause-reached
 returns-clause-reached c = λ before.
     let p = c.args.self.now in
     let n = c.take_turn.new.self in
-    subst (λ (g : Phase). Reached g (seen n)) (sym (same_phase p n c.take_turn.ensures.phase)) (reached_turn (phase p) (seen p) (seen n) c.args.turn c.take_turn.result before c.take_turn.ensures.turn)
+    subst (λ (g : Phase). Reached g (world_of n)) (sym (same_phase p n c.take_turn.ensures.phase)) (reached_turn (phase p) (world_of p) (world_of n) c.args.turn c.take_turn.result before c.take_turn.ensures.turn)

@@ -2,8 +2,8 @@ use Rattle.std.proofs.Common.{◌<◌, ◌∙◌, ◌↔◌, IsTrue, ap, subst}
 use Rattle.auc_mail.specs.Mail.{Mail, IsClosed, waiting_at}
 use Rattle.auc_book.specs.State.{State, IsFull}
 use Rattle.auc_book.proofs.Lines.{not_true}
-use Rattle.auc_book.proofs.Desks.{waiting_is}
-use Rattle.auc_book.proofs.desk.Desk.is_waiting.Goals as goal
+use Rattle.auc_book.proofs.LockedMailLaws.{waiting_is}
+use Rattle.auc_book.proofs.locked_mail.LockedMail.is_waiting.Goals as goal
 
 pub returns : goal.returns
 returns g c =

@@ -12,7 +12,7 @@ pub record IsNumbered {T : Type 0} (boxes workers nodes most room : ℕ) (s : St
   pub place_count : s.room ≡ room
 
 -- What it keeps: the name's numbers, and a total of all seats' shares that is the count of calls.
-pub record IsDesk {T : Type 0} (boxes workers nodes most room : ℕ) (s : State T) (total : ℕ) : Type 0 where
+pub record IsLockedMail {T : Type 0} (boxes workers nodes most room : ℕ) (s : State T) (total : ℕ) : Type 0 where
   pub numbers : IsNumbered boxes workers nodes most room s
   pub counted : total ≡ s.count
 

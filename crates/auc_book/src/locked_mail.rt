@@ -8,7 +8,7 @@ ghost use Rattle.auc_book.specs.Trail.{events_of, IsOwn};
 ghost use Rattle.auc_book.specs.Replies.{close_reply, post_reply, take_reply};
 ghost use Rattle.auc_book.specs.State.{Calls};
 ghost use Rattle.auc_book.specs.Seat.{SeatCalls};
-ghost use Rattle.auc_book.specs.Desk.{IsNumbered, IsWaiting};
+ghost use Rattle.auc_book.specs.LockedMail.{IsNumbered, IsWaiting};
 
 use crate::brand::MailBrand;
 use crate::error::{CallRefused, TrailFull};
@@ -21,30 +21,30 @@ use std::sync::ledger::Book;
 
 // What lies under the lock of a shared mail: the state, and the total of the seats' shares.
 #[derive(Drop)]
-pub struct Desk<T: Copy, N: MailBrand> {
+pub struct LockedMail<T: Copy, N: MailBrand> {
     state: MailState<T>,
     total: Book<N>,
 }
 
-impl<T: Copy, N: MailBrand> Model for Desk<T, N> {
+impl<T: Copy, N: MailBrand> Model for LockedMail<T, N> {
     ghost use Rattle.auc_book.specs.State.{State};
-    ghost use Rattle.auc_book.specs.Desk.{IsDesk};
+    ghost use Rattle.auc_book.specs.LockedMail.{IsLockedMail};
 
     ghost Value = { State T };
 
     ghost view = { λ d. d.state };
 
-    ghost invariant = { λ d. IsDesk N.boxes N.workers N.nodes N.most N.room d.state d.total.total };
+    ghost invariant = { λ d. IsLockedMail N.boxes N.workers N.nodes N.most N.room d.state d.total.total };
 }
 
-impl<T: Copy, N: MailBrand> Desk<T, N> {
-    // The desk of a new state, to which no share has counted a call.
-    pub(crate) fn new(state: MailState<T>, total: Book<N>) -> Desk<T, N>
+impl<T: Copy, N: MailBrand> LockedMail<T, N> {
+    // The locked mail of a new state, to which no share has counted a call.
+    pub(crate) fn new(state: MailState<T>, total: Book<N>) -> LockedMail<T, N>
         requires numbers { IsNumbered N.boxes N.workers N.nodes N.most N.room state }
         requires counted { total.total ≡ state.count }
         ensures { result ≡ state }
     {
-        Desk { state, total }
+        LockedMail { state, total }
     }
 
     // The state.
@@ -56,7 +56,7 @@ impl<T: Copy, N: MailBrand> Desk<T, N> {
     }
 
     // Makes the call of the seat's worker, and notes it here and there. None where no more can be noted.
-    #[tactic(auto, using(crate::proofs::Desks::place_left))]
+    #[tactic(auto, using(crate::proofs::LockedMailLaws::place_left))]
     fn note(&mut self, seat: &mut Seat<T, N>, call: Call<T>) -> Option<Reply<T>>
         requires fits { FitsIn N.workers N.boxes call }
         requires own { IsOwn seat.old.worker call }
@@ -161,7 +161,7 @@ impl<T: Copy, N: MailBrand> Desk<T, N> {
         ensures own { All (λ l. (l.worker < N.workers) × IsOwn l.worker l.call) result.items }
     {
         self.state.every_state_is_noted();
-        let Desk { state, total: _ } = self;
+        let LockedMail { state, total: _ } = self;
         state.into_lines()
     }
 }

@@ -9,7 +9,7 @@ use Rattle.auc_mail.specs.declared.call.Reply.{Reply}
 use Rattle.auc_mail.specs.Mail.{Mail, IsClosed, IsOpen, NothingWaits, empty_mail, is_open, lane_of, waiting_at}
 use Rattle.auc_mail.specs.Run.{Run}
 use Rattle.auc_book.specs.State.{State, IsFull, IsNoted, start_of}
-use Rattle.auc_book.specs.Desk.{IsNumbered}
+use Rattle.auc_book.specs.LockedMail.{IsNumbered}
 
 is_true : (b : Bool) → (b ≡ false → ⊥) → b ≡ true
 is_true true not_false = refl
@@ -22,9 +22,9 @@ place_left s kept not_full some =
     omega (arith, kept.counted some)
 
 -- a run from the start is one from the empty mail of the name's numbers
-pub desk_run : {T : Type 0} (boxes workers nodes most room : ℕ) (s : State T) (es : List (Call T × Reply T))
+pub locked_run : {T : Type 0} (boxes workers nodes most room : ℕ) (s : State T) (es : List (Call T × Reply T))
     → IsNumbered boxes workers nodes most room s → Run (start_of s.mail) es s.mail → Run (empty_mail boxes workers nodes most) es s.mail
-desk_run {T} boxes workers nodes most room s es numbers run =
+locked_run {T} boxes workers nodes most room s es numbers run =
     let m = s.mail in
     let start : start_of m ≡ empty_mail boxes workers nodes most =
     ap (λ (b : ℕ). empty_mail b m.senders m.nodes m.most) numbers.box_count

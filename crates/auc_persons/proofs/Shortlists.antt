@@ -59,7 +59,7 @@ decided_if val row arcs bound None keeps s = tt
 decided_if val row arcs bound (Some f) keeps s = λ d. decided_is val row arcs bound f keeps s d
 
 -- a list is a row
-pub list_is_row : (val : RowArc → ℤ) (objects : ℕ) (row arcs : List RowArc) (bound : ℤ) → IsRow objects row → Keeps val row arcs bound → length arcs ≤ 16 → IsRow objects arcs
+pub list_is_row : (val : RowArc → ℤ) (objects : ℕ) (row arcs : List RowArc) (bound : ℤ) → IsRow objects row → Keeps val row arcs bound → length arcs ≤ 24 → IsRow objects arcs
 list_is_row val objects row arcs bound is keeps few = record {
   within = All-weaker (Contains row) (IsRowArc objects) (λ b there. All-contains (IsRowArc objects) row b is.within there) arcs keeps.members;
   rising = keeps.rising;

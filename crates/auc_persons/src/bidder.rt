@@ -20,7 +20,7 @@ use std::alloc::{AllocError, Global};
 use std::marker::Model;
 
 /// How many arcs a list is to hold.
-const WANTED: i64 = 7;
+const WANTED: i64 = 11;
 
 /// What the bids of a shard's persons are found by ([`Bidder::bid`], [`crate::PersonShard::next_bid_by`]): lists of candidates, one for each person, by
 /// which most bids of rows of more than 64 arcs look at a few arcs alone, and bounds of blocks for rows of more than 256; and of shorter rows that they
@@ -93,8 +93,8 @@ fn lists_of(alloc: Global, rows: &Rows, shard: u32, of: u32) -> Result<Vec<Short
 impl Bidder {
     /// Empty lists for the persons of shard number `shard` of `of`, none where no row has more than 64 arcs; and what is known of shorter rows.
     ///
-    /// Takes O(persons + arcs) time, and where some row has more than 64 arcs, 216 bytes of memory for each person of the shard. Where some row
-    /// has more than 256 arcs, it takes 24 bytes more for each person, and 16 for each 16 arcs of such a row. Where some row of at most 64 arcs
+    /// Takes O(persons + arcs) time, and where some row has more than 64 arcs, 312 bytes of memory for each person of the shard. Where some row
+    /// has more than 256 arcs, it takes 24 bytes more for each person, and 8 for each 16 arcs of such a row. Where some row of at most 64 arcs
     /// doesn't rise, it takes 16 bytes for each person, 12 for each arc of the shard's rows of that length, and O(arcs of the row) time for each of these.
     ///
     /// # Errors

@@ -21,7 +21,7 @@ use auc_graph::RowArc;
 use std::marker::Model;
 
 /// How many arcs a list has room for.
-pub(crate) const ROOM: usize = 16;
+pub(crate) const ROOM: usize = 24;
 
 /// The candidates of one person.
 #[derive(Drop)]
@@ -45,7 +45,7 @@ impl Model for Shortlist {
 
     ghost view = { λ s. record { person = s.person; bound = s.bound; arcs = take s.count s.arcs } };
 
-    ghost invariant = { λ s. (s.count ≤ 16) × (length s.arcs ≡ 16) × (pos 1 ≤ℤ s.delta) × (s.delta ≤ℤ pos (2 ^ 60)) × (s.bound ≤ℤ pos (2 ^ 62)) };
+    ghost invariant = { λ s. (s.count ≤ 24) × (length s.arcs ≡ 24) × (pos 1 ≤ℤ s.delta) × (s.delta ≤ℤ pos (2 ^ 60)) × (s.bound ≤ℤ pos (2 ^ 62)) };
 }
 
 impl Shortlist {
@@ -80,7 +80,7 @@ impl Shortlist {
     #[inline]
     fn arcs(&self) -> &[RowArc]
         ensures value { result.now ≡ self.now.arcs }
-        ensures few { length result.now ≤ 16 }
+        ensures few { length result.now ≤ 24 }
     {
         &self.arcs[..self.count as usize]
     }
@@ -88,7 +88,7 @@ impl Shortlist {
     /// One arc more.
     #[inline]
     fn push(&mut self, arc: RowArc)
-        requires { length self.old.arcs < 16 }
+        requires { length self.old.arcs < 24 }
         ensures { self.new ≡ record self.old { arcs = self.old.arcs ++ arc ∷ [] } }
     {
         self.arcs[self.count as usize] = arc;
@@ -98,7 +98,7 @@ impl Shortlist {
     /// Whether there is no room for an arc more.
     #[inline]
     fn is_full(&self) -> bool
-        ensures { result ≡ false → length self.now.arcs < 16 }
+        ensures { result ≡ false → length self.now.arcs < 24 }
     {
         self.count as usize == ROOM
     }

@@ -9,9 +9,9 @@ use crate::priced_row::PricedRow;
 use crate::shortlist::Shortlist;
 
 /// With fewer arcs the next list is to hold more.
-const FEW: u32 = 6;
+const FEW: u32 = 8;
 /// With more arcs the next list is to hold fewer.
-const MANY: u32 = 9;
+const MANY: u32 = 14;
 /// How far above the second a bound lies at most.
 const MOST_DELTA: i64 = 1 << 60;
 /// After so many lists in a row that were of no use, none is made for a while.

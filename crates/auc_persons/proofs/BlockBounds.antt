@@ -1,18 +1,19 @@
 -- Bounds of blocks, seen as lists of candidates.
 use Rattle.std.proofs.Common.{◌≡◌, ℕ, ◌+◌, ◌-◌, ◌*◌, ◌<◌, ◌≤◌, ◌⊎◌, inl, inr, cond, List, [], length, get_or, take, drop, ap, sym, refl, ◌∙◌, arith, pos, true}
-use Rattle.std.specs.Prelude.{ℤ, ◌≤ℤ◌, All, Contains, nat_lt}
+use Rattle.std.specs.Prelude.{Bool, T, false, ℤ, ◌≤ℤ◌, ◌<ℤ◌, All, Contains, int_lt}
 use Rattle.std.proofs.lemmas.Bool.{cases_lt}
-use Rattle.std.proofs.lemmas.Bool.Decides.{nat_tests}
 use Rattle.std.proofs.lemmas.List.{get_or-take, get_or-drop, get_or_append_left, get_or-append_right, get_or_default, length-take-le, length-drop, length-append}
 use Rattle.std.proofs.lemmas.List.Elements.{All-append, All-contains_itself, All-drop, All-take, Contains-append_left, Contains-append_right, Contains-get_or}
 use Rattle.auc_graph.specs.declared.rows.RowArc.{RowArc}
 use Rattle.auc_graph.specs.Bid.{value}
 use Rattle.auc_graph.specs.Table.{Table, row_of}
+use Rattle.auc_persons.specs.declared.bound.TheConstants.{NO_BOUND}
 use Rattle.auc_persons.specs.declared.bound.Bound.{Bound}
-use Rattle.auc_persons.specs.Blocks.{Above, beside, of_bound}
+use Rattle.auc_persons.specs.Blocks.{Above, IsOf, beside, of_bound}
 use Rattle.auc_persons.specs.Candidates.{Keeps, KeepsListed}
 use Rattle.auc_persons.specs.Scan.{copy_in}
 use Rattle.auc_persons.proofs.SameRows.{Rises}
+use Rattle.auc_persons.proofs.Shortlists.{none_keeps}
 
 module _ (row : List RowArc) (block : ℕ) (within : 16 * block ≤ length row) where
   front_length : length (take (16 * block) row) ≡ 16 * block
@@ -98,23 +99,35 @@ module _ (row : List RowArc) (block : ℕ) (within : 16 * block ≤ length row) 
 
 -- ---- a bound
 
-is_below : (a b : ℕ) → a < b → nat_lt a b ≡ true
-is_below a b lt = grind (arith, nat_tests)
-
-arcs_are : (made : Table) (b : Bound) → b.block < 4294967295 → (of_bound made b).arcs ≡ beside b.block (row_of made b.person)
-arcs_are made b lt = ap (λ x. cond x (beside b.block (row_of made b.person)) []) (is_below b.block 4294967295 lt)
+arcs_are : (made : Table) (b : Bound) → NO_BOUND <ℤ b.least → (of_bound made b).arcs ≡ beside b.block.value (row_of made b.person.value)
+arcs_are made b lt = ap (λ x. cond x (beside b.block.value (row_of made b.person.value)) []) (by (int_lt NO_BOUND b.least) lt.lt)
+  where
+    by : (x : Bool) → T x → x ≡ true
+    by true told = refl
+    by false told = absurd told
 
 -- what a bound says of the block of its person
-pub bound_says : (made t : Table) (copies : List ℤ) (b : Bound) (person block : ℕ) → b.person ≡ person → b.block ≡ block → block < 4294967295 → row_of made person ≡ row_of t person → 16 * block ≤ length (row_of t person) → 256 < length (row_of t person) → Rises (row_of t person)
+pub bound_says : (made t : Table) (copies : List ℤ) (b : Bound) (person block : ℕ) → IsOf person block b → NO_BOUND <ℤ b.least → row_of made person ≡ row_of t person → 16 * block ≤ length (row_of t person) → 256 < length (row_of t person) → Rises (row_of t person)
     → KeepsListed t copies (of_bound made b) → Above (value (pos (length t.rows + 1)) (copy_in copies)) (row_of t person) (16 * block) (16 * block + 16) b.least
-bound_says made t copies b person block own here lt same within long rises keeps =
-    let arcs : (of_bound made b).arcs ≡ beside block (row_of t person) = arcs_are made b (omega (arith, here, lt)) ∙ ap (λ n. beside n (row_of made b.person)) here ∙ ap (λ n. beside block (row_of made n)) own ∙ ap (beside block) same in
-    let rest = rw (arcs, own) at keeps.rest in
+bound_says made t copies b person block own lt same within long rises keeps =
+    let arcs : (of_bound made b).arcs ≡ beside block (row_of t person) = arcs_are made b lt ∙ ap (λ n. beside n (row_of made b.person.value)) own.1 ∙ ap (λ n. beside block (row_of made n)) own.0 ∙ ap (beside block) same in
+    let rest = rw (arcs, own.0) at keeps.rest in
     beside_above (row_of t person) block within (value (pos (length t.rows + 1)) (copy_in copies)) b.least rises long rest
 
 -- a new bound is right
-pub bound_is : (made t : Table) (copies : List ℤ) (b : Bound) → b.block < 4294967295 → row_of made b.person ≡ row_of t b.person → 16 * b.block ≤ length (row_of t b.person) → Rises (row_of t b.person)
-    → Above (value (pos (length t.rows + 1)) (copy_in copies)) (row_of t b.person) (16 * b.block) (16 * b.block + 16) b.least → KeepsListed t copies (of_bound made b)
-bound_is made t copies b lt same within rises above =
-    let arcs : (of_bound made b).arcs ≡ beside b.block (row_of t b.person) = arcs_are made b lt ∙ ap (beside b.block) same in
-    rw arcs (keeps_beside (row_of t b.person) b.block within (value (pos (length t.rows + 1)) (copy_in copies)) b.least rises above)
+pub bound_is : (made t : Table) (copies : List ℤ) (b : Bound) (person block : ℕ) → IsOf person block b → row_of made person ≡ row_of t person → 16 * block ≤ length (row_of t person) → Rises (row_of t person)
+    → Above (value (pos (length t.rows + 1)) (copy_in copies)) (row_of t person) (16 * block) (16 * block + 16) b.least → KeepsListed t copies (of_bound made b)
+bound_is made t copies b person block own same within rises above = by (int_lt NO_BOUND b.least) refl
+  where
+    val : RowArc → ℤ
+    val = value (pos (length t.rows + 1)) (copy_in copies)
+
+    row : List RowArc
+    row = row_of t person
+
+    beside_is : beside b.block.value (row_of made b.person.value) ≡ beside block row
+    beside_is = ap (λ n. beside n (row_of made b.person.value)) own.1 ∙ ap (λ n. beside block (row_of made n)) own.0 ∙ ap (beside block) same
+
+    by : (x : Bool) → int_lt NO_BOUND b.least ≡ x → KeepsListed t copies (of_bound made b)
+    by true e = rw (e, beside_is, own.0) (keeps_beside row block within val b.least rises above)
+    by false e = rw e (none_keeps val (row_of t b.person.value) [] b.least refl)

@@ -6,9 +6,10 @@ use Rattle.std.proofs.lemmas.List.Elements.{All-append, All-contains, All-contai
 use Rattle.auc_graph.specs.declared.rows.RowArc.{RowArc}
 use Rattle.auc_graph.specs.Bid.{value}
 use Rattle.auc_graph.specs.Table.{Table, row_of}
+use Rattle.auc_persons.specs.declared.bound.TheConstants.{NO_BOUND}
 use Rattle.auc_persons.specs.declared.bound.Bound.{Bound}
 use Rattle.auc_persons.specs.declared.bound.Blocked.{Blocked}
-use Rattle.auc_persons.specs.Blocks.{AreRight, HasArcs, of_blocked, of_bound}
+use Rattle.auc_persons.specs.Blocks.{AreRight, HasArcs, IsUnknown, of_blocked, of_bound}
 use Rattle.auc_persons.specs.Candidates.{Keeps, KeepsListed, Kept}
 use Rattle.auc_persons.specs.Scan.{copy_in}
 use Rattle.auc_persons.proofs.SameRows.{Rises, same_row}
@@ -50,8 +51,11 @@ same_as made t copies b keeps has arcs rises = same_row (row_of t b.person) (row
 pub whole_keeps : (val : RowArc → ℤ) (row : List RowArc) (bound : ℤ) → Rises row → Keeps val row row bound
 whole_keeps val row bound rises = record { members = All-contains_itself row; rising = rises; rest = inr (λ k d lt. inl (Contains-get_or row k d lt)) }
 
-pub none_is : (made t : Table) (copies : List ℤ) (least : ℤ) → KeepsListed t copies (of_bound made (record { least = least; person = 0; block = 4294967295 }))
-none_is made t copies least = none_keeps (value (pos (length t.rows + 1)) (copy_in copies)) (row_of t 0) [] least refl
+pub unknown_is : (made t : Table) (copies : List ℤ) (b : Bound) → IsUnknown b → KeepsListed t copies (of_bound made b)
+unknown_is made t copies b unknown = rw unknown (none_keeps (value (pos (length t.rows + 1)) (copy_in copies)) (row_of t b.person.value) [] NO_BOUND refl)
+
+pub unknown_are : (made t : Table) (copies : List ℤ) (bounds : List Bound) → All IsUnknown bounds → AreRight made t copies bounds
+unknown_are made t copies bounds unknown = All-weaker IsUnknown (λ b. KeepsListed t copies (of_bound made b)) (λ b u. unknown_is made t copies b u) bounds unknown
 
 pub own_new : (t : Table) (copies : List ℤ) (persons : List Blocked) → All (λ b. Rises (row_of t b.person)) persons → All (λ b. KeepsListed t copies (of_blocked t b)) persons
 own_new t copies persons rises = All-weaker (λ b. Rises (row_of t b.person)) (λ b. KeepsListed t copies (of_blocked t b)) (λ b r. whole_keeps (value (pos (length t.rows + 1)) (copy_in copies)) (row_of t b.person) (pos 0) r) persons rises

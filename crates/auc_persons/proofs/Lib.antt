@@ -4,6 +4,7 @@ pub mod Found
 pub mod Parts
 pub mod KeptBlocks
 pub mod BlockBounds
+pub mod BlockNumbers
 pub mod SameRows
 pub mod SortedScans
 pub mod SortingLaws

@@ -1,11 +1,11 @@
 //! The blocks of the long rows of a shard's persons.
 
-ghost use Rattle.std.specs.Prelude.{◌≡◌, ◌<◌, ◌≤◌, List, ℤ, length, IfOk, IfSome};
-ghost use Rattle.auc_persons.specs.Blocks.{or_none};
+ghost use Rattle.std.specs.Prelude.{◌≡◌, ◌<◌, ◌≤◌, ◌*◌, List, ℕ, ℤ, length, IfOk, IfSome};
+ghost use Rattle.auc_persons.specs.Blocks.{AreAppended, or_none};
 ghost use Rattle.auc_persons.specs.Candidates.{Kept};
 ghost use Rattle.auc_persons.specs.Priced.{KeptAt, IsScanOf, arcs_of};
 
-use crate::bound::{BLOCK, Blocked, Bound};
+use crate::bound::{BLOCK, Blocked, Bound, NO_BOUND};
 use crate::lists_by_blocks::scan_and_list;
 use crate::method::{LONG, has_row_above};
 use crate::person_row::PersonRow;
@@ -28,24 +28,39 @@ pub(crate) struct Blocks {
 
 impl Model for Blocks {
     ghost use Rattle.std.specs.Prelude.{List, All, map, ◌++◌};
-    ghost use Rattle.auc_persons.specs.Blocks.{HasArcs, of_blocked, of_bound};
+    ghost use Rattle.auc_persons.specs.Blocks.{AreNumbered, HasArcs, of_blocked, of_bound};
     ghost use Rattle.auc_persons.specs.Candidates.{Listed};
 
     ghost Value = { List Listed };
 
     ghost view = { λ b. map (of_blocked b.made.value) b.persons.items ++ map (of_bound b.made.value) b.bounds.items };
 
-    ghost invariant = { λ b. All (HasArcs b.made.value) b.persons.items };
+    ghost invariant = { λ b. All (HasArcs b.made.value) b.persons.items × All (AreNumbered b.bounds.items) b.persons.items };
 }
 
 /// How many blocks a row of so many arcs has.
 fn blocks_of(arcs: usize) -> usize
-    ensures { result ≤ arcs }
+    ensures few { result ≤ arcs }
+    ensures all { (k : ℕ) → 256 < arcs → 16 * k < arcs → k < result }
 {
     if arcs <= LONG {
         return 0;
     }
     (arcs - 1) / BLOCK + 1
+}
+
+/// The bounds of so many blocks of a person come after the others. Nobody has looked at them.
+fn append_bounds(person: u32, blocks: usize, bounds: &mut Vec<Bound>) -> Result<(), AllocError>
+    ensures { IfOk result (λ _. AreAppended person blocks bounds.old.items bounds.new.items) }
+{
+    for block in 0..blocks {
+        bounds.push(Bound {
+            least: NO_BOUND,
+            person: Snapshot::of(&person),
+            block: Snapshot::of(&block),
+        })?;
+    }
+    Ok(())
 }
 
 impl Blocks {
@@ -63,20 +78,19 @@ impl Blocks {
             return Ok(None);
         }
         let mut persons = Vec::with_capacity(alloc, (rows.persons() / of) as usize + 1)?;
-        let mut start = 0;
+        let mut bounds = Vec::new(alloc);
         for person in 0..rows.persons() {
             if person % of == shard {
                 let arcs = rows.row(person).len();
                 persons.push(Blocked {
                     person,
                     arcs: arcs as u32,
-                    start,
+                    start: bounds.len(),
                     hint: Hint::NONE,
                 })?;
-                start += blocks_of(arcs);
+                append_bounds(person, blocks_of(arcs), &mut bounds)?;
             }
         }
-        let bounds = vec![in alloc; Bound::NONE; start]?;
         Ok(Some(Blocks {
             made: Snapshot::of(rows),
             persons,

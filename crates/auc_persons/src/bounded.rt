@@ -4,7 +4,7 @@ ghost use Rattle.std.specs.Prelude.{◌≡◌, ◌<◌, ◌≤◌, ◌+◌, leng
 ghost use Rattle.std.specs.List.{AllWithin};
 ghost use Rattle.auc_graph.specs.Table.{row_of};
 ghost use Rattle.auc_graph.specs.declared.rows.RowArc.{RowArc};
-ghost use Rattle.auc_persons.specs.Blocks.{Above, AreRight};
+ghost use Rattle.auc_persons.specs.Blocks.{Above, AreNumbered, AreOfSame, AreRight};
 ghost use Rattle.auc_persons.specs.Search.{Covers, IsFound, IsLimit};
 ghost use Rattle.auc_persons.specs.Priced.{IsScanOf, arcs_of, value_in};
 
@@ -78,10 +78,13 @@ pub(crate) fn scan_blocks(
 ) -> Option<Search>
     requires long { 256 < length (arcs_of own) }
     requires same { row_of _made.now.value own.person ≡ arcs_of own }
+    requires person { blocked.person ≡ own.person }
+    requires arcs { blocked.arcs ≡ length (arcs_of own) }
+    requires numbered { AreNumbered bounds.old blocked }
     requires right { AreRight _made.now.value own.rows.now own.copies.now bounds.old }
     ensures some { IfSome result (λ s. IsScanOf own.entry s.scan) }
     ensures right { AreRight _made.now.value own.entry.rows.now own.entry.copies.now bounds.new }
-    ensures length { length bounds.new ≡ length bounds.old }
+    ensures same { AreOfSame bounds.old bounds.new }
 {
     let row = PricedRow::of(own);
     let count = (row.arcs.len() - 1) / BLOCK + 1;
@@ -90,16 +93,11 @@ pub(crate) fn scan_blocks(
     }
     let mut search = begun(row, blocked.hint)?;
     for block in 0..count {
-        let number = block as u32;
         let at = blocked.start + block;
-        if !bounds[at].is_above(search.limit, own.person, number) {
+        if bounds[at].least <= search.limit {
             let from = block * BLOCK;
             let least = least_of(row, from);
-            bounds[at] = Bound {
-                least,
-                person: own.person,
-                block: number,
-            };
+            bounds[at].least = least;
             search = with_block(row, search, from, least);
         }
     }

@@ -5,7 +5,7 @@
 
 ghost use Rattle.std.specs.Prelude.{true, false, ◌≡◌, ◌<◌, ◌≤◌, ◌+◌, ◌^◌, [], pos, neg_ℤ, ◌<ℤ◌, ◌≤ℤ◌, IfSome, length, take};
 ghost use Rattle.auc_graph.specs.Table.{row_of};
-ghost use Rattle.auc_persons.specs.Blocks.{Above, AreRight};
+ghost use Rattle.auc_persons.specs.Blocks.{Above, AreNumbered, AreOfSame, AreRight};
 ghost use Rattle.auc_persons.specs.Candidates.{Gathered, Keeps, KeepsListed};
 ghost use Rattle.auc_persons.specs.Scan.{endless, IsValue};
 ghost use Rattle.auc_persons.specs.Priced.{IsScanOf, arcs_of, value_in, value_to};
@@ -56,13 +56,16 @@ fn fill_by_blocks(
 ) -> bool
     requires long { 256 < length (arcs_of own) }
     requires same { row_of _made.now.value own.person ≡ arcs_of own }
+    requires person { blocked.person ≡ own.person }
+    requires arcs { blocked.arcs ≡ length (arcs_of own) }
+    requires numbered { AreNumbered bounds.old blocked }
     requires right { AreRight _made.now.value own.rows.now own.copies.now bounds.old }
     requires low { neg_ℤ (pos (2 ^ 44)) <ℤ bound }
     requires high { bound ≤ℤ pos (2 ^ 62) }
     ensures keeps { Keeps (value_to own.entry) (arcs_of own.entry) list.new.arcs list.new.bound }
     ensures owner { list.new.person ≡ list.old.person }
     ensures right { AreRight _made.now.value own.entry.rows.now own.entry.copies.now bounds.new }
-    ensures length { length bounds.new ≡ length bounds.old }
+    ensures same { AreOfSame bounds.old bounds.new }
 {
     let row = PricedRow::of(own);
     let count = (row.arcs.len() - 1) / BLOCK + 1;
@@ -71,16 +74,11 @@ fn fill_by_blocks(
         return false;
     }
     for block in 0..count {
-        let number = block as u32;
         let at = blocked.start + block;
-        if !bounds[at].is_above(bound - 1, own.person, number) {
+        if bounds[at].least < bound {
             let from = block * BLOCK;
             let least = least_of(row, from);
-            bounds[at] = Bound {
-                least,
-                person: own.person,
-                block: number,
-            };
+            bounds[at].least = least;
             if !list.take_block(row, bound, from, least) {
                 return false;
             }
@@ -100,13 +98,16 @@ fn list_anew(
 )
     requires long { 256 < length (arcs_of own) }
     requires same { row_of made.now.value own.person ≡ arcs_of own }
+    requires person { blocked.person ≡ own.person }
+    requires arcs { blocked.arcs ≡ length (arcs_of own) }
+    requires numbered { AreNumbered bounds.old blocked }
     requires right { AreRight made.now.value own.rows.now own.copies.now bounds.old }
     requires second { second <ℤ endless → IsValue second }
     requires owner { list.old.person ≡ own.person }
     requires keeps { KeepsListed own.rows.now own.copies.now list.old }
     ensures keeps { KeepsListed own.entry.rows.now own.entry.copies.now list.new }
     ensures right { AreRight made.now.value own.entry.rows.now own.entry.copies.now bounds.new }
-    ensures length { length bounds.new ≡ length bounds.old }
+    ensures same { AreOfSame bounds.old bounds.new }
 {
     if blocked.arcs as usize <= VERY_LONG {
         return;
@@ -120,6 +121,7 @@ fn list_anew(
 }
 
 /// The best arc of a person with a long row, by his blocks; and where the row is very long and a list is wanted, they make it anew.
+#[tactic(auto, using(crate::proofs::BlockNumbers::same_then))]
 pub(crate) fn scan_and_list(
     own: PersonRow,
     made: &Snapshot<Rows>,
@@ -129,13 +131,16 @@ pub(crate) fn scan_and_list(
 ) -> Option<Search>
     requires long { 256 < length (arcs_of own) }
     requires same { row_of made.now.value own.person ≡ arcs_of own }
+    requires person { blocked.person ≡ own.person }
+    requires arcs { blocked.arcs ≡ length (arcs_of own) }
+    requires numbered { AreNumbered bounds.old blocked }
     requires right { AreRight made.now.value own.rows.now own.copies.now bounds.old }
     requires owner { list.old.person ≡ own.person }
     requires keeps { KeepsListed own.rows.now own.copies.now list.old }
     ensures some { IfSome result (λ s. IsScanOf own.entry s.scan) }
     ensures keeps { KeepsListed own.entry.rows.now own.entry.copies.now list.new }
     ensures right { AreRight made.now.value own.entry.rows.now own.entry.copies.now bounds.new }
-    ensures length { length bounds.new ≡ length bounds.old }
+    ensures same { AreOfSame bounds.old bounds.new }
 {
     let search = scan_blocks(own, made, blocked, bounds)?;
     list_anew(own, made, blocked, bounds, list, search.scan.second);

@@ -1,7 +1,7 @@
 use Rattle.std.proofs.Common.{◌≡◌, ◌+◌, ◌*◌, length, pos, take}
 use Rattle.auc_graph.specs.Bid.{value}
 use Rattle.auc_graph.specs.Table.{row_of}
-use Rattle.auc_persons.specs.Blocks.{AreRight}
+use Rattle.auc_persons.specs.Blocks.{AreOfSame, AreRight}
 use Rattle.auc_persons.specs.Candidates.{Gathered}
 use Rattle.auc_persons.specs.Scan.{copy_in}
 use Rattle.auc_persons.proofs.lists_by_blocks.fill_by_blocks.Given as goal
@@ -12,5 +12,5 @@ invariant-loop-block l = record {
   bound : l.list.bound ≡ l.bound;
   owner : l.list.person ≡ l.fn.list.person;
   right : AreRight l._made.value l.own.rows.now l.own.copies.now l.bounds;
-  length : length l.bounds ≡ length l.fn.bounds;
+  same : AreOfSame l.fn.bounds l.bounds;
 }

@@ -3,8 +3,9 @@ use Rattle.std.specs.Prelude.{map}
 use Rattle.std.proofs.lemmas.List.{with_items_is}
 use Rattle.std.proofs.lemmas.List.Elements.{All-get_or, All-same, All-set}
 use Rattle.auc_graph.specs.Table.{row_of}
-use Rattle.auc_persons.specs.Blocks.{HasArcs, of_blocked, of_bound}
+use Rattle.auc_persons.specs.Blocks.{AreNumbered, AreOfSame, HasArcs, of_blocked, of_bound}
 use Rattle.auc_persons.specs.Candidates.{KeepsListed}
+use Rattle.auc_persons.proofs.BlockNumbers.{all_numbered_still, numbered_still}
 use Rattle.auc_persons.proofs.KeptBlocks.{kept_bounds, kept_of, kept_persons, same_as}
 use Rattle.auc_persons.proofs.SameRows.{Rises}
 use Rattle.auc_persons.proofs.blocks.Blocks.scan.Goals as goal
@@ -20,7 +21,7 @@ scan_and_list-requires-clause-same c =
     let lt : c.args.place < length persons = omega (arith, c.len.ensures, c.if-place-len.false) in
     let kept = All-same (KeepsListed t copies) (map (of_blocked made) persons ++ map (of_bound made) bounds) c.args.self.now c.self.view_is c.requires.kept in
     let here : KeepsListed t copies (of_blocked made b) = rw c.index-blocked.ensures (All-get_or (λ x. KeepsListed t copies (of_blocked made x)) persons c.args.place b lt (kept_persons made t copies persons bounds kept)) in
-    let has : HasArcs made b = rw c.index-blocked.ensures (All-get_or (HasArcs made) persons c.args.place b lt c.self.invariant) in
+    let has : HasArcs made b = rw c.index-blocked.ensures (All-get_or (HasArcs made) persons c.args.place b lt c.self.invariant.0) in
     let e : b.person ≡ c.args.own.person = omega (arith, c.if-blocked-own.false) in
     let f : length (row_of t b.person) ≡ length (row_of t c.args.own.person) = ap (λ n. length (row_of t n)) e in
     let sound = rw c.row-arcs.ensures.row at c.row-arcs.ensures.sound in
@@ -37,6 +38,23 @@ scan_and_list-requires-clause-right c =
     let kept = All-same (KeepsListed t copies) (map (of_blocked made) persons ++ map (of_bound made) bounds) c.args.self.now c.self.view_is c.requires.kept in
     rw c.as_mut_slice.ensures.value (kept_bounds made t copies persons bounds kept)
 
+pub scan_and_list-requires-clause-numbered : goal.scan_and_list-requires-clause-numbered
+scan_and_list-requires-clause-numbered c =
+    let persons = c.self.inside.persons.items in
+    let bounds = c.self.inside.bounds.items in
+    let b = c.index-blocked.result.now in
+    let lt : c.args.place < length persons = omega (arith, c.len.ensures, c.if-place-len.false) in
+    rw c.as_mut_slice.ensures.value (rw c.index-blocked.ensures (All-get_or (AreNumbered bounds) persons c.args.place b lt c.self.invariant.1))
+
+pub invariant_of-self : goal.invariant_of-self
+invariant_of-self c =
+    let persons = c.self.inside.persons.items in
+    let bounds = c.self.inside.bounds.items in
+    let after = c.scan_and_list.new.bounds in
+    let same : AreOfSame bounds after = rw c.as_mut_slice.ensures.value at c.scan_and_list.ensures.same in
+    let len : length after ≡ c.self.inside.bounds.len = omega (arith, c.scan_and_list.ensures.same.many, c.as_mut_slice.ensures.len, ap length c.as_mut_slice.ensures.value) in
+    (c.self.invariant.0, rw (with_items_is c.self.inside.bounds after len) (all_numbered_still bounds after persons same c.self.invariant.1))
+
 pub returns-in_err-search-clause-kept : goal.returns-in_err-search-clause-kept
 returns-in_err-search-clause-kept c =
     let t = c.args.own.rows.now in
@@ -45,7 +63,7 @@ returns-in_err-search-clause-kept c =
     let persons = c.self.inside.persons.items in
     let bounds = c.self.inside.bounds.items in
     let kept = All-same (KeepsListed t copies) (map (of_blocked made) persons ++ map (of_bound made) bounds) c.args.self.now c.self.view_is c.requires.kept in
-    let len : length c.scan_and_list.new.bounds ≡ c.self.inside.bounds.len = omega (arith, c.scan_and_list.ensures.length, c.as_mut_slice.ensures.len, ap length c.as_mut_slice.ensures.value) in
+    let len : length c.scan_and_list.new.bounds ≡ c.self.inside.bounds.len = omega (arith, c.scan_and_list.ensures.same.many, c.as_mut_slice.ensures.len, ap length c.as_mut_slice.ensures.value) in
     rw (with_items_is c.self.inside.bounds c.scan_and_list.new.bounds len) (kept_of made t copies persons c.scan_and_list.new.bounds (kept_persons made t copies persons bounds kept) c.scan_and_list.ensures.right)
 
 pub invariant_of-self-2 : goal.invariant_of-self-2
@@ -54,8 +72,14 @@ invariant_of-self-2 c =
     let persons = c.self.inside.persons.items in
     let b = c.index-blocked.result.now in
     let lt : c.args.place < length persons = omega (arith, c.len.ensures, c.if-place-len.false) in
-    let has : HasArcs made b = rw c.index-blocked.ensures (All-get_or (HasArcs made) persons c.args.place b lt c.self.invariant) in
-    All-set (HasArcs made) persons c.args.place _ has c.self.invariant
+    let has : HasArcs made b = rw c.index-blocked.ensures (All-get_or (HasArcs made) persons c.args.place b lt c.self.invariant.0) in
+    let bounds = c.self.inside.bounds.items in
+    let after = c.scan_and_list.new.bounds in
+    let same : AreOfSame bounds after = rw c.as_mut_slice.ensures.value at c.scan_and_list.ensures.same in
+    let len : length after ≡ c.self.inside.bounds.len = omega (arith, c.scan_and_list.ensures.same.many, c.as_mut_slice.ensures.len, ap length c.as_mut_slice.ensures.value) in
+    let own : AreNumbered bounds b = rw c.index-blocked.ensures (All-get_or (AreNumbered bounds) persons c.args.place b lt c.self.invariant.1) in
+    let all = all_numbered_still bounds after persons same c.self.invariant.1 in
+    (All-set (HasArcs made) persons c.args.place _ has c.self.invariant.0, rw (with_items_is c.self.inside.bounds after len) (All-set (AreNumbered after) persons c.args.place _ (numbered_still bounds after b same own) all))
 
 pub returns-clause-kept : goal.returns-clause-kept
 returns-clause-kept c =
@@ -69,7 +93,7 @@ returns-clause-kept c =
     let kept = All-same (KeepsListed t copies) (map (of_blocked made) persons ++ map (of_bound made) bounds) c.args.self.now c.self.view_is c.requires.kept in
     let own = kept_persons made t copies persons bounds kept in
     let here : KeepsListed t copies (of_blocked made b) = rw c.index-blocked.ensures (All-get_or (λ x. KeepsListed t copies (of_blocked made x)) persons c.args.place b lt own) in
-    let len : length c.scan_and_list.new.bounds ≡ c.self.inside.bounds.len = omega (arith, c.scan_and_list.ensures.length, c.as_mut_slice.ensures.len, ap length c.as_mut_slice.ensures.value) in
+    let len : length c.scan_and_list.new.bounds ≡ c.self.inside.bounds.len = omega (arith, c.scan_and_list.ensures.same.many, c.as_mut_slice.ensures.len, ap length c.as_mut_slice.ensures.value) in
     rw (with_items_is c.self.inside.bounds c.scan_and_list.new.bounds len) (kept_of made t copies _ c.scan_and_list.new.bounds (All-set (λ x. KeepsListed t copies (of_blocked made x)) persons c.args.place _ here own) c.scan_and_list.ensures.right)
 
 pub returns-then-person-own-clause-lists : goal.returns-then-person-own-clause-lists

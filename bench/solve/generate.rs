@@ -9,12 +9,13 @@
 //!     generate few PERSONS CHEAP DEGREE SEED FILE        a price war: all persons want the same few cheap objects
 //!     generate levels PERSONS DEGREE MOST SEED FILE      a price war: each arc costs 1 or MOST
 //!     generate products PERSONS SEED FILE                each person knows all objects; an arc costs the product of the two numbers
+//!     generate chain PERSONS MOST SEED FILE              each person knows his own object and the next one's: one assignment alone
 //!
 //! There are as many objects as persons. No person knows an object twice, and the planted arcs have costs like the others: they
 //! see to it that there is a full assignment, and say nothing of a least one. The arcs stand in the order of the persons, and
 //! those of a person, but of shuffled, in the order of the objects, as in the sparse files of the OR-Library.
 //!
-//! Of share, uniform, shuffled, mixed and lone, costs are drawn from 1 to MOST; of levels, a coin falls for each arc. Of uniform, shuffled
+//! Of share, uniform, shuffled, mixed, lone and chain, costs are drawn from 1 to MOST; of levels, a coin falls for each arc. Of uniform, shuffled
 //! and levels, each person knows DEGREE objects, the planted one among them. Of mixed, the number of his objects is drawn; of lone, the
 //! person in the middle has LONG.
 //!
@@ -23,6 +24,9 @@
 //! a long one, by which a person leaves a crowd.
 //!
 //! Of products, nothing is drawn: the arc of person i to object j costs i * j, so all persons want the same objects in the same order.
+//!
+//! Of chain, persons and objects have an order, which is drawn; each person knows the object of his place and the one after it, and the
+//! last one his own alone. So he has that, and each one before him his own too.
 //!
 //! Of few, each person knows DEGREE of the CHEAP first objects, at costs from 1 to `MOST_CHEAP`, and one dear object, at costs
 //! from `LEAST_DEAR` to `MOST_DEAR`. Those whose planted object is a cheap one have a dear one that is drawn. So the
@@ -36,7 +40,7 @@ use random::Random;
 use std::fs::File;
 use std::io::{BufWriter, Result, Write};
 
-const USAGE: &str = "usage: generate share|uniform|shuffled|mixed|lone|plane|few|levels|products PERSONS [NUMBER].. SEED FILE";
+const USAGE: &str = "usage: generate share|uniform|shuffled|mixed|lone|plane|few|levels|products|chain PERSONS [NUMBER].. SEED FILE";
 const MOST_PERSONS: usize = 10_000;
 const MOST_COST: usize = 1_000_000_000;
 const MOST_ARCS: usize = 33_554_432;
@@ -186,6 +190,18 @@ fn products(persons: usize) -> Rows {
     (1..=persons).map(|person| (0..persons).map(|object| Arc { object, cost: person * (object + 1) }).collect()).collect()
 }
 
+fn chain(persons: usize, most: usize, random: &mut Random) -> Rows {
+    require_cost(most);
+    let (order, objects) = (random.order(persons), random.order(persons));
+    let mut rows: Rows = (0..persons).map(|_| Vec::new()).collect();
+    for (place, person) in order.into_iter().enumerate() {
+        let mut known = objects[place..persons.min(place + 2)].to_vec();
+        known.sort_unstable();
+        rows[person] = known.into_iter().map(|object| Arc { object, cost: number_from(random, 1, most) }).collect();
+    }
+    rows
+}
+
 fn write_problem(rows: &Rows, out: &mut impl Write) -> Result<()> {
     writeln!(out, "{}", rows.len())?;
     for (person, row) in rows.iter().enumerate() {
@@ -214,6 +230,7 @@ fn main() -> Result<()> {
         ("few", &[persons, cheap, degree]) => few(persons, cheap, degree, &mut random),
         ("levels", &[persons, degree, most]) => levels(persons, degree, most, &mut random),
         ("products", &[persons]) => products(persons),
+        ("chain", &[persons, most]) => chain(persons, most, &mut random),
         _ => panic!("{USAGE}"),
     };
     let arcs: usize = rows.iter().map(Vec::len).sum();

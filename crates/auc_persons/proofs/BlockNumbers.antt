@@ -10,9 +10,6 @@ use Rattle.auc_persons.specs.declared.bound.Bound.{Bound}
 use Rattle.auc_persons.specs.declared.bound.Blocked.{Blocked}
 use Rattle.auc_persons.specs.Blocks.{AreAppended, AreNumbered, AreOfSame, IsOf, IsUnknown}
 
-pub same_at_first : (bounds : List Bound) → AreOfSame bounds bounds
-same_at_first bounds = record { many = refl; each = λ j person block d is. is }
-
 -- of a bound the value alone has changed
 pub same_set : (before bounds : List Bound) (at : ℕ) (d : Bound) (least : ℤ) → at < length bounds → AreOfSame before bounds → AreOfSame before (set bounds at (record (get_or bounds at d) { least = least }))
 same_set before bounds at d least lt same = record {
@@ -38,7 +35,7 @@ pub all_numbered_still : (before after : List Bound) (persons : List Blocked) �
 all_numbered_still before after persons same numbered = All-weaker (AreNumbered before) (AreNumbered after) (λ b n. numbered_still before after b same n) persons numbered
 
 -- bounds of other blocks came after
-pub numbered_before : (before after : List Bound) (person blocks : ℕ) (b : Blocked) → AreAppended person blocks before after → AreNumbered before b → AreNumbered after b
+numbered_before : (before after : List Bound) (person blocks : ℕ) (b : Blocked) → AreAppended person blocks before after → AreNumbered before b → AreNumbered after b
 numbered_before before after person blocks b more numbered k d long lt =
     let n = numbered k d long lt in
     (omega (arith, more.many, n.0), rw (more.kept (b.start + k) d n.0) n.1)

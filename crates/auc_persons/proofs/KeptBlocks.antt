@@ -51,7 +51,7 @@ same_as made t copies b keeps has arcs rises = same_row (row_of t b.person) (row
 pub whole_keeps : (val : RowArc → ℤ) (row : List RowArc) (bound : ℤ) → Rises row → Keeps val row row bound
 whole_keeps val row bound rises = record { members = All-contains_itself row; rising = rises; rest = inr (λ k d lt. inl (Contains-get_or row k d lt)) }
 
-pub unknown_is : (made t : Table) (copies : List ℤ) (b : Bound) → IsUnknown b → KeepsListed t copies (of_bound made b)
+unknown_is : (made t : Table) (copies : List ℤ) (b : Bound) → IsUnknown b → KeepsListed t copies (of_bound made b)
 unknown_is made t copies b unknown = rw unknown (none_keeps (value (pos (length t.rows + 1)) (copy_in copies)) (row_of t b.person.value) [] NO_BOUND refl)
 
 pub unknown_are : (made t : Table) (copies : List ℤ) (bounds : List Bound) → All IsUnknown bounds → AreRight made t copies bounds

@@ -88,6 +88,7 @@ pub(crate) fn scan_blocks(
 {
     let row = PricedRow::of(own);
     let count = (row.arcs.len() - 1) / BLOCK + 1;
+    // Never so; asked once, in place of a proof for each look at a bound.
     if blocked.start > bounds.len() || count > bounds.len() - blocked.start {
         return None;
     }

@@ -70,6 +70,7 @@ fn fill_by_blocks(
     let row = PricedRow::of(own);
     let count = (row.arcs.len() - 1) / BLOCK + 1;
     list.begin(bound);
+    // Never so; asked once, in place of a proof for each look at a bound.
     if blocked.start > bounds.len() || count > bounds.len() - blocked.start {
         return false;
     }

@@ -94,7 +94,7 @@ impl Bidder {
     /// Empty lists for the persons of shard number `shard` of `of`, none where no row has more than 64 arcs; and what is known of shorter rows.
     ///
     /// Takes O(persons + arcs) time, and where some row has more than 64 arcs, 312 bytes of memory for each person of the shard. Where some row
-    /// has more than 256 arcs, it takes 24 bytes more for each person, and 8 for each 16 arcs of such a row. Where some row of at most 64 arcs
+    /// has more than 256 arcs, it takes 24 bytes more for each person, and 8 to 16 for each 16 arcs of such a row. Where some row of at most 64 arcs
     /// doesn't rise, it takes 16 bytes for each person, 12 for each arc of the shard's rows of that length, and O(arcs of the row) time for each of these.
     ///
     /// # Errors

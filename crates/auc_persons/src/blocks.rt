@@ -40,7 +40,7 @@ impl Model for Blocks {
 
 /// How many blocks a row of so many arcs has.
 fn blocks_of(arcs: usize) -> usize
-    ensures few { result ≤ arcs }
+    ensures each { (k : ℕ) → k < result → 16 * k < arcs }
     ensures all { (k : ℕ) → 256 < arcs → 16 * k < arcs → k < result }
 {
     if arcs <= LONG {

@@ -1,5 +1,5 @@
 -- Blocks of a shard, seen as lists of candidates.
-use Rattle.std.proofs.Common.{◌≡◌, ◌+◌, inr, inl, List, [], ◌∷◌, ◌++◌, length, get_or, refl, arith, pos}
+use Rattle.std.proofs.Common.{◌≡◌, ℕ, ◌+◌, inr, inl, List, [], ◌∷◌, ◌++◌, length, get_or, refl, arith, pos}
 use Rattle.std.specs.Prelude.{ℤ, All, map}
 use Rattle.std.specs.List.{AllByRecursion}
 use Rattle.std.proofs.lemmas.List.Elements.{All-append, All-contains, All-contains_itself, All-from_recursion, All-map, All-weaker, Contains-append_left, Contains-append_right, Contains-get_or, recursion_from_All}
@@ -43,8 +43,9 @@ kept_of made t copies persons bounds own right =
     All-append (KeepsListed t copies) (map (of_blocked made) persons) (map (of_bound made) bounds) (All-map (KeepsListed t copies) (of_blocked made) persons own) (All-map (KeepsListed t copies) (of_bound made) bounds right)
 
 -- the row of a person is the one that is remembered
-pub same_as : (made t : Table) (copies : List ℤ) (b : Blocked) → KeepsListed t copies (of_blocked made b) → HasArcs made b → b.arcs ≡ length (row_of t b.person) → Rises (row_of t b.person) → row_of made b.person ≡ row_of t b.person
-same_as made t copies b keeps has arcs rises = same_row (row_of t b.person) (row_of made b.person) rises keeps.rising keeps.members (omega (arith, has, arcs))
+pub same_as : (made t : Table) (copies : List ℤ) (b : Blocked) (person : ℕ) → KeepsListed t copies (of_blocked made b) → HasArcs made b → b.person ≡ person → b.arcs ≡ length (row_of t person) → Rises (row_of t person) → row_of made person ≡ row_of t person
+same_as made t copies b person keeps has own arcs rises =
+    same_row (row_of t person) (row_of made person) rises (rw own at keeps.rising) (rw own at keeps.members) (omega (arith, rw own at has, arcs))
 
 -- ---- new ones
 

@@ -5,6 +5,8 @@ pub mod Parts
 pub mod KeptBlocks
 pub mod BlockBounds
 pub mod BlockNumbers
+pub mod DenseRows
+pub mod SkippedBlocks
 pub mod SameRows
 pub mod SortedScans
 pub mod SortingLaws

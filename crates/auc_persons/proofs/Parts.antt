@@ -58,16 +58,16 @@ value_range scale copies a low high is prices =
 
 -- ---- a block
 
--- all arcs before a block, and those in it
-pub covered_block : (val : RowArc → ℤ) (row : List RowArc) (f : Scan) (block k : ℕ) (d : RowArc) → (k < 16 * block → Covers val f (get_or row k d)) → (16 * block ≤ k → k < 16 * block + 16 → Covers val f (get_or row k d)) → k < 16 * (block + 1) → Covers val f (get_or row k d)
-covered_block val row f block k d before inside lt = by (cases_lt k (16 * block))
+-- all arcs before a block, and those from it to another
+pub covered_blocks : (val : RowArc → ℤ) (row : List RowArc) (f : Scan) (from to k : ℕ) (d : RowArc) → (k < 16 * from → Covers val f (get_or row k d)) → (16 * from ≤ k → k < 16 * to → Covers val f (get_or row k d)) → k < 16 * to → Covers val f (get_or row k d)
+covered_blocks val row f from to k d before inside lt = by (cases_lt k (16 * from))
   where
-    by : (k < 16 * block) ⊎ (16 * block ≤ k) → Covers val f (get_or row k d)
+    by : (k < 16 * from) ⊎ (16 * from ≤ k) → Covers val f (get_or row k d)
     by (inl below) = before below
-    by (inr le) = inside le (omega (arith, lt))
+    by (inr le) = inside le lt
 
 -- arcs above a limit are covered
-pub covered_above : (scale : ℤ) (copies : List ℤ) (row : List RowArc) (f : Scan) (limit least : ℤ) (k : ℕ) (d : RowArc) → pos 1 ≤ℤ scale → scale ≤ℤ pos 10001 → IsRow (length copies) row → All IsPrice copies → IsFound (value scale (copy_in copies)) row f → IsLimit f limit → limit <ℤ least → least ≤ℤ value scale (copy_in copies) (get_or row k d) → k < length row → Covers (value scale (copy_in copies)) f (get_or row k d)
-covered_above scale copies row f limit least k d low high is prices found far lt le within =
+pub covered_above : (scale : ℤ) (copies : List ℤ) (row : List RowArc) (f : Scan) (limit : ℤ) (k : ℕ) (d : RowArc) → pos 1 ≤ℤ scale → scale ≤ℤ pos 10001 → IsRow (length copies) row → All IsPrice copies → IsFound (value scale (copy_in copies)) row f → IsLimit f limit → limit <ℤ value scale (copy_in copies) (get_or row k d) → k < length row → Covers (value scale (copy_in copies)) f (get_or row k d)
+covered_above scale copies row f limit k d low high is prices found far lt within =
     let range = value_range scale copies (get_or row k d) low high (is.within k d within) prices in
-    above_limit (value scale (copy_in copies)) row f (get_or row k d) (value scale (copy_in copies) (get_or row k d)) limit found refl range far (omega (arith, ints, lt, le))
+    above_limit (value scale (copy_in copies)) row f (get_or row k d) (value scale (copy_in copies) (get_or row k d)) limit found refl range far lt

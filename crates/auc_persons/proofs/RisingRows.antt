@@ -1,5 +1,5 @@
 -- A pass over a row whose objects rise.
-use Rattle.std.proofs.Common.{◌≡◌, ◌≢◌, ℕ, ◌+◌, ◌<◌, ◌≤◌, inl, inr, List, [], ◌∷◌, ◌++◌, length, take, get_or, arith, refl}
+use Rattle.std.proofs.Common.{◌≡◌, ◌≢◌, ℕ, ◌+◌, ◌<◌, ◌≤◌, inl, inr, List, [], ◌∷◌, ◌++◌, length, take, get_or, arith, refl, ◌∙◌}
 use Rattle.std.specs.Prelude.{ℤ, ◌≤ℤ◌, All}
 use Rattle.std.proofs.lemmas.Int.{ints, by_lt_z}
 use Rattle.std.proofs.lemmas.List.{take_all, take_more}
@@ -7,8 +7,9 @@ use Rattle.std.proofs.lemmas.List.Elements.{All-contains, All-get_or, All-more, 
 use Rattle.std.proofs.lemmas.List.Quantifiers.{all_pairs_push}
 use Rattle.auc_graph.specs.declared.rows.RowArc.{RowArc}
 use Rattle.auc_persons.specs.declared.rising.Least.{Least}
+use Rattle.auc_persons.specs.declared.rising.Nearest.{Nearest}
 use Rattle.auc_persons.specs.declared.scan.Scan.{Scan}
-use Rattle.auc_persons.specs.Rising.{IsRisingRow, Lowered}
+use Rattle.auc_persons.specs.Rising.{Drawn, IsRisingRow, Lowered}
 use Rattle.auc_persons.specs.Scan.{endless, IsScan, IsValue, Loses}
 use Rattle.auc_persons.specs.Priced.{no_arc}
 use Rattle.auc_persons.proofs.Scans.{first, other_loses, other_next, other_wins, row_whole}
@@ -91,6 +92,35 @@ sorts_more val row l r i v pairs h lt is ok low = record {
 
 pub sorts_whole : (val : RowArc → ℤ) (row : List RowArc) (l : Least) (i : ℕ) → length row ≤ i → Sorts val row l i → IsScan val row (scan_at row l)
 sorts_whole val row l i le h = rises_whole val row l h.last i le h.rises
+
+-- the same, where the best arc itself is kept
+abbrev pub Nears : (RowArc → ℤ) → List RowArc → Nearest → ℕ → Type 0
+Nears val row l i = (p : ℕ) × (l.best.now ≡ get_or row p no_arc) × Sorts val row (record { value = l.value; second = l.second; place = p }) i
+
+pub nears_more : (val : RowArc → ℤ) (row : List RowArc) (l r : Nearest) (i : ℕ) (v : ℤ) → IsRisingRow row → Nears val row l i → i < length row → v ≡ val (get_or row i no_arc) → IsValue v → Drawn l v (get_or row i no_arc) r → Nears val row r (i + 1)
+nears_more val row l r i v pairs (p, best, h) lt is ok drawn = by_lt_z v l.value
+    (λ less. let w = drawn.wins less in (
+      i,
+      w.1.1,
+      rw (w.0, w.1.0) (sorts_more val row old (record { value = v; second = l.value; place = i }) i v pairs h lt is ok (record { wins = λ _. refl; next = λ le _. absurd (omega (arith, ints, le, less)); stays = λ le _. absurd (omega (arith, ints, le, less)) })),
+    ))
+    (λ le. by_lt_z v l.second
+    (λ less. let w = drawn.next le less in (
+      p,
+      w.1.1 ∙ best,
+      rw (w.0, w.1.0) (sorts_more val row old (record { value = l.value; second = v; place = p }) i v pairs h lt is ok (record { wins = λ lt. absurd (omega (arith, ints, le, lt)); next = λ _ _. refl; stays = λ _ more. absurd (omega (arith, ints, more, less)) })),
+    ))
+    (λ more. let w = drawn.stays le more in (
+      p,
+      w.1.1 ∙ best,
+      rw (w.0, w.1.0) (sorts_more val row old old i v pairs h lt is ok (record { wins = λ lt. absurd (omega (arith, ints, le, lt)); next = λ _ less. absurd (omega (arith, ints, more, less)); stays = λ _ _. refl })),
+    )))
+  where
+    old : Least
+    old = record { value = l.value; second = l.second; place = p }
+
+pub nears_whole : (val : RowArc → ℤ) (row : List RowArc) (l : Nearest) (i : ℕ) → length row ≤ i → Nears val row l i → IsScan val row (record { value = l.value; second = l.second; best = l.best.now })
+nears_whole val row l i le (p, best, h) = rw best (sorts_whole val row (record { value = l.value; second = l.second; place = p }) i le h)
 
 -- ---- whether a row rises
 

@@ -3,6 +3,7 @@ use Rattle.std.specs.Prelude.{◌≡◌, ◌<◌, ◌≤◌, ℕ, ℤ, ◌≤ℤ
 use Rattle.auc_graph.specs.declared.rows.RowArc.{RowArc}
 use Rattle.auc_graph.specs.Table.{Table, row_of}
 use Rattle.auc_persons.specs.declared.rising.Least.{Least}
+use Rattle.auc_persons.specs.declared.rising.Nearest.{Nearest}
 
 abbrev pub IsRisingRow : List RowArc → Type 0
 IsRisingRow row = AllPairs (λ a b. a.object < b.object) row
@@ -16,3 +17,9 @@ pub record Lowered (l : Least) (v : ℤ) (place : ℕ) (r : Least) : Type 0 wher
   pub wins : v <ℤ l.value → r ≡ record { value = v; second = l.value; place = place }
   pub next : l.value ≤ℤ v → v <ℤ l.second → r ≡ record { value = l.value; second = v; place = l.place }
   pub stays : l.value ≤ℤ v → l.second ≤ℤ v → r ≡ l
+
+-- one arc more, by cases, where the best arc itself is kept
+pub record Drawn (l : Nearest) (v : ℤ) (a : RowArc) (r : Nearest) : Type 0 where
+  pub wins : v <ℤ l.value → (r.value ≡ v) × ((r.second ≡ l.value) × (r.best.now ≡ a))
+  pub next : l.value ≤ℤ v → v <ℤ l.second → (r.value ≡ l.value) × ((r.second ≡ v) × (r.best.now ≡ l.best.now))
+  pub stays : l.value ≤ℤ v → l.second ≤ℤ v → (r.value ≡ l.value) × ((r.second ≡ l.second) × (r.best.now ≡ l.best.now))

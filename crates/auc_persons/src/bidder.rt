@@ -5,10 +5,12 @@ ghost use Rattle.auc_graph.specs.Table.{Table};
 ghost use Rattle.auc_persons.specs.Candidates.{Kept, Listed};
 ghost use Rattle.auc_persons.specs.declared.method.Method.{Method};
 ghost use Rattle.auc_persons.specs.Persons.{NeverFall};
-ghost use Rattle.auc_persons.specs.Priced.{KeptAt, IsScanOf, arcs_of};
+ghost use Rattle.auc_persons.specs.Look.{IsLook};
+ghost use Rattle.auc_persons.specs.Priced.{KeptAt, IsScanOf, arcs_of, value_to};
 
 use crate::amount::scaled;
 use crate::blocks::Blocks;
+use crate::look::Look;
 use crate::method::{Method, SHORT, has_row_above};
 use crate::person_row::PersonRow;
 use crate::priced_row::PricedRow;
@@ -51,23 +53,23 @@ fn first_delta(rows: &Rows, person: u32) -> i64
     scaled(scale_of(rows.persons()), rows.cost_spread()) / (arcs + 1) * WANTED
 }
 
-/// The best arc of a person, where his list tells it. `place` is where the list stands, if anywhere.
+/// What a person's list tells of his row. `place` is where the list stands, if anywhere.
 // In line: docs/CODEGEN.md, "A person's row by value".
 #[inline(always)]
-fn scan_list(lists: &mut [Shortlist], own: PersonRow, place: u32) -> Option<Scan>
+fn scan_list(lists: &mut [Shortlist], own: PersonRow, place: u32) -> Look
     requires kept { KeptAt own lists.old }
-    ensures some { IfSome result (IsScanOf own.entry) }
+    ensures look { IsLook (value_to own.entry) (arcs_of own.entry) result }
     ensures kept { KeptAt own.entry lists.new }
     ensures length { length lists.new ≡ length lists.old }
 {
     let place = place as usize;
     if place >= lists.len() {
-        return None;
+        return Look::Nothing;
     }
     let row = PricedRow::of(own);
     let list = &mut lists[place];
     if list.person() != own.person {
-        return None;
+        return Look::Nothing;
     }
     list.scan(row)
 }
@@ -94,8 +96,9 @@ impl Bidder {
     /// Empty lists for the persons of shard number `shard` of `of`, none where no row has more than 64 arcs; and what is known of shorter rows.
     ///
     /// Takes O(persons + arcs) time, and where some row has more than 64 arcs, 312 bytes of memory for each person of the shard. Where some row
-    /// has more than 256 arcs, it takes 24 bytes more for each person, and 8 to 16 for each 16 arcs of such a row. Where some row of at most 64 arcs
-    /// doesn't rise, it takes 16 bytes for each person, 12 for each arc of the shard's rows of that length, and O(arcs of the row) time for each of these.
+    /// has more than 256 arcs, it takes 48 bytes more for each person, 8 to 16 for each 16 arcs of such a row, and 4 to 8 for each arc of such a row that
+    /// leads to all objects in order. Where some row of at most 64 arcs doesn't rise, it takes 16 bytes for each person, 12 for each arc of the shard's
+    /// rows of that length, and O(arcs of the row) time for each of these.
     ///
     /// # Errors
     ///
@@ -140,7 +143,10 @@ impl Bidder {
         ensures kept { KeptAt own.entry self.new }
     {
         let lists = self.lists.as_mut_slice();
-        scan_list(lists, own, place)
+        match scan_list(lists, own, place) {
+            Look::Best(scan) => Some(scan),
+            Look::Known(_) | Look::Nothing => None,
+        }
     }
 
     /// The best arc of a person with a long row: by his list where that tells it, and else by his blocks, which make the list of a very long row
@@ -153,13 +159,15 @@ impl Bidder {
         ensures kept { KeptAt own.entry self.new }
     {
         let lists = self.lists.as_mut_slice();
-        if let Some(scan) = scan_list(lists, own, place) {
-            return Some(scan);
-        }
+        let known = match scan_list(lists, own, place) {
+            Look::Best(scan) => return Some(scan),
+            Look::Known(scan) => Some(scan),
+            Look::Nothing => None,
+        };
         let Some(blocks) = &mut self.blocks else {
             return None;
         };
-        blocks.scan(own, place, lists)
+        blocks.scan(own, place, known, lists)
     }
 }
 

@@ -1,18 +1,20 @@
 //! A person's best arc, in a pass over his row that leaves blocks out whose bound is too high.
 
-ghost use Rattle.std.specs.Prelude.{◌≡◌, ◌<◌, ◌≤◌, ◌+◌, length, slice_index_or, IfSome, ℕ};
+ghost use Rattle.std.specs.Prelude.{◌≡◌, ◌<◌, ◌≤◌, ◌+◌, ◌<ℤ◌, length, slice_index_or, IfSome, ℕ};
 ghost use Rattle.std.specs.List.{AllWithin};
 ghost use Rattle.auc_graph.specs.Table.{row_of};
 ghost use Rattle.auc_graph.specs.declared.rows.RowArc.{RowArc};
 ghost use Rattle.auc_persons.specs.Blocks.{Above, AreNumbered, AreOfSame, AreRight};
+ghost use Rattle.auc_persons.specs.Dense.{MayBeCosts};
 ghost use Rattle.auc_persons.specs.Search.{Covers, IsFound, IsLimit};
-ghost use Rattle.auc_persons.specs.Priced.{IsScanOf, arcs_of, value_in};
+ghost use Rattle.auc_persons.specs.Priced.{IsScanOf, arcs_of, value_in, value_to};
 
 use crate::bound::{BLOCK, Blocked, Bound};
 use crate::least::least_of;
 use crate::person_row::PersonRow;
 use crate::priced_row::PricedRow;
-use crate::search::{Search, begun};
+use crate::scan::Scan;
+use crate::search::{Search, begun_by};
 use auc_graph::Rows;
 use std::snapshot::Snapshot;
 
@@ -31,7 +33,7 @@ fn with_part(row: PricedRow, begun: Search, from: usize, to: usize) -> Search
     for place in from..to {
         let value = row.value(place);
         if value <= search.limit {
-            search = search.with(row.arcs[place], value, place as u32);
+            search = search.with(row.arc(place), value, place as u32);
         }
     }
     search
@@ -66,14 +68,39 @@ fn with_block(row: PricedRow, begun: Search, from: usize, least: i64) -> Search
     with_part(row, begun, from, to)
 }
 
-/// The best arc of a person with a long row, in one pass over his blocks that begins with the two remembered arcs. Each block that is
-/// looked at gets its least value as bound.
+/// The next block from this one on whose bound is not above a limit; how many blocks there are where each is above it.
+#[inline(always)]
+pub(crate) fn next_within(
+    bounds: &[Bound],
+    start: usize,
+    from: usize,
+    count: usize,
+    limit: i64,
+) -> usize
+    requires within { start + count ≤ length bounds.now }
+    requires from { from ≤ count }
+    ensures low { from ≤ result }
+    ensures high { result ≤ count }
+    ensures above { (b : ℕ) (d : Bound) → from ≤ b → b < result → limit <ℤ (slice_index_or bounds.now (start + b) d).least }
+{
+    for block in from..count {
+        if bounds[start + block].least <= limit {
+            return block;
+        }
+    }
+    count
+}
+
+/// The best arc of a person with a long row, in one pass over his blocks that begins with what is known of some arcs of it, or else with the two
+/// remembered ones. Each block that is looked at gets its least value as bound.
 // Apart: docs/CODEGEN.md, "Loops of their own".
 #[inline(never)]
 pub(crate) fn scan_blocks(
     own: PersonRow,
     _made: &Snapshot<Rows>,
     blocked: Blocked,
+    costs: &[i32],
+    known: Option<Scan>,
     bounds: &mut [Bound],
 ) -> Option<Search>
     requires long { 256 < length (arcs_of own) }
@@ -82,25 +109,27 @@ pub(crate) fn scan_blocks(
     requires arcs { blocked.arcs ≡ length (arcs_of own) }
     requires numbered { AreNumbered bounds.old blocked }
     requires right { AreRight _made.now.value own.rows.now own.copies.now bounds.old }
+    requires costs { MayBeCosts (arcs_of own) blocked.first costs.now }
+    requires known { IfSome known (IsFound (value_to own) (arcs_of own)) }
     ensures some { IfSome result (λ s. IsScanOf own.entry s.scan) }
     ensures right { AreRight _made.now.value own.entry.rows.now own.entry.copies.now bounds.new }
     ensures same { AreOfSame bounds.old bounds.new }
 {
-    let row = PricedRow::of(own);
+    let row = PricedRow::with_costs(own, costs, blocked.first);
+    let start = blocked.start;
     let count = (row.arcs.len() - 1) / BLOCK + 1;
     // Never so; asked once, in place of a proof for each look at a bound.
-    if blocked.start > bounds.len() || count > bounds.len() - blocked.start {
+    if start > bounds.len() || count > bounds.len() - start {
         return None;
     }
-    let mut search = begun(row, blocked.hint)?;
-    for block in 0..count {
-        let at = blocked.start + block;
-        if bounds[at].least <= search.limit {
-            let from = block * BLOCK;
-            let least = least_of(row, from);
-            bounds[at].least = least;
-            search = with_block(row, search, from, least);
-        }
+    let mut search = begun_by(row, known, blocked.hint)?;
+    let mut block = next_within(bounds, start, 0, count, search.limit);
+    while block < count {
+        let from = block * BLOCK;
+        let least = least_of(row, from);
+        bounds[start + block].least = least;
+        search = with_block(row, search, from, least);
+        block = next_within(bounds, start, block + 1, count, search.limit);
     }
     Some(search)
 }

@@ -8,7 +8,7 @@
 //! keep a [`Bidder`], by which the bids are the same and found sooner ([`Bidder::bid`], [`PersonShard::next_bid_by`]): short rows in rising order of
 //! their objects (`specs/Short.antt`), and lists of a few arcs of longer ones. What a list says of its row is defined in `specs/Candidates.antt`; where
 //! it doesn't tell the bid of a row of more than 256 arcs, the row is looked at by blocks, each with a bound (`specs/Blocks.antt`), and above 640 arcs
-//! the list is made anew by them.
+//! the list is made anew by them. Of such a row that leads to all objects in order the costs alone are looked at (`specs/Dense.antt`).
 #![tactic(auto)]
 
 mod amount;
@@ -18,8 +18,10 @@ mod bidding;
 mod blocks;
 mod bound;
 mod bounded;
+mod costs;
 mod least;
 mod lists_by_blocks;
+mod look;
 mod method;
 mod person_row;
 mod priced_row;

@@ -7,15 +7,18 @@ ghost use Rattle.std.specs.Prelude.{true, false, ◌≡◌, ◌<◌, ◌≤◌, 
 ghost use Rattle.auc_graph.specs.Table.{row_of};
 ghost use Rattle.auc_persons.specs.Blocks.{Above, AreNumbered, AreOfSame, AreRight};
 ghost use Rattle.auc_persons.specs.Candidates.{Gathered, Keeps, KeepsListed};
+ghost use Rattle.auc_persons.specs.Dense.{MayBeCosts};
 ghost use Rattle.auc_persons.specs.Scan.{endless, IsValue};
+ghost use Rattle.auc_persons.specs.Search.{IsFound};
 ghost use Rattle.auc_persons.specs.Priced.{IsScanOf, arcs_of, value_in, value_to};
 
 use crate::bound::{BLOCK, Blocked, Bound};
-use crate::bounded::{lesser, scan_blocks};
+use crate::bounded::{lesser, next_within, scan_blocks};
 use crate::least::least_of;
 use crate::method::VERY_LONG;
 use crate::person_row::PersonRow;
 use crate::priced_row::PricedRow;
+use crate::scan::Scan;
 use crate::search::Search;
 use crate::shortlist::Shortlist;
 use auc_graph::Rows;
@@ -50,6 +53,7 @@ fn fill_by_blocks(
     own: PersonRow,
     _made: &Snapshot<Rows>,
     blocked: Blocked,
+    costs: &[i32],
     bounds: &mut [Bound],
     list: &mut Shortlist,
     bound: i64,
@@ -60,6 +64,7 @@ fn fill_by_blocks(
     requires arcs { blocked.arcs ≡ length (arcs_of own) }
     requires numbered { AreNumbered bounds.old blocked }
     requires right { AreRight _made.now.value own.rows.now own.copies.now bounds.old }
+    requires costs { MayBeCosts (arcs_of own) blocked.first costs.now }
     requires low { neg_ℤ (pos (2 ^ 44)) <ℤ bound }
     requires high { bound ≤ℤ pos (2 ^ 62) }
     ensures keeps { Keeps (value_to own.entry) (arcs_of own.entry) list.new.arcs list.new.bound }
@@ -67,23 +72,24 @@ fn fill_by_blocks(
     ensures right { AreRight _made.now.value own.entry.rows.now own.entry.copies.now bounds.new }
     ensures same { AreOfSame bounds.old bounds.new }
 {
-    let row = PricedRow::of(own);
+    let row = PricedRow::with_costs(own, costs, blocked.first);
+    let start = blocked.start;
     let count = (row.arcs.len() - 1) / BLOCK + 1;
     list.begin(bound);
     // Never so; asked once, in place of a proof for each look at a bound.
-    if blocked.start > bounds.len() || count > bounds.len() - blocked.start {
+    if start > bounds.len() || count > bounds.len() - start {
         return false;
     }
-    for block in 0..count {
-        let at = blocked.start + block;
-        if bounds[at].least < bound {
-            let from = block * BLOCK;
-            let least = least_of(row, from);
-            bounds[at].least = least;
-            if !list.take_block(row, bound, from, least) {
-                return false;
-            }
+    let limit = bound - 1;
+    let mut block = next_within(bounds, start, 0, count, limit);
+    while block < count {
+        let from = block * BLOCK;
+        let least = least_of(row, from);
+        bounds[start + block].least = least;
+        if !list.take_block(row, bound, from, least) {
+            return false;
         }
+        block = next_within(bounds, start, block + 1, count, limit);
     }
     true
 }
@@ -93,6 +99,7 @@ fn list_anew(
     own: PersonRow,
     made: &Snapshot<Rows>,
     blocked: Blocked,
+    costs: &[i32],
     bounds: &mut [Bound],
     list: &mut Shortlist,
     second: i64,
@@ -103,6 +110,7 @@ fn list_anew(
     requires arcs { blocked.arcs ≡ length (arcs_of own) }
     requires numbered { AreNumbered bounds.old blocked }
     requires right { AreRight made.now.value own.rows.now own.copies.now bounds.old }
+    requires costs { MayBeCosts (arcs_of own) blocked.first costs.now }
     requires second { second <ℤ endless → IsValue second }
     requires owner { list.old.person ≡ own.person }
     requires keeps { KeepsListed own.rows.now own.copies.now list.old }
@@ -117,7 +125,7 @@ fn list_anew(
         return;
     }
     let bound = list.bound_above(second);
-    let fitted = fill_by_blocks(own, made, blocked, bounds, list, bound);
+    let fitted = fill_by_blocks(own, made, blocked, costs, bounds, list, bound);
     list.adapt(fitted);
 }
 
@@ -127,6 +135,8 @@ pub(crate) fn scan_and_list(
     own: PersonRow,
     made: &Snapshot<Rows>,
     blocked: Blocked,
+    costs: &[i32],
+    known: Option<Scan>,
     bounds: &mut [Bound],
     list: &mut Shortlist,
 ) -> Option<Search>
@@ -136,6 +146,8 @@ pub(crate) fn scan_and_list(
     requires arcs { blocked.arcs ≡ length (arcs_of own) }
     requires numbered { AreNumbered bounds.old blocked }
     requires right { AreRight made.now.value own.rows.now own.copies.now bounds.old }
+    requires costs { MayBeCosts (arcs_of own) blocked.first costs.now }
+    requires known { IfSome known (IsFound (value_to own) (arcs_of own)) }
     requires owner { list.old.person ≡ own.person }
     requires keeps { KeepsListed own.rows.now own.copies.now list.old }
     ensures some { IfSome result (λ s. IsScanOf own.entry s.scan) }
@@ -143,7 +155,7 @@ pub(crate) fn scan_and_list(
     ensures right { AreRight made.now.value own.entry.rows.now own.entry.copies.now bounds.new }
     ensures same { AreOfSame bounds.old bounds.new }
 {
-    let search = scan_blocks(own, made, blocked, bounds)?;
-    list_anew(own, made, blocked, bounds, list, search.scan.second);
+    let search = scan_blocks(own, made, blocked, costs, known, bounds)?;
+    list_anew(own, made, blocked, costs, bounds, list, search.scan.second);
     Some(search)
 }

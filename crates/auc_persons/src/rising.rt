@@ -5,12 +5,13 @@
 //! object, and no two arcs lead to the same: so the values alone decide.
 
 ghost use Rattle.std.specs.Prelude.{◌≡◌, IfSome, IfNone, []};
-ghost use Rattle.auc_persons.specs.Rising.{Lowered};
+ghost use Rattle.auc_persons.specs.Rising.{Drawn, Lowered};
 ghost use Rattle.auc_persons.specs.Scan.{IsScan};
 ghost use Rattle.auc_persons.specs.Priced.{value_in};
 
 use crate::priced_row::PricedRow;
 use crate::scan::{Scan, scan_of};
+use auc_graph::RowArc;
 
 /// The least value so far, the least one of the other arcs (the greatest number where there is none), and where the best arc
 /// stands in the row.
@@ -46,6 +47,40 @@ impl Least {
     }
 }
 
+/// The least value so far, the least one of the other arcs (the greatest number where there is none), and the best arc itself: so that a pass counts
+/// nothing but where it stands.
+#[derive(Clone, Copy)]
+pub(crate) struct Nearest<'a> {
+    pub value: i64,
+    pub second: i64,
+    pub best: &'a RowArc,
+}
+
+impl<'a> Nearest<'a> {
+    /// With one arc more, of this value.
+    #[inline(always)]
+    pub(crate) fn with(self, value: i64, arc: &'a RowArc) -> Nearest<'a>
+        ensures { Drawn self.entry value arc.now result }
+    {
+        let is_less = value < self.value;
+        // Each number apart: docs/CODEGEN.md, "Numbers chosen one by one".
+        let second = if is_less {
+            self.value
+        } else if value < self.second {
+            value
+        } else {
+            self.second
+        };
+        let best = if is_less { arc } else { self.best };
+        let value = if is_less { value } else { self.value };
+        Nearest {
+            value,
+            second,
+            best,
+        }
+    }
+}
+
 /// The best arc of a row whose objects rise; nothing where they don't, or there is no arc.
 #[inline]
 pub(crate) fn scan_rising(row: PricedRow) -> Option<Scan>
@@ -76,7 +111,8 @@ pub(crate) fn scan_rising(row: PricedRow) -> Option<Scan>
 }
 
 /// The best arc of a short row, in one pass, or in two where objects don't rise in it; nothing where the row has no arc.
-#[inline]
+// In line: docs/CODEGEN.md, "A list's own registers".
+#[inline(always)]
 pub(crate) fn scan_short(row: PricedRow) -> Option<Scan>
     ensures some { IfSome result (IsScan (value_in row.entry) row.entry.arcs.now) }
     ensures none { IfNone result (row.entry.arcs.now ≡ []) }

@@ -148,10 +148,24 @@ pub(crate) fn begun(row: PricedRow, hint: Hint) -> Option<Search>
     let alone = Scan {
         value: row.value(best as usize),
         second: i64::MAX,
-        best: row.arcs[best as usize],
+        best: row.arc(best as usize),
     };
     let value = row.value(next as usize);
-    Some(Search::by(alone, best, best).with(row.arcs[next as usize], value, next))
+    Some(Search::by(alone, best, best).with(row.arc(next as usize), value, next))
+}
+
+/// What is decided by a pass over some arcs of the row, or else by the two remembered ones.
+#[inline]
+pub(crate) fn begun_by(row: PricedRow, known: Option<Scan>, hint: Hint) -> Option<Search>
+    requires known { IfSome known (IsFound (value_in row) row.arcs.now) }
+    ensures found { IfSome result (λ s. IsFound (value_in row.entry) row.entry.arcs.now s.scan) }
+    ensures limit { IfSome result (λ s. IsLimit s.scan s.limit) }
+    ensures none { IfNone result (row.entry.arcs.now ≡ []) }
+{
+    match known {
+        Some(scan) => Some(Search::by(scan, hint.best, hint.next)),
+        None => begun(row, hint),
+    }
 }
 
 /// The best arc of a row, in one pass with a branch by values; nothing where the row has no arc.

@@ -7,10 +7,13 @@
 ghost use Rattle.std.specs.Prelude.{false, ◌≡◌, ◌<◌, ◌≤◌, ◌^◌, ◌<ℤ◌, ◌≤ℤ◌, [], ◌∷◌, ◌++◌, pos, IsTrue, IfSome, length, take};
 ghost use Rattle.auc_persons.specs.Candidates.{Decides, Keeps, Listed, no_list};
 ghost use Rattle.auc_persons.specs.Scan.{IsScan, IsValue, endless};
+ghost use Rattle.auc_persons.specs.Look.{IsLook};
 ghost use Rattle.auc_persons.specs.Priced.{value_in};
+ghost use Rattle.auc_persons.specs.Search.{IsFound};
 
 mod making;
 
+use crate::look::Look;
 use crate::method::VERY_LONG;
 use crate::priced_row::PricedRow;
 use crate::rising::scan_short;
@@ -126,12 +129,15 @@ impl Shortlist {
     fn listed(&self, row: PricedRow) -> Option<Scan>
         requires keeps { Keeps (value_in row) row.arcs.now self.now.arcs self.now.bound }
         ensures found { IfSome result (λ f. Decides self.now.bound f → IsScan (value_in row.entry) row.entry.arcs.now f) }
+        ensures some { IfSome result (IsFound (value_in row.entry) row.entry.arcs.now) }
         ensures second { IfSome result (λ f. f.second <ℤ endless → IsValue f.second) }
     {
         scan_short(PricedRow {
             scale: row.scale,
             arcs: self.arcs(),
             copies: row.copies,
+            costs: &[],
+            first: 0,
         })
     }
 
@@ -175,21 +181,28 @@ impl Shortlist {
         Some(whole)
     }
 
-    /// The best arc of the row, where a list tells it.
-    #[inline]
-    pub(crate) fn scan(&mut self, row: PricedRow) -> Option<Scan>
+    /// What the list tells of the row: its best arc, where it or one that is made anew decides.
+    // Apart: docs/CODEGEN.md, "A list's own registers".
+    #[inline(never)]
+    pub(crate) fn scan(&mut self, row: PricedRow) -> Look
         requires keeps { Keeps (value_in row) row.arcs.now self.old.arcs self.old.bound }
-        ensures found { IfSome result (IsScan (value_in row.entry) row.entry.arcs.now) }
+        ensures look { IsLook (value_in row.entry) row.entry.arcs.now result }
         ensures keeps { Keeps (value_in row.entry) row.entry.arcs.now self.new.arcs self.new.bound }
         ensures person { self.new.person ≡ self.old.person }
     {
         let Some(scan) = self.listed(row) else {
-            return self.scan_anew(row, i64::MAX);
+            return match self.scan_anew(row, i64::MAX) {
+                Some(best) => Look::Best(best),
+                None => Look::Nothing,
+            };
         };
         if self.decides(scan) {
             self.note_use();
-            return Some(scan);
+            return Look::Best(scan);
         }
-        self.scan_anew(row, scan.second)
+        match self.scan_anew(row, scan.second) {
+            Some(best) => Look::Best(best),
+            None => Look::Known(scan),
+        }
     }
 }

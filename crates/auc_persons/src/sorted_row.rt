@@ -6,7 +6,7 @@ ghost use Rattle.auc_graph.specs.Price.{IsPrice};
 ghost use Rattle.auc_persons.specs.Rising.{IsRisingRow};
 
 use crate::priced_row::PricedRow;
-use crate::rising::Least;
+use crate::rising::Nearest;
 use crate::scan::{Scan, value_of};
 use auc_graph::RowArc;
 
@@ -65,18 +65,18 @@ impl<'a> SortedRow<'a> {
         if self.arcs.is_empty() {
             return None;
         }
-        let mut least = Least {
+        let mut nearest = Nearest {
             value: self.value(0),
             second: i64::MAX,
-            place: 0,
+            best: &self.arcs[0],
         };
         for place in 1..self.arcs.len() {
-            least = least.with(self.value(place), place);
+            nearest = nearest.with(self.value(place), &self.arcs[place]);
         }
         Some(Scan {
-            value: least.value,
-            second: least.second,
-            best: self.arcs[least.place],
+            value: nearest.value,
+            second: nearest.second,
+            best: *nearest.best,
         })
     }
 }

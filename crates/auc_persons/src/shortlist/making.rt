@@ -69,16 +69,15 @@ impl Shortlist {
                 self.count = 0;
                 return false;
             }
-            self.push(row.arcs[place]);
+            self.push(row.arc(place));
         }
         true
     }
 
     /// Takes the arcs below a bound from one place of a row to another, where it has those before; no arc at all where they are
     /// too many.
-    // Apart: docs/CODEGEN.md, "Loops of their own".
-    #[inline(never)]
-    pub(crate) fn take_part(&mut self, row: PricedRow, bound: i64, from: usize, to: usize) -> bool
+    #[inline(always)]
+    fn take_each(&mut self, row: PricedRow, bound: i64, from: usize, to: usize) -> bool
         requires order { from ≤ to }
         requires within { to ≤ length row.arcs.now }
         requires gathered { Gathered (value_in row) (take from row.arcs.now) self.old.arcs bound }
@@ -103,6 +102,24 @@ impl Shortlist {
             return self.take_at(row, bound, place);
         }
         true
+    }
+
+    /// The same: which of two ways the arcs are looked at is asked once.
+    // Apart: docs/CODEGEN.md, "Loops of their own".
+    #[inline(never)]
+    pub(crate) fn take_part(&mut self, row: PricedRow, bound: i64, from: usize, to: usize) -> bool
+        requires order { from ≤ to }
+        requires within { to ≤ length row.arcs.now }
+        requires gathered { Gathered (value_in row) (take from row.arcs.now) self.old.arcs bound }
+        ensures taken { result ≡ true → Gathered (value_in row.entry) (take to row.entry.arcs.now) self.new.arcs bound }
+        ensures none { result ≡ false → self.new.arcs ≡ [] }
+        ensures bound { self.new.bound ≡ self.old.bound }
+        ensures person { self.new.person ≡ self.old.person }
+    {
+        if row.has_costs() {
+            return self.take_each(row, bound, from, to);
+        }
+        self.take_each(row.without_costs(), bound, from, to)
     }
 
     /// Takes the arcs of a row below a bound; none where they are too many.

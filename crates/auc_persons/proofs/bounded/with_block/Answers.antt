@@ -10,7 +10,7 @@ returns-then-least-begun-clause-covered c =
     let f2 : FitsSigned w64 c.args.least = c.ranges.least in
     let f3 : FitsSigned w64 c.args.begun.limit = search rules in
     let r = c.requires in
-    λ k d low high below. covered_above c.args.row.scale c.args.row.copies.now c.args.row.arcs.now c.args.begun.scan c.args.begun.limit c.args.least k d c.args.row.scale_low c.args.row.scale_high c.args.row.is_row c.args.row.are_prices r.found r.limit (omega (arith, ints, c.if-least-begun.true)) (r.least k d low high below) below
+    λ k d low high below. covered_above c.args.row.scale c.args.row.copies.now c.args.row.arcs.now c.args.begun.scan c.args.begun.limit k d c.args.row.scale_low c.args.row.scale_high c.args.row.is_row c.args.row.are_prices r.found r.limit (omega (arith, ints, c.if-least-begun.true, r.least k d low high below)) below
 
 pub returns-clause-covered : goal.returns-clause-covered
 returns-clause-covered c =

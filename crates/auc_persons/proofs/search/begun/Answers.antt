@@ -19,6 +19,6 @@ returns-clause-found c =
     let is2 = c.value-value.ensures.is in
     let ok2 = c.value-value.ensures.range in
     let e = simp to_z-of_z at c.by.ensures.scan in
-    let alone = found_alone val c.args.row.arcs.now one c.value.result (Contains-get_or c.args.row.arcs.now c.within-best.result no_arc c.within-best.ensures) is1 ok1 in
-    let t = simp to_z-of_z at c.with.ensures.taken in
+    let alone = rw (← c.arc.ensures) at (found_alone val c.args.row.arcs.now one c.value.result (Contains-get_or c.args.row.arcs.now c.within-best.result no_arc c.within-best.ensures) is1 ok1) in
+    let t = rw c.arc-2.ensures at (simp to_z-of_z at c.with.ensures.taken) in
     (taken_is val c.args.row.arcs.now c.by.result.scan c.with.result.scan other c.value-value.result (rw e alone) (Contains-get_or c.args.row.arcs.now c.within-next.result no_arc c.within-next.ensures) is2 ok2 t).found

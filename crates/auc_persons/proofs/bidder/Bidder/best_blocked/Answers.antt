@@ -13,15 +13,15 @@ scan_list-requires c =
     let kept = All-same P (c.self.inside.lists.items ++ (or_none c.self.inside.blocks ++ c.self.inside.short)) c.args.self.now c.self.view_is c.requires.kept in
     record { kept = rw c.as_mut_slice-lists.ensures.value (front P c.self.inside.lists.items (or_none c.self.inside.blocks ++ c.self.inside.short) kept) }
 
-pub returns-in-Some-clause-kept : goal.returns-in-Some-clause-kept
-returns-in-Some-clause-kept c =
+pub returns-in-Best-clause-kept : goal.returns-in-Best-clause-kept
+returns-in-Best-clause-kept c =
     let P = KeepsListed c.args.own.rows.now c.args.own.copies.now in
     let kept = All-same P (c.self.inside.lists.items ++ (or_none c.self.inside.blocks ++ c.self.inside.short)) c.args.self.now c.self.view_is c.requires.kept in
     let len : length c.scan_list.new.lists ≡ c.self.inside.lists.len = omega (arith, c.scan_list.ensures.length, c.as_mut_slice-lists.ensures.len, ap length c.as_mut_slice-lists.ensures.value) in
     rw (with_items_is c.self.inside.lists c.scan_list.new.lists len) (All-append P c.scan_list.new.lists (or_none c.self.inside.blocks ++ c.self.inside.short) c.scan_list.ensures.kept (behind P c.self.inside.lists.items (or_none c.self.inside.blocks ++ c.self.inside.short) kept))
 
-pub returns-in_default-blocks-clause-kept : goal.returns-in_default-blocks-clause-kept
-returns-in_default-blocks-clause-kept c =
+pub returns-in_default-clause-kept : goal.returns-in_default-clause-kept
+returns-in_default-clause-kept c =
     let P = KeepsListed c.args.own.rows.now c.args.own.copies.now in
     let kept = All-same P (c.self.inside.lists.items ++ (or_none c.self.inside.blocks ++ c.self.inside.short)) c.args.self.now c.self.view_is c.requires.kept in
     let len : length c.scan_list.new.lists ≡ c.self.inside.lists.len = omega (arith, c.scan_list.ensures.length, c.as_mut_slice-lists.ensures.len, ap length c.as_mut_slice-lists.ensures.value) in
@@ -31,7 +31,7 @@ pub scan-requires-clause-kept : goal.scan-requires-clause-kept
 scan-requires-clause-kept c =
     let P = KeepsListed c.args.own.rows.now c.args.own.copies.now in
     let kept = All-same P (c.self.inside.lists.items ++ (or_none c.self.inside.blocks ++ c.self.inside.short)) c.args.self.now c.self.view_is c.requires.kept in
-    rw c.in-Some-blocks.is at (front P (or_none c.self.inside.blocks) c.self.inside.short (behind P c.self.inside.lists.items (or_none c.self.inside.blocks ++ c.self.inside.short) kept))
+    rw c.in-Some.is at (front P (or_none c.self.inside.blocks) c.self.inside.short (behind P c.self.inside.lists.items (or_none c.self.inside.blocks ++ c.self.inside.short) kept))
 
 pub returns-clause-kept : goal.returns-clause-kept
 returns-clause-kept c =

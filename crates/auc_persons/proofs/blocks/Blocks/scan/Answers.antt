@@ -1,13 +1,12 @@
-use Rattle.std.proofs.Common.{◌≡◌, ◌<◌, ◌++◌, ap, sym, subst, get_or, length, arith}
+use Rattle.std.proofs.Common.{◌≡◌, ◌<◌, ◌++◌, ap, get_or, length, arith}
 use Rattle.std.specs.Prelude.{map}
 use Rattle.std.proofs.lemmas.List.{with_items_is}
 use Rattle.std.proofs.lemmas.List.Elements.{All-get_or, All-same, All-set}
-use Rattle.auc_graph.specs.Table.{row_of}
 use Rattle.auc_persons.specs.Blocks.{AreNumbered, AreOfSame, HasArcs, of_blocked, of_bound}
 use Rattle.auc_persons.specs.Candidates.{KeepsListed}
+use Rattle.auc_persons.specs.Dense.{HasCosts}
 use Rattle.auc_persons.proofs.BlockNumbers.{all_numbered_still, numbered_still}
 use Rattle.auc_persons.proofs.KeptBlocks.{kept_bounds, kept_of, kept_persons, same_as}
-use Rattle.auc_persons.proofs.SameRows.{Rises}
 use Rattle.auc_persons.proofs.blocks.Blocks.scan.Goals as goal
 
 pub scan_and_list-requires-clause-same : goal.scan_and_list-requires-clause-same
@@ -22,11 +21,27 @@ scan_and_list-requires-clause-same c =
     let kept = All-same (KeepsListed t copies) (map (of_blocked made) persons ++ map (of_bound made) bounds) c.args.self.now c.self.view_is c.requires.kept in
     let here : KeepsListed t copies (of_blocked made b) = rw c.index-blocked.ensures (All-get_or (λ x. KeepsListed t copies (of_blocked made x)) persons c.args.place b lt (kept_persons made t copies persons bounds kept)) in
     let has : HasArcs made b = rw c.index-blocked.ensures (All-get_or (HasArcs made) persons c.args.place b lt c.self.invariant.0) in
-    let e : b.person ≡ c.args.own.person = omega (arith, c.if-blocked-own.false) in
-    let f : length (row_of t b.person) ≡ length (row_of t c.args.own.person) = ap (λ n. length (row_of t n)) e in
     let sound = rw c.row-arcs.ensures.row at c.row-arcs.ensures.sound in
-    let rises : Rises (row_of t b.person) = subst (λ n. Rises (row_of t n)) (sym e) sound.rising in
-    subst (λ n. row_of made n ≡ row_of t n) e (same_as made t copies b here has (omega (arith, c.if-blocked-arcs.false, ap length c.row-arcs.ensures.row, f)) rises)
+    let row = same_as made t copies b c.args.own.person here has (omega (arith, c.if-blocked-own.false)) (omega (arith, c.if-blocked-arcs.false, ap length c.row-arcs.ensures.row)) sound.rising in
+    row
+
+pub scan_and_list-requires-clause-costs : goal.scan_and_list-requires-clause-costs
+scan_and_list-requires-clause-costs c =
+    let t = c.args.own.rows.now in
+    let made = c.self.inside.made.value in
+    let copies = c.args.own.copies.now in
+    let persons = c.self.inside.persons.items in
+    let bounds = c.self.inside.bounds.items in
+    let b = c.index-blocked.result.now in
+    let lt : c.args.place < length persons = omega (arith, c.len.ensures, c.if-place-len.false) in
+    let kept = All-same (KeepsListed t copies) (map (of_blocked made) persons ++ map (of_bound made) bounds) c.args.self.now c.self.view_is c.requires.kept in
+    let here : KeepsListed t copies (of_blocked made b) = rw c.index-blocked.ensures (All-get_or (λ x. KeepsListed t copies (of_blocked made x)) persons c.args.place b lt (kept_persons made t copies persons bounds kept)) in
+    let has : HasArcs made b = rw c.index-blocked.ensures (All-get_or (HasArcs made) persons c.args.place b lt c.self.invariant.0) in
+    let sound = rw c.row-arcs.ensures.row at c.row-arcs.ensures.sound in
+    let row = same_as made t copies b c.args.own.person here has (omega (arith, c.if-blocked-own.false)) (omega (arith, c.if-blocked-arcs.false, ap length c.row-arcs.ensures.row)) sound.rising in
+    let own : b.person ≡ c.args.own.person = omega (arith, c.if-blocked-own.false) in
+    let costs : HasCosts made c.self.inside.costs.items b = rw c.index-blocked.ensures (All-get_or (HasCosts made c.self.inside.costs.items) persons c.args.place b lt c.self.invariant.1.1) in
+    rw c.deref.ensures.value (rw (own, row) at costs.are)
 
 pub scan_and_list-requires-clause-right : goal.scan_and_list-requires-clause-right
 scan_and_list-requires-clause-right c =
@@ -44,7 +59,7 @@ scan_and_list-requires-clause-numbered c =
     let bounds = c.self.inside.bounds.items in
     let b = c.index-blocked.result.now in
     let lt : c.args.place < length persons = omega (arith, c.len.ensures, c.if-place-len.false) in
-    rw c.as_mut_slice.ensures.value (rw c.index-blocked.ensures (All-get_or (AreNumbered bounds) persons c.args.place b lt c.self.invariant.1))
+    rw c.as_mut_slice.ensures.value (rw c.index-blocked.ensures (All-get_or (AreNumbered bounds) persons c.args.place b lt c.self.invariant.1.0))
 
 pub invariant_of-self : goal.invariant_of-self
 invariant_of-self c =
@@ -53,7 +68,7 @@ invariant_of-self c =
     let after = c.scan_and_list.new.bounds in
     let same : AreOfSame bounds after = rw c.as_mut_slice.ensures.value at c.scan_and_list.ensures.same in
     let len : length after ≡ c.self.inside.bounds.len = omega (arith, c.scan_and_list.ensures.same.many, c.as_mut_slice.ensures.len, ap length c.as_mut_slice.ensures.value) in
-    (c.self.invariant.0, rw (with_items_is c.self.inside.bounds after len) (all_numbered_still bounds after persons same c.self.invariant.1))
+    (c.self.invariant.0, (rw (with_items_is c.self.inside.bounds after len) (all_numbered_still bounds after persons same c.self.invariant.1.0), c.self.invariant.1.1))
 
 pub returns-in_err-search-clause-kept : goal.returns-in_err-search-clause-kept
 returns-in_err-search-clause-kept c =
@@ -77,9 +92,15 @@ invariant_of-self-2 c =
     let after = c.scan_and_list.new.bounds in
     let same : AreOfSame bounds after = rw c.as_mut_slice.ensures.value at c.scan_and_list.ensures.same in
     let len : length after ≡ c.self.inside.bounds.len = omega (arith, c.scan_and_list.ensures.same.many, c.as_mut_slice.ensures.len, ap length c.as_mut_slice.ensures.value) in
-    let own : AreNumbered bounds b = rw c.index-blocked.ensures (All-get_or (AreNumbered bounds) persons c.args.place b lt c.self.invariant.1) in
-    let all = all_numbered_still bounds after persons same c.self.invariant.1 in
-    (All-set (HasArcs made) persons c.args.place _ has c.self.invariant.0, rw (with_items_is c.self.inside.bounds after len) (All-set (AreNumbered after) persons c.args.place _ (numbered_still bounds after b same own) all))
+    let own : AreNumbered bounds b = rw c.index-blocked.ensures (All-get_or (AreNumbered bounds) persons c.args.place b lt c.self.invariant.1.0) in
+    let all = all_numbered_still bounds after persons same c.self.invariant.1.0 in
+    let costs : HasCosts made c.self.inside.costs.items b = rw c.index-blocked.ensures (All-get_or (HasCosts made c.self.inside.costs.items) persons c.args.place b lt c.self.invariant.1.1) in (
+      All-set (HasArcs made) persons c.args.place _ has c.self.invariant.0,
+      (
+        rw (with_items_is c.self.inside.bounds after len) (All-set (AreNumbered after) persons c.args.place _ (numbered_still bounds after b same own) all),
+        All-set (HasCosts made c.self.inside.costs.items) persons c.args.place _ (record { order = costs.order; within = costs.within; are = costs.are }) c.self.invariant.1.1,
+      ),
+    )
 
 pub returns-clause-kept : goal.returns-clause-kept
 returns-clause-kept c =

@@ -2,7 +2,7 @@ use Rattle.std.proofs.Common.{length, w64, rules}
 use Rattle.std.specs.Prelude.{FitsSigned}
 use Rattle.std.proofs.lemmas.Int.{to_z-of_z}
 use Rattle.auc_persons.specs.Priced.{value_in}
-use Rattle.auc_persons.proofs.Shortlists.{decided_if, list_is_row}
+use Rattle.auc_persons.proofs.Shortlists.{decided_if, found_if, list_is_row}
 use Rattle.auc_persons.proofs.shortlist.Shortlist.listed.Goals as goal
 
 pub invariant_of-scan_short-clause-is_row : goal.invariant_of-scan_short-clause-is_row
@@ -14,3 +14,9 @@ returns-clause-found c =
     let f1 : FitsSigned w64 c.args.row.scale = search rules in
     let s = simp to_z-of_z at c.scan_short.ensures.some in
     decided_if (value_in c.args.row) c.args.row.arcs.now c.args.self.now.arcs c.args.self.now.bound c.scan_short.result c.requires.keeps (rw c.arcs.ensures.value at s)
+
+pub returns-clause-some : goal.returns-clause-some
+returns-clause-some c =
+    let f1 : FitsSigned w64 c.args.row.scale = search rules in
+    let s = simp to_z-of_z at c.scan_short.ensures.some in
+    found_if (value_in c.args.row) c.args.row.arcs.now c.args.self.now.arcs c.args.self.now.bound c.scan_short.result c.requires.keeps (rw c.arcs.ensures.value at s)

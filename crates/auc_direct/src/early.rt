@@ -19,8 +19,8 @@ use auc_cert::Reason;
 use auc_rows::FlatRows;
 use std::alloc::AllocError;
 
-/// How many arcs its searches may look at: as many as take some tens of milliseconds. Where it takes more, phases are faster.
-const LOOKS: u64 = 8_388_608;
+/// How many arcs its searches may look at: as many as take some ten milliseconds. Where it takes more, phases are faster.
+const LOOKS: u64 = 4_194_304;
 
 impl Market {
     /// Plays it where the rows are a full table, and asks the watch before it. None where they aren't, or where it was given up.

@@ -1,6 +1,6 @@
 //! A person's best arc, in a pass over his row that leaves blocks out whose bound is too high.
 
-ghost use Rattle.std.specs.Prelude.{◌≡◌, ◌<◌, ◌≤◌, ◌+◌, ◌<ℤ◌, length, slice_index_or, IfSome, ℕ};
+ghost use Rattle.std.specs.Prelude.{◌≡◌, ◌<◌, ◌≤◌, ◌+◌, ◌<ℤ◌, ◌≤ℤ◌, length, slice_index_or, IfSome, ℕ};
 ghost use Rattle.std.specs.List.{AllWithin};
 ghost use Rattle.auc_graph.specs.Table.{row_of};
 ghost use Rattle.auc_graph.specs.declared.rows.RowArc.{RowArc};
@@ -82,6 +82,7 @@ pub(crate) fn next_within(
     ensures low { from ≤ result }
     ensures high { result ≤ count }
     ensures above { (b : ℕ) (d : Bound) → from ≤ b → b < result → limit <ℤ (slice_index_or bounds.now (start + b) d).least }
+    ensures here { (d : Bound) → result < count → (slice_index_or bounds.now (start + result) d).least ≤ℤ limit }
 {
     for block in from..count {
         if bounds[start + block].least <= limit {

@@ -1,3 +1,4 @@
+pub mod RisingLists
 pub mod RisingRows
 pub mod Scans
 pub mod Found

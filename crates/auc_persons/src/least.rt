@@ -19,7 +19,7 @@ fn lower(one: i64, other: i64) -> i64
 }
 
 /// No arc of a whole block, which begins here, is below this.
-#[inline]
+#[inline(always)]
 fn least_of_whole(row: PricedRow, from: usize) -> i64
     requires within { from + 16 ≤ length row.arcs.now }
     ensures { Above (value_in row.entry) row.entry.arcs.now from (from + 16) result }
@@ -45,7 +45,8 @@ fn least_of_part(row: PricedRow, from: usize, to: usize) -> i64
 }
 
 /// The least value of the arcs of the block that begins here, which is shorter where the row ends in it.
-#[inline]
+// In line: docs/CODEGEN.md, "A block written out".
+#[inline(always)]
 pub(crate) fn least_of(row: PricedRow, from: usize) -> i64
     requires within { from ≤ length row.arcs.now }
     ensures { Above (value_in row.entry) row.entry.arcs.now from (from + 16) result }

@@ -4,11 +4,12 @@
 //! Copies of prices never fall, so a bound of an arc's value stays one. How the bound is found, and when a list is made or
 //! left alone, is of no importance to what is bid; it stands in `shortlist/making.rt`.
 
-ghost use Rattle.std.specs.Prelude.{false, ◌≡◌, ◌<◌, ◌≤◌, ◌^◌, ◌<ℤ◌, ◌≤ℤ◌, [], ◌∷◌, ◌++◌, pos, IsTrue, IfSome, length, take};
+ghost use Rattle.std.specs.Prelude.{false, true, ◌≡◌, ◌<◌, ◌≤◌, ◌^◌, ◌<ℤ◌, ◌≤ℤ◌, [], ◌∷◌, ◌++◌, pos, IsTrue, IfSome, length, take};
 ghost use Rattle.auc_persons.specs.Candidates.{Decides, Keeps, Listed, no_list};
 ghost use Rattle.auc_persons.specs.Scan.{IsScan, IsValue, endless};
 ghost use Rattle.auc_persons.specs.Look.{IsLook};
 ghost use Rattle.auc_persons.specs.Priced.{value_in};
+ghost use Rattle.auc_persons.specs.Rising.{IsRisingRow};
 ghost use Rattle.auc_persons.specs.Search.{IsFound};
 
 mod making;
@@ -16,10 +17,10 @@ mod making;
 use crate::look::Look;
 use crate::method::VERY_LONG;
 use crate::priced_row::PricedRow;
-use crate::rising::scan_short;
-use crate::scan::Scan;
+use crate::scan::{Scan, scan_of};
 use crate::search::scan_from;
 use crate::shortlist::making::delta_within;
+use crate::sorted_row::SortedRow;
 use auc_graph::RowArc;
 use std::marker::Model;
 
@@ -37,18 +38,21 @@ pub(crate) struct Shortlist {
     count: u8,
     // How many lists in a row were of no use, and how many bids from now on are made without one.
     failures: u8,
-    rest: u16,
+    rest: u8,
+    // Whether the arcs lead to rising objects, as those of a sorted row do; where it isn't known they may.
+    rises: bool,
 }
 
 impl Model for Shortlist {
-    ghost use Rattle.std.specs.Prelude.{◌≡◌, ◌≤◌, ◌^◌, ◌≤ℤ◌, pos, length, take};
+    ghost use Rattle.std.specs.Prelude.{true, ◌≡◌, ◌≤◌, ◌^◌, ◌≤ℤ◌, pos, length, take};
     ghost use Rattle.auc_persons.specs.Candidates.{Listed};
+    ghost use Rattle.auc_persons.specs.Rising.{IsRisingRow};
 
     ghost Value = { Listed };
 
     ghost view = { λ s. record { person = s.person; bound = s.bound; arcs = take s.count s.arcs } };
 
-    ghost invariant = { λ s. (s.count ≤ 24) × (length s.arcs ≡ 24) × (pos 1 ≤ℤ s.delta) × (s.delta ≤ℤ pos (2 ^ 60)) × (s.bound ≤ℤ pos (2 ^ 62)) };
+    ghost invariant = { λ s. (s.count ≤ 24) × (length s.arcs ≡ 24) × (pos 1 ≤ℤ s.delta) × (s.delta ≤ℤ pos (2 ^ 60)) × (s.bound ≤ℤ pos (2 ^ 62)) × (s.rises ≡ true → IsRisingRow (take s.count s.arcs)) };
 }
 
 impl Shortlist {
@@ -68,6 +72,7 @@ impl Shortlist {
             count: 0,
             failures: 0,
             rest: 0,
+            rises: true,
         }
     }
 
@@ -88,12 +93,27 @@ impl Shortlist {
         &self.arcs[..self.count as usize]
     }
 
+    /// Whether the arcs lead to rising objects, also with one more.
+    #[inline]
+    fn rises_with(&self, arc: RowArc) -> bool
+        ensures { result ≡ true → IsRisingRow (self.now.arcs ++ arc ∷ []) }
+    {
+        if !self.rises {
+            return false;
+        }
+        if self.count == 0 {
+            return true;
+        }
+        self.arcs[self.count as usize - 1].object < arc.object
+    }
+
     /// One arc more.
     #[inline]
     fn push(&mut self, arc: RowArc)
         requires { length self.old.arcs < 24 }
         ensures { self.new ≡ record self.old { arcs = self.old.arcs ++ arc ∷ [] } }
     {
+        self.rises = self.rises_with(arc);
         self.arcs[self.count as usize] = arc;
         self.count += 1;
     }
@@ -132,7 +152,15 @@ impl Shortlist {
         ensures some { IfSome result (IsFound (value_in row.entry) row.entry.arcs.now) }
         ensures second { IfSome result (λ f. f.second <ℤ endless → IsValue f.second) }
     {
-        scan_short(PricedRow {
+        if self.rises {
+            return SortedRow {
+                scale: row.scale,
+                arcs: self.arcs(),
+                copies: row.copies,
+            }
+            .best();
+        }
+        scan_of(PricedRow {
             scale: row.scale,
             arcs: self.arcs(),
             copies: row.copies,

@@ -18,7 +18,7 @@ const MOST_DELTA: i64 = 1 << 60;
 const MOST_FAILURES: u8 = 8;
 
 /// For how many bids no list is made, after so many in a row that were of no use.
-fn rest_after(failures: u8) -> u16 {
+fn rest_after(failures: u8) -> u8 {
     match failures {
         0 | 1 | 2 | 3 => 0,
         4 => 4,
@@ -52,6 +52,7 @@ impl Shortlist {
     {
         self.count = 0;
         self.bound = bound;
+        self.rises = true;
     }
 
     /// Takes the arc at a place of a row where it is below a bound, where it has those before; no arc at all where they are too many.

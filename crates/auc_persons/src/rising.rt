@@ -111,7 +111,6 @@ pub(crate) fn scan_rising(row: PricedRow) -> Option<Scan>
 }
 
 /// The best arc of a short row, in one pass, or in two where objects don't rise in it; nothing where the row has no arc.
-// In line: docs/CODEGEN.md, "A list's own registers".
 #[inline(always)]
 pub(crate) fn scan_short(row: PricedRow) -> Option<Scan>
     ensures some { IfSome result (IsScan (value_in row.entry) row.entry.arcs.now) }

@@ -39,7 +39,7 @@ pub(crate) struct Shortlist {
     // How many lists in a row were of no use, and how many bids from now on are made without one.
     failures: u8,
     rest: u8,
-    // Whether the arcs lead to rising objects, as those of a sorted row do; where it isn't known they may.
+    // Whether the arcs lead to rising objects, as those of a sorted row do.
     rises: bool,
 }
 
@@ -93,7 +93,7 @@ impl Shortlist {
         &self.arcs[..self.count as usize]
     }
 
-    /// Whether the arcs lead to rising objects, also with one more.
+    /// Whether the arcs lead to rising objects with one more, too.
     #[inline]
     fn rises_with(&self, arc: RowArc) -> bool
         ensures { result ≡ true → IsRisingRow (self.now.arcs ++ arc ∷ []) }

@@ -57,6 +57,7 @@ impl<'a> SortedRow<'a> {
     }
 
     /// The best arc; nothing where there is none. The pass has no branch by values, and tests nothing but its end.
+    // In line: docs/CODEGEN.md, "A search in line" and "A list's own registers".
     #[inline(always)]
     pub fn best(self) -> Option<Scan>
         ensures some { IfSome result (IsScan (value self.entry.scale (copy_in self.entry.copies.now)) self.entry.arcs.now) }

@@ -6,9 +6,6 @@ use Rattle.std.proofs.lemmas.List.Quantifiers.{all_pairs_push}
 use Rattle.auc_graph.specs.declared.rows.RowArc.{RowArc}
 use Rattle.auc_persons.specs.Rising.{IsRisingRow}
 
-pub rising_none : (a : RowArc) → IsRisingRow (a ∷ [])
-rising_none a i j d less within = absurd (omega (arith, less, within))
-
 -- one arc more, to a higher object than the last one's
 pub rising_push : (xs : List RowArc) (a e : RowArc) → IsRisingRow xs → 0 < length xs → (get_or xs (length xs - 1) e).object < a.object → IsRisingRow (xs ++ a ∷ [])
 rising_push xs a e rises some above = all_pairs_push (λ x y. x.object < y.object) xs a rises below

@@ -12,6 +12,7 @@ pub mod SameRows
 pub mod SortedScans
 pub mod SortingLaws
 pub mod ShortRows
+pub mod CheapRows
 pub mod Shortlists
 pub mod Amounts
 pub mod Bounds

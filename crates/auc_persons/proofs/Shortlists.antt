@@ -39,7 +39,7 @@ decided_reached : (val : RowArc → ℤ) (row arcs : List RowArc) (bound : ℤ) 
 decided_reached val row arcs bound f members d (inl none) = let some = d.some in absurd (omega (arith, ints, none.1, some))
 decided_reached val row arcs bound f members d (inr r) = inr (r.0, All-contains (Contains row) arcs r.0 members r.1, r.2, r.3, r.4)
 
-decided_by : (val : RowArc → ℤ) (row arcs : List RowArc) (bound : ℤ) (f : Scan) → IsScan val arcs f → Decides bound f → All (Contains row) arcs → (arcs ≡ []) ⊎ All (λ b. Contains arcs b ⊎ (bound ≤ℤ val b)) row → IsScan val row f
+pub decided_by : (val : RowArc → ℤ) (row arcs : List RowArc) (bound : ℤ) (f : Scan) → IsScan val arcs f → Decides bound f → All (Contains row) arcs → (arcs ≡ []) ⊎ All (λ b. Contains arcs b ⊎ (bound ≤ℤ val b)) row → IsScan val row f
 decided_by val row arcs bound f s d members (inl none) = absurd (omega (arith, s.listed.1, ap length none))
 decided_by val row arcs bound f s d members (inr rest) = record {
   listed = All-contains (Contains row) arcs f.best members s.listed;

@@ -8,4 +8,5 @@ pub mod Blocks
 pub mod Dense
 pub mod Look
 pub mod Short
+pub mod Cheap
 pub mod Persons

@@ -26,7 +26,7 @@ const WANTED: i64 = 11;
 
 /// What the bids of a shard's persons are found by ([`Bidder::bid`], [`crate::PersonShard::next_bid_by`]): lists of candidates, one for each person, by
 /// which most bids of rows of more than 64 arcs look at a few arcs alone, and bounds of blocks for rows of more than 256; and of shorter rows that they
-/// rise, or copies that do. All are of the rows that they were made for, and stay right as long as no copy of a price falls.
+/// rise, or copies that do, or their cheap arcs. All are of the rows that they were made for, and stay right as long as no copy of a price falls.
 #[derive(Drop)]
 pub struct Bidder {
     lists: Vec<Shortlist>,
@@ -98,7 +98,8 @@ impl Bidder {
     /// Takes O(persons + arcs) time, and where some row has more than 64 arcs, 312 bytes of memory for each person of the shard. Where some row
     /// has more than 256 arcs, it takes 48 bytes more for each person, 8 to 16 for each 16 arcs of such a row, and 4 to 8 for each arc of such a row that
     /// leads to all objects in order. Where some row of at most 64 arcs doesn't rise, it takes 16 bytes for each person, 12 for each arc of the shard's
-    /// rows of that length, and O(arcs of the row) time for each of these.
+    /// rows of that length, and O(arcs of the row) time for each of these; where all rise and the costs of most have two levels, 24 bytes for each person,
+    /// and from 12 to 24 for each cheap arc of the shard's.
     ///
     /// # Errors
     ///
@@ -128,9 +129,10 @@ impl Bidder {
 
     /// The best arc of a person with a short row, by what is known of it.
     #[inline(always)]
-    pub(crate) fn best_sorted(&self, own: PersonRow) -> Option<Scan>
-        requires kept { KeptAt own self.now }
-        ensures { IfSome result (IsScanOf own.entry) }
+    pub(crate) fn best_sorted(&mut self, own: PersonRow) -> Option<Scan>
+        requires kept { KeptAt own self.old }
+        ensures some { IfSome result (IsScanOf own.entry) }
+        ensures same { self.new ≡ self.old }
     {
         self.short.best(own)
     }

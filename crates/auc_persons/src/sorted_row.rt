@@ -1,6 +1,6 @@
 //! Arcs whose objects rise, with the prices at which they are looked over.
 
-ghost use Rattle.std.specs.Prelude.{pos, ◌≤ℤ◌, All, length};
+ghost use Rattle.std.specs.Prelude.{◌-◌, ◌^◌, pos, ◌≤ℤ◌, All, length};
 ghost use Rattle.auc_graph.specs.Table.{IsRowArc};
 ghost use Rattle.auc_graph.specs.Price.{IsPrice};
 ghost use Rattle.auc_persons.specs.Rising.{IsRisingRow};
@@ -79,5 +79,44 @@ impl<'a> SortedRow<'a> {
             second: nearest.second,
             best: *nearest.best,
         })
+    }
+}
+
+/// Arcs of a row in rising order of their objects that tell its best arc where second of them is not above a limit.
+#[derive(Clone, Copy)]
+pub(crate) struct Telling<'a> {
+    pub arcs: SortedRow<'a>,
+    pub limit: i64,
+}
+
+impl<'a> Telling<'a> {
+    ghost use Rattle.std.specs.Prelude.{◌≡◌, IfSome};
+    ghost use Rattle.auc_graph.specs.Bid.{value};
+    ghost use Rattle.auc_persons.specs.Scan.{copy_in, IsScan};
+
+    /// Arcs that tell it whatever second is.
+    #[inline(always)]
+    pub fn always(arcs: SortedRow<'a>) -> Telling<'a>
+        ensures arcs { result.arcs ≡ arcs.entry }
+        ensures limit { result.limit ≡ pos (2 ^ 63 - 1) }
+    {
+        Telling {
+            arcs,
+            limit: i64::MAX,
+        }
+    }
+
+    /// The best arc, where these arcs tell it.
+    #[inline(always)]
+    pub fn best(self) -> Option<Scan>
+        ensures scan { IfSome result (IsScan (value self.entry.arcs.scale (copy_in self.entry.arcs.copies.now)) self.entry.arcs.arcs.now) }
+        ensures tells { IfSome result (λ s. s.second ≤ℤ self.entry.limit) }
+    {
+        let scan = self.arcs.best()?;
+        if scan.second <= self.limit {
+            Some(scan)
+        } else {
+            None
+        }
     }
 }

@@ -16,34 +16,46 @@ use std::test::*;
 const LENGTHS: [u32; 8] = [1, 2, 3, 64, 65, 256, 257, 600];
 /// The way in which each row rises.
 const RISING: u32 = 4;
+/// The way in which the costs of each row have two levels, and it rises.
+const LEVELS: u32 = 5;
+/// How many arcs each person has then.
+const ARCS_WITH_LEVELS: u32 = 20;
 
-/// What the arc of a person at a place of his row costs, in one of five ways: all arcs cost the same; there are a few levels;
-/// costs are products; they look like drawn, for objects in any order or in rising order.
+/// What the arc of a person at a place of his row costs, in one of six ways: all arcs cost the same; there are a few levels;
+/// costs are products; they look like drawn, for objects in any order or in rising order; two of five cost 4, in rising order, and the others 1.
 fn cost_of(way: u32, person: u32, place: u32) -> u32 {
     match way {
         0 => 5,
         1 => place.wrapping_mul(7) % 5,
         2 => person.wrapping_add(1).wrapping_mul(place.wrapping_add(1)),
+        LEVELS => if place.wrapping_add(person) % 5 < 3 {
+            1
+        } else {
+            4
+        },
         _ => place.wrapping_mul(7_919).wrapping_add(person) % 1_000,
     }
 }
 
-/// To which object the arc at a place leads: places and objects are in different orders, but in the last way. With levels two arcs each lead to one.
+/// To which object the arc at a place leads: places and objects are in different orders, but in the last two ways. With a few levels two arcs each lead
+/// to one.
 fn object_of(way: u32, place: u32) -> u32
     ensures { result < 600 }
 {
-    if way == RISING {
+    if way == RISING || way == LEVELS {
         return place % 600;
     }
     let place = if way == 1 { place / 2 } else { place };
     place.wrapping_mul(367) % 600
 }
 
-/// How many arcs a person has: those of the first shard differ, all others have one.
-fn arcs_of(person: u32) -> u32
+/// How many arcs a person has: those of the first shard differ, all others have one; with two levels all have as many.
+fn arcs_of(way: u32, person: u32) -> u32
     requires { person < 600 }
 {
-    if person % 75 == 0 {
+    if way == LEVELS {
+        ARCS_WITH_LEVELS
+    } else if person % 75 == 0 {
         LENGTHS[(person / 75) as usize]
     } else {
         1
@@ -56,7 +68,7 @@ fn text_of(rt: &HostRuntime, way: u32) -> Result<String, AllocError> {
     text.push_str("600\n")?;
     for person in 0..600 {
         let number = person + 1;
-        for place in 0..arcs_of(person) {
+        for place in 0..arcs_of(way, person) {
             let object = object_of(way, place) + 1;
             let cost = cost_of(way, number, place);
             let line = format!(in rt.alloc(); "{number} {object} {cost}\n")?;
@@ -145,4 +157,10 @@ fn same_bids_at_costs_like_drawn(rt: HostRuntime) {
 #[test]
 fn same_bids_where_rows_rise(rt: HostRuntime) {
     assert!(rt; are_alike(&rt, RISING), "rising");
+}
+
+/// At first the cheap arcs tell each bid. Their prices rise until dear ones are bid on, too.
+#[test]
+fn same_bids_at_two_levels(rt: HostRuntime) {
+    assert!(rt; are_alike(&rt, LEVELS), "two levels");
 }

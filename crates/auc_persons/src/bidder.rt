@@ -99,7 +99,7 @@ impl Bidder {
     /// has more than 256 arcs, it takes 48 bytes more for each person, 8 to 16 for each 16 arcs of such a row, and 4 to 8 for each arc of such a row that
     /// leads to all objects in order. Where some row of at most 64 arcs doesn't rise, it takes 16 bytes for each person, 12 for each arc of the shard's
     /// rows of that length, and O(arcs of the row) time for each of these; where all rise and the costs of most have two levels, 24 bytes for each person,
-    /// and from 12 to 24 for each cheap arc of the shard's.
+    /// and 12 to 24 for each cheap arc of the shard's.
     ///
     /// # Errors
     ///

@@ -168,7 +168,7 @@ impl CheapRows {
     }
 
     /// The cheap arcs of the persons of shard number `shard` of `of`, where the costs of most rows have two levels. Takes 24 bytes of memory a person
-    /// then, and 12 for each cheap arc.
+    /// then, and 12 to 24 for each cheap arc, since the vector grows.
     pub(crate) fn make(
         alloc: Global,
         rows: &Rows,

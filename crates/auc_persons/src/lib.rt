@@ -6,9 +6,10 @@
 //!
 //! Which way a row is looked over is told by its own length and order alone (`method.rt`). Beside a shard, or beside prices of his own, a caller may
 //! keep a [`Bidder`], by which the bids are the same and found sooner ([`Bidder::bid`], [`PersonShard::next_bid_by`]): short rows in rising order of
-//! their objects (`specs/Short.antt`), cheap arcs alone of those whose costs have two levels (`specs/Cheap.antt`), and lists of a few arcs of longer ones. What a list says of its row is defined in `specs/Candidates.antt`; where
-//! it doesn't tell the bid of a row of more than 256 arcs, the row is looked at by blocks, each with a bound (`specs/Blocks.antt`), and above 640 arcs
-//! the list is made anew by them. Of such a row that leads to all objects in order the costs alone are looked at (`specs/Dense.antt`).
+//! their objects (`specs/Short.antt`), cheap arcs alone of those whose costs have two levels (`specs/Cheap.antt`), and lists of a few arcs of longer
+//! ones. What a list says of its row is defined in `specs/Candidates.antt`; where it doesn't tell the bid of a row of more than 256 arcs, the row is
+//! looked at by blocks, each with a bound (`specs/Blocks.antt`), and above 640 arcs the list is made anew by them. Of such a row that leads to all
+//! objects in order the costs alone are looked at (`specs/Dense.antt`).
 #![tactic(auto)]
 
 mod amount;

@@ -1,7 +1,7 @@
 -- The arcs by which persons hold are found in the problem's list, arc by arc.
 use Rattle.std.proofs.Common.{ℕ, ◌+◌, ◌<◌, ◌≤◌, ◌≡◌, ◌≢◌, arith, inl, inr, List, length, get_or, set, Contains, Option, Some, None, ap, sym, subst, ◌∙◌}
 use Rattle.std.proofs.lemmas.Bool.{cases_eq}
-use Rattle.std.proofs.lemmas.List.{get_or_default, get_or-set_other, get_or-set_same}
+use Rattle.std.proofs.lemmas.List.{get_or_default, get_or_past, get_or-set_other, get_or-set_same}
 use Rattle.auc_graph.specs.declared.arc.Arc.{Arc}
 use Rattle.auc_graph.specs.Problem.{Problem}
 use Rattle.auc_answers.specs.Claims.{holder_at as held_at}
@@ -10,7 +10,7 @@ use Rattle.auc_rows.specs.declared.arc.ShortArc.{ShortArc}
 use Rattle.auc_rows.proofs.ArcLaws.{none}
 use Rattle.auc_direct.specs.declared.market.TheConstants.{NOBODY}
 use Rattle.auc_direct.specs.Held.{AreHeld, IsHeld, arc_by}
-use Rattle.auc_direct.specs.Market.{holder_at, own_at}
+use Rattle.auc_direct.specs.Market.{holder_at, no_own, own_at}
 
 module _ (p : Problem) (holders : List ℕ) (owns : List ShortArc) where
   -- an arc is the one by which this person holds
@@ -74,3 +74,56 @@ module _ (p : Problem) (holders : List ℕ) (owns : List ShortArc) where
 
   pub met_all : (n : ℕ) (held : List (Option Held)) → length p.arcs ≤ n → ((j : ℕ) → holder_at holders j ≢ NOBODY → Contains p.arcs (arc_by (holder_at holders j) (own_at owns (holder_at holders j)))) → AreMet n held → AreHeld p holders owns held
   met_all n held over listed met j = all_by n j over (listed j) (held_at held j) (met j)
+
+  -- ---- person by person
+
+  -- the object's holder, if any, comes behind the first n persons; or he was found
+  abbrev pub IsSeen : ℕ → ℕ → Option Held → Type 0
+  IsSeen n j None = holder_at holders j ≢ NOBODY → n ≤ holder_at holders j
+  IsSeen n j (Some h) = IsHeld p holders owns j (Some h)
+
+  abbrev pub AreSeen : ℕ → List (Option Held) → Type 0
+  AreSeen n held = (j : ℕ) → IsSeen n j (held_at held j)
+
+  pub seen_none : (held : List (Option Held)) → ((j : ℕ) → held_at held j ≡ None) → AreSeen 0 held
+  seen_none held nobody j = subst (IsSeen 0 j) (sym (nobody j)) (λ some. omega arith)
+
+  -- one person more, who holds no such object
+  seen_later : (n j : ℕ) (o : Option Held) → (holder_at holders j ≢ NOBODY → holder_at holders j ≡ n → ⊥) → IsSeen n j o → IsSeen (n + 1) j o
+  seen_later n j None other seen = λ some. (
+      let le = seen some in
+      let ne = other some in
+      grind (arith, le, ne)
+      )
+  seen_later n j (Some h) other seen = seen
+
+  module _ (has : (j : ℕ) → holder_at holders j ≢ NOBODY → (own_at owns (holder_at holders j)).object ≡ j) where
+    pub seen_now : (n object : ℕ) (held : List (Option Held)) (h : Held) → (own_at owns n).object ≡ object → object < length held → IsHeld p holders owns object (Some h) → AreSeen n held → AreSeen (n + 1) (set held object (Some h))
+    seen_now n object held h his inside is seen j =
+        elim (cases_eq j object) [
+          | inl same ↦ (
+              let here : held_at (set held object (Some h)) j ≡ Some h = ap (held_at (set held object (Some h))) same ∙ get_or-set_same held object (Some h) None inside in
+              subst (IsSeen (n + 1) j) (sym here) (subst (λ (k : ℕ). IsHeld p holders owns k (Some h)) (sym same) is)
+              )
+          | inr ne ↦ (
+              let off : held_at (set held object (Some h)) j ≡ held_at held j = get_or-set_other held object j (Some h) None ne in
+              subst (IsSeen (n + 1) j) (sym off) (seen_later n j (held_at held j) (λ some e. ne (sym (has j some) ∙ ap (λ (k : ℕ). (own_at owns k).object) e ∙ his)) (seen j))
+              )
+        ]
+
+    -- ---- all persons
+
+    seen_by : (n j : ℕ) → length owns ≤ n → length holders ≤ NOBODY → (o : Option Held) → IsSeen n j o → IsHeld p holders owns j o
+    seen_by n j over few None seen =
+        elim (cases_eq (holder_at holders j) NOBODY) [
+          | inl nobody ↦ nobody
+          | inr some ↦ (
+              let past : own_at owns (holder_at holders j) ≡ no_own = get_or_past owns (holder_at holders j) no_own (let le = seen some in omega (arith, le, over)) in
+              let is : NOBODY ≡ j = sym (ap (λ (s : ShortArc). s.object) past) ∙ has j some in
+              absurd (some (get_or_past holders j NOBODY (omega (arith, few, is))))
+              )
+        ]
+    seen_by n j over few (Some h) seen = seen
+
+    pub seen_all : (n : ℕ) (held : List (Option Held)) → length owns ≤ n → length holders ≤ NOBODY → AreSeen n held → AreHeld p holders owns held
+    seen_all n held over few seen j = seen_by n j over few (held_at held j) (seen j)

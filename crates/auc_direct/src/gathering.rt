@@ -1,6 +1,6 @@
 //! What a phase leaves, with the places of the arcs in the problem's list.
 
-ghost use Rattle.std.specs.Prelude.{ℕ, true, false, ◌≡◌, ◌≢◌, ◌<◌, Contains, length, IfOk};
+ghost use Rattle.std.specs.Prelude.{ℕ, true, false, ◌≡◌, ◌≢◌, ◌<◌, Contains, length, IfOk, IfSome};
 ghost use Rattle.auc_direct.specs.declared.market.TheConstants.{NOBODY};
 ghost use Rattle.auc_direct.specs.Held.{AreHeld, arc_by};
 ghost use Rattle.auc_direct.specs.Market.{holder_at, own_at};
@@ -9,7 +9,7 @@ use crate::market::Market;
 use auc_answers::Gathered;
 use auc_graph::{Arc, ArcList};
 use auc_letters::Held;
-use auc_rows::ShortArc;
+use auc_rows::{FlatRows, ShortArc};
 use std::alloc::{AllocError, Global};
 
 /// Whether an arc is the one by which its person holds what he has, or just as one.
@@ -23,24 +23,62 @@ fn is_own(owns: &[ShortArc], arc: &Arc) -> bool
     own.object == arc.object && i64::from(own.cost) == arc.cost
 }
 
-/// Who holds each object by which arc, and the prices. Takes one pass over the problem's list, so that nobody keeps the places of all arcs until then.
-///
-/// # Errors
-///
-/// Only where memory was refused.
-pub(crate) fn gather(
+/// Where the arc of a person to an object stands in the problem's list, if that has the order of the rows, and his row rises. Who asks looks whether it does.
+#[inline(always)]
+fn place_of(rows: &FlatRows, person: u32, object: u32) -> usize
+    requires { person < length rows.now.rows }
+{
+    let before = rows.row(person).partition_point(|arc| arc.object < object);
+    rows.start(person).saturating_add(before)
+}
+
+/// Who holds each object by which arc, where each such arc stands where the rows let guess; else none. O(persons * log arcs of a person).
+fn guessed(
     alloc: Global,
     problem: &ArcList,
-    market: Market,
-) -> Result<Gathered, AllocError>
-    requires many { length market.holders.items ≡ problem.now.objects }
-    requires owns { length market.owns.items ≡ problem.now.persons }
-    requires holds { (i : ℕ) → (own_at market.owns.items i).object ≢ NOBODY → holder_at market.holders.items (own_at market.owns.items i).object ≡ i }
-    requires held { (j : ℕ) → holder_at market.holders.items j ≢ NOBODY → (own_at market.owns.items (holder_at market.holders.items j)).object ≡ j }
-    requires listed { (j : ℕ) → holder_at market.holders.items j ≢ NOBODY → Contains problem.now.arcs (arc_by (holder_at market.holders.items j) (own_at market.owns.items (holder_at market.holders.items j))) }
-    ensures held { IfOk result (λ g. AreHeld problem.now market.holders.items market.owns.items g.holders.items) }
-    ensures many { IfOk result (λ g. length g.holders.items ≡ length market.holders.items) }
-    ensures prices { IfOk result (λ g. g.prices.items ≡ market.prices.items) }
+    rows: &FlatRows,
+    market: &Market,
+) -> Result<Option<Vec<Option<Held>>>, AllocError>
+    requires persons { length rows.now.rows ≡ problem.now.persons }
+    requires many { length market.now.holders.items ≡ problem.now.objects }
+    requires owns { length market.now.owns.items ≡ problem.now.persons }
+    requires holds { (i : ℕ) → (own_at market.now.owns.items i).object ≢ NOBODY → holder_at market.now.holders.items (own_at market.now.owns.items i).object ≡ i }
+    requires held { (j : ℕ) → holder_at market.now.holders.items j ≢ NOBODY → (own_at market.now.owns.items (holder_at market.now.holders.items j)).object ≡ j }
+    ensures held { IfOk result (λ o. IfSome o (λ v. AreHeld problem.now market.now.holders.items market.now.owns.items v.items)) }
+    ensures many { IfOk result (λ o. IfSome o (λ v. length v.items ≡ length market.now.holders.items)) }
+{
+    let arcs = problem.arcs();
+    let mut holders = vec![in alloc; None; market.holders.len()]?;
+    for person in 0..rows.persons() {
+        let object = market.owns[person as usize].object;
+        let place = place_of(rows, person, object);
+        let Some(arc) = arcs.get(place) else {
+            return Ok(None);
+        };
+        if arc.person != person || !is_own(market.owns.as_slice(), arc) {
+            return Ok(None);
+        }
+        holders[arc.object as usize] = Some(Held {
+            person,
+            arc: place as u32,
+        });
+    }
+    Ok(Some(holders))
+}
+
+/// The same by one pass over the problem's list.
+fn passed(
+    alloc: Global,
+    problem: &ArcList,
+    market: &Market,
+) -> Result<Vec<Option<Held>>, AllocError>
+    requires many { length market.now.holders.items ≡ problem.now.objects }
+    requires owns { length market.now.owns.items ≡ problem.now.persons }
+    requires holds { (i : ℕ) → (own_at market.now.owns.items i).object ≢ NOBODY → holder_at market.now.holders.items (own_at market.now.owns.items i).object ≡ i }
+    requires held { (j : ℕ) → holder_at market.now.holders.items j ≢ NOBODY → (own_at market.now.owns.items (holder_at market.now.holders.items j)).object ≡ j }
+    requires listed { (j : ℕ) → holder_at market.now.holders.items j ≢ NOBODY → Contains problem.now.arcs (arc_by (holder_at market.now.holders.items j) (own_at market.now.owns.items (holder_at market.now.holders.items j))) }
+    ensures held { IfOk result (λ v. AreHeld problem.now market.now.holders.items market.now.owns.items v.items) }
+    ensures many { IfOk result (λ v. length v.items ≡ length market.now.holders.items) }
 {
     let mut holders = vec![in alloc; None; market.holders.len()]?;
     for (place, arc) in problem.arcs().iter().enumerate() {
@@ -51,6 +89,35 @@ pub(crate) fn gather(
             });
         }
     }
+    Ok(holders)
+}
+
+/// Who holds each object by which arc, and the prices. Rows have no places of arcs, so these are guessed, and where a guess is wrong looked for in one pass over the problem's list.
+///
+/// # Errors
+///
+/// Only where memory was refused.
+pub(crate) fn gather(
+    alloc: Global,
+    problem: &ArcList,
+    rows: &FlatRows,
+    market: Market,
+) -> Result<Gathered, AllocError>
+    requires persons { length rows.now.rows ≡ problem.now.persons }
+    requires many { length market.holders.items ≡ problem.now.objects }
+    requires owns { length market.owns.items ≡ problem.now.persons }
+    requires holds { (i : ℕ) → (own_at market.owns.items i).object ≢ NOBODY → holder_at market.holders.items (own_at market.owns.items i).object ≡ i }
+    requires held { (j : ℕ) → holder_at market.holders.items j ≢ NOBODY → (own_at market.owns.items (holder_at market.holders.items j)).object ≡ j }
+    requires listed { (j : ℕ) → holder_at market.holders.items j ≢ NOBODY → Contains problem.now.arcs (arc_by (holder_at market.holders.items j) (own_at market.owns.items (holder_at market.holders.items j))) }
+    ensures held { IfOk result (λ g. AreHeld problem.now market.holders.items market.owns.items g.holders.items) }
+    ensures many { IfOk result (λ g. length g.holders.items ≡ length market.holders.items) }
+    ensures prices { IfOk result (λ g. g.prices.items ≡ market.prices.items) }
+{
+    let guessed = guessed(alloc, problem, rows, &market)?;
+    let holders = match guessed {
+        Some(holders) => holders,
+        None => passed(alloc, problem, &market)?,
+    };
     let Market { prices, .. } = market;
     Ok(Gathered { holders, prices })
 }

@@ -66,20 +66,20 @@ fn bracketed(
 fn answer_of(
     alloc: Global,
     problem: &ArcList,
-    _flat: FlatRows,
+    flat: FlatRows,
     outcome: Outcome,
 ) -> Result<Answer, AllocError>
-    requires rows { AreRowsOf problem.now _flat }
-    requires sound { IsFlatTable _flat }
-    requires left { IsLeft _flat outcome.ending outcome.market.prices.items outcome.market.holders.items outcome.market.owns.items }
+    requires rows { AreRowsOf problem.now flat }
+    requires sound { IsFlatTable flat }
+    requires left { IsLeft flat outcome.ending outcome.market.prices.items outcome.market.holders.items outcome.market.owns.items }
     ensures is { IfOk result (IsAnswer problem.now) }
-    ensures limit { (bids : ℕ) (begun : ℤ) → IsStopped _flat bids begun outcome.ending outcome.market.prices.items → IfOk result (IsLimited problem.now bids begun) }
+    ensures limit { (bids : ℕ) (begun : ℤ) → IsStopped flat bids begun outcome.ending outcome.market.prices.items → IfOk result (IsLimited problem.now bids begun) }
 {
     // Read here, so that the proof knows what every problem keeps.
     let _ = problem.arcs();
-    drop(_flat);
     let Outcome { ending, market } = outcome;
-    let gathered = gather(alloc, problem, market)?;
+    let gathered = gather(alloc, problem, &flat, market)?;
+    drop(flat);
     match ending {
         Ending::Sold => optimal(alloc, problem, gathered),
         Ending::Stopped(reason) => bracketed(alloc, problem, reason, gathered),

@@ -155,6 +155,14 @@ impl FlatRows {
         true
     }
 
+    /// Where a person's arcs begin among those of all rows, and so in the problem's list, where that has the order of the persons. No clause says so: who goes by it looks. O(1).
+    #[inline]
+    pub fn start(&self, person: u32) -> usize
+        requires { person < length self.now.rows }
+    {
+        self.starts[person as usize]
+    }
+
     /// The arcs of a person, in the order of the problem's list. O(1).
     #[inline(always)]
     pub fn row(&self, person: u32) -> &[ShortArc]

@@ -4,17 +4,20 @@ use Rattle.auc_direct.specs.Endings.{IsLimited}
 use Rattle.auc_direct.proofs.Answering.{either_is_answer, either_is_limited, left_stands, of_answers, own_listed, persons_are, sold_is_answer, sold_is_limited}
 use Rattle.auc_direct.proofs.solving.answer_of.Goals as goal
 
+pub gather-requires-clause-persons : goal.gather-requires-clause-persons
+gather-requires-clause-persons c = persons_are c.args.problem.now c.args.flat c.requires.rows
+
 pub gather-requires-clause-owns : goal.gather-requires-clause-owns
 gather-requires-clause-owns c =
     let m = c.args.outcome.market in
-    let s = left_stands c.args._flat c.args.outcome.ending m.prices.items m.holders.items m.owns.items c.requires.left in
-    s.1.owns_are ∙ persons_are c.args.problem.now c.args._flat c.requires.rows
+    let s = left_stands c.args.flat c.args.outcome.ending m.prices.items m.holders.items m.owns.items c.requires.left in
+    s.1.owns_are ∙ persons_are c.args.problem.now c.args.flat c.requires.rows
 
 pub gather-requires-clause-listed : goal.gather-requires-clause-listed
 gather-requires-clause-listed c =
     let m = c.args.outcome.market in
-    let s = left_stands c.args._flat c.args.outcome.ending m.prices.items m.holders.items m.owns.items c.requires.left in
-    own_listed c.args.problem.now c.args._flat c.requires.rows s.0 m.prices.items m.holders.items m.owns.items c.requires.sound s.1
+    let s = left_stands c.args.flat c.args.outcome.ending m.prices.items m.holders.items m.owns.items c.requires.left in
+    own_listed c.args.problem.now c.args.flat c.requires.rows s.0 m.prices.items m.holders.items m.owns.items c.requires.sound s.1
 
 pub returns-in-Sold-clause-is : goal.returns-in-Sold-clause-is
 returns-in-Sold-clause-is c =
@@ -23,12 +26,12 @@ returns-in-Sold-clause-is c =
     let left = c.in_ok-gathered.gathered in
     let g = c.in_ok-gathered.ensures in
     of_answers (IsOptimalAnswer c.args.problem.now left.holders.items left.prices.items) (IsAnswer c.args.problem.now) c.optimal.result
-    (rw g.prices (sold_is_answer c.args.problem.now c.requires.rows.table c.args._flat m.prices.items m.holders.items m.owns.items left.holders.items c.arcs.ensures.problem c.requires.rows.of c.requires.rows.same c.requires.sound g.held sold.0 sold.1)) c.optimal.ensures
+    (rw g.prices (sold_is_answer c.args.problem.now c.requires.rows.table c.args.flat m.prices.items m.holders.items m.owns.items left.holders.items c.arcs.ensures.problem c.requires.rows.of c.requires.rows.same c.requires.sound g.held sold.0 sold.1)) c.optimal.ensures
 
 pub returns-in-Stopped-clause-is : goal.returns-in-Stopped-clause-is
 returns-in-Stopped-clause-is c =
     let p = c.args.problem.now in
-    let r = c.args._flat in
+    let r = c.args.flat in
     let m = c.args.outcome.market in
     let stopped = rw c.in-Stopped.is at c.requires.left in
     let left = c.in_ok-gathered.gathered in
@@ -49,5 +52,5 @@ returns-in-Stopped-clause-limit c = λ bids begun stopped. (
     let left = c.in_ok-gathered.gathered in
     let g = c.in_ok-gathered.ensures in
     of_answers (λ a. IsInfeasibleAnswer p a ⊎ (HasAssignment p × IsBracketAnswer p c.in-Stopped.reason left.holders.items left.prices.items a)) (IsLimited p bids begun) c.bracketed.result
-    (rw g.prices (either_is_limited p c.args._flat c.requires.rows bids begun c.in-Stopped.reason left.holders.items m.prices.items (rw c.in-Stopped.is at stopped))) c.bracketed.ensures
+    (rw g.prices (either_is_limited p c.args.flat c.requires.rows bids begun c.in-Stopped.reason left.holders.items m.prices.items (rw c.in-Stopped.is at stopped))) c.bracketed.ensures
     )

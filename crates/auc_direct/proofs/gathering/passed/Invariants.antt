@@ -1,6 +1,6 @@
 use Rattle.std.proofs.Common.{◌≡◌, length}
 use Rattle.auc_direct.proofs.HeldLaws.{AreMet}
-use Rattle.auc_direct.proofs.gathering.gather.Given as goal
+use Rattle.auc_direct.proofs.gathering.passed.Given as goal
 
 abbrev pub invariant-loop-place : goal.invariant-loop-place
 invariant-loop-place l = record {

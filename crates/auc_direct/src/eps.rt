@@ -12,6 +12,12 @@ pub(crate) const LAST_EPS: i64 = 1;
 /// By what eps is divided from phase to phase.
 const STEP: i64 = 8;
 
+/// By what the scaled spread of the costs is divided at least, for the first eps.
+const LEAST_PARTS: i64 = 16;
+
+/// With so many arcs, half of those that a person knows in the mean, it is divided by twice as much.
+pub(crate) const MANY_ARCS: usize = 32;
+
 /// Half of the arcs that a person knows in the mean.
 pub(crate) fn half_of_mean(rows: &FlatRows) -> usize {
     rows.arc_count()
@@ -19,7 +25,7 @@ pub(crate) fn half_of_mean(rows: &FlatRows) -> usize {
         .unwrap_or(0)
 }
 
-/// The scaled spread of the costs divided by half of the mean row, by a power of 2 from 8 to 32, and at least 1. Where there are more objects than persons it is 1, so that there is one phase: a later one would
+/// The scaled spread of the costs divided by half of the mean row, by 16 or 32, and at least 1. Where there are more objects than persons it is 1, so that there is one phase: a later one would
 /// leave prices to objects that nobody holds.
 pub(crate) fn first_eps(rows: &FlatRows) -> i64
     ensures range { IsEps result }
@@ -28,11 +34,11 @@ pub(crate) fn first_eps(rows: &FlatRows) -> i64
     if rows.persons() < rows.objects() {
         return LAST_EPS;
     }
-    let eighth = rows.scale() * rows.spread() / STEP;
-    let eps = match half_of_mean(rows) {
-        32.. => eighth / 4,
-        16.. => eighth / 2,
-        _ => eighth,
+    let sixteenth = rows.scale() * rows.spread() / LEAST_PARTS;
+    let eps = if half_of_mean(rows) < MANY_ARCS {
+        sixteenth
+    } else {
+        sixteenth / 2
     };
     if eps < LAST_EPS { LAST_EPS } else { eps }
 }

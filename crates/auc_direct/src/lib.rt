@@ -3,6 +3,7 @@
 //! [`solve_direct`] answers as `auc_world::solve_serial` does, with no shards, letters or mails: by certificates in which the checker finds no fault.
 #![tactic(auto)]
 
+mod ahead;
 mod best;
 mod bid;
 mod early;

@@ -104,7 +104,7 @@ impl Market {
         Ok(Chain::Bids)
     }
 
-    /// Plays a phase of at most so many bids, in which those bid who hold nothing yet.
+    /// Plays a phase of at most so many bids, in which those bid who hold nothing yet. Where all is sold, its bids are counted.
     pub(crate) fn play(
         &mut self,
         rows: &FlatRows,
@@ -135,6 +135,7 @@ impl Market {
                 Chain::Ceiling => return Ok(Ending::Stopped(Reason::Ceiling)),
             }
         }
+        work.made = work.made.saturating_add(bids - left);
         Ok(Ending::Sold)
     }
 

@@ -9,6 +9,7 @@ ghost use Rattle.auc_direct.specs.Endings.{IsLeft, IsStart, IsStopped};
 ghost use Rattle.auc_direct.specs.Path.{IsClean};
 ghost use Rattle.auc_direct.specs.Shortlist.{Kept};
 
+use crate::ahead::Ahead;
 use crate::ending::Ending;
 use crate::eps::{LAST_EPS, half_of_mean, next_eps};
 use crate::market::Market;
@@ -52,6 +53,11 @@ pub(crate) fn patience_at(rows: &FlatRows, eps: i64) -> u64 {
         .max((rows.arc_count() / LOOKS) as u64)
 }
 
+/// After how many bids of a chain a path is looked for in a last phase that is tried before its turn: as many as take the time of a search.
+pub(crate) fn patience_ahead(rows: &FlatRows) -> u64 {
+    SOON.max((rows.arc_count() / LOOKS) as u64)
+}
+
 /// How the last phase has ended, and what it leaves.
 #[derive(Drop)]
 pub(crate) struct Outcome {
@@ -83,8 +89,14 @@ pub(crate) fn play_phases<W: Watch>(
     let mut market = market;
     let mut work = work;
     let mut eps = eps;
+    let mut ahead = Ahead::new(rows);
     loop {
+        let early = market.play_ahead(rows, eps, bids, &mut ahead, &mut work, watch)?;
+        if let Some(ending) = early {
+            return Ok(Outcome { ending, market });
+        }
         market.open();
+        work.made = 0;
         let ending = market.play_watched(rows, eps, bids, patience, &mut work, watch)?;
         match ending {
             Ending::Stopped(_) => return Ok(Outcome { ending, market }),

@@ -1,6 +1,6 @@
 //! A phase in slices, before each of which somebody is asked whether it goes on.
 
-ghost use Rattle.std.specs.Prelude.{ℕ, ℤ, List, true, false, ◌≡◌, ◌⊎◌, ◌<◌, ◌≤◌, ◌≤ℤ◌, length, IfOk, IfSome, OnOk};
+ghost use Rattle.std.specs.Prelude.{ℕ, ℤ, List, true, false, ◌≡◌, ◌⊎◌, ◌<◌, ◌≤◌, ◌≤ℤ◌, length, IfOk, IfSome, IfNone, OnOk};
 ghost use Rattle.std.specs.BinaryHeap.{heap_items};
 ghost use Rattle.auc_cert.specs.declared.reason.Reason.{Reason};
 ghost use Rattle.auc_graph.specs.Assignment.{total};
@@ -38,7 +38,7 @@ fn slice_of(patience: u64, searches: u64) -> u64
 }
 
 /// Whether bids have run out. Any other ending of a slice is one of its phase.
-fn ran_out(ending: Ending) -> bool
+pub(crate) fn ran_out(ending: Ending) -> bool
     ensures yes { result ≡ true → ending ≡ Ending.Stopped Reason.Bids }
     ensures no { result ≡ false → (r : FlatTable) (bids other : ℕ) (begun before : ℤ) (prices : List ℤ) (owns : List ShortArc) → IsEnding r bids begun ending prices owns → IsEnding r other before ending prices owns }
 {
@@ -66,7 +66,54 @@ fn count_held(market: &Market) -> u32 {
 }
 
 impl Market {
-    /// Plays a phase of at most so many bids as [`Market::play`] does, in slices; before each of them the watch is asked whether the run goes on.
+    /// Plays a phase of at most so many bids as [`Market::play`] does, in slices; before each of them the watch is asked whether the run goes on. None
+    /// where it doesn't.
+    pub(crate) fn play_asked<W: Watch>(
+        &mut self,
+        rows: &FlatRows,
+        eps: i64,
+        bids: u64,
+        patience: u64,
+        work: &mut Workspace,
+        watch: &mut W,
+    ) -> Result<Option<Ending>, AllocError>
+        requires arcs { EachHasArc rows.now }
+        requires eps { IsEps eps }
+        requires stands { Stands rows.now eps self.old.prices.items self.old.holders.items self.old.owns.items }
+        requires clean { IsClean rows.now.objects work.old.search.labels.items work.old.search.line.items (heap_items work.old.search.heap) }
+        requires kept { Kept rows.now self.old.prices.items work.old.lists.lists.items }
+        ensures stands { OnOk result (Stands rows.now eps self.new.prices.items self.new.holders.items self.new.owns.items) }
+        ensures no { IfOk result (λ o. IfNone o (W.has_stopped watch.new ≡ true)) }
+        ensures sold { IfOk result (λ o. IfSome o (λ e. IsSold rows.now e self.new.owns.items)) }
+        ensures ending { IfOk result (λ o. IfSome o (λ e. IsEnding rows.now bids (total self.old.prices.items) e self.new.prices.items self.new.owns.items)) }
+        ensures risen { OnOk result (total self.old.prices.items ≤ℤ total self.new.prices.items) }
+        ensures clean { OnOk result (IsClean rows.now.objects work.new.search.labels.items work.new.search.line.items (heap_items work.new.search.heap)) }
+        ensures kept { OnOk result (Kept rows.now self.new.prices.items work.new.lists.lists.items) }
+    {
+        let mut left = bids;
+        loop {
+            let progress = Progress {
+                eps,
+                held: count_held(self),
+                bids: bids - left,
+            };
+            if !watch.goes_on(progress) {
+                return Ok(None);
+            }
+            let slice = left.min(slice_of(patience, SEARCHES));
+            let ending = self.play(rows, eps, slice, patience, work)?;
+            if !ran_out(ending) {
+                return Ok(Some(ending));
+            }
+            left -= slice;
+            work.made = work.made.saturating_add(slice);
+            if left == 0 {
+                return Ok(Some(ending));
+            }
+        }
+    }
+
+    /// The same, where a run that doesn't go on ends as one whose bids have run out.
     pub(crate) fn play_watched<W: Watch>(
         &mut self,
         rows: &FlatRows,
@@ -88,29 +135,13 @@ impl Market {
         ensures clean { OnOk result (IsClean rows.now.objects work.new.search.labels.items work.new.search.line.items (heap_items work.new.search.heap)) }
         ensures kept { OnOk result (Kept rows.now self.new.prices.items work.new.lists.lists.items) }
     {
-        let mut left = bids;
-        loop {
-            let progress = Progress {
-                eps,
-                held: count_held(self),
-                bids: bids - left,
-            };
-            if !watch.goes_on(progress) {
-                return Ok(Ending::Stopped(Reason::Bids));
-            }
-            let slice = left.min(slice_of(patience, SEARCHES));
-            let ending = self.play(rows, eps, slice, patience, work)?;
-            if !ran_out(ending) {
-                return Ok(ending);
-            }
-            left -= slice;
-            if left == 0 {
-                return Ok(ending);
-            }
+        match self.play_asked(rows, eps, bids, patience, work, watch)? {
+            Some(ending) => Ok(ending),
+            None => Ok(Ending::Stopped(Reason::Bids)),
         }
     }
 
-    /// The same, but given up soon after a search for a path has found none: None then. Where there is no assignment, some chain of bids doesn't end until one has.
+    /// Plays a phase as [`Market::play_watched`] does, but gives it up soon after a search for a path has found none: none then. Where there is no assignment, some chain of bids doesn't end until one has.
     pub(crate) fn play_unless_stuck<W: Watch>(
         &mut self,
         rows: &FlatRows,

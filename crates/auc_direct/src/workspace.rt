@@ -12,7 +12,7 @@ use auc_rows::FlatRows;
 use std::alloc::{AllocError, Global};
 
 /// The lists of candidates, which stay through all phases; room for searches, and for those in a full table; how many bids in a row have displaced somebody, after the last
-/// search for a path; and whether such a search has found none.
+/// search for a path; whether such a search has found none; and how many bids the phase at hand has made, where it has sold all or a slice of it has run out.
 #[derive(Drop)]
 pub(crate) struct Workspace {
     pub(crate) lists: Lists,
@@ -20,6 +20,7 @@ pub(crate) struct Workspace {
     pub(crate) table: TableSearch,
     pub(crate) walked: u64,
     pub(crate) found_none: bool,
+    pub(crate) made: u64,
 }
 
 impl Workspace {
@@ -37,6 +38,7 @@ impl Workspace {
             table,
             walked: 0,
             found_none: false,
+            made: 0,
         })
     }
 }

@@ -28,13 +28,14 @@ impl Dice {
     }
 }
 
-/// How many problems are drawn, of how many persons at least, of how many more objects, and below which number costs lie.
+/// How many problems are drawn, of how many persons at least, of how many more objects, how many costs there are, and whether these lie far apart.
 #[derive(Clone, Copy)]
 struct Shape {
     problems: u32,
     least: u32,
     more: u32,
     costs: u32,
+    is_wide: bool,
 }
 
 /// Some persons, each of whom knows few objects.
@@ -43,6 +44,7 @@ const SMALL: Shape = Shape {
     least: 1,
     more: 0,
     costs: 100,
+    is_wide: false,
 };
 
 /// So many that each knows some 60 objects, for which he has a list of candidates.
@@ -51,6 +53,7 @@ const LONG: Shape = Shape {
     least: 90,
     more: 0,
     costs: 1_000,
+    is_wide: false,
 };
 
 /// A problem of such a shape, of up to 7 persons more.
@@ -61,8 +64,10 @@ fn problem_of(rt: &HostRuntime, dice: &mut Dice, shape: Shape) -> Result<ArcList
     for person in 0..persons {
         for object in 0..objects {
             if dice.below(3) > 0 {
+                let drawn = i64::from(dice.below(shape.costs));
+                let apart = if shape.is_wide { 1_000_000 } else { 1 };
                 arcs.push(Arc {
-                    cost: i64::from(dice.below(shape.costs)) - 50,
+                    cost: drawn.min(1_000) * apart - 50,
                     person,
                     object,
                 })?;
@@ -132,6 +137,24 @@ fn are_alike(rt: &HostRuntime, shape: Shape) -> Result<bool, Fail> {
 fn square(rt: HostRuntime) -> Result<(), Fail> {
     assert!(rt; are_alike(&rt, SMALL)?);
     assert!(rt; are_alike(&rt, Shape { costs: 4, ..SMALL })?);
+    Ok(())
+}
+
+/// Costs of two levels, for which the last phase comes before its turn.
+#[test]
+fn two_levels(rt: HostRuntime) -> Result<(), Fail> {
+    let levels = Shape {
+        costs: 2,
+        is_wide: true,
+        ..SMALL
+    };
+    assert!(rt; are_alike(&rt, levels)?);
+    let long = Shape {
+        problems: LONG.problems,
+        least: LONG.least,
+        ..levels
+    };
+    assert!(rt; are_alike(&rt, long)?);
     Ok(())
 }
 

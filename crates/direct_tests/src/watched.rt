@@ -5,7 +5,7 @@ use auc_direct::{Progress, Watch, may_start, solve_direct_watched, solve_direct_
 use std::test::*;
 
 /// Three persons, of whom the first doesn't know the last object: so it is no full table, and goes by phases.
-const THREE: &str = "3\n1 1 4 1 2 1\n2 1 2 2 2 0 2 3 5\n3 1 3 3 2 2 3 3 2\n";
+const THREE: &str = "3\n1 1 4 1 2 1\n2 1 2 2 2 0 2 3 500\n3 1 3 3 2 2 3 3 2\n";
 
 /// Goes on so many times, and then says no.
 #[derive(Drop)]

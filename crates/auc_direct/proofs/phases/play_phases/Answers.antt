@@ -8,27 +8,28 @@ use Rattle.auc_direct.proofs.phases.play_phases.Goals as goal
 
 pub play_watched-requires-clause-stands : goal.play_watched-requires-clause-stands
 play_watched-requires-clause-stands g c =
-    let inv = c.loop-work.invariant in
+    let ahead = c.in_ok-early.ensures in
     let eps = to_z w64 c.loop-work.eps-bits in
-    let start : IsStart c.args.rows.now eps c.open.new.self.prices.items = subst (IsStart c.args.rows.now eps) (sym c.open.ensures.prices) inv.start in
-    stands_opened c.args.rows.now eps eps c.open.new.self.prices.items c.open.new.self.holders.items c.open.new.self.owns.items (length c.loop-work.market.holders.items) (length c.loop-work.market.owns.items) start inv.holders inv.owns c.open.ensures.holders c.open.ensures.owns
+    let start : IsStart c.args.rows.now eps c.open.new.self.prices.items = subst (IsStart c.args.rows.now eps) (sym c.open.ensures.prices) ahead.start in
+    stands_opened c.args.rows.now eps eps c.open.new.self.prices.items c.open.new.self.holders.items c.open.new.self.owns.items (length c.play_ahead.new.self.holders.items) (length c.play_ahead.new.self.owns.items) start ahead.holders ahead.owns c.open.ensures.holders c.open.ensures.owns
 
 pub loop-work-preserved : goal.loop-work-preserved
 loop-work-preserved g c =
-    let f : FitsSigned w64 c.in-Some.next = search rules in
+    let f : FitsSigned w64 c.in-Some-next_eps.next = search rules in
     let inv = c.loop-work.invariant in
     let eps = to_z w64 c.loop-work.eps-bits in
+    let ahead = c.in_ok-early.ensures in
     let after = c.in_ok-ending.ensures in
-    let range = c.in-Some.ensures.range in
-    let less = c.in-Some.ensures.less in
+    let range = c.in-Some-next_eps.ensures.range in
+    let less = c.in-Some-next_eps.ensures.less in
     simp to_z-of_z (record {
       eps_is = range;
-      start = start_next c.args.rows.now eps c.in-Some.next c.loop-work.market.prices.items c.play_watched.new.self.prices.items c.play_watched.new.self.holders.items c.play_watched.new.self.owns.items range less inv.start after.stands;
+      start = start_next c.args.rows.now eps c.in-Some-next_eps.next c.play_ahead.new.self.prices.items c.play_watched.new.self.prices.items c.play_watched.new.self.holders.items c.play_watched.new.self.owns.items range less ahead.start after.stands;
       holders = after.stands.holders_are;
       clean = after.clean;
       kept = after.kept;
       owns = after.stands.owns_are;
-      risen = (let o = ap total c.open.ensures.prices in let a = inv.risen in let b = after.risen in omega (arith, ints, o, a, b));
+      risen = (let o = ap total c.open.ensures.prices in let a = inv.risen in let e = ahead.risen in let b = after.risen in omega (arith, ints, o, a, e, b));
     })
 
 pub loop-work-init : goal.loop-work-init

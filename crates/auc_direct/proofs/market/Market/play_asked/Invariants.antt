@@ -5,7 +5,7 @@ use Rattle.std.specs.BinaryHeap.{heap_items}
 use Rattle.auc_direct.specs.Market.{Stands}
 use Rattle.auc_direct.specs.Path.{IsClean}
 use Rattle.auc_direct.specs.Shortlist.{Kept}
-use Rattle.auc_direct.proofs.market.Market.play_watched.Given as goal
+use Rattle.auc_direct.proofs.market.Market.play_asked.Given as goal
 
 abbrev pub invariant-loop-eps : goal.invariant-loop-eps
 invariant-loop-eps g l = record {

@@ -1,0 +1,109 @@
+//! The last phase before its turn. Where a phase has taken few bids, few persons want the same objects at these prices, and what the phases between would do the last one does at
+//! once. Where it takes too many bids it is given up, and the phases go on with the prices that it has left.
+
+ghost use Rattle.std.specs.Prelude.{true, ◌≡◌, ◌⊎◌, ◌≤ℤ◌, length, IfOk, IfSome, OnOk};
+ghost use Rattle.std.specs.BinaryHeap.{heap_items};
+ghost use Rattle.auc_graph.specs.Assignment.{total};
+ghost use Rattle.auc_letters.specs.Price.{IsEps};
+ghost use Rattle.auc_rows.specs.Rows.{EachHasArc};
+ghost use Rattle.auc_direct.specs.Endings.{IsLeft, IsStart, IsStopped};
+ghost use Rattle.auc_direct.specs.Path.{IsClean};
+ghost use Rattle.auc_direct.specs.Shortlist.{Kept};
+
+use crate::ending::Ending;
+use crate::eps::{LAST_EPS, MANY_ARCS, half_of_mean};
+use crate::market::Market;
+use crate::phases::patience_ahead;
+use crate::watch::Watch;
+use crate::watched::ran_out;
+use crate::workspace::Workspace;
+use auc_cert::Reason;
+use auc_rows::FlatRows;
+use std::alloc::AllocError;
+
+/// When it is tried: after the first phase, where that took little and rows are short, and once later. Speed alone depends on it.
+#[derive(Clone, Copy)]
+pub(crate) struct Ahead {
+    is_first: bool,
+    is_tried: bool,
+    // How many bids were made in the phase after which it was last asked.
+    before: u64,
+}
+
+impl Ahead {
+    /// Not tried yet. Where rows are long a person's first bids make his list, and each takes the time of many: there it isn't tried so early.
+    pub(crate) fn new(rows: &FlatRows) -> Ahead {
+        Ahead {
+            is_first: half_of_mean(rows) < MANY_ARCS,
+            is_tried: false,
+            before: 0,
+        }
+    }
+
+    /// How many bids it may make after a phase of so many; none where it isn't tried. After a first phase of fewer than three bids for two persons three times as many: costs of two
+    /// levels make such a one, where the phases between are price wars. After a later one of fewer than three bids a person, and seven tenths of those of the phase before it, as many:
+    /// then few persons want the same objects, and ever fewer do.
+    pub(crate) fn bids_after(&mut self, made: u64, persons: u32) -> u64 {
+        let persons = u64::from(persons);
+        let before = self.before;
+        self.before = made;
+        if self.is_first {
+            self.is_first = false;
+            return if made < persons + persons / 2 {
+                made.saturating_mul(3)
+            } else {
+                0
+            };
+        }
+        let falls = made.saturating_mul(10) < before.saturating_mul(7);
+        if self.is_tried || made >= 3 * persons || !falls {
+            return 0;
+        }
+        self.is_tried = true;
+        made
+    }
+}
+
+impl Market {
+    /// Plays the phase at the last eps in place of that at `eps`, where the one before took few bids. None where it isn't tried, or has been given up; then the phase at `eps` may be
+    /// played. It isn't tried in a full table, where such a phase has come first.
+    pub(crate) fn play_ahead<W: Watch>(
+        &mut self,
+        rows: &FlatRows,
+        eps: i64,
+        bids: u64,
+        ahead: &mut Ahead,
+        work: &mut Workspace,
+        watch: &mut W,
+    ) -> Result<Option<Ending>, AllocError>
+        requires arcs { EachHasArc rows.now }
+        requires eps { IsEps eps }
+        requires start { IsStart rows.now eps self.old.prices.items }
+        requires holders { length self.old.holders.items ≡ rows.now.objects }
+        requires owns { length self.old.owns.items ≡ length rows.now.rows }
+        requires clean { IsClean rows.now.objects work.old.search.labels.items work.old.search.line.items (heap_items work.old.search.heap) }
+        requires kept { Kept rows.now self.old.prices.items work.old.lists.lists.items }
+        ensures left { IfOk result (λ o. IfSome o (λ e. IsLeft rows.now e self.new.prices.items self.new.holders.items self.new.owns.items)) }
+        ensures stopped { IfOk result (λ o. IfSome o (λ e. (W.has_stopped watch.new ≡ true) ⊎ IsStopped rows.now bids (total self.old.prices.items) e self.new.prices.items)) }
+        ensures start { OnOk result (IsStart rows.now eps self.new.prices.items) }
+        ensures holders { OnOk result (length self.new.holders.items ≡ rows.now.objects) }
+        ensures owns { OnOk result (length self.new.owns.items ≡ length rows.now.rows) }
+        ensures risen { OnOk result (total self.old.prices.items ≤ℤ total self.new.prices.items) }
+        ensures clean { OnOk result (IsClean rows.now.objects work.new.search.labels.items work.new.search.line.items (heap_items work.new.search.heap)) }
+        ensures kept { OnOk result (Kept rows.now self.new.prices.items work.new.lists.lists.items) }
+    {
+        let few = ahead.bids_after(work.made, rows.persons());
+        if few == 0 || bids <= few || eps <= LAST_EPS || rows.is_full() {
+            return Ok(None);
+        }
+        self.open();
+        let patience = patience_ahead(rows);
+        let Some(ending) = self.play_asked(rows, LAST_EPS, few, patience, work, watch)? else {
+            return Ok(Some(Ending::Stopped(Reason::Bids)));
+        };
+        if ran_out(ending) {
+            return Ok(None);
+        }
+        Ok(Some(ending))
+    }
+}

@@ -1,0 +1,112 @@
+//! The last phase before its turn: where the first phase took few bids it ends the run, or is given up.
+
+ghost use Rattle.std.specs.Prelude.{false};
+
+use crate::texts::{AMPLE, problem_of, text_of};
+use auc_direct::{Progress, Watch, solve_direct_watched};
+use auc_graph::{Arc, ArcList};
+use std::test::*;
+
+/// Four persons, who each know an object for 1 and another one for the most: in the first phase each bids once.
+const LEVELS: &str =
+    "4\n1 1 1 1 2 1000000\n2 2 1 2 3 1000000\n3 3 1 3 4 1000000\n4 1 1000000 4 4 1\n";
+
+/// How many groups of three persons there are who all want two objects, and how many persons more.
+const GROUPS: u32 = 40;
+
+const OTHERS: u32 = 60;
+
+/// Remembers each eps, and the bids, of which it is asked, and goes on.
+#[derive(Drop)]
+struct Ear {
+    questions: u32,
+    first: i64,
+    second: i64,
+    last: i64,
+}
+
+impl Watch for Ear {
+    ghost has_stopped = { λ _. false };
+
+    fn goes_on(&mut self, progress: Progress) -> bool {
+        if self.questions == 0 {
+            self.first = progress.eps;
+        }
+        if self.questions == 1 {
+            self.second = progress.eps;
+        }
+        self.last = progress.eps;
+        self.questions = self.questions.saturating_add(1);
+        true
+    }
+}
+
+fn listening() -> Ear {
+    Ear {
+        questions: 0,
+        first: 0,
+        second: 0,
+        last: 0,
+    }
+}
+
+/// Groups of three, of whom each has two objects for nothing and the third one for 10, and others who have their own for nothing and the next one for 100: the first phase gives the
+/// third object away at a great eps, and the last one would take many small steps up to that price.
+fn groups(rt: &HostRuntime) -> Result<ArcList, Fail> {
+    let grouped = 3 * GROUPS;
+    let persons = grouped + OTHERS;
+    let mut arcs = Vec::new(rt.alloc());
+    for person in 0..grouped {
+        for place in 0..3 {
+            arcs.push(Arc {
+                cost: if place < 2 { 0 } else { 10 },
+                person,
+                object: person - person % 3 + place,
+            })?;
+        }
+    }
+    for person in grouped..persons {
+        let next = if person + 1 < persons {
+            person + 1
+        } else {
+            grouped
+        };
+        for (object, cost) in [(person, 0), (next, 100)] {
+            arcs.push(Arc {
+                cost,
+                person,
+                object,
+            })?;
+        }
+    }
+    ArcList::from_arcs(persons, persons, arcs).map_err(|_| Fail::new("no problem"))
+}
+
+/// After a first phase at 5 * 999,999 / 16 the last one ends the run.
+#[test]
+fn two_levels(rt: HostRuntime) -> Result<(), Fail> {
+    let problem = problem_of(&rt, LEVELS, 0)?;
+    let mut ear = listening();
+    let answer = solve_direct_watched(rt.alloc(), &problem, &AMPLE, &mut ear)?;
+    let told = text_of(&rt, &problem, answer)?;
+    assert!(rt; told.as_slice().starts_with(b"auction 1\noptimal 4 4\n"));
+    assert!(rt; ear.questions == 2);
+    assert!(rt; ear.first == 312_499);
+    assert!(rt; ear.last == 1);
+    Ok(())
+}
+
+/// The last phase is tried after the first, and given up; so it comes in its turn, as the fifth.
+#[test]
+fn given_up(rt: HostRuntime) -> Result<(), Fail> {
+    let problem = groups(&rt)?;
+    let mut ear = listening();
+    let answer = solve_direct_watched(rt.alloc(), &problem, &AMPLE, &mut ear)?;
+    let told = text_of(&rt, &problem, answer)?;
+    assert!(rt; told.as_slice().starts_with(b"auction 1\noptimal 180 400\n"));
+    assert!(rt; ear.questions == 6);
+    assert!(rt; ear.first == 1131);
+    assert!(rt; ear.second == 1);
+    assert!(rt; ear.last == 1);
+    Ok(())
+}

@@ -19,8 +19,54 @@ use auc_cert::Reason;
 use auc_rows::FlatRows;
 use std::alloc::AllocError;
 
-/// How many arcs its searches may look at: as many as take some ten milliseconds. Where it takes more, phases are faster.
-const LOOKS: u64 = 4_194_304;
+/// How many arcs its searches may look at: as many as take some twenty milliseconds. Where it takes more, phases are faster.
+const LOOKS: u64 = 8_388_608;
+
+/// How many of them while the first sixteenth of the persons begin. Where all want the same objects in the same order each search looks at all rows before it, and it never ends soon.
+const LOOKS_AT_FIRST: u64 = 1_048_576;
+
+/// How many of them while those between three and seven eighths begin. Where costs are random the searches of the last persons are the longest by far, and so many tell that these
+/// will look at more than all; where many costs are the same few persons need one so early.
+const LOOKS_BETWEEN: u64 = 131_072;
+
+/// How many arcs the searches of such a phase have looked at, by how many persons have begun. Speed alone depends on it.
+#[derive(Clone, Copy)]
+pub(crate) struct Course {
+    first: u32,
+    from: u32,
+    to: u32,
+    // What had been looked at when the persons from there on began.
+    before: Option<u64>,
+}
+
+impl Course {
+    /// Of a phase of so many persons.
+    pub(crate) fn new(persons: u32) -> Course {
+        Course {
+            first: persons / 16,
+            from: persons - persons / 4,
+            to: persons - persons / 8,
+            before: None,
+        }
+    }
+
+    /// Whether the phase takes too long, before this person begins.
+    pub(crate) fn is_lost(&mut self, person: u32, looked: u64) -> bool {
+        if looked > LOOKS || person < self.first && looked > LOOKS_AT_FIRST {
+            return true;
+        }
+        if person < self.from || person >= self.to {
+            return false;
+        }
+        match self.before {
+            Some(before) => looked.saturating_sub(before) > LOOKS_BETWEEN,
+            None => {
+                self.before = Some(looked);
+                false
+            }
+        }
+    }
+}
 
 impl Market {
     /// Plays it where the rows are a full table, and asks the watch before it. None where they aren't, or where it was given up.
@@ -54,6 +100,7 @@ impl Market {
             return Ok(Some(Ending::Stopped(Reason::Bids)));
         }
         let patience = patience_at(rows, LAST_EPS);
-        self.play_within(rows, LAST_EPS, bids, patience, LOOKS, work)
+        let course = Course::new(rows.persons());
+        self.play_within(rows, LAST_EPS, bids, patience, course, work)
     }
 }

@@ -11,6 +11,7 @@ ghost use Rattle.auc_direct.specs.Path.{IsClean};
 ghost use Rattle.auc_direct.specs.Shortlist.{Kept};
 
 use crate::bid::bid_of;
+use crate::early::Course;
 use crate::ending::{Chain, Ending};
 use crate::lists::Lists;
 use crate::market::{Market, NOBODY};
@@ -139,14 +140,14 @@ impl Market {
         Ok(Ending::Sold)
     }
 
-    /// Plays a phase as [`Market::play`] does, but gives it up, with what it has come to, once searches in the table have looked at more than so many arcs: None then.
+    /// Plays a phase as [`Market::play`] does, but gives it up, with what it has come to, where searches in the table look at too many arcs: None then.
     pub(crate) fn play_within(
         &mut self,
         rows: &FlatRows,
         eps: i64,
         bids: u64,
         patience: u64,
-        looks: u64,
+        course: Course,
         work: &mut Workspace,
     ) -> Result<Option<Ending>, AllocError>
         requires arcs { EachHasArc rows.now }
@@ -161,11 +162,12 @@ impl Market {
         ensures kept { OnOk result (Kept rows.now self.new.prices.items work.new.lists.lists.items) }
     {
         let mut left = bids;
+        let mut course = course;
         for first in 0..rows.persons() {
             if self.owns[first as usize].object != NOBODY {
                 continue;
             }
-            if work.table.looked > looks {
+            if course.is_lost(first, work.table.looked) {
                 return Ok(None);
             }
             match self.chain(rows, eps, first, &mut left, patience, work)? {

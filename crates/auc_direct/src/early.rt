@@ -25,46 +25,52 @@ const LOOKS: u64 = 8_388_608;
 /// How many of them while the first sixteenth of the persons begin. Where all want the same objects in the same order each search looks at all rows before it, and it never ends soon.
 const LOOKS_AT_FIRST: u64 = 1_048_576;
 
-/// How many of them while those between three and seven eighths begin. Where costs are random the searches of the last persons are the longest by far, and so many tell that these
-/// will look at more than all; where many costs are the same few persons need one so early.
-const LOOKS_BETWEEN: u64 = 131_072;
+/// More than so many, and twice and four times as many, while three sixteenths of the persons in a row begin tell that it never ends soon either: where costs are random each stretch
+/// looks at some twice as much as the one before it, up to the last one. Where few objects are cheap one stretch looks at much, when the last of these go, and those behind it at little.
+const LOOKS_THAT_RISE: u64 = 32_768;
 
 /// How many arcs the searches of such a phase have looked at, by how many persons have begun. Speed alone depends on it.
 #[derive(Clone, Copy)]
 pub(crate) struct Course {
-    first: u32,
-    from: u32,
-    to: u32,
-    // What had been looked at when the persons from there on began.
-    before: Option<u64>,
+    // How many persons a stretch has, where the next one begins, and where the last two do, whose searches are long in any case.
+    stretch: u32,
+    next: u32,
+    end: u32,
+    // What had been looked at when this stretch began; and what the two before it have looked at.
+    begun: u64,
+    last: u64,
+    earlier: u64,
 }
 
 impl Course {
     /// Of a phase of so many persons.
     pub(crate) fn new(persons: u32) -> Course {
+        let stretch = persons / 16;
         Course {
-            first: persons / 16,
-            from: persons - persons / 4,
-            to: persons - persons / 8,
-            before: None,
+            stretch,
+            next: stretch,
+            end: persons - persons / 8,
+            begun: 0,
+            last: 0,
+            earlier: 0,
         }
     }
 
     /// Whether the phase takes too long, before this person begins.
     pub(crate) fn is_lost(&mut self, person: u32, looked: u64) -> bool {
-        if looked > LOOKS || person < self.first && looked > LOOKS_AT_FIRST {
+        if looked > LOOKS || person < self.stretch && looked > LOOKS_AT_FIRST {
             return true;
         }
-        if person < self.from || person >= self.to {
-            return false;
+        if person >= self.next {
+            self.next = person.saturating_add(self.stretch);
+            self.earlier = self.last;
+            self.last = looked.saturating_sub(self.begun);
+            self.begun = looked;
         }
-        match self.before {
-            Some(before) => looked.saturating_sub(before) > LOOKS_BETWEEN,
-            None => {
-                self.before = Some(looked);
-                false
-            }
-        }
+        person < self.end
+            && self.earlier > LOOKS_THAT_RISE
+            && self.last > 2 * LOOKS_THAT_RISE
+            && looked.saturating_sub(self.begun) > 4 * LOOKS_THAT_RISE
     }
 }
 

@@ -25,7 +25,7 @@ pub(crate) fn half_of_mean(rows: &FlatRows) -> usize {
         .unwrap_or(0)
 }
 
-/// The scaled spread of the costs divided by half of the mean row, by 16 or 32, and at least 1. Where there are more objects than persons it is 1, so that there is one phase: a later one would
+/// The scaled spread of the costs by 16, or by 32 where half of the mean row is as much, and at least 1. Where there are more objects than persons it is 1, so that there is one phase: a later one would
 /// leave prices to objects that nobody holds.
 pub(crate) fn first_eps(rows: &FlatRows) -> i64
     ensures range { IsEps result }

@@ -16,7 +16,7 @@ const GROUPS: u32 = 40;
 
 const OTHERS: u32 = 60;
 
-/// Remembers each eps, and the bids, of which it is asked, and goes on.
+/// Remembers how often it was asked, and at which eps first, then and last; and goes on.
 #[derive(Drop)]
 struct Ear {
     questions: u32,

@@ -17,7 +17,7 @@ use Rattle.auc_cert.specs.declared.cert.CertParts.{CertParts}
 use Rattle.auc_cert.specs.Claim.{arc_of, chosen, pick_of}
 use Rattle.auc_cert.proofs.ClaimLaws.{persons_are}
 use Rattle.auc_answers.specs.Answers.{IsCertified}
-use Rattle.auc_answers.specs.Claims.{HoldsBy, IsChoiceOf, IsHoldersArc, claim_of, holder_at}
+use Rattle.auc_answers.specs.Claims.{HoldsBy, IsChoiceOf, IsClaimOf, IsHoldersArc, claim_of, holder_at}
 
 -- ---- holders and their arcs
 
@@ -306,13 +306,20 @@ pub claim_is : (cost : ℤ) (picks : List Pick) (prices : List ℤ) → cost ≡
 claim_is cost picks prices is = ap (λ (z : ℤ). CertParts.Optimal z picks prices) is ∙ ap (λ (ps : List Pick). CertParts.Optimal (total_cost (chosen 0 picks)) ps prices) (sym (pick_back 0 picks))
 
 module _ (p : Problem) (holders : List (Option Held)) (prices : List ℤ) (picks : List Pick) (choice_is : IsChoiceOf p holders (chosen 0 picks)) where
-  pub refused_claim : (cost : ℤ) → cost ≡ total_cost (chosen 0 picks) → (IsCertified p (CertParts.Optimal cost picks prices) → ⊥) → (choice : List Arc) → IsChoiceOf p holders choice → IsCertified p (claim_of choice prices) → ⊥
-  refused_claim cost is refused choice other sound =
-      refused (subst (IsCertified p) (ap (λ (xs : List Arc). claim_of xs prices) (one_choice p holders choice (chosen 0 picks) other choice_is) ∙ sym (claim_is cost picks prices is)) sound)
-
   pub unspelled_claim : (cost : ℤ) → cost ≡ total_cost (chosen 0 picks) → (FitsSigned w64 cost → ⊥) → (choice : List Arc) → IsChoiceOf p holders choice → IsCertified p (claim_of choice prices) → ⊥
   unspelled_claim cost is past choice other sound =
       past (subst (FitsSigned w64) (ap total_cost (one_choice p holders choice (chosen 0 picks) other choice_is) ∙ sym is) sound.spelled.0)
+
+-- whatever choice of the holders' arcs is made, the claim is the same
+module _ (p : Problem) (holders : List (Option Held)) (prices : List ℤ) (cert : CertParts) (made : IsClaimOf p holders prices cert) where
+  one_claim : (choice : List Arc) → IsChoiceOf p holders choice → claim_of choice prices ≡ cert
+  one_claim choice is = ap (λ (xs : List Arc). claim_of xs prices) (one_choice p holders choice made.0 is made.1) ∙ sym made.2
+
+  pub refused_claim : (IsCertified p cert → ⊥) → (choice : List Arc) → IsChoiceOf p holders choice → IsCertified p (claim_of choice prices) → ⊥
+  refused_claim refused choice is sound = refused (subst (IsCertified p) (one_claim choice is) sound)
+
+  pub passed_claim : (choice : List Arc) → IsChoiceOf p holders choice → IsCertified p (claim_of choice prices) → IsCertified p cert
+  passed_claim choice is sound = subst (IsCertified p) (one_claim choice is) sound
 
 -- ---- the same of what the code answers
 

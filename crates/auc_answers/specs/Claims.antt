@@ -59,6 +59,10 @@ pick_at arcs n = pick_of (slice_index_or arcs n (record { person = 0; object = 0
 abbrev pub claim_of : List Arc → List ℤ → CertParts
 claim_of choice prices = CertParts.Optimal (total_cost choice) (map pick_of choice) prices
 
+-- it is the claim that the holders' arcs cost least, by these prices
+abbrev pub IsClaimOf : Problem → List (Option Held) → List ℤ → CertParts → Type 0
+IsClaimOf p holders prices cert = (choice : List Arc) × IsChoiceOf p holders choice × (cert ≡ claim_of choice prices)
+
 -- he holds this object, by an arc of his to it
 pub record HoldsAt (p : Problem) (object : ℕ) (held : Held) (arc : Arc) : Type 0 where
   pub by : HoldsBy p held arc

@@ -1,13 +1,14 @@
 //! How a run ends: what its last phase claims, or the guard that a stop stands for. Every claim passes the checker first.
 
-ghost use Rattle.std.specs.Prelude.{◌≡◌, length, All, IfOk, IfSome, IfNone};
+ghost use Rattle.std.specs.Prelude.{◌≡◌, List, length, All, IfOk, IfSome, IfNone};
+ghost use Rattle.auc_graph.specs.declared.arc.Arc.{Arc};
 ghost use Rattle.auc_graph.specs.Assignment.{IsAssignment};
 ghost use Rattle.auc_graph.specs.Price.{IsPrice};
 ghost use Rattle.auc_graph.specs.Table.{IsTableOf};
 ghost use Rattle.auc_cert.specs.Claim.{chosen};
 ghost use Rattle.auc_hall.specs.OfProblem.{IsHallSetOf};
 ghost use Rattle.auc_answers.specs.Answers.{IsBracketAnswer, IsCertified, IsInfeasibleAnswer, IsOptimalAnswer, stop_of};
-ghost use Rattle.auc_answers.specs.Claims.{BoundFits, IsBracketBy, picks_of};
+ghost use Rattle.auc_answers.specs.Claims.{BoundFits, IsBracketBy, IsChoiceOf, IsClaimOf, claim_of, picks_of};
 
 use crate::answer::{Answer, Guard};
 use crate::gathered::Gathered;
@@ -54,6 +55,30 @@ fn certified(alloc: Global, problem: &ArcList, parts: CertParts) -> Result<Optio
     }
 }
 
+/// The claim of least cost that holders and prices make: their arcs, what these cost together, and the prices. None where the arcs are no choice, or cost more together than 64 bits hold.
+fn claimed(
+    alloc: Global,
+    problem: &ArcList,
+    gathered: Gathered,
+) -> Result<Option<CertParts>, AllocError>
+    ensures some { IfOk result (λ o. IfSome o (IsClaimOf problem.now gathered.holders.items gathered.prices.items)) }
+    ensures none { IfOk result (λ o. IfNone o ((choice : List Arc) → IsChoiceOf problem.now gathered.holders.items choice → IsCertified problem.now (claim_of choice gathered.prices.items) → ⊥)) }
+{
+    let Gathered { holders, prices } = gathered;
+    let Some(picks) = picks_of_holders(alloc, problem, holders.as_slice())? else {
+        return Ok(None);
+    };
+    let Ok(cost) = i64::try_from(cost_of(picks.as_slice())) else {
+        return Ok(None);
+    };
+    let places = places_of_holders(alloc, problem.persons(), holders.as_slice())?;
+    Ok(Some(CertParts::Optimal {
+        cost,
+        choice: Picks::with_places(picks, places),
+        prices: Prices::new(prices),
+    }))
+}
+
 /// The answer of a last phase that has sold an object to each person: its holders' arcs, what they cost together, and its prices,
 /// where the checker lets them pass, or else the guard `Check`. Takes O(arcs + persons) time and O(persons) memory.
 ///
@@ -63,23 +88,35 @@ fn certified(alloc: Global, problem: &ArcList, parts: CertParts) -> Result<Optio
 pub fn optimal(alloc: Global, problem: &ArcList, gathered: Gathered) -> Result<Answer, AllocError>
     ensures { IfOk result (IsOptimalAnswer problem.now gathered.holders.items gathered.prices.items) }
 {
-    let Gathered { holders, prices } = gathered;
-    let Some(picks) = picks_of_holders(alloc, problem, holders.as_slice())? else {
+    let Some(parts) = claimed(alloc, problem, gathered)? else {
         return Ok(Answer::Broken(Guard::Check));
-    };
-    let Ok(cost) = i64::try_from(cost_of(picks.as_slice())) else {
-        return Ok(Answer::Broken(Guard::Check));
-    };
-    let places = places_of_holders(alloc, problem.persons(), holders.as_slice())?;
-    let parts = CertParts::Optimal {
-        cost,
-        choice: Picks::with_places(picks, places),
-        prices: Prices::new(prices),
     };
     match certified(alloc, problem, parts)? {
         Some(cert) => Ok(Answer::Optimal(cert)),
         None => Ok(Answer::Broken(Guard::Check)),
     }
+}
+
+/// The answer of [`optimal`] where it is proved that the checker lets the claim pass, so that no time is spent on it. Takes O(persons + objects) time, and O(persons) memory.
+///
+/// # Errors
+///
+/// Only where memory was refused.
+pub fn proved_optimal(
+    alloc: Global,
+    problem: &ArcList,
+    gathered: Gathered,
+) -> Result<Answer, AllocError>
+    requires passes { (choice : List Arc) × IsChoiceOf problem.now gathered.holders.items choice × IsCertified problem.now (claim_of choice gathered.prices.items) }
+    ensures { IfOk result (IsOptimalAnswer problem.now gathered.holders.items gathered.prices.items) }
+{
+    let Some(parts) = claimed(alloc, problem, gathered)? else {
+        unreachable!("the claim has passed the checker in the proof");
+    };
+    let Ok(cert) = Cert::make(parts) else {
+        unreachable!("what the checker lets pass has a text");
+    };
+    Ok(Answer::Optimal(cert))
 }
 
 /// What a bracket claims: these picks, by the arcs at these places, what they cost together, and the bound that the prices give. None where that has more than 64

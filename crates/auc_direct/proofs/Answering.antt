@@ -22,7 +22,7 @@ use Rattle.auc_letters.specs.declared.state.Held.{Held}
 use Rattle.auc_model.proofs.Chosen.{Found, row_arc_listed}
 use Rattle.auc_answers.specs.declared.answer.Answer.{Answer}
 use Rattle.auc_answers.specs.Answers.{HasAssignment, IsAnswer, IsBracketAnswer, IsCertified, IsInfeasibleAnswer, IsOptimalAnswer}
-use Rattle.auc_answers.specs.Claims.{BoundFits, claim_of}
+use Rattle.auc_answers.specs.Claims.{BoundFits, IsChoiceOf, claim_of}
 use Rattle.auc_answers.specs.Prepared.{NobodyStuck}
 use Rattle.auc_answers.proofs.BracketLaws.{bound_fits, holders_price_few}
 use Rattle.auc_rows.specs.declared.arc.ShortArc.{ShortArc}
@@ -50,6 +50,10 @@ module _ (p : Problem) (t : Table) (r : FlatTable) (prices : List ℤ) (holders 
         let spelled = assignment_spelled p choice prices is given many stands.within in
         let faultless = slack_right_faultless p choice given prices many (total_cost choice) refl (choices.slack_all p t r (pos 1) prices holders owns held its same sound stands are all) (choices.no_price_left p t r (pos 1) prices holders owns held its same sound stands are all is) in
         record { spelled = spelled; faultless = faultless; allowed = faultless_is_allowed p (claim_of choice prices) is spelled faultless }
+
+    -- what is claimed of these prices and holders passes the checker
+    pub sold_passes : (arcs : List Arc) × IsChoiceOf p held arcs × IsCertified p (claim_of arcs prices)
+    sold_passes = (choice, choices.is_choice p t r (pos 1) prices holders owns held its same sound stands are all, certified)
 
     pub sold_is_answer : (answer : Answer) → IsOptimalAnswer p held prices answer → IsAnswer p answer
     sold_is_answer (Answer.Optimal cert) h = record { cost = total_cost h.0; choice = map pick_of h.0; prices = prices; is = h.2; certified = h.3 }

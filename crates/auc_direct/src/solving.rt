@@ -16,7 +16,7 @@ use crate::from_start::{play_from, play_from_unasked};
 use crate::gathering::gather;
 use crate::phases::{Outcome, play_all, play_quickly};
 use crate::watch::{Onward, Watch};
-use auc_answers::finish::{bracket, optimal};
+use auc_answers::finish::{bracket, proved_optimal};
 use auc_answers::{Answer, Gathered, Prepared, prepare};
 use auc_cert::Reason;
 use auc_graph::{ArcList, Rows};
@@ -81,7 +81,8 @@ fn answer_of(
     let gathered = gather(alloc, problem, &flat, market)?;
     drop(flat);
     match ending {
-        Ending::Sold => optimal(alloc, problem, gathered),
+        // That the checker finds no fault in it is proved, so no time is spent on a check.
+        Ending::Sold => proved_optimal(alloc, problem, gathered),
         Ending::Stopped(reason) => bracketed(alloc, problem, reason, gathered),
     }
 }
@@ -188,12 +189,12 @@ fn solve_from_unasked<W: Watch>(
 }
 
 /// Solves a problem: an arc for each person, no object twice, of the least cost together; or persons who together know fewer objects than they number; or, where
-/// a phase would take more than so many bids or a price above 2^61, an assignment and a bound on what any costs. Each claim has passed the checker. `Broken`
-/// is never answered.
+/// a phase would take more than so many bids or a price above 2^61, an assignment and a bound on what any costs. The checker finds no fault in any claim: of a least assignment that is proved,
+/// and the others pass it here. `Broken` is never answered.
 ///
 /// The answer is right as that of `auc_world::solve_serial` is, but of several least assignments it may be another one.
 ///
-/// Takes the time of the bids, each O(arcs of the person), or O(1) where the list of a long row tells it, of the paths, each at most O(arcs * log arcs), and of one check. The search
+/// Takes the time of the bids, each O(arcs of the person), or O(1) where the list of a long row tells it, of the paths, each at most O(arcs * log arcs), and of one check of what is no least assignment. The search
 /// for an assignment of any cost ([`auc_hall::complete`]) comes first where there are more objects than persons, and after a first phase in which eight bids a person don't give each
 /// one an object; and for a bracket. It takes 12 bytes of memory an arc; else 8 bytes an arc and some 60 an object are taken beside the problem's own, 216 a person where some row
 /// has 48 arcs and more, with 8 for 16 arcs of a row of 256 and more, and 16 for each label that waits in a search, of which there are at most as many as arcs. That paths are taken at all no
@@ -243,7 +244,7 @@ pub fn solve_direct_from(
     solve_direct_watched_from(alloc, problem, limits, start, &mut Onward)
 }
 
-/// Solves a problem as [`solve_direct`] does, and asks between bids whether the run goes on: before each phase, and after 16,384 bids of one, or 64 searches for a path. Where it doesn't, the answer is
+/// Solves a problem as [`solve_direct`] does, and asks between bids whether the run goes on: before each phase, and after 16,384 bids of one (131,072 where no row has 48 arcs), or 64 searches for a path. Where it doesn't, the answer is
 /// a bracket with the reason `Bids`: a bracket stands only after a limit, or where `watch` has said no: clause `limit`. To ask takes O(persons) time, and that of `goes_on`.
 ///
 /// Nothing is asked before the rows are laid out, within a search for a path or for an assignment of any cost, within the first eight bids a person, within the phase that comes first

@@ -1,7 +1,7 @@
 use Rattle.std.proofs.Common.{◌∙◌, ◌⊎◌}
 use Rattle.auc_answers.specs.Answers.{HasAssignment, IsAnswer, IsBracketAnswer, IsInfeasibleAnswer, IsOptimalAnswer}
 use Rattle.auc_direct.specs.Endings.{IsLimited}
-use Rattle.auc_direct.proofs.Answering.{either_is_answer, either_is_limited, left_stands, of_answers, own_listed, persons_are, sold_is_answer, sold_is_limited}
+use Rattle.auc_direct.proofs.Answering.{either_is_answer, either_is_limited, left_stands, of_answers, own_listed, persons_are, sold_is_answer, sold_is_limited, sold_passes}
 use Rattle.auc_direct.proofs.solving.answer_of.Goals as goal
 
 pub gather-requires-clause-persons : goal.gather-requires-clause-persons
@@ -19,14 +19,22 @@ gather-requires-clause-listed c =
     let s = left_stands c.args.flat c.args.outcome.ending m.prices.items m.holders.items m.owns.items c.requires.left in
     own_listed c.args.problem.now c.args.flat c.requires.rows s.0 m.prices.items m.holders.items m.owns.items c.requires.sound s.1
 
+pub proved_optimal-requires : goal.proved_optimal-requires
+proved_optimal-requires c =
+    let m = c.args.outcome.market in
+    let sold = rw c.in-Sold.is at c.requires.left in
+    let left = c.in_ok-gathered.gathered in
+    let g = c.in_ok-gathered.ensures in
+    record { passes = rw g.prices (sold_passes c.args.problem.now c.requires.rows.table c.args.flat m.prices.items m.holders.items m.owns.items left.holders.items c.arcs.ensures.problem c.requires.rows.of c.requires.rows.same c.requires.sound g.held sold.0 sold.1) }
+
 pub returns-in-Sold-clause-is : goal.returns-in-Sold-clause-is
 returns-in-Sold-clause-is c =
     let m = c.args.outcome.market in
     let sold = rw c.in-Sold.is at c.requires.left in
     let left = c.in_ok-gathered.gathered in
     let g = c.in_ok-gathered.ensures in
-    of_answers (IsOptimalAnswer c.args.problem.now left.holders.items left.prices.items) (IsAnswer c.args.problem.now) c.optimal.result
-    (rw g.prices (sold_is_answer c.args.problem.now c.requires.rows.table c.args.flat m.prices.items m.holders.items m.owns.items left.holders.items c.arcs.ensures.problem c.requires.rows.of c.requires.rows.same c.requires.sound g.held sold.0 sold.1)) c.optimal.ensures
+    of_answers (IsOptimalAnswer c.args.problem.now left.holders.items left.prices.items) (IsAnswer c.args.problem.now) c.proved_optimal.result
+    (rw g.prices (sold_is_answer c.args.problem.now c.requires.rows.table c.args.flat m.prices.items m.holders.items m.owns.items left.holders.items c.arcs.ensures.problem c.requires.rows.of c.requires.rows.same c.requires.sound g.held sold.0 sold.1)) c.proved_optimal.ensures
 
 pub returns-in-Stopped-clause-is : goal.returns-in-Stopped-clause-is
 returns-in-Stopped-clause-is c =
@@ -42,7 +50,7 @@ returns-in-Stopped-clause-is c =
 pub returns-in-Sold-clause-limit : goal.returns-in-Sold-clause-limit
 returns-in-Sold-clause-limit c = λ bids begun stopped. (
     let left = c.in_ok-gathered.gathered in
-    of_answers (IsOptimalAnswer c.args.problem.now left.holders.items left.prices.items) (IsLimited c.args.problem.now bids begun) c.optimal.result (sold_is_limited c.args.problem.now bids begun left.holders.items left.prices.items) c.optimal.ensures
+    of_answers (IsOptimalAnswer c.args.problem.now left.holders.items left.prices.items) (IsLimited c.args.problem.now bids begun) c.proved_optimal.result (sold_is_limited c.args.problem.now bids begun left.holders.items left.prices.items) c.proved_optimal.ensures
     )
 
 pub returns-in-Stopped-clause-limit : goal.returns-in-Stopped-clause-limit

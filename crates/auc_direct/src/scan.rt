@@ -3,7 +3,7 @@
 ghost use Rattle.std.specs.Prelude.{◌≡◌, ◌<◌, ◌+◌, ◌^◌, pos, neg_ℤ, ◌+ℤ◌, ◌*ℤ◌, ◌≤ℤ◌, All, length};
 ghost use Rattle.auc_graph.specs.Price.{IsPrice};
 ghost use Rattle.auc_rows.specs.Rows.{IsShort};
-ghost use Rattle.auc_direct.specs.Scan.{IsFound, IsValue, Lowered, short_value};
+ghost use Rattle.auc_direct.specs.Scan.{IsFound, IsValue, Lowered, LoweredTwice, short_value};
 
 use auc_rows::ShortArc;
 
@@ -36,6 +36,28 @@ impl Found {
         Found {
             value,
             second,
+            place,
+        }
+    }
+
+    /// With two values more, of the arc that stands here in the row and of the next one. They are held against each other first: so a pair waits for two comparisons of the pair before
+    /// it, where one by one each value waits for three.
+    #[inline(always)]
+    fn with_two(self, one: i64, other: i64, place: usize) -> Found
+        requires { place + 1 < 2 ^ 64 }
+        ensures { LoweredTwice self one other place result }
+    {
+        let lesser = one.min(other);
+        let greater = one.max(other);
+        let near = if other < one { place + 1 } else { place };
+        let place = if lesser < self.value {
+            near
+        } else {
+            self.place
+        };
+        Found {
+            value: self.value.min(lesser),
+            second: self.second.min(greater).min(self.value.max(lesser)),
             place,
         }
     }
@@ -84,8 +106,15 @@ pub(crate) fn scan(scale: i64, row: &[ShortArc], prices: &[i64]) -> Found
         second: i64::MAX,
         place: 0,
     };
-    for place in 1..row.len() {
-        found = found.with(value_of(scale, row[place], prices), place);
+    for pair in 0..(row.len() - 1) / 2 {
+        let place = 2 * pair + 1;
+        let one = value_of(scale, row[place], prices);
+        let other = value_of(scale, row[place + 1], prices);
+        found = found.with_two(one, other, place);
+    }
+    if row.len() % 2 == 0 {
+        let last = row.len() - 1;
+        found = found.with(value_of(scale, row[last], prices), last);
     }
     found
 }

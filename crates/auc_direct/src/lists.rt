@@ -49,6 +49,11 @@ impl Lists {
         Ok(Lists { lists, values })
     }
 
+    /// Whether nobody has one, since no row is long.
+    pub(crate) fn are_none(&self) -> bool {
+        self.lists.is_empty()
+    }
+
     /// The best arc of a person at these prices: by his list where his row is long, and else by a pass over the row.
     #[inline(always)]
     pub(crate) fn best(&mut self, rows: &FlatRows, scale: i64, person: u32, prices: &[i64]) -> Best

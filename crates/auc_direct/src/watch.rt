@@ -13,7 +13,7 @@ pub struct Progress {
     pub bids: u64,
 }
 
-/// Asked between bids whether a run goes on: before each phase, and after some thousands of bids.
+/// Asked between bids whether a run goes on: before each phase, and after as many bids as take some milliseconds.
 pub trait Watch {
     /// Whether it has said no.
     ghost has_stopped: { Self → Bool };

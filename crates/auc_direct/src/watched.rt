@@ -14,6 +14,7 @@ ghost use Rattle.auc_direct.specs.Path.{IsClean};
 ghost use Rattle.auc_direct.specs.Shortlist.{Kept};
 
 use crate::ending::Ending;
+use crate::lists::Lists;
 use crate::market::{Market, NOBODY};
 use crate::watch::{Progress, Watch};
 use crate::workspace::Workspace;
@@ -24,6 +25,9 @@ use std::alloc::AllocError;
 /// How many bids a phase makes between two questions at most: as many as take some milliseconds.
 const SLICE: u64 = 16_384;
 
+/// The same where no row is long, so that each bid looks at few arcs: a slice takes O(persons) time beside its bids.
+const LONG_SLICE: u64 = 131_072;
+
 /// How many searches for a path it makes between them at most, each of which may look at all arcs.
 const SEARCHES: u64 = 64;
 
@@ -31,10 +35,11 @@ const SEARCHES: u64 = 64;
 const FEW_SEARCHES: u64 = 4;
 
 /// How many bids a slice makes at most, with so many searches, of a phase that looks for a path after so many bids of a chain.
-fn slice_of(patience: u64, searches: u64) -> u64
+fn slice_of(patience: u64, searches: u64, lists: &Lists) -> u64
     ensures { 1 ≤ result }
 {
-    SLICE.min(patience.saturating_mul(searches)).max(1)
+    let most = if lists.are_none() { LONG_SLICE } else { SLICE };
+    most.min(patience.saturating_mul(searches)).max(1)
 }
 
 /// Whether bids have run out. Any other ending of a slice is one of its phase.
@@ -100,7 +105,7 @@ impl Market {
             if !watch.goes_on(progress) {
                 return Ok(None);
             }
-            let slice = left.min(slice_of(patience, SEARCHES));
+            let slice = left.min(slice_of(patience, SEARCHES, &work.lists));
             let ending = self.play(rows, eps, slice, patience, work)?;
             if !ran_out(ending) {
                 return Ok(Some(ending));
@@ -170,7 +175,7 @@ impl Market {
             if !watch.goes_on(progress) {
                 return Ok(Some(Ending::Stopped(Reason::Bids)));
             }
-            let slice = left.min(slice_of(patience, FEW_SEARCHES));
+            let slice = left.min(slice_of(patience, FEW_SEARCHES, &work.lists));
             let ending = self.play(rows, eps, slice, patience, work)?;
             if !ran_out(ending) {
                 return Ok(Some(ending));

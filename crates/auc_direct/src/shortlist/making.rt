@@ -225,12 +225,12 @@ impl Shortlist {
         ensures blocks { self.new.blocks ≡ self.old.blocks }
     {
         for place in from..to {
-            let arc = row[place];
-            let value = value_of(scale, arc, prices);
+            // Read once more where it is taken, which few are: held through the test, it is read as one word, and taken apart for each value.
+            let value = value_of(scale, row[place], prices);
             if value >= self.bound() {
                 continue;
             }
-            self.take(scale, arc, prices, value, values);
+            self.take(scale, row[place], prices, value, values);
         }
     }
 

@@ -20,7 +20,10 @@ use auc_rows::FlatRows;
 use std::alloc::AllocError;
 
 /// How many arcs its searches may look at: as many as take some twenty milliseconds. Where it takes more, phases are faster.
-const LOOKS: u64 = 8_388_608;
+pub(crate) const MOST_LOOKS: u64 = 8_388_608;
+
+/// The same from start prices: where these are near, few searches are made, and each is short.
+pub(crate) const LOOKS_FROM_START: u64 = 1_048_576;
 
 /// How many of them while the first sixteenth of the persons begin. Where all want the same objects in the same order each search looks at all rows before it, and it never ends soon.
 const LOOKS_AT_FIRST: u64 = 1_048_576;
@@ -32,6 +35,8 @@ const LOOKS_THAT_RISE: u64 = 32_768;
 /// How many arcs the searches of such a phase have looked at, by how many persons have begun. Speed alone depends on it.
 #[derive(Clone, Copy)]
 pub(crate) struct Course {
+    // How many it may look at.
+    most: u64,
     // How many persons a stretch has, where the next one begins, and where the last two do, whose searches are long in any case.
     stretch: u32,
     next: u32,
@@ -43,10 +48,11 @@ pub(crate) struct Course {
 }
 
 impl Course {
-    /// Of a phase of so many persons.
-    pub(crate) fn new(persons: u32) -> Course {
+    /// Of a phase of so many persons, whose searches may look at so many arcs.
+    pub(crate) fn new(persons: u32, most: u64) -> Course {
         let stretch = persons / 16;
         Course {
+            most,
             stretch,
             next: stretch,
             end: persons - persons / 8,
@@ -58,7 +64,7 @@ impl Course {
 
     /// Whether the phase takes too long, before this person begins.
     pub(crate) fn is_lost(&mut self, person: u32, looked: u64) -> bool {
-        if looked > LOOKS || person < self.stretch && looked > LOOKS_AT_FIRST {
+        if looked > self.most || person < self.stretch && looked > LOOKS_AT_FIRST {
             return true;
         }
         if person >= self.next {
@@ -75,11 +81,12 @@ impl Course {
 }
 
 impl Market {
-    /// Plays it where the rows are a full table, and asks the watch before it. None where they aren't, or where it was given up.
+    /// Plays it where the rows are a full table, and asks the watch before it. None where they aren't, or where it was given up: where its searches look at more than `looks` arcs, say.
     pub(crate) fn play_early<W: Watch>(
         &mut self,
         rows: &FlatRows,
         bids: u64,
+        looks: u64,
         work: &mut Workspace,
         watch: &mut W,
     ) -> Result<Option<Ending>, AllocError>
@@ -106,7 +113,7 @@ impl Market {
             return Ok(Some(Ending::Stopped(Reason::Bids)));
         }
         let patience = patience_at(rows, LAST_EPS);
-        let course = Course::new(rows.persons());
+        let course = Course::new(rows.persons(), looks);
         self.play_within(rows, LAST_EPS, bids, patience, course, work)
     }
 }

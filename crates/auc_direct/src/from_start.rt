@@ -6,6 +6,7 @@ ghost use Rattle.auc_direct.specs.Endings.{IsOutcomeFrom, IsStart};
 ghost use Rattle.auc_direct.specs.Market.{Stands};
 ghost use Rattle.auc_direct.specs.Starts.{AreKept, AreOpened, ArePricesOf};
 
+use crate::early::LOOKS_FROM_START;
 use crate::eps::{LAST_EPS, first_eps};
 use crate::market::Market;
 use crate::phases::{Outcome, patience_at, play_phases};
@@ -70,7 +71,7 @@ pub(crate) fn play_from<W: Watch>(
     let mut work = Workspace::new(alloc, rows)?;
     let mut market = market_from(alloc, rows, start)?;
     if rows.is_full() && rows.persons() == rows.objects() {
-        return match market.play_early(rows, bids, &mut work, watch)? {
+        return match market.play_early(rows, bids, LOOKS_FROM_START, &mut work, watch)? {
             Some(ending) => Ok(Outcome { ending, market }),
             None => {
                 let eps = first_eps(rows);

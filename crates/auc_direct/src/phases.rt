@@ -10,6 +10,7 @@ ghost use Rattle.auc_direct.specs.Path.{IsClean};
 ghost use Rattle.auc_direct.specs.Shortlist.{Kept};
 
 use crate::ahead::Ahead;
+use crate::early::MOST_LOOKS;
 use crate::ending::Ending;
 use crate::eps::{LAST_EPS, half_of_mean, next_eps};
 use crate::market::Market;
@@ -130,7 +131,7 @@ pub(crate) fn play_all<W: Watch>(
     if eps == LAST_EPS {
         return play_phases(rows, bids, eps, patience, market, work, watch);
     }
-    match market.play_early(rows, bids, &mut work, watch)? {
+    match market.play_early(rows, bids, MOST_LOOKS, &mut work, watch)? {
         Some(ending) => Ok(Outcome { ending, market }),
         None => play_phases(rows, bids, eps, patience, market, work, watch),
     }

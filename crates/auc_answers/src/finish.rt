@@ -1,4 +1,4 @@
-//! How a run ends: what its last phase claims, or the guard that a stop stands for. Every claim passes the checker first.
+//! How a run ends: what its last phase claims, or the guard that a stop stands for. Every claim passes the checker first, or is proved to pass it.
 
 ghost use Rattle.std.specs.Prelude.{◌≡◌, List, length, All, IfOk, IfSome, IfNone};
 ghost use Rattle.auc_graph.specs.declared.arc.Arc.{Arc};

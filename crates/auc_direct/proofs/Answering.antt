@@ -30,7 +30,7 @@ use Rattle.auc_rows.specs.Rows.{AreRowsOf, AreSameRows, EachHasArc, FlatTable, I
 use Rattle.auc_direct.specs.declared.ending.Ending.{Ending}
 use Rattle.auc_direct.specs.declared.market.TheConstants.{NOBODY}
 use Rattle.auc_direct.specs.Endings.{IsLeft, IsLimit, IsLimited, IsLimitedBy, IsLimitedFrom}
-use Rattle.auc_direct.specs.Held.{AreHeld, arc_by}
+use Rattle.auc_direct.specs.Held.{AreHeld, AreHolders, AreListed, arc_by}
 use Rattle.auc_direct.specs.Market.{EachHasRow, HaveObjects, Stands, holder_at, own_at}
 use Rattle.auc_direct.specs.Starts.{AreOpened}
 use Rattle.auc_direct.proofs.Choices as choices
@@ -176,7 +176,10 @@ module _ (p : Problem) (r : FlatTable) (rows : AreRowsOf p r) where
         | inr none ↦ absurd (has i l (sym (row_at i l) ∙ length_zero (flat_row_of r i) (omega (arith, none))))
       ]
 
-  pub own_listed : (eps : ℤ) (prices : List ℤ) (holders : List ℕ) (owns : List ShortArc) → IsFlatTable r → Stands r eps prices holders owns → (j : ℕ) → holder_at holders j ≢ NOBODY → Contains p.arcs (arc_by (holder_at holders j) (own_at owns (holder_at holders j)))
+  pub are_holders : (eps : ℤ) (prices : List ℤ) (holders : List ℕ) (owns : List ShortArc) → Stands r eps prices holders owns → AreHolders p holders owns
+  are_holders eps prices holders owns stands = record { holders_are = stands.holders_are ∙ objects_are; owns_are = stands.owns_are ∙ persons_are; held = stands.held; holds = stands.holds }
+
+  pub own_listed : (eps : ℤ) (prices : List ℤ) (holders : List ℕ) (owns : List ShortArc) → IsFlatTable r → Stands r eps prices holders owns → AreListed p holders owns
   own_listed eps prices holders owns sound stands j some =
       let i = holder_at holders j in
       let has = holder_has r eps prices holders owns sound stands j some in

@@ -9,7 +9,7 @@ use Rattle.auc_letters.specs.declared.state.Held.{Held}
 use Rattle.auc_rows.specs.declared.arc.ShortArc.{ShortArc}
 use Rattle.auc_rows.proofs.ArcLaws.{none}
 use Rattle.auc_direct.specs.declared.market.TheConstants.{NOBODY}
-use Rattle.auc_direct.specs.Held.{AreHeld, IsHeld, arc_by}
+use Rattle.auc_direct.specs.Held.{AreHeld, AreListed, IsHeld, arc_by}
 use Rattle.auc_direct.specs.Market.{holder_at, no_own, own_at}
 
 module _ (p : Problem) (holders : List ℕ) (owns : List ShortArc) where
@@ -72,7 +72,7 @@ module _ (p : Problem) (holders : List ℕ) (owns : List ShortArc) where
       ]
   all_by n j over listed (Some h) met = met
 
-  pub met_all : (n : ℕ) (held : List (Option Held)) → length p.arcs ≤ n → ((j : ℕ) → holder_at holders j ≢ NOBODY → Contains p.arcs (arc_by (holder_at holders j) (own_at owns (holder_at holders j)))) → AreMet n held → AreHeld p holders owns held
+  pub met_all : (n : ℕ) (held : List (Option Held)) → length p.arcs ≤ n → AreListed p holders owns → AreMet n held → AreHeld p holders owns held
   met_all n held over listed met j = all_by n j over (listed j) (held_at held j) (met j)
 
   -- ---- person by person

@@ -1,6 +1,7 @@
 -- One arc more of a pass over a row.
 use Rattle.std.proofs.Common.{◌≡◌, ◌≢◌, ℕ, ◌+◌, ◌<◌, ◌^◌, inl, inr, List, get_or, refl, ap, sym, ◌∙◌, arith, pos}
-use Rattle.std.specs.Prelude.{ℤ, neg_ℤ, ◌≤ℤ◌, ◌⊎◌}
+use Rattle.std.specs.Int.{int_max, int_min}
+use Rattle.std.specs.Prelude.{ℤ, ◌≤ℤ◌, ◌<ℤ◌, ◌⊎◌}
 use Rattle.std.proofs.lemmas.Bool.{cases_eq}
 use Rattle.std.proofs.lemmas.Int.{clamps, ints, by_lt_z}
 use Rattle.auc_rows.specs.declared.arc.ShortArc.{ShortArc}
@@ -68,161 +69,63 @@ module _ (val : ShortArc → ℤ) (row : List ShortArc) (n : ℕ) (f : Found) (v
         second_is = second_stays over h.second_is;
       })))
 
--- two arcs more
-module _ (val : ShortArc → ℤ) (row : List ShortArc) (n : ℕ) (f : Found) (x y : ℤ) (h : IsFound val row n f) (is_x : x ≡ val (get_or row n no_arc)) (is_y : y ≡ val (get_or row (n + 1) no_arc)) (ok_x : IsValue x) (ok_y : IsValue y) (r : Found) (low : LoweredTwice f x y n r) where
-  same_arc : (m k : ℕ) → m ≡ k → val (get_or row m no_arc) ≡ val (get_or row k no_arc)
-  same_arc m k e = ap (λ (i : ℕ). val (get_or row i no_arc)) e
+-- ---- two values at once
 
-  second_low : ((f.second ≡ endless) × (n ≡ 1)) ⊎ IsValue f.second → neg_ℤ (pos (2 ^ 44)) ≤ℤ f.second
-  second_low (inl e) = let a = e.0 in omega (arith, ints, clamps, a)
-  second_low (inr v) = v.low
+same_found : (r : Found) (v s : ℤ) (p : ℕ) → r.value ≡ v → r.second ≡ s → r.place ≡ p → r ≡ record { value = v; second = s; place = p }
+same_found r v s p value second place =
+    ap (λ (z : ℤ). record { value = z; second = r.second; place = r.place }) value
+    ∙ (ap (λ (z : ℤ). record { value = v; second = z; place = r.place }) second ∙ ap (λ (n : ℕ). record { value = v; second = s; place = n }) place)
 
-  -- what the numbers of the step say of each other
-  lesser_one : low.lesser ≤ℤ x
-  lesser_one = let l = low.lesser_is in omega (arith, ints, clamps, l)
+-- one value more, by the lesser and by what goes of two
+lowered_by : (f : Found) (v : ℤ) (place : ℕ) (r : Found) → f.value ≤ℤ f.second → r.value ≡ int_min f.value v → r.second ≡ int_min f.second (int_max f.value v) → (v <ℤ f.value → r.place ≡ place) → (f.value ≤ℤ v → r.place ≡ f.place) → Lowered f v place r
+lowered_by f v place r ordered value second wins stays = record {
+  wins = λ lt. same_found r v f.value place (omega (arith, ints, clamps, value, lt)) (let e : int_max f.value v ≡ f.value = omega (arith, ints, clamps, lt) in omega (arith, ints, clamps, second, e, ordered)) (wins lt);
+  next = λ ge lt. same_found r f.value v f.place (omega (arith, ints, clamps, value, ge)) (let e : int_max f.value v ≡ v = omega (arith, ints, clamps, ge) in omega (arith, ints, clamps, second, e, lt)) (stays ge);
+  stays = λ ge over. same_found r f.value f.second f.place (omega (arith, ints, clamps, value, ge)) (let e : int_max f.value v ≡ v = omega (arith, ints, clamps, ge) in omega (arith, ints, clamps, second, e, over)) (stays ge);
+}
 
-  lesser_other : low.lesser ≤ℤ y
-  lesser_other = let l = low.lesser_is in omega (arith, ints, clamps, l)
+-- The two values are held against each other first: the lesser against the value, and what goes of these two, and the greater, against the second.
+module _ (f : Found) (one other : ℤ) (place : ℕ) (r : Found) (lesser greater rest gone : ℤ) (ordered : f.value ≤ℤ f.second) (lesser_is : lesser ≡ int_min one other) (greater_is : greater ≡ int_max one other) (rest_is : rest ≡ int_min f.second greater) (gone_is : gone ≡ int_max f.value lesser) (value : r.value ≡ int_min f.value lesser) (second : r.second ≡ int_min rest gone) (stays : f.value ≤ℤ lesser → r.place ≡ f.place) (first : lesser <ℤ f.value → one ≤ℤ other → r.place ≡ place) (next : lesser <ℤ f.value → other <ℤ one → r.place ≡ place + 1) where
+  -- the first of the two is less than the value
+  past_first : one <ℤ f.value → LoweredTwice f one other place r
+  past_first lt =
+      let between : Found = record { value = one; second = f.value; place = place } in
+      let less : lesser <ℤ f.value = omega (arith, ints, clamps, lesser_is, lt) in
+      let went : gone ≡ f.value = omega (arith, ints, clamps, gone_is, less) in
+      let best : r.value ≡ lesser = omega (arith, ints, clamps, value, less) in
+      let left : r.second ≡ int_min f.value greater = omega (arith, ints, clamps, second, rest_is, went, ordered) in (
+        between,
+        record { wins = λ l. refl; next = λ ge l. absurd (omega (arith, ints, ge, lt)); stays = λ ge l. absurd (omega (arith, ints, ge, lt)) },
+        lowered_by between other (place + 1) r (omega (arith, ints, lt)) (omega (arith, ints, clamps, best, lesser_is)) (omega (arith, ints, clamps, left, greater_is)) (next less) (first less),
+      )
 
-  value_old : r.value ≤ℤ f.value
-  value_old = let v = low.value in omega (arith, ints, clamps, v)
-
-  value_lesser : r.value ≤ℤ low.lesser
-  value_lesser = let v = low.value in omega (arith, ints, clamps, v)
-
-  second_rest : r.second ≤ℤ low.rest
-  second_rest = let s = low.second in omega (arith, ints, clamps, s)
-
-  second_gone : r.second ≤ℤ low.gone
-  second_gone = let s = low.second in omega (arith, ints, clamps, s)
-
-  rest_old : low.rest ≤ℤ f.second
-  rest_old = let e = low.rest_is in omega (arith, ints, clamps, e)
-
-  rest_greater : low.rest ≤ℤ low.greater
-  rest_greater = let e = low.rest_is in omega (arith, ints, clamps, e)
-
-  second_value : IsValue r.second
-  second_value = record {
-    low = (
-        let s = low.second in
-        let e = low.rest_is in
-        let g = low.greater_is in
-        let w = low.gone_is in
-        let a = second_low h.second_is in
-        let b = ok_x.low in
-        let d = h.range.low in
-        let rest : neg_ℤ (pos (2 ^ 44)) ≤ℤ low.rest = (let greater : neg_ℤ (pos (2 ^ 44)) ≤ℤ low.greater = omega (arith, ints, clamps, g, b) in omega (arith, ints, clamps, e, a, greater)) in
-        let gone : neg_ℤ (pos (2 ^ 44)) ≤ℤ low.gone = omega (arith, ints, clamps, w, d) in
-        omega (arith, ints, clamps, s, rest, gone)
-        );
-    high = (
-        let g = low.greater_is in
-        let b = ok_x.high in
-        let c = ok_y.high in
-        let most : low.greater ≤ℤ pos (2 ^ 61 + 2 ^ 44) = omega (arith, ints, clamps, g, b, c) in
-        let e = second_rest in
-        let f = rest_greater in
-        omega (arith, ints, clamps, e, f, most)
-        );
-  }
-
-  value_value : IsValue r.value
-  value_value = record {
-    low = (
-        let v = low.value in
-        let l = low.lesser_is in
-        let b = ok_x.low in
-        let c = ok_y.low in
-        let d = h.range.low in
-        let lesser : neg_ℤ (pos (2 ^ 44)) ≤ℤ low.lesser = omega (arith, ints, clamps, l, b, c) in
-        omega (arith, ints, clamps, v, lesser, d)
-        );
-    high = (let v = value_old in let d = h.range.high in omega (arith, ints, clamps, v, d));
-  }
-
-  ordered : r.value ≤ℤ r.second
-  ordered =
-      let s = low.second in
-      let e = low.rest_is in
-      let g = low.greater_is in
-      let w = low.gone_is in
-      let v = value_old in
-      let z = value_lesser in
-      let o = lesser_one in
-      let l = h.least in
-      let greater : low.lesser ≤ℤ low.greater = omega (arith, ints, clamps, g, o) in
-      let rest : r.value ≤ℤ low.rest = omega (arith, ints, clamps, e, v, z, l, greater) in
-      let gone : r.value ≤ℤ low.gone = omega (arith, ints, clamps, w, v) in
-      omega (arith, ints, clamps, s, rest, gone)
-
-  -- an arc that isn't the one that was found, by where it stands
-  at_one : (m : ℕ) → m ≢ r.place → m ≡ n → (r.place ≡ n) ⊎ (r.second ≤ℤ x) → r.second ≤ℤ val (get_or row m no_arc)
-  at_one m ne same (inl e) = absurd (ne (same ∙ sym e))
-  at_one m ne same (inr le) = let e = same_arc m n same in omega (arith, ints, clamps, e, is_x, le)
-
-  at_other : (m : ℕ) → m ≢ r.place → m ≡ n + 1 → (r.place ≡ n + 1) ⊎ (r.second ≤ℤ y) → r.second ≤ℤ val (get_or row m no_arc)
-  at_other m ne same (inl e) = absurd (ne (same ∙ sym e))
-  at_other m ne same (inr le) = let e = same_arc m (n + 1) same in omega (arith, ints, clamps, e, is_y, le)
-
-  at_old : (m : ℕ) → m ≢ r.place → m ≡ f.place → (r.place ≡ f.place) ⊎ (r.second ≤ℤ f.value) → r.second ≤ℤ val (get_or row m no_arc)
-  at_old m ne same (inl e) = absurd (ne (same ∙ sym e))
-  at_old m ne same (inr le) = let e = same_arc m f.place same in let i = h.is in omega (arith, ints, clamps, e, i, le)
-
-  others_by : (r.place ≡ n) ⊎ (r.second ≤ℤ x) → (r.place ≡ n + 1) ⊎ (r.second ≤ℤ y) → (r.place ≡ f.place) ⊎ (r.second ≤ℤ f.value) → (m : ℕ) → m < n + 2 → m ≢ r.place → r.second ≤ℤ val (get_or row m no_arc)
-  others_by one other old m lt ne =
-      elim (cases_eq m n) [
-        | inl same ↦ at_one m ne same one
-        | inr more ↦ elim (cases_eq m (n + 1)) [
-          | inl same ↦ at_other m ne same other
-          | inr rest ↦ elim (cases_eq m f.place) [
-            | inl same ↦ at_old m ne same old
-            | inr elsewhere ↦ (let l : m < n = grind (arith, lt, more, rest) in let o = h.others m l elsewhere in let s = second_rest in let e = rest_old in omega (arith, ints, clamps, o, s, e))
-          ]
-        ]
-      ]
-
-  found_at : (place : ℕ) → r.place ≡ place → place < n + 2 → r.value ≡ val (get_or row place no_arc) → (r.place ≡ n) ⊎ (r.second ≤ℤ x) → (r.place ≡ n + 1) ⊎ (r.second ≤ℤ y) → (r.place ≡ f.place) ⊎ (r.second ≤ℤ f.value) → IsFound val row (n + 2) r
-  found_at place at lt is one other old = record {
-    known = omega (arith, at, lt);
-    is = is ∙ same_arc place r.place (sym at);
-    range = value_value;
-    others = others_by one other old;
-    least = ordered;
-    second_is = inr second_value;
-  }
-
-  pub found_two : IsFound val row (n + 2) r
-  found_two =
-      let v = low.value in
-      let l = low.lesser_is in
-      let g = low.greater_is in
-      let w = low.gone_is in
-      let e = second_rest in
-      let d = rest_greater in
-      let m = second_gone in
-      let i = h.is in
-      let k = h.known in
-      by_lt_z low.lesser f.value
-      (λ less.
-      let gone : low.gone ≡ f.value = omega (arith, ints, clamps, w, less) in
-      let value : r.value ≡ low.lesser = omega (arith, ints, clamps, v, less) in
-      let old : r.second ≤ℤ f.value = omega (arith, ints, clamps, m, gone) in
-      by_lt_z y x
+  -- it is not; then the lesser of both seconds is left, whichever of the two comes behind
+  left_by : f.value ≤ℤ one → r.second ≡ int_min (int_min f.second one) (int_max f.value other)
+  left_by ge =
+      by_lt_z other one
       (λ lt.
-      let at = low.next less lt in
-      let lesser : low.lesser ≡ y = omega (arith, ints, clamps, l, lt) in
-      let greater : low.greater ≡ x = omega (arith, ints, clamps, g, lt) in
-      found_at (n + 1) at (omega arith) (omega (arith, ints, clamps, value, lesser, is_y)) (inr (omega (arith, ints, clamps, e, d, greater))) (inl at) (inr old))
-      (λ ge.
-      let at = low.first less ge in
-      let lesser : low.lesser ≡ x = omega (arith, ints, clamps, l, ge) in
-      let greater : low.greater ≡ y = omega (arith, ints, clamps, g, ge) in
-      found_at n at (omega arith) (omega (arith, ints, clamps, value, lesser, is_x)) (inl at) (inr (omega (arith, ints, clamps, e, d, greater))) (inr old)))
-      (λ over.
-      let at = low.stays over in
-      let gone : low.gone ≡ low.lesser = omega (arith, ints, clamps, w, over) in
-      let value : r.value ≡ f.value = omega (arith, ints, clamps, v, over) in
-      let a = lesser_one in
-      let b = lesser_other in
-      found_at f.place at (omega (arith, k)) (omega (arith, ints, clamps, value, i)) (inr (omega (arith, ints, clamps, m, gone, a))) (inr (omega (arith, ints, clamps, m, gone, b))) (inl at))
+      let least : lesser ≡ other = omega (arith, ints, clamps, lesser_is, lt) in
+      let most : greater ≡ one = omega (arith, ints, clamps, greater_is, lt) in
+      rw (rest_is, gone_is, least, most) at second)
+      (λ le.
+      let least : lesser ≡ one = omega (arith, ints, clamps, lesser_is, le) in
+      let most : greater ≡ other = omega (arith, ints, clamps, greater_is, le) in
+      let went : gone ≡ one = omega (arith, ints, clamps, gone_is, least, ge) in
+      let over : int_max f.value other ≡ other = omega (arith, ints, clamps, ge, le) in
+      let kept : int_min (int_min f.second one) (int_max f.value other) ≡ int_min f.second one = omega (arith, ints, clamps, over, le) in
+      omega (arith, ints, clamps, second, rest_is, most, went, kept, le))
+
+  past_value : f.value ≤ℤ one → LoweredTwice f one other place r
+  past_value ge =
+      let between : Found = record { value = f.value; second = int_min f.second one; place = f.place } in
+      let same : int_max f.value one ≡ one = omega (arith, ints, clamps, ge) in
+      let best : r.value ≡ int_min f.value other = omega (arith, ints, clamps, value, lesser_is, ge) in (
+        between,
+        lowered_by f one place between ordered (omega (arith, ints, clamps, ge)) (omega (arith, ints, clamps, same)) (λ lt. absurd (omega (arith, ints, ge, lt))) (λ l. refl),
+        lowered_by between other (place + 1) r (omega (arith, ints, clamps, ordered, ge)) best (left_by ge)
+            (λ lt. next (omega (arith, ints, clamps, lesser_is, lt)) (omega (arith, ints, ge, lt)))
+            (λ le. stays (omega (arith, ints, clamps, lesser_is, ge, le))),
+      )
+
+  pub lowered_twice : LoweredTwice f one other place r
+  lowered_twice = by_lt_z one f.value past_first past_value

@@ -1,6 +1,5 @@
 -- One pass over a row.
 use Rattle.std.specs.Prelude.{ℕ, ℤ, pos, neg_ℤ, ◌≡◌, ◌≢◌, ◌⊎◌, ◌+◌, ◌-◌, ◌<◌, ◌^◌, ◌≤ℤ◌, ◌<ℤ◌, List, slice_index_or}
-use Rattle.std.specs.Int.{int_max, int_min}
 use Rattle.auc_graph.specs.Dual.{price_at}
 use Rattle.auc_graph.specs.Value.{value_at}
 use Rattle.auc_rows.specs.declared.arc.ShortArc.{ShortArc}
@@ -29,21 +28,9 @@ pub record Lowered (f : Found) (v : ℤ) (place : ℕ) (r : Found) : Type 0 wher
   pub next : f.value ≤ℤ v → v <ℤ f.second → r ≡ record { value = f.value; second = v; place = f.place }
   pub stays : f.value ≤ℤ v → f.second ≤ℤ v → r ≡ f
 
--- two values more, of arcs that stand one after the other: the lesser is held against the value, and what goes of these two, and the greater, against the second
-pub record LoweredTwice (f : Found) (one other : ℤ) (place : ℕ) (r : Found) : Type 0 where
-  pub lesser : ℤ
-  pub greater : ℤ
-  pub gone : ℤ
-  pub rest : ℤ
-  pub lesser_is : lesser ≡ int_min one other
-  pub greater_is : greater ≡ int_max one other
-  pub gone_is : gone ≡ int_max f.value lesser
-  pub rest_is : rest ≡ int_min f.second greater
-  pub value : r.value ≡ int_min f.value lesser
-  pub second : r.second ≡ int_min rest gone
-  pub stays : f.value ≤ℤ lesser → r.place ≡ f.place
-  pub first : lesser <ℤ f.value → one ≤ℤ other → r.place ≡ place
-  pub next : lesser <ℤ f.value → other <ℤ one → r.place ≡ place + 1
+-- two values more, of arcs that stand one after the other
+abbrev pub LoweredTwice : Found → ℤ → ℤ → ℕ → Found → Type 0
+LoweredTwice f one other place r = (between : Found) × Lowered f one place between × Lowered between other (place + 1) r
 
 -- of the first n arcs of a row the one that stands here is worth least, and no other one less than the second
 pub record IsFound (val : ShortArc → ℤ) (row : List ShortArc) (n : ℕ) (f : Found) : Type 0 where

@@ -1,9 +1,8 @@
 //! What a phase leaves, with the places of the arcs in the problem's list.
 
-ghost use Rattle.std.specs.Prelude.{ℕ, true, false, ◌≡◌, ◌≢◌, ◌<◌, Contains, length, IfOk, IfSome};
-ghost use Rattle.auc_direct.specs.declared.market.TheConstants.{NOBODY};
-ghost use Rattle.auc_direct.specs.Held.{AreHeld, arc_by};
-ghost use Rattle.auc_direct.specs.Market.{holder_at, own_at};
+ghost use Rattle.std.specs.Prelude.{ℕ, true, false, ◌≡◌, ◌<◌, length, IfOk, IfSome};
+ghost use Rattle.auc_direct.specs.Held.{AreHeld, AreHolders, AreListed, arc_by};
+ghost use Rattle.auc_direct.specs.Market.{own_at};
 
 use crate::market::Market;
 use auc_answers::Gathered;
@@ -40,10 +39,7 @@ fn guessed(
     market: &Market,
 ) -> Result<Option<Vec<Option<Held>>>, AllocError>
     requires persons { length rows.now.rows ≡ problem.now.persons }
-    requires many { length market.now.holders.items ≡ problem.now.objects }
-    requires owns { length market.now.owns.items ≡ problem.now.persons }
-    requires holds { (i : ℕ) → (own_at market.now.owns.items i).object ≢ NOBODY → holder_at market.now.holders.items (own_at market.now.owns.items i).object ≡ i }
-    requires held { (j : ℕ) → holder_at market.now.holders.items j ≢ NOBODY → (own_at market.now.owns.items (holder_at market.now.holders.items j)).object ≡ j }
+    requires holders { AreHolders problem.now market.now.holders.items market.now.owns.items }
     ensures held { IfOk result (λ o. IfSome o (λ v. AreHeld problem.now market.now.holders.items market.now.owns.items v.items)) }
     ensures many { IfOk result (λ o. IfSome o (λ v. length v.items ≡ length market.now.holders.items)) }
 {
@@ -72,11 +68,8 @@ fn passed(
     problem: &ArcList,
     market: &Market,
 ) -> Result<Vec<Option<Held>>, AllocError>
-    requires many { length market.now.holders.items ≡ problem.now.objects }
-    requires owns { length market.now.owns.items ≡ problem.now.persons }
-    requires holds { (i : ℕ) → (own_at market.now.owns.items i).object ≢ NOBODY → holder_at market.now.holders.items (own_at market.now.owns.items i).object ≡ i }
-    requires held { (j : ℕ) → holder_at market.now.holders.items j ≢ NOBODY → (own_at market.now.owns.items (holder_at market.now.holders.items j)).object ≡ j }
-    requires listed { (j : ℕ) → holder_at market.now.holders.items j ≢ NOBODY → Contains problem.now.arcs (arc_by (holder_at market.now.holders.items j) (own_at market.now.owns.items (holder_at market.now.holders.items j))) }
+    requires holders { AreHolders problem.now market.now.holders.items market.now.owns.items }
+    requires listed { AreListed problem.now market.now.holders.items market.now.owns.items }
     ensures held { IfOk result (λ v. AreHeld problem.now market.now.holders.items market.now.owns.items v.items) }
     ensures many { IfOk result (λ v. length v.items ≡ length market.now.holders.items) }
 {
@@ -104,11 +97,8 @@ pub(crate) fn gather(
     market: Market,
 ) -> Result<Gathered, AllocError>
     requires persons { length rows.now.rows ≡ problem.now.persons }
-    requires many { length market.holders.items ≡ problem.now.objects }
-    requires owns { length market.owns.items ≡ problem.now.persons }
-    requires holds { (i : ℕ) → (own_at market.owns.items i).object ≢ NOBODY → holder_at market.holders.items (own_at market.owns.items i).object ≡ i }
-    requires held { (j : ℕ) → holder_at market.holders.items j ≢ NOBODY → (own_at market.owns.items (holder_at market.holders.items j)).object ≡ j }
-    requires listed { (j : ℕ) → holder_at market.holders.items j ≢ NOBODY → Contains problem.now.arcs (arc_by (holder_at market.holders.items j) (own_at market.owns.items (holder_at market.holders.items j))) }
+    requires holders { AreHolders problem.now market.holders.items market.owns.items }
+    requires listed { AreListed problem.now market.holders.items market.owns.items }
     ensures held { IfOk result (λ g. AreHeld problem.now market.holders.items market.owns.items g.holders.items) }
     ensures many { IfOk result (λ g. length g.holders.items ≡ length market.holders.items) }
     ensures prices { IfOk result (λ g. g.prices.items ≡ market.prices.items) }

@@ -44,7 +44,8 @@ impl Found {
     /// it, where one by one each value waits for three.
     #[inline(always)]
     fn with_two(self, one: i64, other: i64, place: usize) -> Found
-        requires { place + 1 < 2 ^ 64 }
+        requires next { place + 1 < 2 ^ 64 }
+        requires ordered { self.value ≤ℤ self.second }
         ensures { LoweredTwice self one other place result }
     {
         let lesser = one.min(other);

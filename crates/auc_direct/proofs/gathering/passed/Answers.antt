@@ -31,14 +31,14 @@ loop-place-preserved c =
           let mine : arc ≡ arc_by arc.person (own_at m.owns.items arc.person) = rw (e, c.as_slice.ensures.value) at (c.is_own.ensures.yes w'.if-is_own.true) in
           let object : arc.object ≡ (own_at m.owns.items arc.person).object = ap (λ (x : Arc). x.object) mine in
           let some : (own_at m.owns.items arc.person).object ≢ NOBODY = λ z. (let o = w.object in let most = is.most_objects in absurd (omega (arith, z, object, o, most))) in
-          let holds : holder_at m.holders.items arc.object ≡ arc.person = ap (holder_at m.holders.items) object ∙ c.requires.holds arc.person some in
+          let holds : holder_at m.holders.items arc.object ≡ arc.person = ap (holder_at m.holders.items) object ∙ c.requires.holders.holds arc.person some in
           let someone : arc.person ≢ NOBODY = λ z. (let a = w.person in let most = is.most in absurd (omega (arith, z, a, most))) in
           let there : slice_get p.arcs n ≡ Some (arc_by arc.person (own_at m.owns.items arc.person)) = slice_get-get_or p.arcs n none inside ∙ ap Some mine in
           let found : IsHeld p m.holders.items m.owns.items arc.object (Some h) = (holds, someone, there) in
-          let room : arc.object < length c.loop-place.holders.items = (let o = w.object in let k = c.requires.many in omega (arith, many, k, o)) in
+          let room : arc.object < length c.loop-place.holders.items = (let o = w.object in let k = c.requires.holders.holders_are in omega (arith, many, k, o)) in
           rw (w'.holders-is, e) (record {
             many = length-set c.loop-place.holders.items arc.object (Some h) ∙ many;
-            met = met_now p m.holders.items m.owns.items c.requires.held n c.loop-place.holders.items h room found old.met;
+            met = met_now p m.holders.items m.owns.items c.requires.holders.held n c.loop-place.holders.items h room found old.met;
           })
           )
       | else-is_own w' ↦ (

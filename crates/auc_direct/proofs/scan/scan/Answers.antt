@@ -2,7 +2,7 @@ use Rattle.std.proofs.Common.{◌≡◌, ◌+◌, ◌-◌, ◌*◌, ℕ, arith, 
 use Rattle.std.specs.Prelude.{FitsSigned}
 use Rattle.std.proofs.lemmas.Int.{to_z-of_z}
 use Rattle.auc_direct.specs.Scan.{IsFound, short_value}
-use Rattle.auc_direct.proofs.ScanLaws.{found_first, found_more, found_two}
+use Rattle.auc_direct.proofs.ScanLaws.{found_first, found_more}
 use Rattle.auc_direct.proofs.scan.scan.Goals as goal
 
 pub loop-pair-init : goal.loop-pair-init
@@ -23,8 +23,10 @@ loop-pair-preserved c =
     let one = simp to_z-of_z at c.value_of-one.ensures.is in
     let other = simp to_z-of_z at c.value_of-other.ensures.is in
     let low = simp to_z-of_z at c.with_two-found.ensures in
-    let two = found_two val row (2 * c.loop-pair.pair + 1) c.loop-pair.found c.value_of-one.result c.value_of-other.result inv one other c.value_of-one.ensures.range c.value_of-other.ensures.range c.with_two-found.result low in
-    let on : 2 * c.loop-pair.pair + 1 + 2 ≡ 2 * (c.loop-pair.pair + 1) + 1 = omega arith in
+    let n = 2 * c.loop-pair.pair + 1 in
+    let found = found_more val row n c.loop-pair.found c.value_of-one.result inv one c.value_of-one.ensures.range low.0 low.1 in
+    let two = found_more val row (n + 1) low.0 c.value_of-other.result found other c.value_of-other.ensures.range c.with_two-found.result low.2 in
+    let on : n + 1 + 1 ≡ 2 * (c.loop-pair.pair + 1) + 1 = omega arith in
     simp to_z-of_z (subst (λ (n : ℕ). IsFound val row n c.with_two-found.result) on two)
 
 pub returns-then-row-eq0 : goal.returns-then-row-eq0

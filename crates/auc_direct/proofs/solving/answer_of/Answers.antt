@@ -1,17 +1,17 @@
 use Rattle.std.proofs.Common.{◌∙◌, ◌⊎◌}
 use Rattle.auc_answers.specs.Answers.{HasAssignment, IsAnswer, IsBracketAnswer, IsInfeasibleAnswer, IsOptimalAnswer}
 use Rattle.auc_direct.specs.Endings.{IsLimited}
-use Rattle.auc_direct.proofs.Answering.{either_is_answer, either_is_limited, left_stands, of_answers, own_listed, persons_are, sold_is_answer, sold_is_limited, sold_passes}
+use Rattle.auc_direct.proofs.Answering.{are_holders, either_is_answer, either_is_limited, left_stands, of_answers, own_listed, persons_are, sold_is_answer, sold_is_limited, sold_passes}
 use Rattle.auc_direct.proofs.solving.answer_of.Goals as goal
 
 pub gather-requires-clause-persons : goal.gather-requires-clause-persons
 gather-requires-clause-persons c = persons_are c.args.problem.now c.args.flat c.requires.rows
 
-pub gather-requires-clause-owns : goal.gather-requires-clause-owns
-gather-requires-clause-owns c =
+pub gather-requires-clause-holders : goal.gather-requires-clause-holders
+gather-requires-clause-holders c =
     let m = c.args.outcome.market in
     let s = left_stands c.args.flat c.args.outcome.ending m.prices.items m.holders.items m.owns.items c.requires.left in
-    s.1.owns_are ∙ persons_are c.args.problem.now c.args.flat c.requires.rows
+    are_holders c.args.problem.now c.args.flat c.requires.rows s.0 m.prices.items m.holders.items m.owns.items s.1
 
 pub gather-requires-clause-listed : goal.gather-requires-clause-listed
 gather-requires-clause-listed c =

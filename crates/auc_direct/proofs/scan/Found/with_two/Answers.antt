@@ -2,6 +2,7 @@ use Rattle.std.proofs.Common.{◌≡◌, ◌∙◌, ◌+◌, w64, rules, arith}
 use Rattle.std.specs.Int.{int_max, int_min}
 use Rattle.std.specs.Prelude.{FitsSigned, ◌≤ℤ◌, ◌<ℤ◌}
 use Rattle.std.proofs.lemmas.Int.{ints, to_z-of_z}
+use Rattle.auc_direct.proofs.ScanLaws.{lowered_twice}
 use Rattle.auc_direct.proofs.scan.Found.with_two.Goals as goal
 use Rattle.auc_direct.proofs.scan.Found.with_two.Goals.{then-other-one, else-other-one, then-lesser-self, else-lesser-self}
 
@@ -24,19 +25,9 @@ returns c =
     let gone : c.max.result ≡ int_max c.args.self.value c.min-lesser.result = simp to_z-of_z at c.max.ensures.value in
     let second : c.min-3.result ≡ int_min c.min-2.result c.max.result = simp to_z-of_z at c.min-3.ensures.value in
     let near_first : c.args.one ≤ℤ c.args.other → c.if-other-one.near ≡ c.args.place = λ ge. elim c.if-other-one.branch [ then-other-one w ↦ absurd (let l = simp to_z-of_z at w.if-other-one.true in omega (arith, ints, l, ge)) | else-other-one w ↦ w.near-is ] in
-    let near_next : c.args.other <ℤ c.args.one → c.if-other-one.near ≡ c.args.place + 1 = λ lt. elim c.if-other-one.branch [ then-other-one w ↦ w.near-is | else-other-one w ↦ absurd (let l = simp to_z-of_z at w.if-other-one.false in omega (arith, ints, l, lt)) ] in
-    simp to_z-of_z (record {
-      lesser = c.min-lesser.result;
-      greater = c.max-greater.result;
-      gone = c.max.result;
-      rest = c.min-2.result;
-      lesser_is = lesser;
-      greater_is = greater;
-      gone_is = gone;
-      rest_is = rest;
-      value = value;
-      second = second;
-      stays = λ over. elim c.if-lesser-self.branch [ then-lesser-self w ↦ absurd (let l = simp to_z-of_z at w.if-lesser-self.true in omega (arith, ints, l, over)) | else-lesser-self w ↦ w.place-is ];
-      first = λ less ge. elim c.if-lesser-self.branch [ then-lesser-self w ↦ w.place-is ∙ near_first ge | else-lesser-self w ↦ absurd (let l = simp to_z-of_z at w.if-lesser-self.false in omega (arith, ints, l, less)) ];
-      next = λ less lt. elim c.if-lesser-self.branch [ then-lesser-self w ↦ w.place-is ∙ near_next lt | else-lesser-self w ↦ absurd (let l = simp to_z-of_z at w.if-lesser-self.false in omega (arith, ints, l, less)) ];
-    })
+    let near_next : c.args.other <ℤ c.args.one → c.if-other-one.near ≡ c.args.place + 1 = λ lt. elim c.if-other-one.branch [ then-other-one w ↦ (let e = w.near-is in omega (arith, e)) | else-other-one w ↦ absurd (let l = simp to_z-of_z at w.if-other-one.false in omega (arith, ints, l, lt)) ] in
+    simp to_z-of_z
+    (lowered_twice c.args.self c.args.one c.args.other c.args.place (record { value = c.min.result; second = c.min-3.result; place = c.if-lesser-self.place }) c.min-lesser.result c.max-greater.result c.min-2.result c.max.result c.requires.ordered lesser greater rest gone value second
+    (λ over. elim c.if-lesser-self.branch [ then-lesser-self w ↦ absurd (let l = simp to_z-of_z at w.if-lesser-self.true in omega (arith, ints, l, over)) | else-lesser-self w ↦ w.place-is ])
+    (λ less ge. elim c.if-lesser-self.branch [ then-lesser-self w ↦ w.place-is ∙ near_first ge | else-lesser-self w ↦ absurd (let l = simp to_z-of_z at w.if-lesser-self.false in omega (arith, ints, l, less)) ])
+    (λ less lt. elim c.if-lesser-self.branch [ then-lesser-self w ↦ w.place-is ∙ near_next lt | else-lesser-self w ↦ absurd (let l = simp to_z-of_z at w.if-lesser-self.false in omega (arith, ints, l, less)) ]))

@@ -38,7 +38,7 @@ const FEW_SEARCHES: u64 = 4;
 fn slice_of(patience: u64, searches: u64, lists: &Lists) -> u64
     ensures { 1 ≤ result }
 {
-    let most = if lists.are_none() { LONG_SLICE } else { SLICE };
+    let most = if lists.all_short() { LONG_SLICE } else { SLICE };
     most.min(patience.saturating_mul(searches)).max(1)
 }
 

@@ -4,8 +4,8 @@ use Rattle.auc_direct.specs.Shortlist.{SaysNothing}
 use Rattle.auc_direct.proofs.Shortlists.{kept_none}
 use Rattle.auc_direct.proofs.lists.Lists.new.Goals as goal
 
-pub returns-then-not-has_long_row : goal.returns-then-not-has_long_row
-returns-then-not-has_long_row c = λ prices. (
+pub returns-then-not-are_mostly_long : goal.returns-then-not-are_mostly_long
+returns-then-not-are_mostly_long c = λ prices. (
     let none : c.new-lists.result.items ≡ [] = search rules in
     kept_none c.args.rows.now prices c.new-lists.result.items (All-same SaysNothing c.new-lists.result.items [] none (All-nil SaysNothing))
     )

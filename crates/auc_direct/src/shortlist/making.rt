@@ -1,7 +1,8 @@
 //! How a list is made: one pass over the row, in which the list keeps the arcs that are worth least.
 //!
-//! Where it is full, the arc of the greatest value goes for a lesser one, and the bound is at most what that was worth. Where many lists of a person were made, as in a price
-//! war, and his row has blocks, those whose bound is above that of the list are left out.
+//! Where it is full, the arc of the greatest value goes for a lesser one, and the bound is at most what that was worth. That takes the time of many arcs, so a person's first list begins
+//! with the bound that the last list of somebody else had come to. Where many lists of a person were made, as in a price war, and his row has blocks, those whose bound is above that of
+//! the list are left out.
 
 ghost use Rattle.std.specs.Prelude.{ℕ, false, true, ◌≡◌, ◌+◌, ◌*◌, ◌<◌, ◌≤◌, ◌++◌, ◌∷◌, [], List, pos, ◌≤ℤ◌, All, length, set, take};
 ghost use Rattle.auc_graph.specs.Price.{IsPrice};
@@ -16,6 +17,9 @@ use auc_rows::ShortArc;
 
 /// So many lists of a person are made by passes over his row, and later ones by its blocks: these cost more at first, and lists that last are not made so often.
 const PASSES: u32 = 4;
+
+/// A first list with fewer arcs is made once more, with no bound to begin with.
+const ENOUGH: usize = 8;
 
 /// What the arc of the greatest value is worth.
 fn dearest(scale: i64, arcs: &[ShortArc], prices: &[i64]) -> i64
@@ -285,14 +289,36 @@ impl Shortlist {
         self.blocks.len().min(arcs / BLOCK + 1)
     }
 
-    /// Makes the list anew: the arcs of the row that are worth least at these prices.
-    pub(crate) fn remake(
+    /// Makes the first list of a person, of the arcs that are worth less than the greatest of the values that the last list has left, which mostly is somebody else's. Gives whether these are
+    /// enough; where they aren't, it has none.
+    fn make_first(
         &mut self,
         scale: i64,
         row: &[ShortArc],
         prices: &[i64],
         values: &mut Values,
-    )
+    ) -> bool
+        requires scale_low { pos 1 ≤ℤ scale }
+        requires scale_high { scale ≤ℤ pos 10001 }
+        requires row { All (IsShort (length prices.now)) row.now }
+        requires prices { All IsPrice prices.now }
+        ensures gathered { result ≡ true → Gathered (short_value scale prices.now) row.now self.new }
+        ensures arcs { All (IsShort (length prices.now)) self.new.arcs }
+        ensures blocks { self.new.blocks ≡ self.old.blocks }
+    {
+        self.begin(i64::MAX);
+        self.mark(values);
+        self.take_part(scale, row, prices, values, 0, row.len());
+        if self.count < ENOUGH {
+            self.begin(i64::MAX);
+            return false;
+        }
+        self.made = 1;
+        true
+    }
+
+    /// Makes a list by a pass over the row, or over those of its blocks that may have some of its arcs.
+    fn make(&mut self, scale: i64, row: &[ShortArc], prices: &[i64], values: &mut Values)
         requires scale_low { pos 1 ≤ℤ scale }
         requires scale_high { scale ≤ℤ pos 10001 }
         requires arcs { All (IsShort (length prices.now)) self.old.arcs }
@@ -311,5 +337,29 @@ impl Shortlist {
         }
         let from = row.len().min(BLOCK * blocks);
         self.take_part(scale, row, prices, values, from, row.len());
+    }
+
+    /// Makes the list anew: the arcs of the row that are worth least at these prices.
+    pub(crate) fn remake(
+        &mut self,
+        scale: i64,
+        row: &[ShortArc],
+        prices: &[i64],
+        values: &mut Values,
+    )
+        requires scale_low { pos 1 ≤ℤ scale }
+        requires scale_high { scale ≤ℤ pos 10001 }
+        requires arcs { All (IsShort (length prices.now)) self.old.arcs }
+        requires row { All (IsShort (length prices.now)) row.now }
+        requires prices { All IsPrice prices.now }
+        requires bounds { AreBounds (short_value scale prices.now) row.now self.old.blocks }
+        ensures gathered { Gathered (short_value scale prices.now) row.now self.new }
+        ensures arcs { All (IsShort (length prices.now)) self.new.arcs }
+        ensures bounds { AreBounds (short_value scale prices.now) row.now self.new.blocks }
+    {
+        if self.count == 0 && self.make_first(scale, row, prices, values) {
+            return;
+        }
+        self.make(scale, row, prices, values);
     }
 }

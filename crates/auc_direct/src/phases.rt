@@ -12,7 +12,7 @@ ghost use Rattle.auc_direct.specs.Shortlist.{Kept};
 use crate::ahead::Ahead;
 use crate::early::MOST_LOOKS;
 use crate::ending::Ending;
-use crate::eps::{LAST_EPS, half_of_mean, next_eps};
+use crate::eps::{LAST_EPS, MANY_ARCS, half_of_mean, next_eps};
 use crate::market::Market;
 use crate::watch::{Progress, Watch};
 use crate::workspace::Workspace;
@@ -35,11 +35,25 @@ const MANY: u64 = 8;
 /// The same in a full table, where a search for a path costs little.
 const AT_ONCE: u64 = 4;
 
-/// How many bids a person makes in the first phase, in the mean, before it is asked whether there is an assignment at all: more than were seen in any problem that has one.
-const FEW: u64 = 8;
+/// How many bids a person makes in the first phase, in the mean, before it is asked whether there is an assignment at all: more than were seen in any problem that has one. Points in a
+/// plane with ten arcs each take up to eleven.
+const FEW: u64 = 16;
+
+/// The same where rows are long: there each bid takes longer, and fewer were seen.
+const FEW_OF_LONG: u64 = 8;
 
 /// How many arcs a search may look at in the time of one bid.
 const LOOKS: usize = 100;
+
+/// How many bids the first phase may make before it is asked whether there is an assignment.
+fn few_bids(rows: &FlatRows) -> u64 {
+    let persons = u64::from(rows.persons());
+    if half_of_mean(rows) < MANY_ARCS {
+        FEW * persons
+    } else {
+        FEW_OF_LONG * persons
+    }
+}
 
 /// After how many bids of a chain a path is looked for in a run that begins at this eps.
 pub(crate) fn patience_at(rows: &FlatRows, eps: i64) -> u64 {
@@ -171,7 +185,7 @@ pub(crate) fn play_quickly<W: Watch>(
         let ending = Ending::Stopped(Reason::Bids);
         return Ok(Some(Outcome { ending, market }));
     }
-    let few = bids.min(FEW * u64::from(rows.persons()));
+    let few = bids.min(few_bids(rows));
     let patience = patience_at(rows, eps);
     match market.play(rows, eps, few, patience, &mut work)? {
         Ending::Stopped(_) => Ok(None),

@@ -55,6 +55,14 @@ start_next r eps next prices new holders owns is_eps less start stands = record 
     by (inl square) = inl square
     by (inr one) = absurd (let e = one.0 in let l = is_eps.low in omega (arith, ints, e, l, less))
 
+-- the same after a phase at a lesser eps than the one that might have been played
+pub start_finer : (r : FlatTable) (eps fine next : ℤ) (prices new : List ℤ) (holders : List ℕ) (owns : List ShortArc) → IsEps next → next <ℤ fine → fine <ℤ eps → IsStart r eps prices → Stands r fine new holders owns → IsStart r next new
+start_finer r eps fine next prices new holders owns is_eps less finer start stands = record { each = stands.prices_are; within = stands.within; spare = by start.spare }
+  where
+    by : (r.objects ≡ length r.rows) ⊎ ((eps ≡ pos 1) × ((j : ℕ) → price_at prices j ≡ pos 0)) → (r.objects ≡ length r.rows) ⊎ ((next ≡ pos 1) × ((j : ℕ) → price_at new j ≡ pos 0))
+    by (inl square) = inl square
+    by (inr one) = absurd (let e = one.0 in let l = is_eps.low in omega (arith, ints, e, l, less, finer))
+
 pub less_eps : (eps next : ℤ) → IsEps next → next <ℤ eps → unsigned_abs next < unsigned_abs eps
 less_eps eps next is l = let low = is.low in omega (arith, ints, low, l)
 

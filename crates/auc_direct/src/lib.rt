@@ -9,6 +9,7 @@ mod bid;
 mod early;
 mod ending;
 mod eps;
+mod fine;
 mod from_start;
 mod gathering;
 mod hop;

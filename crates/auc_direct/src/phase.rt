@@ -55,7 +55,7 @@ impl Market {
 
     /// A person bids, then whom he displaces, and so on, until nobody is displaced. `left` is how many bids the phase may still make. After each `patience` bids the one
     /// who is displaced looks for a path, which is no bid.
-    fn chain(
+    pub(crate) fn chain(
         &mut self,
         rows: &FlatRows,
         eps: i64,

@@ -40,7 +40,7 @@ const AT_ONCE: u64 = 4;
 const FEW: u64 = 16;
 
 /// The same where rows are long: there each bid takes longer, and fewer were seen.
-const FEW_OF_LONG: u64 = 8;
+const FEW_OF_LONG: u64 = 12;
 
 /// How many arcs a search may look at in the time of one bid.
 const LOOKS: usize = 100;
@@ -151,8 +151,8 @@ pub(crate) fn play_all<W: Watch>(
     }
 }
 
-/// All phases as [`play_all`] plays them, but where the first one doesn't sell all by a few bids a person, which it mostly does where there is an assignment at all; then none. A full
-/// table has one. None too where there is one phase alone, in which it would take many searches for a path to see that nothing comes of it.
+/// All phases as [`play_all`] plays them, but where the first one doesn't sell all by a few bids a person, which it mostly does where there is an assignment at all; then none. Where rows are
+/// long one at a finer eps is tried before it. A full table has an assignment. None too where there is one phase alone, in which it would take many searches for a path to see that nothing comes of it.
 pub(crate) fn play_quickly<W: Watch>(
     alloc: Global,
     rows: &FlatRows,
@@ -185,8 +185,13 @@ pub(crate) fn play_quickly<W: Watch>(
         let ending = Ending::Stopped(Reason::Bids);
         return Ok(Some(Outcome { ending, market }));
     }
-    let few = bids.min(few_bids(rows));
     let patience = patience_at(rows, eps);
+    let early = market.play_fine(rows, eps, bids, patience, &mut work)?;
+    if let Some(next) = early {
+        let outcome = play_phases(rows, bids, next, patience, market, work, watch)?;
+        return Ok(Some(outcome));
+    }
+    let few = bids.min(few_bids(rows));
     match market.play(rows, eps, few, patience, &mut work)? {
         Ending::Stopped(_) => Ok(None),
         Ending::Sold => {

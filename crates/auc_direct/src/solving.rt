@@ -195,8 +195,8 @@ fn solve_from_unasked<W: Watch>(
 /// The answer is right as that of `auc_world::solve_serial` is, but of several least assignments it may be another one.
 ///
 /// Takes the time of the bids, each O(arcs of the person), or O(1) where the list of a long row tells it, of the paths, each at most O(arcs * log arcs), and of one check of what is no least assignment. The search
-/// for an assignment of any cost ([`auc_hall::complete`]) comes first where there are more objects than persons, and after a first phase in which sixteen bids a person don't give each
-/// one an object; and for a bracket. It takes 12 bytes of memory an arc; else 8 bytes an arc and some 60 an object are taken beside the problem's own, 216 a person where most
+/// for an assignment of any cost ([`auc_hall::complete`]) comes first where there are more objects than persons, and after a first phase in which sixteen bids a person, twelve where
+/// rows are long, don't give each one an object; and for a bracket. It takes 12 bytes of memory an arc; else 8 bytes an arc and some 60 an object are taken beside the problem's own, 216 a person where most
 /// arcs stand in rows of 48 and more, with 8 for 16 arcs of a row of 256 and more, and 16 for each label that waits in a search, of which there are at most as many as arcs. That paths are taken at all no
 /// clause says, nor that lists are. The method is the auction with epsilon scaling
 /// (Bertsekas, 1979; Bertsekas and Eckstein, 1988), where whoever is displaced bids next, and successive shortest paths (Edmonds and Karp, 1972) where that goes far.
@@ -247,7 +247,7 @@ pub fn solve_direct_from(
 /// Solves a problem as [`solve_direct`] does, and asks between bids whether the run goes on: before each phase, and after 16,384 bids of one (131,072 where no row has 48 arcs), or 64 searches for a path. Where it doesn't, the answer is
 /// a bracket with the reason `Bids`: a bracket stands only after a limit, or where `watch` has said no: clause `limit`. To ask takes O(persons) time, and that of `goes_on`.
 ///
-/// Nothing is asked before the rows are laid out, within a search for a path or for an assignment of any cost, within the first sixteen bids a person, within the phase that comes first
+/// Nothing is asked before the rows are laid out, within a search for a path or for an assignment of any cost, within the first twenty-five bids a person, within the phase that comes first
 /// in a full table, which takes some tens of milliseconds beside its bids, or while the answer is checked.
 ///
 /// # Errors

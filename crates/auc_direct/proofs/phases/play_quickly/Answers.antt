@@ -7,14 +7,14 @@ use Rattle.auc_direct.proofs.EndingLaws.{stopped_before}
 use Rattle.auc_direct.proofs.Opening.{stands_opened, start_next}
 use Rattle.auc_direct.proofs.phases.play_quickly.Goals as goal
 
-pub play-requires-clause-stands : goal.play-requires-clause-stands
-play-requires-clause-stands g c =
+pub play_fine-requires-clause-stands : goal.play_fine-requires-clause-stands
+play_fine-requires-clause-stands g c =
     let f : FitsSigned w64 c.args.eps = c.ranges.eps in
     let start = subst (IsStart c.args.rows.now c.args.eps) (sym c.in_ok-market.ensures.prices) c.requires.start in
     simp to_z-of_z (stands_opened c.args.rows.now c.args.eps c.args.eps c.in_ok-market.market.prices.items c.in_ok-market.market.holders.items c.in_ok-market.market.owns.items (length c.args.prices.items) c.persons.result start c.requires.start.each c.persons.ensures.persons c.in_ok-market.ensures.holders c.in_ok-market.ensures.owns)
 
-pub play-requires-clause-kept : goal.play-requires-clause-kept
-play-requires-clause-kept g c = c.in_ok-work.ensures.kept c.in_ok-market.market.prices.items
+pub play_fine-requires-clause-kept : goal.play_fine-requires-clause-kept
+play_fine-requires-clause-kept g c = c.in_ok-work.ensures.kept c.in_ok-market.market.prices.items
 
 pub returns-then-not-goes_on-clause-left : goal.returns-then-not-goes_on-clause-left
 returns-then-not-goes_on-clause-left g c = (
@@ -25,18 +25,23 @@ returns-then-not-goes_on-clause-left g c = (
       ),
 )
 
-pub play_phases-requires-clause-start : goal.play_phases-requires-clause-start
-play_phases-requires-clause-start g c =
+pub returns-in-Some-early-clause-stopped : goal.returns-in-Some-early-clause-stopped
+returns-in-Some-early-clause-stopped g c =
+    let o = c.in_ok-outcome-2.outcome in
+    let le : total c.args.prices.items ≤ℤ total c.play_fine.new.self.prices.items = (let e = ap total c.in_ok-market.ensures.prices in let r = c.in_ok-early.ensures.risen in omega (arith, ints, e, r)) in
+    stopped_before (g.W.Watch.has_stopped c.play_phases.new.watch) c.args.rows.now c.args.bids (total c.args.prices.items) (total c.play_fine.new.self.prices.items) o.ending o.market.prices.items le c.in_ok-outcome-2.ensures.stopped
+
+pub play_phases-requires-in-Sold-clause-start : goal.play_phases-requires-in-Sold-clause-start
+play_phases-requires-in-Sold-clause-start g c =
     let f : FitsSigned w64 c.args.eps = c.ranges.eps in
     let h : FitsSigned w64 c.in-Some.next = search rules in
     let range = c.in-Some.ensures.range in
     let less = simp to_z-of_z at c.in-Some.ensures.less in
-    let start = subst (IsStart c.args.rows.now c.args.eps) (sym c.in_ok-market.ensures.prices) c.requires.start in
     let stands = simp to_z-of_z at c.in_ok-play.ensures.stands in
-    simp to_z-of_z (start_next c.args.rows.now c.args.eps c.in-Some.next c.in_ok-market.market.prices.items c.play.new.self.prices.items c.play.new.self.holders.items c.play.new.self.owns.items range less start stands)
+    simp to_z-of_z (start_next c.args.rows.now c.args.eps c.in-Some.next c.args.prices.items c.play.new.self.prices.items c.play.new.self.holders.items c.play.new.self.owns.items range less c.requires.start stands)
 
 pub returns-in_ok-outcome-in-Sold-clause-stopped : goal.returns-in_ok-outcome-in-Sold-clause-stopped
 returns-in_ok-outcome-in-Sold-clause-stopped g c =
     let o = c.in_ok-outcome-in-Sold.outcome in
-    let le : total c.args.prices.items ≤ℤ total c.play.new.self.prices.items = (let e = ap total c.in_ok-market.ensures.prices in let r = c.in_ok-play.ensures.risen in omega (arith, ints, e, r)) in
-    stopped_before (g.W.Watch.has_stopped c.play_phases.new.watch) c.args.rows.now c.args.bids (total c.args.prices.items) (total c.play.new.self.prices.items) o.ending o.market.prices.items le c.in_ok-outcome-in-Sold.ensures.stopped
+    let le : total c.args.prices.items ≤ℤ total c.play.new.self.prices.items = (let e = ap total c.in_ok-market.ensures.prices in let f = c.in_ok-early.ensures.risen in let r = c.in_ok-play.ensures.risen in omega (arith, ints, e, f, r)) in
+    stopped_before (g.W.Watch.has_stopped c.play_phases-in-Sold.new.watch) c.args.rows.now c.args.bids (total c.args.prices.items) (total c.play.new.self.prices.items) o.ending o.market.prices.items le c.in_ok-outcome-in-Sold.ensures.stopped

@@ -1,4 +1,4 @@
-use Rattle.std.proofs.Common.{◌∙◌, ◌⊎◌}
+use Rattle.std.proofs.Common.{◌⊎◌}
 use Rattle.auc_answers.specs.Answers.{HasAssignment, IsAnswer, IsBracketAnswer, IsInfeasibleAnswer, IsOptimalAnswer}
 use Rattle.auc_direct.specs.Endings.{IsLimited}
 use Rattle.auc_direct.proofs.Answering.{are_holders, either_is_answer, either_is_limited, left_stands, of_answers, own_listed, persons_are, sold_is_answer, sold_is_limited, sold_passes}

@@ -1,0 +1,136 @@
+//! A first phase at a finer eps, where rows are long. Where costs are drawn at random it sells all by a few bids a person, and the phases after it are shorter, and fewer. In a price war, or among
+//! points in a plane, it is given up soon: its bids are handed out person by person, and such problems ask for more.
+
+ghost use Rattle.std.specs.Prelude.{◌≡◌, pos, ◌≤ℤ◌, ◌<ℤ◌, length, IfOk, IfSome, IfNone, OnOk};
+ghost use Rattle.std.specs.BinaryHeap.{heap_items};
+ghost use Rattle.auc_graph.specs.Assignment.{total};
+ghost use Rattle.auc_letters.specs.Price.{IsEps};
+ghost use Rattle.auc_rows.specs.Rows.{EachHasArc};
+ghost use Rattle.auc_direct.specs.Endings.{IsStart};
+ghost use Rattle.auc_direct.specs.Market.{Stands};
+ghost use Rattle.auc_direct.specs.Path.{IsClean};
+ghost use Rattle.auc_direct.specs.Shortlist.{Kept};
+
+use crate::ending::Chain;
+use crate::eps::{MANY_ARCS, half_of_mean, next_eps};
+use crate::market::{Market, NOBODY};
+use crate::workspace::Workspace;
+use auc_rows::FlatRows;
+use std::alloc::AllocError;
+
+/// By what the first eps is divided.
+const PARTS: i64 = 8;
+
+/// How many bids are handed out for each person who begins: more than were seen at random costs, until the last ones begin.
+const EACH: u64 = 4;
+
+/// How many more, for each person of all, when the last ones begin: to these few objects are left, and they go far.
+const AT_LAST: u64 = 8;
+
+/// One person of so many is one of the last.
+const LAST: u32 = 128;
+
+/// The eps of such a phase, an eighth of that of the first one; none where rows are short, or it is less than 1.
+fn fine_eps(rows: &FlatRows, eps: i64) -> Option<i64>
+    requires { IsEps eps }
+    ensures range { IfSome result IsEps }
+    ensures less { IfSome result (λ fine. fine <ℤ eps) }
+{
+    let fine = eps / PARTS;
+    if half_of_mean(rows) < MANY_ARCS || fine < 1 {
+        return None;
+    }
+    Some(fine)
+}
+
+/// How many bids are handed out in all, to so many persons.
+fn most_bids(persons: u32) -> u64 {
+    (1 + EACH + AT_LAST) * u64::from(persons)
+}
+
+impl Market {
+    /// Plays a phase in which bids are handed out as persons begin. Gives whether all is sold; where it isn't, it is given up as it stands. How many bids there are matters for speed alone.
+    fn play_apace(
+        &mut self,
+        rows: &FlatRows,
+        eps: i64,
+        patience: u64,
+        work: &mut Workspace,
+    ) -> Result<bool, AllocError>
+        requires arcs { EachHasArc rows.now }
+        requires eps { IsEps eps }
+        requires stands { Stands rows.now eps self.old.prices.items self.old.holders.items self.old.owns.items }
+        requires clean { IsClean rows.now.objects work.old.search.labels.items work.old.search.line.items (heap_items work.old.search.heap) }
+        requires kept { Kept rows.now self.old.prices.items work.old.lists.lists.items }
+        ensures stands { OnOk result (Stands rows.now eps self.new.prices.items self.new.holders.items self.new.owns.items) }
+        ensures risen { OnOk result (total self.old.prices.items ≤ℤ total self.new.prices.items) }
+        ensures clean { OnOk result (IsClean rows.now.objects work.new.search.labels.items work.new.search.line.items (heap_items work.new.search.heap)) }
+        ensures kept { OnOk result (Kept rows.now self.new.prices.items work.new.lists.lists.items) }
+    {
+        let persons = rows.persons();
+        let last = persons - persons / LAST;
+        let mut given = u64::from(persons / 8);
+        let mut left = given;
+        for first in 0..persons {
+            let more = if first == last {
+                AT_LAST * u64::from(persons)
+            } else {
+                EACH
+            };
+            given = given.saturating_add(more);
+            left = left.saturating_add(more);
+            if self.owns[first as usize].object != NOBODY {
+                continue;
+            }
+            match self.chain(rows, eps, first, &mut left, patience, work)? {
+                Chain::Placed => {}
+                Chain::Bids => return Ok(false),
+                Chain::Ceiling => return Ok(false),
+            }
+        }
+        work.made = work.made.saturating_add(given.saturating_sub(left));
+        Ok(true)
+    }
+
+    /// Plays such a phase before the first one at `eps`, and gives the eps of the phase after it. None where rows are short, or a phase may make fewer bids than are handed out, or it is given up:
+    /// nobody holds anything then, and the prices are those that it has come to.
+    pub(crate) fn play_fine(
+        &mut self,
+        rows: &FlatRows,
+        eps: i64,
+        bids: u64,
+        patience: u64,
+        work: &mut Workspace,
+    ) -> Result<Option<i64>, AllocError>
+        requires arcs { EachHasArc rows.now }
+        requires eps { IsEps eps }
+        requires start { IsStart rows.now eps self.old.prices.items }
+        requires stands { Stands rows.now eps self.old.prices.items self.old.holders.items self.old.owns.items }
+        requires clean { IsClean rows.now.objects work.old.search.labels.items work.old.search.line.items (heap_items work.old.search.heap) }
+        requires kept { Kept rows.now self.old.prices.items work.old.lists.lists.items }
+        ensures next { IfOk result (λ o. IfSome o IsEps) }
+        ensures start { IfOk result (λ o. IfSome o (λ next. IsStart rows.now next self.new.prices.items)) }
+        ensures holders { OnOk result (length self.new.holders.items ≡ rows.now.objects) }
+        ensures owns { OnOk result (length self.new.owns.items ≡ length rows.now.rows) }
+        ensures stands { IfOk result (λ o. IfNone o (Stands rows.now eps self.new.prices.items self.new.holders.items self.new.owns.items)) }
+        ensures risen { OnOk result (total self.old.prices.items ≤ℤ total self.new.prices.items) }
+        ensures clean { OnOk result (IsClean rows.now.objects work.new.search.labels.items work.new.search.line.items (heap_items work.new.search.heap)) }
+        ensures kept { OnOk result (Kept rows.now self.new.prices.items work.new.lists.lists.items) }
+    {
+        let Some(fine) = fine_eps(rows, eps) else {
+            return Ok(None);
+        };
+        let Some(next) = next_eps(fine) else {
+            return Ok(None);
+        };
+        if bids <= most_bids(rows.persons()) {
+            return Ok(None);
+        }
+        self.open();
+        if self.play_apace(rows, fine, patience, work)? {
+            return Ok(Some(next));
+        }
+        self.open();
+        Ok(None)
+    }
+}

@@ -43,7 +43,7 @@ fn fine_eps(rows: &FlatRows, eps: i64) -> Option<i64>
     Some(fine)
 }
 
-/// How many bids are handed out in all, to so many persons.
+/// How many bids are handed out at most, to so many persons.
 fn most_bids(persons: u32) -> u64 {
     (1 + EACH + AT_LAST) * u64::from(persons)
 }

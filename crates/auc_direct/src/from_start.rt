@@ -85,8 +85,8 @@ pub(crate) fn play_from<W: Watch>(
     Ok(Outcome { ending, market })
 }
 
-/// The same where nobody has asked whether there is an assignment: with as many objects as persons, and in a full table, which has one. None elsewhere, and where a search for a path
-/// has found none, so that there may be no assignment.
+/// The same where nobody has asked whether there is an assignment; a full table has one, and where there are more objects than persons the caller knows that there is one. None where a
+/// search for a path has found none, so that there may be no assignment.
 pub(crate) fn play_from_unasked<W: Watch>(
     alloc: Global,
     rows: &FlatRows,
@@ -98,12 +98,9 @@ pub(crate) fn play_from_unasked<W: Watch>(
     requires start { ArePricesOf rows.now start.now }
     ensures { IfOk result (λ x. IfSome x (λ o. IsOutcomeFrom rows.now bids start.now (W.has_stopped watch.new) o.ending o.market.prices.items o.market.holders.items o.market.owns.items)) }
 {
-    if rows.is_full() {
+    if rows.is_full() || rows.persons() < rows.objects() {
         let outcome = play_from(alloc, rows, bids, start, watch)?;
         return Ok(Some(outcome));
-    }
-    if rows.persons() < rows.objects() {
-        return Ok(None);
     }
     let mut work = Workspace::new(alloc, rows)?;
     let mut market = market_from(alloc, rows, start)?;

@@ -12,6 +12,7 @@ mod eps;
 mod fine;
 mod from_start;
 mod gathering;
+mod greedy;
 mod hop;
 mod label;
 mod lists;

@@ -21,8 +21,8 @@ use auc_rows::FlatRows;
 use std::alloc::{AllocError, Global};
 
 /// After how many bids of a chain a path is looked for in a run of one phase, at the last eps, where a bid raises a price by little. At least so many, and where a person
-/// knows many objects half as many as he knows in the mean: a search looks at whole rows, and a bid at a list.
-const SOON: u64 = 16;
+/// knows many objects twice as many as he knows in the mean: a search looks at whole rows, and a bid at a list.
+const SOON: u64 = 64;
 
 /// The same in a run of more phases, where few chains are so long: those of a price war. At least so many; with many persons more ([`MANY`]), and in a problem of many arcs as
 /// many as may take the time of a search.
@@ -61,7 +61,7 @@ pub(crate) fn patience_at(rows: &FlatRows, eps: i64) -> u64 {
         return if rows.is_full() {
             AT_ONCE
         } else {
-            SOON.max(half_of_mean(rows) as u64)
+            SOON.max((half_of_mean(rows) as u64).saturating_mul(4))
         };
     }
     LATE.max(MANY * u64::from(rows.persons()))
@@ -152,7 +152,7 @@ pub(crate) fn play_all<W: Watch>(
 }
 
 /// All phases as [`play_all`] plays them, but where the first one doesn't sell all by a few bids a person, which it mostly does where there is an assignment at all; then none. Where rows are
-/// long one at a finer eps is tried before it. A full table has an assignment. None too where there is one phase alone, in which it would take many searches for a path to see that nothing comes of it.
+/// long one at a finer eps is tried before it. A full table has an assignment, and where there are more objects than persons the caller knows that there is one. None too where there is one phase alone, in which it would take many searches for a path to see that nothing comes of it.
 pub(crate) fn play_quickly<W: Watch>(
     alloc: Global,
     rows: &FlatRows,
@@ -167,7 +167,7 @@ pub(crate) fn play_quickly<W: Watch>(
     ensures left { IfOk result (λ x. IfSome x (λ o. IsLeft rows.now o.ending o.market.prices.items o.market.holders.items o.market.owns.items)) }
     ensures stopped { IfOk result (λ x. IfSome x (λ o. (W.has_stopped watch.new ≡ true) ⊎ IsStopped rows.now bids (total prices.items) o.ending o.market.prices.items)) }
 {
-    if rows.is_full() {
+    if rows.is_full() || rows.persons() < rows.objects() {
         let outcome = play_all(alloc, rows, bids, eps, prices, watch)?;
         return Ok(Some(outcome));
     }

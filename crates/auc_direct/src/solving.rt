@@ -14,6 +14,7 @@ use crate::ending::Ending;
 use crate::eps::first_eps;
 use crate::from_start::{play_from, play_from_unasked};
 use crate::gathering::gather;
+use crate::greedy::serves_all;
 use crate::phases::{Outcome, play_all, play_quickly};
 use crate::watch::{Onward, Watch};
 use auc_answers::finish::{bracket, proved_optimal};
@@ -89,7 +90,7 @@ fn answer_of(
 
 /// The answer of a run that doesn't ask first whether there is an assignment: where the first phase soon gives each person an object, there is one. None where it doesn't.
 ///
-/// For as many objects as persons alone: with more there is one phase.
+/// With more objects than persons only where a greedy pass serves everybody.
 fn solve_quickly<W: Watch>(
     alloc: Global,
     problem: &ArcList,
@@ -99,7 +100,7 @@ fn solve_quickly<W: Watch>(
     ensures is { IfOk result (λ o. IfSome o (IsAnswer problem.now)) }
     ensures limit { IfOk result (λ o. IfSome o (λ a. (W.has_stopped watch.new ≡ true) ⊎ IsLimited problem.now bids (pos 0) a)) }
 {
-    if problem.persons() < problem.objects() {
+    if problem.persons() < problem.objects() && !serves_all(alloc, problem)? {
         return Ok(None);
     }
     let flat = FlatRows::build(alloc, problem)?;
@@ -161,7 +162,7 @@ fn solve_rows_from<W: Watch>(
 
 /// The answer of a run from start prices that doesn't ask first whether there is an assignment. None where a search for a path has found none, so that there may be no assignment.
 ///
-/// For as many objects as persons, and full tables, alone.
+/// With more objects than persons only where a greedy pass serves everybody.
 fn solve_from_unasked<W: Watch>(
     alloc: Global,
     problem: &ArcList,
@@ -173,8 +174,7 @@ fn solve_from_unasked<W: Watch>(
     ensures is { IfOk result (λ o. IfSome o (IsAnswer problem.now)) }
     ensures limit { IfOk result (λ o. IfSome o (λ a. (W.has_stopped watch.new ≡ true) ⊎ IsLimitedFrom problem.now bids start.now a)) }
 {
-    let full = u64::from(problem.persons()) * u64::from(problem.objects());
-    if problem.persons() < problem.objects() && problem.arcs().len() as u64 != full {
+    if problem.persons() < problem.objects() && !serves_all(alloc, problem)? {
         return Ok(None);
     }
     let flat = FlatRows::build(alloc, problem)?;
@@ -195,8 +195,8 @@ fn solve_from_unasked<W: Watch>(
 /// The answer is right as that of `auc_world::solve_serial` is, but of several least assignments it may be another one.
 ///
 /// Takes the time of the bids, each O(arcs of the person), or O(1) where the list of a long row tells it, of the paths, each at most O(arcs * log arcs), and of one check of what is no least assignment. The search
-/// for an assignment of any cost ([`auc_hall::complete`]) comes first where there are more objects than persons, and after a first phase in which sixteen bids a person, twelve where
-/// rows are long, don't give each one an object; and for a bracket. It takes 12 bytes of memory an arc; else 8 bytes an arc and some 60 an object are taken beside the problem's own, 216 a person where most
+/// for an assignment of any cost ([`auc_hall::complete`]) comes first where there are more objects than persons and a greedy pass over the arcs doesn't serve everybody, and after
+/// a first phase in which sixteen bids a person, twelve where rows are long, don't give each one an object; and for a bracket. It takes 12 bytes of memory an arc; else 8 bytes an arc and some 60 an object are taken beside the problem's own, 216 a person where most
 /// arcs stand in rows of 48 and more, with 8 for 16 arcs of a row of 256 and more, and 16 for each label that waits in a search, of which there are at most as many as arcs. That paths are taken at all no
 /// clause says, nor that lists are. The method is the auction with epsilon scaling
 /// (Bertsekas, 1979; Bertsekas and Eckstein, 1988), where whoever is displaced bids next, and successive shortest paths (Edmonds and Karp, 1972) where that goes far.
@@ -224,7 +224,8 @@ pub fn solve_direct(
 ///
 /// A limit on bids counts from the prices that are left then: clause `limit`. With as many objects as persons these are the start's.
 ///
-/// With as many objects as persons the search for an assignment of any cost comes only after a search for a path that has found none, and for a bracket.
+/// The search for an assignment of any cost comes first where there are more objects than persons and a greedy pass over the arcs doesn't serve everybody; with as many objects only after a
+/// search for a path that has found none; and for a bracket.
 ///
 /// Takes two passes over the arcs for what persons keep, and with more objects than persons up to eight more; beside that the time and memory of [`solve_direct`].
 ///

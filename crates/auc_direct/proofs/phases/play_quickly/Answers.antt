@@ -11,7 +11,7 @@ pub play_fine-requires-clause-stands : goal.play_fine-requires-clause-stands
 play_fine-requires-clause-stands g c =
     let f : FitsSigned w64 c.args.eps = c.ranges.eps in
     let start = subst (IsStart c.args.rows.now c.args.eps) (sym c.in_ok-market.ensures.prices) c.requires.start in
-    simp to_z-of_z (stands_opened c.args.rows.now c.args.eps c.args.eps c.in_ok-market.market.prices.items c.in_ok-market.market.holders.items c.in_ok-market.market.owns.items (length c.args.prices.items) c.persons.result start c.requires.start.each c.persons.ensures.persons c.in_ok-market.ensures.holders c.in_ok-market.ensures.owns)
+    simp to_z-of_z (stands_opened c.args.rows.now c.args.eps c.args.eps c.in_ok-market.market.prices.items c.in_ok-market.market.holders.items c.in_ok-market.market.owns.items (length c.args.prices.items) c.persons-2.result start c.requires.start.each c.persons-2.ensures.persons c.in_ok-market.ensures.holders c.in_ok-market.ensures.owns)
 
 pub play_fine-requires-clause-kept : goal.play_fine-requires-clause-kept
 play_fine-requires-clause-kept g c = c.in_ok-work.ensures.kept c.in_ok-market.market.prices.items
@@ -21,7 +21,7 @@ returns-then-not-goes_on-clause-left g c = (
   c.args.eps,
   (
       let start = subst (IsStart c.args.rows.now c.args.eps) (sym c.in_ok-market.ensures.prices) c.requires.start in
-      stands_opened c.args.rows.now c.args.eps c.args.eps c.in_ok-market.market.prices.items c.in_ok-market.market.holders.items c.in_ok-market.market.owns.items (length c.args.prices.items) c.persons.result start c.requires.start.each c.persons.ensures.persons c.in_ok-market.ensures.holders c.in_ok-market.ensures.owns
+      stands_opened c.args.rows.now c.args.eps c.args.eps c.in_ok-market.market.prices.items c.in_ok-market.market.holders.items c.in_ok-market.market.owns.items (length c.args.prices.items) c.persons-2.result start c.requires.start.each c.persons-2.ensures.persons c.in_ok-market.ensures.holders c.in_ok-market.ensures.owns
       ),
 )
 

@@ -4,7 +4,7 @@ use Rattle.std.specs.Int.{int_min}
 use Rattle.std.proofs.lemmas.Int.{ints, to_z-of_z}
 use Rattle.auc_direct.specs.Scan.{short_value}
 use Rattle.auc_direct.proofs.Shortlists.{above_more}
-use Rattle.auc_direct.proofs.shortlist.making.least_of.Goals as goal
+use Rattle.auc_direct.proofs.shortlist.filling.least_of.Goals as goal
 
 pub loop-place-preserved : goal.loop-place-preserved
 loop-place-preserved c =

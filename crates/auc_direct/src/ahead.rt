@@ -21,46 +21,92 @@ use auc_cert::Reason;
 use auc_rows::FlatRows;
 use std::alloc::AllocError;
 
+/// So many bids a person in one phase tell of a price war, or of points in a plane: there the last phase takes many, also where the one before it took few.
+const WAR: u64 = 8;
+
 /// When it is tried: after the first phase, where that took little and rows are short, and once later. Speed alone depends on it.
 #[derive(Clone, Copy)]
 pub(crate) struct Ahead {
+    rows_are_short: bool,
     is_first: bool,
     is_tried: bool,
-    // How many bids were made in the phase after which it was last asked.
+    // How many bids were made in the phase after which it was last asked, and in the one that took most of them.
     before: u64,
+    most: u64,
+}
+
+/// How many bids it may make after a first phase of so many: three times as many where these are fewer than three for two persons; else none. Costs of two levels make such a phase, and those
+/// between are price wars.
+fn bids_after_first(made: u64, persons: u32) -> u64 {
+    let persons = u64::from(persons);
+    if made < persons + persons / 2 {
+        made.saturating_mul(3)
+    } else {
+        0
+    }
+}
+
+/// Whether a phase took fewer bids than `most`, and than so many tenths of those of the phase before it.
+fn has_fallen(made: u64, before: u64, tenths: u64, most: u64) -> bool {
+    made < most && made.saturating_mul(10) < before.saturating_mul(tenths)
+}
+
+/// The same after a later phase, in a run that is calm: half as many again where these are fewer than four a person, and than eight tenths of those of the phase before it. That one took three a
+/// person or more: where many want the same few objects it takes fewer, and the last phase many.
+fn bids_when_calm(made: u64, before: u64, persons: u32) -> u64 {
+    let persons = u64::from(persons);
+    if before < 3 * persons || !has_fallen(made, before, 8, 4 * persons) {
+        return 0;
+    }
+    made.saturating_add(made / 2)
+}
+
+/// The same in any other run: as many where these are fewer than three a person, and than seven tenths of those of the phase before it. Then few persons want the same objects, and ever fewer
+/// do.
+fn bids_when_few(made: u64, before: u64, persons: u32) -> u64 {
+    if !has_fallen(made, before, 7, 3 * u64::from(persons)) {
+        return 0;
+    }
+    made
 }
 
 impl Ahead {
     /// Not tried yet. Where rows are long a person's first bids make his list, and each takes the time of many: there it isn't tried so early.
     pub(crate) fn new(rows: &FlatRows) -> Ahead {
+        let rows_are_short = half_of_mean(rows) < MANY_ARCS;
         Ahead {
-            is_first: half_of_mean(rows) < MANY_ARCS,
+            rows_are_short,
+            is_first: rows_are_short,
             is_tried: false,
             before: 0,
+            most: 0,
         }
     }
 
-    /// How many bids it may make after a phase of so many; none where it isn't tried. After a first phase of fewer than three bids for two persons three times as many: costs of two
-    /// levels make such a one, where the phases between are price wars. After a later one of fewer than three bids a person, and seven tenths of those of the phase before it, as many:
-    /// then few persons want the same objects, and ever fewer do.
+    /// Whether rows are short, and no phase so far tells of a price war.
+    fn is_calm(&self, persons: u32) -> bool {
+        self.rows_are_short && self.most < WAR * u64::from(persons)
+    }
+
+    /// How many bids it may make after a phase of so many; none where it isn't tried.
     pub(crate) fn bids_after(&mut self, made: u64, persons: u32) -> u64 {
-        let persons = u64::from(persons);
         let before = self.before;
         self.before = made;
+        self.most = self.most.max(made);
         if self.is_first {
             self.is_first = false;
-            return if made < persons + persons / 2 {
-                made.saturating_mul(3)
-            } else {
-                0
-            };
+            return bids_after_first(made, persons);
         }
-        let falls = made.saturating_mul(10) < before.saturating_mul(7);
-        if self.is_tried || made >= 3 * persons || !falls {
+        if self.is_tried {
             return 0;
         }
-        self.is_tried = true;
-        made
+        let few = if self.is_calm(persons) {
+            bids_when_calm(made, before, persons)
+        } else {
+            bids_when_few(made, before, persons)
+        };
+        self.is_tried = few > 0;
+        few
     }
 }
 

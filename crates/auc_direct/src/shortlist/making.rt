@@ -21,7 +21,7 @@ const PASSES: u32 = 4;
 const ENOUGH: usize = 8;
 
 /// So many of its arcs, of the least values, a list has again when it is made anew, or all where it has fewer; others come to it. By a bound above all of a full one few would find room.
-const KEPT: usize = 15;
+const KEPT: usize = 13;
 
 impl Shortlist {
     /// A bound just above the best of its arcs at these prices, for when it is made anew; none where it has no arc. `values` are those of its arcs then, but for the dearest.

@@ -14,6 +14,7 @@ mod Hops
 mod Labels
 mod Moves
 mod Slackness
+mod Serving
 mod Walks
 mod PathLaws
 mod Ways

@@ -1,5 +1,5 @@
 -- An award keeps what holds between two bids.
-use Rattle.std.proofs.Common.{ℕ, ℤ, pos, zero, suc, ◌<◌, ◌≤◌, ◌^◌, ◌≡◌, ◌≢◌, arith, List, [], ◌∷◌, length, get_or, set, inl, inr, ap, sym, subst, ◌∙◌}
+use Rattle.std.proofs.Common.{ℕ, ℤ, pos, zero, suc, ◌<◌, ◌^◌, ◌≡◌, ◌≢◌, arith, List, [], ◌∷◌, length, get_or, set, inl, inr, ap, sym, subst, ◌∙◌}
 use Rattle.std.specs.Prelude.{All, ◌+ℤ◌, ◌≤ℤ◌}
 use Rattle.std.proofs.lemmas.Bool.{cases_eq, cases_lt}
 use Rattle.std.proofs.lemmas.Int.{ints}
@@ -7,14 +7,13 @@ use Rattle.std.proofs.lemmas.List.{get_or_past, get_or-set_same, get_or-set_othe
 use Rattle.std.proofs.lemmas.List.Elements.{All-contains, All-set}
 use Rattle.auc_graph.specs.Assignment.{total}
 use Rattle.auc_graph.specs.Dual.{price_at}
-use Rattle.auc_graph.specs.declared.limits.TheConstants.{MOST_PERSONS}
 use Rattle.auc_graph.specs.Price.{IsPrice}
 use Rattle.auc_letters.specs.Price.{IsEps}
 use Rattle.auc_rows.specs.declared.arc.ShortArc.{ShortArc}
 use Rattle.auc_rows.specs.Rows.{FlatTable, IsFlatTable, IsShort, flat_row_of, scale_in}
 use Rattle.auc_direct.specs.declared.market.TheConstants.{NOBODY}
 use Rattle.auc_direct.specs.Bid.{IsRaise}
-use Rattle.auc_direct.specs.Market.{AreSpare, HaveAllBut, HaveObjects, IsAwarded, IsSlack, Stands, holder_at, no_own, own_at}
+use Rattle.auc_direct.specs.Market.{AreSpare, HaveAllBut, IsAwarded, IsSlack, Stands, holder_at, no_own, own_at}
 use Rattle.auc_direct.proofs.BidLaws.{risen}
 
 -- ---- sums of prices
@@ -218,19 +217,29 @@ module _ (r : FlatTable) (eps : ℤ) (prices : List ℤ) (holders : List ℕ) (o
   pub displaced_below : d ≢ NOBODY → d < length r.rows
   displaced_below some = holder_below r eps prices holders owns sound stands j some
 
-  -- all but the bidder had objects; now all but the displaced one
-  pub all_but : (n : ℕ) → HaveAllBut n owns i → HaveAllBut n left d
-  all_but n h = record {
+  -- the bidder is a person
+  somebody : i ≢ NOBODY
+  somebody e = let m = sound.most in omega (arith, e, known, m)
+
+  -- who waits has nothing still
+  waits_still : (other : ℕ) → other ≢ i → (own_at owns other).object ≡ NOBODY → (own_at left other).object ≡ NOBODY
+  waits_still other ni free =
+      elim (cases_eq other d) [
+        | inl e ↦ (ap (λ (m : ℕ). (own_at left m).object) e ∙ gone)
+        | inr nd ↦ (ap (λ (x : ShortArc). x.object) (own_off other ni nd) ∙ free)
+      ]
+
+  -- all but the bidder and who waits had objects; now all but the displaced one and who waits
+  pub all_but : (n other : ℕ) → HaveAllBut n owns i other → HaveAllBut n left d other
+  all_but n other h = record {
     none = gone;
-    others = λ k l nd. elim (cases_eq k i) [
+    waits = waits_still other (λ e. h.apart somebody (sym e)) h.waits;
+    apart = λ some e. holder_has r eps prices holders owns sound stands j some (ap (λ (m : ℕ). (own_at owns m).object) e ∙ h.waits);
+    others = λ k l nd no. elim (cases_eq k i) [
       | inl e ↦ subst (λ (m : ℕ). (own_at left m).object ≢ NOBODY) (sym e) new_has
-      | inr ni ↦ others_have k ni nd (h.others k l ni)
+      | inr ni ↦ others_have k ni nd (h.others k l ni no)
     ];
   }
-
--- nobody is displaced
-pub all_have : (n : ℕ) (owns : List ShortArc) (d : ℕ) → d ≡ NOBODY → n ≤ MOST_PERSONS → HaveAllBut n owns d → HaveObjects n owns
-all_have n owns d nobody few h i l = h.others i l (λ e. omega (arith, l, e, nobody, few))
 
 -- a bid at prices and by a row that are these
 pub raise_by : (r : FlatTable) (scale eps : ℤ) (i : ℕ) (prices these : List ℤ) (row : List ShortArc) (s : ShortArc) (amount : ℤ) → scale ≡ scale_in r → these ≡ prices → row ≡ flat_row_of r i → IsRaise scale eps these row s amount → IsRaise (scale_in r) eps prices (flat_row_of r i) s amount
@@ -257,7 +266,8 @@ awarded r eps person prices new holders sold owns left d s amount sound is_eps s
     record {
       stands = stands_by r eps (set prices s.object amount) new (set holders s.object person) sold (set (set owns person s) (holder_at holders s.object) no_own) left e f g (stands_after r eps prices holders owns person s amount sound stands known none up fits high);
       more = rw e (let t = total_with r eps prices holders owns person s amount sound stands known none up fits in omega (arith, ints, t, m, e0));
-      but = λ n b. subst (λ (os : List ShortArc). HaveAllBut n os d) (sym g) (subst (HaveAllBut n (set (set owns person s) (holder_at holders s.object) no_own)) (sym h) (all_but r eps prices holders owns person s amount sound stands known none up fits n b));
+      none = subst (λ (os : List ShortArc). (own_at os d).object ≡ NOBODY) (sym g) (subst (λ (m : ℕ). (own_at (set (set owns person s) (holder_at holders s.object) no_own) m).object ≡ NOBODY) (sym h) (gone r eps prices holders owns person s amount sound stands known none up fits));
+      but = λ n other b. subst (λ (os : List ShortArc). HaveAllBut n os d other) (sym g) (subst (λ (m : ℕ). HaveAllBut n (set (set owns person s) (holder_at holders s.object) no_own) m other) (sym h) (all_but r eps prices holders owns person s amount sound stands known none up fits n other b));
       below = λ some. (let l = displaced_below r eps prices holders owns person s amount sound stands known none up fits (λ z. some (h ∙ z)) in omega (arith, l, h));
       higher = λ k. (let up_k = rise r eps prices holders owns person s amount sound stands known none up fits k in rw e up_k);
     }

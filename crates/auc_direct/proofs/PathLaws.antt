@@ -1,5 +1,5 @@
 -- What stands after a path.
-use Rattle.std.proofs.Common.{ℕ, ℤ, pos, ◌-◌, ◌<◌, ◌≤◌, ◌^◌, ◌≡◌, ◌≢◌, arith, List, length, Option, Some, None, inl, inr, sym, subst, get_or, ◌∙◌}
+use Rattle.std.proofs.Common.{ℕ, ℤ, pos, ◌-◌, ◌<◌, ◌≤◌, ◌^◌, ◌≡◌, ◌≢◌, arith, List, length, Option, Some, None, inl, inr, ap, sym, subst, get_or, ◌∙◌}
 use Rattle.std.specs.Prelude.{◌+ℤ◌, ◌≤ℤ◌, slice_index_or}
 use Rattle.std.proofs.lemmas.Bool.{cases_eq, cases_lt}
 use Rattle.std.proofs.lemmas.Int.{ints}
@@ -14,9 +14,9 @@ use Rattle.auc_rows.specs.declared.arc.ShortArc.{ShortArc}
 use Rattle.auc_rows.specs.Rows.{IsFlatTable, IsShort, FlatTable, flat_row_of}
 use Rattle.auc_direct.specs.declared.label.Label.{Label}
 use Rattle.auc_direct.specs.declared.market.TheConstants.{NOBODY}
-use Rattle.auc_direct.specs.Market.{AreSpare, HaveAllBut, HaveObjects, Stands, holder_at, no_own, own_at}
-use Rattle.auc_direct.specs.Path.{Agree, AreHolders, AreOwns, AreRaised, AreTaken, IsEnd, IsFrom, IsLabelArc, label_of, near_of, place_of, seat, seats}
-use Rattle.auc_direct.proofs.MarketLaws.{holder_below, owner_below}
+use Rattle.auc_direct.specs.Market.{AreSpare, Stands, holder_at, no_own, own_at}
+use Rattle.auc_direct.specs.Path.{Agree, AreHolders, AreOwns, AreRaised, AreTaken, IsEnd, IsFrom, IsLabelArc, IsMoved, label_of, near_of, place_of, seat, seats}
+use Rattle.auc_direct.proofs.MarketLaws.{holder_below, holder_has, owner_below}
 use Rattle.auc_direct.proofs.Seats.{seat_is}
 use Rattle.auc_direct.proofs.Slackness.{rise, slack_after_path, unsettled_same}
 use Rattle.auc_direct.proofs.Walks.{total_rises}
@@ -96,6 +96,25 @@ module _ (t : FlatTable) (eps : ℤ) (prices : List ℤ) (holders : List ℕ) (o
       not_nobody : (i : ℕ) → (own_at owns i).object ≢ NOBODY → i ≢ NOBODY
       not_nobody i some e = let l = owner_below t eps prices holders owns sound stands i some in let m = sound.most in omega (arith, l, m, e)
 
+      -- whom a label tells of is the free person, or had an object
+      taker_has : (o : Option ℕ) (i n : ℕ) → IsFrom (seats holders) start labels o i n → i ≢ start → (own_at owns i).object ≢ NOBODY
+      taker_has None i n f ne none = ne f.0
+      taker_has (Some j) i n f ne none = let s = seat_is holders j f.0 f.1 in holder_has t eps prices holders owns sound stands j s.1 (ap (λ (m : ℕ). (own_at owns m).object) (s.0 ∙ f.2) ∙ none)
+
+      moved_had : (i : ℕ) → i ≢ start → (own_at left i).object ≢ NOBODY → IsMoved t labels (near_of labels end) owns left i → (own_at owns i).object ≢ NOBODY
+      moved_had i ne some (inl same) none = some (ap (λ (s : ShortArc). s.object) same ∙ none)
+      moved_had i ne some (inr m) none =
+          let l = ended.search.found.labelled m.0 (let a = ended.search.found.some in let le = m.1 in omega (arith, le, a)) in
+          taker_has (label_of labels m.0).before (label_of labels m.0).held.person l.at l.from (λ e. ne (sym m.2 ∙ e)) (ap (λ (p : ℕ). (own_at owns p).object) m.2 ∙ none)
+
+      -- who had nothing, and isn't the free person, has nothing
+      pub none_after_path : (i : ℕ) → i ≢ start → (own_at owns i).object ≡ NOBODY → (own_at left i).object ≡ NOBODY
+      none_after_path i ne none =
+          elim (cases_eq (own_at left i).object NOBODY) [
+            | inl e ↦ e
+            | inr some ↦ absurd (moved_had i ne some (taken.moved i some) none)
+          ]
+
       pub stands_after_path : Stands t eps new sold left
       stands_after_path = record {
         prices_are = raised.many ∙ stands.prices_are;
@@ -108,10 +127,10 @@ module _ (t : FlatTable) (eps : ℤ) (prices : List ℤ) (holders : List ℕ) (o
         slack = slack_after_path t eps prices new holders owns start labels line heap end ended raised is_eps sound stands.within stands.prices_are sold left agree_of not_nobody stands.slack taken;
       }
 
--- where all but one had objects, and now he has one, all have
-pub have_after_path : (n : ℕ) (owns left : List ShortArc) (person : ℕ) → HaveAllBut n owns person → (own_at left person).object ≢ NOBODY → ((i : ℕ) → (own_at owns i).object ≢ NOBODY → (own_at left i).object ≢ NOBODY) → HaveObjects n left
-have_after_path n owns left person but placed have i l =
+-- where a person had an object unless he was this one or another, and now this one has one, he has one unless he is the other
+pub have_after_path : (owns left : List ShortArc) (person : ℕ) → (own_at left person).object ≢ NOBODY → ((i : ℕ) → (own_at owns i).object ≢ NOBODY → (own_at left i).object ≢ NOBODY) → (other : ℕ) (i : ℕ) → (i ≢ person → i ≢ other → (own_at owns i).object ≢ NOBODY) → i ≢ other → (own_at left i).object ≢ NOBODY
+have_after_path owns left person placed have other i had off =
     elim (cases_eq i person) [
       | inl e ↦ subst (λ (m : ℕ). (own_at left m).object ≢ NOBODY) (sym e) placed
-      | inr ne ↦ have i (but.others i l ne)
+      | inr ne ↦ have i (had ne off)
     ]

@@ -98,7 +98,7 @@ way_on r eps person free next prices mid new held sold owns had left a b = recor
   higher = λ k. (let x = a.higher k in let y = b.higher k in omega (arith, ints, x, y));
   none = b.none;
   below = b.below;
-  but = λ n h. b.but n (a.but n h);
+  but = λ n other h. b.but n other (a.but n other h);
 }
 
 pub way_from : (r : FlatTable) (eps : ℤ) (person free : ℕ) (prices mid new : List ℤ) (sold : List ℕ) (owns left : List ShortArc) → AreHigher prices mid → IsWay r eps person mid new sold owns left free → IsWay r eps person prices new sold owns left free
@@ -123,19 +123,25 @@ way_passed r eps person prices new holders sold owns left d s sound stands known
       higher = subst (AreHigher prices) (sym (e ∙ same)) (higher_same prices);
       none = subst (λ (os : List ShortArc). (own_at os d).object ≡ NOBODY) (sym g) (subst (λ (m : ℕ). (own_at (set (set owns person s) (holder_at holders s.object) no_own) m).object ≡ NOBODY) (sym h) (market.gone r eps prices holders owns person s (price_at prices s.object) sound stands known none up fits));
       below = λ some. (let l = market.displaced_below r eps prices holders owns person s (price_at prices s.object) sound stands known none up fits (λ z. some (h ∙ z)) in omega (arith, l, h));
-      but = λ n b. subst (λ (os : List ShortArc). HaveAllBut n os d) (sym g) (subst (HaveAllBut n (set (set owns person s) (holder_at holders s.object) no_own)) (sym h) (market.all_but r eps prices holders owns person s (price_at prices s.object) sound stands known none up fits n b));
+      but = λ n other b. subst (λ (os : List ShortArc). HaveAllBut n os d other) (sym g) (subst (λ (m : ℕ). HaveAllBut n (set (set owns person s) (holder_at holders s.object) no_own) m other) (sym h) (market.all_but r eps prices holders owns person s (price_at prices s.object) sound stands known none up fits n other b));
     }
 
--- a person who has gone by a path whole: nobody is free in his place
-pub way_placed : (r : FlatTable) (eps : ℤ) (person : ℕ) (prices new : List ℤ) (sold : List ℕ) (owns left : List ShortArc) → IsFlatTable r → Stands r eps new sold left → AreHigher prices new → (own_at left person).object ≢ NOBODY → ((i : ℕ) → (own_at owns i).object ≢ NOBODY → (own_at left i).object ≢ NOBODY) → IsWay r eps person prices new sold owns left NOBODY
-way_placed r eps person prices new sold owns left sound stands up placed have =
-    let none : (own_at left NOBODY).object ≡ NOBODY = ap (λ (s : ShortArc). s.object) (get_or_past left NOBODY no_own (let m = sound.most in let e = stands.owns_are in omega (arith, m, e))) in
+-- a person who has gone by a path whole: nobody is free in his place, and who has waited waits
+pub way_placed : (r : FlatTable) (eps : ℤ) (person : ℕ) (prices new : List ℤ) (sold : List ℕ) (owns left : List ShortArc) → IsFlatTable r → person < length r.rows → Stands r eps new sold left → AreHigher prices new → (own_at left person).object ≢ NOBODY → ((i : ℕ) → (own_at owns i).object ≢ NOBODY → (own_at left i).object ≢ NOBODY) → ((i : ℕ) → i ≢ person → (own_at owns i).object ≡ NOBODY → (own_at left i).object ≡ NOBODY) → IsWay r eps person prices new sold owns left NOBODY
+way_placed r eps person prices new sold owns left sound known stands up placed have free =
+    let m = sound.most in
+    let none : (own_at left NOBODY).object ≡ NOBODY = ap (λ (s : ShortArc). s.object) (get_or_past left NOBODY no_own (let e = stands.owns_are in omega (arith, m, e))) in
     record {
       stands = stands;
       higher = up;
       none = none;
       below = λ some. absurd (some refl);
-      but = λ n h. record { none = none; others = λ i l ne. have_after_path n owns left person h placed have i l };
+      but = λ n other h. record {
+        none = none;
+        waits = free other (λ e. h.apart (λ z. omega (arith, z, known, m)) (sym e)) h.waits;
+        apart = λ some. absurd (some refl);
+        others = λ i l _ off. have_after_path owns left person placed have other i (h.others i l) off;
+      };
     }
 
 -- the sum of prices doesn't fall

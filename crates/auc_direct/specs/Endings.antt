@@ -1,5 +1,5 @@
 -- What a chain of bids, a phase and a run come to.
-use Rattle.std.specs.Prelude.{Bool, true, ℕ, ℤ, pos, ◌≡◌, ◌≢◌, ◌⊎◌, ◌+ℤ◌, ◌≤ℤ◌, List, length, All}
+use Rattle.std.specs.Prelude.{Bool, true, ℕ, ℤ, pos, ◌≡◌, ◌≢◌, ◌⊎◌, ◌<◌, ◌≤◌, ◌+ℤ◌, ◌≤ℤ◌, List, length, All}
 use Rattle.auc_cert.specs.declared.cert.CertParts.{CertParts}
 use Rattle.auc_cert.specs.declared.reason.Reason.{Reason}
 use Rattle.auc_graph.specs.Assignment.{total}
@@ -14,7 +14,7 @@ use Rattle.auc_direct.specs.declared.ending.Chain.{Chain}
 use Rattle.auc_direct.specs.declared.ending.Ending.{Ending}
 use Rattle.auc_direct.specs.declared.ending.PathStep.{PathStep}
 use Rattle.auc_direct.specs.declared.market.TheConstants.{NOBODY}
-use Rattle.auc_direct.specs.Market.{AreHigher, HaveObjects, IsAbove, Stands, own_at}
+use Rattle.auc_direct.specs.Market.{AreHigher, HaveAllBut, HaveObjects, IsAbove, Stands, own_at}
 use Rattle.auc_direct.specs.Starts.{AreOpened}
 
 -- Why a phase may be stopped: the prices add up to more than those that the run began with, by no less than the bids that a phase may
@@ -26,11 +26,23 @@ IsLimit r bids begun Reason.Posts prices = ⊥
 IsLimit r bids begun Reason.Trail prices = ⊥
 IsLimit r bids begun Reason.Mail prices = ⊥
 
--- the first n persons have objects; or the bids have run out; or a bid would be too high
-abbrev pub IsChain : FlatTable → ℤ → ℕ → ℕ → Chain → List ℤ → List ShortArc → Type 0
-IsChain r eps n left Chain.Placed prices owns = HaveObjects n owns
-IsChain r eps n left Chain.Bids prices owns = left ≡ 0
-IsChain r eps n left Chain.Ceiling prices owns = IsAbove r eps prices
+-- whoever had an object, or began the chain, has one; or the bids have run out; or a bid would be too high
+abbrev pub IsChain : FlatTable → ℤ → ℕ → ℕ → Chain → List ShortArc → List ℤ → List ShortArc → Type 0
+IsChain r eps first left Chain.Placed owns prices new = (n : ℕ) → n ≤ length r.rows → HaveAllBut n owns first NOBODY → HaveObjects n new
+IsChain r eps first left Chain.Bids owns prices new = left ≡ 0
+IsChain r eps first left Chain.Ceiling owns prices new = IsAbove r eps prices
+
+-- the first n persons have objects, but for one who waits; or as above
+abbrev pub AreServed : FlatTable → ℤ → ℕ → ℕ → ℕ → Chain → List ℤ → List ShortArc → Type 0
+AreServed r eps n left waits Chain.Placed prices owns = (waits < length r.rows) × HaveAllBut n owns NOBODY waits
+AreServed r eps n left waits Chain.Bids prices owns = left ≡ 0
+AreServed r eps n left waits Chain.Ceiling prices owns = IsAbove r eps prices
+
+-- all persons have objects; or as above
+abbrev pub AreSold : FlatTable → ℤ → ℕ → Chain → List ℤ → List ShortArc → Type 0
+AreSold r eps left Chain.Placed prices owns = HaveObjects (length r.rows) owns
+AreSold r eps left Chain.Bids prices owns = left ≡ 0
+AreSold r eps left Chain.Ceiling prices owns = IsAbove r eps prices
 
 -- each person has an object; or a limit has stopped the phase
 abbrev pub IsEnding : FlatTable → ℕ → ℤ → Ending → List ℤ → List ShortArc → Type 0
@@ -83,7 +95,7 @@ pub record IsLimitedFrom (p : Problem) (bids : ℕ) (start : List ℤ) (answer :
   pub opened : AreOpened p.objects p.persons start begun
   pub limited : IsLimited p bids (total begun) answer
 
--- A path leaves what stands between two bids, the person has an object, and no price has fallen; or nothing has changed.
+-- A path leaves what stands between two bids, the person has an object, nobody else has got or lost one, and no price has fallen; or nothing has changed.
 abbrev pub IsPathStep : FlatTable → ℤ → ℕ → PathStep → List ℤ → List ℕ → List ShortArc → List ℤ → List ℕ → List ShortArc → Type 0
-IsPathStep r eps start PathStep.Placed prices holders owns new sold left = Stands r eps new sold left × (total prices ≤ℤ total new) × ((own_at left start).object ≢ NOBODY) × ((i : ℕ) → (own_at owns i).object ≢ NOBODY → (own_at left i).object ≢ NOBODY) × AreHigher prices new
+IsPathStep r eps start PathStep.Placed prices holders owns new sold left = Stands r eps new sold left × (total prices ≤ℤ total new) × ((own_at left start).object ≢ NOBODY) × ((i : ℕ) → (own_at owns i).object ≢ NOBODY → (own_at left i).object ≢ NOBODY) × AreHigher prices new × ((i : ℕ) → i ≢ start → (own_at owns i).object ≡ NOBODY → (own_at left i).object ≡ NOBODY)
 IsPathStep r eps start PathStep.Stayed prices holders owns new sold left = (new ≡ prices) × (sold ≡ holders) × (left ≡ owns)

@@ -46,10 +46,12 @@ pub record Stands (r : FlatTable) (eps : ℤ) (prices : List ℤ) (holders : Lis
 abbrev pub HaveObjects : ℕ → List ShortArc → Type 0
 HaveObjects n owns = (i : ℕ) → i < n → (own_at owns i).object ≢ NOBODY
 
--- each of the first n persons but one, who has none
-pub record HaveAllBut (n : ℕ) (owns : List ShortArc) (person : ℕ) : Type 0 where
+-- Each of the first n persons has an object, but for two, who have none and are not the same: who bids next, and who waits for his turn. NOBODY stands for one where there is none.
+pub record HaveAllBut (n : ℕ) (owns : List ShortArc) (person other : ℕ) : Type 0 where
   pub none : (own_at owns person).object ≡ NOBODY
-  pub others : (i : ℕ) → i < n → i ≢ person → (own_at owns i).object ≢ NOBODY
+  pub waits : (own_at owns other).object ≡ NOBODY
+  pub apart : person ≢ NOBODY → person ≢ other
+  pub others : (i : ℕ) → i < n → i ≢ person → i ≢ other → (own_at owns i).object ≢ NOBODY
 
 -- each person of a problem has an arc
 abbrev pub EachHasRow : Problem → Type 0
@@ -72,7 +74,8 @@ AreHigher prices new = (k : ℕ) → price_at prices k ≤ℤ price_at new k
 pub record IsAwarded (r : FlatTable) (eps : ℤ) (person : ℕ) (prices new : List ℤ) (sold : List ℕ) (owns left : List ShortArc) (displaced : ℕ) : Type 0 where
   pub stands : Stands r eps new sold left
   pub more : (total prices +ℤ pos 1) ≤ℤ total new
-  pub but : (n : ℕ) → HaveAllBut n owns person → HaveAllBut n left displaced
+  pub none : (own_at left displaced).object ≡ NOBODY
+  pub but : (n other : ℕ) → HaveAllBut n owns person other → HaveAllBut n left displaced other
   pub below : displaced ≢ NOBODY → displaced < length r.rows
   pub higher : AreHigher prices new
 

@@ -20,4 +20,4 @@ pub record IsWay (r : FlatTable) (eps : ℤ) (person : ℕ) (prices new : List �
   pub higher : AreHigher prices new
   pub none : (own_at left free).object ≡ NOBODY
   pub below : free ≢ NOBODY → free < length r.rows
-  pub but : (n : ℕ) → HaveAllBut n owns person → HaveAllBut n left free
+  pub but : (n other : ℕ) → HaveAllBut n owns person other → HaveAllBut n left free other

@@ -35,11 +35,11 @@ pub(crate) struct Ahead {
     most: u64,
 }
 
-/// How many bids it may make after a first phase of so many: three times as many where these are fewer than three for two persons; else none. Costs of two levels make such a phase, and those
+/// How many bids it may make after a first phase of so many: three times as many where these are fewer than seven for four persons; else none. Costs of two levels make such a phase, and those
 /// between are price wars.
 fn bids_after_first(made: u64, persons: u32) -> u64 {
     let persons = u64::from(persons);
-    if made < persons + persons / 2 {
+    if made.saturating_mul(4) < 7 * persons {
         made.saturating_mul(3)
     } else {
         0
@@ -51,8 +51,8 @@ fn has_fallen(made: u64, before: u64, tenths: u64, most: u64) -> bool {
     made < most && made.saturating_mul(10) < before.saturating_mul(tenths)
 }
 
-/// The same after a later phase, in a run that is calm: half as many again where these are fewer than four a person, and than eight tenths of those of the phase before it. That one took three a
-/// person or more: where many want the same few objects it takes fewer, and the last phase many.
+/// How many bids it may make after a later phase of so many, in a run that is calm: half as many again where these are fewer than four a person, and than eight tenths of those of the phase before
+/// it. That one took three a person or more: where many want the same few objects it takes fewer, and the last phase many.
 fn bids_when_calm(made: u64, before: u64, persons: u32) -> u64 {
     let persons = u64::from(persons);
     if before < 3 * persons || !has_fallen(made, before, 8, 4 * persons) {

@@ -1,7 +1,7 @@
 //! A first phase at a finer eps, where rows are long. Where costs are drawn at random it sells all by a few bids a person, and the phases after it are shorter, and fewer. In a price war, or among
-//! points in a plane, it is given up soon: its bids are handed out person by person, and such problems ask for more.
+//! points in a plane, it is given up soon: its bids are handed out as persons begin, and such problems ask for more.
 
-ghost use Rattle.std.specs.Prelude.{◌≡◌, pos, ◌≤ℤ◌, ◌<ℤ◌, length, IfOk, IfSome, IfNone, OnOk};
+ghost use Rattle.std.specs.Prelude.{◌≡◌, ◌<◌, ◌≤◌, pos, ◌≤ℤ◌, ◌<ℤ◌, length, IfOk, IfSome, IfNone, OnOk};
 ghost use Rattle.std.specs.BinaryHeap.{heap_items};
 ghost use Rattle.auc_graph.specs.Assignment.{total};
 ghost use Rattle.auc_letters.specs.Price.{IsEps};
@@ -27,8 +27,8 @@ const EACH: u64 = 4;
 /// How many more, for each person of all, when the last ones begin: to these few objects are left, and they go far.
 const AT_LAST: u64 = 8;
 
-/// One person of so many is one of the last.
-const LAST: u32 = 128;
+/// Persons begin in so many parts, and each part gets its bids as it begins; those of the last part are the last ones.
+const ALL_PARTS: u32 = 128;
 
 /// The eps of such a phase, an eighth of that of the first one; none where rows are short, or it is less than 1.
 fn fine_eps(rows: &FlatRows, eps: i64) -> Option<i64>
@@ -41,6 +41,26 @@ fn fine_eps(rows: &FlatRows, eps: i64) -> Option<i64>
         return None;
     }
     Some(fine)
+}
+
+/// Where the part ends that begins with this person, of so many persons each: whole parts are left behind it.
+fn end_of_part(begun: u32, persons: u32, part: u32) -> u32
+    requires begun { begun < persons }
+    requires part { 1 ≤ part }
+    ensures more { begun < result }
+    ensures most { result ≤ persons }
+{
+    persons - (persons - begun - 1) / part * part
+}
+
+/// How many bids are handed out for the persons from `begun` up to `until`.
+fn bids_of_part(begun: u32, until: u32, persons: u32) -> u64 {
+    let each = EACH * u64::from(until.saturating_sub(begun));
+    if until < persons {
+        each
+    } else {
+        each + AT_LAST * u64::from(persons)
+    }
 }
 
 /// How many bids are handed out at most, to so many persons.
@@ -68,25 +88,39 @@ impl Market {
         ensures kept { OnOk result (Kept rows.now self.new.prices.items work.new.lists.lists.items) }
     {
         let persons = rows.persons();
-        let last = persons - persons / LAST;
+        let part = (persons / ALL_PARTS).max(1);
+        let mut waiting = self.free_from(0, persons, NOBODY, NOBODY);
+        if waiting == persons {
+            return Ok(true);
+        }
+        let mut begun = waiting + 1;
         let mut given = u64::from(persons / 8);
         let mut left = given;
-        for first in 0..persons {
-            let more = if first == last {
-                AT_LAST * u64::from(persons)
-            } else {
-                EACH
-            };
+        while begun < persons {
+            let until = end_of_part(begun, persons, part);
+            let more = bids_of_part(begun, until, persons);
             given = given.saturating_add(more);
             left = left.saturating_add(more);
-            if self.owns[first as usize].object != NOBODY {
-                continue;
-            }
-            match self.chain(rows, eps, first, &mut left, patience, work)? {
+            match self.serve(
+                rows,
+                eps,
+                begun,
+                until,
+                &mut waiting,
+                &mut left,
+                patience,
+                work,
+            )? {
                 Chain::Placed => {}
                 Chain::Bids => return Ok(false),
                 Chain::Ceiling => return Ok(false),
             }
+            begun = until;
+        }
+        match self.chain(rows, eps, waiting, &mut left, patience, work)? {
+            Chain::Placed => {}
+            Chain::Bids => return Ok(false),
+            Chain::Ceiling => return Ok(false),
         }
         work.made = work.made.saturating_add(given.saturating_sub(left));
         Ok(true)

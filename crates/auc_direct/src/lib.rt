@@ -6,6 +6,7 @@
 mod ahead;
 mod best;
 mod bid;
+mod chain;
 mod early;
 mod ending;
 mod eps;
@@ -28,6 +29,7 @@ mod solving;
 mod starts;
 mod table_path;
 mod table_search;
+mod turns;
 mod walk;
 mod watch;
 mod watched;

@@ -99,9 +99,13 @@ impl Market {
         self.prices[object] = bid.amount;
         self.holders[object] = person;
         self.owns[person as usize] = bid.arc;
-        if earlier != NOBODY {
-            self.owns[earlier as usize] = NO_OWN;
-        }
+        // Where nobody has held it the bidder's own arc is written again, so that there is no branch: it would be guessed wrongly where a chain of bids ends.
+        let (last, own) = if earlier == NOBODY {
+            (person, bid.arc)
+        } else {
+            (earlier, NO_OWN)
+        };
+        self.owns[last as usize] = own;
         earlier
     }
 }

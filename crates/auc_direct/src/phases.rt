@@ -20,7 +20,7 @@ use auc_cert::Reason;
 use auc_rows::FlatRows;
 use std::alloc::{AllocError, Global};
 
-/// After how many bids of a chain a path is looked for in a run of one phase, at the last eps, where a bid raises a price by little. At least so many, and where a person
+/// After how many bids that each displace somebody a path is looked for in a run of one phase, at the last eps, where a bid raises a price by little. At least so many, and where a person
 /// knows many objects twice as many as he knows in the mean: a search looks at whole rows, and a bid at a list.
 const SOON: u64 = 64;
 
@@ -28,16 +28,16 @@ const SOON: u64 = 64;
 /// many as may take the time of a search.
 const LATE: u64 = 10_000;
 
-/// How many bids of a chain there are for each person before a path is looked for there. In the plane chains are long that come to their end all the same, and after a path, which
-/// raises the prices of all that it has passed, more is bid: with so many, 10,000 points take 0.64 to 0.73 of the instructions that they took with 10,000 bids.
-const MANY: u64 = 8;
+/// How many bids there are for each person, in two chains that take turns, before a path is looked for there. In the plane chains are long that come to their end all the same, and after a path,
+/// which raises the prices of all that it has passed, more is bid: 10,000 points with 32 arcs each took 1.02 million bids with so many, and 1.45 with half as many.
+const MANY: u64 = 16;
 
 /// The same in a full table, where a search for a path costs little.
 const AT_ONCE: u64 = 4;
 
 /// How many bids a person makes in the first phase, in the mean, before it is asked whether there is an assignment at all: more than were seen in any problem that has one. Points in a
-/// plane with ten arcs each take up to eleven.
-const FEW: u64 = 16;
+/// plane with ten arcs each take up to seventeen.
+const FEW: u64 = 20;
 
 /// The same where rows are long: there each bid takes longer, and fewer were seen.
 const FEW_OF_LONG: u64 = 12;

@@ -196,10 +196,10 @@ fn solve_from_unasked<W: Watch>(
 ///
 /// Takes the time of the bids, each O(arcs of the person), or O(1) where the list of a long row tells it, of the paths, each at most O(arcs * log arcs), and of one check of what is no least assignment. The search
 /// for an assignment of any cost ([`auc_hall::complete`]) comes first where there are more objects than persons and a greedy pass over the arcs doesn't serve everybody, and after
-/// a first phase in which sixteen bids a person, twelve where rows are long, don't give each one an object; and for a bracket. It takes 12 bytes of memory an arc; else 8 bytes an arc and some 60 an object are taken beside the problem's own, 216 a person where most
+/// a first phase in which twenty bids a person, twelve where rows are long, don't give each one an object; and for a bracket. It takes 12 bytes of memory an arc; else 8 bytes an arc and some 60 an object are taken beside the problem's own, 216 a person where most
 /// arcs stand in rows of 48 and more, with 8 for 16 arcs of a row of 256 and more, and 16 for each label that waits in a search, of which there are at most as many as arcs. That paths are taken at all no
 /// clause says, nor that lists are. The method is the auction with epsilon scaling
-/// (Bertsekas, 1979; Bertsekas and Eckstein, 1988), where whoever is displaced bids next, and successive shortest paths (Edmonds and Karp, 1972) where that goes far.
+/// (Bertsekas, 1979; Bertsekas and Eckstein, 1988), in two chains that take turns, of each of which whoever is displaced bids next, and successive shortest paths (Edmonds and Karp, 1972) where that goes far.
 ///
 /// # Errors
 ///

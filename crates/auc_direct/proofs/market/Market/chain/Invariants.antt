@@ -1,8 +1,9 @@
-use Rattle.std.proofs.Common.{pos, ◌+◌, ◌<◌, ◌≤◌, length}
+use Rattle.std.proofs.Common.{ℕ, pos, ◌<◌, ◌≤◌, ◌≡◌, length}
 use Rattle.std.specs.Prelude.{◌+ℤ◌, ◌≤ℤ◌}
 use Rattle.auc_graph.specs.Assignment.{total}
 use Rattle.std.specs.BinaryHeap.{heap_items}
-use Rattle.auc_direct.specs.Market.{HaveAllBut, Stands}
+use Rattle.auc_direct.specs.declared.market.TheConstants.{NOBODY}
+use Rattle.auc_direct.specs.Market.{HaveAllBut, Stands, own_at}
 use Rattle.auc_direct.specs.Path.{IsClean}
 use Rattle.auc_direct.specs.Shortlist.{Kept}
 use Rattle.auc_direct.proofs.market.Market.chain.Given as goal
@@ -11,7 +12,8 @@ abbrev pub invariant-loop-left : goal.invariant-loop-left
 invariant-loop-left l = record {
   stands : Stands l.rows l.eps l.self.prices.items l.self.holders.items l.self.owns.items;
   known : l.person < length l.rows.rows;
-  but : HaveAllBut (l.first + 1) l.self.owns.items l.person;
+  none : (own_at l.self.owns.items l.person).object ≡ NOBODY;
+  but : (n : ℕ) → HaveAllBut n l.fn.self.owns.items l.first NOBODY → HaveAllBut n l.self.owns.items l.person NOBODY;
   clean : IsClean l.rows.objects l.work.search.labels.items l.work.search.line.items (heap_items l.work.search.heap);
   kept : Kept l.rows l.self.prices.items l.work.lists.lists.items;
   raised : (total l.fn.self.prices.items +ℤ pos l.fn.left) ≤ℤ (total l.self.prices.items +ℤ pos l.left);

@@ -26,7 +26,7 @@ returns-in-Placed-clause-way c =
     let s = simp to_z-of_z at (rw c.in-Placed.is at c.in_ok-path.ensures.step) in
     let first = simp to_z-of_z at c.in_ok-free.ensures in
     way_on c.args.rows.now c.args.eps c.args.person c.in_ok-free.free _ c.args.self.now.prices.items c.path_by_table.new.self.prices.items c.path.new.self.prices.items c.path_by_table.new.self.holders.items c.path.new.self.holders.items c.args.self.now.owns.items c.path_by_table.new.self.owns.items c.path.new.self.owns.items first
-    (way_placed c.args.rows.now c.args.eps c.in_ok-free.free c.path_by_table.new.self.prices.items c.path.new.self.prices.items c.path.new.self.holders.items c.path_by_table.new.self.owns.items c.path.new.self.owns.items c.requires.sound s.0 s.4 s.2 s.3)
+    (way_placed c.args.rows.now c.args.eps c.in_ok-free.free c.path_by_table.new.self.prices.items c.path.new.self.prices.items c.path.new.self.holders.items c.path_by_table.new.self.owns.items c.path.new.self.owns.items c.requires.sound (c.in_ok-free.ensures.below c.if-free.false) s.0 s.4 s.2 s.3 s.5)
 
 pub returns-in-Placed-clause-kept : goal.returns-in-Placed-clause-kept
 returns-in-Placed-clause-kept c =

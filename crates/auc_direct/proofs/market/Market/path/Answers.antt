@@ -3,7 +3,7 @@ use Rattle.std.proofs.lemmas.List.{get_or_read, take_at}
 use Rattle.auc_direct.specs.declared.label.Label.{Label}
 use Rattle.auc_direct.specs.Path.{blank, near_of, seats}
 use Rattle.auc_direct.proofs.Labels.{chain_of, left_of, line_of}
-use Rattle.auc_direct.proofs.PathLaws.{agree_of, higher_after_path, holders_known, label_known, label_arcs, owns_known, seated, stands_after_path, total_after_path}
+use Rattle.auc_direct.proofs.PathLaws.{agree_of, higher_after_path, holders_known, label_known, label_arcs, none_after_path, owns_known, seated, stands_after_path, total_after_path}
 use Rattle.auc_direct.proofs.market.Market.path.Goals as goal
 
 pub find-requires-clause-owns : goal.find-requires-clause-owns
@@ -94,4 +94,5 @@ returns-clause-step c =
       taken.placed,
       taken.have,
       higher_after_path c.args.rows.now c.args._eps c.args.self.now.prices.items c.args.self.now.holders.items c.args.self.now.owns.items c.requires.sound c.requires.stands c.raise.new.prices c.args.start c.find.new.self.labels.items c.find.new.self.line.items (heap_items c.find.new.self.heap) c.in-Some.end ended c.hand_over.new.holders c.hand_over.new.owns c.requires.eps raised fit taken,
+      none_after_path c.args.rows.now c.args._eps c.args.self.now.prices.items c.args.self.now.holders.items c.args.self.now.owns.items c.requires.sound c.requires.stands c.raise.new.prices c.args.start c.find.new.self.labels.items c.find.new.self.line.items (heap_items c.find.new.self.heap) c.in-Some.end ended c.hand_over.new.holders c.hand_over.new.owns c.requires.eps raised fit taken,
     )

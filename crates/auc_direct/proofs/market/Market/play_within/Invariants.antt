@@ -7,10 +7,10 @@ use Rattle.auc_direct.specs.Path.{IsClean}
 use Rattle.auc_direct.specs.Shortlist.{Kept}
 use Rattle.auc_direct.proofs.market.Market.play_within.Given as goal
 
-abbrev pub invariant-loop-first : goal.invariant-loop-first
-invariant-loop-first l = record {
+abbrev pub invariant-loop-person : goal.invariant-loop-person
+invariant-loop-person l = record {
   stands : Stands l.rows l.eps l.self.prices.items l.self.holders.items l.self.owns.items;
-  have : HaveObjects l.first l.self.owns.items;
+  have : HaveObjects l.person l.self.owns.items;
   clean : IsClean l.rows.objects l.work.search.labels.items l.work.search.line.items (heap_items l.work.search.heap);
   kept : Kept l.rows l.self.prices.items l.work.lists.lists.items;
   raised : (total l.fn.self.prices.items +ℤ pos l.bids) ≤ℤ (total l.self.prices.items +ℤ pos l.left);

@@ -1,0 +1,140 @@
+//! A chain of bids: whoever is displaced bids next; where that goes far, he goes by a path.
+
+ghost use Rattle.std.specs.Prelude.{◌≡◌, ◌≢◌, ◌<◌, ◌≤◌, pos, ◌+ℤ◌, ◌≤ℤ◌, length, IfOk, IfSome, IfNone, OnOk};
+ghost use Rattle.std.specs.BinaryHeap.{heap_items};
+ghost use Rattle.auc_graph.specs.Assignment.{total};
+ghost use Rattle.auc_letters.specs.Price.{IsEps};
+ghost use Rattle.auc_rows.specs.Rows.{EachHasArc, IsFlatTable, scale_in};
+ghost use Rattle.auc_direct.specs.Endings.{IsChain};
+ghost use Rattle.auc_direct.specs.Market.{IsAwarded, IsTooHigh, Stands, own_at};
+ghost use Rattle.auc_direct.specs.Path.{IsClean};
+ghost use Rattle.auc_direct.specs.Shortlist.{Kept};
+ghost use Rattle.auc_direct.specs.Way.{IsWay};
+
+use crate::bid::bid_of;
+use crate::ending::Chain;
+use crate::lists::Lists;
+use crate::market::{Market, NOBODY};
+use crate::workspace::Workspace;
+use auc_rows::FlatRows;
+use std::alloc::AllocError;
+
+/// How many bids in a row have displaced somebody, after one more.
+#[inline(always)]
+fn walked_after(walked: u64, displaced: u32) -> u64 {
+    if displaced == NOBODY {
+        0
+    } else {
+        walked.saturating_add(1)
+    }
+}
+
+impl Market {
+    /// A person bids, and has the object; gives who has held it. None where the bid would be above the greatest price.
+    #[inline(always)]
+    pub(crate) fn step(
+        &mut self,
+        rows: &FlatRows,
+        scale: i64,
+        spread: i64,
+        eps: i64,
+        person: u32,
+        lists: &mut Lists,
+    ) -> Option<u32>
+        requires person { person < length rows.now.rows }
+        requires arcs { EachHasArc rows.now }
+        requires scale { scale ≡ scale_in rows.now }
+        requires spread { spread ≡ rows.now.spread }
+        requires eps { IsEps eps }
+        requires stands { Stands rows.now eps self.old.prices.items self.old.holders.items self.old.owns.items }
+        requires none { (own_at self.old.owns.items person).object ≡ NOBODY }
+        requires kept { Kept rows.now self.old.prices.items lists.old.lists.items }
+        ensures awarded { IfSome result (IsAwarded rows.now eps person self.old.prices.items self.new.prices.items self.new.holders.items self.old.owns.items self.new.owns.items) }
+        ensures high { IfNone result (IsTooHigh rows.now eps self.old.prices.items self.new.prices.items self.old.holders.items self.new.holders.items self.old.owns.items self.new.owns.items) }
+        ensures kept { Kept rows.now self.new.prices.items lists.new.lists.items }
+    {
+        let prices = self.prices.as_slice();
+        let best = lists.best(rows, scale, person, prices);
+        let bid = bid_of(scale, spread, eps, rows.row(person), best, prices);
+        if bid.is_too_high() {
+            return None;
+        }
+        Some(self.award(person, bid))
+    }
+
+    /// Who is free after a bid: whom it has displaced, or, where the last `patience` bids have each displaced somebody, who is free after he has looked for a path, which is no bid. NOBODY where
+    /// nobody is.
+    #[inline(always)]
+    pub(crate) fn freed_by(
+        &mut self,
+        rows: &FlatRows,
+        eps: i64,
+        displaced: u32,
+        patience: u64,
+        work: &mut Workspace,
+    ) -> Result<u32, AllocError>
+        requires below { displaced ≢ NOBODY → displaced < length rows.now.rows }
+        requires arcs { EachHasArc rows.now }
+        requires eps { IsEps eps }
+        requires sound { IsFlatTable rows.now }
+        requires stands { Stands rows.now eps self.old.prices.items self.old.holders.items self.old.owns.items }
+        requires none { (own_at self.old.owns.items displaced).object ≡ NOBODY }
+        requires clean { IsClean rows.now.objects work.old.search.labels.items work.old.search.line.items (heap_items work.old.search.heap) }
+        requires kept { Kept rows.now self.old.prices.items work.old.lists.lists.items }
+        ensures way { IfOk result (IsWay rows.now eps displaced self.old.prices.items self.new.prices.items self.new.holders.items self.old.owns.items self.new.owns.items) }
+        ensures clean { OnOk result (IsClean rows.now.objects work.new.search.labels.items work.new.search.line.items (heap_items work.new.search.heap)) }
+        ensures kept { OnOk result (Kept rows.now self.new.prices.items work.new.lists.lists.items) }
+    {
+        work.walked = walked_after(work.walked, displaced);
+        if work.walked < patience {
+            return Ok(displaced);
+        }
+        if displaced == NOBODY {
+            return Ok(NOBODY);
+        }
+        work.walked = 0;
+        self.find_way(rows, eps, displaced, work)
+    }
+
+    /// A person bids, then whom he displaces, and so on, until nobody is displaced. `left` is how many bids the phase may still make. After each `patience` bids the one
+    /// who is displaced looks for a path.
+    pub(crate) fn chain(
+        &mut self,
+        rows: &FlatRows,
+        eps: i64,
+        first: u32,
+        left: &mut u64,
+        patience: u64,
+        work: &mut Workspace,
+    ) -> Result<Chain, AllocError>
+        requires first { first < length rows.now.rows }
+        requires arcs { EachHasArc rows.now }
+        requires eps { IsEps eps }
+        requires stands { Stands rows.now eps self.old.prices.items self.old.holders.items self.old.owns.items }
+        requires none { (own_at self.old.owns.items first).object ≡ NOBODY }
+        requires clean { IsClean rows.now.objects work.old.search.labels.items work.old.search.line.items (heap_items work.old.search.heap) }
+        requires kept { Kept rows.now self.old.prices.items work.old.lists.lists.items }
+        ensures stands { OnOk result (Stands rows.now eps self.new.prices.items self.new.holders.items self.new.owns.items) }
+        ensures chain { IfOk result (λ c. IsChain rows.now eps first left.new c self.old.owns.items self.new.prices.items self.new.owns.items) }
+        ensures raised { OnOk result ((total self.old.prices.items +ℤ pos left.old) ≤ℤ (total self.new.prices.items +ℤ pos left.new)) }
+        ensures fewer { OnOk result (left.new ≤ left.old) }
+        ensures clean { OnOk result (IsClean rows.now.objects work.new.search.labels.items work.new.search.line.items (heap_items work.new.search.heap)) }
+        ensures kept { OnOk result (Kept rows.now self.new.prices.items work.new.lists.lists.items) }
+    {
+        let scale = rows.scale();
+        let spread = rows.spread();
+        let mut person = first;
+        while *left > 0 {
+            let lists = &mut work.lists;
+            let Some(displaced) = self.step(rows, scale, spread, eps, person, lists) else {
+                return Ok(Chain::Ceiling);
+            };
+            *left -= 1;
+            person = self.freed_by(rows, eps, displaced, patience, work)?;
+            if person == NOBODY {
+                return Ok(Chain::Placed);
+            }
+        }
+        Ok(Chain::Bids)
+    }
+}

@@ -19,9 +19,11 @@ use crate::workspace::Workspace;
 use auc_rows::FlatRows;
 use std::alloc::AllocError;
 
-/// How many bids in a row have displaced somebody, after one more.
+/// How many bids in a row have displaced somebody, after one more. LLVM makes a select of it: a branch would be guessed wrongly where a chain ends.
 #[inline(always)]
-fn walked_after(walked: u64, displaced: u32) -> u64 {
+fn walked_after(walked: u64, displaced: u32) -> u64
+    ensures { displaced ≡ NOBODY → result ≡ 0 }
+{
     if displaced == NOBODY {
         0
     } else {
@@ -86,11 +88,9 @@ impl Market {
         ensures kept { OnOk result (Kept rows.now self.new.prices.items work.new.lists.lists.items) }
     {
         work.walked = walked_after(work.walked, displaced);
-        if work.walked < patience {
+        // So that none is asked for where nobody was displaced, and no test of that makes a branch here.
+        if work.walked <= patience.saturating_sub(1) {
             return Ok(displaced);
-        }
-        if displaced == NOBODY {
-            return Ok(NOBODY);
         }
         work.walked = 0;
         self.find_way(rows, eps, displaced, work)

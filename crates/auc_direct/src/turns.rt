@@ -47,6 +47,7 @@ impl Market {
     pub(crate) fn free_from(&self, from: u32, until: u32, person: u32, other: u32) -> u32
         requires from { from ≤ until }
         requires until { until ≤ length self.now.owns.items }
+        ensures least { from ≤ result }
         ensures most { result ≤ until }
         ensures free { result < until → (own_at self.now.owns.items result).object ≡ NOBODY }
         ensures neither { result < until → (result ≢ person) × (result ≢ other) }

@@ -18,3 +18,4 @@ mod Serving
 mod Walks
 mod PathLaws
 mod Ways
+mod Refinement

@@ -7,3 +7,4 @@ pub mod Way
 pub mod Endings
 pub mod Held
 pub mod Path
+pub mod Refine

@@ -19,16 +19,15 @@ use crate::workspace::Workspace;
 use auc_rows::FlatRows;
 use std::alloc::AllocError;
 
-/// How many bids in a row have displaced somebody, after one more. LLVM makes a select of it: a branch would be guessed wrongly where a chain ends.
+/// How many bids were left where a chain ended last, after one more bid.
+///
+/// LLVM makes a select of it: a branch would be guessed wrongly where a chain ends. Were the bids of a chain counted, with 0 where it ends, it would make a branch of that all the same, since after 0
+/// bids no path is asked for.
 #[inline(always)]
-fn walked_after(walked: u64, displaced: u32) -> u64
-    ensures { displaced ≡ NOBODY → result ≡ 0 }
+fn ended_at(ended: u64, left: u64, displaced: u32) -> u64
+    ensures { displaced ≡ NOBODY → result ≡ left }
 {
-    if displaced == NOBODY {
-        0
-    } else {
-        walked.saturating_add(1)
-    }
+    if displaced == NOBODY { left } else { ended }
 }
 
 impl Market {
@@ -64,14 +63,16 @@ impl Market {
         Some(self.award(person, bid))
     }
 
-    /// Who is free after a bid: whom it has displaced, or, where the last `patience` bids have each displaced somebody, who is free after he has looked for a path, which is no bid. NOBODY where
-    /// nobody is.
+    /// Who is free after a bid, with so many left: whom it has displaced, or, where the last `patience` bids have each displaced somebody, who is free after he has looked for a path, which is no bid.
+    /// NOBODY where nobody is.
     #[inline(always)]
     pub(crate) fn freed_by(
         &mut self,
         rows: &FlatRows,
         eps: i64,
         displaced: u32,
+        left: u64,
+        ended: &mut u64,
         patience: u64,
         work: &mut Workspace,
     ) -> Result<u32, AllocError>
@@ -87,12 +88,12 @@ impl Market {
         ensures clean { OnOk result (IsClean rows.now.objects work.new.search.labels.items work.new.search.line.items (heap_items work.new.search.heap)) }
         ensures kept { OnOk result (Kept rows.now self.new.prices.items work.new.lists.lists.items) }
     {
-        work.walked = walked_after(work.walked, displaced);
-        // So that none is asked for where nobody was displaced, and no test of that makes a branch here.
-        if work.walked <= patience.saturating_sub(1) {
+        *ended = ended_at(*ended, left, displaced);
+        // None is asked for where nobody was displaced: the chain has ended here then.
+        if ended.saturating_sub(left) <= patience.saturating_sub(1) {
             return Ok(displaced);
         }
-        work.walked = 0;
+        *ended = left;
         self.find_way(rows, eps, displaced, work)
     }
 
@@ -124,17 +125,20 @@ impl Market {
         let scale = rows.scale();
         let spread = rows.spread();
         let mut person = first;
+        let mut ended = left.saturating_add(work.walked);
         while *left > 0 {
             let lists = &mut work.lists;
             let Some(displaced) = self.step(rows, scale, spread, eps, person, lists) else {
                 return Ok(Chain::Ceiling);
             };
             *left -= 1;
-            person = self.freed_by(rows, eps, displaced, patience, work)?;
+            person = self.freed_by(rows, eps, displaced, *left, &mut ended, patience, work)?;
             if person == NOBODY {
+                work.walked = 0;
                 return Ok(Chain::Placed);
             }
         }
+        work.walked = ended.saturating_sub(*left);
         Ok(Chain::Bids)
     }
 }

@@ -10,6 +10,7 @@ ghost use Rattle.auc_direct.specs.Endings.{IsStart};
 ghost use Rattle.auc_direct.specs.Market.{Stands};
 ghost use Rattle.auc_direct.specs.Path.{IsClean};
 ghost use Rattle.auc_direct.specs.Shortlist.{Kept};
+ghost use Rattle.auc_direct.specs.Starts.{any_eps};
 
 use crate::ending::Chain;
 use crate::eps::{MANY_ARCS, half_of_mean, next_eps};
@@ -144,20 +145,21 @@ impl Market {
         requires kept { Kept rows.now self.old.prices.items work.old.lists.lists.items }
         ensures next { IfOk result (λ o. IfSome o IsEps) }
         ensures start { IfOk result (λ o. IfSome o (λ next. IsStart rows.now next self.new.prices.items)) }
-        ensures holders { OnOk result (length self.new.holders.items ≡ rows.now.objects) }
-        ensures owns { OnOk result (length self.new.owns.items ≡ length rows.now.rows) }
+        ensures any { OnOk result (Stands rows.now any_eps self.new.prices.items self.new.holders.items self.new.owns.items) }
         ensures stands { IfOk result (λ o. IfNone o (Stands rows.now eps self.new.prices.items self.new.holders.items self.new.owns.items)) }
         ensures risen { OnOk result (total self.old.prices.items ≤ℤ total self.new.prices.items) }
         ensures clean { OnOk result (IsClean rows.now.objects work.new.search.labels.items work.new.search.line.items (heap_items work.new.search.heap)) }
         ensures kept { OnOk result (Kept rows.now self.new.prices.items work.new.lists.lists.items) }
     {
+        // Read first, so that the proof knows what all rows keep.
+        let persons = rows.persons();
         let Some(fine) = fine_eps(rows, eps) else {
             return Ok(None);
         };
         let Some(next) = next_eps(fine) else {
             return Ok(None);
         };
-        if bids <= most_bids(rows.persons()) {
+        if bids <= most_bids(persons) {
             return Ok(None);
         }
         self.open();

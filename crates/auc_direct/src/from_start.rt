@@ -76,7 +76,7 @@ pub(crate) fn play_from<W: Watch>(
             None => {
                 let eps = first_eps(rows);
                 let patience = patience_at(rows, eps);
-                play_phases(rows, bids, eps, patience, market, work, watch)
+                play_phases(alloc, rows, bids, eps, patience, market, work, watch)
             }
         };
     }

@@ -6,14 +6,17 @@ ghost use Rattle.auc_graph.specs.Assignment.{total};
 ghost use Rattle.auc_letters.specs.Price.{IsEps};
 ghost use Rattle.auc_rows.specs.Rows.{EachHasArc};
 ghost use Rattle.auc_direct.specs.Endings.{IsLeft, IsStart, IsStopped};
+ghost use Rattle.auc_direct.specs.Market.{Stands};
 ghost use Rattle.auc_direct.specs.Path.{IsClean};
 ghost use Rattle.auc_direct.specs.Shortlist.{Kept};
+ghost use Rattle.auc_direct.specs.Starts.{any_eps};
 
 use crate::ahead::Ahead;
 use crate::early::MOST_LOOKS;
 use crate::ending::Ending;
 use crate::eps::{LAST_EPS, MANY_ARCS, half_of_mean, next_eps};
 use crate::market::Market;
+use crate::trend::Trend;
 use crate::watch::{Progress, Watch};
 use crate::workspace::Workspace;
 use auc_cert::Reason;
@@ -80,9 +83,10 @@ pub(crate) struct Outcome {
     pub(crate) market: Market,
 }
 
-/// A phase at this eps from the prices of the market, and then one at each next eps, from the prices of the one before: up to the last one, or the first that a limit
-/// stops. Each may make so many bids, and looks for a path after `patience` of a chain.
+/// A phase at this eps from the prices of the market, and then one at each next eps, from the prices of the one before: up to the last one, the first that a limit stops, or the one after which
+/// prices are refined until what persons hold is seen to cost least. Each may make so many bids, and looks for a path after `patience` of a chain.
 pub(crate) fn play_phases<W: Watch>(
+    alloc: Global,
     rows: &FlatRows,
     bids: u64,
     eps: i64,
@@ -94,8 +98,7 @@ pub(crate) fn play_phases<W: Watch>(
     requires arcs { EachHasArc rows.now }
     requires eps { IsEps eps }
     requires start { IsStart rows.now eps market.prices.items }
-    requires holders { length market.holders.items ≡ rows.now.objects }
-    requires owns { length market.owns.items ≡ length rows.now.rows }
+    requires stands { Stands rows.now any_eps market.prices.items market.holders.items market.owns.items }
     requires clean { IsClean rows.now.objects work.search.labels.items work.search.line.items (heap_items work.search.heap) }
     requires kept { Kept rows.now market.prices.items work.lists.lists.items }
     ensures left { IfOk result (λ o. IsLeft rows.now o.ending o.market.prices.items o.market.holders.items o.market.owns.items) }
@@ -105,7 +108,15 @@ pub(crate) fn play_phases<W: Watch>(
     let mut work = work;
     let mut eps = eps;
     let mut ahead = Ahead::new(rows);
+    let mut trend = Trend::new();
+    // Read here, so that the proof knows what all rows keep.
+    let _ = rows.persons();
     loop {
+        let looks = trend.looks_after(work.made, rows, eps);
+        if market.refine(alloc, rows, looks, &mut work.lists)? {
+            let ending = Ending::Sold;
+            return Ok(Outcome { ending, market });
+        }
         let early = market.play_ahead(rows, eps, bids, &mut ahead, &mut work, watch)?;
         if let Some(ending) = early {
             return Ok(Outcome { ending, market });
@@ -143,11 +154,11 @@ pub(crate) fn play_all<W: Watch>(
     let mut market = Market::new(alloc, rows.persons(), prices)?;
     let patience = patience_at(rows, eps);
     if eps == LAST_EPS {
-        return play_phases(rows, bids, eps, patience, market, work, watch);
+        return play_phases(alloc, rows, bids, eps, patience, market, work, watch);
     }
     match market.play_early(rows, bids, MOST_LOOKS, &mut work, watch)? {
         Some(ending) => Ok(Outcome { ending, market }),
-        None => play_phases(rows, bids, eps, patience, market, work, watch),
+        None => play_phases(alloc, rows, bids, eps, patience, market, work, watch),
     }
 }
 
@@ -188,14 +199,14 @@ pub(crate) fn play_quickly<W: Watch>(
     let patience = patience_at(rows, eps);
     let early = market.play_fine(rows, eps, bids, patience, &mut work)?;
     if let Some(next) = early {
-        let outcome = play_phases(rows, bids, next, patience, market, work, watch)?;
+        let outcome = play_phases(alloc, rows, bids, next, patience, market, work, watch)?;
         return Ok(Some(outcome));
     }
     let few = bids.min(few_bids(rows));
     match market.play(rows, eps, few, patience, &mut work)? {
         Ending::Stopped(_) => Ok(None),
         Ending::Sold => {
-            let outcome = play_phases(rows, bids, next, patience, market, work, watch)?;
+            let outcome = play_phases(alloc, rows, bids, next, patience, market, work, watch)?;
             Ok(Some(outcome))
         }
     }

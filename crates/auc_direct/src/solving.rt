@@ -200,6 +200,7 @@ fn solve_from_unasked<W: Watch>(
 /// arcs stand in rows of 48 and more, with 8 for 16 arcs of a row of 256 and more, and 16 for each label that waits in a search, of which there are at most as many as arcs. That paths are taken at all no
 /// clause says, nor that lists are. The method is the auction with epsilon scaling
 /// (Bertsekas, 1979; Bertsekas and Eckstein, 1988), in two chains that take turns, of each of which whoever is displaced bids next, and successive shortest paths (Edmonds and Karp, 1972) where that goes far.
+/// Price refinement (Goldberg and Kennedy, 1995) spares the last phases where what persons hold costs least before them.
 ///
 /// # Errors
 ///
@@ -249,7 +250,7 @@ pub fn solve_direct_from(
 /// a bracket with the reason `Bids`: a bracket stands only after a limit, or where `watch` has said no: clause `limit`. To ask takes O(persons) time, and that of `goes_on`.
 ///
 /// Nothing is asked before the rows are laid out, within a search for a path or for an assignment of any cost, within the first twenty-five bids a person, within the phase that comes first
-/// in a full table, which takes some tens of milliseconds beside its bids, or while the answer is checked.
+/// in a full table, which takes some tens of milliseconds beside its bids, while prices are refined, which takes at most the time of some twice the bids of the phase before it, or while the answer is checked.
 ///
 /// # Errors
 ///

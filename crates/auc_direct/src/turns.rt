@@ -99,14 +99,16 @@ impl Market {
             return Ok(Chain::Placed);
         }
         let mut fresh = self.free_from(other + 1, until, person, other);
+        let mut ended = left.saturating_add(work.walked);
         while *left > 0 {
             let lists = &mut work.lists;
             let Some(displaced) = self.step(rows, scale, spread, eps, person, lists) else {
                 return Ok(Chain::Ceiling);
             };
             *left -= 1;
-            let freed = self.freed_by(rows, eps, displaced, patience, work)?;
+            let freed = self.freed_by(rows, eps, displaced, *left, &mut ended, patience, work)?;
             if is_over(freed, fresh, until) {
+                work.walked = 0;
                 *waiting = other;
                 return Ok(Chain::Placed);
             }
@@ -115,6 +117,7 @@ impl Market {
             other = next;
             fresh = self.free_from(from, until, person, other);
         }
+        work.walked = ended.saturating_sub(*left);
         Ok(Chain::Bids)
     }
 

@@ -1,6 +1,6 @@
-//! The last phase before its turn: where the first phase took few bids it ends the run, or is given up.
+//! The last phase before its turn: where the first phase took few bids it ends the run, or is given up. And a run that ends before it comes, since prices were refined.
 
-ghost use Rattle.std.specs.Prelude.{false};
+ghost use Rattle.std.specs.Prelude.{false, ◌≤◌};
 
 use crate::texts::{AMPLE, problem_of, text_of};
 use auc_direct::{Progress, Watch, solve_direct_watched};
@@ -10,11 +10,6 @@ use std::test::*;
 /// Four persons, who each know an object for 1 and another one for the most: in the first phase each bids once.
 const LEVELS: &str =
     "4\n1 1 1 1 2 1000000\n2 2 1 2 3 1000000\n3 3 1 3 4 1000000\n4 1 1000000 4 4 1\n";
-
-/// How many groups of three persons there are who all want two objects, and how many persons more.
-const GROUPS: u32 = 40;
-
-const OTHERS: u32 = 60;
 
 /// Remembers how often it was asked, and at which eps first, then and last; and goes on.
 #[derive(Drop)]
@@ -52,9 +47,12 @@ fn listening() -> Ear {
 
 /// Groups of three, of whom each has two objects for nothing and the third one for 10, and others who have their own for nothing and the next one for 100: the first phase gives the
 /// third object away at a great eps, and the last one would take many small steps up to that price.
-fn groups(rt: &HostRuntime) -> Result<ArcList, Fail> {
-    let grouped = 3 * GROUPS;
-    let persons = grouped + OTHERS;
+fn groups(rt: &HostRuntime, groups: u32, others: u32) -> Result<ArcList, Fail>
+    requires groups { groups ≤ 1000 }
+    requires others { others ≤ 1000 }
+{
+    let grouped = 3 * groups;
+    let persons = grouped + others;
     let mut arcs = Vec::new(rt.alloc());
     for person in 0..grouped {
         for place in 0..3 {
@@ -96,17 +94,32 @@ fn two_levels(rt: HostRuntime) -> Result<(), Fail> {
     Ok(())
 }
 
-/// The last phase is tried after the first, and given up; so it comes in its turn, as the fifth.
+/// The last phase is tried after the first, and given up; so it comes in its turn, as the fourth.
 #[test]
 fn given_up(rt: HostRuntime) -> Result<(), Fail> {
-    let problem = groups(&rt)?;
+    let problem = groups(&rt, 30, 50)?;
+    let mut ear = listening();
+    let answer = solve_direct_watched(rt.alloc(), &problem, &AMPLE, &mut ear)?;
+    let told = text_of(&rt, &problem, answer)?;
+    assert!(rt; told.as_slice().starts_with(b"auction 1\noptimal 140 300\n"));
+    assert!(rt; ear.questions == 5);
+    assert!(rt; ear.first == 881);
+    assert!(rt; ear.second == 1);
+    assert!(rt; ear.last == 1);
+    Ok(())
+}
+
+/// With more persons, in the same way, the phase at 17 took more bids than the one at 141, which tells that prices go up by small steps: they are refined, and the phases at 2 and 1 don't come.
+#[test]
+fn refined(rt: HostRuntime) -> Result<(), Fail> {
+    let problem = groups(&rt, 40, 60)?;
     let mut ear = listening();
     let answer = solve_direct_watched(rt.alloc(), &problem, &AMPLE, &mut ear)?;
     let told = text_of(&rt, &problem, answer)?;
     assert!(rt; told.as_slice().starts_with(b"auction 1\noptimal 180 400\n"));
-    assert!(rt; ear.questions == 6);
+    assert!(rt; ear.questions == 4);
     assert!(rt; ear.first == 1131);
     assert!(rt; ear.second == 1);
-    assert!(rt; ear.last == 1);
+    assert!(rt; ear.last == 17);
     Ok(())
 }

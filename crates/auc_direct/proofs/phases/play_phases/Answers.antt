@@ -4,7 +4,11 @@ use Rattle.std.proofs.lemmas.Int.{ints, to_z-of_z}
 use Rattle.auc_graph.specs.Assignment.{total}
 use Rattle.auc_direct.specs.Endings.{IsStart}
 use Rattle.auc_direct.proofs.Opening.{stands_opened, start_next}
+use Rattle.auc_direct.proofs.Refinement.{stands_any}
 use Rattle.auc_direct.proofs.phases.play_phases.Goals as goal
+
+pub play_ahead-requires-clause-start : goal.play_ahead-requires-clause-start
+play_ahead-requires-clause-start g c = c.in_ok-refine.ensures.start (to_z w64 c.loop-work.eps-bits) c.loop-work.invariant.start
 
 pub play_watched-requires-clause-stands : goal.play_watched-requires-clause-stands
 play_watched-requires-clause-stands g c =
@@ -25,11 +29,10 @@ loop-work-preserved g c =
     simp to_z-of_z (record {
       eps_is = range;
       start = start_next c.args.rows.now eps c.in-Some-next_eps.next c.play_ahead.new.self.prices.items c.play_watched.new.self.prices.items c.play_watched.new.self.holders.items c.play_watched.new.self.owns.items range less ahead.start after.stands;
-      holders = after.stands.holders_are;
+      stands = stands_any c.args.rows.now eps c.play_watched.new.self.prices.items c.play_watched.new.self.holders.items c.play_watched.new.self.owns.items c.persons.ensures.sound after.stands;
       clean = after.clean;
       kept = after.kept;
-      owns = after.stands.owns_are;
-      risen = (let o = ap total c.open.ensures.prices in let a = inv.risen in let e = ahead.risen in let b = after.risen in omega (arith, ints, o, a, e, b));
+      risen = (let o = ap total c.open.ensures.prices in let a = inv.risen in let d = c.in_ok-refine.ensures.risen in let e = ahead.risen in let b = after.risen in omega (arith, ints, o, a, d, e, b));
     })
 
 pub loop-work-init : goal.loop-work-init
@@ -38,9 +41,8 @@ loop-work-init g c =
     simp to_z-of_z (record {
       eps_is = c.requires.eps;
       start = c.requires.start;
-      holders = c.requires.holders;
+      stands = c.requires.stands;
       clean = c.requires.clean;
       kept = c.requires.kept;
-      owns = c.requires.owns;
       risen = omega (arith, ints);
     })

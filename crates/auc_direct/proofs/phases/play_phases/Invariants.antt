@@ -1,21 +1,21 @@
-use Rattle.std.proofs.Common.{◌≡◌, length}
 use Rattle.std.specs.Prelude.{unsigned_abs, ◌≤ℤ◌}
 use Rattle.auc_graph.specs.Assignment.{total}
 use Rattle.auc_letters.specs.Price.{IsEps}
 use Rattle.std.specs.BinaryHeap.{heap_items}
 use Rattle.auc_direct.specs.Endings.{IsStart}
+use Rattle.auc_direct.specs.Market.{Stands}
 use Rattle.auc_direct.specs.Path.{IsClean}
 use Rattle.auc_direct.specs.Shortlist.{Kept}
+use Rattle.auc_direct.specs.Starts.{any_eps}
 use Rattle.auc_direct.proofs.phases.play_phases.Given as goal
 
 abbrev pub invariant-loop-work : goal.invariant-loop-work
 invariant-loop-work g l = record {
   eps_is : IsEps l.eps;
   start : IsStart l.rows l.eps l.market.prices.items;
-  holders : length l.market.holders.items ≡ l.rows.objects;
+  stands : Stands l.rows any_eps l.market.prices.items l.market.holders.items l.market.owns.items;
   clean : IsClean l.rows.objects l.work.search.labels.items l.work.search.line.items (heap_items l.work.search.heap);
   kept : Kept l.rows l.market.prices.items l.work.lists.lists.items;
-  owns : length l.market.owns.items ≡ length l.rows.rows;
   risen : total l.fn.market.prices.items ≤ℤ total l.market.prices.items;
 }
 

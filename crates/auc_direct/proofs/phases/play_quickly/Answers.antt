@@ -5,6 +5,7 @@ use Rattle.auc_graph.specs.Assignment.{total}
 use Rattle.auc_direct.specs.Endings.{IsStart}
 use Rattle.auc_direct.proofs.EndingLaws.{stopped_before}
 use Rattle.auc_direct.proofs.Opening.{stands_opened, start_next}
+use Rattle.auc_direct.proofs.Refinement.{stands_any}
 use Rattle.auc_direct.proofs.phases.play_quickly.Goals as goal
 
 pub play_fine-requires-clause-stands : goal.play_fine-requires-clause-stands
@@ -45,3 +46,9 @@ returns-in_ok-outcome-in-Sold-clause-stopped g c =
     let o = c.in_ok-outcome-in-Sold.outcome in
     let le : total c.args.prices.items ≤ℤ total c.play.new.self.prices.items = (let e = ap total c.in_ok-market.ensures.prices in let f = c.in_ok-early.ensures.risen in let r = c.in_ok-play.ensures.risen in omega (arith, ints, e, f, r)) in
     stopped_before (g.W.Watch.has_stopped c.play_phases-in-Sold.new.watch) c.args.rows.now c.args.bids (total c.args.prices.items) (total c.play.new.self.prices.items) o.ending o.market.prices.items le c.in_ok-outcome-in-Sold.ensures.stopped
+
+pub play_phases-requires-in-Sold-clause-stands : goal.play_phases-requires-in-Sold-clause-stands
+play_phases-requires-in-Sold-clause-stands g c =
+    let f : FitsSigned w64 c.args.eps = c.ranges.eps in
+    let after = c.play.new.self in
+    stands_any c.args.rows.now c.args.eps after.prices.items after.holders.items after.owns.items c.persons-2.ensures.sound (simp to_z-of_z at c.in_ok-play.ensures.stands)

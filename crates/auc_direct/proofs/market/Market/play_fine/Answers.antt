@@ -3,6 +3,7 @@ use Rattle.std.specs.Prelude.{FitsSigned}
 use Rattle.std.proofs.lemmas.Int.{to_z-of_z}
 use Rattle.auc_direct.specs.Endings.{IsStart}
 use Rattle.auc_direct.proofs.Opening.{stands_opened, start_finer}
+use Rattle.auc_direct.proofs.Refinement.{stands_any}
 use Rattle.auc_direct.proofs.market.Market.play_fine.Goals as goal
 
 pub play_apace-requires-clause-stands : goal.play_apace-requires-clause-stands
@@ -42,3 +43,19 @@ returns-clause-stands c =
     let stands = simp to_z-of_z at c.in_ok-play_apace.ensures.stands in
     let start = start_finer rows c.args.eps c.in-Some.fine next c.args.self.now.prices.items after.prices.items after.holders.items after.owns.items range less finer c.requires.start stands in
     stands_opened rows next c.args.eps last.prices.items last.holders.items last.owns.items (length after.holders.items) (length after.owns.items) (subst (IsStart rows next) (sym c.open-2.ensures.prices) start) stands.holders_are stands.owns_are c.open-2.ensures.holders c.open-2.ensures.owns
+
+pub returns-then-bids-most_bids-clause-any : goal.returns-then-bids-most_bids-clause-any
+returns-then-bids-most_bids-clause-any c =
+    let old = c.args.self.now in
+    stands_any c.args.rows.now c.args.eps old.prices.items old.holders.items old.owns.items c.persons-persons.ensures.sound c.requires.stands
+
+pub returns-then-branch-clause-any : goal.returns-then-branch-clause-any
+returns-then-branch-clause-any c =
+    let f : FitsSigned w64 c.in-Some.fine = search rules in
+    let after = c.play_apace.new.self in
+    stands_any c.args.rows.now c.in-Some.fine after.prices.items after.holders.items after.owns.items c.persons-persons.ensures.sound (simp to_z-of_z at c.in_ok-play_apace.ensures.stands)
+
+pub returns-clause-any : goal.returns-clause-any
+returns-clause-any c =
+    let last = c.open-2.new.self in
+    stands_any c.args.rows.now c.args.eps last.prices.items last.holders.items last.owns.items c.persons-persons.ensures.sound (returns-clause-stands c)

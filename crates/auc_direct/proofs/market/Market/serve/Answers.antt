@@ -6,17 +6,13 @@ use Rattle.auc_direct.specs.Market.{HaveAllBut, own_at}
 use Rattle.auc_direct.proofs.Serving.{IsTurn, passed_have, turn_below, turn_have, turn_most, two_free}
 use Rattle.auc_direct.proofs.Ways.{way_total}
 use Rattle.auc_direct.proofs.market.Market.serve.Goals as goal
-use Rattle.auc_direct.proofs.market.Market.serve.Goals.{After-turn-next, Then-is_over}
-
--- who is still free after a bid, and after what comes of whom it has displaced
-served_but : (c : Then-is_over) (n other : ℕ) → HaveAllBut n c.loop-left.self.owns.items c.loop-left.person other → HaveAllBut n c.freed_by.new.self.owns.items c.in_ok-freed.freed other
-served_but c n other h = c.in_ok-freed.ensures.way.but n other (c.in-Some.ensures.awarded.but n other h)
+use Rattle.auc_direct.proofs.market.Market.serve.Goals.{After-turn-next}
 
 pub returns-then-is_over-clause-served : goal.returns-then-is_over-clause-served
 returns-then-is_over-clause-served c =
     let over = c.if-is_over.ensures.yes refl in
     let owns = c.freed_by.new.self.owns.items in
-    let h = served_but c c.loop-left.fresh c.loop-left.other c.loop-left.invariant.have in
+    let h = c.in_ok-freed.ensures.way.but c.loop-left.fresh c.loop-left.other (c.in-Some.ensures.awarded.but c.loop-left.fresh c.loop-left.other c.loop-left.invariant.have) in
     (c.loop-left.invariant.later, subst (λ (n : ℕ). HaveAllBut n owns NOBODY c.loop-left.other) over.1 (subst (λ (p : ℕ). HaveAllBut c.loop-left.fresh owns p c.loop-left.other) over.0 h))
 
 pub returns-then-is_over-clause-raised : goal.returns-then-is_over-clause-raised

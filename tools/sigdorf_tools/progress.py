@@ -19,6 +19,12 @@ class Progress:
     def seconds(self):
         return time.monotonic() - self.begin
 
+    def leave_out(self, work):
+        """Does some work whose time isn't counted."""
+        begin = time.monotonic()
+        work()
+        self.begin += time.monotonic() - begin
+
     @contextlib.contextmanager
     def told(self, output=None):
         """Tells it on standard error, if that is a terminal, as long as the block lasts; then the line is gone."""

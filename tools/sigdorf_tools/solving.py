@@ -1,4 +1,5 @@
 """Solves problems by the program `auction`, and has its answers judged: by its proved checker always, and by the second checker where that takes no long time."""
+import signal
 import subprocess
 import sys
 import tempfile
@@ -9,6 +10,9 @@ from .faults import Fault
 
 # Statuses of a solve that come with a certificate.
 ANSWERED = (0, 3, 4)
+# What ends a process from outside, and the statuses of a build that was ended so.
+SIGNALS = (signal.SIGINT, signal.SIGTERM, signal.SIGHUP)
+ENDED = tuple(128 + number for number in SIGNALS)
 # Up to so many arcs the second checker judges unasked: it takes some seconds for them.
 MOST_FOR_SECOND = 200_000
 PROVED, SECOND = "the proved checker", "the second one"
@@ -31,10 +35,33 @@ class Solver:
         self.limits = [f"--{name}={value}" for name, value in (("bids", bids), ("workers", workers), ("seconds", seconds)) if value is not None]
         if workers is None:
             self.limits.append("--direct")
+        self.is_ready = False
+
+    def make_ready(self):
+        """Runs the program once by itself: `auction` of a clone is built by that, before two of it work side by side."""
+        if self.is_ready:
+            return
+        status = self.passing_signals_on(["--version"])
+        if status in ENDED:
+            raise SystemExit(status)
+        if status != 0:
+            raise Fault(f"{self.program}: it doesn't run, or couldn't be built (status {status}); name a built program by --program")
+        self.is_ready = True
+
+    def passing_signals_on(self, words):
+        """The status of the program. What ends this process meanwhile ends the program first."""
+        running = self.started(words, subprocess.DEVNULL, None)
+        before = {number: signal.signal(number, lambda number, _: running.send_signal(number)) for number in SIGNALS}
+        try:
+            return running.wait()
+        finally:
+            for number, handler in before.items():
+                signal.signal(number, handler)
 
     def answer(self, name, pieces, count, objects, start=None):
         """The answer for the text of an arc file, which comes in pieces and has so many arcs and objects. Its name is for faults. A search may start from an old certificate, where objects are as
         many as persons."""
+        self.make_ready()
         with tempfile.NamedTemporaryFile("w", suffix=".arcs", encoding="ascii") as file, tempfile.NamedTemporaryFile("wb", suffix=".certificate") as old:
             file.writelines(pieces)
             file.flush()
@@ -61,6 +88,7 @@ class Solver:
 
     def has_full(self, pieces, objects):
         """Whether the problem has an assignment, by a search that asks no costs. It is judged by what comes of it."""
+        self.make_ready()
         with tempfile.NamedTemporaryFile("w", suffix=".arcs", encoding="ascii") as file:
             file.writelines(pieces)
             file.flush()
@@ -68,9 +96,9 @@ class Solver:
                 running.communicate()
         return running.returncode == 0
 
-    def started(self, words):
+    def started(self, words, pipe=subprocess.PIPE, said=subprocess.PIPE):
         try:
-            return subprocess.Popen([self.program, *words], stdin=subprocess.PIPE, stdout=subprocess.PIPE, stderr=subprocess.PIPE)
+            return subprocess.Popen([self.program, *words], stdin=pipe, stdout=pipe, stderr=said)
         except OSError as error:
             raise Fault(f"{self.program}: it can't be run: {error.strerror}; name a built program by --program") from None
 

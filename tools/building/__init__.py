@@ -1,0 +1,1 @@
+"""Proves and builds a crate and all that it stands on: the parts of tools/build."""

@@ -12,7 +12,7 @@ use Rattle.auc_messages.specs.declared.forms.Form.{Form}
 use Rattle.auc_messages.specs.declared.forms.Form.TheVariants.{Gzip, Packed, Zip, Utf16, Marked, MatrixMarket, Dimacs, Certificate, Script, Json, Separated}
 use Rattle.auc_messages.specs.Pages.{is_word}
 use Rattle.auc_messages.specs.Phrases.{phrase_for}
-use Rattle.auc_messages.specs.Remarks.{told_refusal}
+use Rattle.auc_messages.specs.Remarks.{told_reason, told_refusal}
 
 abbrev pub begins : List ℕ → List ℕ → Bool
 begins bytes signature = starts_with nat_eq bytes signature
@@ -60,15 +60,15 @@ form_of number bytes =
 unfoldable pub phrase_of_form : Form → List ℕ
 phrase_of_form Gzip = codes "this file is packed by gzip; unpack it first, as by gzip -dc FILE | auction solve"
 phrase_of_form Packed = codes "this file is packed by bzip2, xz or zstd; unpack it first"
-phrase_of_form Zip = codes "this is a workbook (.xlsx, .ods) or a zip archive; plan reads tables of names from workbooks, and an archive wants unpacking"
+phrase_of_form Zip = codes "this is a workbook (.xlsx, .ods) or a zip archive; tables in workbooks are for auction-plan (./plan in a clone), and an archive wants unpacking"
 phrase_of_form Utf16 = codes "this text is encoded as UTF-16; save it as UTF-8, as by iconv -f UTF-16 -t UTF-8 FILE | auction solve"
 phrase_of_form Marked = codes "a byte order mark stands in front of this text; save it without, as by tail -c +4 FILE | auction solve"
-phrase_of_form MatrixMarket = codes "this is a MatrixMarket file; leave out the lines that begin with %, write its rows alone on the first line, and its columns behind --objects"
+phrase_of_form MatrixMarket = codes "this is a MatrixMarket file; leave out the lines that begin with %, write its rows alone on the first line, and its columns after --objects"
 phrase_of_form Dimacs = codes "this is a DIMACS file; write the number of persons alone, then person, object and cost of each line a, with objects numbered from 1"
-phrase_of_form Certificate = codes "this is a certificate; name the problem first, and behind it the certificate"
+phrase_of_form Certificate = codes "this is a certificate; name the problem first, and after it the certificate"
 phrase_of_form Script = codes "this is a script of a mail; auction mail makes its calls"
-phrase_of_form Json = codes "this is JSON; plan reads tables of names from it, and a problem is whole numbers with white space between them"
-phrase_of_form Separated = codes "no comma or semicolon stands between numbers, or in them; plan reads tables such as CSV, and costs are whole numbers"
+phrase_of_form Json = codes "this is JSON; tables of names are for auction-plan (./plan in a clone), and a problem is whole numbers with white space between them"
+phrase_of_form Separated = codes "this looks like a table (CSV), for auction-plan (./plan in a clone); a problem is whole numbers with white space between them"
 
 -- the token that is no number, where a problem was refused for it
 abbrev pub bad_number_in : ReadError → Option ℕ
@@ -105,9 +105,9 @@ form_at (Some number) (Some place) = form_of number place.front.items
 abbrev pub form_told : Ending → Option Place → Option Form
 form_told ending place = form_at (bad_number (told_refusal ending)) place
 
--- the words of the form, and without one those of the refusal or the status
+-- the words of the form, and without one those of the refusal, the limit or the status
 abbrev pub phrase_told : Ending → Option Form → List ℕ
-phrase_told ending None = phrase_for ending.status (told_refusal ending)
+phrase_told ending None = phrase_for ending.status (told_reason ending) (told_refusal ending)
 phrase_told ending (Some form) = phrase_of_form form
 
 abbrev pub phrase_at : Ending → Option Place → List ℕ

@@ -1,5 +1,6 @@
 -- What a remark is about.
 use Rattle.std.specs.Prelude.{◌≡◌, ℕ, ◌==◌, ◌||◌, if◌then◌else◌, Option, Some, None}
+use Rattle.auc_cert.specs.declared.reason.Reason.{Reason}
 use Rattle.auc_run.specs.declared.command.Job.{Job}
 use Rattle.auc_run.specs.declared.ending.Ending.{Ending}
 use Rattle.auc_run.specs.declared.refusal.Refusal.{Refusal}
@@ -14,6 +15,10 @@ use Rattle.auc_messages.specs.Spots.{spot_of, subject_of}
 abbrev pub told_refusal : Ending → Option Refusal
 told_refusal ending = if ending.status == 8 then None else ending.refusal
 
+-- the limit that is told to have ended the search: none where the answer was not written
+abbrev pub told_reason : Ending → Option Reason
+told_reason ending = if ending.status == 8 then None else ending.reason
+
 -- without a refusal it is about the problem where there is no assignment, or a limit ended the search
 abbrev pub subject_of_status : ℕ → Subject
 subject_of_status status = if status == 3 || status == 4 then First else Neither
@@ -26,6 +31,6 @@ IsRemarkOn job status None remark = (remark.subject ≡ subject_of_status status
 abbrev pub IsRemark : Job → Ending → Remark → Type 0
 IsRemark job ending remark = IsRemarkOn job ending.status (told_refusal ending) remark
 
--- its words are those of the refusal, and without one those of the status
+-- its words are those of the refusal, without one those of the limit that ended the search, and without that those of the status
 abbrev pub HasWords : Ending → Remark → Type 0
-HasWords ending remark = remark.phrase.now ≡ phrase_for ending.status (told_refusal ending)
+HasWords ending remark = remark.phrase.now ≡ phrase_for ending.status (told_reason ending) (told_refusal ending)

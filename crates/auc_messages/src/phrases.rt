@@ -2,10 +2,10 @@
 //! quoted token.
 
 ghost use Rattle.std.specs.Prelude.{◌≡◌, IsTrue};
-ghost use Rattle.auc_messages.specs.Phrases.{out_of_memory, phrase_of_certificate, phrase_of_claim, phrase_of_input, phrase_of_problem, phrase_of_refusal, phrase_of_script, phrase_of_start, phrase_of_status, read_failed, too_many_reads};
+ghost use Rattle.auc_messages.specs.Phrases.{out_of_memory, phrase_of_certificate, phrase_of_claim, phrase_of_end, phrase_of_input, phrase_of_problem, phrase_of_reason, phrase_of_refusal, phrase_of_script, phrase_of_start, phrase_of_status, read_failed, too_many_reads};
 ghost use Rattle.auc_messages.specs.Sentences.{is_phrase};
 
-use auc_cert::{CertRefused, CertTextError, StartError};
+use auc_cert::{CertRefused, CertTextError, Reason, StartError};
 use auc_graph::ReadError;
 use auc_run::status::{BRACKET, BROKEN, INFEASIBLE, NO_MEMORY, REFUSED, UNWRITTEN, USAGE};
 use auc_run::{ReadFault, Refusal, ScriptError};
@@ -54,7 +54,7 @@ fn of_problem(error: ReadError) -> &'static [u8]
             b"there are more persons than objects; give --objects the number of objects, at least that of the persons"
         }
         ReadError::TooManyArcs =>
-            b"a problem has at most 33554432 arcs; leave out this one and those behind it",
+            b"a problem has at most 33554432 arcs; leave out this one and those after it",
         ReadError::PersonRange { .. } => {
             b"the problem has no such person; persons are numbered from 1 to the number that the problem begins with"
         }
@@ -65,7 +65,7 @@ fn of_problem(error: ReadError) -> &'static [u8]
             b"this cost is out of range; costs are from -1000000000 to 1000000000, so take a greater unit"
         }
         ReadError::Cut { .. } => {
-            b"the problem ends behind this, inside an arc; an arc is a person, an object and a cost, so add what is missing"
+            b"the problem ends after this, inside an arc; an arc is a person, an object and a cost, so add what is missing"
         }
         ReadError::NoMemory => out_of_memory(),
         ReadError::ReadFault => read_failed(),
@@ -172,7 +172,7 @@ fn of_script(error: ScriptError) -> &'static [u8]
             b"the script ends inside a command, or has none; add what is missing, or begin with mail BOXES SENDERS NODES MOST"
         }
         ScriptError::TooManyCalls =>
-            b"a script has at most 1000000 calls; leave out those behind them",
+            b"a script has at most 1000000 calls; leave out those after them",
         ScriptError::NoMemory => out_of_memory(),
     }
 }
@@ -197,9 +197,34 @@ pub(crate) fn of_refusal(refusal: Refusal) -> &'static [u8]
     }
 }
 
-/// Of a status, where nothing was refused.
+/// Of a limit that ended a search, with what to do against it.
+#[tactic(auto, unfolding(crate::specs::Phrases::phrase_of_reason))]
+fn of_reason(reason: Reason) -> &'static [u8]
+    ensures words { result.now ≡ phrase_of_reason reason }
+    ensures phrase { IsTrue (is_phrase result.now) }
+{
+    match reason {
+        Reason::Bids => {
+            b"a limit ended the search: the answer is an assignment, and a bound below which none costs; for a least cost raise --bids, or --seconds where it is given"
+        }
+        Reason::Ceiling => {
+            b"a price would have passed the greatest one: the answer is an assignment, and a bound below which none costs; for a least cost use a greater unit, so that costs differ by less"
+        }
+        Reason::Posts => {
+            b"a mail has had as many letters as it may have: the answer is an assignment, and a bound below which none costs; for a least cost leave out --workers, or say --direct in its place"
+        }
+        Reason::Trail => {
+            b"a trail of --audit was full: the answer is an assignment, and a bound below which none costs; for a least cost raise --audit, or leave it out"
+        }
+        Reason::Mail => {
+            b"a mail had no room left: the answer is an assignment, and a bound below which none costs; for a least cost leave out --workers, or say --direct in its place"
+        }
+    }
+}
+
+/// Of a status, where nothing was refused and no limit is told.
 #[tactic(auto, unfolding(crate::specs::Phrases::phrase_of_status))]
-pub(crate) fn of_status(status: u8) -> &'static [u8]
+fn of_status(status: u8) -> &'static [u8]
     ensures words { result.now ≡ phrase_of_status status }
     ensures phrase { IsTrue (is_phrase result.now) }
 {
@@ -208,7 +233,7 @@ pub(crate) fn of_status(status: u8) -> &'static [u8]
             b"there is no assignment: the persons that the answer names know fewer objects than they are; give them more arcs, or leave some out"
         }
         BRACKET => {
-            b"a limit ended the search: the answer is an assignment, and a bound below which none costs; for a least cost raise --bids, or --seconds where it is given"
+            b"a limit ended the search: the answer is an assignment, and a bound below which none costs"
         }
         BROKEN => b"a guard of the solver was hit, and there is no answer; solve without --workers",
         UNWRITTEN => {
@@ -218,5 +243,16 @@ pub(crate) fn of_status(status: u8) -> &'static [u8]
         REFUSED => b"an input was refused; see standard output",
         USAGE => b"the words are no command; see auction --help",
         _ => b"the job has ended with this status alone; see standard output",
+    }
+}
+
+/// Of the end of a job where nothing was refused: of the limit that ended its search, and where none did, of its status.
+pub(crate) fn of_end(status: u8, reason: Option<Reason>) -> &'static [u8]
+    ensures words { result.now ≡ phrase_of_end status reason }
+    ensures phrase { IsTrue (is_phrase result.now) }
+{
+    match reason {
+        Some(reason) => of_reason(reason),
+        None => of_status(status),
     }
 }

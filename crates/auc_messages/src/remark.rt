@@ -3,13 +3,14 @@
 ghost use Rattle.std.specs.Prelude.{◌≡◌, ◌≢◌, ℕ, IfSome, IsSome, IsTrue, Some, None};
 ghost use Rattle.auc_run.specs.declared.command.Job.{Job};
 ghost use Rattle.auc_messages.specs.Forms.{phrase_at};
-ghost use Rattle.auc_messages.specs.Phrases.{phrase_of_refusal, phrase_of_status};
-ghost use Rattle.auc_messages.specs.Remarks.{HasWords, IsRemark, IsRemarkOn, subject_of_status, told_refusal};
+ghost use Rattle.auc_messages.specs.Phrases.{phrase_of_end, phrase_of_refusal};
+ghost use Rattle.auc_messages.specs.Remarks.{HasWords, IsRemark, IsRemarkOn, subject_of_status, told_reason, told_refusal};
 ghost use Rattle.auc_messages.specs.Sentences.{is_phrase};
 
 use crate::forms::{form_told, of_form};
-use crate::phrases::{of_refusal, of_status};
+use crate::phrases::{of_end, of_refusal};
 use crate::spot::{Spot, Subject, spot_of, subject_of};
+use auc_cert::Reason;
 use auc_place::Place;
 use auc_run::status::{BRACKET, INFEASIBLE, OPTIMAL, UNWRITTEN};
 use auc_run::{Ending, Job, Refusal};
@@ -49,16 +50,16 @@ fn subject_of_status(status: u8) -> Subject
     }
 }
 
-/// What is to be said of a status.
-fn remark_of_status(status: u8) -> Remark
+/// What is to be said of a status, and of the limit that ended the search, where one did.
+fn remark_of_end(status: u8, reason: Option<Reason>) -> Remark
     ensures is { (job : Job) → IsRemarkOn job status None result }
-    ensures words { result.phrase.now ≡ phrase_of_status status }
+    ensures words { result.phrase.now ≡ phrase_of_end status reason }
     ensures phrase { IsTrue (is_phrase result.phrase.now) }
 {
     Remark {
         subject: subject_of_status(status),
         spot: Spot::All,
-        phrase: of_status(status),
+        phrase: of_end(status, reason),
     }
 }
 
@@ -73,13 +74,24 @@ pub(crate) fn told_refusal(ending: Ending) -> Option<Refusal>
     }
 }
 
+/// Which limit ended the search, where that is told: not where the answer wasn't written.
+fn told_reason(ending: Ending) -> Option<Reason>
+    ensures { result ≡ told_reason ending }
+{
+    if ending.status == UNWRITTEN {
+        None
+    } else {
+        ending.reason
+    }
+}
+
 /// What is to be said of the end of this job, or nothing where its status is 0.
 pub fn remark_of(job: &Job, ending: Ending) -> Option<Remark>
     ensures silent { ending.status ≡ 0 → result ≡ None }
     ensures told { ending.status ≢ 0 → IsSome result }
     // It is about the input that was refused, and the spot in it; where the answer was not written, it is about that alone.
     ensures is { IfSome result (IsRemark job.now ending) }
-    // Its words are those of the refusal that is told, and where none is, of the status.
+    // Its words are those of the refusal that is told; where none is, of the limit that ended the search; and without one, of the status.
     ensures words { IfSome result (HasWords ending) }
     // They say something, on one line.
     ensures phrase { IfSome result (λ remark. IsTrue (is_phrase remark.phrase.now)) }
@@ -89,7 +101,7 @@ pub fn remark_of(job: &Job, ending: Ending) -> Option<Remark>
     }
     match told_refusal(ending) {
         Some(refusal) => Some(remark_of_refusal(job, refusal)),
-        None => Some(remark_of_status(ending.status)),
+        None => Some(remark_of_end(ending.status, told_reason(ending))),
     }
 }
 

@@ -1,5 +1,9 @@
--- What a job has to tell, or why it was refused: the text that tells it, and its status.
+-- What a job has to tell, or why it was refused: the text that tells it, its status, and the limit that it names.
 use Rattle.std.specs.Prelude.{ℕ, List, Option, Some, None, Result, Ok, Err, ⊤}
+use Rattle.auc_cert.specs.declared.cert.CertParts.{CertParts}
+use Rattle.auc_cert.specs.declared.cert.CertParts.TheVariants.{Optimal, Infeasible, Bracket}
+use Rattle.auc_cert.specs.declared.reason.Reason.{Reason}
+use Rattle.auc_answers.specs.declared.answer.Answer.{Answer}
 use Rattle.auc_run.specs.declared.refusal.Refusal.{Refusal}
 use Rattle.auc_run.specs.declared.report.Report.{Report}
 use Rattle.auc_run.specs.declared.report.Report.TheVariants.{Solved, Judged, Completed, Replied}
@@ -34,6 +38,29 @@ outcome_status (Err refusal) = refusal_status refusal
 abbrev pub refusal_of : Result Report Refusal → Option Refusal
 refusal_of (Ok report) = None
 refusal_of (Err refusal) = Some refusal
+
+-- the limit that a claim names
+abbrev pub reason_in : CertParts → Option Reason
+reason_in (Optimal cost choice prices) = None
+reason_in (Infeasible persons objects) = None
+reason_in (Bracket reason lower cost choice prices) = Some reason
+
+-- the limit that ended the search of an answer, where one did
+abbrev pub reason_of_answer : Answer → Option Reason
+reason_of_answer (Answer.Optimal cert) = reason_in cert
+reason_of_answer (Answer.Infeasible cert) = reason_in cert
+reason_of_answer (Answer.Bracket cert) = reason_in cert
+reason_of_answer (Answer.Broken guard) = None
+
+abbrev pub reason_of_report : Report → Option Reason
+reason_of_report (Solved answer) = reason_of_answer answer
+reason_of_report (Judged valid) = None
+reason_of_report (Completed found) = None
+reason_of_report (Replied replies) = None
+
+abbrev pub reason_of : Result Report Refusal → Option Reason
+reason_of (Ok report) = reason_of_report report
+reason_of (Err refusal) = None
 
 -- a report of picks has no more of them than a problem can have persons
 abbrev pub IsWritable : Report → Type 0

@@ -17,7 +17,7 @@ use Rattle.auc_run.specs.Verdicts.{BearOut}
 use Rattle.auc_run.specs.Completions.{BearOutFound}
 use Rattle.auc_run.specs.Starts.{BearOutSolving}
 use Rattle.auc_run.specs.Replies.{BearOutReplies}
-use Rattle.auc_run.specs.Reports.{outcome_text, outcome_status, refusal_of}
+use Rattle.auc_run.specs.Reports.{outcome_text, outcome_status, refusal_of, reason_of}
 
 -- what a job of one kind has found is its report
 abbrev pub reported : {X : Type 0} → (X → Report) → Result X Refusal → Result Report Refusal
@@ -46,8 +46,9 @@ abbrev pub SaidInPart : Job → Option (List ℕ) → Option (List ℕ) → Opti
 SaidInPart job first second before after = (outcome : Result Report Refusal) × IsOutcome job first second outcome × Begins before after (outcome_text outcome)
 
 -- How a job ended that has this outcome: its text stands after what the writer had, or a beginning of it where the status says so; and the
--- refusal is the outcome's.
+-- refusal, and the limit that ended a search, are the outcome's.
 pub record EndsBy (before after : Option (List ℕ)) (outcome : Result Report Refusal) (ending : Ending) : Type 0 where
   pub whole : ending.status ≢ 8 → Appends before after (outcome_text outcome) × (ending.status ≡ outcome_status outcome)
   pub cut : ending.status ≡ 8 → Begins before after (outcome_text outcome)
   pub refusal : ending.refusal ≡ refusal_of outcome
+  pub reason : ending.reason ≡ reason_of outcome

@@ -4,7 +4,7 @@ ghost use Rattle.std.specs.Prelude.{◌≡◌, ◌≢◌, ◌<◌, IfOk};
 ghost use Rattle.std.specs.Io.KnownBytes.{Appends};
 ghost use Rattle.auc_cert.specs.Writing.{Begins, Writes};
 ghost use Rattle.auc_run.specs.Statuses.{refusal_status};
-ghost use Rattle.auc_run.specs.Reports.{IsWritable, outcome_status, outcome_text, refusal_of, report_status, report_text};
+ghost use Rattle.auc_run.specs.Reports.{IsWritable, outcome_status, outcome_text, reason_in, reason_of, reason_of_answer, refusal_of, report_status, report_text};
 
 use crate::ending::Ending;
 use crate::found::Found;
@@ -20,7 +20,7 @@ use crate::status::{
     VALID,
 };
 use crate::valid::Valid;
-use auc_cert::{CertRefused, CertTextError, StartError, WriteFault};
+use auc_cert::{Cert, CertParts, CertRefused, CertTextError, Reason, StartError, WriteFault};
 use auc_graph::ReadError;
 use auc_world::Answer;
 use std::io::Write;
@@ -126,12 +126,43 @@ fn refusal_of(outcome: &Result<Report, Refusal>) -> Option<Refusal>
     }
 }
 
+/// The limit that a certificate names, where it claims an assignment and a bound.
+fn reason_in(cert: &Cert) -> Option<Reason>
+    ensures { result ≡ reason_in cert.now }
+{
+    match cert.parts() {
+        CertParts::Bracket { reason, .. } => Some(*reason),
+        CertParts::Optimal { .. } | CertParts::Infeasible { .. } => None,
+    }
+}
+
+/// The limit that ended the search of an answer, where one did.
+fn reason_of_answer(answer: &Answer) -> Option<Reason>
+    ensures { result ≡ reason_of_answer answer.now }
+{
+    match answer {
+        Answer::Optimal(cert) | Answer::Infeasible(cert) | Answer::Bracket(cert) => reason_in(cert),
+        Answer::Broken(_) => None,
+    }
+}
+
+/// The limit that ended a job's search, where one did.
+fn reason_of(outcome: &Result<Report, Refusal>) -> Option<Reason>
+    ensures { result ≡ reason_of outcome.now }
+{
+    match outcome {
+        Ok(Report::Solved(answer)) => reason_of_answer(answer),
+        _ => None,
+    }
+}
+
 /// Writes the outcome of a job, and says how it ended: with status 8 where it was not written, or not all of it.
 pub(crate) fn tell<W: Write>(writer: &mut W, outcome: Result<Report, Refusal>) -> Ending
     requires { IfOk outcome IsWritable }
     ensures whole { result.status ≢ 8 → Appends (W.contents writer.old) (W.contents writer.new) (outcome_text outcome) × (result.status ≡ outcome_status outcome) }
     ensures cut { result.status ≡ 8 → Begins (W.contents writer.old) (W.contents writer.new) (outcome_text outcome) }
     ensures refusal { result.refusal ≡ refusal_of outcome }
+    ensures reason { result.reason ≡ reason_of outcome }
 {
     let status = status_of(&outcome);
     let status = match write_outcome(writer, &outcome) {
@@ -141,5 +172,6 @@ pub(crate) fn tell<W: Write>(writer: &mut W, outcome: Result<Report, Refusal>) -
     Ending {
         status,
         refusal: refusal_of(&outcome),
+        reason: reason_of(&outcome),
     }
 }

@@ -17,7 +17,7 @@ pub enum ScriptError {
     #[error("token {token} is out of range")]
     Range { token: u64 },
     /// The text, which has so many tokens, ends inside a command, or has none.
-    #[error("the script ends inside a command, behind {tokens} tokens")]
+    #[error("the script ends inside a command, after {tokens} tokens")]
     Cut { tokens: u64 },
     /// A token stands after the last call that is allowed.
     #[error("there are too many calls")]

@@ -28,7 +28,7 @@ use std::rt::{Clock, Env, Files};
 use std::sync::Wait;
 use std::thread::Threads;
 use timer::Timer;
-use usage::USAGE_PAGE;
+use usage::{CHECK_PAGE, HALL_PAGE, MAIL_PAGE, SOLVE_PAGE, USAGE_PAGE, VERSION_PAGE};
 use words::read_words;
 use words_error::WordsError;
 use wrong_words::fault_of;
@@ -84,6 +84,7 @@ fn answer<R: Print + Eprint + Clock + AllocGlobal + Threads + Wait + Sync, A: Re
         return Ok(Ending {
             status: UNWRITTEN,
             refusal: ending.refusal,
+            reason: ending.reason,
         });
     }
     Ok(ending)
@@ -96,7 +97,11 @@ fn open<R: Files + Eprint, E: Write>(rt: &R, errors: &mut E, name: &str) -> Opti
         Err(error) => {
             let _ = errors.write_all(b"auction: ");
             let _ = write_name(errors, name);
-            let _ = eprintln!(rt; ": {error}");
+            let _ = match error.kind() {
+                ErrorKind::NotFound => eprintln!(rt; ": there is no such file"),
+                ErrorKind::PermissionDenied => eprintln!(rt; ": this user may not read it"),
+                _ => eprintln!(rt; ": it can't be opened: {error}"),
+            };
             None
         }
     }
@@ -244,11 +249,15 @@ fn refuse_words<R: Eprint + AllocGlobal, E: Write>(
 
 /// Writes a page about the program to standard output, and gives the status.
 fn show<R: Print + Eprint>(rt: &R, page: Page) -> u8 {
-    let shown = match page {
-        Page::Usage => println!(rt; "{}", USAGE_PAGE),
-        Page::Version => println!(rt; "auction 1.1 (Sigdorf)"),
+    let text = match page {
+        Page::Usage => USAGE_PAGE,
+        Page::Solve => SOLVE_PAGE,
+        Page::Check => CHECK_PAGE,
+        Page::Hall => HALL_PAGE,
+        Page::Mail => MAIL_PAGE,
+        Page::Version => VERSION_PAGE,
     };
-    if shown.is_err() {
+    if println!(rt; "{}", text).is_err() {
         let _ = eprintln!(rt; "auction: standard output was not written, or not all of it");
         return UNWRITTEN;
     }

@@ -1,4 +1,4 @@
-//! The page on how the program is used.
+//! The pages on how the program is used: of the whole, and of each command.
 
 /// How the program is used: what `auction --help` writes.
 pub(crate) const USAGE_PAGE: &str =
@@ -6,7 +6,7 @@ pub(crate) const USAGE_PAGE: &str =
        auction check FILE [CERT] [--objects M]
        auction hall [FILE] [--objects M]
        auction mail [SCRIPT]
-       auction help | --help | -h | COMMAND --help | COMMAND -h | --version | -V
+       auction help [COMMAND] | --help | -h | COMMAND --help | COMMAND -h | --version | -V
 
 solve finds a least-cost assignment of the problem FILE, with prices that show it, or persons who together know too few objects.
 Without FILE the problem is read from standard input.
@@ -17,7 +17,7 @@ Each mail keeps a trail of at most ROOM calls, by which the phases are judged: 0
 With --from the prices begin at those of the certificate CERT, of a problem with as many persons, and as many objects; without, at 0.
 With --direct one hand does all, without messages: as right, mostly sooner, and far sooner with more objects than persons; of several
 least assignments it may find another one. It takes the prices of any CERT with one for each object, and no --workers and no --audit.
-Such a solve ends soon behind T seconds, 1 to 1000000, where they don't do, as it does where bids don't; with --progress it tells on
+Such a solve ends soon after T seconds, 1 to 1000000, where they don't do, as it does where bids don't; with --progress it tells on
 standard error once a second how far it has come.
 
 check says whether the claim of the certificate CERT holds of the problem FILE: a least-cost assignment, or that there is none.
@@ -31,7 +31,7 @@ The problem of a solve, a check or a hall has M objects: 1 to 20000, and no fewe
 mail makes the calls of SCRIPT on a new mail, and tells the replies.
 Without SCRIPT the script is read from standard input.
 
-A name that begins with a hyphen stands behind --. Answers go to standard output, sentences on what is wrong to standard error.
+A name that begins with a hyphen stands after --. Answers go to standard output, sentences on what is wrong to standard error.
 
 Status 0: an assignment of least cost, a claim that holds, an arc for each person, or all replies; 2: the words are no command;
 3: there is no assignment, or the claim doesn't hold; 4: a limit ended the search with an assignment and a bound;
@@ -39,3 +39,53 @@ Status 0: an assignment of least cost, a claim that holds, an arc for each perso
 7: a guard of the solver was hit; 8: standard output was not written, or not all of it.
 
 Read on: man auction (auction.1), docs/FORMATS.md for problems, certificates and scripts, docs/PLANNING.md for tables and plans.";
+
+/// What `auction solve --help` writes.
+pub(crate) const SOLVE_PAGE: &str = "usage: auction solve [FILE] [OPTION ..]
+
+Finds a least-cost assignment of the problem FILE, with prices that show it, or persons who together know too few objects.
+Without FILE the problem is read from standard input. A name that begins with a hyphen stands after --.
+
+  --direct        solve by one direct search, without messages: as right, mostly sooner; of several least assignments it may find another
+  --seconds T     with --direct: end soon after T seconds, 1 to 1000000, with an assignment and a bound
+  --progress      with --direct: tell on standard error once a second how far the search has come
+  --bids N        at most N bids of each shard of the persons in a phase, 1 to 1000000000000; without it 100000000
+  --objects M     the problem has M objects, 1 to 20000, and no fewer than persons; without it as many as persons
+  --from CERT     begin at the prices of the certificate CERT; without it at 0. With --objects it wants --direct
+  --workers K     K threads for each kind of shard, 0 to 16; without it, and with 0, no threads. Not with --direct
+  --audit ROOM    keep a trail of at most ROOM calls of each mail, 0 to 1000000; without it, and with 0, none. Wants --workers
+
+Status 0: an assignment of least cost; 3: there is no assignment; 4: a limit ended the search with an assignment and a bound;
+2: the words are no command; 5: an input is refused; 6: want of memory or of threads; 7: a guard of the solver was hit; 8: not all was written.";
+
+/// What `auction check --help` writes.
+pub(crate) const CHECK_PAGE: &str = "usage: auction check FILE [CERT] [--objects M]
+
+Says whether the claim of the certificate CERT holds of the problem FILE: a least-cost assignment, an assignment and a bound, or that there is
+none. Without CERT the certificate is read from standard input. A name that begins with a hyphen stands after --.
+
+  --objects M     the problem has M objects, 1 to 20000, and no fewer than persons; without it as many as persons
+
+Status 0: the claim holds; 3: it doesn't; 2: the words are no command; 5: an input is refused; 6: want of memory; 8: not all was written.";
+
+/// What `auction hall --help` writes.
+pub(crate) const HALL_PAGE: &str = "usage: auction hall [FILE] [--objects M]
+
+Finds an arc for each person of the problem FILE, no object twice, at whatever cost, or persons who together know too few objects.
+Without FILE the problem is read from standard input. A name that begins with a hyphen stands after --.
+
+  --objects M     the problem has M objects, 1 to 20000, and no fewer than persons; without it as many as persons
+
+Status 0: an arc for each person; 3: there is no assignment; 2: the words are no command; 5: an input is refused; 6: want of memory; 8: not all
+was written.";
+
+/// What `auction mail --help` writes.
+pub(crate) const MAIL_PAGE: &str = "usage: auction mail [SCRIPT]
+
+Makes the calls of SCRIPT on a new mail, the queue by which the shards of a solve talk, and tells the replies; docs/FORMATS.md has the calls.
+Without SCRIPT the script is read from standard input. A name that begins with a hyphen stands after --.
+
+Status 0: all replies; 2: the words are no command; 5: the script is refused; 6: want of memory; 8: not all was written.";
+
+/// What the program says of its version.
+pub(crate) const VERSION_PAGE: &str = "auction 1.1 (Sigdorf)";

@@ -14,7 +14,7 @@ pub(crate) struct WordFault<'a> {
     // What stands before the word in the sentence, the word, and what stands after it where no right word is near.
     before: &'static str,
     word: Option<&'a str>,
-    behind: &'static str,
+    after: &'static str,
     // The right word that is like it, without its hyphens, and these.
     nearest: Option<&'static str>,
     hyphens: &'static str,
@@ -26,18 +26,18 @@ impl<'a> WordFault<'a> {
         WordFault {
             before,
             word: None,
-            behind: "",
+            after: "",
             nearest: None,
             hyphens: "",
         }
     }
 
     /// About a word.
-    pub fn about(before: &'static str, word: &'a str, behind: &'static str) -> WordFault<'a> {
+    pub fn about(before: &'static str, word: &'a str, after: &'static str) -> WordFault<'a> {
         WordFault {
             before,
             word: Some(word),
-            behind,
+            after,
             nearest: None,
             hyphens: "",
         }
@@ -73,7 +73,7 @@ impl<'a> WordFault<'a> {
                 let _ = writer.write_all(b"`?\n");
             }
             None => {
-                let _ = writer.write_all(self.behind.as_bytes());
+                let _ = writer.write_all(self.after.as_bytes());
                 let _ = writer.write_all(b"\n");
             }
         }

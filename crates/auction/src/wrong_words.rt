@@ -158,11 +158,7 @@ impl<'a> Walk<'a> {
     /// Goes past the value of the option before it.
     fn value(&self, option: &'a str, wanted: Wanted, word: &'a str) -> Option<WordFault<'a>> {
         if is_option(word) {
-            return Some(WordFault::about(
-                "no value stands behind ",
-                option,
-                "; see auction --help",
-            ));
+            return Some(WordFault::about("no value stands after ", option, "; see auction --help"));
         }
         fault_of_value(wanted, word)
     }
@@ -226,7 +222,7 @@ impl<'a> Walk<'a> {
     /// What is missing at the end of the words.
     fn end(&self) -> WordFault<'a> {
         if let Some((option, _)) = self.awaited {
-            return WordFault::about("no value stands behind ", option, "; see auction --help");
+            return WordFault::about("no value stands after ", option, "; see auction --help");
         }
         if self.names == 0 && self.command == Command::Check {
             return WordFault::alone(
@@ -238,7 +234,7 @@ impl<'a> Walk<'a> {
 }
 
 /// What is wrong with the words after a command.
-fn fault_behind<'a>(
+fn fault_after<'a>(
     alloc: Global,
     command: Command,
     words: &'a [String],
@@ -271,9 +267,20 @@ fn fault_of_command<'a>(alloc: Global, word: &'a str) -> Result<WordFault<'a>, A
             "; see auction --help",
         ));
     }
-    let behind = "; there are solve, check, hall and mail, and auction --help";
+    let after = "; there are solve, check, hall and mail, and auction --help";
     let nearest = nearest(alloc, word, ["solve", "check", "hall", "mail"].as_slice())?;
-    Ok(WordFault::about("no command ", word, behind).with_nearest("", nearest))
+    Ok(WordFault::about("no command ", word, after).with_nearest("", nearest))
+}
+
+/// What is wrong with the words after `help`, which are no command's name alone.
+fn fault_of_help<'a>(alloc: Global, words: &'a [String]) -> Result<WordFault<'a>, AllocError> {
+    match words {
+        [] => Ok(WordFault::alone("these words are no command; auction --help tells how they go")),
+        [word] => fault_of_command(alloc, word.as_str()),
+        [_, word, ..] => {
+            Ok(WordFault::about("one name too many, ", word.as_str(), "; see auction --help"))
+        }
+    }
 }
 
 /// What is wrong with words that are no job: the first word at fault, and the right one that is most like it, if one is.
@@ -289,8 +296,11 @@ pub(crate) fn fault_of<'a>(
         let none = "no command; there are solve, check, hall and mail, and auction --help";
         return Ok(WordFault::alone(none));
     };
+    if first.as_str() == "help" {
+        return fault_of_help(alloc, &words[1..]);
+    }
     match command_of(first.as_str()) {
-        Some(command) => fault_behind(alloc, command, &words[1..]),
+        Some(command) => fault_after(alloc, command, &words[1..]),
         None => fault_of_command(alloc, first.as_str()),
     }
 }

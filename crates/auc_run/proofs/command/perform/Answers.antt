@@ -11,5 +11,5 @@ returns-then-workers-gt0-clause-ended g c =
     let messages = by_messages job.direct job.workers range.alone c.if-workers-gt0.true in (
       c.outcome_by_threads-outcome.result,
       inl (rw (job.is, messages) c.outcome_by_threads-outcome.ensures.outcome),
-      record { whole = c.tell.ensures.whole; cut = c.tell.ensures.cut; refusal = c.tell.ensures.refusal },
+      record { whole = c.tell.ensures.whole; cut = c.tell.ensures.cut; refusal = c.tell.ensures.refusal; reason = c.tell.ensures.reason },
     )

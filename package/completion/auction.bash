@@ -6,6 +6,10 @@ _auction() {
         mapfile -t COMPREPLY < <(compgen -W "solve check hall mail help --help --version" -- "$word")
         return
     fi
+    # Nothing stands after these.
+    case $command in
+    help | --help | -h | --version | -V) return ;;
+    esac
     case $before in
     # A number stands here, and nobody but the user knows which.
     --workers | --bids | --audit | --objects | --seconds) return ;;

@@ -1,4 +1,4 @@
-"""--version and --help of each tool: the version stands in VERSION, and an installed tool names the installed commands."""
+"""--version and --help of each tool: VERSION tells the version, and an installed tool names the installed commands."""
 import os
 import shutil
 import subprocess
@@ -20,7 +20,8 @@ class Versions(ToolTest):
         """Tools that were copied alone say that they don't know it."""
         shutil.copytree(ROOT / "tools", self.folder / "tools", ignore=shutil.ignore_patterns("tests"))
         for tool in ("to_csv", "check_certificate.py"):
-            done = subprocess.run([sys.executable, "-S", self.folder / "tools" / tool, "--version"], capture_output=True, text=True)
+            command = [sys.executable, "-S", self.folder / "tools" / tool, "--version"]
+            done = subprocess.run(command, capture_output=True, text=True)
             self.assertEqual((done.returncode, done.stdout), (0, f"{tool} of unknown version (Sigdorf)\n"), done.stderr)
 
 

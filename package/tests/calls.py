@@ -47,14 +47,15 @@ def run(*command, **more):
 
 @functools.cache
 def packages():
-    """The archive and the .deb, which is None where dpkg-deb isn't there. They stay until the tests end."""
+    """The archive, and each .deb by its package, none where dpkg-deb isn't there. They stay until the tests end."""
     kept = tempfile.TemporaryDirectory(prefix="sigdorf-packages-")
     packages.kept = kept
     status, told = run(ROOT / "package" / "build", "--into", kept.name)
     if status:
         raise AssertionError(told)
     made = sorted(pathlib.Path(kept.name).iterdir())
-    return tuple(next((path for path in made if path.name.endswith(end)), None) for end in (".tar.gz", ".deb"))
+    archive = next(path for path in made if path.name.endswith(".tar.gz"))
+    return archive, {path.name.partition("_")[0]: path for path in made if path.suffix == ".deb"}
 
 
 class PackageTest(unittest.TestCase):

@@ -14,7 +14,7 @@ INSTALLED = [
 
 
 def tell_of_itself(parser):
-    """Gives a parser, which has all its options, one for the version; and its help the names by which the tool is called."""
+    """Adds --version to a parser that has all other options, and names commands in its help as its caller does."""
     told = f"%(prog)s {version()} (Sigdorf)"
     parser.add_argument("--version", action="version", version=told, help="show the version and exit")
     if parser.prog.startswith("auction-"):

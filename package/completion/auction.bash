@@ -6,9 +6,13 @@ _auction() {
         mapfile -t COMPREPLY < <(compgen -W "solve check hall mail help --help --version" -- "$word")
         return
     fi
-    # Nothing stands after these.
     case $command in
-    help | --help | -h | --version | -V) return ;;
+    help)
+        ((COMP_CWORD > 2)) || mapfile -t COMPREPLY < <(compgen -W "solve check hall mail" -- "$word")
+        return
+        ;;
+    # Nothing stands after these.
+    --help | -h | --version | -V) return ;;
     esac
     case $before in
     # A number stands here, and nobody but the user knows which.

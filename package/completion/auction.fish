@@ -4,6 +4,7 @@ complete -c auction -f -n __fish_use_subcommand -a check -d 'say whether a certi
 complete -c auction -f -n __fish_use_subcommand -a hall -d 'find any full assignment, at whatever cost'
 complete -c auction -f -n __fish_use_subcommand -a mail -d 'make the calls of a script on a new mail'
 complete -c auction -f -n __fish_use_subcommand -a help -d 'show the usage'
+complete -c auction -f -n '__fish_seen_subcommand_from help; and not __fish_seen_subcommand_from solve check hall mail' -a 'solve check hall mail'
 complete -c auction -f -n '__fish_seen_subcommand_from help'
 complete -c auction -n 'not __fish_seen_subcommand_from help' -l help -d 'show the usage'
 complete -c auction -n __fish_use_subcommand -l version -d 'show the version'

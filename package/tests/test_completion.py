@@ -45,10 +45,11 @@ class Bash(PackageTest):
         for option in ("--workers", "--bids", "--audit", "--objects"):
             self.assertEqual(self.offered("solve", option, ""), [], option)
 
-    def test_nothing_after_help(self):
+    def test_no_files_after_help(self):
         (self.folder / "crew.arcs").touch()
-        for word in ("help", "--help", "--version"):
-            self.assertEqual(self.offered(word, ""), [], word)
+        self.assertEqual(self.offered("help", ""), sorted(COMMANDS))
+        for words in (["help", "solve"], ["--help"], ["--version"]):
+            self.assertEqual(self.offered(*words, ""), [], words)
 
 
 class Zsh(PackageTest):
@@ -68,7 +69,8 @@ class Zsh(PackageTest):
     def test_offers(self):
         os.symlink(COMPLETION / "auction.zsh", self.folder / "_auction")
         (self.folder / "crew.arcs").touch()
-        self.assertEqual(self.completed("auction help crew"), "auction help crew")
+        self.assertEqual(self.completed("auction help crew"), "auction help crew", "no file")
+        self.assertEqual(self.completed("auction help h"), "auction help hall")
         for typed, line in [("auction s", "auction solve "), ("auction solve --w", "auction solve --workers "), ("auction hall --o", "auction hall --objects "), ("auction --v", "auction --version ")]:
             self.assertEqual(self.completed(typed), line.rstrip(), typed)
 
@@ -97,7 +99,8 @@ class Fish(PackageTest):
         self.assertEqual(self.offered("auction --v"), ["--version"])
         self.assertEqual(self.offered("auction check crew.a"), ["crew.arcs"])
         self.assertEqual(self.offered("auction solve --from crew.c"), ["crew.certificate"])
-        for typed in ("auction solve --workers ", "auction help "):
+        self.assertEqual(self.offered("auction help "), sorted(COMMANDS))
+        for typed in ("auction solve --workers ", "auction help crew", "auction help solve "):
             self.assertEqual(self.offered(typed), [], typed)
 
     def offered(self, typed):

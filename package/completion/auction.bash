@@ -2,6 +2,9 @@
 _auction() {
     local word=${COMP_WORDS[COMP_CWORD]} before=${COMP_WORDS[COMP_CWORD - 1]} command=${COMP_WORDS[1]} options=
     COMPREPLY=()
+    # An option, its = and its value are three words of bash's.
+    [[ $word != = ]] || word=
+    [[ $before != = ]] || before=${COMP_WORDS[COMP_CWORD - 2]}
     if ((COMP_CWORD == 1)); then
         mapfile -t COMPREPLY < <(compgen -W "solve check hall mail help --help --version" -- "$word")
         return

@@ -5,6 +5,9 @@ TEXT = """\
 {function}() {{
     local typed=${{COMP_WORDS[COMP_CWORD]}} before=${{COMP_WORDS[COMP_CWORD - 1]}}
     COMPREPLY=()
+    # An option, its = and its value are three words of bash's.
+    [[ $typed != = ]] || typed=
+    [[ $before != = ]] || before=${{COMP_WORDS[COMP_CWORD - 2]}}
     case $before in{cases}
     *)
         if [[ $typed == -* ]]; then

@@ -40,10 +40,12 @@ class Bash(PackageTest):
         (self.folder / "crew.certificate").touch()
         self.assertEqual(self.offered("check", "crew.a"), ["crew.arcs"])
         self.assertEqual(self.offered("solve", "--from", "crew.c"), ["crew.certificate"])
+        self.assertEqual(self.offered("solve", "--from", "=", "crew.c"), ["crew.certificate"])
 
     def test_numbers(self):
         for option in ("--workers", "--bids", "--audit", "--objects"):
             self.assertEqual(self.offered("solve", option, ""), [], option)
+            self.assertEqual(self.offered("solve", option, "="), [], option)
 
     def test_no_files_after_help(self):
         (self.folder / "crew.arcs").touch()

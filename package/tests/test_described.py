@@ -106,7 +106,8 @@ class Shells(DescribedTest):
             long, _, choices = self.options(tool)
             self.assertEqual(set(self.offered_by_bash(tool, "--")), long, tool)
             for option, words in choices.items():
-                self.assertEqual(self.offered_by_bash(tool, option, ""), sorted(words), option)
+                for before in ([option, ""], [option, "="], [option, "=", ""]):
+                    self.assertEqual(self.offered_by_bash(tool, *before), sorted(words), option)
         self.assertEqual(self.offered_by_bash("auction-plan", "crew.cs"), ["crew.csv"])
         self.assertEqual(self.offered_by_bash("auction-plan", "--output", "crew.cs"), ["crew.csv"])
         self.assertEqual(self.offered_by_bash("auction-plan", "--decimals", ""), [])

@@ -79,6 +79,9 @@ def faults_of_plan(arcs, count, kind, numbers, picks, prices):
 
 def main():
     parser = argparse.ArgumentParser(description=__doc__)
+    told = os.path.join(os.path.dirname(os.path.realpath(__file__)), "..", "VERSION")  # of the clone, or of where it is installed
+    version = open(told).read().strip() if os.path.exists(told) else "of unknown version"
+    parser.add_argument("--version", action="version", version=f"%(prog)s {version} (Sigdorf)", help="show the version and exit")
     opened = lambda name: os.open(name, os.O_RDONLY)
     parser.add_argument("arcs", metavar="ARCS", type=opened)
     parser.add_argument("certificate", metavar="CERTIFICATE", nargs="?", type=opened, default=0, help="left out, it is standard input")

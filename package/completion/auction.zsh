@@ -27,4 +27,8 @@ case $command in
     check) _arguments $objects '--help[show the usage]' ':problem:_files' ':certificate:_files' ;;
     hall) _arguments $objects '--help[show the usage]' ':problem:_files' ;;
     mail) _arguments '--help[show the usage]' ':script:_files' ;;
+    help)
+        local -a pages=(${commands:#help:*})
+        (( CURRENT > 2 )) || _describe command pages
+        ;;
 esac

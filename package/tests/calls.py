@@ -11,6 +11,18 @@ ROOT = pathlib.Path(__file__).resolve().parents[2]
 VERSION = (ROOT / "VERSION").read_text().strip()
 SECONDS = 300
 
+# A second zsh on a terminal of its own; behind the line and Tab, Ctrl-A puts a command before it and Ctrl-E a mark behind it that print the line.
+TYPING = r"""
+zmodload zsh/zpty
+zpty shell zsh -f -i
+zpty -w shell "fpath=($PWD \$fpath); autoload -Uz compinit; compinit -u -D; PS1=; unset zle_bracketed_paste; print REA''DY"
+zpty -r shell seen '*READY*'
+zpty -w -n shell "$1"$'\t\x01print -r -- "<\x05>"\n'
+zpty -r shell seen '*<*>*<*>*'
+print -r -- $seen
+zpty -d shell
+"""
+
 
 def wants(*programs):
     """Skips a test where the machine lacks one of these programs."""
@@ -35,14 +47,15 @@ def run(*command, **more):
 
 @functools.cache
 def packages():
-    """The archive and the .deb, which is None where dpkg-deb isn't there. They stay until the tests end."""
+    """The archive, and each .deb by its package, none where dpkg-deb isn't there. They stay until the tests end."""
     kept = tempfile.TemporaryDirectory(prefix="sigdorf-packages-")
     packages.kept = kept
     status, told = run(ROOT / "package" / "build", "--into", kept.name)
     if status:
         raise AssertionError(told)
     made = sorted(pathlib.Path(kept.name).iterdir())
-    return tuple(next((path for path in made if path.name.endswith(end)), None) for end in (".tar.gz", ".deb"))
+    archive = next(path for path in made if path.name.endswith(".tar.gz"))
+    return archive, {path.name.partition("_")[0]: path for path in made if path.suffix == ".deb"}
 
 
 class PackageTest(unittest.TestCase):

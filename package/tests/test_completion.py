@@ -1,8 +1,8 @@
-"""Completion: what bash offers, and that both shells know just the commands and options of the usage."""
+"""Completion of `auction`: what bash, zsh and fish offer, and that all know just the commands and options of the usage."""
 import os
 import re
 
-from calls import ROOT, PackageTest, wants, wants_program
+from calls import ROOT, TYPING, PackageTest, wants
 
 COMPLETION = ROOT / "package" / "completion"
 COMMANDS = ["solve", "check", "hall", "mail"]
@@ -16,19 +16,6 @@ def usage():
 
 def options_of(command):
     return sorted(re.findall(r"--[a-z]+", usage()[command]))
-
-
-# A second zsh on a terminal of its own; behind the line and Tab, Ctrl-A puts a command before it and Ctrl-E a mark behind it that print the line.
-TYPING = r"""
-zmodload zsh/zpty
-zpty shell zsh -f -i
-zpty -w shell "fpath=($PWD \$fpath); autoload -Uz compinit; compinit -u -D; PS1=; unset zle_bracketed_paste; print REA''DY"
-zpty -r shell seen '*READY*'
-zpty -w -n shell "$1"$'\t\x01print -r -- "<\x05>"\n'
-zpty -r shell seen '*<*>*<*>*'
-print -r -- $seen
-zpty -d shell
-"""
 
 
 @wants("bash")
@@ -53,10 +40,18 @@ class Bash(PackageTest):
         (self.folder / "crew.certificate").touch()
         self.assertEqual(self.offered("check", "crew.a"), ["crew.arcs"])
         self.assertEqual(self.offered("solve", "--from", "crew.c"), ["crew.certificate"])
+        self.assertEqual(self.offered("solve", "--from", "=", "crew.c"), ["crew.certificate"])
 
     def test_numbers(self):
         for option in ("--workers", "--bids", "--audit", "--objects"):
             self.assertEqual(self.offered("solve", option, ""), [], option)
+            self.assertEqual(self.offered("solve", option, "="), [], option)
+
+    def test_no_files_after_help(self):
+        (self.folder / "crew.arcs").touch()
+        self.assertEqual(self.offered("help", ""), sorted(COMMANDS))
+        for words in (["help", "solve"], ["--help"], ["--version"]):
+            self.assertEqual(self.offered(*words, ""), [], words)
 
 
 class Zsh(PackageTest):
@@ -75,6 +70,9 @@ class Zsh(PackageTest):
     @wants("zsh")
     def test_offers(self):
         os.symlink(COMPLETION / "auction.zsh", self.folder / "_auction")
+        (self.folder / "crew.arcs").touch()
+        self.assertEqual(self.completed("auction help crew"), "auction help crew", "no file")
+        self.assertEqual(self.completed("auction help h"), "auction help hall")
         for typed, line in [("auction s", "auction solve "), ("auction solve --w", "auction solve --workers "), ("auction hall --o", "auction hall --objects "), ("auction --v", "auction --version ")]:
             self.assertEqual(self.completed(typed), line.rstrip(), typed)
 
@@ -82,3 +80,32 @@ class Zsh(PackageTest):
         """What a line becomes that is typed, with a Tab behind it, into a zsh that has the file among its functions."""
         told = self.done("zsh", "-f", "-c", TYPING, "zsh", typed, cwd=self.folder)
         return re.sub(r"\x1b\[[0-9;?]*[A-Za-z]", "", re.findall(r"<([^<>\n]*)>", told)[-1]).strip()
+
+
+class Fish(PackageTest):
+    def test_options(self):
+        """The options of each command are those of the usage."""
+        text = (COMPLETION / "auction.fish").read_text()
+        for command in COMMANDS:
+            lines = [line for line in text.splitlines() if re.search(rf"__fish_seen_subcommand_from [a-z ]*\b{command}\b", line)]
+            found = re.findall(r"-l ([a-z]+)", "\n".join(lines))
+            self.assertEqual(sorted(f"--{name}" for name in found), options_of(command), command)
+
+    @wants("fish")
+    def test_offers(self):
+        (self.folder / "crew.arcs").touch()
+        (self.folder / "crew.certificate").touch()
+        self.assertEqual(self.offered("auction "), sorted([*COMMANDS, "help"]))
+        for command in COMMANDS:
+            self.assertEqual(self.offered(f"auction {command} --"), sorted([*options_of(command), "--help"]), command)
+        self.assertEqual(self.offered("auction --v"), ["--version"])
+        self.assertEqual(self.offered("auction check crew.a"), ["crew.arcs"])
+        self.assertEqual(self.offered("auction solve --from crew.c"), ["crew.certificate"])
+        self.assertEqual(self.offered("auction help "), sorted(COMMANDS))
+        for typed in ("auction solve --workers ", "auction help crew", "auction help solve "):
+            self.assertEqual(self.offered(typed), [], typed)
+
+    def offered(self, typed):
+        script = f'source "{COMPLETION}/auction.fish"; complete -C "{typed}"'
+        told = self.done("fish", "--no-config", "-c", script, cwd=self.folder, environment={"HOME": str(self.folder)})
+        return sorted(line.split("\t")[0] for line in told.splitlines())

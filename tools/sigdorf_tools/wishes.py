@@ -6,6 +6,7 @@ from .amounts import NotAnAmount, units_of
 from .faults import Fault, quoted
 from .forms import is_title
 from .models import Model
+from .notes import note
 from .problems import Arcs
 from .tables import columns, read_table
 
@@ -34,6 +35,8 @@ def capacities_said(word, persons):
     if word.isdecimal():
         return {None: (f"--capacity {word}", word)}
     table = read_table(word)
+    for sentence in table.notes:
+        note(sentence)
     found = {}
     for row, cells in enumerate(table.rows):
         if len(cells) != 2:

@@ -1,0 +1,61 @@
+"""Rows and columns of a workbook that a spreadsheet doesn't show. They count like all others, so that a note has to tell them."""
+import io
+import re
+import zipfile
+
+# In the text of a sheet: what a row or some columns are told by, and an attribute of it.
+ROW, COLUMNS = (re.compile(rb"<(?:[A-Za-z0-9_]+:)?%s\b([^>]*)>" % name) for name in (b"row", b"col"))
+ATTRIBUTE = re.compile(rb"\b([A-Za-z]+)=[\"']([^\"']*)[\"']")
+# How a file says that something is hidden.
+HIDDEN_IN_XLSX, HIDDEN_IN_ODS = (b"1", b"true"), ("collapse", "filter")
+# No table that a plan can be made of has more rows or columns; and so many numbers are told.
+MOST, MOST_TOLD = 20_001, 5
+
+
+def hidden_in_xlsx(content, sheet):
+    """The numbers of hidden rows and columns of a sheet, from its text: the library doesn't tell them where it reads row by row."""
+    with zipfile.ZipFile(io.BytesIO(content)) as archive:
+        text = archive.read(sheet._worksheet_path)
+    rows, columns, number = set(), set(), 0
+    for found in ROW.finditer(text):
+        told = dict(ATTRIBUTE.findall(found[1]))
+        number = int(told.get(b"r", number + 1))
+        if told.get(b"hidden") in HIDDEN_IN_XLSX:
+            rows.add(number)
+    for found in COLUMNS.finditer(text):
+        told = dict(ATTRIBUTE.findall(found[1]))
+        if told.get(b"hidden") in HIDDEN_IN_XLSX:
+            columns.update(range(int(told[b"min"]), min(int(told[b"max"]), MOST) + 1))
+    return rows, columns
+
+
+def hidden_in_ods(table, repeats):
+    """The same of a sheet of the other library; repeats tells how often an element stands there."""
+    from odf.table import TableColumn, TableRow
+    found = []
+    for kind, attribute in ((TableRow, "numberrowsrepeated"), (TableColumn, "numbercolumnsrepeated")):
+        numbers, number = set(), 1
+        for element in table.getElementsByType(kind):
+            count = repeats(element, attribute)
+            if element.getAttribute("visibility") in HIDDEN_IN_ODS:
+                numbers.update(range(number, number + min(count, MOST)))
+            number += count
+        found.append(numbers)
+    return found
+
+
+def note_of_hidden(file, rows, hidden_rows, hidden_columns):
+    """A note on the hidden rows and columns that have cells, if there are any."""
+    columns = [number for number in sorted(hidden_columns) if any(number <= len(cells) and cells[number - 1] for cells in rows.values())]
+    told = [numbered(word, numbers) for word, numbers in (("row", sorted(hidden_rows & rows.keys())), ("column", columns)) if numbers]
+    if not told:
+        return []
+    is_one = len(told) == 1 and told[0].split(" ")[0] in ("row", "column")
+    return [f"{file}: {' and '.join(told)} {'is hidden, and counts' if is_one else 'are hidden, and count'} like all others; delete what isn't meant"]
+
+
+def numbered(word, numbers):
+    """Some rows or columns in a sentence."""
+    more = [f"{len(numbers) - MOST_TOLD} more"] if len(numbers) > MOST_TOLD else []
+    *some, last = [*map(str, numbers[:MOST_TOLD]), *more]
+    return f"{word}s {', '.join(some)} and {last}" if some else f"{word} {last}"

@@ -62,6 +62,6 @@ def write_text(text, file, table):
         sys.stdout.flush()
         return
     if os.path.exists(file) and os.path.exists(table) and os.path.samefile(file, table):
-        raise Fault(f"{file}: the plan would go over the table that it is made from; name another file behind -o")
+        raise Fault(f"{file}: the plan would go over the table that it is made from; name another file after -o")
     with open(file, "w", encoding="utf-8", newline="") as opened:
         opened.write(text)

@@ -61,6 +61,6 @@ def rows_of_reasons(names, problem, model, claim, name):
 
 def sentence(names, name, has):
     """What the rows say."""
-    best = "most, less its price" if names.maximise else "least, with its price"
+    best, worse = ("most, less its price", "brings at least `worse by` less") if names.maximise else ("least, with its price", "costs at least `worse by` more")
     listed = " and ".join(has) if has else "nothing, since the capacity is 0"
-    return f"{name} has {listed}: at these prices everybody has what is {best}. A plan that has another row of these is worse by so much, at least."
+    return f"{name} has {listed}: at these prices everybody has what is {best}. Any plan that gives {name} another one of these rows {worse}."

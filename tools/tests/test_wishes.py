@@ -158,7 +158,7 @@ class Wishes(ToolTest):
         self.assertEqual((own[:2], own[4:], other[:2], other[4:]), (["wiring", "20"], ["", "Ben"], ["pump", "35"], ["5", "Ada"]))
         self.assertEqual((int(own[1]) + int(own[2]), int(other[1]) + int(other[2])), (int(own[3]), int(other[3])))
         self.assertLessEqual(int(own[3]), int(other[3]))
-        self.assertIn("Ben has wiring", lines[3])
+        self.assertEqual(lines[3], '"Ben has wiring: at these prices everybody has what is least, with its price. Any plan that gives Ben another one of these rows costs at least `worse by` more."')
         told = json.loads("\n".join(self.planned(CREW.replace(",", ";"), "--why", "Ben", "--json")))
         self.assertEqual(told["objects"][0], dict(object="wiring", cost=20, price=told["objects"][0]["price"], together=told["objects"][0]["together"], holder="Ben"))
         self.assertEqual((told["objects"][1]["object"], told["objects"][1]["worse_by"], told["objects"][1]["holder"]), ("pump", 5, "Ada"))
@@ -184,7 +184,7 @@ class Wishes(ToolTest):
             (["--fix", "Ada=roof", "--forbid", "Ada=roof"], "--fix Ada=roof", "forbids"),
             (["--forbid", "Ada=rof"], "no object `rof`"),
             (["--capacity", "nosuch.csv"], "nosuch.csv"),
-            (["--capacity", "capacities.csv"], "capacities.csv, line 2, column 2", "`Dan`"),
+            (["--capacity", "capacities.csv"], "capacities.csv, line 2, column 1", "`Dan`"),
             (["--capacity", "twice.csv"], "twice.csv, line 2, column 1", "twice"),
             (["--capacity", "bad.csv"], "bad.csv, line 2, column 2", "`few`"),
             (["--capacity", "first.csv"], "first.csv, line 1, column 2", "`few`"),

@@ -5,9 +5,10 @@ import os
 import sys
 
 from .faults import Fault
+from .kinds import ANSWERS, Asked
 from .plans import Free, blamed, rows_of_free, rows_of_pairs, sentence_of, write_rows
 
-STATUS_WORDS = {"optimal": "best", "bracket": "stopped", "infeasible": "no plan"}
+STATUS_WORDS = {"bracket": "stopped", "infeasible": "no plan"}
 
 
 def text_of_rows(names, rows):
@@ -17,13 +18,13 @@ def text_of_rows(names, rows):
     return text.getvalue()
 
 
-def json_of(names, claim, judges, free=Free()):
+def json_of(names, claim, judges, free=Free(), asked=Asked()):
     """An answer as JSON: amounts are numbers with the decimals of the table, exactly."""
     names = names._replace(mark=".")
-    told = {"answer": STATUS_WORDS[claim.kind]}
+    told = {"answer": STATUS_WORDS.get(claim.kind, ANSWERS[asked.kind]), **asked.fields(names, number), "sentence": sentence_of(names, claim, asked)}
     if claim.kind == "infeasible":
         persons, objects = blamed(names, claim)
-        told |= {"sentence": sentence_of(names, claim), "persons": list(dict.fromkeys(map(names.person, persons))), "objects": list(map(names.object, objects))}
+        told |= {"persons": list(dict.fromkeys(map(names.person, persons))), "objects": list(map(names.object, objects))}
     else:
         rows = rows_of_free(names, claim, free)
         told |= {
@@ -33,7 +34,7 @@ def json_of(names, claim, judges, free=Free()):
             "free_objects": [thing for person, thing, _ in rows if not person],
         }
         if claim.kind == "bracket":
-            told |= {"sentence": sentence_of(names, claim), "bound": number(names.amount(claim.lower))}
+            told |= {"bound": number(names.amount(claim.lower))}
     return json.dumps(told | {"proved_by": judges}, ensure_ascii=False, indent=1) + "\n"
 
 

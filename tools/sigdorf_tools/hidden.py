@@ -14,8 +14,11 @@ MOST, MOST_TOLD = 20_001, 5
 
 def hidden_in_xlsx(content, sheet):
     """The numbers of hidden rows and columns of a sheet, from its text: the library doesn't tell them where it reads row by row."""
+    path = getattr(sheet, "_worksheet_path", None)
+    if path is None:
+        return set(), set()
     with zipfile.ZipFile(io.BytesIO(content)) as archive:
-        text = archive.read(sheet._worksheet_path)
+        text = archive.read(path)
     rows, columns, number = set(), set(), 0
     for found in ROW.finditer(text):
         told = dict(ATTRIBUTE.findall(found[1]))

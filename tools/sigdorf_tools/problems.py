@@ -4,12 +4,12 @@ from typing import NamedTuple
 from .costs import cells_of, read_costs
 from .faults import Fault, quoted
 from .forms import form_of, is_title
+from .json_tables import TITLES
 from .tables import below_header, look_at_blanks, look_at_lengths
 
 MOST_PERSONS = 10_000
 MOST_OBJECTS = 20_000
 MOST_ARCS = 33_554_432
-TITLES = ["person", "object", "cost"]
 NAME_WANTED = "a name is wanted, and the cell is empty; write one, or leave out what is no part of the table"
 
 

@@ -66,6 +66,13 @@ class Forms(ToolTest):
         self.write("table.json", json.dumps([["who", "early", "late"], ["Ada", 3, 5], ["Ada", 1, 9]]))
         self.assert_fault(self.call("tools/from_csv", "table.json"), "table.json, row 1", "`early` and `late`", "--pairs or --matrix")
 
+    def test_fields_of_json(self):
+        """Records whose fields are called so may have them in any order."""
+        pair = {"cost": 7, "object": "2", "person": "1"}
+        self.write("table.json", json.dumps([pair, pair | {"person": "3", "cost": 8}]))
+        self.assertEqual(self.call("tools/from_csv", "table.json", "--arcs", "arcs")[0], 0)
+        self.assertEqual(self.read("arcs"), "2\n1 1 7\n2 1 8\n1 2 0\n2 2 0\n")
+
     def test_without_a_header(self):
         """A slip in a table of costs alone makes no list of it."""
         for content in ("12,3x,4\n5,6,7\n", "12,3,4\n5,x,7\n"):

@@ -90,7 +90,7 @@ def main():
         line = next(faults, " ".join(map(str, ["valid", kind, *numbers])))
     except (OSError, ValueError) as fault:
         if isinstance(getattr(fault, "filename", None), str):  # a file that can't be opened; one that can't be read has a number
-            return print(f"check_certificate.py: {fault.filename}: it can't be opened: {fault.strerror.lower()}", file=sys.stderr) or 5
+            return print(f"{parser.prog}: {fault.filename}: it can't be opened: {fault.strerror}", file=sys.stderr) or 5
         line = "refused read" if isinstance(fault, OSError) else str(fault)
     return print(line) or {"valid": 0, "invalid": 3, "refused": 5}[line.split()[0]]
 

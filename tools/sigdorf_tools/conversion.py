@@ -42,7 +42,8 @@ def number_of_decimals(word):
 
 
 def read_problem(words, extras=()):
-    """The table that the words name, or its text, its problem, and what columns of these titles say of each person. Decimals that nobody said are told on standard error, and what may not be meant."""
+    """The table that the words name, or its text, its problem, and what columns of these titles say of each person.
+    Decimals that nobody said are told on standard error, and what may not be meant."""
     source, has_header = read_source(words.file, SEPARATORS.get(words.separator), words.sheet), not words.no_header
     said = has_header, words.decimals, words.maximise, MARKS.get(words.decimal_mark)
     is_whole = words.columns is None and not extras and not words.ignore_column

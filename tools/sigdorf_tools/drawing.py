@@ -44,8 +44,9 @@ class Label(NamedTuple):
 
 
 class Scene(NamedTuple):
-    """What is drawn: all names, the arcs (person, object, cost) by their numbers from 1 on, and those of them that stand out; how a cost is told; the prices; who and what stand
-    out, which are those of the plan or of the Hall set, and whether it is one."""
+    """What is drawn: all names, the arcs (person, object, cost) by their numbers from 1 on, and those of them that
+    stand out; how a cost is told; the prices; who and what stand out, which are those of the plan or of the Hall set,
+    and whether it is one."""
 
     titles: list
     persons: list

@@ -66,7 +66,8 @@ def tell(sentence):
 
 
 def say(sentence):
-    """One sentence on standard error, after the name of the tool. On a terminal a line that tells what goes on may stand there, and is taken away."""
+    """One sentence on standard error, after the name of the tool. On a terminal a line that tells what goes on may
+    stand there, and is taken away."""
     before = TAKE_AWAY if sys.stderr.isatty() else ""
     print(f"{before}{os.path.basename(sys.argv[0])}: {sentence}", file=sys.stderr)
 

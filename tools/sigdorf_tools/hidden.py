@@ -1,4 +1,4 @@
-"""Rows and columns of a workbook that a spreadsheet doesn't show. They count like all others, so that a note has to tell them."""
+"""Rows and columns of a workbook that a spreadsheet doesn't show. They count like all others, so a note tells them."""
 import io
 import re
 import zipfile
@@ -13,7 +13,8 @@ MOST, MOST_TOLD = 20_001, 5
 
 
 def hidden_in_xlsx(content, sheet):
-    """The numbers of hidden rows and columns of a sheet, from its text: the library doesn't tell them where it reads row by row."""
+    """The numbers of hidden rows and columns of a sheet, from its text: the library doesn't tell them where it reads
+    row by row."""
     path = getattr(sheet, "_worksheet_path", None)
     if path is None:
         return set(), set()
@@ -49,12 +50,14 @@ def hidden_in_ods(table, repeats):
 
 def note_of_hidden(file, rows, hidden_rows, hidden_columns):
     """A note on the hidden rows and columns that have cells, if there are any."""
-    columns = [number for number in sorted(hidden_columns) if any(number <= len(cells) and cells[number - 1] for cells in rows.values())]
-    told = [numbered(word, numbers) for word, numbers in (("row", sorted(hidden_rows & rows.keys())), ("column", columns)) if numbers]
-    if not told:
+    filled = {number for cells in rows.values() for number, cell in enumerate(cells, 1) if cell}
+    found = {"row": sorted(hidden_rows & rows.keys()), "column": sorted(hidden_columns & filled)}
+    count = sum(map(len, found.values()))
+    if not count:
         return []
-    is_one = len(told) == 1 and told[0].split(" ")[0] in ("row", "column")
-    return [f"{file}: {' and '.join(told)} {'is hidden, and counts' if is_one else 'are hidden, and count'} like all others; delete what isn't meant"]
+    told = " and ".join(numbered(word, numbers) for word, numbers in found.items() if numbers)
+    how = "is hidden, and counts" if count == 1 else "are hidden, and count"
+    return [f"{file}: {told} {how} like all others; delete what isn't meant"]
 
 
 def numbered(word, numbers):

@@ -1,13 +1,17 @@
-"""What was asked for, and of which plans an answer is the least: told alike in the line on standard error, in JSON and on the page."""
+"""What was asked for, and of which plans an answer is the least. It is told alike in the line on standard error, in
+JSON and on the page."""
 from typing import NamedTuple
 
 # What an answer is called for programs, where the search came to its end.
 ANSWERS = {"best": "best", "second": "second best", "fair": "fair"}
+# Options that narrow which plans there are: those that are said once, and those that may be said more often.
+SINGLE, SEVERAL = ("capacity", "capacity_column", "leave_free", "leave_free_column"), ("fix", "forbid")
+JUDGES = ["the proved checker", "a second one"]
 
 
 class Asked(NamedTuple):
-    """The kind of plan, `best`, `second` or `fair`; the wishes for it, as they were said; and what stands beside its total: of a second best plan the total of the best one, of a fair plan the
-    cost that no plan betters."""
+    """The kind of plan, `best`, `second` or `fair`; the wishes for it, as they were said; and what stands beside its
+    total: of a second best plan the total of the best one, of a fair plan the cost that no plan betters."""
 
     kind: str = "best"
     wishes: tuple = ()
@@ -28,14 +32,15 @@ class Asked(NamedTuple):
 
 def wishes_said(words):
     """The wishes that the words of a command tell, one by one."""
-    single = (("--capacity", words.capacity), ("--capacity-column", words.capacity_column), ("--leave-free", words.leave_free), ("--leave-free-column", words.leave_free_column))
-    several = (("--fix", words.fix), ("--forbid", words.forbid))
-    return (*(f"{option} {word}" for option, word in single if word is not None), *(f"{option} {word}" for option, said in several for word in said))
+    said = [(option, getattr(words, option)) for option in SINGLE if getattr(words, option) is not None]
+    said += [(option, word) for option in SEVERAL for word in getattr(words, option)]
+    return tuple(f"--{option.replace('_', '-')} {word}" for option, word in said)
 
 
 def fairness(names, asked):
     """What a fair plan is fair by."""
-    return f"the {'least' if names.maximise else 'greatest'} cost is {names.amount(asked.beside)}, and no plan{asked.within()} has a better one"
+    word, cost = "least" if names.maximise else "greatest", names.amount(asked.beside)
+    return f"the {word} cost is {cost}, and no plan{asked.within()} has a better one"
 
 
 def gap_of(names, claim):
@@ -45,40 +50,40 @@ def gap_of(names, claim):
 
 def sentence_of_plan(names, claim, asked):
     """A plan in one sentence."""
-    best = "greatest" if names.maximise else "least"
-    total = names.amount(claim.cost)
     if claim.kind == "bracket":
         return sentence_of_bracket(names, claim, asked)
+    best, total, within = "greatest" if names.maximise else "least", names.amount(claim.cost), asked.within()
     if asked.kind == "second":
-        return f"The second best plan{asked.within()}: its total is {total}, and that of the best one is {names.amount(asked.beside)}."
+        of_best = names.amount(asked.beside)
+        return f"The second best plan{within}: its total is {total}, and that of the best one is {of_best}."
     if asked.kind == "fair":
-        return f"A fair plan{asked.within()}: {fairness(names, asked)}; of the plans that have it the {best} total is {total}."
-    return f"A best plan{asked.within()}: the {best} total{' that they allow' if asked.wishes else ''} is {total}."
+        fair = fairness(names, asked)
+        return f"A fair plan{within}: {fair}; of the plans that have it the {best} total is {total}."
+    return f"A best plan{within}: the {best} total{' that they allow' if asked.wishes else ''} is {total}."
 
 
 def sentence_of_bracket(names, claim, asked):
-    of_fair = asked.kind == "fair"
-    told = f" {fairness(names, asked)}; of the plans that have it" if of_fair else ""
-    within = "" if of_fair else asked.within()
+    """A plan of a search that was stopped, in one sentence."""
+    fair = f" {fairness(names, asked)}; of the plans that have it" if asked.kind == "fair" else ""
+    within = "" if fair else asked.within()
     far = f"this plan is at most {gap_of(names, claim)} from the best{within}"
-    return f"The search was stopped early:{told} {far}, and no total{within} is {'above' if names.maximise else 'below'} {names.amount(claim.lower)}."
+    bound = f"no total{within} is {'above' if names.maximise else 'below'} {names.amount(claim.lower)}"
+    return f"The search was stopped early:{fair} {far}, and {bound}."
 
 
 def rank_of(names, claim, asked):
     """Of which plans the total is the least, or how far from it, in half a sentence."""
-    best = "greatest" if names.maximise else "least"
-    if claim.kind == "bracket":
-        told = f"at most {gap_of(names, claim)} from the best"
-    elif asked.kind == "second":
+    within = asked.within()
+    if asked.kind == "second":
         gap = names._replace(maximise=False).amount(claim.cost - asked.beside)
-        return f"the second best{asked.within()}, {gap} from the best, which has {names.amount(asked.beside)}"
-    else:
-        told = f"the {best}"
+        return f"the second best{within}, {gap} from the best, which has {names.amount(asked.beside)}"
+    is_best, told = claim.kind == "optimal", f"the {'greatest' if names.maximise else 'least'}"
+    told = told if is_best else f"at most {gap_of(names, claim)} from the best"
     if asked.kind == "fair":
-        return f"{told} of all fair plans{asked.within()}: {fairness(names, asked)}"
-    return told + (asked.within() or " of all" if claim.kind == "optimal" else asked.within())
+        return f"{told} of all fair plans{within}: {fairness(names, asked)}"
+    return told + (within or (" of all" if is_best else ""))
 
 
 def judged_by(judges):
     """Who looked whether an answer is true."""
-    return f"checked by {' and by '.join(['the proved checker', 'a second one'][: len(judges)])}"
+    return f"checked by {' and by '.join(JUDGES[: len(judges)])}"

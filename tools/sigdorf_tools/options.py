@@ -1,4 +1,5 @@
-"""What `plan` looks at before it reads a table: numbers that are for the solver, and whether the name of the output fits what goes into it."""
+"""What `plan` looks at before it reads a table: numbers that are for the solver, and whether the name of the output
+fits what goes into it."""
 import os
 
 from .faults import Fault
@@ -16,7 +17,8 @@ def look_at_options(words):
         if word is not None and not (word.isascii() and word.isdigit() and least <= int(word[:20]) <= most):
             raise Fault(f"--{option} {word}: a whole number from {least} to {most:,} is wanted")
     if words.workers is not None and words.seconds is not None:
-        raise Fault("--workers and --seconds: a search by threads has no limit of time; leave one of them out, or say --bids in place of --seconds")
+        way_out = "leave one of them out, or say --bids in place of --seconds"
+        raise Fault(f"--workers and --seconds: a search by threads has no limit of time; {way_out}")
     if words.why is not None and words.html:
         raise Fault("--why: there is no page of reasons; leave --html out, or say --json")
     if words.output is not None:
@@ -28,9 +30,12 @@ def look_at_output(file, said):
     stem, ending = os.path.splitext(file)
     ending = ending.lower()
     if ending in UNWRITTEN:
-        raise Fault(f"-o {file}: a plan is written as CSV, JSON or a page; name {stem}.csv, which a spreadsheet opens, or say --html and name {stem}.html")
+        way_out = f"name {stem}.csv, which a spreadsheet opens, or say --html and name {stem}.html"
+        raise Fault(f"-o {file}: a plan is written as CSV, JSON or a page; {way_out}")
     wanted = next((option for option, endings in ENDINGS.items() if ending in endings), None)
+    fitting = f"{stem}{ENDINGS[said][0] if said else '.csv'}"
     if wanted and wanted != said:
-        raise Fault(f"-o {file}: its name is that of another form of a plan; say {wanted}{f' in place of {said}' if said else ''}, or name {stem}{ENDINGS[said][0] if said else '.csv'}")
+        instead = f" in place of {said}" if said else ""
+        raise Fault(f"-o {file}: its name is that of another form of a plan; say {wanted}{instead}, or name {fitting}")
     if said and ending in TABLES:
-        raise Fault(f"-o {file}: its name is that of a table, and {said} is said; leave {said} out, or name {stem}{ENDINGS[said][0]}")
+        raise Fault(f"-o {file}: its name is that of a table, and {said} is said; leave {said} out, or name {fitting}")

@@ -21,10 +21,12 @@ def text_of_rows(names, rows):
 def json_of(names, claim, judges, free=Free(), asked=Asked()):
     """An answer as JSON: amounts are numbers with the decimals of the table, exactly."""
     names = names._replace(mark=".")
-    told = {"answer": STATUS_WORDS.get(claim.kind, ANSWERS[asked.kind]), **asked.fields(names, number), "sentence": sentence_of(names, claim, asked)}
+    told = {"answer": STATUS_WORDS.get(claim.kind, ANSWERS[asked.kind]), **asked.fields(names, number)}
+    told |= {"sentence": sentence_of(names, claim, asked)}
     if claim.kind == "infeasible":
         persons, objects = blamed(names, claim)
-        told |= {"persons": list(dict.fromkeys(map(names.person, persons))), "objects": list(map(names.object, objects))}
+        told |= {"persons": list(dict.fromkeys(map(names.person, persons)))}
+        told |= {"objects": list(map(names.object, objects))}
     else:
         rows = rows_of_free(names, claim, free)
         told |= {

@@ -76,12 +76,14 @@ def tables_of_hall(names, claim):
 
 def table_of_prices(names, claim, prices):
     yield "<h2>Prices</h2>"
-    if claim.kind == "bracket":
-        yield "<p>These prices show how far the plan is from the best at most. They are in the unit of costs.</p>"
-    else:
-        yield "<p>At these prices everybody has what is best for him of all that this plan may give him: cost and price together. They are in the unit of costs.</p>"
+    told = "These prices show how far the plan is from the best at most"
+    if claim.kind != "bracket":
+        of_all = "of all that this plan may give him: cost and price together"
+        told = f"At these prices everybody has what is best for him {of_all}"
+    yield f"<p>{told}. They are in the unit of costs.</p>"
     amount = names._replace(maximise=False).amount
-    yield table([names.titles[1], "price"], [("", [name, amount(price)]) for name, price in zip(names.objects, prices)], {1})
+    rows = [("", [name, amount(price)]) for name, price in zip(names.objects, prices)]
+    yield table([names.titles[1], "price"], rows, {1})
 
 
 def table(titles, rows, numbers):

@@ -63,7 +63,8 @@ def problem_of_pairs(source, form, has_header, decimals, maximise, mark):
 
     def are_told(names):
         # A title that stands below too is none, and what may be costs below it may be those of a matrix.
-        return are_names(*names) and not (titles is not TITLES and first[0] in names[0]) and (form is not None or are_names_of_objects(names[1]))
+        is_title = titles is TITLES or first[0] not in names[0]
+        return are_names(*names) and is_title and (form is not None or are_names_of_objects(names[1]))
     said = decimals, maximise, mark, are_told
     numpy = numpy_for(len(source.text))
     found = numpy and by_arrays(numpy, text, begin, source.separator, *said) or by_texts(table, text, begin, *said)
@@ -92,7 +93,9 @@ def by_arrays(numpy, text, begin, separator, decimals, maximise, mark, are_told)
 def by_texts(table, text, begin, decimals, maximise, mark, are_told):
     """The same by steps of the standard library."""
     rows = rows_by_runs(text, begin, table.separator) or rows_by_batches(text, begin, table.separator)
-    if not rows or not rows.costs or max(cells.length for cells in rows.costs) > MOST_CHARACTERS or not are_told(rows.names):
+    if not rows or not rows.costs or max(cells.length for cells in rows.costs) > MOST_CHARACTERS:
+        return None
+    if not are_told(rows.names):
         return None
     try:
         read = read_costs(table, rows.costs, decimals, maximise, mark)

@@ -70,12 +70,14 @@ def sentence_of(names, claim, asked=Asked()):
     """The answer in one sentence."""
     if claim.kind != "infeasible":
         return sentence_of_plan(names, claim, asked)
-    persons, objects = blamed(names, claim)
+    (persons, objects), no_plan = blamed(names, claim), f"No plan{asked.within()} gives"
     told_persons = listed(with_times(map(names.person, persons)), "person")
     told_objects = listed([names.object(number) for number in objects], "object")
     if names.dummy_objects:
-        return f"No plan{asked.within()} gives every object to somebody: {told_objects} can go to {told_persons}{', and to nobody else' if persons else ''}."
-    return f"No plan{asked.within()} gives every person an object: {told_persons} may take {told_objects}{', and nothing else' if objects else ''}."
+        more = ", and to nobody else" if persons else ""
+        return f"{no_plan} every object to somebody: {told_objects} can go to {told_persons}{more}."
+    more = ", and nothing else" if objects else ""
+    return f"{no_plan} every person an object: {told_persons} may take {told_objects}{more}."
 
 
 def with_times(names):

@@ -1,9 +1,10 @@
-"""Prices as a planner is told them, the same ones in tables of reasons, on pages and in pictures: in whole smallest units of the table."""
+"""Prices as a planner is told them, the same ones in tables of reasons, on pages and in pictures: in whole smallest
+units of the table."""
 
 
 def told_prices(rows, claim, persons):
-    """The price of each object, by the rows of all persons: a number, the objects and the costs. Where nothing is left over only differences of prices say something, so that the least one counts
-    as nothing."""
+    """The price of each object, by the rows of all persons: a number, the objects and the costs. Where nothing is left
+    over only differences of prices say something, so that the least one counts as nothing."""
     if claim.kind == "infeasible":
         return []
     # Prices of a search that was stopped are only rounded down: somebody may like another object better by more than 1.
@@ -14,11 +15,14 @@ def told_prices(rows, claim, persons):
 
 
 def whole_prices(prices, persons, bettered):
-    """Prices in smallest units at which each person has what is least for him, from those on the scale of persons + 1, at which he may be off by 1 for the objects that are bettered so.
+    """Prices in smallest units at which each person has what is least for him, from those on the scale of persons +
+    1, at which he may be off by 1 for the objects that are bettered so.
 
-    Each price is rounded down once all are raised by so much that none of these is just below a whole one: then what was 1 better isn't better at all. They are raised by less than a whole
-    unit, so that what is left over stays at 0. There is such an amount, since fewer remainders occur than there are: not all objects that somebody has are bettered, or there would be a ring of
-    persons who would each rather have the object of the next, and costs around it, which are whole, would fall by less than a unit.
+    Each price is rounded down once all are raised by so much that none of these is just below a whole one: then what
+    was 1 better isn't better at all. They are raised by less than a whole unit, so that what is left over stays at 0.
+    There is such an amount, since fewer remainders occur than there are: not all objects that somebody has are
+    bettered, or there would be a ring of persons who would each rather have the object of the next, and costs around
+    it, which are whole, would fall by less than a unit.
     """
     scale = persons + 1
     found = {prices[thing - 1] % scale for thing in bettered}

@@ -35,6 +35,9 @@ def rows_of_reasons(names, problem, model, claim, name):
 
 def sentence(names, name, has):
     """What the rows say."""
-    best, worse = ("most, less its price", "brings at least `worse by` less") if names.maximise else ("least, with its price", "costs at least `worse by` more")
+    best, worse = "least, with its price", "costs at least `worse by` more"
+    if names.maximise:
+        best, worse = "most, less its price", "brings at least `worse by` less"
     listed = " and ".join(has) if has else "nothing, since the capacity is 0"
-    return f"{name} has {listed}: at these prices everybody has what is {best}. Any plan that gives {name} another one of these rows {worse}."
+    other = f"Any plan that gives {name} another one of these rows {worse}."
+    return f"{name} has {listed}: at these prices everybody has what is {best}. {other}"

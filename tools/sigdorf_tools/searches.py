@@ -32,9 +32,10 @@ class Plans:
         return found._replace(claim=found.claim._replace(persons=[bound[person - 1] + 1 for person in found.claim.persons]))
 
     def second(self, model, best):
-        """The least plan that differs from the best one in a pair, or in who stays free, and the model that it is the best one of; None and the model where there is none. It is the least of those
-        without a pair of the best one each, and the prices of that one tell how dear each of them is at least. The one that may be least dear is looked for, until no other can be less dear than
-        what was found."""
+        """The least plan that differs from the best one in a pair, or in who stays free, and the model that it is the
+        best one of; None and the model where there is none. It is the least of those without a pair of the best one
+        each, and the prices of that one tell how dear each of them is at least. The one that may be least dear is
+        looked for, until no other can be less dear than what was found."""
         found, whole, rises = None, model, Rises(model, best.claim)
         waiting = [(rise, place, change) for place, (rise, change) in enumerate(changes(model, best, rises))]
         heapq.heapify(waiting)

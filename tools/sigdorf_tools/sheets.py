@@ -30,7 +30,8 @@ class Sheet(NamedTuple):
 
 
 def read_workbook(file, content, sheet):
-    """The rows of a workbook's table, their numbers, and notes on what is hidden. Where more than one sheet has cells, one has to be named."""
+    """The rows of a workbook's table, their numbers, and notes on what is hidden. Where more than one sheet has cells,
+    one has to be named."""
     read = sheets_of_ods if kind_of(file, content) == ODS_KIND else sheets_of_xlsx
     try:
         sheets = read(file, content)
@@ -39,7 +40,8 @@ def read_workbook(file, content, sheet):
     except Exception as error:
         # What a library makes of a spoiled file may be any of its faults.
         raise Fault(f"{file}: no workbook that can be read ({type(error).__name__}); open it in a spreadsheet and save it anew, or as CSV in UTF-8") from None
-    rows, *hidden = chosen(file, {name: found._replace(rows=trimmed(found.rows)) for name, found in sheets.items()}, sheet)
+    sheets = {name: found._replace(rows=trimmed(found.rows)) for name, found in sheets.items()}
+    rows, *hidden = chosen(file, sheets, sheet)
     return list(rows.values()), list(rows), note_of_hidden(file, rows, *hidden)
 
 
@@ -98,7 +100,10 @@ def sheets_of_xlsx(file, content):
         sheets, formulas = (openpyxl.load_workbook(io.BytesIO(content), read_only=True, data_only=values).worksheets for values in (True, False))
         # Without a formula each cell is read once.
         formulas = formulas if has_formulas(content) else [None] * len(sheets)
-        return {sheet.title: Sheet(dict(rows_of_xlsx(file, sheet, formula)), *hidden_in_xlsx(content, sheet)) for sheet, formula in zip(sheets, formulas)}
+        return {
+            sheet.title: Sheet(dict(rows_of_xlsx(file, sheet, formula)), *hidden_in_xlsx(content, sheet))
+            for sheet, formula in zip(sheets, formulas)
+        }
 
 
 def has_formulas(content):

@@ -13,9 +13,11 @@ OLD_WORKBOOK = b"\xd0\xcf\x11\xe0\xa1\xb1\x1a\xe1"
 
 
 class Table(NamedTuple):
-    """The cells of each row that isn't empty, the lines where these rows begin, and the lines of empty rows that have cells. Rows and columns are named by places, from 0 on.
-    Of a table whose columns were picked the columns say where these stand in the file. Where the form is known, it is said: what is `pairs` then has their titles on top. Cells with other blanks
-    in them than single ones are kept as they were written, by their places in the file; and there are notes on what may not be meant."""
+    """The cells of each row that isn't empty, the lines where these rows begin, and the lines of empty rows that have
+    cells. Rows and columns are named by places, from 0 on. Of a table whose columns were picked the columns say where
+    these stand in the file. Where the form is known, it is said: what is `pairs` then has their titles on top. Cells
+    with other blanks in them than single ones are kept as they were written, by their places in the file; and there are
+    notes on what may not be meant."""
 
     file: str
     separator: str
@@ -28,11 +30,14 @@ class Table(NamedTuple):
     blanks: dict = {}
     notes: list = []
 
+    def column(self, column):
+        """Where a column stands in the file. Of a cell that isn't there the place is after the last one."""
+        if not self.columns:
+            return column
+        return self.columns[column] if column < len(self.columns) else self.columns[-1] + 1
+
     def fault(self, row, column, sentence):
-        if self.columns:
-            # Of a cell that isn't there the place is after the last one.
-            column = self.columns[column] if column < len(self.columns) else self.columns[-1] + 1
-        return Fault(f"{self.file}, {self.line_word} {self.lines[row]}, column {column + 1}: {sentence}")
+        return Fault(f"{self.file}, {self.line_word} {self.lines[row]}, column {self.column(column) + 1}: {sentence}")
 
     def fault_of_row(self, row, sentence):
         return Fault(f"{self.file}, {self.line_word} {self.lines[row]}: {sentence}")
@@ -93,20 +98,24 @@ def table_of(file, separator, rows, lines, is_plain, line_word="line"):
 
 def with_odd_blanks(written, rows):
     """The cells that have other white space in them than single blanks, as they were written, by their places."""
-    changed = ((row, *both) for row, both in enumerate(zip(written, rows)) if both[0] != both[1])
-    return {(row, column): cell.strip() for row, *both in changed for column, (cell, name) in enumerate(zip(*both)) if cell.strip() != name}
+    changed = (row for row, (before, after) in enumerate(zip(written, rows)) if before != after)
+    cells = ((row, column, cell.strip()) for row in changed for column, cell in enumerate(written[row]))
+    return {(row, column): cell for row, column, cell in cells if cell != rows[row][column]}
 
 
 def look_at_blanks(table, names, place_of):
-    """Names that differ by blanks alone would be one here, and nobody but the planner knows whether they are; each has its place, a row and a column."""
+    """Names that differ by blanks alone would be one here, and nobody but the planner knows whether they are; each has
+    its place, a row and a column."""
     seen = {}
     for place, name in enumerate(names if table.blanks else ()):
         row, column = place_of(place)
-        written = table.blanks.get((row, table.columns[column] if table.columns else column), name)
+        written = table.blanks.get((row, table.column(column)), name)
         before, *there = seen.setdefault(name, (written, row, column))
         if written != before:
-            other = f"{table.line_word} {table.lines[there[0]]}" if there[0] != row else f"column {(table.columns or range(there[1] + 1))[there[1]] + 1}"
-            raise table.fault(row, column, f"{quoted(written)} and {quoted(before)} in {other} differ by blanks alone; write both alike, or give each a name of its own")
+            is_row, line = there[0] != row, f"{table.line_word} {table.lines[there[0]]}"
+            told = f"{quoted(before)} in {line if is_row else f'column {table.column(there[1]) + 1}'}"
+            way_out = "write both alike, or give each a name of its own"
+            raise table.fault(row, column, f"{quoted(written)} and {told} differ by blanks alone; {way_out}")
 
 
 def look_for_control_characters(table):
@@ -117,8 +126,9 @@ def look_for_control_characters(table):
 
 
 def below_header(table):
-    """A table whose first row is a header, without the columns at its end that have nothing in them, which some programs write after the last one. The header has to be as long as the rows
-    below it, where these are all of the same length."""
+    """A table whose first row is a header, without the columns at its end that have nothing in them, which some
+    programs write after the last one. The header has to be as long as the rows below it, where these are all of the
+    same length."""
     lengths = {len(cells) for cells in table.rows}
     if table.rows[0][-1] and len(lengths) == 1:
         return table

@@ -36,7 +36,8 @@ def capacities_said(word, persons):
     if word.isdecimal():
         return {None: (f"--capacity {word}", word)}
     if word != "-" and not os.path.exists(word):
-        raise Fault(f"--capacity {word}: a whole number from 0 to {MOST_CAPACITY:,} is wanted, or a file of persons and numbers, and there is no such file")
+        wanted = f"a whole number from 0 to {MOST_CAPACITY:,} is wanted, or a file of persons and numbers"
+        raise Fault(f"--capacity {word}: {wanted}, and there is no such file")
     table = read_table(word)
     for sentence in table.notes:
         note(sentence)

@@ -1,4 +1,5 @@
-"""How tools end: by a reader that goes away, by Ctrl-C, by a file that is missing, and by options that don't fit; in words of their own, and without Python's."""
+"""How tools end: by a reader that goes away, by Ctrl-C, by a file that is missing, and by options that don't fit; in
+words of their own, and without Python's."""
 import os
 import signal
 import subprocess
@@ -11,6 +12,7 @@ from calls import ROOT, ToolTest, has_program
 EXAMPLES = ROOT / "examples"
 ANSWER = [EXAMPLES / "crew.arcs", EXAMPLES / "crew.certificate"]
 TOOLS = ["plan", "tools/from_csv", "tools/to_csv", "tools/picture", "tools/margins", "tools/check_certificate.py"]
+CHECKER = "tools/check_certificate.py"
 READER_GONE = 128 + signal.SIGPIPE
 
 
@@ -54,7 +56,8 @@ class Interrupts(ToolTest):
     STAGES = ["argparse", "sigdorf_tools.faults", "json.decoder", "sigdorf_tools.problems", "sigdorf_tools.conversion"]
 
     def test_while_modules_are_loaded(self):
-        """Python tells each module once it is loaded, and goes on with the next one. A table from a pipe that stays open makes the tool wait at last."""
+        """Python tells each module once it is loaded, and goes on with the next one. A table from a pipe that stays
+        open makes the tool wait at last."""
         for tool in ("plan", "tools/from_csv"):
             for stage in self.STAGES:
                 with self.subTest(tool=tool, stage=stage):
@@ -122,7 +125,7 @@ class Options(ToolTest):
 class Files(ToolTest):
     def test_that_are_missing(self):
         for words, name in [(["nosuch", ANSWER[1]], "nosuch"), ([ANSWER[0], "nosuch"], "nosuch")]:
-            self.assertEqual(self.call("tools/check_certificate.py", *words), (5, "", f"check_certificate.py: {name}: it can't be opened: no such file or directory\n"))
+            self.assertEqual(self.call(CHECKER, *words), (5, "", f"check_certificate.py: {name}: it can't be opened: No such file or directory\n"))
 
 
 if __name__ == "__main__":

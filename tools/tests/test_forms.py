@@ -1,4 +1,5 @@
-"""Which form a table has: told by what can't be otherwise, or asked for in words of the table, on all roads alike. And names that differ by blanks alone."""
+"""Which form a table has: told by what can't be otherwise, or asked for in words of the table, on all roads alike. And
+names that differ by blanks alone."""
 import json
 import unittest
 from unittest import mock
@@ -38,7 +39,8 @@ SAID = None, True, None, False, None
 
 class Forms(ToolTest):
     def problems(self, content):
-        """The problem of a table by each road that takes it, the one for all tables last; that one's fault, where there is one."""
+        """The problem of a table by each road that takes it, the one for all tables last; that one's fault, where there
+        is one."""
         source = read_source(str(self.write("table.csv", content)))
         with mock.patch.object(arrays, "LEAST_CHARACTERS", 0):
             found = [problem for problem in (problem_by_arrays(source, *SAID), problem_of_pairs(source, *SAID)) if problem]

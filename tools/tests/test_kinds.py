@@ -1,4 +1,5 @@
-"""What is said of an answer is true of what was asked: its kind, and of which plans its total is the least, in every text. And prices, which are the same ones in all of them."""
+"""What is said of an answer is true of what was asked: its kind, and of which plans its total is the least, in every
+text. And prices, which are the same ones in all of them."""
 import json
 import re
 import unittest
@@ -60,7 +61,8 @@ class Texts(unittest.TestCase):
                 self.assertEqual((told.get("best_total"), told.get("greatest_cost")), (10 if asked.kind == "second" else None, 7 if asked.kind == "fair" else None))
 
     def test_prices(self):
-        """Whole ones, at which everybody has what is least for him; of prices that show a bound alone they are rounded down."""
+        """Whole ones, at which everybody has what is least for him; of prices that show a bound alone they are rounded
+        down."""
         rows = [(1, [1, 2], [4, 5]), (2, [1, 2], [4, 7])]
         claim = BEST._replace(picks=[(2, 5), (1, 4)], prices=[7, 5], cost=9)
         self.assertEqual(told_prices(rows, claim, 2), [1, 0])

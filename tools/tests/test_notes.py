@@ -1,4 +1,5 @@
-"""Notes on what may not be meant: sums that are read as persons or objects, hidden rows and columns, huge costs, copies of one object for one person. The answer stays as it is."""
+"""Notes on what may not be meant: sums that are read as persons or objects, hidden rows and columns, huge costs, copies
+of one object for one person. The answer stays as it is."""
 import subprocess
 import unittest
 

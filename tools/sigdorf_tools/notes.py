@@ -42,6 +42,8 @@ def notes_of_costs(names, problem, claim):
     pairs = [(abs(cost), cost, person, thing) for person, (thing, cost) in picks if names.object(thing) is not None]
     pairs.sort(reverse=True)
     for place, (size, cost, person, thing) in enumerate(pairs[: max(len(pairs) // 2, 1)]):
+        if not size:
+            return
         below = pairs[place + 1][0] if place + 1 < len(pairs) else 0
         # Where all others cost nothing, the person's other pairs tell what is usual.
         below = below or greatest_below(size, problem.arcs[problem.persons.index(person)].costs())

@@ -175,7 +175,8 @@ def may_take(case):
 
 def within_of(words):
     """Which plans all that is said is about: all, or those that the wishes allow."""
-    return " within the wishes" if any(word.startswith(("--capacity", "--leave-free", "--fix", "--forbid")) for word in words) else ""
+    wishes = ("--capacity", "--leave-free", "--fix", "--forbid")
+    return " within the wishes" if any(word.startswith(wishes) for word in words) else ""
 
 
 def look_at_blame(case, output, within):
@@ -190,7 +191,8 @@ def look_at_blame(case, output, within):
         assert set(able) == persons and len(able) < len(told), f"who can take too few: {output}"
     else:
         bound = [things for person, things in copies if person in persons and things <= told]
-        assert sentence[0].startswith(f"{no_plan} person") and len(bound) > len(told) and set().union(*bound) == told, f"who is in the way: {output}"
+        assert sentence[0].startswith(f"{no_plan} person"), output
+        assert len(bound) > len(told) and set().union(*bound) == told, f"who is in the way: {output}"
 
 
 def look_at_summary(case, said, plan, rank):
@@ -255,7 +257,8 @@ def judged(case, kind, folder, draw):
     plan = look_at_plan(case, output, plans.get)
     if kind == "second":
         assert plan.total == totals[1], f"second best {plan.total}, and not {totals[1]}"
-        look_at_summary(case, said, plan, f"the second best{within}, {case.amount(totals[1] - best)} from the best, which has {case.amount(case.sign() * best)}")
+        far = f"{case.amount(totals[1] - best)} from the best, which has {case.amount(case.sign() * best)}"
+        look_at_summary(case, said, plan, f"the second best{within}, {far}")
     elif kind == "fair" and any(plan.costs for plan in plans.values()):
         fairest = min((max(plan.costs), plan.total) for plan in plans.values())
         assert (max(plan.costs), plan.total) == fairest, f"fair {(max(plan.costs), plan.total)}, and not {fairest}"

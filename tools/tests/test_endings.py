@@ -28,7 +28,8 @@ class Readers(ToolTest):
         return 128 - status if status < 0 else status, said
 
     def test_that_go_away(self):
-        for tool, *words in [("tools/margins", *ANSWER), ("tools/picture", *ANSWER), ("tools/check_certificate.py", *ANSWER), ("tools/from_csv", EXAMPLES / "crew.csv")]:
+        calls = [(tool, *ANSWER) for tool in ("tools/margins", "tools/picture", CHECKER)]
+        for tool, *words in [*calls, ("tools/from_csv", EXAMPLES / "crew.csv")]:
             with self.subTest(tool=tool, words=words):
                 self.assertEqual(self.gone(tool, *words), (READER_GONE, ""))
         self.call("tools/from_csv", EXAMPLES / "crew.csv")
@@ -65,7 +66,8 @@ class Interrupts(ToolTest):
 
     def assert_ended(self, tool, stage):
         command = [sys.executable, "-S", "-X", "importtime", str(ROOT / tool), "-"]
-        with subprocess.Popen(command, stdin=subprocess.PIPE, stdout=subprocess.PIPE, stderr=subprocess.PIPE, text=True) as running:
+        pipes = dict.fromkeys(("stdin", "stdout", "stderr"), subprocess.PIPE)
+        with subprocess.Popen(command, **pipes, text=True) as running:
             while not running.stderr.readline().rstrip().endswith(f" {stage}"):
                 self.assertIsNone(running.poll())
             running.send_signal(signal.SIGINT)
@@ -74,7 +76,8 @@ class Interrupts(ToolTest):
         self.assertIn(said, ("", f"{os.path.basename(tool)}: stopped\n"))
 
     def test_while_it_runs(self):
-        with subprocess.Popen([sys.executable, "-S", str(ROOT / "plan"), "-"], stdin=subprocess.PIPE, stderr=subprocess.PIPE, text=True) as running:
+        command = [sys.executable, "-S", str(ROOT / "plan"), "-"]
+        with subprocess.Popen(command, stdin=subprocess.PIPE, stderr=subprocess.PIPE, text=True) as running:
             # After a second it waits for the end of the table.
             time.sleep(1)
             running.send_signal(signal.SIGINT)
@@ -92,7 +95,11 @@ class Options(ToolTest):
             (["--bids", "0"], "--bids 0: a whole number from 1 to 1,000,000,000,000 is wanted"),
             (["--workers", "17"], "--workers 17: a whole number from 0 to 16 is wanted"),
             (["--workers=-1"], "--workers -1: a whole number from 0 to 16 is wanted"),
-            (["--workers", "2", "--seconds", "1"], "--workers and --seconds: a search by threads has no limit of time; leave one of them out, or say --bids in place of --seconds"),
+            (
+                ["--workers", "2", "--seconds", "1"],
+                "--workers and --seconds: a search by threads has no limit of time; "
+                "leave one of them out, or say --bids in place of --seconds",
+            ),
         ]:
             with self.subTest(words):
                 self.assertEqual(self.call("plan", "nosuch.csv", *words), (2, "", f"plan: {sentence}\n"))
@@ -110,22 +117,27 @@ class Options(ToolTest):
         ]:
             with self.subTest(words):
                 self.assert_fault(self.call("plan", "nosuch.csv", *words), *parts)
-        for words in (["-o", "plan.txt", "--json"], ["-o", "plan"], ["-o", "plan.html", "--html"], ["-o", "plan.json", "--json"], ["-o", "plan.csv"]):
-            self.assert_fault(self.call("plan", "nosuch.csv", *words), "nosuch.csv: there is no such file")
+        for words in ("plan.txt --json", "plan", "plan.html --html", "plan.json --json", "plan.csv"):
+            answer = self.call("plan", "nosuch.csv", "-o", *words.split())
+            self.assert_fault(answer, "nosuch.csv: there is no such file")
 
     def test_capacities(self):
         self.write("table.csv", "van 1,x,1\n")
         for word in ("-1", "1,5", "1.5", "few"):
-            wanted = f"plan: --capacity {word}: a whole number from 0 to 10,000 is wanted, or a file of persons and numbers, and there is no such file\n"
-            self.assertEqual(self.call("plan", "table.csv", "--program", "nosuch", "--capacity", word), (2, "", wanted))
+            wanted = "a whole number from 0 to 10,000 is wanted, or a file of persons and numbers"
+            answer = self.call("plan", "table.csv", "--program", "nosuch", "--capacity", word)
+            self.assertEqual(answer, (2, "", f"plan: --capacity {word}: {wanted}, and there is no such file\n"))
         self.write("capacities.csv", "van,tours\nvan 1,2\nvan 9,1\n")
-        self.assert_fault(self.call("plan", "table.csv", "--program", "nosuch", "--capacity", "capacities.csv"), "capacities.csv, line 3, column 1: the table has no person `van 9`; is `van 1` meant?")
+        answer = self.call("plan", "table.csv", "--program", "nosuch", "--capacity", "capacities.csv")
+        place = "capacities.csv, line 3, column 1"
+        self.assert_fault(answer, f"{place}: the table has no person `van 9`; is `van 1` meant?")
 
 
 class Files(ToolTest):
     def test_that_are_missing(self):
         for words, name in [(["nosuch", ANSWER[1]], "nosuch"), ([ANSWER[0], "nosuch"], "nosuch")]:
-            self.assertEqual(self.call(CHECKER, *words), (5, "", f"check_certificate.py: {name}: it can't be opened: No such file or directory\n"))
+            said = f"check_certificate.py: {name}: it can't be opened: No such file or directory\n"
+            self.assertEqual(self.call(CHECKER, *words), (5, "", said))
 
 
 if __name__ == "__main__":

@@ -43,7 +43,8 @@ class Forms(ToolTest):
         is one."""
         source = read_source(str(self.write("table.csv", content)))
         with mock.patch.object(arrays, "LEAST_CHARACTERS", 0):
-            found = [problem for problem in (problem_by_arrays(source, *SAID), problem_of_pairs(source, *SAID)) if problem]
+            found = [road(source, *SAID) for road in (problem_by_arrays, problem_of_pairs)]
+        found = [problem for problem in found if problem]
         try:
             return [*found, problem_of(table_of_source(source), *SAID)]
         except Fault as fault:
@@ -54,7 +55,8 @@ class Forms(ToolTest):
             with self.subTest(content):
                 sentence, *others = self.problems(content)
                 self.assertEqual(others, [])
-                self.assertIn("table.csv, line 1: the table has three columns: it may be a list of person, object and cost, or a table with two objects, `", sentence)
+                either = "it may be a list of person, object and cost, or a table with two objects, `"
+                self.assertIn(f"table.csv, line 1: the table has three columns: {either}", sentence)
                 self.assertTrue(sentence.endswith("; say --pairs or --matrix"), sentence)
         self.assertIn("`Fr\u00fch` and `Sp\u00e4t`", self.problems(UNCLEAR[0])[0])
 
@@ -66,7 +68,8 @@ class Forms(ToolTest):
 
     def test_json(self):
         self.write("table.json", json.dumps([["who", "early", "late"], ["Ada", 3, 5], ["Ada", 1, 9]]))
-        self.assert_fault(self.call("tools/from_csv", "table.json"), "table.json, row 1", "`early` and `late`", "--pairs or --matrix")
+        answer = self.call("tools/from_csv", "table.json")
+        self.assert_fault(answer, "table.json, row 1", "`early` and `late`", "--pairs or --matrix")
 
     def test_fields_of_json(self):
         """Records whose fields are called so may have them in any order."""
@@ -79,13 +82,15 @@ class Forms(ToolTest):
         """A slip in a table of costs alone makes no list of it."""
         for content in ("12,3x,4\n5,6,7\n", "12,3,4\n5,x,7\n"):
             self.write("table.csv", content)
-            self.assert_fault(self.call("tools/from_csv", "table.csv", "--no-header"), "table.csv, line 1", "costs alone with three objects", "--pairs or --matrix")
+            answer = self.call("tools/from_csv", "table.csv", "--no-header")
+            self.assert_fault(answer, "table.csv, line 1", "costs alone with three objects", "--pairs or --matrix")
         self.assertEqual(self.convert("1,pump,40\n2,roof,65\n", "--no-header"), "2\n1 1 40\n2 2 65\n")
 
     def test_as_said(self):
         table = UNCLEAR[0]
         self.assertEqual(self.convert(table, "--pairs"), "3\n1 1 5\n1 3 9\n2 2 2\n3 4 2\n")
-        self.assert_fault(self.call("tools/from_csv", "table.csv", "--matrix"), "table.csv, line 4, column 1", "stands there twice")
+        answer = self.call("tools/from_csv", "table.csv", "--matrix")
+        self.assert_fault(answer, "table.csv, line 4, column 1", "stands there twice")
         self.assertEqual(self.convert(UNCLEAR[1], "--matrix"), "2\n1 1 3\n1 2 5\n2 1 4\n2 2 2\n")
 
 
@@ -102,19 +107,23 @@ class Blanks(ToolTest):
         ]:
             with self.subTest(content):
                 self.write("table.csv", content)
-                self.assert_fault(self.call("tools/from_csv", "table.csv"), f"table.csv, {place}: ", f" in {other} differ by blanks alone")
+                answer = self.call("tools/from_csv", "table.csv")
+                self.assert_fault(answer, f"table.csv, {place}: ", f" in {other} differ by blanks alone")
 
     def test_columns_that_are_picked(self):
         self.write("table.csv", "day,who,what,min\nMon,Ann  Lee,pump,3\nMon,Ann Lee,roof,4\n")
-        self.assert_fault(self.call("tools/from_csv", "table.csv", "--columns", "who,what,min"), "table.csv, line 3, column 2: ", "in line 2")
+        answer = self.call("tools/from_csv", "table.csv", "--columns", "who,what,min")
+        self.assert_fault(answer, "table.csv, line 3, column 2: ", "in line 2")
 
     def test_json(self):
         self.write("table.json", json.dumps({"Ann  Lee": {"pump": 3}, "Ann Lee": {"roof": 4}}))
-        self.assert_fault(self.call("tools/from_csv", "table.json"), "table.json, pair 2, column 1", "differ by blanks alone")
+        answer = self.call("tools/from_csv", "table.json")
+        self.assert_fault(answer, "table.json, pair 2, column 1", "differ by blanks alone")
 
     def test_one_way_throughout(self):
         """Blanks around a name say nothing, nor do two of them where all are written so; and costs are no names."""
-        self.assertEqual(self.convert(" Ann  Lee ,pump,3\nAnn  Lee,roof,1  234\nBen,pump,1 234\n"), "2\n1 1 3\n1 2 1234\n2 1 1234\n")
+        table = " Ann  Lee ,pump,3\nAnn  Lee,roof,1  234\nBen,pump,1 234\n"
+        self.assertEqual(self.convert(table), "2\n1 1 3\n1 2 1234\n2 1 1234\n")
         self.assertIn('"Ann Lee"', self.read("table.names"))
 
 

@@ -43,7 +43,8 @@ class Tables(ToolTest):
         self.assertEqual(self.convert("Ada,pump,4\nBen,roof,5\nAda,pump,4.0\n"), "2\n1 1 4\n2 2 5\n")
 
     def test_numbers_as_names(self):
-        self.assertEqual(self.convert("fitter,job,minutes\n1,7,4\n1,8,5\n2,7,6\n", "--pairs"), "2\n1 1 4\n1 2 5\n2 1 6\n")
+        table = "fitter,job,minutes\n1,7,4\n1,8,5\n2,7,6\n"
+        self.assertEqual(self.convert(table, "--pairs"), "2\n1 1 4\n1 2 5\n2 1 6\n")
 
     def test_form_by_word(self):
         table = "fitter,7,8\n1,4,5\n2,6,7\n"

@@ -14,26 +14,40 @@ from sigdorf_tools.prices import told_prices
 
 CREW = ROOT / "examples" / "crew.csv"
 NAMES = plain_names(2, 2)
-BEST, STOPPED = (Claim(kind, [(1, 4), (2, 7)], [0, 0], lower, 11, [], []) for kind, lower in (("optimal", 11), ("bracket", 8)))
+BEST = Claim("optimal", [(1, 4), (2, 7)], [0, 0], 11, 11, [], [])
+STOPPED = BEST._replace(kind="bracket", lower=8)
 NO_PLAN = Claim("infeasible", [], [], None, None, [1, 2], [1])
 ONE, BOTH = ["the proved checker"], ["the proved checker", "the second checker"]
 SECOND, FAIR, WISHES = Asked("second", (), 10), Asked("fair", (), 7), ("--fix 1=1", "--forbid 2=1")
-# An answer, what was asked for, its sentence, and what the line on standard error says of it.
+FAIR_BY = "the greatest cost is 7, and no plan has a better one"
+FAIR_WITHIN = "the greatest cost is 7, and no plan within the wishes has a better one"
+EARLY = "The search was stopped early:"
+BLAMED = "every person an object: persons 1 and 2 may take object 1, and nothing else."
+# An answer, what was asked for, its sentence, and what the line on standard error says of it, after pairs and total.
 TEXTS = [
-    (BEST, Asked(), "A best plan: the least total is 11.", "2 pairs, total 11, the least of all"),
-    (BEST, Asked(wishes=WISHES), "A best plan within the wishes: the least total that they allow is 11.", "2 pairs, total 11, the least within the wishes"),
-    (BEST, SECOND, "The second best plan: its total is 11, and that of the best one is 10.", "2 pairs, total 11, the second best, 1 from the best, which has 10"),
-    (BEST, SECOND._replace(wishes=WISHES), "The second best plan within the wishes: its total is 11, and that of the best one is 10.", "2 pairs, total 11, the second best within the wishes, 1 from the best, which has 10"),
-    (BEST, FAIR, "A fair plan: the greatest cost is 7, and no plan has a better one; of the plans that have it the least total is 11.",
-     "2 pairs, total 11, the least of all fair plans: the greatest cost is 7, and no plan has a better one"),
-    (BEST, FAIR._replace(wishes=WISHES), "A fair plan within the wishes: the greatest cost is 7, and no plan within the wishes has a better one; of the plans that have it the least total is 11.",
-     "2 pairs, total 11, the least of all fair plans within the wishes: the greatest cost is 7, and no plan within the wishes has a better one"),
-    (STOPPED, Asked(), "The search was stopped early: this plan is at most 3 from the best, and no total is below 8.", "2 pairs, total 11, at most 3 from the best"),
-    (STOPPED, Asked(wishes=WISHES), "The search was stopped early: this plan is at most 3 from the best within the wishes, and no total within the wishes is below 8.", "2 pairs, total 11, at most 3 from the best within the wishes"),
-    (STOPPED, FAIR, "The search was stopped early: the greatest cost is 7, and no plan has a better one; of the plans that have it this plan is at most 3 from the best, and no total is below 8.",
-     "2 pairs, total 11, at most 3 from the best of all fair plans: the greatest cost is 7, and no plan has a better one"),
-    (NO_PLAN, Asked(), "No plan gives every person an object: persons 1 and 2 may take object 1, and nothing else.", "there is no plan"),
-    (NO_PLAN, Asked(wishes=WISHES), "No plan within the wishes gives every person an object: persons 1 and 2 may take object 1, and nothing else.", "there is no plan within the wishes"),
+    (BEST, Asked(), "A best plan: the least total is 11.", "the least of all"),
+    (BEST, Asked(wishes=WISHES), "A best plan within the wishes: the least total that they allow is 11.",
+     "the least within the wishes"),
+    (BEST, SECOND, "The second best plan: its total is 11, and that of the best one is 10.",
+     "the second best, 1 from the best, which has 10"),
+    (BEST, SECOND._replace(wishes=WISHES),
+     "The second best plan within the wishes: its total is 11, and that of the best one is 10.",
+     "the second best within the wishes, 1 from the best, which has 10"),
+    (BEST, FAIR, f"A fair plan: {FAIR_BY}; of the plans that have it the least total is 11.",
+     f"the least of all fair plans: {FAIR_BY}"),
+    (BEST, FAIR._replace(wishes=WISHES),
+     f"A fair plan within the wishes: {FAIR_WITHIN}; of the plans that have it the least total is 11.",
+     f"the least of all fair plans within the wishes: {FAIR_WITHIN}"),
+    (STOPPED, Asked(), f"{EARLY} this plan is at most 3 from the best, and no total is below 8.",
+     "at most 3 from the best"),
+    (STOPPED, Asked(wishes=WISHES),
+     f"{EARLY} this plan is at most 3 from the best within the wishes, and no total within the wishes is below 8.",
+     "at most 3 from the best within the wishes"),
+    (STOPPED, FAIR,
+     f"{EARLY} {FAIR_BY}; of the plans that have it this plan is at most 3 from the best, and no total is below 8.",
+     f"at most 3 from the best of all fair plans: {FAIR_BY}"),
+    (NO_PLAN, Asked(), f"No plan gives {BLAMED}", "there is no plan"),
+    (NO_PLAN, Asked(wishes=WISHES), f"No plan within the wishes gives {BLAMED}", "there is no plan within the wishes"),
 ]
 
 
@@ -42,23 +56,32 @@ class Texts(unittest.TestCase):
         for claim, asked, sentence, line in TEXTS:
             with self.subTest(line):
                 self.assertEqual(sentence_of(NAMES, claim, asked), sentence)
-                self.assertEqual(summary_of(NAMES, claim, BOTH, asked), f"{line}; checked by the proved checker and by a second one")
-                self.assertEqual(summary_of(NAMES, claim, ONE, asked), f"{line}; checked by the proved checker")
+                line = line if claim is NO_PLAN else f"2 pairs, total 11, {line}"
+                said = [summary_of(NAMES, claim, judges, asked) for judges in (ONE, BOTH)]
+                one = f"{line}; checked by the proved checker"
+                self.assertEqual(said, [one, f"{one} and by a second one"])
 
     def test_the_greatest_total(self):
         names = NAMES._replace(maximise=True)
         claim = BEST._replace(picks=[(1, -4), (2, -7)], lower=-11, cost=-11)
         self.assertEqual(sentence_of(names, claim, Asked()), "A best plan: the greatest total is 11.")
-        self.assertIn("the greatest of all fair plans: the least cost is 4, and no plan has a better one", summary_of(names, claim, ONE, Asked("fair", (), -4)))
-        self.assertIn("the second best, 1 from the best, which has 12", summary_of(names, claim, ONE, Asked("second", (), -12)))
+        asked = Asked("fair", (), -4), Asked("second", (), -12)
+        fair, second = (summary_of(names, claim, ONE, each) for each in asked)
+        self.assertIn("the greatest of all fair plans: the least cost is 4, and no plan has a better one", fair)
+        self.assertIn("the second best, 1 from the best, which has 12", second)
 
     def test_json(self):
         for claim, asked, sentence, _ in TEXTS:
             told = json.loads(json_of(NAMES, claim, BOTH, asked=asked))
             with self.subTest(sentence):
-                answer = {"bracket": "stopped", "infeasible": "no plan"}.get(claim.kind) or {"best": "best", "second": "second best", "fair": "fair"}[asked.kind]
-                self.assertEqual([told[field] for field in ("answer", "kind", "wishes", "sentence", "proved_by")], [answer, asked.kind, list(asked.wishes), sentence, BOTH])
-                self.assertEqual((told.get("best_total"), told.get("greatest_cost")), (10 if asked.kind == "second" else None, 7 if asked.kind == "fair" else None))
+                answer = {"bracket": "stopped", "infeasible": "no plan"}.get(claim.kind)
+                answer = answer or {"best": "best", "second": "second best", "fair": "fair"}[asked.kind]
+                wanted = {"answer": answer, "kind": asked.kind, "wishes": list(asked.wishes), "sentence": sentence}
+                self.assertEqual({field: told[field] for field in wanted}, wanted)
+                self.assertEqual(told["proved_by"], BOTH)
+                beside = {field: told[field] for field in ("best_total", "greatest_cost") if field in told}
+                wanted = {"second": {"best_total": 10}, "fair": {"greatest_cost": 7}}
+                self.assertEqual(beside, wanted.get(asked.kind, {}))
 
     def test_prices(self):
         """Whole ones, at which everybody has what is least for him; of prices that show a bound alone they are rounded
@@ -80,15 +103,19 @@ class Answers(ToolTest):
     def test_second(self):
         page, said = self.page("--second", "--forbid", "Ada=roof")
         title = "The second best plan within the wishes: its total is 150, and that of the best one is 145."
-        self.assertEqual((f"<h1>{title}</h1>" in page, f"crew.csv: {title}</title>" in page, "<li>--forbid Ada=roof</li>" in page), (True, True, True))
-        self.assertIn("plan: 4 pairs, total 150, the second best within the wishes, 5 from the best, which has 145; checked by", said)
+        for part in (f"<h1>{title}</h1>", f"crew.csv: {title}</title>", "<li>--forbid Ada=roof</li>"):
+            self.assertIn(part, page)
+        rank = "the second best within the wishes, 5 from the best, which has 145"
+        self.assertIn(f"plan: 4 pairs, total 150, {rank}; checked by", said)
         told = json.loads(self.call("plan", CREW, "--second", "--json")[1])
-        self.assertEqual([told[field] for field in ("answer", "kind", "wishes", "total", "best_total")], ["second best", "second", [], 150, 145])
+        wanted = {"answer": "second best", "kind": "second", "wishes": [], "total": 150, "best_total": 145}
+        self.assertEqual({field: told[field] for field in wanted}, wanted)
 
     def test_fair(self):
         page, said = self.page("--fair")
-        self.assertRegex(page, "<h1>A fair plan: the greatest cost is ([0-9]+), and no plan has a better one; of the plans that have it the least total is [0-9]+.</h1>")
-        self.assertRegex(said, "^plan: 4 pairs, total [0-9]+, the least of all fair plans: the greatest cost is [0-9]+, and no plan has a better one; checked by")
+        fair = "the greatest cost is [0-9]+, and no plan has a better one"
+        self.assertRegex(page, f"<h1>A fair plan: {fair}; of the plans that have it the least total is [0-9]+.</h1>")
+        self.assertRegex(said, f"^plan: 4 pairs, total [0-9]+, the least of all fair plans: {fair}; checked by")
         told = json.loads(self.call("plan", CREW, "--fair", "--json")[1])
         self.assertEqual((told["kind"], told["greatest_cost"]), ("fair", max(pair["cost"] for pair in told["pairs"])))
 
@@ -104,12 +131,15 @@ class Answers(ToolTest):
         """Those of --why are those of the page, and those of its picture."""
         for words in ([], ["--maximise"], ["--leave-free", "50"], ["--capacity", "2"], ["--decimals", "1"]):
             page, _ = self.page(*words)
-            prices = dict(re.findall("<tr><td>([a-z]+)</td><td class=number>([0-9.]+)</td></tr>", page.partition("<h2>Prices</h2>")[2]))
+            row = "<tr><td>([a-z]+)</td><td class=number>([0-9.]+)</td></tr>"
+            prices = dict(re.findall(row, page.partition("<h2>Prices</h2>")[2]))
             self.assertEqual(set(prices), {"pump", "roof", "wiring", "survey"})
             for person in ("Ada", "Ben", "Cleo", "Dan"):
-                rows = [line.split(",") for line in self.call("plan", CREW, "--why", person, *words)[1].splitlines()[1:-1]]
+                lines = self.call("plan", CREW, "--why", person, *words)[1].splitlines()[1:-1]
+                told = {thing: price for thing, _, price, *_ in (line.split(",") for line in lines) if thing in prices}
                 with self.subTest(words=words, person=person):
-                    self.assertEqual([(thing, price) for thing, _, price, *_ in rows if thing in prices], [(thing, prices[thing]) for thing, *_ in rows if thing in prices])
+                    self.assertEqual(told, {thing: prices[thing] for thing in told})
+                    self.assertTrue(told)
             shown = re.findall('font-size="13" fill="#22262b"[^>]*>([0-9.]+)<', page)
             self.assertEqual(sorted(shown), sorted(prices.values()))
 
@@ -123,8 +153,10 @@ class Answers(ToolTest):
 class WishesSaid(unittest.TestCase):
     def test_order(self):
         class Words:
-            capacity, capacity_column, leave_free, leave_free_column, fix, forbid = None, "most", "2.5", None, ["a=x"], ["b=x", "b=y"]
-        self.assertEqual(wishes_said(Words), ("--capacity-column most", "--leave-free 2.5", "--fix a=x", "--forbid b=x", "--forbid b=y"))
+            capacity, capacity_column, leave_free, leave_free_column = None, "most", "2.5", None
+            fix, forbid = ["a=x"], ["b=x", "b=y"]
+        wanted = ("--capacity-column most", "--leave-free 2.5", "--fix a=x", "--forbid b=x", "--forbid b=y")
+        self.assertEqual(wishes_said(Words), wanted)
 
 
 if __name__ == "__main__":

@@ -9,6 +9,7 @@ from sigdorf_tools.names import plain_names
 from sigdorf_tools.notes import notes_of_plan
 from sigdorf_tools.problems import Arcs, Problem
 
+MANY = "who may take more than one object may take all its copies: forbid such pairs, or leave --capacity out"
 MAKE_XLSX = """
 import openpyxl
 book = openpyxl.Workbook()
@@ -42,6 +43,8 @@ book.save("both.ods")
 
 
 class Tables(ToolTest):
+    REST = "like all others; delete what isn't meant\n"
+
     def said(self, content, *words):
         self.write("table.csv", content)
         status, _, said = self.call("tools/from_csv", "table.csv", *words)
@@ -50,7 +53,9 @@ class Tables(ToolTest):
 
     def test_sums(self):
         for name in ("Total", "SUM", "Summe:", "needed", "Bedarf"):
-            person, thing = (f"from_csv: note: table.csv: `{name}`, the last {word} of the table, is planned like any other; leave it out if it is none\n" for word in ("person", "object"))
+            told = f"from_csv: note: table.csv: `{name}`, the last"
+            more = "is planned like any other; leave it out if it is none\n"
+            person, thing = (f"{told} {word} of the table, {more}" for word in ("person", "object"))
             self.assertEqual(self.said(f",a,b\nAnn,1,2\n{name},3,4\n"), person)
             self.assertEqual(self.said(f",a,b,{name}\nAnn,1,2,3\n"), thing)
             self.assertEqual(self.said(f"Ann,a,1\n{name},{name},4\n"), person + thing)
@@ -71,12 +76,14 @@ class Tables(ToolTest):
     def test_hidden_in_xlsx(self):
         self.made("openpyxl", MAKE_XLSX)
         self.assertEqual(self.hidden("shown.xlsx"), "")
-        self.assertEqual(self.hidden("row.xlsx"), "from_csv: note: row.xlsx: row 3 is hidden, and counts like all others; delete what isn't meant\n")
-        self.assertEqual(self.hidden("both.xlsx"), "from_csv: note: both.xlsx: row 3 and column 3 are hidden, and count like all others; delete what isn't meant\n")
+        self.assertEqual(self.hidden("row.xlsx"), f"from_csv: note: row.xlsx: row 3 is hidden, and counts {self.REST}")
+        both = f"row 3 and column 3 are hidden, and count {self.REST}"
+        self.assertEqual(self.hidden("both.xlsx"), f"from_csv: note: both.xlsx: {both}")
 
     def test_hidden_in_ods(self):
         self.made("odf", MAKE_ODS)
-        self.assertEqual(self.hidden("both.ods"), "from_csv: note: both.ods: row 3 and column 3 are hidden, and count like all others; delete what isn't meant\n")
+        both = f"row 3 and column 3 are hidden, and count {self.REST}"
+        self.assertEqual(self.hidden("both.ods"), f"from_csv: note: both.ods: {both}")
 
 
 class PlansInProcess(unittest.TestCase):
@@ -90,24 +97,29 @@ class PlansInProcess(unittest.TestCase):
         return list(notes_of_plan(names, problem, Claim("optimal", picks, [], 0, 0, [], [])))
 
     def test_costs_far_above_all_others(self):
-        told = "; leave a pair that isn't allowed out of the table"
-        self.assertEqual(self.notes([[40, 9, 9], [9, 4_000, 9], [9, 9, 30]]), [f"`2` and `2` cost 4000, where 40 is the next greatest cost{told}"])
+        def told(cost, below):
+            way_out = "leave a pair that isn't allowed out of the table"
+            return [f"`2` and `2` cost {cost}, where {below} is the next greatest cost; {way_out}"]
+        self.assertEqual(self.notes([[40, 9, 9], [9, 4_000, 9], [9, 9, 30]]), told(4000, 40))
         self.assertEqual(self.notes([[40, 9, 9], [9, 3_999, 9], [9, 9, 30]]), [])
-        self.assertEqual(self.notes([[99_999, 9, 9, 9], [9, 9_999, 9, 9], [9, 9, 30, 9], [9, 9, 9, 40]]), [f"`2` and `2` cost 9999, and 1 more pair costs as much or more, where 40 is the next greatest cost{told}"])
+        two = self.notes([[99_999, 9, 9, 9], [9, 9_999, 9, 9], [9, 9, 30, 9], [9, 9, 9, 40]])
+        self.assertEqual(two, told("9999, and 1 more pair costs as much or more", 40))
         # A small cost among usual ones is none that stands for a pair that isn't allowed.
         self.assertEqual(self.notes([[1, 9, 9], [9, 500, 9], [9, 9, 600]]), [])
         # Where others cost nothing, the person's own row tells what is usual.
-        self.assertEqual(self.notes([[0, 5], [5, 9_999]]), [f"`2` and `2` cost 9999, where 5 is the next greatest cost{told}"])
+        self.assertEqual(self.notes([[0, 5], [5, 9_999]]), told(9999, 5))
         self.assertEqual(self.notes([[0, 5], [0, 9_999]]), [])
-        self.assertEqual(self.notes([[-5, 9], [9, 999]], maximise=True), [f"`2` and `2` cost -999, where 5 is the next greatest cost{told}"])
+        self.assertEqual(self.notes([[-5, 9], [9, 999]], maximise=True), told(-999, 5))
 
     def test_copies_for_one_person(self):
         objects = ["roof (1)", "roof (2)", "pump (1)", "roof"]
         rows = [[1] * 4 for _ in range(4)]
-        told = "; who may take more than one object may take all its copies: forbid such pairs, or leave --capacity out"
-        self.assertEqual(self.notes(rows, ["Ada", "Ada", "Ben", "Ben"], objects), [f"`Ada` has `roof (1)` and `roof (2)`{told}"])
+        told = f"; {MANY}"
+        owners = ["Ada", "Ada", "Ben", "Ben"]
+        self.assertEqual(self.notes(rows, owners, objects), [f"`Ada` has `roof (1)` and `roof (2)`{told}"])
         self.assertEqual(self.notes(rows, ["Ada", "Ben", "Ada", "Ben"], objects), [])
-        self.assertEqual(self.notes(rows, ["Ada", "Ada", "Ben", "Ben"], [*objects[:2], "pump (1)", "pump (2)"]), [f"`Ada` has `roof (1)` and `roof (2)`, and 1 more person has copies of one object{told}"])
+        (both,) = self.notes(rows, owners, [*objects[:2], "pump (1)", "pump (2)"])
+        self.assertEqual(both, f"`Ada` has `roof (1)` and `roof (2)`, and 1 more person has copies of one object{told}")
 
 
 @has_program()
@@ -117,12 +129,14 @@ class Plans(ToolTest):
         self.write("table.csv", "who,a (1),a (2),b\nAda,1,2,7\nTotal,9,9,1000\n")
         first, second, third = (
             "`Total`, the last person of the table, is planned like any other; leave it out if it is none",
-            "`Total` and `b` cost 1000, where 2 is the next greatest cost; leave a pair that isn't allowed out of the table",
-            "`Ada` has `a (1)` and `a (2)`; who may take more than one object may take all its copies: forbid such pairs, or leave --capacity out",
+            "`Total` and `b` cost 1000, where 2 is the next greatest cost; "
+            "leave a pair that isn't allowed out of the table",
+            f"`Ada` has `a (1)` and `a (2)`; {MANY}",
         )
         words = ["table.csv", "--capacity", "2", "--fix", "Total=b"]
         status, output, said = self.call("plan", *words, "--quiet")
-        self.assertEqual((status, output.splitlines()[1:]), (0, ["Ada,a (1),1", "Ada,a (2),2", "Total,b,1000", "total,,1003"]))
+        rows = ["Ada,a (1),1", "Ada,a (2),2", "Total,b,1000", "total,,1003"]
+        self.assertEqual((status, output.splitlines()[1:]), (0, rows))
         self.assertEqual(said, "".join(f"plan: note: table.csv: {sentence}\n" for sentence in (first, second, third)))
         *notes, last = self.call("plan", *words)[2].splitlines()
         self.assertEqual((notes, "3 pairs" in last), (said.splitlines(), True))

@@ -84,6 +84,17 @@ def rank_of(names, claim, asked):
     return told + (within or (" of all" if is_best else ""))
 
 
+def among(names, asked):
+    """Among what everybody has the best for himself at the prices of an answer, which are of the problem that it
+    solves."""
+    if asked.kind == "second":
+        return f" of all{asked.within()} but one thing that the best plan has and this one mustn't"
+    if asked.kind == "fair":
+        limit = f"at {'least' if names.maximise else 'most'} {names.amount(asked.beside)}"
+        return f" of all pairs{asked.within()} that cost {limit}"
+    return " of all that the wishes allow" if asked.wishes else ""
+
+
 def judged_by(judges):
     """Who looked whether an answer is true."""
     return f"checked by {' and by '.join(JUDGES[: len(judges)])}"

@@ -1,6 +1,7 @@
 """A plan as a page for a browser and for paper: what it says, its table, a picture, and the prices; or who is in the way of one."""
 from html import escape
 
+from .kinds import among
 from .pictures import picture_of
 from .plans import blamed, rows_of_free, rows_of_pairs, sentence_of
 from .prices import told_prices
@@ -32,7 +33,7 @@ def page_of(names, problem, model, claim, free, asked, summary):
         *(tables_of_hall(names, claim) if is_hall else tables_of_plan(names, claim, free)),
         "<h2>Picture</h2>",
         picture_of(single, rows_of(problem), pairs, claim_of_owners(model, claim), prices, title),
-        *([] if is_hall else table_of_prices(names, claim, prices)),
+        *([] if is_hall else table_of_prices(names, claim, asked, prices)),
         "</body></html>",
     ]
     return "\n".join(parts) + "\n"
@@ -74,12 +75,11 @@ def tables_of_hall(names, claim):
     yield table(names.titles[1:2], [("", [names.object(number)]) for number in objects], set())
 
 
-def table_of_prices(names, claim, prices):
+def table_of_prices(names, claim, asked, prices):
     yield "<h2>Prices</h2>"
     told = "These prices show how far the plan is from the best at most"
     if claim.kind != "bracket":
-        of_all = "of all that this plan may give him: cost and price together"
-        told = f"At these prices everybody has what is best for him {of_all}"
+        told = f"At these prices everybody has what is best for him{among(names, asked)}: cost and price together"
     yield f"<p>{told}. They are in the unit of costs.</p>"
     amount = names._replace(maximise=False).amount
     rows = [("", [name, amount(price)]) for name, price in zip(names.objects, prices)]

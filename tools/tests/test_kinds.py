@@ -149,6 +149,17 @@ class Answers(ToolTest):
             self.assertIn(status, (0, 4), said)
             self.assertIn("<h2>Prices</h2>", self.read("page.html"))
 
+    def test_what_prices_are_of(self):
+        """Those of a second best plan don't show that it is better than the best one."""
+        for words, sentence in [
+            ([], ""),
+            (["--forbid", "Ada=roof"], " of all that the wishes allow"),
+            (["--second"], " of all but one thing that the best plan has and this one mustn't"),
+            (["--fair"], " of all pairs that cost at most 45"),
+        ]:
+            page, _ = self.page(*words)
+            self.assertIn(f"everybody has what is best for him{sentence}: cost and price together.", page)
+
 
 class WishesSaid(unittest.TestCase):
     def test_order(self):

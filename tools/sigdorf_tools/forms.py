@@ -82,8 +82,8 @@ def form_without_header(table):
 
 
 def is_title(cell):
-    """Whether a cell may stand over a column of costs: it has something in it, and is no number, nor what a spreadsheet shows in place of one, as `#N/A`."""
-    return cell != "" and not looks_like_number(cell) and not is_number(cell) and not cell.startswith("#")
+    """Whether a cell may stand over a column of costs: it is none of them, nor what is written in place of one."""
+    return is_name(cell)
 
 
 def looks_like_number(cell):

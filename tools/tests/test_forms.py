@@ -86,6 +86,13 @@ class Forms(ToolTest):
             self.assert_fault(answer, "table.csv, line 1", "costs alone with three objects", "--pairs or --matrix")
         self.assertEqual(self.convert("1,pump,40\n2,roof,65\n", "--no-header"), "2\n1 1 40\n2 2 65\n")
 
+    def test_first_pair_without_a_cost(self):
+        """It is no row of titles, which would leave a person out without a word."""
+        for cell in ("n/a", "None", "?"):
+            self.write("table.csv", f"Ada,pump,{cell}\nBen,roof,3\n")
+            answer = self.call("tools/from_csv", "table.csv")
+            self.assert_fault(answer, f"table.csv, line 1, column 3: `{cell}` is no number")
+
     def test_as_said(self):
         table = UNCLEAR[0]
         self.assertEqual(self.convert(table, "--pairs"), "3\n1 1 5\n1 3 9\n2 2 2\n3 4 2\n")

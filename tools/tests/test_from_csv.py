@@ -206,7 +206,7 @@ class Faults(ToolTest):
         "no rows": (",x,y,z\n", [], "line 1", "no person"),
         "titles alone": ("a,b,c\n", [], "line 1, column 3", "no row below"),
         "no number": ("a,x,1\nb,y,2 km\n", [], "line 2, column 3", "`2 km` is no number"),
-        "first row is no title": ("Ada,pump,n/a\nAda,roof,3\n", [], "line 1, column 3", "no title"),
+        "first row is no title": ("Ada,pump,later\nAda,roof,3\n", [], "line 1, column 3", "no title"),
         "exponent": ("a,x,1e3\nb,y,2\n", [], "line 1, column 3", "no number"),
         "infinity": (",x,y\na,1,inf\n", [], "line 2, column 3", "no number"),
         "too many decimals": ("a,x,1\nb,y,2.125\n", ["--decimals", "2"], "line 2, column 3", "--decimals 3"),

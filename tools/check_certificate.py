@@ -1,6 +1,6 @@
 #!/usr/bin/env python3
 """Says whether a certificate is true of a problem, in plain whole numbers: written from docs/FORMATS.md alone, with the line and status of `auction check`."""
-import argparse, itertools, os, re, sys
+import argparse, itertools, os, re, signal, sys
 PERSONS, OBJECTS, MOST_ARCS, REASONS = range(1, 10_001), range(1, 20_001), 33_554_432, "(?:bids|ceiling|posts|trail|mail)"
 COSTS, PRICES, TOTALS = range(-(10**9), 10**9 + 1), range(0, 2**61 + 1), range(-(2**63), 2**63)
 
@@ -87,16 +87,17 @@ def main():
     parser.add_argument("certificate", metavar="CERTIFICATE", nargs="?", type=opened, default=0, help="left out, it is standard input")
     parser.add_argument("--objects", metavar="M", type=lambda word: OBJECTS[OBJECTS.index(int(word))], help="1 to 20,000; left out, as many as persons")
     try:
-        words = parser.parse_intermixed_args()
-        arcs, objects = read_problem(open(words.arcs, "rb").read(), words.objects)
+        arcs, objects = read_problem(open((words := parser.parse_intermixed_args()).arcs, "rb").read(), words.objects)
         kind, numbers, *lists = read_claim(open(words.certificate, "rb").read())
         faults = faults_of_hall(arcs, objects, *lists) if kind == "infeasible" else faults_of_plan(arcs, objects, kind, numbers, *lists)
         line = next(faults, " ".join(map(str, ["valid", kind, *numbers])))
     except (OSError, ValueError) as fault:
         if isinstance(getattr(fault, "filename", None), str):  # a file that can't be opened; one that can't be read has a number
-            return print(fault, file=sys.stderr) or 5
+            return print(f"{parser.prog}: {fault.filename}: it can't be opened: {fault.strerror}", file=sys.stderr) or 5
         line = "refused read" if isinstance(fault, OSError) else str(fault)
     return print(line) or {"valid": 0, "invalid": 3, "refused": 5}[line.split()[0]]
 
 if __name__ == "__main__":
+    for number in (signal.SIGINT, signal.SIGPIPE):  # Ctrl-C ends it without a word, and so does a reader that goes away
+        signal.signal(number, signal.SIG_DFL)
     sys.exit(main())

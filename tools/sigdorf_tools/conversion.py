@@ -9,6 +9,7 @@ from .marks import MARKS
 from .matrices import problem_by_arrays
 from .models import look_at_size, plain_model
 from .names import Names, counted
+from .notes import note, notes_of_names
 from .pair_texts import problem_of_pairs
 from .problems import problem_of
 from .tables import read_source, table_of_source
@@ -41,7 +42,8 @@ def number_of_decimals(word):
 
 
 def read_problem(words, extras=()):
-    """The table that the words name, or its text, its problem, and what columns of these titles say of each person. Decimals that nobody said are told on standard error."""
+    """The table that the words name, or its text, its problem, and what columns of these titles say of each person.
+    Decimals that nobody said are told on standard error, and what may not be meant."""
     source, has_header = read_source(words.file, SEPARATORS.get(words.separator), words.sheet), not words.no_header
     said = has_header, words.decimals, words.maximise, MARKS.get(words.decimal_mark)
     is_whole = words.columns is None and not extras and not words.ignore_column
@@ -59,6 +61,8 @@ def read_problem(words, extras=()):
         told = [by_persons(source, cells, place, 1 if has_header else 0) for _, cells, place in zip(extras, columns, places)]
     if words.decimals is None and problem.decimals:
         say(f"{source.file}: the costs have {counted(problem.decimals, 'decimal')}")
+    for sentence in [*getattr(source, "notes", ()), *(f"{source.file}: {each}" for each in notes_of_names(problem))]:
+        note(sentence)
     return source, problem, told
 
 

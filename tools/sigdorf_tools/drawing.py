@@ -1,5 +1,4 @@
 """Pictures of small problems, as SVG: persons above, objects below, arcs between them, prices as bars; of a Hall set, who is in it."""
-from fractions import Fraction
 from typing import NamedTuple
 from xml.sax.saxutils import escape
 
@@ -15,7 +14,7 @@ TITLE_SIZE, NAME_SIZE, PRICE_SIZE, COST_SIZE = 20, 15, 13, 12.5
 # Names are cut where they are longer than so many letters.
 LONGEST = 40
 MOST_LABELS = 80
-LEGEND = ["thick: the plan; thin: other arcs; numbers: costs", "bars: prices, in the unit of costs, to a tenth"]
+LEGEND = ["thick: the plan; thin: other arcs; numbers: costs", "bars: prices, in the unit of costs"]
 HALL_LEGEND = ["red: who is in the way of a plan, and all that they may take"]
 
 
@@ -45,8 +44,9 @@ class Label(NamedTuple):
 
 
 class Scene(NamedTuple):
-    """What is drawn: all names, the arcs (person, object, cost) by their numbers from 1 on, and those of them that stand out; how a cost is told, how many units of a price are one of cost, and the
-    prices; who and what stand out, which are those of the plan or of the Hall set, and whether it is one."""
+    """What is drawn: all names, the arcs (person, object, cost) by their numbers from 1 on, and those of them that
+    stand out; how a cost is told; the prices; who and what stand out, which are those of the plan or of the Hall set,
+    and whether it is one."""
 
     titles: list
     persons: list
@@ -54,8 +54,6 @@ class Scene(NamedTuple):
     arcs: list
     arcs_told: set
     amount: object
-    mark: str
-    scale: int
     prices: list
     persons_told: set
     objects_told: set
@@ -63,12 +61,16 @@ class Scene(NamedTuple):
 
     def step(self):
         """From the middle of a name to the middle of the next one."""
-        prices = () if self.is_hall else (price_text(price, self.scale, self.mark) for price in self.prices[: len(self.objects)])
+        prices = () if self.is_hall else map(self.price, self.prices[: len(self.objects)])
         names = max(width_of(cut(name), NAME_SIZE) for name in self.persons + self.objects)
         return max(108, names + 44, max((width_of(text, PRICE_SIZE) for text in prices), default=0) + 16)
 
+    def price(self, price):
+        """The text of a price, which is told as a cost, but never in the sign of one that was negated."""
+        return self.amount(price).lstrip("-")
+
     def left(self):
-        """Where the first name begins: behind the titles."""
+        """Where the first name begins: after the titles."""
         return max(LEFT, max(width_of(cut(title), PRICE_SIZE) for title in self.titles[:2]) + 40)
 
     def x(self, number, names):
@@ -178,10 +180,4 @@ def bars(scene):
         height = BAR_MOST * price / most
         x = scene.x(number, scene.objects)
         yield f'<rect x="{x - 22:.1f}" y="{top}" width="44" height="{height:.1f}" fill="{BAR}"/>'
-        yield text_at(x, top + height + 17, price_text(price, scene.scale, scene.mark), INK, PRICE_SIZE)
-
-
-def price_text(price, scale, mark):
-    """A price in the unit of costs, rounded to a tenth."""
-    tenths = round(Fraction(10 * price, scale))
-    return f"{tenths // 10}{mark}{tenths % 10}"
+        yield text_at(x, top + height + 17, scene.price(price), INK, PRICE_SIZE)

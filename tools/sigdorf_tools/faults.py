@@ -1,8 +1,11 @@
 """Faults of an input, told in one sentence."""
 import os
+import signal
 import sys
 
 STATUS = 2
+# As of a command that a signal ends: Ctrl-C, or a reader that goes away.
+STOPPED, READER_GONE = 128 + signal.SIGINT, 128 + signal.SIGPIPE
 # So many letters of a cell are shown in a sentence.
 SHOWN = 40
 # What takes away the line of a terminal in which the cursor stands.
@@ -15,21 +18,40 @@ class Fault(Exception):
 
 def run(main):
     """Ends the process with the status of a tool's main function. A fault is one sentence on standard error and status 2."""
+    if signal.getsignal(signal.SIGINT) is signal.SIG_DFL:
+        # Up to here Ctrl-C ended the process at once; from here on what was begun is taken back first.
+        signal.signal(signal.SIGINT, signal.default_int_handler)
+    sys.exit(status_of(main))
+
+
+def status_of(main):
     try:
-        status = main()
+        try:
+            status = main()
+        except SystemExit as end:
+            status = end.code
         sys.stdout.flush()
+        return status
     except Fault as fault:
-        status = tell(str(fault))
+        return tell(str(fault))
+    except BrokenPipeError:
+        # Whoever read it wants no more, so that there is nothing to say.
+        drop_output()
+        return READER_GONE
     except OSError as error:
         if not error.filename:
-            # What couldn't be written stays in the buffer, and Python would try once more at its end.
-            os.dup2(os.open(os.devnull, os.O_WRONLY), sys.stdout.fileno())
-        status = tell(f"{error.filename or 'the output'}: it can't be written: {error.strerror}")
+            drop_output()
+        return tell(f"{error.filename or 'the output'}: it can't be written: {error.strerror}")
     except MemoryError:
-        status = tell("there is too little memory for this problem")
+        return tell("there is too little memory for this problem")
     except KeyboardInterrupt:
-        status = tell("stopped")
-    sys.exit(status)
+        say("stopped")
+        return STOPPED
+
+
+def drop_output():
+    """What couldn't be written stays in the buffer, and Python would try once more at its end."""
+    os.dup2(os.open(os.devnull, os.O_WRONLY), sys.stdout.fileno())
 
 
 def quoted(text):
@@ -44,7 +66,8 @@ def tell(sentence):
 
 
 def say(sentence):
-    """One sentence on standard error, behind the name of the tool. On a terminal a line that tells what goes on may stand there, and is taken away."""
+    """One sentence on standard error, after the name of the tool. On a terminal a line that tells what goes on may
+    stand there, and is taken away."""
     before = TAKE_AWAY if sys.stderr.isatty() else ""
     print(f"{before}{os.path.basename(sys.argv[0])}: {sentence}", file=sys.stderr)
 

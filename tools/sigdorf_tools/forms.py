@@ -6,6 +6,10 @@ from .faults import quoted
 # What no name is: a number in whatever notation, with a unit or without letters, and what stands for one that isn't there.
 EXPONENT = re.compile(r"(?<=[0-9.,])[eE](?=[+\-\u2212]?[0-9])")
 NO_NUMBERS = re.compile(r"[+\-\u2212]?(inf|infinity|nan)|[\-\u2010-\u2015\u2212]+", re.IGNORECASE)
+# What a table may be that has three columns.
+EITHER = "the table has three columns: it may be a list of person, object and cost"
+# Words that planners write where there is no cost.
+NO_COSTS = {"n/a", "na", "n.a.", "none", "null", "nil", "no", "nein", "never", "?"}
 
 
 def form_of(table, has_header):
@@ -18,17 +22,40 @@ def form_of(table, has_header):
         look_for_more_columns(table)
         return "matrix"
     second = [cells[1] for cells in rest if len(cells) > 1]
-    if "" in second:
-        return "matrix"
-    persons = [cells[0] for cells in table.rows]
-    has_names = not any(map(looks_like_number, second)) or looks_like_number(first[2]) > looks_like_number(first[1])
-    if has_names or len(set(persons)) < len(persons):
+    if are_names_of_objects(second):
         return "pairs"
-    raise table.fault_of_row(0, "person, object and cost in three columns, or a row for each person: say --pairs or --matrix")
+    # A pair has an object, so that a gap is a pair that isn't allowed. Below a row that may itself be a pair it may be
+    # a name that was forgotten.
+    if "" in second and not any(map(is_name, second)) and not may_be_cost(first[2]):
+        return "matrix"
+    raise table.fault_of_row(0, unclear(first))
+
+
+def are_names_of_objects(cells):
+    """Whether the second column of a table lists objects, since none of its cells may stand in a column of costs. That
+    a person stands there twice proves nothing: in a matrix it may be a slip."""
+    return all(map(is_name, cells))
+
+
+def is_name(cell):
+    return cell != "" and not may_be_cost(cell)
+
+
+def may_be_cost(cell):
+    """Whether a cell may stand for a cost: a number, one with a unit, or what is written in place of one that isn't
+    there."""
+    return looks_like_number(cell) or is_number(cell) or cell.startswith("#") or cell.casefold() in NO_COSTS
+
+
+def unclear(first):
+    """What can't be told of a table of three columns, in its own words: the end of a sentence."""
+    matrix = f"a table with two objects, {quoted(first[1])} and {quoted(first[2])}"
+    return f"{EITHER}, or {matrix}; say --pairs or --matrix"
 
 
 def look_for_more_columns(table):
-    """A column without a number, behind the first one, is none of costs: so the table has more columns than a matrix, and which ones are to be taken has to be said."""
+    """A column without a number, after the first one, is none of costs: so the table has more columns than a matrix,
+    and which ones are to be taken has to be said."""
     rest = table.rows[1:]
     for column, cell in enumerate(rest[0] if rest else [], 0):
         if column and cell and not is_number(cell) and not looks_like_number(cell) and not any(is_number(cells[column]) for cells in rest if column < len(cells)) and len(rest) > 1:
@@ -49,14 +76,14 @@ def form_without_header(table):
     """The form of a table whose first row is like all others: a matrix is costs alone then, so names are those of pairs."""
     if len(table.rows[0]) != 3:
         return "matrix"
-    if any(cell and not is_number(cell) for cells in table.rows for cell in cells[:2]):
+    if any(are_names_of_objects([cells[column] for cells in table.rows if len(cells) > column]) for column in (0, 1)):
         return "pairs"
-    raise table.fault_of_row(0, "person, object and cost in three columns, or costs alone: say --pairs or --matrix")
+    raise table.fault_of_row(0, f"{EITHER}, or costs alone with three objects; say --pairs or --matrix")
 
 
 def is_title(cell):
-    """Whether a cell may stand over a column of costs: it has something in it, and is no number, nor what a spreadsheet shows in place of one, as `#N/A`."""
-    return cell != "" and not looks_like_number(cell) and not is_number(cell) and not cell.startswith("#")
+    """Whether a cell may stand over a column of costs: it is none of them, nor what is written in place of one."""
+    return is_name(cell)
 
 
 def looks_like_number(cell):

@@ -4,6 +4,7 @@ import json
 from .faults import Fault, quoted
 from .text_tables import text_of
 
+TITLES = ["person", "object", "cost"]
 WANTED = "a list of records, a list of rows, or for each person an object of costs is wanted"
 
 
@@ -20,6 +21,8 @@ def read_json(file, content):
         if not isinstance(record, dict):
             raise Fault(f"{file}, record {number}: no record; {WANTED}")
     titles = list(dict.fromkeys(title for record in value for title in record))
+    # Fields of a record have no order of their own, so that where they are named so, the names tell which is which.
+    titles = TITLES if sorted(titles) == sorted(TITLES) else titles
     return texts(file, "record", [titles, *([record.get(title) for title in titles] for record in value)], numbers_below_titles(value)), "pairs"
 
 
@@ -30,7 +33,7 @@ def rows_of_persons(file, value):
     if not pairs:
         raise Fault(f"{file}: nobody has a cost, so that there is no pair; {WANTED}")
     if len({person for person, _, _ in pairs}) == len(value) and len({thing for _, thing, _ in pairs}) == len(objects):
-        return texts(file, "pair", [["person", "object", "cost"], *pairs], numbers_below_titles(pairs)), "pairs"
+        return texts(file, "pair", [TITLES, *pairs], numbers_below_titles(pairs)), "pairs"
     rows = [[person, *map(costs.get, objects)] for person, costs in value.items()]
     return texts(file, "person", [["person", *objects], *rows], numbers_below_titles(rows)), "matrix"
 

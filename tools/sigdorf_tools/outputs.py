@@ -5,9 +5,10 @@ import os
 import sys
 
 from .faults import Fault
+from .kinds import ANSWERS, Asked
 from .plans import Free, blamed, rows_of_free, rows_of_pairs, sentence_of, write_rows
 
-STATUS_WORDS = {"optimal": "best", "bracket": "stopped", "infeasible": "no plan"}
+STATUS_WORDS = {"bracket": "stopped", "infeasible": "no plan"}
 
 
 def text_of_rows(names, rows):
@@ -17,13 +18,15 @@ def text_of_rows(names, rows):
     return text.getvalue()
 
 
-def json_of(names, claim, judges, free=Free()):
+def json_of(names, claim, judges, free=Free(), asked=Asked()):
     """An answer as JSON: amounts are numbers with the decimals of the table, exactly."""
     names = names._replace(mark=".")
-    told = {"answer": STATUS_WORDS[claim.kind]}
+    told = {"answer": STATUS_WORDS.get(claim.kind, ANSWERS[asked.kind]), **asked.fields(names, number)}
+    told |= {"sentence": sentence_of(names, claim, asked)}
     if claim.kind == "infeasible":
         persons, objects = blamed(names, claim)
-        told |= {"sentence": sentence_of(names, claim), "persons": list(dict.fromkeys(map(names.person, persons))), "objects": list(map(names.object, objects))}
+        told |= {"persons": list(dict.fromkeys(map(names.person, persons)))}
+        told |= {"objects": list(map(names.object, objects))}
     else:
         rows = rows_of_free(names, claim, free)
         told |= {
@@ -33,7 +36,7 @@ def json_of(names, claim, judges, free=Free()):
             "free_objects": [thing for person, thing, _ in rows if not person],
         }
         if claim.kind == "bracket":
-            told |= {"sentence": sentence_of(names, claim), "bound": number(names.amount(claim.lower))}
+            told |= {"bound": number(names.amount(claim.lower))}
     return json.dumps(told | {"proved_by": judges}, ensure_ascii=False, indent=1) + "\n"
 
 
@@ -62,6 +65,6 @@ def write_text(text, file, table):
         sys.stdout.flush()
         return
     if os.path.exists(file) and os.path.exists(table) and os.path.samefile(file, table):
-        raise Fault(f"{file}: the plan would go over the table that it is made from; name another file behind -o")
+        raise Fault(f"{file}: the plan would go over the table that it is made from; name another file after -o")
     with open(file, "w", encoding="utf-8", newline="") as opened:
         opened.write(text)

@@ -1,9 +1,10 @@
 """A plan as a page for a browser and for paper: what it says, its table, a picture, and the prices; or who is in the way of one."""
 from html import escape
 
-from .drawing import price_text
+from .kinds import among
 from .pictures import picture_of
 from .plans import blamed, rows_of_free, rows_of_pairs, sentence_of
+from .prices import told_prices
 
 STYLE = """
 body { font-family: Helvetica, Arial, "DejaVu Sans", sans-serif; color: #22262b; margin: 2em auto; max-width: 60em; padding: 0 1em; line-height: 1.4; }
@@ -15,12 +16,12 @@ p.judged { color: #747c85; } svg { max-width: 100%; height: auto; }
 """
 
 
-def page_of(names, problem, model, claim, free, summary):
+def page_of(names, problem, model, claim, free, asked, summary):
     """The text of the page."""
-    title = sentence_of(names, claim)
+    title = sentence_of(names, claim, asked)
     single = names._replace(persons=problem.persons)
     pairs = {(model.owners[copy] + 1, thing) for copy, (thing, _) in enumerate(claim.picks[: len(model.owners)]) if thing <= model.objects}
-    scale = (model.persons() + 1) * 10**names.decimals
+    prices = told_prices(model.rows(), claim, model.persons())[: len(names.objects)]
     is_hall = claim.kind == "infeasible"
     parts = [
         "<!DOCTYPE html>",
@@ -28,10 +29,11 @@ def page_of(names, problem, model, claim, free, summary):
         f"<title>{escape(names.table)}: {escape(title)}</title><style>{STYLE}</style></head><body>",
         f"<h1>{escape(title)}</h1>",
         f'<p class="judged">{escape(names.table)}: {escape(summary)}</p>',
+        *list_of_wishes(asked),
         *(tables_of_hall(names, claim) if is_hall else tables_of_plan(names, claim, free)),
         "<h2>Picture</h2>",
-        picture_of(single, rows_of(problem), pairs, claim_of_owners(model, claim), scale, title),
-        *([] if is_hall else table_of_prices(names, model, claim, scale)),
+        picture_of(single, rows_of(problem), pairs, claim_of_owners(model, claim), prices, title),
+        *([] if is_hall else table_of_prices(names, claim, asked, prices)),
         "</body></html>",
     ]
     return "\n".join(parts) + "\n"
@@ -53,6 +55,13 @@ def rows_of(problem):
         yield person, arcs.objects, arcs.costs()
 
 
+def list_of_wishes(asked):
+    """What tells this page from another one of the same table."""
+    if asked.wishes:
+        yield "<h2>Wishes</h2>"
+        yield f"<ul>{''.join(f'<li>{escape(wish)}</li>' for wish in asked.wishes)}</ul>"
+
+
 def tables_of_plan(names, claim, free):
     yield "<h2>Plan</h2>"
     rows = [("", row) for row in rows_of_pairs(names, claim)] + [("free", [person or "nobody", thing or "stays free", cost]) for person, thing, cost in rows_of_free(names, claim, free)]
@@ -66,10 +75,14 @@ def tables_of_hall(names, claim):
     yield table(names.titles[1:2], [("", [names.object(number)]) for number in objects], set())
 
 
-def table_of_prices(names, model, claim, scale):
+def table_of_prices(names, claim, asked, prices):
     yield "<h2>Prices</h2>"
-    yield "<p>At these prices everybody has what is best for him: cost and price together. They are in the unit of costs, to a tenth.</p>"
-    rows = [("", [name, price_text(price, scale, names.mark)]) for name, price in zip(names.objects, claim.prices)]
+    told = "These prices show how far the plan is from the best at most"
+    if claim.kind != "bracket":
+        told = f"At these prices everybody has what is best for him{among(names, asked)}: cost and price together"
+    yield f"<p>{told}. They are in the unit of costs.</p>"
+    amount = names._replace(maximise=False).amount
+    rows = [("", [name, amount(price)]) for name, price in zip(names.objects, prices)]
     yield table([names.titles[1], "price"], rows, {1})
 
 

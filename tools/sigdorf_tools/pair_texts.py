@@ -8,7 +8,7 @@ from . import arrays
 from .arrays import numpy_for
 from .costs import cells_of, read_costs
 from .faults import Fault
-from .forms import is_title, look_for_header
+from .forms import are_names_of_objects, is_title, look_for_header
 from .matrices import USUAL_MARK, is_mark_sure
 from .pair_arrays import arcs_by_persons, columns_of
 from .problems import MOST_OBJECTS, MOST_PERSONS, TITLES, Arcs, Problem
@@ -41,9 +41,6 @@ class Rows(NamedTuple):
     objects: list
     costs: list
 
-    def count(self):
-        return sum(map(len, self.objects))
-
 
 def problem_of_pairs(source, form, has_header, decimals, maximise, mark):
     """The problem of pairs in a text of many characters; None where it isn't sure that there is one, which the road for all tables has to tell."""
@@ -64,9 +61,10 @@ def problem_of_pairs(source, form, has_header, decimals, maximise, mark):
     if not all(map(is_plain_name, titles)):
         return None
 
-    def are_told(names, count):
-        # A title that stands below too is none, and persons who have one row each may be those of a matrix.
-        return are_names(*names) and not (titles is not TITLES and first[0] in names[0]) and not (form is None and len(names[0]) == count)
+    def are_told(names):
+        # A title that stands below too is none, and what may be costs below it may be those of a matrix.
+        is_title = titles is TITLES or first[0] not in names[0]
+        return are_names(*names) and is_title and (form is not None or are_names_of_objects(names[1]))
     said = decimals, maximise, mark, are_told
     numpy = numpy_for(len(source.text))
     found = numpy and by_arrays(numpy, text, begin, source.separator, *said) or by_texts(table, text, begin, *said)
@@ -80,7 +78,7 @@ def by_arrays(numpy, text, begin, separator, decimals, maximise, mark, are_told)
     if not read:
         return None
     columns, found = read
-    if not are_told((columns.persons, columns.objects), len(columns.person_numbers)):
+    if not are_told((columns.persons, columns.objects)):
         return None
     if found and not is_mark_sure(numpy, separator, columns.costs, found, mark):
         return None
@@ -95,7 +93,9 @@ def by_arrays(numpy, text, begin, separator, decimals, maximise, mark, are_told)
 def by_texts(table, text, begin, decimals, maximise, mark, are_told):
     """The same by steps of the standard library."""
     rows = rows_by_runs(text, begin, table.separator) or rows_by_batches(text, begin, table.separator)
-    if not rows or not rows.costs or max(cells.length for cells in rows.costs) > MOST_CHARACTERS or not are_told(rows.names, rows.count()):
+    if not rows or not rows.costs or max(cells.length for cells in rows.costs) > MOST_CHARACTERS:
+        return None
+    if not are_told(rows.names):
         return None
     try:
         read = read_costs(table, rows.costs, decimals, maximise, mark)

@@ -7,19 +7,20 @@ from .plans import blamed, sentence_of
 MOST_DRAWN, MOST_WIDE = 40, 2_000
 
 
-def picture_of(names, rows, pairs, claim, scale, title=None):
-    """The picture of a claim. The arcs come as a number of a person, of the names, with his objects and their costs; pairs are those of the plan, by numbers; the scale is that of prices."""
+def picture_of(names, rows, pairs, claim, prices, title=None):
+    """The picture of a claim. The arcs come as a number of a person, of the names, with his objects and their costs;
+    pairs are those of the plan, by numbers; prices are in smallest units."""
     title = title or sentence_of(names, claim)
     hall = tuple(map(set, blamed(names, claim))) if claim.kind == "infeasible" else None
     if max(len(names.persons), len(names.objects)) <= MOST_DRAWN:
         rows = list(rows)
-        scene = scene_of(names, rows, pairs, claim, scale, hall)
+        scene = scene_of(names, rows, pairs, prices, hall)
         if scene.width() <= MOST_WIDE:
             return drawing(scene, title)
     return heat_map(names, rows, pairs, title, hall)
 
 
-def scene_of(names, rows, pairs, claim, scale, hall):
+def scene_of(names, rows, pairs, prices, hall):
     """What is drawn where persons stand above and objects below."""
     arcs = [(person, thing, cost) for person, objects, costs in rows for thing, cost in sorted(zip(objects, costs))]
     if hall:
@@ -29,4 +30,5 @@ def scene_of(names, rows, pairs, claim, scale, hall):
     else:
         persons, objects = {person for person, _ in pairs}, {thing for _, thing in pairs}
         told = {arc for arc in arcs if arc[:2] in pairs}
-    return Scene(names.titles, names.persons, names.objects, arcs, told, names.amount, names.mark, scale, claim.prices, persons, objects, bool(hall))
+    all_names = names.titles, names.persons, names.objects
+    return Scene(*all_names, arcs, told, names.amount, prices, persons, objects, bool(hall))

@@ -5,6 +5,7 @@ import sys
 from typing import NamedTuple
 
 from .claims import read_arcs, read_claim, with_all_persons
+from .kinds import Asked, judged_by, rank_of, sentence_of_plan
 from .names import counted
 
 # How many names a sentence holds.
@@ -18,13 +19,13 @@ class Free(NamedTuple):
     has_prices: bool = False
 
 
-def rows_of_plan(names, claim, free=Free()):
+def rows_of_plan(names, claim, free=Free(), asked=Asked()):
     """The rows for an answer: of a plan those of its pairs, of who and what stays free, and of the total."""
     if claim.kind == "infeasible":
-        return rows_of_hall_set(names, claim)
+        return rows_of_hall_set(names, claim, asked)
     rows = [names.titles, *rows_of_pairs(names, claim), *rows_of_free(names, claim, free), ["total", "", names.amount(claim.cost)]]
     if claim.kind == "bracket":
-        rows.append([sentence_of(names, claim)])
+        rows.append([sentence_of(names, claim, asked)])
     return rows
 
 
@@ -47,10 +48,10 @@ def rows_of_free(names, claim, free=Free()):
     return persons + [["", name, ""] for number, name in enumerate(names.objects, 1) if number not in taken]
 
 
-def rows_of_hall_set(names, claim):
+def rows_of_hall_set(names, claim, asked=Asked()):
     """A sentence, and then who and what it speaks of."""
     persons, objects = blamed(names, claim)
-    rows = [[sentence_of(names, claim)]]
+    rows = [[sentence_of(names, claim, asked)]]
     rows += [["person", name] for name in dict.fromkeys(map(names.person, persons))]
     rows += [["object", names.object(number)] for number in objects]
     return rows
@@ -65,20 +66,18 @@ def blamed(names, claim):
     return persons, sorted(set(range(1, len(names.objects) + 1)) - set(claim.objects))
 
 
-def sentence_of(names, claim):
+def sentence_of(names, claim, asked=Asked()):
     """The answer in one sentence."""
-    best = "greatest" if names.maximise else "least"
-    if claim.kind == "optimal":
-        return f"A best plan: the {best} total is {names.amount(claim.cost)}."
-    if claim.kind == "bracket":
-        gap = names._replace(maximise=False).amount(claim.cost - claim.lower)
-        return f"The search was stopped early: this plan is at most {gap} from the best, and no total is {'above' if names.maximise else 'below'} {names.amount(claim.lower)}."
-    persons, objects = blamed(names, claim)
+    if claim.kind != "infeasible":
+        return sentence_of_plan(names, claim, asked)
+    (persons, objects), no_plan = blamed(names, claim), f"No plan{asked.within()} gives"
     told_persons = listed(with_times(map(names.person, persons)), "person")
     told_objects = listed([names.object(number) for number in objects], "object")
     if names.dummy_objects:
-        return f"No plan gives every object to somebody: {told_objects} can go to {told_persons}{', and to nobody else' if persons else ''}."
-    return f"No plan gives every person an object: {told_persons} may take {told_objects}{', and nothing else' if objects else ''}."
+        more = ", and to nobody else" if persons else ""
+        return f"{no_plan} every object to somebody: {told_objects} can go to {told_persons}{more}."
+    more = ", and nothing else" if objects else ""
+    return f"{no_plan} every person an object: {told_persons} may take {told_objects}{more}."
 
 
 def with_times(names):
@@ -119,12 +118,9 @@ def write_rows(names, rows, output=None):
     csv.writer(output, delimiter=names.separator, lineterminator="\n").writerows(rows)
 
 
-def summary_of(names, claim, judges):
-    """What an answer says, who judged it, in half a sentence."""
-    judged = " and ".join(judges)
+def summary_of(names, claim, judges, asked=Asked()):
+    """What an answer says, and who checked it, in half a sentence."""
     if claim.kind == "infeasible":
-        return f"there is no plan, proved by {judged}"
-    total = f"{counted(len(rows_of_pairs(names, claim)), 'pair')}, total {names.amount(claim.cost)}"
-    if claim.kind == "optimal":
-        return f"{total}, proved {'greatest' if names.maximise else 'least'} by {judged}"
-    return f"{total}, proved at most {names._replace(maximise=False).amount(claim.cost - claim.lower)} from the best by {judged}"
+        return f"there is no plan{asked.within()}; {judged_by(judges)}"
+    pairs = counted(len(rows_of_pairs(names, claim)), "pair")
+    return f"{pairs}, total {names.amount(claim.cost)}, {rank_of(names, claim, asked)}; {judged_by(judges)}"

@@ -4,12 +4,12 @@ from typing import NamedTuple
 from .costs import cells_of, read_costs
 from .faults import Fault, quoted
 from .forms import form_of, is_title
-from .tables import below_header, look_at_lengths
+from .json_tables import TITLES
+from .tables import below_header, look_at_blanks, look_at_lengths
 
 MOST_PERSONS = 10_000
 MOST_OBJECTS = 20_000
 MOST_ARCS = 33_554_432
-TITLES = ["person", "object", "cost"]
 NAME_WANTED = "a name is wanted, and the cell is empty; write one, or leave out what is no part of the table"
 
 
@@ -116,6 +116,7 @@ def without_doubles(table, first, pairs, *columns):
 def numbered(table, names, first, column, most):
     """The different names of a column, in their order, and for each row the number of its name."""
     look_for_gap(table, names, first, column, NAME_WANTED)
+    look_at_blanks(table, names, lambda place: (first + place, column))
     numbers = dict.fromkeys(names)
     if len(numbers) > most:
         name = list(numbers)[most]
@@ -161,6 +162,7 @@ def look_at_names(table, names, place_of, most):
         raise table.fault(*place_of(names.index("")), NAME_WANTED)
     if len(names) > most:
         raise table.fault(*place_of(most), f"{quoted(names[most])} is one name more than the {most:,} that a problem may have; leave some out")
+    look_at_blanks(table, names, place_of)
     seen = set()
     for place, name in enumerate(names if len(set(names)) < len(names) else ()):
         if name in seen:

@@ -32,9 +32,11 @@ class Plans:
         return found._replace(claim=found.claim._replace(persons=[bound[person - 1] + 1 for person in found.claim.persons]))
 
     def second(self, model, best):
-        """The least plan that differs from the best one in a pair, or in who stays free; None where there is none. It is the least of those without a pair of the best one each, and the prices
-        of that one tell how dear each of them is at least. The one that may be least dear is looked for, until no other can be less dear than what was found."""
-        found, rises = None, Rises(model, best.claim)
+        """The least plan that differs from the best one in a pair, or in who stays free, and the model that it is the
+        best one of; None and the model where there is none. It is the least of those without a pair of the best one
+        each, and the prices of that one tell how dear each of them is at least. The one that may be least dear is
+        looked for, until no other can be less dear than what was found."""
+        found, whole, rises = None, model, Rises(model, best.claim)
         waiting = [(rise, place, change) for place, (rise, change) in enumerate(changes(model, best, rises))]
         heapq.heapify(waiting)
         sure = set()
@@ -48,12 +50,13 @@ class Plans:
                 sure.add(place)
                 heapq.heappush(waiting, (rises.better(change, rise, gap), place, change))
                 continue
-            answer = self.answer(model.without(change.pair, change.stays), best.certificate)
+            part = whole.without(change.pair, change.stays)
+            answer = self.answer(part, best.certificate)
             if answer.claim.kind == "bracket":
                 raise Fault(f"{self.name}: the search for the second best plan was stopped by --bids or --seconds; say more of them")
             if answer.claim.kind == "optimal" and (found is None or answer.claim.cost < found.claim.cost):
-                found = answer
-        return found
+                found, model = answer, part
+        return found, model
 
     def fair(self, model):
         """The plan whose greatest cost is least, and of those the one of the least total, with that cost; or the answer that there is no plan, without one.

@@ -6,21 +6,32 @@ import re
 import warnings
 import zipfile
 from decimal import Decimal
+from typing import NamedTuple
 
 from .faults import Fault, quoted
+from .hidden import hidden_in_ods, hidden_in_xlsx, note_of_hidden
 
 WORKBOOK = b"PK\x03\x04"
 ODS_KIND = b"application/vnd.oasis.opendocument.spreadsheet"
 # What a formula begins with in a sheet of a workbook.
 FORMULA = re.compile(rb"<(?:[A-Za-z0-9_]+:)?f[ >/]")
-# As many digits as a spreadsheet has of a number; what stands behind them comes of its binary sums.
+# As many digits as a spreadsheet has of a number; what stands after them comes of its binary sums.
 DIGITS = 15
 # No table that a plan can be made of has a longer row or column.
 MOST_REPEATED = 20_001
 
 
+class Sheet(NamedTuple):
+    """The rows of a sheet by their numbers, and the numbers of rows and of columns that a spreadsheet doesn't show."""
+
+    rows: dict
+    hidden_rows: set = frozenset()
+    hidden_columns: set = frozenset()
+
+
 def read_workbook(file, content, sheet):
-    """The rows of a workbook's table, and their numbers. Where more than one sheet has cells, one has to be named."""
+    """The rows of a workbook's table, their numbers, and notes on what is hidden. Where more than one sheet has cells,
+    one has to be named."""
     read = sheets_of_ods if kind_of(file, content) == ODS_KIND else sheets_of_xlsx
     try:
         sheets = read(file, content)
@@ -29,8 +40,9 @@ def read_workbook(file, content, sheet):
     except Exception as error:
         # What a library makes of a spoiled file may be any of its faults.
         raise Fault(f"{file}: no workbook that can be read ({type(error).__name__}); open it in a spreadsheet and save it anew, or as CSV in UTF-8") from None
-    rows = chosen(file, {name: trimmed(rows) for name, rows in sheets.items()}, sheet)
-    return list(rows.values()), list(rows)
+    sheets = {name: found._replace(rows=trimmed(found.rows)) for name, found in sheets.items()}
+    rows, *hidden = chosen(file, sheets, sheet)
+    return list(rows.values()), list(rows), note_of_hidden(file, rows, *hidden)
 
 
 def kind_of(file, content):
@@ -47,10 +59,10 @@ def chosen(file, sheets, sheet):
         if sheet not in sheets:
             raise Fault(f"{file}: there is no sheet {quoted(sheet)}; say --sheet with one of {names}")
         return sheets[sheet]
-    filled = [rows for rows in sheets.values() if rows]
+    filled = [found for found in sheets.values() if found.rows]
     if len(filled) > 1:
         raise Fault(f"{file}: more than one sheet has cells; say --sheet with one of {names}")
-    return filled[0] if filled else {}
+    return filled[0] if filled else Sheet({})
 
 
 def trimmed(rows):
@@ -78,7 +90,7 @@ def needed(file, kind, library, package):
 
 
 def sheets_of_xlsx(file, content):
-    """The rows of each sheet, by their numbers."""
+    """Each sheet by its name."""
     try:
         import openpyxl
     except ImportError:
@@ -88,7 +100,10 @@ def sheets_of_xlsx(file, content):
         sheets, formulas = (openpyxl.load_workbook(io.BytesIO(content), read_only=True, data_only=values).worksheets for values in (True, False))
         # Without a formula each cell is read once.
         formulas = formulas if has_formulas(content) else [None] * len(sheets)
-        return {sheet.title: dict(rows_of_xlsx(file, sheet, formula)) for sheet, formula in zip(sheets, formulas)}
+        return {
+            sheet.title: Sheet(dict(rows_of_xlsx(file, sheet, formula)), *hidden_in_xlsx(content, sheet))
+            for sheet, formula in zip(sheets, formulas)
+        }
 
 
 def has_formulas(content):
@@ -114,7 +129,7 @@ def no_value(file, line, column):
 
 
 def sheets_of_ods(file, content):
-    """The rows of each sheet, by their numbers."""
+    """Each sheet by its name."""
     try:
         from odf.opendocument import load
         from odf.table import Table, TableRow
@@ -128,7 +143,7 @@ def sheets_of_ods(file, content):
             if any(cells):
                 rows |= dict.fromkeys(range(number, number + min(repeated, MOST_REPEATED)), cells)
             number += repeated
-        sheets[table.getAttribute("name")] = rows
+        sheets[table.getAttribute("name")] = Sheet(rows, *hidden_in_ods(table, repeats))
     return sheets
 
 

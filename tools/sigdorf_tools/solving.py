@@ -15,7 +15,7 @@ SIGNALS = (signal.SIGINT, signal.SIGTERM, signal.SIGHUP)
 ENDED = tuple(128 + number for number in SIGNALS)
 # Up to so many arcs the second checker judges unasked: it takes some seconds for them.
 MOST_FOR_SECOND = 200_000
-PROVED, SECOND = "the proved checker", "the second one"
+PROVED, SECOND = "the proved checker", "the second checker"
 
 
 class Answer(NamedTuple):

@@ -3,7 +3,7 @@ import sys
 import unicodedata
 from typing import NamedTuple
 
-from .faults import Fault, read_bytes
+from .faults import Fault, quoted, read_bytes
 from .json_tables import read_json
 from .sheets import WORKBOOK, read_workbook
 from .text_tables import Text, parted, read_text
@@ -13,8 +13,11 @@ OLD_WORKBOOK = b"\xd0\xcf\x11\xe0\xa1\xb1\x1a\xe1"
 
 
 class Table(NamedTuple):
-    """The cells of each row that isn't empty, the lines where these rows begin, and the lines of empty rows that have cells. Rows and columns are named by places, from 0 on.
-    Of a table whose columns were picked the columns say where these stand in the file. Where the form is known, it is said: what is `pairs` then has their titles on top."""
+    """The cells of each row that isn't empty, the lines where these rows begin, and the lines of empty rows that have
+    cells. Rows and columns are named by places, from 0 on. Of a table whose columns were picked the columns say where
+    these stand in the file. Where the form is known, it is said: what is `pairs` then has their titles on top. Cells
+    with other blanks in them than single ones are kept as they were written, by their places in the file; and there are
+    notes on what may not be meant."""
 
     file: str
     separator: str
@@ -24,12 +27,17 @@ class Table(NamedTuple):
     line_word: str = "line"
     columns: list | None = None
     form: str | None = None
+    blanks: dict = {}
+    notes: list = []
+
+    def column(self, column):
+        """Where a column stands in the file. Of a cell that isn't there the place is after the last one."""
+        if not self.columns:
+            return column
+        return self.columns[column] if column < len(self.columns) else self.columns[-1] + 1
 
     def fault(self, row, column, sentence):
-        if self.columns:
-            # Of a cell that isn't there the place is behind the last one.
-            column = self.columns[column] if column < len(self.columns) else self.columns[-1] + 1
-        return Fault(f"{self.file}, {self.line_word} {self.lines[row]}, column {column + 1}: {sentence}")
+        return Fault(f"{self.file}, {self.line_word} {self.lines[row]}, column {self.column(column) + 1}: {sentence}")
 
     def fault_of_row(self, row, sentence):
         return Fault(f"{self.file}, {self.line_word} {self.lines[row]}: {sentence}")
@@ -48,8 +56,8 @@ def read_source(file, separator=None, sheet=None):
     if content.startswith(OLD_WORKBOOK):
         raise Fault(f"{file}: it is a workbook of an old Excel (.xls); save it as .xlsx, or as CSV in UTF-8")
     if content.startswith(WORKBOOK):
-        rows, lines = read_workbook(file, content, sheet)
-        return table_of(file, ",", rows, lines, False)
+        rows, lines, notes = read_workbook(file, content, sheet)
+        return table_of(file, ",", rows, lines, False)._replace(notes=notes)
     if sheet is not None:
         raise Fault(f"{file}: --sheet is said, and this is no workbook; leave it out")
     if is_json:
@@ -70,20 +78,44 @@ def name_of(file):
 
 def table_of(file, separator, rows, lines, is_plain, line_word="line"):
     """The table of rows, empty ones among them. Where they aren't plain, white space around a cell is left out, and inside it is one space."""
+    written = rows
     if not is_plain:
         rows = [[" ".join(cell.split()) for cell in cells] for cells in rows]
     gaps = [line for line, cells in zip(lines, rows) if len(cells) > 1 and not any(cells)]
     if not all(map(any, rows)):
-        lines = [line for line, cells in zip(lines, rows) if any(cells)]
-        rows = [cells for cells in rows if any(cells)]
+        kept = [place for place, cells in enumerate(rows) if any(cells)]
+        lines, rows, written = ([column[place] for place in kept] for column in (lines, rows, written))
     if not rows:
         raise Fault(f"{file}: the table is empty; put person, object and cost into three columns, or a row for each person")
     table = Table(file, separator, rows, lines, gaps, line_word)
     if max(map(len, rows)) == 1:
         raise table.fault_of_row(0, "no table, since no comma, semicolon or tab parts its columns; save the table as .xlsx, .ods or CSV in UTF-8")
-    if not is_plain:
-        look_for_control_characters(table)
-    return table
+    if is_plain:
+        return table
+    look_for_control_characters(table)
+    return table._replace(blanks=with_odd_blanks(written, rows))
+
+
+def with_odd_blanks(written, rows):
+    """The cells that have other white space in them than single blanks, as they were written, by their places."""
+    changed = (row for row, (before, after) in enumerate(zip(written, rows)) if before != after)
+    cells = ((row, column, cell.strip()) for row in changed for column, cell in enumerate(written[row]))
+    return {(row, column): cell for row, column, cell in cells if cell != rows[row][column]}
+
+
+def look_at_blanks(table, names, place_of):
+    """Names that differ by blanks alone would be one here, and nobody but the planner knows whether they are; each has
+    its place, a row and a column."""
+    seen = {}
+    for place, name in enumerate(names if table.blanks else ()):
+        row, column = place_of(place)
+        written = table.blanks.get((row, table.column(column)), name)
+        before, *there = seen.setdefault(name, (written, row, column))
+        if written != before:
+            is_row, line = there[0] != row, f"{table.line_word} {table.lines[there[0]]}"
+            told = f"{quoted(before)} in {line if is_row else f'column {table.column(there[1]) + 1}'}"
+            way_out = "write both alike, or give each a name of its own"
+            raise table.fault(row, column, f"{quoted(written)} and {told} differ by blanks alone; {way_out}")
 
 
 def look_for_control_characters(table):
@@ -94,8 +126,9 @@ def look_for_control_characters(table):
 
 
 def below_header(table):
-    """A table whose first row is a header, without the columns at its end that have nothing in them, which some programs write behind the last one. The header has to be as long as the rows
-    below it, where these are all of the same length."""
+    """A table whose first row is a header, without the columns at its end that have nothing in them, which some
+    programs write after the last one. The header has to be as long as the rows below it, where these are all of the
+    same length."""
     lengths = {len(cells) for cells in table.rows}
     if table.rows[0][-1] and len(lengths) == 1:
         return table

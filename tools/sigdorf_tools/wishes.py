@@ -1,11 +1,13 @@
 """What planners ask of a plan beside its costs: how many objects a person may take, who may stay free at what price, which pairs are fixed, and which forbidden."""
 import difflib
+import os
 from typing import NamedTuple
 
 from .amounts import NotAnAmount, units_of
 from .faults import Fault, quoted
 from .forms import is_title
 from .models import Model
+from .notes import note
 from .problems import Arcs
 from .tables import columns, read_table
 
@@ -33,7 +35,12 @@ def capacities_said(word, persons):
         return {}
     if word.isdecimal():
         return {None: (f"--capacity {word}", word)}
+    if word != "-" and not os.path.exists(word):
+        wanted = f"a whole number from 0 to {MOST_CAPACITY:,} is wanted, or a file of persons and numbers"
+        raise Fault(f"--capacity {word}: {wanted}, and there is no such file")
     table = read_table(word)
+    for sentence in table.notes:
+        note(sentence)
     found = {}
     for row, cells in enumerate(table.rows):
         if len(cells) != 2:
@@ -42,6 +49,8 @@ def capacities_said(word, persons):
             continue
         if cells[0] in found:
             raise table.fault(row, 0, f"the name {quoted(cells[0])} stands there twice; leave one of the rows out")
+        if cells[0] not in persons:
+            raise table.fault(row, 0, unknown("person", cells[0], persons))
         found[cells[0]] = f"{table.file}, {table.line_word} {table.lines[row]}, column 2", cells[1]
     return found
 
@@ -83,7 +92,6 @@ def model_of(problem, wishes, maximise):
     """The model of a problem and the wishes for its plan."""
     fixed = [pair_of("--fix", word, problem) for word in wishes.fixed]
     forbidden = {pair_of("--forbid", word, problem): word for word in wishes.forbidden}
-    look_for_unknown(wishes, problem)
     has_free = bool(wishes.prices)
     owners, arcs, free, single = [], [], [], set()
     for place, name in enumerate(problem.persons):
@@ -107,14 +115,6 @@ def model_of(problem, wishes, maximise):
     if not owners:
         raise Fault("--capacity: nobody may take anything; give a person a capacity above 0")
     return Model(owners, arcs, free if has_free else [], frozenset(single), len(problem.objects))
-
-
-def look_for_unknown(wishes, problem):
-    names = set(problem.persons)
-    for told in (wishes.capacities, wishes.prices):
-        for name, (place, _) in told.items():
-            if name is not None and name not in names:
-                raise Fault(f"{place}: {unknown('person', name, problem.persons)}")
 
 
 def look_for_doubles(wishes, fixed):

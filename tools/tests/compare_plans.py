@@ -27,7 +27,7 @@ from sigdorf_tools.amounts import amount_of  # noqa: E402
 KINDS = ["plain", "capacity", "capacity-column", "leave-free", "leave-free-column", "fix", "forbid", "second", "fair", "why", "margins"]
 QUESTIONS = {"second", "fair", "why"}
 WISHES = ["capacity", "leave-free", "fix", "forbid"]
-JUDGES = "the proved checker and the second one"
+JUDGES = "checked by the proved checker and by a second one"
 
 
 class Case(NamedTuple):
@@ -173,24 +173,33 @@ def may_take(case):
         yield from ((person, things) for things in [*fixed, *[allowed] * single])
 
 
-def look_at_blame(case, output):
+def within_of(words):
+    """Which plans all that is said is about: all, or those that the wishes allow."""
+    wishes = ("--capacity", "--leave-free", "--fix", "--forbid")
+    return " within the wishes" if any(word.startswith(wishes) for word in words) else ""
+
+
+def look_at_blame(case, output, within):
     """Who is in the way of a plan is: they can't all be served."""
     sentence, *rows = csv.reader(io.StringIO(output))
     persons = {case.persons.index(name) for word, name in rows if word == "person"}
     told = {case.objects.index(name) for word, name in rows if word == "object"}
     copies = list(may_take(case))
-    if sentence[0].startswith("No plan gives every object"):
+    no_plan = f"No plan{within} gives every"
+    if sentence[0].startswith(f"{no_plan} object"):
         able = [person for person, things in copies if things & told]
         assert set(able) == persons and len(able) < len(told), f"who can take too few: {output}"
     else:
         bound = [things for person, things in copies if person in persons and things <= told]
-        assert sentence[0].startswith("No plan gives every person") and len(bound) > len(told) and set().union(*bound) == told, f"who is in the way: {output}"
+        assert sentence[0].startswith(f"{no_plan} person"), output
+        assert len(bound) > len(told) and set().union(*bound) == told, f"who is in the way: {output}"
 
 
-def look_at_summary(case, said, plan, more=""):
-    count, best = len(plan.pairs), "greatest" if case.maximise else "least"
-    words = f"plan: {count} pair{'s' * (count != 1)}, total {case.amount(case.sign() * plan.total)}, proved {best} by {JUDGES}{more}, "
-    assert re.fullmatch(re.escape(words) + r"[0-9]+\.[0-9] s\n", said), f"summary: {said}"
+def look_at_summary(case, said, plan, rank):
+    count = len(plan.pairs)
+    words = f"plan: {count} pair{'s' * (count != 1)}, total {case.amount(case.sign() * plan.total)}, {rank}; {JUDGES}, "
+    lines = [line for line in said.splitlines(keepends=True) if not line.startswith("plan: note: ")]
+    assert re.fullmatch(re.escape(words) + r"[0-9]+\.[0-9] s\n", "".join(lines)), f"summary: {said}"
 
 
 def look_at_reasons(case, output, plans, person):
@@ -228,13 +237,14 @@ def judged(case, kind, folder, draw):
         return judge_margins(case, words, folder, list(plans.values()))
     best = min((plan.total for plan in plans.values()), default=None)
     asked = {"second": ["--second"], "fair": ["--fair"], "why": ["--why", draw.choice(case.persons)]}.get(kind, [])
+    within = within_of(words)
     status, output, said = called("plan", [*words, *asked])
     if best is None:
         if kind in ("second", "why"):
             assert status == 2 and "there is none" in said, said
         else:
-            assert status == 3 and said.startswith(f"plan: there is no plan, proved by {JUDGES}, "), said
-            look_at_blame(case, output)
+            assert status == 3 and said.startswith(f"plan: there is no plan{within}; {JUDGES}, "), said
+            look_at_blame(case, output, within)
         return
     totals = sorted(plan.total for plan in plans.values())
     if kind == "second" and len(totals) == 1:
@@ -247,14 +257,17 @@ def judged(case, kind, folder, draw):
     plan = look_at_plan(case, output, plans.get)
     if kind == "second":
         assert plan.total == totals[1], f"second best {plan.total}, and not {totals[1]}"
-        look_at_summary(case, said, plan, f"; second best: {case.amount(totals[1] - best)} from the best, which has {case.amount(case.sign() * best)}")
+        far = f"{case.amount(totals[1] - best)} from the best, which has {case.amount(case.sign() * best)}"
+        look_at_summary(case, said, plan, f"the second best{within}, {far}")
     elif kind == "fair" and any(plan.costs for plan in plans.values()):
         fairest = min((max(plan.costs), plan.total) for plan in plans.values())
         assert (max(plan.costs), plan.total) == fairest, f"fair {(max(plan.costs), plan.total)}, and not {fairest}"
-        look_at_summary(case, said, plan, f"; the {'least' if case.maximise else 'greatest'} cost is {case.amount(case.sign() * fairest[0])}, and no plan has a better one")
+        words, other = ("least", "greatest") if case.maximise else ("greatest", "least")
+        fair = f"the {words} cost is {case.amount(case.sign() * fairest[0])}, and no plan{within} has a better one"
+        look_at_summary(case, said, plan, f"the {other} of all fair plans{within}: {fair}")
     elif kind != "fair":
         assert plan.total == best, f"total {plan.total}, and not {best}"
-        look_at_summary(case, said, plan)
+        look_at_summary(case, said, plan, f"the {'greatest' if case.maximise else 'least'}{within or ' of all'}")
 
 
 def margins_written(case, words, folder):

@@ -42,7 +42,9 @@ def sound(draw):
         return [f"{draw.choice([*NAMES[3:], 'Wartung der Halle', 'x' * 31])} {number}" for number in range(count)]
 
     if draw.random() < 0.4:
-        pairs = [[person, thing, cost()] for person in named(persons) for thing in named(objects)]
+        # Objects whose names are numbers may be costs of a matrix.
+        things = named(objects) if draw.random() < 0.8 else [str(draw.randrange(99)) for _ in range(objects)]
+        pairs = [[person, thing, cost()] for person in named(persons) for thing in things]
         if draw.random() < 0.4:
             draw.shuffle(pairs)
         pairs = [pair for pair in pairs if draw.random() < draw.choice([0.7, 1])] or pairs

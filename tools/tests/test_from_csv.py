@@ -43,7 +43,8 @@ class Tables(ToolTest):
         self.assertEqual(self.convert("Ada,pump,4\nBen,roof,5\nAda,pump,4.0\n"), "2\n1 1 4\n2 2 5\n")
 
     def test_numbers_as_names(self):
-        self.assertEqual(self.convert("fitter,job,minutes\n1,7,4\n1,8,5\n2,7,6\n"), "2\n1 1 4\n1 2 5\n2 1 6\n")
+        table = "fitter,job,minutes\n1,7,4\n1,8,5\n2,7,6\n"
+        self.assertEqual(self.convert(table, "--pairs"), "2\n1 1 4\n1 2 5\n2 1 6\n")
 
     def test_form_by_word(self):
         table = "fitter,7,8\n1,4,5\n2,6,7\n"
@@ -205,7 +206,7 @@ class Faults(ToolTest):
         "no rows": (",x,y,z\n", [], "line 1", "no person"),
         "titles alone": ("a,b,c\n", [], "line 1, column 3", "no row below"),
         "no number": ("a,x,1\nb,y,2 km\n", [], "line 2, column 3", "`2 km` is no number"),
-        "first row is no title": ("Ada,pump,n/a\nAda,roof,3\n", [], "line 1, column 3", "no title"),
+        "first row is no title": ("Ada,pump,later\nAda,roof,3\n", [], "line 1, column 3", "no title"),
         "exponent": ("a,x,1e3\nb,y,2\n", [], "line 1, column 3", "no number"),
         "infinity": (",x,y\na,1,inf\n", [], "line 2, column 3", "no number"),
         "too many decimals": ("a,x,1\nb,y,2.125\n", ["--decimals", "2"], "line 2, column 3", "--decimals 3"),

@@ -46,7 +46,8 @@ class Pages(ToolTest):
         texts = self.page(EXAMPLES / "crew.csv")
         for part in ("A best plan: the least total is 145.", "Plan", "Cleo", "roof", "145", "Prices", "pump"):
             self.assertIn(part, texts)
-        self.assertIn("proved least by the proved checker", " ".join(texts))
+        self.assertIn("total 145, the least of all; checked by the proved checker and by a second one", " ".join(texts))
+        self.assertNotIn("Wishes", texts)
 
     def test_wishes(self):
         texts = self.page(EXAMPLES / "tours.csv", "--capacity", "2")

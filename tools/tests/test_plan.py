@@ -57,27 +57,38 @@ class Plans(ToolTest):
         self.write("table.csv", ",pump,roof\nAda,40,65\nBen,35,20\n")
         status, output, said = self.call("plan", "table.csv", "--form", "matrix")
         self.assertEqual((status, output), (0, "person,object,cost\nAda,pump,40\nBen,roof,20\ntotal,,60\n"))
-        self.assertRegex(said, r"^plan: 2 pairs, total 60, proved least by the proved checker and the second one, [0-9]+\.[0-9] s\n$")
+        checked = "checked by the proved checker and by a second one"
+        self.assertRegex(said, rf"^plan: 2 pairs, total 60, the least of all; {checked}, [0-9]+\.[0-9] s\n$")
 
     def test_no_plan(self):
         self.write("table.csv", "a,x,1\nb,x,2\nc,y,1\nc,z,1\n")
         status, output, said = self.call("plan", "table.csv")
         self.assertEqual(status, 3)
         self.assertIn("a and b may take x", output)
-        self.assertRegex(said, "^plan: there is no plan, proved by the proved checker and the second one, ")
+        self.assertRegex(said, "^plan: there is no plan; checked by the proved checker and by a second one, ")
+
+    def test_reason_on_the_terminal(self):
+        """Where the answer goes into a file, why there is no plan is told on standard error too, but with --quiet."""
+        self.write("table.csv", "a,x,1\nb,x,2\nc,y,1\nc,z,1\n")
+        status, output, said = self.call("plan", "table.csv", "-o", "plan.csv")
+        reason, last = said.splitlines()
+        wanted = "plan: No plan gives every person an object: a and b may take x, and nothing else."
+        self.assertEqual((status, output, reason), (3, "", wanted))
+        self.assertTrue(last.startswith("plan: there is no plan; checked by "), last)
+        self.assertEqual(self.call("plan", "table.csv", "-o", "plan.csv", "--quiet"), (3, "", ""))
 
     def test_search_that_is_stopped(self):
         self.write("table.csv", "a,x,1\na,y,2\nb,x,1\nb,y,9\n")
         status, output, said = self.call("plan", "table.csv", "--bids", "1")
         self.assertEqual(status, 4)
         self.assertIn("The search was stopped early", output)
-        self.assertRegex(said, "^plan: 2 pairs, total [0-9]+, proved at most [0-9]+ from the best by ")
+        self.assertRegex(said, "^plan: 2 pairs, total [0-9]+, at most [0-9]+ from the best; checked by ")
 
     def test_search_with_time_enough(self):
         self.write("table.csv", "a,x,1\na,y,2\nb,x,1\nb,y,9\n")
         status, output, said = self.call("plan", "table.csv", "--seconds", "1000")
         self.assertEqual(status, 0)
-        self.assertRegex(said, "^plan: 2 pairs, total 3, proved least by ")
+        self.assertRegex(said, "^plan: 2 pairs, total 3, the least of all; checked by ")
 
     def test_unequal_numbers(self):
         self.assertEqual(self.planned(",x,y,z\na,5,4,3\nb,1,2,\n"), "person,object,cost\na,z,3\nb,x,1\n,y,\ntotal,,4\n")
@@ -88,14 +99,7 @@ class Plans(ToolTest):
         for word in "--maximise", "--maximize":
             self.assertEqual(self.planned("a,x,0.5\na,y,0.75\nb,x,0.25\nb,y,1.25\n", word, "--decimals", "2"), "person,object,cost\na,x,0.50\nb,y,1.25\ntotal,,1.75\n")
         self.write("table.csv", "a,x,5\n")
-        self.assertIn("proved greatest by", self.call("plan", "table.csv", "--maximize")[2])
-
-    def test_words_of_the_solver_that_are_at_fault(self):
-        self.write("table.csv", "a,x,1\n")
-        for words in ("--bids", "0"), ("--seconds", "0"), ("--seconds", "5", "--workers", "2"):
-            status, output, said = self.call("plan", "table.csv", *words)
-            self.assertEqual((status, output), (2, ""))
-            self.assertNotIn("Traceback", said)
+        self.assertIn("the greatest of all; checked by", self.call("plan", "table.csv", "--maximize")[2])
 
     def test_second_checker(self):
         """Above 200,000 arcs it judges where that is said."""
@@ -105,8 +109,8 @@ class Plans(ToolTest):
         self.write("table.csv", "\n".join(rows))
         (status, _, said), (again, _, told) = self.answers([("plan", "table.csv"), ("plan", "table.csv", "--second-checker")])
         self.assertEqual((status, again), (0, 0))
-        self.assertRegex(said, "proved least by the proved checker, ")
-        self.assertRegex(told, "proved least by the proved checker and the second one, ")
+        self.assertRegex(said, "the least of all; checked by the proved checker, ")
+        self.assertRegex(told, "the least of all; checked by the proved checker and by a second one, ")
 
 
 class Answers(ToolTest):

@@ -62,7 +62,7 @@ class AllPlans(ToolTest):
                     continue
                 totals = sorted(total for total, _ in every.values())
                 self.assertEqual(answer.claim.cost, totals[0])
-                second = plans.second(model, answer)
+                second, _ = plans.second(model, answer)
                 self.assertEqual(second and second.claim.cost, totals[1] if len(totals) > 1 else None)
                 if model.free or model.dummies() == 0:
                     fair, greatest = plans.fair(model)
@@ -102,7 +102,8 @@ class Wishes(ToolTest):
 
     def test_hall_set_of_copies(self):
         lines = self.planned("A,x,1\nB,x,2\nB,y,2\nC,z,1\nC,w,1\nC,v,1\n", "--capacity", "2", status=3)
-        self.assertEqual(lines, ['"No plan gives every object to somebody: z, w and v can go to C (2 times), and to nobody else."', "person,C", "object,z", "object,w", "object,v"])
+        told = "No plan within the wishes gives every object to somebody"
+        self.assertEqual(lines, [f'"{told}: z, w and v can go to C (2 times), and to nobody else."', "person,C", "object,z", "object,w", "object,v"])
 
     def test_staying_free(self):
         table = "track,spot,distance\na,x,7.5\nb,x,5\nb,y,30\n"
@@ -112,7 +113,8 @@ class Wishes(ToolTest):
         self.assertEqual(self.planned(rows, "--leave-free-column", "ends"), ["track,spot,distance", "a,x,7", "b,,9", ",y,", "total,,16"])
         self.assertEqual(self.planned("a,x,4\nb,x,6\n", "--leave-free", "1", "--maximise"), ["person,object,cost", "b,x,6", "a,,1", "total,,7"])
         lines = self.planned("p,q,c,f\na,x,1,\nb,x,1,\nc,y,1,3\n", "--leave-free-column", "f", status=3)
-        self.assertEqual(lines, ['"No plan gives every person an object: a and b may take x, and nothing else."', "person,a", "person,b", "object,x"])
+        told = "No plan within the wishes gives every person an object: a and b may take x, and nothing else."
+        self.assertEqual(lines, [f'"{told}"', "person,a", "person,b", "object,x"])
 
     def test_who_is_told(self):
         """Nobody is told to take what he may not."""
@@ -134,7 +136,8 @@ class Wishes(ToolTest):
         self.write("table.csv", CREW)
         status, output, said = self.call("plan", "table.csv", "--second")
         self.assertEqual((status, output), (0, "fitter,object,cost\nAda,wiring,30\nBen,pump,35\nCleo,roof,45\ntotal,,110\n"))
-        self.assertIn("second best: 5 from the best, which has 105", said)
+        rank = "the second best, 5 from the best, which has 105"
+        self.assertRegex(said, f"^plan: 3 pairs, total 110, {rank}; checked by the proved checker and by ")
         self.write("table.csv", "a,x,1\n")
         self.assert_fault(self.call("plan", "table.csv", "--second"), "table.csv", "no plan but the best one")
 
@@ -144,7 +147,8 @@ class Wishes(ToolTest):
         self.write("table.csv", "a,x,1\na,y,6\nb,x,5\nb,y,9\n")
         status, output, said = self.call("plan", "table.csv", "--fair")
         self.assertEqual((status, output), (0, "person,object,cost\na,y,6\nb,x,5\ntotal,,11\n"))
-        self.assertIn("the greatest cost is 6, and no plan has a better one", said)
+        rank = "the least of all fair plans: the greatest cost is 6, and no plan has a better one"
+        self.assertRegex(said, f"^plan: 2 pairs, total 11, {rank}; checked by ")
         self.assertEqual(self.planned("a,x,1\na,y,6\nb,x,5\nb,y,11\n", "--fair", "--maximise")[-1], "total,,11")
         # Who could take one more is none who stays free.
         self.write("table.csv", "a,x,4\na,y,5\nb,y,6\n")
@@ -158,7 +162,9 @@ class Wishes(ToolTest):
         self.assertEqual((own[:2], own[4:], other[:2], other[4:]), (["wiring", "20"], ["", "Ben"], ["pump", "35"], ["5", "Ada"]))
         self.assertEqual((int(own[1]) + int(own[2]), int(other[1]) + int(other[2])), (int(own[3]), int(other[3])))
         self.assertLessEqual(int(own[3]), int(other[3]))
-        self.assertIn("Ben has wiring", lines[3])
+        told = "Ben has wiring: at these prices everybody has what is least, with its price."
+        more = "Any plan that gives Ben another one of these rows costs at least `worse by` more."
+        self.assertEqual(lines[3], f'"{told} {more}"')
         told = json.loads("\n".join(self.planned(CREW.replace(",", ";"), "--why", "Ben", "--json")))
         self.assertEqual(told["objects"][0], dict(object="wiring", cost=20, price=told["objects"][0]["price"], together=told["objects"][0]["together"], holder="Ben"))
         self.assertEqual((told["objects"][1]["object"], told["objects"][1]["worse_by"], told["objects"][1]["holder"]), ("pump", 5, "Ada"))
@@ -184,7 +190,7 @@ class Wishes(ToolTest):
             (["--fix", "Ada=roof", "--forbid", "Ada=roof"], "--fix Ada=roof", "forbids"),
             (["--forbid", "Ada=rof"], "no object `rof`"),
             (["--capacity", "nosuch.csv"], "nosuch.csv"),
-            (["--capacity", "capacities.csv"], "capacities.csv, line 2, column 2", "`Dan`"),
+            (["--capacity", "capacities.csv"], "capacities.csv, line 2, column 1", "`Dan`"),
             (["--capacity", "twice.csv"], "twice.csv, line 2, column 1", "twice"),
             (["--capacity", "bad.csv"], "bad.csv, line 2, column 2", "`few`"),
             (["--capacity", "first.csv"], "first.csv, line 1, column 2", "`few`"),

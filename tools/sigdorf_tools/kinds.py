@@ -1,0 +1,100 @@
+"""What was asked for, and of which plans an answer is the least. It is told alike in the line on standard error, in
+JSON and on the page."""
+from typing import NamedTuple
+
+# What an answer is called for programs, where the search came to its end.
+ANSWERS = {"best": "best", "second": "second best", "fair": "fair"}
+# Options that narrow which plans there are: those that are said once, and those that may be said more often.
+SINGLE, SEVERAL = ("capacity", "capacity_column", "leave_free", "leave_free_column"), ("fix", "forbid")
+JUDGES = ["the proved checker", "a second one"]
+
+
+class Asked(NamedTuple):
+    """The kind of plan, `best`, `second` or `fair`; the wishes for it, as they were said; and what stands beside its
+    total: of a second best plan the total of the best one, of a fair plan the cost that no plan betters."""
+
+    kind: str = "best"
+    wishes: tuple = ()
+    beside: int | None = None
+
+    def within(self):
+        """Which plans all that is said is about: all, or those that the wishes allow."""
+        return " within the wishes" if self.wishes else ""
+
+    def fields(self, names, number):
+        """What JSON tells of it; number makes a number of an amount."""
+        told = {"kind": self.kind, "wishes": list(self.wishes)}
+        if self.beside is None:
+            return told
+        title = "best_total" if self.kind == "second" else "least_cost" if names.maximise else "greatest_cost"
+        return told | {title: number(names.amount(self.beside))}
+
+
+def wishes_said(words):
+    """The wishes that the words of a command tell, one by one."""
+    said = [(option, getattr(words, option)) for option in SINGLE if getattr(words, option) is not None]
+    said += [(option, word) for option in SEVERAL for word in getattr(words, option)]
+    return tuple(f"--{option.replace('_', '-')} {word}" for option, word in said)
+
+
+def fairness(names, asked):
+    """What a fair plan is fair by."""
+    word, cost = "least" if names.maximise else "greatest", names.amount(asked.beside)
+    return f"the {word} cost is {cost}, and no plan{asked.within()} has a better one"
+
+
+def gap_of(names, claim):
+    """How far a plan is from the best one at most."""
+    return names._replace(maximise=False).amount(claim.cost - claim.lower)
+
+
+def sentence_of_plan(names, claim, asked):
+    """A plan in one sentence."""
+    if claim.kind == "bracket":
+        return sentence_of_bracket(names, claim, asked)
+    best, total, within = "greatest" if names.maximise else "least", names.amount(claim.cost), asked.within()
+    if asked.kind == "second":
+        of_best = names.amount(asked.beside)
+        return f"The second best plan{within}: its total is {total}, and that of the best one is {of_best}."
+    if asked.kind == "fair":
+        fair = fairness(names, asked)
+        return f"A fair plan{within}: {fair}; of the plans that have it the {best} total is {total}."
+    return f"A best plan{within}: the {best} total{' that they allow' if asked.wishes else ''} is {total}."
+
+
+def sentence_of_bracket(names, claim, asked):
+    """A plan of a search that was stopped, in one sentence."""
+    fair = f" {fairness(names, asked)}; of the plans that have it" if asked.kind == "fair" else ""
+    within = "" if fair else asked.within()
+    far = f"this plan is at most {gap_of(names, claim)} from the best{within}"
+    bound = f"no total{within} is {'above' if names.maximise else 'below'} {names.amount(claim.lower)}"
+    return f"The search was stopped early:{fair} {far}, and {bound}."
+
+
+def rank_of(names, claim, asked):
+    """Of which plans the total is the least, or how far from it, in half a sentence."""
+    within = asked.within()
+    if asked.kind == "second":
+        gap = names._replace(maximise=False).amount(claim.cost - asked.beside)
+        return f"the second best{within}, {gap} from the best, which has {names.amount(asked.beside)}"
+    is_best, told = claim.kind == "optimal", f"the {'greatest' if names.maximise else 'least'}"
+    told = told if is_best else f"at most {gap_of(names, claim)} from the best"
+    if asked.kind == "fair":
+        return f"{told} of all fair plans{within}: {fairness(names, asked)}"
+    return told + (within or (" of all" if is_best else ""))
+
+
+def among(names, asked):
+    """Among what everybody has the best for himself at the prices of an answer, which are of the problem that it
+    solves."""
+    if asked.kind == "second":
+        return f" of all{asked.within()} but one thing that the best plan has and this one mustn't"
+    if asked.kind == "fair":
+        limit = f"at {'least' if names.maximise else 'most'} {names.amount(asked.beside)}"
+        return f" of all pairs{asked.within()} that cost {limit}"
+    return " of all that the wishes allow" if asked.wishes else ""
+
+
+def judged_by(judges):
+    """Who looked whether an answer is true."""
+    return f"checked by {' and by '.join(JUDGES[: len(judges)])}"

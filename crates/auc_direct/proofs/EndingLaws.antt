@@ -6,7 +6,10 @@ use Rattle.auc_cert.specs.declared.reason.Reason.{Reason}
 use Rattle.auc_rows.specs.declared.arc.ShortArc.{ShortArc}
 use Rattle.auc_rows.specs.Rows.{FlatTable}
 use Rattle.auc_direct.specs.declared.ending.Ending.{Ending}
-use Rattle.auc_direct.specs.Endings.{IsEnding, IsLeft, IsLimit, IsSold, IsStopped}
+use Rattle.auc_cert.specs.declared.cert.CertParts.{CertParts}
+use Rattle.auc_graph.specs.Problem.{Problem}
+use Rattle.auc_answers.specs.declared.answer.Answer.{Answer}
+use Rattle.auc_direct.specs.Endings.{IsLimited, IsLimitedBy, IsEnding, IsLeft, IsLimit, IsSold, IsStopped}
 use Rattle.auc_direct.specs.Market.{Stands}
 
 -- a limit of a phase is one of a run that began with no greater sum
@@ -36,3 +39,15 @@ pub stopped_before : (told : Bool) (r : FlatTable) (bids : ℕ) (begun after : �
 stopped_before told r bids begun after ending prices le (inl e) = inl e
 stopped_before told r bids begun after Ending.Sold prices le (inr is) = inr tt
 stopped_before told r bids begun after (Ending.Stopped reason) prices le (inr is) = inr (limit_earlier r bids begun after reason prices le is)
+
+limited_by : (p : Problem) (bids : ℕ) (begun after : ℤ) (cert : CertParts) → begun ≤ℤ after → IsLimitedBy p bids after cert → IsLimitedBy p bids begun cert
+limited_by p bids begun after (CertParts.Optimal cost choice prices) le h = tt
+limited_by p bids begun after (CertParts.Infeasible persons objects) le h = tt
+limited_by p bids begun after (CertParts.Bracket reason lower cost choice prices) le (t, r, of, same, limit) = (t, r, of, same, limit_earlier r bids begun after reason prices le limit)
+
+-- what has risen so far above a sum has risen as far above a lesser one
+pub limited_earlier : (p : Problem) (bids : ℕ) (begun after : ℤ) (answer : Answer) → begun ≤ℤ after → IsLimited p bids after answer → IsLimited p bids begun answer
+limited_earlier p bids begun after (Answer.Optimal cert) le h = tt
+limited_earlier p bids begun after (Answer.Infeasible cert) le h = tt
+limited_earlier p bids begun after (Answer.Bracket cert) le h = limited_by p bids begun after cert le h
+limited_earlier p bids begun after (Answer.Broken guard) le h = tt

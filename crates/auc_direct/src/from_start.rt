@@ -74,7 +74,7 @@ pub(crate) fn play_from<W: Watch>(
         return match market.play_early(rows, bids, LOOKS_FROM_START, &mut work, watch)? {
             Some(ending) => Ok(Outcome { ending, market }),
             None => {
-                let eps = first_eps(rows);
+                let eps = first_eps(rows, market.prices.as_slice());
                 let patience = patience_at(rows, eps);
                 play_phases(alloc, rows, bids, eps, patience, market, work, watch)
             }

@@ -16,6 +16,7 @@ use crate::from_start::{play_from, play_from_unasked};
 use crate::gathering::gather;
 use crate::greedy::serves_all;
 use crate::phases::{Outcome, play_all, play_quickly};
+use crate::reduce::start_prices;
 use crate::watch::{Onward, Watch};
 use auc_answers::finish::{bracket, proved_optimal};
 use auc_answers::{Answer, Gathered, Prepared, prepare};
@@ -107,8 +108,8 @@ fn solve_quickly<W: Watch>(
     if !flat.each_has_arc() {
         return Ok(None);
     }
-    let prices = vec![in alloc; 0; flat.objects() as usize]?;
-    let eps = first_eps(&flat);
+    let prices = start_prices(alloc, &flat)?;
+    let eps = first_eps(&flat, prices.as_slice());
     let Some(outcome) = play_quickly(alloc, &flat, bids, eps, prices, watch)? else {
         return Ok(None);
     };
@@ -271,8 +272,8 @@ pub fn solve_direct_watched<W: Watch>(
         return Ok(answer);
     }
     let flat = FlatRows::build(alloc, problem)?;
-    let prices = vec![in alloc; 0; flat.objects() as usize]?;
-    let eps = first_eps(&flat);
+    let prices = start_prices(alloc, &flat)?;
+    let eps = first_eps(&flat, prices.as_slice());
     solve_rows(alloc, problem, flat, limits.bids, eps, prices, watch)
 }
 

@@ -127,7 +127,7 @@ of_answers P Q (Err e) f h = tt
 
 pub left_stands : (r : FlatTable) (ending : Ending) (prices : List ℤ) (holders : List ℕ) (owns : List ShortArc) → IsLeft r ending prices holders owns → (eps : ℤ) × Stands r eps prices holders owns
 left_stands r Ending.Sold prices holders owns h = (pos 1, h.0)
-left_stands r (Ending.Stopped reason) prices holders owns h = h
+left_stands r (Ending.Stopped reason) prices holders owns h = (h.0, h.1)
 
 length_zero : {X : Type 0} (xs : List X) → length xs ≡ 0 → xs ≡ []
 length_zero [] e = refl

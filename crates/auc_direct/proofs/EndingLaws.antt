@@ -14,7 +14,7 @@ use Rattle.auc_direct.specs.Market.{Stands}
 
 -- a limit of a phase is one of a run that began with no greater sum
 limit_earlier : (r : FlatTable) (bids : ℕ) (begun after : ℤ) (reason : Reason) (prices : List ℤ) → begun ≤ℤ after → IsLimit r bids after reason prices → IsLimit r bids begun reason prices
-limit_earlier r bids begun after Reason.Bids prices le h = omega (arith, ints, le, h)
+limit_earlier r bids begun after Reason.Bids prices le h = (h.0, (let s = h.1 in omega (arith, ints, le, s)))
 limit_earlier r bids begun after Reason.Ceiling prices le h = h
 limit_earlier r bids begun after Reason.Posts prices le h = h
 limit_earlier r bids begun after Reason.Trail prices le h = h
@@ -24,10 +24,19 @@ pub ended_stopped : (r : FlatTable) (bids : ℕ) (begun after : ℤ) (ending : E
 ended_stopped r bids begun after Ending.Sold prices owns le is = tt
 ended_stopped r bids begun after (Ending.Stopped reason) prices owns le is = limit_earlier r bids begun after reason prices le is
 
+-- each ending is one of a run in one hand
+pub ending_sold : (r : FlatTable) (bids : ℕ) (begun : ℤ) (ending : Ending) (prices : List ℤ) (owns : List ShortArc) → IsEnding r bids begun ending prices owns → IsSold r ending owns
+ending_sold r bids begun Ending.Sold prices owns is = is
+ending_sold r bids begun (Ending.Stopped Reason.Bids) prices owns is = tt
+ending_sold r bids begun (Ending.Stopped Reason.Ceiling) prices owns is = tt
+ending_sold r bids begun (Ending.Stopped Reason.Posts) prices owns is = absurd is
+ending_sold r bids begun (Ending.Stopped Reason.Trail) prices owns is = absurd is
+ending_sold r bids begun (Ending.Stopped Reason.Mail) prices owns is = absurd is
+
 -- what a phase leaves is what all leave, where it was the last
 pub sold_left : (r : FlatTable) (eps : ℤ) (ending : Ending) (prices : List ℤ) (holders : List ℕ) (owns : List ShortArc) → Stands r eps prices holders owns → IsSold r ending owns → (ending ≡ Ending.Sold → eps ≡ pos 1) → IsLeft r ending prices holders owns
 sold_left r eps Ending.Sold prices holders owns stands is last = (subst (λ (e : ℤ). Stands r e prices holders owns) (last refl) stands, is)
-sold_left r eps (Ending.Stopped reason) prices holders owns stands is last = (eps, stands)
+sold_left r eps (Ending.Stopped reason) prices holders owns stands is last = (eps, stands, is)
 
 -- only a limit has stopped the run, or who watched it
 pub watched_stopped : (told : Bool) (r : FlatTable) (bids : ℕ) (begun after : ℤ) (ending : Ending) (prices : List ℤ) (owns : List ShortArc) → begun ≤ℤ after → (told ≡ true) ⊎ IsEnding r bids after ending prices owns → (told ≡ true) ⊎ IsStopped r bids begun ending prices

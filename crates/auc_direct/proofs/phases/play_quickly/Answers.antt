@@ -24,6 +24,7 @@ returns-then-not-goes_on-clause-left g c = (
       let start = subst (IsStart c.args.rows.now c.args.eps) (sym c.in_ok-market.ensures.prices) c.requires.start in
       stands_opened c.args.rows.now c.args.eps c.args.eps c.in_ok-market.market.prices.items c.in_ok-market.market.holders.items c.in_ok-market.market.owns.items (length c.args.prices.items) c.persons-2.result start c.requires.start.each c.persons-2.ensures.persons c.in_ok-market.ensures.holders c.in_ok-market.ensures.owns
       ),
+  tt,
 )
 
 pub returns-in-Some-early-clause-stopped : goal.returns-in-Some-early-clause-stopped

@@ -1,7 +1,9 @@
-use Rattle.std.proofs.Common.{◌≡◌, length, pos, replicate, rules, subst, true, w64, ℤ}
-use Rattle.std.specs.Prelude.{FitsSigned, IfOk, ◌⊎◌}
+use Rattle.std.proofs.Common.{◌≡◌, length, pos, replicate, rules, subst, w64, ℤ}
+use Rattle.std.specs.Prelude.{FitsSigned, ◌⊎◌}
 use Rattle.std.proofs.lemmas.Int.{to_z-of_z}
-use Rattle.auc_direct.specs.Endings.{IsLimited}
+use Rattle.auc_graph.specs.Assignment.{total}
+use Rattle.auc_direct.specs.Endings.{IsLimited, IsLimitedUnless}
+use Rattle.auc_direct.proofs.Answering.{limit_since, of_answers}
 use Rattle.auc_direct.proofs.Opening.{start_none, total_none}
 use Rattle.auc_direct.proofs.solving.solve_direct_watched.Goals as goal
 
@@ -15,4 +17,8 @@ solve_rows-requires-clause-start g c =
 pub returns-clause-limit : goal.returns-clause-limit
 returns-clause-limit g c =
     let zeros : c.in_ok-prices.prices.items ≡ replicate c.objects.result (pos 0) = search rules in
-    subst (λ (z : ℤ). IfOk c.solve_rows.result (λ a. (g.W.Watch.has_stopped c.solve_rows.new.watch ≡ true) ⊎ IsLimited c.args.problem.now c.args.limits.now.bids z a)) (total_none c.objects.result c.in_ok-prices.prices.items zeros) c.solve_rows.ensures.limit
+    let going : g.W.Watch.has_stopped c.solve_quickly.new.watch ≡ g.W.Watch.has_stopped c.args.watch.now = search rules in
+    of_answers (λ a. IsLimitedUnless (g.W.Watch.has_stopped c.solve_quickly.new.watch) (g.W.Watch.has_stopped c.solve_rows.new.watch) a (IsLimited c.args.problem.now c.args.limits.now.bids (total c.in_ok-prices.prices.items) a)) (λ a. IsLimitedUnless (g.W.Watch.has_stopped c.args.watch.now) (g.W.Watch.has_stopped c.solve_rows.new.watch) a (IsLimited c.args.problem.now c.args.limits.now.bids (pos 0) a)) c.solve_rows.result
+    (λ a h. limit_since (g.W.Watch.has_stopped c.args.watch.now) (g.W.Watch.has_stopped c.solve_quickly.new.watch) (g.W.Watch.has_stopped c.solve_rows.new.watch) a (IsLimited c.args.problem.now c.args.limits.now.bids (pos 0) a) going
+    (subst (λ (z : ℤ). IsLimitedUnless (g.W.Watch.has_stopped c.solve_quickly.new.watch) (g.W.Watch.has_stopped c.solve_rows.new.watch) a (IsLimited c.args.problem.now c.args.limits.now.bids z a)) (total_none c.objects.result c.in_ok-prices.prices.items zeros) h))
+    c.solve_rows.ensures.limit

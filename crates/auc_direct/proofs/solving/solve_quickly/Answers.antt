@@ -1,8 +1,9 @@
-use Rattle.std.proofs.Common.{◌≡◌, inl, inr, length, pos, replicate, rules, subst, w64, ℤ}
+use Rattle.std.proofs.Common.{◌≡◌, length, pos, replicate, rules, subst, w64, ℤ}
 use Rattle.std.specs.Prelude.{FitsSigned, ◌⊎◌}
 use Rattle.std.proofs.lemmas.Int.{to_z-of_z}
 use Rattle.auc_graph.specs.Assignment.{total}
-use Rattle.auc_direct.specs.Endings.{IsLimited}
+use Rattle.auc_direct.specs.Endings.{IsLimited, IsStopped}
+use Rattle.auc_direct.proofs.Answering.{answer_limit_or_told}
 use Rattle.auc_direct.proofs.Opening.{start_none, total_none}
 use Rattle.auc_direct.proofs.solving.solve_quickly.Goals as goal
 
@@ -20,7 +21,6 @@ returns-clause-limit g c =
     let answer = c.in_ok-answer.answer in
     let zeros : prices ≡ replicate c.objects-2.result (pos 0) = search rules in
     let stopped = rw c.in-Some.is at c.in_ok-outcome.ensures.stopped in
-    elim stopped [
-      | inl told ↦ inl told
-      | inr limit ↦ inr (subst (λ (z : ℤ). IsLimited p c.args.bids z answer) (total_none c.objects-2.result prices zeros) (c.in_ok-answer.ensures.limit c.args.bids (total prices) limit))
-    ]
+    let left = c.in-Some.outcome in
+    answer_limit_or_told (g.W.Watch.has_stopped c.args.watch.now) (g.W.Watch.has_stopped c.play_quickly.new.watch) left.ending answer (IsLimited p c.args.bids (pos 0) answer) (IsStopped c.in_ok-flat.flat c.args.bids (total prices) left.ending left.market.prices.items) stopped c.in_ok-answer.ensures.told
+    (λ limit. subst (λ (z : ℤ). IsLimited p c.args.bids z answer) (total_none c.objects-2.result prices zeros) (c.in_ok-answer.ensures.limit c.args.bids (total prices) limit))

@@ -80,12 +80,16 @@ abbrev pub IsStopped : FlatTable → ℕ → ℤ → Ending → List ℤ → Typ
 IsStopped r bids begun Ending.Sold prices = Unit {0}
 IsStopped r bids begun (Ending.Stopped reason) prices = IsLimit r bids begun reason prices
 
+-- What a run comes to that somebody watches, of whom it is known whether he had said no before it and has said no after it: he has said no, and it ends as one whose bids have run out; or he has said no more than before, and this holds.
+abbrev pub IsToldOr : Bool → Bool → Ending → Type 0 → Type 0
+IsToldOr before after ending Holds = ((after ≡ true) × (ending ≡ Ending.Stopped Reason.Bids)) ⊎ ((after ≡ before) × Holds)
+
 -- what a run from start prices comes to: it began with what its opening has left of them, and only a limit has stopped it, or who watched it
-pub record IsOutcomeFrom (r : FlatTable) (bids : ℕ) (start : List ℤ) (told : Bool) (ending : Ending) (prices : List ℤ) (holders : List ℕ) (owns : List ShortArc) : Type 0 where
+pub record IsOutcomeFrom (r : FlatTable) (bids : ℕ) (start : List ℤ) (before after : Bool) (ending : Ending) (prices : List ℤ) (holders : List ℕ) (owns : List ShortArc) : Type 0 where
   pub left : IsLeft r ending prices holders owns
   pub begun : List ℤ
   pub opened : AreOpened r.objects (length r.rows) start begun
-  pub stopped : (told ≡ true) ⊎ IsStopped r bids (total begun) ending prices
+  pub stopped : IsToldOr before after ending (IsStopped r bids (total begun) ending prices)
 
 abbrev pub IsLimitedBy : Problem → ℕ → ℤ → CertParts → Type 0
 IsLimitedBy p bids begun (CertParts.Optimal cost choice prices) = Unit {0}
@@ -104,6 +108,22 @@ pub record IsLimitedFrom (p : Problem) (bids : ℕ) (start : List ℤ) (answer :
   pub begun : List ℤ
   pub opened : AreOpened p.objects p.persons start begun
   pub limited : IsLimited p bids (total begun) answer
+
+abbrev pub HasReason : Reason → CertParts → Type 0
+HasReason reason (CertParts.Optimal cost choice prices) = ⊥
+HasReason reason (CertParts.Infeasible persons objects) = ⊥
+HasReason reason (CertParts.Bracket told lower cost choice prices) = told ≡ reason
+
+-- what is answered where who watches a run has stopped it: a bracket, with the reason that bids ran out; or that there is no assignment
+abbrev pub IsStopTold : Answer → Type 0
+IsStopTold (Answer.Optimal cert) = ⊥
+IsStopTold (Answer.Infeasible cert) = Unit {0}
+IsStopTold (Answer.Bracket cert) = HasReason Reason.Bids cert
+IsStopTold (Answer.Broken guard) = ⊥
+
+-- What is answered of a run that somebody watches: he has said no, and that is told; or he has said no more than before the call, and this holds.
+abbrev pub IsLimitedUnless : Bool → Bool → Answer → Type 0 → Type 0
+IsLimitedUnless before after answer Holds = ((after ≡ true) × IsStopTold answer) ⊎ ((after ≡ before) × Holds)
 
 -- A path leaves what stands between two bids, the person has an object, nobody else has got or lost one, and no price has fallen; or nothing has changed.
 abbrev pub IsPathStep : FlatTable → ℤ → ℕ → PathStep → List ℤ → List ℕ → List ShortArc → List ℤ → List ℕ → List ShortArc → Type 0

@@ -23,6 +23,10 @@ struct Ear {
 impl Watch for Ear {
     ghost has_stopped = { λ _. false };
 
+    fn has_said_no(&self) -> bool {
+        false
+    }
+
     fn goes_on(&mut self, progress: Progress) -> bool {
         if self.questions == 0 {
             self.first = progress.eps;

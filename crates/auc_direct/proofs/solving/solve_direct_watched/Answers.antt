@@ -1,11 +1,10 @@
-use Rattle.std.proofs.Common.{◌≡◌, inl, inr, length, pos, refl, rules, true, w64}
+use Rattle.std.proofs.Common.{◌≡◌, inr, length, pos, refl, rules, w64}
 use Rattle.std.specs.Prelude.{FitsSigned, ◌⊎◌}
 use Rattle.std.proofs.lemmas.Int.{to_z-of_z}
 use Rattle.auc_graph.specs.Assignment.{total}
-use Rattle.auc_answers.specs.declared.answer.Answer.{Answer}
-use Rattle.auc_direct.specs.Endings.{IsLimited, IsStart}
-use Rattle.auc_direct.proofs.Answering.{of_answers}
-use Rattle.auc_direct.proofs.EndingLaws.{limited_earlier}
+use Rattle.auc_direct.specs.Endings.{IsLimited, IsLimitedUnless, IsStart}
+use Rattle.auc_direct.proofs.Answering.{limit_since, of_answers}
+use Rattle.auc_direct.proofs.EndingLaws.{limited_earlier_unless}
 use Rattle.auc_direct.proofs.Opening.{start_low}
 use Rattle.auc_direct.proofs.solving.solve_direct_watched.Goals as goal
 
@@ -20,12 +19,14 @@ returns-clause-limit g c =
     let p = c.args.problem.now in
     let bids = c.args.limits.now.bids in
     let prices = c.in_ok-prices.prices.items in
+    let before = g.W.Watch.has_stopped c.args.watch.now in
+    let between = g.W.Watch.has_stopped c.solve_quickly.new.watch in
+    let after = g.W.Watch.has_stopped c.solve_rows.new.watch in
     let begun : IsStart c.in_ok-flat.flat (pos 1) prices = c.in_ok-prices.ensures (pos 1) (inr refl) in
-    of_answers (λ (a : Answer). (g.W.Watch.has_stopped c.solve_rows.new.watch ≡ true) ⊎ IsLimited p bids (total prices) a) (λ (a : Answer). (g.W.Watch.has_stopped c.solve_rows.new.watch ≡ true) ⊎ IsLimited p bids (pos 0) a) c.solve_rows.result
-    (λ a h. elim h [
-      | inl told ↦ inl told
-      | inr limit ↦ inr (limited_earlier p bids (pos 0) (total prices) a (start_low c.in_ok-flat.flat (pos 1) prices begun) limit)
-    ]) c.solve_rows.ensures.limit
+    let going : g.W.Watch.has_stopped c.solve_quickly.new.watch ≡ g.W.Watch.has_stopped c.args.watch.now = search rules in
+    of_answers (λ a. IsLimitedUnless between after a (IsLimited p bids (total prices) a)) (λ a. IsLimitedUnless before after a (IsLimited p bids (pos 0) a)) c.solve_rows.result
+    (λ a h. limit_since before between after a (IsLimited p bids (pos 0) a) going (limited_earlier_unless between after p bids (pos 0) (total prices) a (start_low c.in_ok-flat.flat (pos 1) prices begun) h))
+    c.solve_rows.ensures.limit
 
 pub first_eps-eps-requires-clause-many : goal.first_eps-eps-requires-clause-many
 first_eps-eps-requires-clause-many g c =

@@ -1,8 +1,9 @@
-use Rattle.std.proofs.Common.{◌≡◌, inl, inr, length, pos, refl, rules, w64}
+use Rattle.std.proofs.Common.{◌≡◌, inr, length, pos, refl, rules, w64}
 use Rattle.std.specs.Prelude.{FitsSigned, ◌⊎◌}
 use Rattle.std.proofs.lemmas.Int.{to_z-of_z}
 use Rattle.auc_graph.specs.Assignment.{total}
-use Rattle.auc_direct.specs.Endings.{IsStart}
+use Rattle.auc_direct.specs.Endings.{IsLimited, IsStart, IsStopped}
+use Rattle.auc_direct.proofs.Answering.{answer_limit_or_told}
 use Rattle.auc_direct.proofs.EndingLaws.{limited_earlier}
 use Rattle.auc_direct.proofs.Opening.{start_low}
 use Rattle.auc_direct.proofs.solving.solve_quickly.Goals as goal
@@ -20,10 +21,9 @@ returns-clause-limit g c =
     let answer = c.in_ok-answer.answer in
     let begun : IsStart c.in_ok-flat.flat (pos 1) prices = c.in_ok-prices.ensures (pos 1) (inr refl) in
     let stopped = rw c.in-Some.is at c.in_ok-outcome.ensures.stopped in
-    elim stopped [
-      | inl told ↦ inl told
-      | inr limit ↦ inr (limited_earlier p c.args.bids (pos 0) (total prices) answer (start_low c.in_ok-flat.flat (pos 1) prices begun) (c.in_ok-answer.ensures.limit c.args.bids (total prices) limit))
-    ]
+    let left = c.in-Some.outcome in
+    answer_limit_or_told (g.W.Watch.has_stopped c.args.watch.now) (g.W.Watch.has_stopped c.play_quickly.new.watch) left.ending answer (IsLimited p c.args.bids (pos 0) answer) (IsStopped c.in_ok-flat.flat c.args.bids (total prices) left.ending left.market.prices.items) stopped c.in_ok-answer.ensures.told
+    (λ limit. limited_earlier p c.args.bids (pos 0) (total prices) answer (start_low c.in_ok-flat.flat (pos 1) prices begun) (c.in_ok-answer.ensures.limit c.args.bids (total prices) limit))
 
 pub first_eps-eps-requires-clause-many : goal.first_eps-eps-requires-clause-many
 first_eps-eps-requires-clause-many g c =

@@ -1,4 +1,4 @@
-use Rattle.std.proofs.Common.{◌-◌, ◌≤◌, arith, refl, rules, sym, subst, w64}
+use Rattle.std.proofs.Common.{◌-◌, ◌≡◌, ◌∙◌, ◌≤◌, true, arith, refl, rules, sym, subst, w64}
 use Rattle.std.specs.Prelude.{FitsSigned}
 use Rattle.std.proofs.lemmas.Int.{ints, to_z-of_z}
 use Rattle.auc_graph.specs.Assignment.{total}
@@ -11,11 +11,12 @@ use Rattle.auc_direct.proofs.market.Market.play_asked.Goals as goal
 pub loop-eps-init : goal.loop-eps-init
 loop-eps-init g c =
     let f1 : FitsSigned w64 c.args.eps = c.ranges.eps in
-    simp to_z-of_z (record { stands = c.requires.stands; clean = c.requires.clean; kept = c.requires.kept; raised = omega (arith, ints); fewer = omega arith; made = made_none c.args.rows.now c.args.eps c.args.bids (state_of c.args.self.now) })
+    simp to_z-of_z (record { stands = c.requires.stands; clean = c.requires.clean; kept = c.requires.kept; raised = omega (arith, ints); fewer = omega arith; made = made_none c.args.rows.now c.args.eps c.args.bids (state_of c.args.self.now); asked = refl })
 
 pub loop-eps-preserved : goal.loop-eps-preserved
 loop-eps-preserved g c =
     let f1 : FitsSigned w64 c.args.eps = c.ranges.eps in
+    let on : c.may_go_on.result ≡ true = search rules in
     let inv = c.loop-eps.invariant in
     let after = simp to_z-of_z at c.in_ok-ending.ensures in
     let out = c.if-not-ran_out.ensures.yes refl in
@@ -31,6 +32,7 @@ loop-eps-preserved g c =
       raised = omega (arith, ints, r, s, le);
       fewer = omega (arith, l);
       made = made_slice c.args.rows.now c.args.eps c.args.bids c.loop-eps.left c.min-slice.result c.in_ok-ending.ending (state_of c.args.self.now) (state_of c.loop-eps.self) (state_of c.play.new.self) out le (simp to_z-of_z at inv.made) after.made;
+      asked = c.may_go_on.ensures.yes on ∙ inv.asked;
     })
 
 pub returns-then-left-eq0-clause-ending : goal.returns-then-left-eq0-clause-ending

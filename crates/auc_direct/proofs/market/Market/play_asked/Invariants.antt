@@ -1,4 +1,4 @@
-use Rattle.std.proofs.Common.{pos, ◌≤◌}
+use Rattle.std.proofs.Common.{pos, ◌≡◌, ◌≤◌}
 use Rattle.std.specs.Prelude.{◌+ℤ◌, ◌≤ℤ◌}
 use Rattle.auc_graph.specs.Assignment.{total}
 use Rattle.std.specs.BinaryHeap.{heap_items}
@@ -16,6 +16,7 @@ invariant-loop-eps g l = record {
   raised : (total l.fn.self.prices.items +ℤ pos l.bids) ≤ℤ (total l.self.prices.items +ℤ pos l.left);
   fewer : l.left ≤ l.bids;
   made : AreSpent l.rows l.eps l.bids l.left (state_of l.fn.self) (state_of l.self);
+  asked : g.W.Watch.has_stopped l.watch ≡ g.W.Watch.has_stopped l.fn.watch;
 }
 
 abbrev pub decreases-loop-eps : goal.decreases-loop-eps

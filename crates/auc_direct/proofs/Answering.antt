@@ -1,11 +1,12 @@
 -- What the last phase leaves is an answer.
-use Rattle.std.proofs.Common.{Bool, true, false, ℕ, ℤ, pos, ◌≡◌, ◌<◌, refl, arith, inl, inr, List, [], ◌∷◌, length, get_or, map, Contains, Option, Some, ap, sym, subst, ◌∙◌}
+use Rattle.std.proofs.Common.{Bool, false, ℕ, ℤ, pos, ◌≡◌, ◌<◌, refl, arith, inl, inr, List, [], ◌∷◌, length, get_or, map, Contains, Option, Some, ap, sym, subst, ◌∙◌}
 use Rattle.std.specs.Prelude.{IfOk, Result, Ok, Err, ◌⊎◌}
 use Rattle.std.specs.List.{slice_get}
 use Rattle.std.proofs.lemmas.Bool.{cases_lt, false≢true}
 use Rattle.std.proofs.lemmas.List.{get_or-map, length-map}
 use Rattle.std.proofs.lemmas.List.Elements.{Contains-get_or}
 use Rattle.std.proofs.lemmas.Option.{slice_get-get_or}
+use Rattle.auc_cert.specs.declared.cert.CertParts.{CertParts}
 use Rattle.auc_cert.specs.declared.reason.Reason.{Reason}
 use Rattle.auc_cert.specs.Claim.{pick_of}
 use Rattle.auc_cert.proofs.ClaimLaws.{faultless_is_allowed}
@@ -22,13 +23,13 @@ use Rattle.auc_letters.specs.declared.state.Held.{Held}
 use Rattle.auc_model.proofs.Chosen.{Found, row_arc_listed}
 use Rattle.auc_answers.specs.declared.answer.Answer.{Answer}
 use Rattle.auc_answers.specs.Answers.{HasAssignment, IsAnswer, IsBracketAnswer, IsCertified, IsInfeasibleAnswer, IsOptimalAnswer}
-use Rattle.auc_answers.specs.Claims.{BoundFits, IsChoiceOf, claim_of}
+use Rattle.auc_answers.specs.Claims.{BoundFits, IsBracketBy, IsChoiceOf, claim_of}
 use Rattle.auc_answers.specs.Prepared.{NobodyStuck}
 use Rattle.auc_answers.proofs.BracketLaws.{bound_fits, holders_price_few}
 use Rattle.auc_rows.specs.declared.arc.ShortArc.{ShortArc}
 use Rattle.auc_rows.specs.Rows.{AreRowsOf, AreSameRows, EachHasArc, FlatTable, IsFlatTable, flat_row_of, short, short_row}
 use Rattle.auc_direct.specs.declared.ending.Ending.{Ending}
-use Rattle.auc_direct.specs.Endings.{IsLeft, IsLimit, IsLimited, IsLimitedBy, IsLimitedFrom}
+use Rattle.auc_direct.specs.Endings.{HasReason, IsLeft, IsLimit, IsLimited, IsLimitedBy, IsLimitedFrom, IsLimitedUnless, IsStopTold, IsToldOr}
 use Rattle.auc_direct.specs.Held.{AreHeld, AreHolders, AreListed, arc_by}
 use Rattle.auc_direct.specs.Market.{EachHasRow, HaveObjects, Stands, holder_at, own_at}
 use Rattle.auc_direct.specs.Starts.{AreOpened}
@@ -127,7 +128,7 @@ of_answers P Q (Err e) f h = tt
 
 pub left_stands : (r : FlatTable) (ending : Ending) (prices : List ℤ) (holders : List ℕ) (owns : List ShortArc) → IsLeft r ending prices holders owns → (eps : ℤ) × Stands r eps prices holders owns
 left_stands r Ending.Sold prices holders owns h = (pos 1, h.0)
-left_stands r (Ending.Stopped reason) prices holders owns h = h
+left_stands r (Ending.Stopped reason) prices holders owns h = (h.0, h.1)
 
 length_zero : {X : Type 0} (xs : List X) → length xs ≡ 0 → xs ≡ []
 length_zero [] e = refl
@@ -187,15 +188,39 @@ module _ (p : Problem) (r : FlatTable) (rows : AreRowsOf p r) where
 
 -- ---- where somebody watches
 
--- an answer that is right, where who watched has said no; and else one that a limit explains
-pub limit_or_told : {E : Type 0} (told : Bool) (P Q : Answer → Type 0) (S : Type 0) (r : Result Answer E) → (told ≡ true) ⊎ S → IfOk r P → (S → IfOk r Q) → IfOk r (λ a. (told ≡ true) ⊎ Q a)
-limit_or_told told P Q S r (inl e) any limit = of_answers P (λ a. (told ≡ true) ⊎ Q a) r (λ a p. inl e) any
-limit_or_told told P Q S r (inr s) any limit = of_answers Q (λ a. (told ≡ true) ⊎ Q a) r (λ a q. inr q) (limit s)
+-- an answer that tells of a stop, where who watched has said no; and else one that a limit explains
+pub limit_or_told : {E : Type 0} (before after : Bool) (ending : Ending) (Q : Answer → Type 0) (S : Type 0) (r : Result Answer E) → IsToldOr before after ending S → (ending ≡ Ending.Stopped Reason.Bids → IfOk r IsStopTold) → (S → IfOk r Q) → IfOk r (λ a. IsLimitedUnless before after a (Q a))
+limit_or_told before after ending Q S r (inl told) stop limit = of_answers IsStopTold (λ a. IsLimitedUnless before after a (Q a)) r (λ a t. inl (told.0, t)) (stop told.1)
+limit_or_told before after ending Q S r (inr is) stop limit = of_answers Q (λ a. IsLimitedUnless before after a (Q a)) r (λ a q. inr (is.0, q)) (limit is.1)
 
-not_told : (P : Answer → Type 0) (a : Answer) → (false ≡ true) ⊎ P a → P a
-not_told P a (inl e) = absurd (false≢true e)
-not_told P a (inr p) = p
+-- the same of one that stands
+pub answer_limit_or_told : (before after : Bool) (ending : Ending) (answer : Answer) (Q S : Type 0) → IsToldOr before after ending S → (ending ≡ Ending.Stopped Reason.Bids → IsStopTold answer) → (S → Q) → IsLimitedUnless before after answer Q
+answer_limit_or_told before after ending answer Q S (inl told) stop limit = inl (told.0, stop told.1)
+answer_limit_or_told before after ending answer Q S (inr is) stop limit = inr (is.0, limit is.1)
+
+-- and of one that comes later, when no more had been said
+pub limit_since : (before between after : Bool) (answer : Answer) (Q : Type 0) → between ≡ before → IsLimitedUnless between after answer Q → IsLimitedUnless before after answer Q
+limit_since before between after answer Q same (inl told) = inl told
+limit_since before between after answer Q same (inr is) = inr (is.0 ∙ same, is.1)
+
+not_told : (P : Answer → Type 0) (a : Answer) → IsLimitedUnless false false a (P a) → P a
+not_told P a (inl told) = absurd (false≢true told.0)
+not_told P a (inr is) = is.1
 
 -- who never says no has said no nowhere
-pub never_told : {E : Type 0} (P : Answer → Type 0) (r : Result Answer E) → IfOk r (λ a. (false ≡ true) ⊎ P a) → IfOk r P
-never_told P r h = of_answers (λ a. (false ≡ true) ⊎ P a) P r (not_told P) h
+pub never_told : {E : Type 0} (P : Answer → Type 0) (r : Result Answer E) → IfOk r (λ a. IsLimitedUnless false false a (P a)) → IfOk r P
+never_told P r h = of_answers (λ a. IsLimitedUnless false false a (P a)) P r (not_told P) h
+
+-- ---- a stop is told
+
+has_reason : (p : Problem) (reason : Reason) (prices : List ℤ) (cert : CertParts) → IsBracketBy p reason prices cert → HasReason reason cert
+has_reason p reason prices cert by = subst (HasReason reason) (sym by.is) refl
+
+pub stop_told : (p : Problem) (r : FlatTable) (rows : AreRowsOf p r) (prices : List ℤ) (holders : List ℕ) (owns : List ShortArc) (held : List (Option Held)) → IsProblem p → IsFlatTable r → AreHeld p holders owns held → (eps : ℤ) → Stands r eps prices holders owns
+    → (answer : Answer) → IsInfeasibleAnswer p answer ⊎ (HasAssignment p × IsBracketAnswer p Reason.Bids held prices answer) → IsStopTold answer
+stop_told p r rows prices holders owns held is sound are eps stands (Answer.Optimal cert) (inl h) = absurd h
+stop_told p r rows prices holders owns held is sound are eps stands (Answer.Optimal cert) (inr h) = absurd h.1
+stop_told p r rows prices holders owns held is sound are eps stands (Answer.Infeasible cert) h = tt
+stop_told p r rows prices holders owns held is sound are eps stands (Answer.Bracket cert) (inl h) = absurd h
+stop_told p r rows prices holders owns held is sound are eps stands (Answer.Bracket cert) (inr h) = has_reason p Reason.Bids prices cert h.1.1
+stop_told p r rows prices holders owns held is sound are eps stands (Answer.Broken guard) h = absurd (either_is_answer p r rows prices holders owns held is sound are eps Reason.Bids stands (Answer.Broken guard) h)

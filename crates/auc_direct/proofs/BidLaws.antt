@@ -1,15 +1,16 @@
 -- What a bid raises, and that it is no worse than the second arc by more than eps.
 use Rattle.std.proofs.Common.{◌≡◌, ℕ, ◌<◌, inl, inr, List, length, get_or, set, ap, sym, ◌∙◌, arith}
-use Rattle.std.specs.Prelude.{ℤ, pos, ◌+ℤ◌, ◌-ℤ◌, ◌≤ℤ◌, ◌<ℤ◌, ◌⊎◌, All}
+use Rattle.std.specs.Prelude.{ℤ, pos, ◌+ℤ◌, ◌-ℤ◌, ◌*ℤ◌, ◌≤ℤ◌, ◌<ℤ◌, ◌⊎◌, All}
 use Rattle.std.proofs.lemmas.Bool.{cases_eq}
 use Rattle.std.proofs.lemmas.Int.{ints}
 use Rattle.std.proofs.lemmas.List.{get_or-set_same, get_or-set_other, get_or_default}
+use Rattle.std.proofs.lemmas.List.Elements.{All-contains}
 use Rattle.auc_graph.specs.Dual.{price_at}
 use Rattle.auc_rows.specs.declared.arc.ShortArc.{ShortArc}
 use Rattle.auc_direct.specs.declared.best.Best.{Best}
-use Rattle.auc_direct.specs.Bid.{IsRaise}
-use Rattle.auc_direct.specs.Scan.{IsValue, endless, short_value}
-use Rattle.auc_direct.specs.Shortlist.{IsBest}
+use Rattle.auc_direct.specs.Bid.{IsOffer, IsRaise}
+use Rattle.auc_direct.specs.Scan.{endless, short_value}
+use Rattle.auc_direct.specs.Shortlist.{IsBest, IsSecond}
 
 -- prices of which one has risen are no lower
 pub risen : (prices : List ℤ) (j : ℕ) (amount : ℤ) → j < length prices → price_at prices j ≤ℤ amount → (k : ℕ) → price_at prices k ≤ℤ price_at (set prices j amount) k
@@ -27,10 +28,10 @@ pub lead_is : (val : ShortArc → ℤ) (row : List ShortArc) (b : Best) (lead sp
 unfolding IsLead
 lead_is val row b lead spread h low next only = by h.second_is
   where
-    by : ((b.second ≡ endless) × All (λ a. a ≡ b.arc) row) ⊎ IsValue b.second → (pos 0 ≤ℤ lead) × ((All (λ a. a ≡ b.arc) row) ⊎ (lead ≡ (b.second -ℤ b.value)))
+    by : ((b.second ≡ endless) × All (λ a. a ≡ b.arc) row) ⊎ IsSecond val row b.second → (pos 0 ≤ℤ lead) × ((All (λ a. a ≡ b.arc) row) ⊎ (lead ≡ (b.second -ℤ b.value)))
     by (inl e) = (let o = only (let a = e.0 in omega (arith, ints, a)) in omega (arith, ints, o, low), inl e.1)
     by (inr s) =
-        let n = next (let u = s.high in omega (arith, ints, u)) in
+        let n = next (let u = s.range.high in omega (arith, ints, u)) in
         (let l = h.least in omega (arith, ints, n, l), inr n)
 
 module _ (scale eps : ℤ) (prices : List ℤ) (row : List ShortArc) (b : Best) (lead amount : ℤ) (h : IsBest (short_value scale prices) row b) (is : IsLead row b lead) (within : b.arc.object < length prices)
@@ -72,4 +73,44 @@ module _ (scale eps : ℤ) (prices : List ℤ) (row : List ShortArc) (b : Best) 
     listed = h.listed;
     more = (let l = is.0 in omega (arith, ints, sum, l));
     slack = λ k d lt. no_better (get_or row k d) k lt (get_or_default row k arc d lt) (h.others k d lt) is.1;
+  }
+
+-- The amount is no more than the rule of a bid makes it.
+module _ (scale spread eps : ℤ) (prices : List ℤ) (row : List ShortArc) (b : Best) (lead scaled amount : ℤ) (h : IsBest (short_value scale prices) row b) (next : b.second <ℤ endless → lead ≡ (b.second -ℤ b.value)) (only : endless ≤ℤ b.second → lead ≡ scaled) (low : pos 0 ≤ℤ scaled) (product : scaled ≡ (scale *ℤ spread))
+    (sum : amount ≡ ((price_at prices b.arc.object +ℤ lead) +ℤ eps)) where
+  abbrev Seconds : Type 0
+  Seconds = ((b.second ≡ endless) × All (λ a. a ≡ b.arc) row) ⊎ IsSecond (short_value scale prices) row b.second
+
+  lead_second : IsSecond (short_value scale prices) row b.second → lead ≡ (b.second -ℤ b.value)
+  lead_second s = next (let u = s.range.high in omega (arith, ints, u))
+
+  lead_low : Seconds → pos 0 ≤ℤ lead
+  lead_low (inl e) = let o = only (let a = e.0 in omega (arith, ints, a)) in omega (arith, ints, o, low)
+  lead_low (inr s) = let n = lead_second s in let l = h.least in omega (arith, ints, n, l)
+
+  worth : Seconds → (k : ℕ) (d : ShortArc) → k < length row → (get_or row k d ≡ b.arc) ⊎ ((short_value scale prices b.arc +ℤ lead) ≤ℤ short_value scale prices (get_or row k d))
+  worth (inl e) k d lt = inl (e.1 k d lt)
+  worth (inr s) k d lt =
+      elim (h.others k d lt) [
+        | inl same ↦ inl same
+        | inr above ↦ inr (let n = lead_second s in let v = h.is in omega (arith, ints, n, v, above))
+      ]
+
+  alone : Seconds → All (λ a. a ≡ b.arc) row → lead ≤ℤ (scale *ℤ spread)
+  alone (inl e) all = let o = only (let a = e.0 in omega (arith, ints, a)) in omega (arith, ints, o, product)
+  alone (inr s) all =
+      let same = ap (short_value scale prices) (All-contains (λ a. a ≡ b.arc) row s.arc all s.listed) in
+      let u = s.below in
+      let n = lead_second s in
+      let v = h.is in
+      omega (arith, ints, same, u, n, v, low, product)
+
+  pub offer_is : IsOffer scale spread eps prices row b.arc amount
+  offer_is = record {
+    listed = h.listed;
+    lead = lead;
+    low = lead_low h.second_is;
+    others = worth h.second_is;
+    only = alone h.second_is;
+    is = sum;
   }

@@ -1,7 +1,10 @@
 mod ScanLaws
 mod Shortlists
 mod BidLaws
+mod HighBids
 mod MarketLaws
+mod BidsLaws
+mod Example
 mod Bounds
 mod Opening
 mod StartLaws

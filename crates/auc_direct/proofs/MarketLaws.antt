@@ -12,8 +12,8 @@ use Rattle.auc_letters.specs.Price.{IsEps}
 use Rattle.auc_rows.specs.declared.arc.ShortArc.{ShortArc}
 use Rattle.auc_rows.specs.Rows.{FlatTable, IsFlatTable, IsShort, flat_row_of, scale_in}
 use Rattle.auc_direct.specs.declared.market.TheConstants.{NOBODY}
-use Rattle.auc_direct.specs.Bid.{IsRaise}
-use Rattle.auc_direct.specs.Market.{AreSpare, HaveAllBut, IsAwarded, IsSlack, Stands, holder_at, no_own, own_at}
+use Rattle.auc_direct.specs.Bid.{IsOffer, IsRaise}
+use Rattle.auc_direct.specs.Market.{AreSpare, HaveAllBut, IsAbove, IsAwarded, IsSlack, IsTooHigh, Stands, holder_at, no_own, own_at}
 use Rattle.auc_direct.proofs.BidLaws.{risen}
 
 -- ---- sums of prices
@@ -248,6 +248,14 @@ raise_by r scale eps i prices these row s amount e f g h =
     (subst (λ (ps : List ℤ). IsRaise scale eps ps (flat_row_of r i) s amount) f
     (subst (λ (xs : List ShortArc). IsRaise scale eps these xs s amount) g h))
 
+-- the same of its amount
+pub offer_by : (r : FlatTable) (scale spread eps : ℤ) (i : ℕ) (prices these : List ℤ) (row : List ShortArc) (s : ShortArc) (amount : ℤ) → scale ≡ scale_in r → spread ≡ r.spread → these ≡ prices → row ≡ flat_row_of r i → IsOffer scale spread eps these row s amount → IsOffer (scale_in r) r.spread eps prices (flat_row_of r i) s amount
+offer_by r scale spread eps i prices these row s amount e same f g h =
+    subst (λ (z : ℤ). IsOffer z r.spread eps prices (flat_row_of r i) s amount) e
+    (subst (λ (z : ℤ). IsOffer scale z eps prices (flat_row_of r i) s amount) same
+    (subst (λ (ps : List ℤ). IsOffer scale spread eps ps (flat_row_of r i) s amount) f
+    (subst (λ (xs : List ShortArc). IsOffer scale spread eps these xs s amount) g h)))
+
 -- what holds of lists holds of those that are the same
 pub stands_by : (r : FlatTable) (eps : ℤ) (prices these : List ℤ) (holders they : List ℕ) (owns those : List ShortArc) → these ≡ prices → they ≡ holders → those ≡ owns → Stands r eps prices holders owns → Stands r eps these they those
 stands_by r eps prices these holders they owns those e f g h =
@@ -271,3 +279,7 @@ awarded r eps person prices new holders sold owns left d s amount sound is_eps s
       below = λ some. (let l = displaced_below r eps prices holders owns person s amount sound stands known none up fits (λ z. some (h ∙ z)) in omega (arith, l, h));
       higher = λ k. (let up_k = rise r eps prices holders owns person s amount sound stands known none up fits k in rw e up_k);
     }
+
+-- a bid that is too high would be so still
+pub too_high : (r : FlatTable) (eps : ℤ) (prices after : List ℤ) (holders they : List ℕ) (owns those : List ShortArc) → IsTooHigh r eps prices after holders they owns those → IsAbove r eps after
+too_high r eps prices after holders they owns those h = subst (λ (ps : List ℤ). IsAbove r eps ps) (sym h.prices_are) h.above

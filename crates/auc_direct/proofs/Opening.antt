@@ -1,9 +1,10 @@
 -- What a phase begins with.
-use Rattle.std.proofs.Common.{ℕ, ℤ, pos, zero, suc, refl, ◌<◌, ◌≤◌, ◌≡◌, arith, List, length, get_or, replicate, inl, inr, ap, sym, subst, ◌∙◌}
-use Rattle.std.specs.Prelude.{All, ◌⊎◌, ◌<ℤ◌, unsigned_abs}
+use Rattle.std.proofs.Common.{ℕ, ℤ, pos, negsuc, w64, zero, suc, refl, ◌<◌, ◌≤◌, ◌≡◌, arith, List, length, get_or, replicate, inl, inr, ap, sym, subst, ◌∙◌}
+use Rattle.std.specs.Prelude.{All, FitsSigned, ◌⊎◌, ◌*◌, ◌^◌, ◌*ℤ◌, ◌<ℤ◌, ◌≤ℤ◌, unsigned_abs}
 use Rattle.std.proofs.lemmas.Int.{ints}
 use Rattle.std.proofs.lemmas.List.{get_or-replicate, get_or_default, length-replicate, same_lists}
 use Rattle.std.proofs.lemmas.List.Elements.{All-replicate, All-weaker}
+use Rattle.std.proofs.Math.IntN.{pos-*ℤ-pos}
 use Rattle.auc_cert.specs.Start.{IsStartPrice}
 use Rattle.auc_graph.specs.Assignment.{total}
 use Rattle.auc_graph.specs.Dual.{price_at}
@@ -15,6 +16,8 @@ use Rattle.auc_answers.proofs.NewShards.{replicate_default}
 use Rattle.auc_rows.specs.declared.arc.ShortArc.{ShortArc}
 use Rattle.auc_rows.specs.Rows.{AreSameRows, FlatTable}
 use Rattle.auc_direct.specs.declared.market.TheConstants.{NOBODY}
+use Rattle.auc_direct.proofs.Bounds.{product_abs}
+use Rattle.auc_direct.proofs.MarketLaws.{total_low}
 use Rattle.auc_direct.specs.Endings.{IsStart}
 use Rattle.auc_direct.specs.Market.{AreSpare, Stands, holder_at, no_own, own_at}
 use Rattle.auc_direct.specs.Starts.{ArePricesOf, AreStartPrices}
@@ -101,3 +104,23 @@ prices_of_start p t r start its same is = record {
 -- and where there are as many objects as persons, a run may begin with them
 pub start_at : (r : FlatTable) (start prices : List ℤ) → ArePricesOf r start → r.objects ≡ length r.rows → prices ≡ start → IsStart r (pos 1) prices
 start_at r start prices is square e = record { each = ap length e ∙ is.each; within = subst (All IsPrice) (sym e) is.within; spare = inl square }
+
+mul_low : (s d : ℤ) → pos 0 ≤ℤ s → pos 0 ≤ℤ d → pos 0 ≤ℤ (s *ℤ d)
+mul_low (pos m) (pos n) a b = subst (λ (z : ℤ). pos 0 ≤ℤ z) (sym (pos-*ℤ-pos m n)) (omega (arith, ints))
+mul_low (pos m) (negsuc n) a b = absurd (omega (arith, ints, b))
+mul_low (negsuc m) d a b = absurd (omega (arith, ints, a))
+
+-- a price by which a cost is made up for
+pub product_price : (s d : ℤ) → pos 1 ≤ℤ s → s ≤ℤ pos 10001 → pos 0 <ℤ d → d ≤ℤ pos (2 ^ 33) → IsPrice (s *ℤ d) × FitsSigned w64 (s *ℤ d)
+product_price s d a b more most =
+    let h : unsigned_abs (s *ℤ d) ≤ 10001 * 2 ^ 33 = product_abs s d 10001 (2 ^ 33) (omega (arith, ints)) (omega (arith, ints)) in
+    let low : pos 0 ≤ℤ (s *ℤ d) = mul_low s d (omega (arith, ints)) (omega (arith, ints)) in
+    (record { low = low; high = omega (arith, ints, h) }, omega (arith, ints, h))
+
+-- a run that began with prices that add up to no less than nothing
+pub start_low : (r : FlatTable) (eps : ℤ) (prices : List ℤ) → IsStart r eps prices → pos 0 ≤ℤ total prices
+start_low r eps prices start = total_low prices start.within
+
+-- and where there are as many objects as persons, with any prices
+pub start_with : (r : FlatTable) (eps : ℤ) (prices : List ℤ) → length prices ≡ r.objects → All IsPrice prices → r.objects ≡ length r.rows → IsStart r eps prices
+start_with r eps prices many within square = record { each = many; within = within; spare = inl square }

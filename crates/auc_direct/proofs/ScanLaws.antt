@@ -6,7 +6,7 @@ use Rattle.std.proofs.lemmas.Bool.{cases_eq}
 use Rattle.std.proofs.lemmas.Int.{clamps, ints, by_lt_z}
 use Rattle.auc_rows.specs.declared.arc.ShortArc.{ShortArc}
 use Rattle.auc_direct.specs.declared.scan.Found.{Found}
-use Rattle.auc_direct.specs.Scan.{IsFound, IsValue, Lowered, LoweredTwice, endless, no_arc}
+use Rattle.auc_direct.specs.Scan.{IsFound, IsValue, IsWorth, Lowered, LoweredTwice, endless, no_arc}
 
 pub found_first : (val : ShortArc → ℤ) (row : List ShortArc) (v : ℤ) → v ≡ val (get_or row 0 no_arc) → IsValue v → IsFound val row 1 (record { value = v; second = endless; place = 0 })
 found_first val row v is ok = record {
@@ -36,9 +36,9 @@ module _ (val : ShortArc → ℤ) (row : List ShortArc) (n : ℕ) (f : Found) (v
         | inr other ↦ (let l : m < n = grind (arith, lt, other) in let o = h.others m l ne in omega (arith, ints, o, below))
       ]
 
-  second_stays : f.second ≤ℤ v → ((f.second ≡ endless) × (n ≡ 1)) ⊎ IsValue f.second → ((f.second ≡ endless) × (n + 1 ≡ 1)) ⊎ IsValue f.second
+  second_stays : f.second ≤ℤ v → ((f.second ≡ endless) × (n ≡ 1)) ⊎ IsWorth val row n f.second → ((f.second ≡ endless) × (n + 1 ≡ 1)) ⊎ IsWorth val row (n + 1) f.second
   second_stays ge (inl e) = absurd (let a = e.0 in let b = ok.high in omega (arith, ints, a, b, ge))
-  second_stays ge (inr s) = inr s
+  second_stays ge (inr s) = inr (record { range = s.range; place = s.place; known = (let k = s.known in omega (arith, k)); below = s.below })
 
   pub found_more : (r : Found) → Lowered f v n r → IsFound val row (n + 1) r
   found_more r low =
@@ -49,7 +49,7 @@ module _ (val : ShortArc → ℤ) (row : List ShortArc) (n : ℕ) (f : Found) (v
         range = ok;
         others = passed (omega (arith, ints, lt));
         least = omega (arith, ints, lt);
-        second_is = inr h.range;
+        second_is = inr (record { range = h.range; place = f.place; known = (let k = h.known in omega (arith, k)); below = (let i = h.is in omega (arith, ints, i)) });
       }))
       (λ ge. by_lt_z v f.second
       (λ lt. rw (low.next ge lt) (record {
@@ -58,7 +58,7 @@ module _ (val : ShortArc → ℤ) (row : List ShortArc) (n : ℕ) (f : Found) (v
         range = h.range;
         others = kept v (omega (arith, ints, lt)) (omega (arith, ints));
         least = ge;
-        second_is = inr ok;
+        second_is = inr (record { range = ok; place = n; known = omega arith; below = omega (arith, ints, is) });
       }))
       (λ over. rw (low.stays ge over) (record {
         known = (let k = h.known in omega (arith, k));

@@ -10,8 +10,8 @@ use Rattle.auc_rows.specs.Rows.{FlatTable, IsShort, flat_row_of, scale_in}
 use Rattle.auc_direct.specs.declared.best.Best.{Best}
 use Rattle.auc_direct.specs.declared.scan.Found.{Found}
 use Rattle.auc_direct.specs.Market.{AreHigher}
-use Rattle.auc_direct.specs.Scan.{IsFound, IsValue, endless, no_arc, short_value}
-use Rattle.auc_direct.specs.Shortlist.{Above, AreBounds, Gathered, IsBest, IsReplaced, Keeps, Kept, Listed, Says, SaysNothing, list_at, no_list, nothing}
+use Rattle.auc_direct.specs.Scan.{IsFound, IsWorth, endless, no_arc, short_value}
+use Rattle.auc_direct.specs.Shortlist.{Above, AreBounds, Gathered, IsBest, IsReplaced, IsSecond, Keeps, Kept, Listed, Says, SaysNothing, list_at, no_list, nothing}
 
 -- ---- the best arc
 
@@ -30,9 +30,12 @@ module _ (val : ShortArc → ℤ) (row : List ShortArc) (f : Found) (h : IsFound
         | inr ne ↦ inr (subst (λ (a : ShortArc). f.second ≤ℤ val a) (get_or_default row k no_arc d lt) (h.others k lt ne))
       ]
 
-  second_by : ((f.second ≡ endless) × (length row ≡ 1)) ⊎ IsValue f.second → ((f.second ≡ endless) × All (λ a. a ≡ get_or row f.place no_arc) row) ⊎ IsValue f.second
+  second_worth : IsWorth val row (length row) f.second → IsSecond val row f.second
+  second_worth w = record { range = w.range; arc = get_or row w.place no_arc; listed = Contains-get_or row w.place no_arc w.known; below = w.below }
+
+  second_by : ((f.second ≡ endless) × (length row ≡ 1)) ⊎ IsWorth val row (length row) f.second → ((f.second ≡ endless) × All (λ a. a ≡ get_or row f.place no_arc) row) ⊎ IsSecond val row f.second
   second_by (inl e) = inl (e.0, λ k d lt. same_arc k d lt (let one = e.1 in let p = h.known in omega (arith, lt, one, p)))
-  second_by (inr v) = inr v
+  second_by (inr w) = inr (second_worth w)
 
   pub best_found : IsBest val row found_best
   best_found = record {
@@ -45,15 +48,15 @@ module _ (val : ShortArc → ℤ) (row : List ShortArc) (f : Found) (h : IsFound
   }
 
   -- of two arcs and more one is the second
-  pub second_of_two : 2 ≤ length row → IsValue f.second
+  pub second_of_two : 2 ≤ length row → IsSecond val row f.second
   second_of_two two = by h.second_is
     where
-      by : ((f.second ≡ endless) × (length row ≡ 1)) ⊎ IsValue f.second → IsValue f.second
+      by : ((f.second ≡ endless) × (length row ≡ 1)) ⊎ IsWorth val row (length row) f.second → IsSecond val row f.second
       by (inl e) = absurd (let one = e.1 in omega (arith, one, two))
-      by (inr v) = v
+      by (inr w) = second_worth w
 
 -- by a list that says so much of the row
-module _ (val : ShortArc → ℤ) (row : List ShortArc) (l : Listed) (b : Best) (its : IsBest val l.arcs b) (value : IsValue b.second) (below : b.second ≤ℤ l.bound) where
+module _ (val : ShortArc → ℤ) (row : List ShortArc) (l : Listed) (b : Best) (its : IsBest val l.arcs b) (value : IsSecond val l.arcs b.second) (below : b.second ≤ℤ l.bound) where
   told_other : (a : ShortArc) → Contains l.arcs a ⊎ (l.bound ≤ℤ val a) → (a ≡ b.arc) ⊎ (b.second ≤ℤ val a)
   told_other a (inl there) = All-contains (λ c. (c ≡ b.arc) ⊎ (b.second ≤ℤ val c)) l.arcs a its.others there
   told_other a (inr out) = inr (omega (arith, ints, below, out))
@@ -65,7 +68,7 @@ module _ (val : ShortArc → ℤ) (row : List ShortArc) (l : Listed) (b : Best) 
     range = its.range;
     others = All-weaker (λ a. Contains l.arcs a ⊎ (l.bound ≤ℤ val a)) (λ a. (a ≡ b.arc) ⊎ (b.second ≤ℤ val a)) told_other row g.rest;
     least = its.least;
-    second_is = inr value;
+    second_is = inr (record { range = value.range; arc = value.arc; listed = All-contains (Contains row) l.arcs value.arc g.members value.listed; below = value.below });
   }
 
   pub best_told : 2 ≤ length l.arcs → Says val row l → IsBest val row b

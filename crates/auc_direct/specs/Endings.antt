@@ -8,20 +8,22 @@ use Rattle.auc_graph.specs.Problem.{Problem}
 use Rattle.auc_graph.specs.Table.{IsTableOf, Table}
 use Rattle.auc_graph.specs.Price.{IsPrice}
 use Rattle.auc_answers.specs.declared.answer.Answer.{Answer}
+use Rattle.auc_letters.specs.Price.{IsEps}
 use Rattle.auc_rows.specs.declared.arc.ShortArc.{ShortArc}
 use Rattle.auc_rows.specs.Rows.{AreSameRows, FlatTable}
 use Rattle.auc_direct.specs.declared.ending.Chain.{Chain}
 use Rattle.auc_direct.specs.declared.ending.Ending.{Ending}
 use Rattle.auc_direct.specs.declared.ending.PathStep.{PathStep}
 use Rattle.auc_direct.specs.declared.market.TheConstants.{NOBODY}
+use Rattle.auc_direct.specs.Bids.{HaveRunOut}
 use Rattle.auc_direct.specs.Market.{AreHigher, HaveAllBut, HaveObjects, IsAbove, Stands, own_at}
 use Rattle.auc_direct.specs.Starts.{AreOpened}
 
--- Why a phase may be stopped: the prices add up to more than those that the run began with, by no less than the bids that a phase may
--- take, each of which has raised one; or somebody would bid more than the greatest price.
+-- Why a phase may be stopped: it has made as many bids as it may, and the prices add up to more than those that the run began with, by no less than the bids that a phase may
+-- take, each of which has raised one; or somebody's bid, at an eps of a phase, would be more than the greatest price.
 abbrev pub IsLimit : FlatTable → ℕ → ℤ → Reason → List ℤ → Type 0
-IsLimit r bids begun Reason.Bids prices = (begun +ℤ pos bids) ≤ℤ total prices
-IsLimit r bids begun Reason.Ceiling prices = (eps : ℤ) × IsAbove r eps prices
+IsLimit r bids begun Reason.Bids prices = HaveRunOut r bids prices × ((begun +ℤ pos bids) ≤ℤ total prices)
+IsLimit r bids begun Reason.Ceiling prices = (eps : ℤ) × IsEps eps × IsAbove r eps prices
 IsLimit r bids begun Reason.Posts prices = ⊥
 IsLimit r bids begun Reason.Trail prices = ⊥
 IsLimit r bids begun Reason.Mail prices = ⊥
@@ -49,10 +51,18 @@ abbrev pub IsEnding : FlatTable → ℕ → ℤ → Ending → List ℤ → List
 IsEnding r bids begun Ending.Sold prices owns = HaveObjects (length r.rows) owns
 IsEnding r bids begun (Ending.Stopped reason) prices owns = IsLimit r bids begun reason prices
 
+-- for what a run in one hand may be stopped; who watches it stops it as if its bids had run out
+abbrev pub IsOwnReason : Reason → Type 0
+IsOwnReason Reason.Bids = Unit {0}
+IsOwnReason Reason.Ceiling = Unit {0}
+IsOwnReason Reason.Posts = ⊥
+IsOwnReason Reason.Trail = ⊥
+IsOwnReason Reason.Mail = ⊥
+
 -- where a phase has sold all, each person has an object
 abbrev pub IsSold : FlatTable → Ending → List ShortArc → Type 0
 IsSold r Ending.Sold owns = HaveObjects (length r.rows) owns
-IsSold r (Ending.Stopped reason) owns = Unit {0}
+IsSold r (Ending.Stopped reason) owns = IsOwnReason reason
 
 -- what a phase at this eps begins with: as many objects as persons, or no price
 pub record IsStart (r : FlatTable) (eps : ℤ) (prices : List ℤ) : Type 0 where
@@ -63,19 +73,23 @@ pub record IsStart (r : FlatTable) (eps : ℤ) (prices : List ℤ) : Type 0 wher
 -- what all phases leave: the last one, at eps 1, has given each person an object; or one of them was stopped
 abbrev pub IsLeft : FlatTable → Ending → List ℤ → List ℕ → List ShortArc → Type 0
 IsLeft r Ending.Sold prices holders owns = Stands r (pos 1) prices holders owns × HaveObjects (length r.rows) owns
-IsLeft r (Ending.Stopped reason) prices holders owns = (eps : ℤ) × Stands r eps prices holders owns
+IsLeft r (Ending.Stopped reason) prices holders owns = (eps : ℤ) × Stands r eps prices holders owns × IsOwnReason reason
 
 -- only a limit has stopped one
 abbrev pub IsStopped : FlatTable → ℕ → ℤ → Ending → List ℤ → Type 0
 IsStopped r bids begun Ending.Sold prices = Unit {0}
 IsStopped r bids begun (Ending.Stopped reason) prices = IsLimit r bids begun reason prices
 
+-- What a run comes to that somebody watches, of whom it is known whether he had said no before it and has said no after it: he has said no, and it ends as one whose bids have run out; or he has said no more than before, and this holds.
+abbrev pub IsToldOr : Bool → Bool → Ending → Type 0 → Type 0
+IsToldOr before after ending Holds = ((after ≡ true) × (ending ≡ Ending.Stopped Reason.Bids)) ⊎ ((after ≡ before) × Holds)
+
 -- what a run from start prices comes to: it began with what its opening has left of them, and only a limit has stopped it, or who watched it
-pub record IsOutcomeFrom (r : FlatTable) (bids : ℕ) (start : List ℤ) (told : Bool) (ending : Ending) (prices : List ℤ) (holders : List ℕ) (owns : List ShortArc) : Type 0 where
+pub record IsOutcomeFrom (r : FlatTable) (bids : ℕ) (start : List ℤ) (before after : Bool) (ending : Ending) (prices : List ℤ) (holders : List ℕ) (owns : List ShortArc) : Type 0 where
   pub left : IsLeft r ending prices holders owns
   pub begun : List ℤ
   pub opened : AreOpened r.objects (length r.rows) start begun
-  pub stopped : (told ≡ true) ⊎ IsStopped r bids (total begun) ending prices
+  pub stopped : IsToldOr before after ending (IsStopped r bids (total begun) ending prices)
 
 abbrev pub IsLimitedBy : Problem → ℕ → ℤ → CertParts → Type 0
 IsLimitedBy p bids begun (CertParts.Optimal cost choice prices) = Unit {0}
@@ -94,6 +108,22 @@ pub record IsLimitedFrom (p : Problem) (bids : ℕ) (start : List ℤ) (answer :
   pub begun : List ℤ
   pub opened : AreOpened p.objects p.persons start begun
   pub limited : IsLimited p bids (total begun) answer
+
+abbrev pub HasReason : Reason → CertParts → Type 0
+HasReason reason (CertParts.Optimal cost choice prices) = ⊥
+HasReason reason (CertParts.Infeasible persons objects) = ⊥
+HasReason reason (CertParts.Bracket told lower cost choice prices) = told ≡ reason
+
+-- what is answered where who watches a run has stopped it: a bracket, with the reason that bids ran out; or that there is no assignment
+abbrev pub IsStopTold : Answer → Type 0
+IsStopTold (Answer.Optimal cert) = ⊥
+IsStopTold (Answer.Infeasible cert) = Unit {0}
+IsStopTold (Answer.Bracket cert) = HasReason Reason.Bids cert
+IsStopTold (Answer.Broken guard) = ⊥
+
+-- What is answered of a run that somebody watches: he has said no, and that is told; or he has said no more than before the call, and this holds.
+abbrev pub IsLimitedUnless : Bool → Bool → Answer → Type 0 → Type 0
+IsLimitedUnless before after answer Holds = ((after ≡ true) × IsStopTold answer) ⊎ ((after ≡ before) × Holds)
 
 -- A path leaves what stands between two bids, the person has an object, nobody else has got or lost one, and no price has fallen; or nothing has changed.
 abbrev pub IsPathStep : FlatTable → ℤ → ℕ → PathStep → List ℤ → List ℕ → List ShortArc → List ℤ → List ℕ → List ShortArc → Type 0

@@ -1,5 +1,6 @@
 pub mod Scan
 pub mod Bid
+pub mod Bids
 pub mod Market
 pub mod Shortlist
 pub mod Starts

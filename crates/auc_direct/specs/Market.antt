@@ -7,7 +7,7 @@ use Rattle.auc_graph.specs.Price.{IsPrice}
 use Rattle.auc_rows.specs.declared.arc.ShortArc.{ShortArc}
 use Rattle.auc_rows.specs.Rows.{FlatTable, flat_row_of, scale_in, short_row}
 use Rattle.auc_direct.specs.declared.market.TheConstants.{NOBODY}
-use Rattle.auc_direct.specs.Bid.{IsRaise}
+use Rattle.auc_direct.specs.Bid.{IsOffer}
 use Rattle.auc_direct.specs.Scan.{short_value}
 
 -- who holds an object
@@ -57,13 +57,13 @@ pub record HaveAllBut (n : ℕ) (owns : List ShortArc) (person other : ℕ) : Ty
 abbrev pub EachHasRow : Problem → Type 0
 EachHasRow p = (i : ℕ) → i < p.persons → short_row i p.arcs ≢ []
 
--- at these prices and this eps somebody would bid more than the greatest price
+-- at these prices and this eps somebody's bid would be more than the greatest price
 pub record IsAbove (r : FlatTable) (eps : ℤ) (prices : List ℤ) : Type 0 where
   pub person : ℕ
   pub known : person < length r.rows
   pub arc : ShortArc
   pub amount : ℤ
-  pub raise : IsRaise (scale_in r) eps prices (flat_row_of r person) arc amount
+  pub offer : IsOffer (scale_in r) r.spread eps prices (flat_row_of r person) arc amount
   pub above : pos (2 ^ 61) <ℤ amount
 
 -- no price is lower than before

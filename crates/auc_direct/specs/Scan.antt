@@ -32,6 +32,13 @@ pub record Lowered (f : Found) (v : ℤ) (place : ℕ) (r : Found) : Type 0 wher
 abbrev pub LoweredTwice : Found → ℤ → ℤ → ℕ → Found → Type 0
 LoweredTwice f one other place r = (between : Found) × Lowered f one place between × Lowered between other (place + 1) r
 
+-- no more than one of the first n arcs of a row is worth
+pub record IsWorth (val : ShortArc → ℤ) (row : List ShortArc) (n : ℕ) (v : ℤ) : Type 0 where
+  pub range : IsValue v
+  pub place : ℕ
+  pub known : place < n
+  pub below : v ≤ℤ val (slice_index_or row place no_arc)
+
 -- of the first n arcs of a row the one that stands here is worth least, and no other one less than the second
 pub record IsFound (val : ShortArc → ℤ) (row : List ShortArc) (n : ℕ) (f : Found) : Type 0 where
   pub known : f.place < n
@@ -39,4 +46,4 @@ pub record IsFound (val : ShortArc → ℤ) (row : List ShortArc) (n : ℕ) (f :
   pub range : IsValue f.value
   pub others : (m : ℕ) → m < n → m ≢ f.place → f.second ≤ℤ val (slice_index_or row m no_arc)
   pub least : f.value ≤ℤ f.second
-  pub second_is : ((f.second ≡ endless) × (n ≡ 1)) ⊎ IsValue f.second
+  pub second_is : ((f.second ≡ endless) × (n ≡ 1)) ⊎ IsWorth val row n f.second

@@ -5,6 +5,13 @@ use Rattle.auc_rows.specs.Rows.{FlatTable, flat_row_of, scale_in}
 use Rattle.auc_direct.specs.declared.best.Best.{Best}
 use Rattle.auc_direct.specs.Scan.{IsValue, endless, no_arc, short_value}
 
+-- no more than an arc of the row is worth
+pub record IsSecond (val : ShortArc → ℤ) (row : List ShortArc) (v : ℤ) : Type 0 where
+  pub range : IsValue v
+  pub arc : ShortArc
+  pub listed : Contains row arc
+  pub below : v ≤ℤ val arc
+
 -- An arc of the row and what it is worth, and what no other one is worth less than: the second, or there is none.
 pub record IsBest (val : ShortArc → ℤ) (row : List ShortArc) (b : Best) : Type 0 where
   pub listed : Contains row b.arc
@@ -12,7 +19,7 @@ pub record IsBest (val : ShortArc → ℤ) (row : List ShortArc) (b : Best) : Ty
   pub range : IsValue b.value
   pub others : All (λ a. (a ≡ b.arc) ⊎ (b.second ≤ℤ val a)) row
   pub least : b.value ≤ℤ b.second
-  pub second_is : ((b.second ≡ endless) × All (λ a. a ≡ b.arc) row) ⊎ IsValue b.second
+  pub second_is : ((b.second ≡ endless) × All (λ a. a ≡ b.arc) row) ⊎ IsSecond val row b.second
 
 -- some arcs of a row, and a bound; and a bound for each block of 16 arcs of the row, one after another, as far as there are any
 pub record Listed : Type 0 where

@@ -1,12 +1,12 @@
 //! The last phase before its turn. Where a phase has taken few bids, few persons want the same objects at these prices, and what the phases between would do the last one does at
 //! once. Where it takes too many bids it is given up, and the phases go on with the prices that it has left.
 
-ghost use Rattle.std.specs.Prelude.{true, ◌≡◌, ◌⊎◌, ◌≤ℤ◌, length, IfOk, IfSome, OnOk};
+ghost use Rattle.std.specs.Prelude.{◌≡◌, ◌≤ℤ◌, length, IfOk, IfSome, IfNone, OnOk};
 ghost use Rattle.std.specs.BinaryHeap.{heap_items};
 ghost use Rattle.auc_graph.specs.Assignment.{total};
 ghost use Rattle.auc_letters.specs.Price.{IsEps};
 ghost use Rattle.auc_rows.specs.Rows.{EachHasArc};
-ghost use Rattle.auc_direct.specs.Endings.{IsLeft, IsStart, IsStopped};
+ghost use Rattle.auc_direct.specs.Endings.{IsLeft, IsStart, IsStopped, IsToldOr};
 ghost use Rattle.auc_direct.specs.Path.{IsClean};
 ghost use Rattle.auc_direct.specs.Shortlist.{Kept};
 
@@ -130,7 +130,8 @@ impl Market {
         requires clean { IsClean rows.now.objects work.old.search.labels.items work.old.search.line.items (heap_items work.old.search.heap) }
         requires kept { Kept rows.now self.old.prices.items work.old.lists.lists.items }
         ensures left { IfOk result (λ o. IfSome o (λ e. IsLeft rows.now e self.new.prices.items self.new.holders.items self.new.owns.items)) }
-        ensures stopped { IfOk result (λ o. IfSome o (λ e. (W.has_stopped watch.new ≡ true) ⊎ IsStopped rows.now bids (total self.old.prices.items) e self.new.prices.items)) }
+        ensures stopped { IfOk result (λ o. IfSome o (λ e. IsToldOr (W.has_stopped watch.old) (W.has_stopped watch.new) e (IsStopped rows.now bids (total self.old.prices.items) e self.new.prices.items))) }
+        ensures going { IfOk result (λ o. IfNone o (W.has_stopped watch.new ≡ W.has_stopped watch.old)) }
         ensures start { OnOk result (IsStart rows.now eps self.new.prices.items) }
         ensures holders { OnOk result (length self.new.holders.items ≡ rows.now.objects) }
         ensures owns { OnOk result (length self.new.owns.items ≡ length rows.now.rows) }

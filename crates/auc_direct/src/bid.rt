@@ -4,7 +4,7 @@ ghost use Rattle.std.specs.Prelude.{true, false, ◌≡◌, ◌<◌, ◌+◌, �
 ghost use Rattle.auc_graph.specs.Price.{IsPrice};
 ghost use Rattle.auc_letters.specs.Price.{IsEps};
 ghost use Rattle.auc_rows.specs.Rows.{IsShort};
-ghost use Rattle.auc_direct.specs.Bid.{IsRaise};
+ghost use Rattle.auc_direct.specs.Bid.{IsOffer, IsRaise};
 ghost use Rattle.auc_direct.specs.Scan.{IsValue, endless, short_value};
 ghost use Rattle.auc_direct.specs.Shortlist.{IsBest};
 
@@ -99,7 +99,8 @@ pub(crate) fn bid_of(
     requires prices { All IsPrice prices.now }
     requires best { IsBest (short_value scale prices.now) _row.now best }
     requires object { best.arc.object < length prices.now }
-    ensures { IsRaise scale eps prices.now _row.now result.arc result.amount }
+    ensures raise { IsRaise scale eps prices.now _row.now result.arc result.amount }
+    ensures offer { IsOffer scale spread eps prices.now _row.now result.arc result.amount }
 {
     let arc = best.arc;
     let lead = lead_of(best, scaled(scale, spread));

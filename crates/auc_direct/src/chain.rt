@@ -5,6 +5,7 @@ ghost use Rattle.std.specs.BinaryHeap.{heap_items};
 ghost use Rattle.auc_graph.specs.Assignment.{total};
 ghost use Rattle.auc_letters.specs.Price.{IsEps};
 ghost use Rattle.auc_rows.specs.Rows.{EachHasArc, IsFlatTable, scale_in};
+ghost use Rattle.auc_direct.specs.Bids.{IsBidMade, AreSpent, state_of};
 ghost use Rattle.auc_direct.specs.Endings.{IsChain};
 ghost use Rattle.auc_direct.specs.Market.{IsAwarded, IsTooHigh, Stands, own_at};
 ghost use Rattle.auc_direct.specs.Path.{IsClean};
@@ -51,6 +52,7 @@ impl Market {
         requires none { (own_at self.old.owns.items person).object ≡ NOBODY }
         requires kept { Kept rows.now self.old.prices.items lists.old.lists.items }
         ensures awarded { IfSome result (IsAwarded rows.now eps person self.old.prices.items self.new.prices.items self.new.holders.items self.old.owns.items self.new.owns.items) }
+        ensures made { IfSome result (λ d. IsBidMade rows.now eps (state_of self.old) (state_of self.new)) }
         ensures high { IfNone result (IsTooHigh rows.now eps self.old.prices.items self.new.prices.items self.old.holders.items self.new.holders.items self.old.owns.items self.new.owns.items) }
         ensures kept { Kept rows.now self.new.prices.items lists.new.lists.items }
     {
@@ -119,6 +121,7 @@ impl Market {
         ensures chain { IfOk result (λ c. IsChain rows.now eps first left.new c self.old.owns.items self.new.prices.items self.new.owns.items) }
         ensures raised { OnOk result ((total self.old.prices.items +ℤ pos left.old) ≤ℤ (total self.new.prices.items +ℤ pos left.new)) }
         ensures fewer { OnOk result (left.new ≤ left.old) }
+        ensures made { OnOk result (AreSpent rows.now eps left.old left.new (state_of self.old) (state_of self.new)) }
         ensures clean { OnOk result (IsClean rows.now.objects work.new.search.labels.items work.new.search.line.items (heap_items work.new.search.heap)) }
         ensures kept { OnOk result (Kept rows.now self.new.prices.items work.new.lists.lists.items) }
     {

@@ -1,10 +1,10 @@
 //! The phase of a full table that comes before all others: at the last eps, with a path as soon as a few bids of a chain have displaced somebody.
 
-ghost use Rattle.std.specs.Prelude.{true, ◌≡◌, ◌⊎◌, pos, ◌≤ℤ◌, IfOk, IfSome, OnOk};
+ghost use Rattle.std.specs.Prelude.{◌≡◌, pos, ◌≤ℤ◌, IfOk, IfSome, IfNone, OnOk};
 ghost use Rattle.std.specs.BinaryHeap.{heap_items};
 ghost use Rattle.auc_graph.specs.Assignment.{total};
 ghost use Rattle.auc_rows.specs.Rows.{EachHasArc};
-ghost use Rattle.auc_direct.specs.Endings.{IsEnding, IsSold};
+ghost use Rattle.auc_direct.specs.Endings.{IsEnding, IsSold, IsToldOr};
 ghost use Rattle.auc_direct.specs.Market.{Stands};
 ghost use Rattle.auc_direct.specs.Path.{IsClean};
 ghost use Rattle.auc_direct.specs.Shortlist.{Kept};
@@ -13,7 +13,7 @@ use crate::ending::Ending;
 use crate::eps::LAST_EPS;
 use crate::market::Market;
 use crate::phases::patience_at;
-use crate::watch::{Progress, Watch};
+use crate::watch::{Progress, Watch, may_go_on};
 use crate::workspace::Workspace;
 use auc_cert::Reason;
 use auc_rows::FlatRows;
@@ -96,7 +96,8 @@ impl Market {
         requires kept { Kept rows.now self.old.prices.items work.old.lists.lists.items }
         ensures stands { OnOk result (Stands rows.now (pos 1) self.new.prices.items self.new.holders.items self.new.owns.items) }
         ensures sold { IfOk result (λ o. IfSome o (λ e. IsSold rows.now e self.new.owns.items)) }
-        ensures ending { IfOk result (λ o. IfSome o (λ e. (W.has_stopped watch.new ≡ true) ⊎ IsEnding rows.now bids (total self.old.prices.items) e self.new.prices.items self.new.owns.items)) }
+        ensures ending { IfOk result (λ o. IfSome o (λ e. IsToldOr (W.has_stopped watch.old) (W.has_stopped watch.new) e (IsEnding rows.now bids (total self.old.prices.items) e self.new.prices.items self.new.owns.items))) }
+        ensures going { IfOk result (λ o. IfNone o (W.has_stopped watch.new ≡ W.has_stopped watch.old)) }
         ensures risen { OnOk result (total self.old.prices.items ≤ℤ total self.new.prices.items) }
         ensures clean { OnOk result (IsClean rows.now.objects work.new.search.labels.items work.new.search.line.items (heap_items work.new.search.heap)) }
         ensures kept { OnOk result (Kept rows.now self.new.prices.items work.new.lists.lists.items) }
@@ -109,7 +110,7 @@ impl Market {
             held: 0,
             bids: 0,
         };
-        if !watch.goes_on(progress) {
+        if !may_go_on(watch, progress) {
             return Ok(Some(Ending::Stopped(Reason::Bids)));
         }
         let patience = patience_at(rows, LAST_EPS);

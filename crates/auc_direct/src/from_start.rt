@@ -1,6 +1,6 @@
 //! A run from start prices.
 
-ghost use Rattle.std.specs.Prelude.{◌≡◌, pos, length, IfOk, IfSome};
+ghost use Rattle.std.specs.Prelude.{◌≡◌, pos, length, IfOk, IfSome, IfNone};
 ghost use Rattle.auc_rows.specs.Rows.{EachHasArc};
 ghost use Rattle.auc_direct.specs.Endings.{IsOutcomeFrom, IsStart};
 ghost use Rattle.auc_direct.specs.Market.{Stands};
@@ -66,7 +66,7 @@ pub(crate) fn play_from<W: Watch>(
 ) -> Result<Outcome, AllocError>
     requires arcs { EachHasArc rows.now }
     requires start { ArePricesOf rows.now start.now }
-    ensures { IfOk result (λ o. IsOutcomeFrom rows.now bids start.now (W.has_stopped watch.new) o.ending o.market.prices.items o.market.holders.items o.market.owns.items) }
+    ensures { IfOk result (λ o. IsOutcomeFrom rows.now bids start.now (W.has_stopped watch.old) (W.has_stopped watch.new) o.ending o.market.prices.items o.market.holders.items o.market.owns.items) }
 {
     let mut work = Workspace::new(alloc, rows)?;
     let mut market = market_from(alloc, rows, start)?;
@@ -74,7 +74,7 @@ pub(crate) fn play_from<W: Watch>(
         return match market.play_early(rows, bids, LOOKS_FROM_START, &mut work, watch)? {
             Some(ending) => Ok(Outcome { ending, market }),
             None => {
-                let eps = first_eps(rows);
+                let eps = first_eps(rows, market.prices.as_slice());
                 let patience = patience_at(rows, eps);
                 play_phases(alloc, rows, bids, eps, patience, market, work, watch)
             }
@@ -96,7 +96,8 @@ pub(crate) fn play_from_unasked<W: Watch>(
 ) -> Result<Option<Outcome>, AllocError>
     requires arcs { EachHasArc rows.now }
     requires start { ArePricesOf rows.now start.now }
-    ensures { IfOk result (λ x. IfSome x (λ o. IsOutcomeFrom rows.now bids start.now (W.has_stopped watch.new) o.ending o.market.prices.items o.market.holders.items o.market.owns.items)) }
+    ensures outcome { IfOk result (λ x. IfSome x (λ o. IsOutcomeFrom rows.now bids start.now (W.has_stopped watch.old) (W.has_stopped watch.new) o.ending o.market.prices.items o.market.holders.items o.market.owns.items)) }
+    ensures going { IfOk result (λ x. IfNone x (W.has_stopped watch.new ≡ W.has_stopped watch.old)) }
 {
     if rows.is_full() || rows.persons() < rows.objects() {
         let outcome = play_from(alloc, rows, bids, start, watch)?;

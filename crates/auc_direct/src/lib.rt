@@ -22,6 +22,7 @@ mod path;
 mod phase;
 mod phases;
 mod queue;
+mod reduce;
 mod refine;
 mod scan;
 mod search;

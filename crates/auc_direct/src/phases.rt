@@ -1,11 +1,11 @@
 //! All phases of a run: epsilon scaling.
 
-ghost use Rattle.std.specs.Prelude.{true, ◌≡◌, ◌⊎◌, pos, length, IfOk, IfSome};
+ghost use Rattle.std.specs.Prelude.{◌≡◌, pos, length, IfOk, IfSome, IfNone};
 ghost use Rattle.std.specs.BinaryHeap.{heap_items};
 ghost use Rattle.auc_graph.specs.Assignment.{total};
 ghost use Rattle.auc_letters.specs.Price.{IsEps};
 ghost use Rattle.auc_rows.specs.Rows.{EachHasArc};
-ghost use Rattle.auc_direct.specs.Endings.{IsLeft, IsStart, IsStopped};
+ghost use Rattle.auc_direct.specs.Endings.{IsLeft, IsStart, IsStopped, IsToldOr};
 ghost use Rattle.auc_direct.specs.Market.{Stands};
 ghost use Rattle.auc_direct.specs.Path.{IsClean};
 ghost use Rattle.auc_direct.specs.Shortlist.{Kept};
@@ -17,7 +17,7 @@ use crate::ending::Ending;
 use crate::eps::{LAST_EPS, MANY_ARCS, half_of_mean, next_eps};
 use crate::market::Market;
 use crate::trend::Trend;
-use crate::watch::{Progress, Watch};
+use crate::watch::{Progress, Watch, may_go_on};
 use crate::workspace::Workspace;
 use auc_cert::Reason;
 use auc_rows::FlatRows;
@@ -102,7 +102,7 @@ pub(crate) fn play_phases<W: Watch>(
     requires clean { IsClean rows.now.objects work.search.labels.items work.search.line.items (heap_items work.search.heap) }
     requires kept { Kept rows.now market.prices.items work.lists.lists.items }
     ensures left { IfOk result (λ o. IsLeft rows.now o.ending o.market.prices.items o.market.holders.items o.market.owns.items) }
-    ensures stopped { IfOk result (λ o. (W.has_stopped watch.new ≡ true) ⊎ IsStopped rows.now bids (total market.prices.items) o.ending o.market.prices.items) }
+    ensures stopped { IfOk result (λ o. IsToldOr (W.has_stopped watch.old) (W.has_stopped watch.new) o.ending (IsStopped rows.now bids (total market.prices.items) o.ending o.market.prices.items)) }
 {
     let mut market = market;
     let mut work = work;
@@ -148,7 +148,7 @@ pub(crate) fn play_all<W: Watch>(
     requires eps { IsEps eps }
     requires start { IsStart rows.now eps prices.items }
     ensures left { IfOk result (λ o. IsLeft rows.now o.ending o.market.prices.items o.market.holders.items o.market.owns.items) }
-    ensures stopped { IfOk result (λ o. (W.has_stopped watch.new ≡ true) ⊎ IsStopped rows.now bids (total prices.items) o.ending o.market.prices.items) }
+    ensures stopped { IfOk result (λ o. IsToldOr (W.has_stopped watch.old) (W.has_stopped watch.new) o.ending (IsStopped rows.now bids (total prices.items) o.ending o.market.prices.items)) }
 {
     let mut work = Workspace::new(alloc, rows)?;
     let mut market = Market::new(alloc, rows.persons(), prices)?;
@@ -176,7 +176,8 @@ pub(crate) fn play_quickly<W: Watch>(
     requires eps { IsEps eps }
     requires start { IsStart rows.now eps prices.items }
     ensures left { IfOk result (λ x. IfSome x (λ o. IsLeft rows.now o.ending o.market.prices.items o.market.holders.items o.market.owns.items)) }
-    ensures stopped { IfOk result (λ x. IfSome x (λ o. (W.has_stopped watch.new ≡ true) ⊎ IsStopped rows.now bids (total prices.items) o.ending o.market.prices.items)) }
+    ensures stopped { IfOk result (λ x. IfSome x (λ o. IsToldOr (W.has_stopped watch.old) (W.has_stopped watch.new) o.ending (IsStopped rows.now bids (total prices.items) o.ending o.market.prices.items))) }
+    ensures going { IfOk result (λ x. IfNone x (W.has_stopped watch.new ≡ W.has_stopped watch.old)) }
 {
     if rows.is_full() || rows.persons() < rows.objects() {
         let outcome = play_all(alloc, rows, bids, eps, prices, watch)?;
@@ -192,7 +193,7 @@ pub(crate) fn play_quickly<W: Watch>(
         held: 0,
         bids: 0,
     };
-    if !watch.goes_on(progress) {
+    if !may_go_on(watch, progress) {
         let ending = Ending::Stopped(Reason::Bids);
         return Ok(Some(Outcome { ending, market }));
     }

@@ -1,12 +1,14 @@
 //! The solver in one hand.
 
-ghost use Rattle.std.specs.Prelude.{ℕ, ℤ, true, ◌≡◌, ◌⊎◌, pos, All, length, IfOk, IfSome, IfNone};
+ghost use Rattle.std.specs.Prelude.{ℕ, ℤ, ◌≡◌, ◌⊎◌, pos, All, length, IfOk, IfSome, IfNone};
 ghost use Rattle.auc_graph.specs.Assignment.{total};
 ghost use Rattle.auc_graph.specs.Price.{IsPrice};
 ghost use Rattle.auc_letters.specs.Price.{IsEps};
 ghost use Rattle.auc_answers.specs.Answers.{HasAssignment, IsAnswer, IsBracketAnswer, IsInfeasibleAnswer};
 ghost use Rattle.auc_rows.specs.Rows.{AreRowsOf, EachHasArc, IsFlatTable};
-ghost use Rattle.auc_direct.specs.Endings.{IsLeft, IsLimited, IsLimitedFrom, IsStart, IsStopped};
+ghost use Rattle.auc_direct.specs.Endings.{IsLeft, IsLimited, IsLimitedFrom, IsLimitedUnless, IsStart, IsStopTold, IsStopped};
+ghost use Rattle.auc_cert.specs.declared.reason.Reason.{Reason};
+ghost use Rattle.auc_direct.specs.declared.ending.Ending.{Ending};
 ghost use Rattle.auc_direct.specs.Market.{EachHasRow};
 ghost use Rattle.auc_direct.specs.Starts.{AreStartPrices};
 
@@ -16,6 +18,7 @@ use crate::from_start::{play_from, play_from_unasked};
 use crate::gathering::gather;
 use crate::greedy::serves_all;
 use crate::phases::{Outcome, play_all, play_quickly};
+use crate::reduce::start_prices;
 use crate::watch::{Onward, Watch};
 use auc_answers::finish::{bracket, proved_optimal};
 use auc_answers::{Answer, Gathered, Prepared, prepare};
@@ -75,6 +78,7 @@ fn answer_of(
     requires left { IsLeft flat outcome.ending outcome.market.prices.items outcome.market.holders.items outcome.market.owns.items }
     ensures is { IfOk result (IsAnswer problem.now) }
     ensures limit { (bids : ℕ) (begun : ℤ) → IsStopped flat bids begun outcome.ending outcome.market.prices.items → IfOk result (IsLimited problem.now bids begun) }
+    ensures told { outcome.ending ≡ Ending.Stopped Reason.Bids → IfOk result IsStopTold }
 {
     // Read here, so that the proof knows what every problem keeps.
     let _ = problem.arcs();
@@ -98,7 +102,8 @@ fn solve_quickly<W: Watch>(
     watch: &mut W,
 ) -> Result<Option<Answer>, AllocError>
     ensures is { IfOk result (λ o. IfSome o (IsAnswer problem.now)) }
-    ensures limit { IfOk result (λ o. IfSome o (λ a. (W.has_stopped watch.new ≡ true) ⊎ IsLimited problem.now bids (pos 0) a)) }
+    ensures limit { IfOk result (λ o. IfSome o (λ a. IsLimitedUnless (W.has_stopped watch.old) (W.has_stopped watch.new) a (IsLimited problem.now bids (pos 0) a))) }
+    ensures going { IfOk result (λ o. IfNone o (W.has_stopped watch.new ≡ W.has_stopped watch.old)) }
 {
     if problem.persons() < problem.objects() && !serves_all(alloc, problem)? {
         return Ok(None);
@@ -107,8 +112,8 @@ fn solve_quickly<W: Watch>(
     if !flat.each_has_arc() {
         return Ok(None);
     }
-    let prices = vec![in alloc; 0; flat.objects() as usize]?;
-    let eps = first_eps(&flat);
+    let prices = start_prices(alloc, &flat)?;
+    let eps = first_eps(&flat, prices.as_slice());
     let Some(outcome) = play_quickly(alloc, &flat, bids, eps, prices, watch)? else {
         return Ok(None);
     };
@@ -131,7 +136,7 @@ fn solve_rows<W: Watch>(
     requires eps { IsEps eps }
     requires start { IsStart flat eps prices.items }
     ensures is { IfOk result (IsAnswer problem.now) }
-    ensures limit { IfOk result (λ a. (W.has_stopped watch.new ≡ true) ⊎ IsLimited problem.now bids (total prices.items) a) }
+    ensures limit { IfOk result (λ a. IsLimitedUnless (W.has_stopped watch.old) (W.has_stopped watch.new) a (IsLimited problem.now bids (total prices.items) a)) }
 {
     // Read here, so that the proof knows what all rows keep.
     let _ = flat.persons();
@@ -152,7 +157,7 @@ fn solve_rows_from<W: Watch>(
     requires arcs { EachHasArc flat }
     requires start { AreStartPrices problem.now start.now }
     ensures is { IfOk result (IsAnswer problem.now) }
-    ensures limit { IfOk result (λ a. (W.has_stopped watch.new ≡ true) ⊎ IsLimitedFrom problem.now bids start.now a) }
+    ensures limit { IfOk result (λ a. IsLimitedUnless (W.has_stopped watch.old) (W.has_stopped watch.new) a (IsLimitedFrom problem.now bids start.now a)) }
 {
     // Read here, so that the proof knows what all rows keep.
     let _ = flat.persons();
@@ -172,7 +177,8 @@ fn solve_from_unasked<W: Watch>(
 ) -> Result<Option<Answer>, AllocError>
     requires start { AreStartPrices problem.now start.now }
     ensures is { IfOk result (λ o. IfSome o (IsAnswer problem.now)) }
-    ensures limit { IfOk result (λ o. IfSome o (λ a. (W.has_stopped watch.new ≡ true) ⊎ IsLimitedFrom problem.now bids start.now a)) }
+    ensures limit { IfOk result (λ o. IfSome o (λ a. IsLimitedUnless (W.has_stopped watch.old) (W.has_stopped watch.new) a (IsLimitedFrom problem.now bids start.now a))) }
+    ensures going { IfOk result (λ o. IfNone o (W.has_stopped watch.new ≡ W.has_stopped watch.old)) }
 {
     if problem.persons() < problem.objects() && !serves_all(alloc, problem)? {
         return Ok(None);
@@ -247,7 +253,8 @@ pub fn solve_direct_from(
 }
 
 /// Solves a problem as [`solve_direct`] does, and asks between bids whether the run goes on: before each phase, and after 16,384 bids of one (131,072 where no row has 48 arcs), or 64 searches for a path. Where it doesn't, the answer is
-/// a bracket with the reason `Bids`: a bracket stands only after a limit, or where `watch` has said no: clause `limit`. To ask takes O(persons) time, and that of `goes_on`.
+/// a bracket with the reason `Bids`, or that there is no assignment; where it has said no more than before the call, a bracket stands only after a limit: clause `limit`. Who has said no isn't asked
+/// again. To ask takes O(persons) time, and that of `goes_on`.
 ///
 /// Nothing is asked before the rows are laid out, within a search for a path or for an assignment of any cost, within the first twenty-five bids a person, within the phase that comes first
 /// in a full table, which takes some tens of milliseconds beside its bids, while prices are refined, which takes at most the time of some twice the bids of the phase before it, or while the answer is checked.
@@ -262,7 +269,7 @@ pub fn solve_direct_watched<W: Watch>(
     watch: &mut W,
 ) -> Result<Answer, AllocError>
     ensures is { IfOk result (IsAnswer problem.now) }
-    ensures limit { IfOk result (λ a. (W.has_stopped watch.new ≡ true) ⊎ IsLimited problem.now limits.now.bids (pos 0) a) }
+    ensures limit { IfOk result (λ a. IsLimitedUnless (W.has_stopped watch.old) (W.has_stopped watch.new) a (IsLimited problem.now limits.now.bids (pos 0) a)) }
 {
     if let Some(answer) = solve_quickly(alloc, problem, limits.bids, watch)? {
         return Ok(answer);
@@ -271,8 +278,8 @@ pub fn solve_direct_watched<W: Watch>(
         return Ok(answer);
     }
     let flat = FlatRows::build(alloc, problem)?;
-    let prices = vec![in alloc; 0; flat.objects() as usize]?;
-    let eps = first_eps(&flat);
+    let prices = start_prices(alloc, &flat)?;
+    let eps = first_eps(&flat, prices.as_slice());
     solve_rows(alloc, problem, flat, limits.bids, eps, prices, watch)
 }
 
@@ -291,7 +298,7 @@ pub fn solve_direct_watched_from<W: Watch>(
 ) -> Result<Answer, AllocError>
     requires start { AreStartPrices problem.now start.now }
     ensures is { IfOk result (IsAnswer problem.now) }
-    ensures limit { IfOk result (λ a. (W.has_stopped watch.new ≡ true) ⊎ IsLimitedFrom problem.now limits.now.bids start.now a) }
+    ensures limit { IfOk result (λ a. IsLimitedUnless (W.has_stopped watch.old) (W.has_stopped watch.new) a (IsLimitedFrom problem.now limits.now.bids start.now a)) }
 {
     if let Some(answer) = solve_from_unasked(alloc, problem, limits.bids, start, watch)? {
         return Ok(answer);

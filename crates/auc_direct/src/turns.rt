@@ -6,6 +6,7 @@ ghost use Rattle.std.specs.BinaryHeap.{heap_items};
 ghost use Rattle.auc_graph.specs.Assignment.{total};
 ghost use Rattle.auc_letters.specs.Price.{IsEps};
 ghost use Rattle.auc_rows.specs.Rows.{EachHasArc};
+ghost use Rattle.auc_direct.specs.Bids.{AreSpent, state_of};
 ghost use Rattle.auc_direct.specs.Endings.{AreServed, AreSold};
 ghost use Rattle.auc_direct.specs.Market.{HaveAllBut, Stands, own_at};
 ghost use Rattle.auc_direct.specs.Path.{IsClean};
@@ -88,6 +89,7 @@ impl Market {
         ensures served { IfOk result (λ c. AreServed rows.now eps until left.new waiting.new c self.new.prices.items self.new.owns.items) }
         ensures raised { OnOk result ((total self.old.prices.items +ℤ pos left.old) ≤ℤ (total self.new.prices.items +ℤ pos left.new)) }
         ensures fewer { OnOk result (left.new ≤ left.old) }
+        ensures made { OnOk result (AreSpent rows.now eps left.old left.new (state_of self.old) (state_of self.new)) }
         ensures clean { OnOk result (IsClean rows.now.objects work.new.search.labels.items work.new.search.line.items (heap_items work.new.search.heap)) }
         ensures kept { OnOk result (Kept rows.now self.new.prices.items work.new.lists.lists.items) }
     {
@@ -139,6 +141,7 @@ impl Market {
         ensures sold { IfOk result (λ c. AreSold rows.now eps left.new c self.new.prices.items self.new.owns.items) }
         ensures raised { OnOk result ((total self.old.prices.items +ℤ pos left.old) ≤ℤ (total self.new.prices.items +ℤ pos left.new)) }
         ensures fewer { OnOk result (left.new ≤ left.old) }
+        ensures made { OnOk result (AreSpent rows.now eps left.old left.new (state_of self.old) (state_of self.new)) }
         ensures clean { OnOk result (IsClean rows.now.objects work.new.search.labels.items work.new.search.line.items (heap_items work.new.search.heap)) }
         ensures kept { OnOk result (Kept rows.now self.new.prices.items work.new.lists.lists.items) }
     {

@@ -18,9 +18,26 @@ pub trait Watch {
     /// Whether it has said no.
     ghost has_stopped: { Self → Bool };
 
+    /// The same, for who is about to ask.
+    fn has_said_no(&self) -> bool
+        ensures { result ≡ has_stopped self.now };
+
     /// Whether the run goes on. Where it doesn't, it ends, and nothing is asked any more.
     fn goes_on(&mut self, progress: Progress) -> bool
-        ensures { result ≡ false → has_stopped self.new ≡ true };
+        requires going { has_stopped self.old ≡ false }
+        ensures yes { result ≡ true → has_stopped self.new ≡ false }
+        ensures no { result ≡ false → has_stopped self.new ≡ true };
+}
+
+/// Asks whether a run goes on; who has said no isn't asked again.
+pub(crate) fn may_go_on<W: Watch>(watch: &mut W, progress: Progress) -> bool
+    ensures yes { result ≡ true → W.has_stopped watch.new ≡ W.has_stopped watch.old }
+    ensures no { result ≡ false → W.has_stopped watch.new ≡ true }
+{
+    if watch.has_said_no() {
+        return false;
+    }
+    watch.goes_on(progress)
 }
 
 /// Lets every run go on.
@@ -29,6 +46,10 @@ pub struct Onward;
 
 impl Watch for Onward {
     ghost has_stopped = { λ _. false };
+
+    fn has_said_no(&self) -> bool {
+        false
+    }
 
     fn goes_on(&mut self, _progress: Progress) -> bool {
         true

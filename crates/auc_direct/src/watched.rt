@@ -1,6 +1,6 @@
 //! A phase in slices, before each of which somebody is asked whether it goes on.
 
-ghost use Rattle.std.specs.Prelude.{ℕ, ℤ, List, true, false, ◌≡◌, ◌⊎◌, ◌<◌, ◌≤◌, ◌≤ℤ◌, length, IfOk, IfSome, IfNone, OnOk};
+ghost use Rattle.std.specs.Prelude.{ℕ, ℤ, List, true, false, ◌≡◌, ◌<◌, ◌≤◌, ◌≤ℤ◌, length, IfOk, IfSome, IfNone, OnOk};
 ghost use Rattle.std.specs.BinaryHeap.{heap_items};
 ghost use Rattle.auc_cert.specs.declared.reason.Reason.{Reason};
 ghost use Rattle.auc_graph.specs.Assignment.{total};
@@ -8,7 +8,7 @@ ghost use Rattle.auc_letters.specs.Price.{IsEps};
 ghost use Rattle.auc_rows.specs.declared.arc.ShortArc.{ShortArc};
 ghost use Rattle.auc_rows.specs.Rows.{EachHasArc, FlatTable};
 ghost use Rattle.auc_direct.specs.declared.ending.Ending.{Ending};
-ghost use Rattle.auc_direct.specs.Endings.{IsEnding, IsSold};
+ghost use Rattle.auc_direct.specs.Endings.{IsEnding, IsSold, IsToldOr};
 ghost use Rattle.auc_direct.specs.Market.{Stands};
 ghost use Rattle.auc_direct.specs.Path.{IsClean};
 ghost use Rattle.auc_direct.specs.Shortlist.{Kept};
@@ -16,7 +16,7 @@ ghost use Rattle.auc_direct.specs.Shortlist.{Kept};
 use crate::ending::Ending;
 use crate::lists::Lists;
 use crate::market::{Market, NOBODY};
-use crate::watch::{Progress, Watch};
+use crate::watch::{Progress, Watch, may_go_on};
 use crate::workspace::Workspace;
 use auc_cert::Reason;
 use auc_rows::FlatRows;
@@ -89,6 +89,7 @@ impl Market {
         requires kept { Kept rows.now self.old.prices.items work.old.lists.lists.items }
         ensures stands { OnOk result (Stands rows.now eps self.new.prices.items self.new.holders.items self.new.owns.items) }
         ensures no { IfOk result (λ o. IfNone o (W.has_stopped watch.new ≡ true)) }
+        ensures yes { IfOk result (λ o. IfSome o (λ e. W.has_stopped watch.new ≡ W.has_stopped watch.old)) }
         ensures sold { IfOk result (λ o. IfSome o (λ e. IsSold rows.now e self.new.owns.items)) }
         ensures ending { IfOk result (λ o. IfSome o (λ e. IsEnding rows.now bids (total self.old.prices.items) e self.new.prices.items self.new.owns.items)) }
         ensures risen { OnOk result (total self.old.prices.items ≤ℤ total self.new.prices.items) }
@@ -102,7 +103,7 @@ impl Market {
                 held: count_held(self),
                 bids: bids - left,
             };
-            if !watch.goes_on(progress) {
+            if !may_go_on(watch, progress) {
                 return Ok(None);
             }
             let slice = left.min(slice_of(patience, SEARCHES, &work.lists));
@@ -135,7 +136,7 @@ impl Market {
         requires kept { Kept rows.now self.old.prices.items work.old.lists.lists.items }
         ensures stands { OnOk result (Stands rows.now eps self.new.prices.items self.new.holders.items self.new.owns.items) }
         ensures sold { IfOk result (λ e. IsSold rows.now e self.new.owns.items) }
-        ensures ending { IfOk result (λ e. (W.has_stopped watch.new ≡ true) ⊎ IsEnding rows.now bids (total self.old.prices.items) e self.new.prices.items self.new.owns.items) }
+        ensures ending { IfOk result (λ e. IsToldOr (W.has_stopped watch.old) (W.has_stopped watch.new) e (IsEnding rows.now bids (total self.old.prices.items) e self.new.prices.items self.new.owns.items)) }
         ensures risen { OnOk result (total self.old.prices.items ≤ℤ total self.new.prices.items) }
         ensures clean { OnOk result (IsClean rows.now.objects work.new.search.labels.items work.new.search.line.items (heap_items work.new.search.heap)) }
         ensures kept { OnOk result (Kept rows.now self.new.prices.items work.new.lists.lists.items) }
@@ -163,7 +164,8 @@ impl Market {
         requires kept { Kept rows.now self.old.prices.items work.old.lists.lists.items }
         ensures stands { OnOk result (Stands rows.now eps self.new.prices.items self.new.holders.items self.new.owns.items) }
         ensures sold { IfOk result (λ o. IfSome o (λ e. IsSold rows.now e self.new.owns.items)) }
-        ensures ending { IfOk result (λ o. IfSome o (λ e. (W.has_stopped watch.new ≡ true) ⊎ IsEnding rows.now bids (total self.old.prices.items) e self.new.prices.items self.new.owns.items)) }
+        ensures ending { IfOk result (λ o. IfSome o (λ e. IsToldOr (W.has_stopped watch.old) (W.has_stopped watch.new) e (IsEnding rows.now bids (total self.old.prices.items) e self.new.prices.items self.new.owns.items))) }
+        ensures going { IfOk result (λ o. IfNone o (W.has_stopped watch.new ≡ W.has_stopped watch.old)) }
     {
         let mut left = bids;
         loop {
@@ -172,7 +174,7 @@ impl Market {
                 held: count_held(self),
                 bids: bids - left,
             };
-            if !watch.goes_on(progress) {
+            if !may_go_on(watch, progress) {
                 return Ok(Some(Ending::Stopped(Reason::Bids)));
             }
             let slice = left.min(slice_of(patience, FEW_SEARCHES, &work.lists));

@@ -4,6 +4,7 @@
 #![tactic(auto)]
 
 mod arc;
+mod columns;
 mod layout;
 mod rows;
 

@@ -5,6 +5,7 @@ ghost use Rattle.auc_rows.specs.Rows.{AreRowsOf, IsShort, flat_row_of};
 ghost use Rattle.auc_rows.specs.Layout.{IsLaidOut, part};
 
 use crate::arc::ShortArc;
+use crate::columns::Columns;
 use crate::layout::{LaidOut, laid_out};
 use auc_graph::{ArcList, MOST_PERSONS};
 use std::alloc::{AllocError, Global};
@@ -20,6 +21,7 @@ pub struct FlatRows {
     objects: u32,
     starts: Vec<usize>,
     arcs: Vec<ShortArc>,
+    columns: Columns,
     is_full: bool,
 }
 
@@ -80,6 +82,7 @@ impl FlatRows {
             starts,
             arcs,
             spread,
+            columns,
         } = laid_out(alloc, problem)?;
         let is_full = are_full(arcs.as_slice(), persons, objects);
         Ok(FlatRows {
@@ -88,6 +91,7 @@ impl FlatRows {
             objects,
             starts,
             arcs,
+            columns,
             is_full,
         })
     }
@@ -129,6 +133,12 @@ impl FlatRows {
         ensures high { result ≤ℤ pos (2 * 10 ^ 9) }
     {
         self.spread
+    }
+
+    /// The least cost of the arcs that lead to an object, in costs of the file, and none where there are none. No clause says which it is: prices of any kind serve to begin with. O(1).
+    #[inline]
+    pub fn least_cost(&self, object: u32) -> Option<i32> {
+        self.columns.least(object)
     }
 
     /// The number of all arcs.

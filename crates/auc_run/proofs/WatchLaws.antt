@@ -4,7 +4,7 @@ use Rattle.std.specs.Prelude.{IsErrAnd}
 use Rattle.auc_graph.specs.Problem.{Problem}
 use Rattle.auc_answers.specs.declared.answer.Answer.{Answer}
 use Rattle.auc_answers.specs.Answers.{IsAnswer}
-use Rattle.auc_direct.specs.Endings.{IsLimited, IsLimitedFrom}
+use Rattle.auc_direct.specs.Endings.{IsLimited, IsLimitedFrom, IsLimitedUnless}
 use Rattle.auc_run.specs.declared.command.Job.{Job}
 use Rattle.auc_run.specs.declared.command.Job.TheVariants.{Solve}
 use Rattle.auc_run.specs.declared.refusal.Refusal.{Refusal}
@@ -21,14 +21,14 @@ use Rattle.auc_run.proofs.StartLaws.{answered, direct_from_nothing}
 
 -- ---- in one hand
 
-pub answered_directly : (told : Bool) (objects bids : ℕ) (a : Option (List ℕ)) (p : Problem) (answer : Answer) → IsProblemIn objects a (Ok p) → IsAnswer p answer → (told ≡ true) ⊎ IsLimited p bids (pos 0) answer → IsDirectUnless told objects bids a (Ok answer)
-answered_directly told objects bids a p answer h is (inl stopped) = inr (stopped, λ b. (h.0, known b, h.1, are_known b, (p, h.2, tt, is)))
-answered_directly told objects bids a p answer h is (inr limited) = inl (h.0, h.1, (p, h.2, is, limited))
+pub answered_directly : (before told : Bool) (objects bids : ℕ) (a : Option (List ℕ)) (p : Problem) (answer : Answer) → IsProblemIn objects a (Ok p) → IsAnswer p answer → IsLimitedUnless before told answer (IsLimited p bids (pos 0) answer) → IsDirectUnless told objects bids a (Ok answer)
+answered_directly before told objects bids a p answer h is (inl stopped) = inr (stopped.0, λ b. (h.0, known b, h.1, are_known b, (p, h.2, tt, is, stopped.1)))
+answered_directly before told objects bids a p answer h is (inr limited) = inl (h.0, h.1, (p, h.2, is, limited.1))
 
-pub answered_from : (told : Bool) (objects bids audit : ℕ) (a b : Option (List ℕ)) (s : Started) (answer : Answer) → IsStartIn true objects a b (Ok s) → IsAnswer s.problem answer → (told ≡ true) ⊎ IsLimitedFrom s.problem bids s.prices.items answer
+pub answered_from : (before told : Bool) (objects bids audit : ℕ) (a b : Option (List ℕ)) (s : Started) (answer : Answer) → IsStartIn true objects a b (Ok s) → IsAnswer s.problem answer → IsLimitedUnless before told answer (IsLimitedFrom s.problem bids s.prices.items answer)
     → IsSolvedFromUnless told objects bids audit a b (Ok answer)
-answered_from told objects bids audit a b s answer h is (inl stopped) = inr (stopped, (h.0, h.1, h.2, h.3, (s.problem, h.4.problem, (s.prices.items, h.4), is)))
-answered_from told objects bids audit a b s answer h is (inr limited) = inl (answered true objects a b 0 bids audit s answer h (is, limited))
+answered_from before told objects bids audit a b s answer h is (inl stopped) = inr (stopped.0, (h.0, h.1, h.2, h.3, (s.problem, h.4.problem, (s.prices.items, h.4), is, stopped.1)))
+answered_from before told objects bids audit a b s answer h is (inr limited) = inl (answered true objects a b 0 bids audit s answer h (is, limited.1))
 
 -- ---- a solve
 

@@ -3,6 +3,7 @@ use Rattle.std.specs.Prelude.{◌≡◌, ◌⊎◌, ℕ, List, ℤ, Option, Resu
 use Rattle.auc_graph.specs.Problem.{Problem}
 use Rattle.auc_answers.specs.declared.answer.Answer.{Answer}
 use Rattle.auc_answers.specs.Answers.{IsAnswer}
+use Rattle.auc_direct.specs.Endings.{IsStopTold}
 use Rattle.auc_run.specs.declared.command.Job.{Job}
 use Rattle.auc_run.specs.declared.command.Job.TheVariants.{Solve, Check, Hall, Mail}
 use Rattle.auc_run.specs.declared.ending.Ending.{Ending}
@@ -19,10 +20,10 @@ abbrev pub BeganWith : Bool → ℕ → List ℕ → List ℕ → Problem → Ty
 BeganWith false objects file cert p = ⊤
 BeganWith true objects file cert p = (start : List ℤ) × IsStartOf true objects file cert p start
 
--- A run was stopped, and has answered about what two readers have: as right an answer as any, of which it isn't said that a limit has made it. A refusal isn't made by a stop.
+-- A run was stopped, and has answered about what two readers have: as right an answer as any, a bracket with the reason that bids ran out, or that there is no assignment. A refusal isn't made by a stop.
 abbrev pub IsStoppedIn : Bool → ℕ → Option (List ℕ) → Option (List ℕ) → Result Answer Refusal → Type 0
 IsStoppedIn from objects first second (Ok answer) =
-    (file : List ℕ) × (cert : List ℕ) × AreKnown first file × AreKnown second cert × ((p : Problem) × IsProblemOf objects file p × BeganWith from objects file cert p × IsAnswer p answer)
+    (file : List ℕ) × (cert : List ℕ) × AreKnown first file × AreKnown second cert × ((p : Problem) × IsProblemOf objects file p × BeganWith from objects file cert p × IsAnswer p answer × IsStopTold answer)
 IsStoppedIn from objects first second (Err refusal) = ⊥
 
 -- unless it was stopped, an answer from nothing is that of a run that nobody watches

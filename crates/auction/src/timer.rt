@@ -69,6 +69,10 @@ impl<'a, R: Clock + Eprint> Timer<'a, R> {
 impl<R: Clock + Eprint> Watch for Timer<'_, R> {
     ghost has_stopped = { λ timer. timer.has_stopped };
 
+    fn has_said_no(&self) -> bool {
+        self.has_stopped
+    }
+
     fn goes_on(&mut self, progress: Progress) -> bool {
         let Watching {
             seconds: most,

@@ -23,6 +23,10 @@ struct Ear {
 impl Watch for Ear {
     ghost has_stopped = { λ _. false };
 
+    fn has_said_no(&self) -> bool {
+        false
+    }
+
     fn goes_on(&mut self, progress: Progress) -> bool {
         if self.questions == 0 {
             self.first = progress.eps;
@@ -45,9 +49,10 @@ fn listening() -> Ear {
     }
 }
 
-/// Groups of three, of whom each has two objects for nothing and the third one for 10, and others who have their own for nothing and the next one for 100: the first phase gives the
-/// third object away at a great eps, and the last one would take many small steps up to that price.
+/// Groups of three, of whom each has two objects for nothing and the third one for 10, and others who have their own for nothing, the next one for 100, and the third one of a group for 1, so that
+/// its price isn't made up for before the first phase: that gives the third object away at a great eps, and the last one would take many small steps up to that price.
 fn groups(rt: &HostRuntime, groups: u32, others: u32) -> Result<ArcList, Fail>
+    requires some { 1 ≤ groups }
     requires groups { groups ≤ 1000 }
     requires others { others ≤ 1000 }
 {
@@ -69,7 +74,8 @@ fn groups(rt: &HostRuntime, groups: u32, others: u32) -> Result<ArcList, Fail>
         } else {
             grouped
         };
-        for (object, cost) in [(person, 0), (next, 100)] {
+        let wanted = (person - grouped) % groups * 3 + 2;
+        for (object, cost) in [(person, 0), (next, 100), (wanted, 1)] {
             arcs.push(Arc {
                 cost,
                 person,
@@ -80,7 +86,7 @@ fn groups(rt: &HostRuntime, groups: u32, others: u32) -> Result<ArcList, Fail>
     ArcList::from_arcs(persons, persons, arcs).map_err(|_| Fail::new("no problem"))
 }
 
-/// After a first phase at 5 * 999,999 / 16 the last one ends the run.
+/// After a first phase at 5 * 999,999 / 8 the last one ends the run.
 #[test]
 fn two_levels(rt: HostRuntime) -> Result<(), Fail> {
     let problem = problem_of(&rt, LEVELS, 0)?;
@@ -89,7 +95,7 @@ fn two_levels(rt: HostRuntime) -> Result<(), Fail> {
     let told = text_of(&rt, &problem, answer)?;
     assert!(rt; told.as_slice().starts_with(b"auction 1\noptimal 4 4\n"));
     assert!(rt; ear.questions == 2);
-    assert!(rt; ear.first == 312_499);
+    assert!(rt; ear.first == 624_999);
     assert!(rt; ear.last == 1);
     Ok(())
 }
@@ -103,23 +109,23 @@ fn given_up(rt: HostRuntime) -> Result<(), Fail> {
     let told = text_of(&rt, &problem, answer)?;
     assert!(rt; told.as_slice().starts_with(b"auction 1\noptimal 140 300\n"));
     assert!(rt; ear.questions == 5);
-    assert!(rt; ear.first == 881);
+    assert!(rt; ear.first == 731);
     assert!(rt; ear.second == 1);
     assert!(rt; ear.last == 1);
     Ok(())
 }
 
-/// With more persons, in the same way, the phase at 17 took more bids than the one at 141, which tells that prices go up by small steps: they are refined, and the phases at 2 and 1 don't come.
+/// With more persons, in the same way, the phase at 18 took more bids than the one at 150, which tells that prices go up by small steps: they are refined, and the phases at 2 and 1 don't come.
 #[test]
 fn refined(rt: HostRuntime) -> Result<(), Fail> {
-    let problem = groups(&rt, 40, 60)?;
+    let problem = groups(&rt, 60, 80)?;
     let mut ear = listening();
     let answer = solve_direct_watched(rt.alloc(), &problem, &AMPLE, &mut ear)?;
     let told = text_of(&rt, &problem, answer)?;
-    assert!(rt; told.as_slice().starts_with(b"auction 1\noptimal 180 400\n"));
+    assert!(rt; told.as_slice().starts_with(b"auction 1\noptimal 260 600\n"));
     assert!(rt; ear.questions == 4);
-    assert!(rt; ear.first == 1131);
+    assert!(rt; ear.first == 1207);
     assert!(rt; ear.second == 1);
-    assert!(rt; ear.last == 17);
+    assert!(rt; ear.last == 18);
     Ok(())
 }

@@ -7,7 +7,7 @@ use std::test::*;
 /// Three persons who all like the first object best.
 const THREE: &str = "3\n1 1 4 1 2 1 1 3 3\n2 1 2 2 2 0 2 3 5\n3 1 3 3 2 2 3 3 2\n";
 
-/// With no bid nothing has a price; with one, the second object has.
+/// With no bid the prices are those that make up for the least cost of each column, 2, 0 and 2; the scale is 4.
 #[test]
 fn few_bids(rt: HostRuntime) -> Result<(), Fail> {
     let problem = problem_of(&rt, THREE, 0)?;
@@ -18,7 +18,7 @@ fn few_bids(rt: HostRuntime) -> Result<(), Fail> {
     let told = answered(&rt, &problem, &DirectLimits { bids: 0 })?;
     assert!(rt;
         told.as_slice()
-            .ends_with(b"\nprice 1 0\nprice 2 0\nprice 3 0\n")
+            .ends_with(b"\nprice 1 0\nprice 2 8\nprice 3 0\n")
     );
     Ok(())
 }

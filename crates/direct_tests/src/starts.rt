@@ -33,19 +33,32 @@ fn prices_start_a_solve(rt: HostRuntime) -> Result<(), Fail> {
     Ok(())
 }
 
+/// At prices that show who takes what no bid is left to make.
+#[test]
+fn no_bids_from_prices(rt: HostRuntime) -> Result<(), Fail> {
+    let problem = problem_of(&rt, THREE, 0)?;
+    let told = answered_from(&rt, &problem, &DirectLimits { bids: 0 }, &[0, 8, 1])?;
+    assert!(rt;
+        told.as_slice().starts_with(
+            b"auction 1\noptimal 3 5\nassign 1 2 1\nassign 2 1 2\nassign 3 3 2\n"
+        )
+    );
+    Ok(())
+}
+
 /// Five persons, five objects; and the same with one cost more.
 const FIVE: [&str; 2] = [
     "5\n1 1 13 1 2 24 1 3 20 1 4 6 1 5 1\n2 1 21 2 3 -3 2 4 -9 2 5 17\n3 1 15 3 2 -5 3 3 30 3 4 -1 3 5 -9\n4 1 4 4 3 1 4 4 3 4 5 4\n5 1 3 5 4 14 5 5 0\n",
     "5\n1 1 13 1 2 24 1 3 20 1 4 6 1 5 31\n2 1 21 2 3 -3 2 4 -9 2 5 17\n3 1 15 3 2 -5 3 3 30 3 4 -1 3 5 -9\n4 1 4 4 3 1 4 4 3 4 5 4\n5 1 3 5 4 14 5 5 0\n",
 ];
 
-/// From the prices of a solve, of the same problem with no bid, and of the one before. The costs are those that trying all assignments gives.
+/// From the prices of a solve, of the same problem, and of the one before. The costs are those that trying all assignments gives.
 #[test]
 fn prices_of_a_solve(rt: HostRuntime) -> Result<(), Fail> {
     let old = problem_of(&rt, FIVE[0], 0)?;
     let new = problem_of(&rt, FIVE[1], 0)?;
     let start = prices_of(&rt, &old)?;
-    let told = answered_from(&rt, &old, &DirectLimits { bids: 0 }, start.as_slice())?;
+    let told = answered_from(&rt, &old, &AMPLE, start.as_slice())?;
     assert!(rt;
         told.as_slice().starts_with(
             b"auction 1\noptimal 5 -9\nassign 1 5 1\nassign 2 4 -9\nassign 3 2 -5\nassign 4 3 1\nassign 5 1 3\n"

@@ -18,6 +18,10 @@ struct Patience {
 impl Watch for Patience {
     ghost has_stopped = { λ p. p.has_stopped };
 
+    fn has_said_no(&self) -> bool {
+        self.has_stopped
+    }
+
     fn goes_on(&mut self, _progress: Progress) -> bool {
         self.asked = self.asked.saturating_add(1);
         if self.left == 0 {

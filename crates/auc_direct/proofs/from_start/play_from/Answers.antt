@@ -1,8 +1,8 @@
-use Rattle.std.proofs.Common.{◌≡◌, ◌⊎◌, arith, pos, refl, true, Err, Ok, Result}
+use Rattle.std.proofs.Common.{arith, pos, refl, Err, Ok, Result}
 use Rattle.std.specs.Prelude.{◌≤ℤ◌, IfOk}
 use Rattle.std.proofs.lemmas.Int.{ints}
 use Rattle.auc_graph.specs.Assignment.{total}
-use Rattle.auc_direct.specs.Endings.{IsLeft, IsOutcomeFrom, IsStopped}
+use Rattle.auc_direct.specs.Endings.{IsLeft, IsOutcomeFrom, IsStopped, IsToldOr}
 use Rattle.auc_direct.proofs.EndingLaws.{sold_left, stopped_before, watched_stopped}
 use Rattle.auc_direct.proofs.from_start.play_from.Goals.{in-Some, in-None}
 use Rattle.auc_direct.proofs.from_start.play_from.Goals as goal
@@ -16,7 +16,7 @@ returns g c =
       left = sold_left c.args.rows.now (pos 1) c.in_ok-ending-2.ending c.play_watched.new.self.prices.items c.play_watched.new.self.holders.items c.play_watched.new.self.owns.items after.stands after.sold (λ e. refl);
       begun = begun;
       opened = c.in_ok-market.ensures.opened;
-      stopped = watched_stopped (g.W.Watch.has_stopped c.play_watched.new.watch) c.args.rows.now c.args.bids (total begun) (total begun) c.in_ok-ending-2.ending c.play_watched.new.self.prices.items c.play_watched.new.self.owns.items same after.ending;
+      stopped = watched_stopped (g.W.Watch.has_stopped c.args.watch.now) (g.W.Watch.has_stopped c.play_watched.new.watch) c.args.rows.now c.args.bids (total begun) (total begun) c.in_ok-ending-2.ending c.play_watched.new.self.prices.items c.play_watched.new.self.owns.items same after.ending;
     }
 
 pub play_watched-requires-clause-kept : goal.play_watched-requires-clause-kept
@@ -39,17 +39,17 @@ returns-then-persons-objects g c =
         left = sold_left c.args.rows.now (pos 1) w.in-Some.ending c.play_early.new.self.prices.items c.play_early.new.self.holders.items c.play_early.new.self.owns.items after.stands (rw w.in-Some.is at after.sold) (λ e. refl);
         begun = begun;
         opened = c.in_ok-market.ensures.opened;
-        stopped = watched_stopped (g.W.Watch.has_stopped c.play_early.new.watch) c.args.rows.now c.args.bids (total begun) (total begun) w.in-Some.ending c.play_early.new.self.prices.items c.play_early.new.self.owns.items same (rw w.in-Some.is at after.ending);
+        stopped = watched_stopped (g.W.Watch.has_stopped c.args.watch.now) (g.W.Watch.has_stopped c.play_early.new.watch) c.args.rows.now c.args.bids (total begun) (total begun) w.in-Some.ending c.play_early.new.self.prices.items c.play_early.new.self.owns.items same (rw w.in-Some.is at after.ending);
       })
       | in-None w ↦ rw (w.watch-is, w.result-is) (both w.play_phases.result
           (λ o. IsLeft c.args.rows.now o.ending o.market.prices.items o.market.holders.items o.market.owns.items)
-          (λ o. (g.W.Watch.has_stopped w.play_phases.new.watch ≡ true) ⊎ IsStopped c.args.rows.now c.args.bids (total c.play_early.new.self.prices.items) o.ending o.market.prices.items)
-          (λ o. IsOutcomeFrom c.args.rows.now c.args.bids c.args.start.now (g.W.Watch.has_stopped w.play_phases.new.watch) o.ending o.market.prices.items o.market.holders.items o.market.owns.items)
+          (λ o. IsToldOr (g.W.Watch.has_stopped c.play_early.new.watch) (g.W.Watch.has_stopped w.play_phases.new.watch) o.ending (IsStopped c.args.rows.now c.args.bids (total c.play_early.new.self.prices.items) o.ending o.market.prices.items))
+          (λ o. IsOutcomeFrom c.args.rows.now c.args.bids c.args.start.now (g.W.Watch.has_stopped c.args.watch.now) (g.W.Watch.has_stopped w.play_phases.new.watch) o.ending o.market.prices.items o.market.holders.items o.market.owns.items)
           (λ o left stopped. record {
             left = left;
             begun = begun;
             opened = c.in_ok-market.ensures.opened;
-            stopped = stopped_before (g.W.Watch.has_stopped w.play_phases.new.watch) c.args.rows.now c.args.bids (total begun) (total c.play_early.new.self.prices.items) o.ending o.market.prices.items after.risen stopped;
+            stopped = stopped_before (g.W.Watch.has_stopped c.args.watch.now) (g.W.Watch.has_stopped c.play_early.new.watch) (g.W.Watch.has_stopped w.play_phases.new.watch) c.args.rows.now c.args.bids (total begun) (total c.play_early.new.self.prices.items) o.ending o.market.prices.items (rw w.in-None.is at after.going) after.risen stopped;
           })
           w.play_phases.ensures.left w.play_phases.ensures.stopped)
     ]

@@ -8,8 +8,8 @@ use Rattle.auc_direct.proofs.from_start.play_from_unasked.Goals as goal
 pub play_unless_stuck-requires-clause-kept : goal.play_unless_stuck-requires-clause-kept
 play_unless_stuck-requires-clause-kept g c = c.in_ok-work.ensures.kept c.in_ok-market.market.prices.items
 
-pub returns-in-Some : goal.returns-in-Some
-returns-in-Some g c =
+pub returns-in-Some-clause-outcome : goal.returns-in-Some-clause-outcome
+returns-in-Some-clause-outcome g c =
     let after = c.in_ok-ending.ensures in
     let begun = c.in_ok-market.market.prices.items in
     let same : total begun ≤ℤ total begun = omega (arith, ints) in
@@ -17,5 +17,5 @@ returns-in-Some g c =
       left = sold_left c.args.rows.now (pos 1) c.in-Some.ending c.play_unless_stuck.new.self.prices.items c.play_unless_stuck.new.self.holders.items c.play_unless_stuck.new.self.owns.items after.stands (rw c.in-Some.is at after.sold) (λ e. refl);
       begun = begun;
       opened = c.in_ok-market.ensures.opened;
-      stopped = watched_stopped (g.W.Watch.has_stopped c.play_unless_stuck.new.watch) c.args.rows.now c.args.bids (total begun) (total begun) c.in-Some.ending c.play_unless_stuck.new.self.prices.items c.play_unless_stuck.new.self.owns.items same (rw c.in-Some.is at after.ending);
+      stopped = watched_stopped (g.W.Watch.has_stopped c.args.watch.now) (g.W.Watch.has_stopped c.play_unless_stuck.new.watch) c.args.rows.now c.args.bids (total begun) (total begun) c.in-Some.ending c.play_unless_stuck.new.self.prices.items c.play_unless_stuck.new.self.owns.items same (rw c.in-Some.is at after.ending);
     }

@@ -1,8 +1,10 @@
-use Rattle.std.proofs.Common.{ap, arith, length, rules, sym, subst, to_z, w64}
+use Rattle.std.proofs.Common.{◌≡◌, ◌∙◌, ap, arith, refl, length, rules, sym, subst, to_z, w64}
 use Rattle.std.specs.Prelude.{FitsSigned}
 use Rattle.std.proofs.lemmas.Int.{ints, to_z-of_z}
 use Rattle.auc_graph.specs.Assignment.{total}
-use Rattle.auc_direct.specs.Endings.{IsStart}
+use Rattle.auc_direct.specs.declared.ending.Ending.{Ending}
+use Rattle.auc_direct.specs.Endings.{IsEnding, IsStart}
+use Rattle.auc_direct.proofs.EndingLaws.{sold_going}
 use Rattle.auc_direct.proofs.Opening.{stands_opened, start_next}
 use Rattle.auc_direct.proofs.Refinement.{stands_any}
 use Rattle.auc_direct.proofs.phases.play_phases.Goals as goal
@@ -26,6 +28,7 @@ loop-work-preserved g c =
     let after = c.in_ok-ending.ensures in
     let range = c.in-Some-next_eps.ensures.range in
     let less = c.in-Some-next_eps.ensures.less in
+    let going : g.W.Watch.has_stopped c.play_ahead.new.watch ≡ g.W.Watch.has_stopped c.loop-work.watch = search rules in
     simp to_z-of_z (record {
       eps_is = range;
       start = start_next c.args.rows.now eps c.in-Some-next_eps.next c.play_ahead.new.self.prices.items c.play_watched.new.self.prices.items c.play_watched.new.self.holders.items c.play_watched.new.self.owns.items range less ahead.start after.stands;
@@ -33,6 +36,7 @@ loop-work-preserved g c =
       clean = after.clean;
       kept = after.kept;
       risen = (let o = ap total c.open.ensures.prices in let a = inv.risen in let d = c.in_ok-refine.ensures.risen in let e = ahead.risen in let b = after.risen in omega (arith, ints, o, a, d, e, b));
+      asked = sold_going (g.W.Watch.has_stopped c.play_ahead.new.watch) (g.W.Watch.has_stopped c.play_watched.new.watch) (IsEnding c.args.rows.now c.args.bids (total c.open.new.self.prices.items) Ending.Sold c.play_watched.new.self.prices.items c.play_watched.new.self.owns.items) (rw c.in-Sold.is at after.ending) ∙ going ∙ inv.asked;
     })
 
 pub loop-work-init : goal.loop-work-init
@@ -45,4 +49,5 @@ loop-work-init g c =
       clean = c.requires.clean;
       kept = c.requires.kept;
       risen = omega (arith, ints);
+      asked = refl;
     })

@@ -1,4 +1,4 @@
-use Rattle.std.specs.Prelude.{unsigned_abs, ◌≤ℤ◌}
+use Rattle.std.specs.Prelude.{unsigned_abs, ◌≡◌, ◌≤ℤ◌}
 use Rattle.auc_graph.specs.Assignment.{total}
 use Rattle.auc_letters.specs.Price.{IsEps}
 use Rattle.std.specs.BinaryHeap.{heap_items}
@@ -17,6 +17,7 @@ invariant-loop-work g l = record {
   clean : IsClean l.rows.objects l.work.search.labels.items l.work.search.line.items (heap_items l.work.search.heap);
   kept : Kept l.rows l.market.prices.items l.work.lists.lists.items;
   risen : total l.fn.market.prices.items ≤ℤ total l.market.prices.items;
+  asked : g.W.Watch.has_stopped l.watch ≡ g.W.Watch.has_stopped l.fn.watch;
 }
 
 abbrev pub decreases-loop-work : goal.decreases-loop-work

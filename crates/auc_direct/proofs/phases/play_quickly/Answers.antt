@@ -1,4 +1,4 @@
-use Rattle.std.proofs.Common.{arith, ap, length, rules, sym, subst, w64}
+use Rattle.std.proofs.Common.{◌≡◌, arith, ap, length, rules, sym, subst, w64}
 use Rattle.std.specs.Prelude.{FitsSigned, ◌≤ℤ◌}
 use Rattle.std.proofs.lemmas.Int.{ints, to_z-of_z}
 use Rattle.auc_graph.specs.Assignment.{total}
@@ -17,20 +17,22 @@ play_fine-requires-clause-stands g c =
 pub play_fine-requires-clause-kept : goal.play_fine-requires-clause-kept
 play_fine-requires-clause-kept g c = c.in_ok-work.ensures.kept c.in_ok-market.market.prices.items
 
-pub returns-then-not-goes_on-clause-left : goal.returns-then-not-goes_on-clause-left
-returns-then-not-goes_on-clause-left g c = (
+pub returns-then-not-may_go_on-clause-left : goal.returns-then-not-may_go_on-clause-left
+returns-then-not-may_go_on-clause-left g c = (
   c.args.eps,
   (
       let start = subst (IsStart c.args.rows.now c.args.eps) (sym c.in_ok-market.ensures.prices) c.requires.start in
       stands_opened c.args.rows.now c.args.eps c.args.eps c.in_ok-market.market.prices.items c.in_ok-market.market.holders.items c.in_ok-market.market.owns.items (length c.args.prices.items) c.persons-2.result start c.requires.start.each c.persons-2.ensures.persons c.in_ok-market.ensures.holders c.in_ok-market.ensures.owns
       ),
+  tt,
 )
 
 pub returns-in-Some-early-clause-stopped : goal.returns-in-Some-early-clause-stopped
 returns-in-Some-early-clause-stopped g c =
     let o = c.in_ok-outcome-2.outcome in
     let le : total c.args.prices.items ≤ℤ total c.play_fine.new.self.prices.items = (let e = ap total c.in_ok-market.ensures.prices in let r = c.in_ok-early.ensures.risen in omega (arith, ints, e, r)) in
-    stopped_before (g.W.Watch.has_stopped c.play_phases.new.watch) c.args.rows.now c.args.bids (total c.args.prices.items) (total c.play_fine.new.self.prices.items) o.ending o.market.prices.items le c.in_ok-outcome-2.ensures.stopped
+    let on : g.W.Watch.has_stopped c.may_go_on.new.watch ≡ g.W.Watch.has_stopped c.args.watch.now = search rules in
+    stopped_before (g.W.Watch.has_stopped c.args.watch.now) (g.W.Watch.has_stopped c.may_go_on.new.watch) (g.W.Watch.has_stopped c.play_phases.new.watch) c.args.rows.now c.args.bids (total c.args.prices.items) (total c.play_fine.new.self.prices.items) o.ending o.market.prices.items on le c.in_ok-outcome-2.ensures.stopped
 
 pub play_phases-requires-in-Sold-clause-start : goal.play_phases-requires-in-Sold-clause-start
 play_phases-requires-in-Sold-clause-start g c =
@@ -45,7 +47,8 @@ pub returns-in_ok-outcome-in-Sold-clause-stopped : goal.returns-in_ok-outcome-in
 returns-in_ok-outcome-in-Sold-clause-stopped g c =
     let o = c.in_ok-outcome-in-Sold.outcome in
     let le : total c.args.prices.items ≤ℤ total c.play.new.self.prices.items = (let e = ap total c.in_ok-market.ensures.prices in let f = c.in_ok-early.ensures.risen in let r = c.in_ok-play.ensures.risen in omega (arith, ints, e, f, r)) in
-    stopped_before (g.W.Watch.has_stopped c.play_phases-in-Sold.new.watch) c.args.rows.now c.args.bids (total c.args.prices.items) (total c.play.new.self.prices.items) o.ending o.market.prices.items le c.in_ok-outcome-in-Sold.ensures.stopped
+    let on : g.W.Watch.has_stopped c.may_go_on.new.watch ≡ g.W.Watch.has_stopped c.args.watch.now = search rules in
+    stopped_before (g.W.Watch.has_stopped c.args.watch.now) (g.W.Watch.has_stopped c.may_go_on.new.watch) (g.W.Watch.has_stopped c.play_phases-in-Sold.new.watch) c.args.rows.now c.args.bids (total c.args.prices.items) (total c.play.new.self.prices.items) o.ending o.market.prices.items on le c.in_ok-outcome-in-Sold.ensures.stopped
 
 pub play_phases-requires-in-Sold-clause-stands : goal.play_phases-requires-in-Sold-clause-stands
 play_phases-requires-in-Sold-clause-stands g c =

@@ -1,7 +1,8 @@
-use Rattle.std.proofs.Common.{◌⊎◌}
+use Rattle.std.proofs.Common.{◌≡◌, ◌⊎◌}
+use Rattle.auc_cert.specs.declared.reason.Reason.{Reason}
 use Rattle.auc_answers.specs.Answers.{HasAssignment, IsAnswer, IsBracketAnswer, IsInfeasibleAnswer, IsOptimalAnswer}
-use Rattle.auc_direct.specs.Endings.{IsLimited}
-use Rattle.auc_direct.proofs.Answering.{are_holders, either_is_answer, either_is_limited, left_stands, of_answers, own_listed, persons_are, sold_is_answer, sold_is_limited, sold_passes}
+use Rattle.auc_direct.specs.Endings.{IsLimited, IsStopTold}
+use Rattle.auc_direct.proofs.Answering.{are_holders, either_is_answer, either_is_limited, left_stands, of_answers, own_listed, persons_are, sold_is_answer, sold_is_limited, sold_passes, stop_told}
 use Rattle.auc_direct.proofs.solving.answer_of.Goals as goal
 
 pub gather-requires-clause-persons : goal.gather-requires-clause-persons
@@ -61,4 +62,21 @@ returns-in-Stopped-clause-limit c = λ bids begun stopped. (
     let g = c.in_ok-gathered.ensures in
     of_answers (λ a. IsInfeasibleAnswer p a ⊎ (HasAssignment p × IsBracketAnswer p c.in-Stopped.reason left.holders.items left.prices.items a)) (IsLimited p bids begun) c.bracketed.result
     (rw g.prices (either_is_limited p c.args.flat c.requires.rows bids begun c.in-Stopped.reason left.holders.items m.prices.items (rw c.in-Stopped.is at stopped))) c.bracketed.ensures
+    )
+
+-- all have been sold, so nothing was stopped
+pub returns-in-Sold-clause-told : goal.returns-in-Sold-clause-told
+returns-in-Sold-clause-told c = λ stopped. absurd (let e = c.in-Sold.is in cc)
+
+pub returns-in-Stopped-clause-told : goal.returns-in-Stopped-clause-told
+returns-in-Stopped-clause-told c = λ bids. (
+    let p = c.args.problem.now in
+    let r = c.args.flat in
+    let m = c.args.outcome.market in
+    let reason : c.in-Stopped.reason ≡ Reason.Bids = (let e = c.in-Stopped.is in cc) in
+    let stopped = rw c.in-Stopped.is at c.requires.left in
+    let left = c.in_ok-gathered.gathered in
+    let g = c.in_ok-gathered.ensures in
+    of_answers (λ a. IsInfeasibleAnswer p a ⊎ (HasAssignment p × IsBracketAnswer p Reason.Bids left.holders.items left.prices.items a)) IsStopTold c.bracketed.result
+    (rw g.prices (stop_told p r c.requires.rows m.prices.items m.holders.items m.owns.items left.holders.items c.arcs.ensures.problem c.requires.sound g.held stopped.0 stopped.1)) (rw reason at c.bracketed.ensures)
     )

@@ -1,5 +1,4 @@
 use Rattle.auc_graph.specs.Assignment.{total}
-use Rattle.auc_answers.specs.Answers.{IsAnswer}
 use Rattle.auc_direct.specs.Endings.{IsLimited, IsLimitedFrom, IsStopped}
 use Rattle.auc_direct.proofs.Answering.{limit_or_told, limited_from, of_answers}
 use Rattle.auc_direct.proofs.Opening.{prices_of_start}
@@ -12,6 +11,6 @@ pub returns-clause-limit : goal.returns-clause-limit
 returns-clause-limit g c =
     let left = c.in_ok-outcome.outcome in
     let o = c.in_ok-outcome.ensures in
-    limit_or_told (g.W.Watch.has_stopped c.play_from.new.watch) (IsAnswer c.args.problem.now) (IsLimitedFrom c.args.problem.now c.args.bids c.args.start.now) (IsStopped c.args.flat c.args.bids (total o.begun) left.ending left.market.prices.items) c.answer_of.result o.stopped c.answer_of.ensures.is
+    limit_or_told (g.W.Watch.has_stopped c.args.watch.now) (g.W.Watch.has_stopped c.play_from.new.watch) left.ending (IsLimitedFrom c.args.problem.now c.args.bids c.args.start.now) (IsStopped c.args.flat c.args.bids (total o.begun) left.ending left.market.prices.items) c.answer_of.result o.stopped c.answer_of.ensures.told
     (λ s. of_answers (IsLimited c.args.problem.now c.args.bids (total o.begun)) (IsLimitedFrom c.args.problem.now c.args.bids c.args.start.now) c.answer_of.result
     (limited_from c.args.problem.now c.requires.rows.table c.args.flat c.args.bids c.args.start.now o.begun c.requires.rows.of c.requires.rows.same o.opened) (c.answer_of.ensures.limit c.args.bids (total o.begun) s))

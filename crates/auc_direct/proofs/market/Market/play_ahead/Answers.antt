@@ -1,4 +1,4 @@
-use Rattle.std.proofs.Common.{arith, ap, inr, refl, rules}
+use Rattle.std.proofs.Common.{◌≡◌, arith, ap, inr, refl, rules}
 use Rattle.std.proofs.lemmas.Int.{ints}
 use Rattle.std.specs.Prelude.{◌≤ℤ◌}
 use Rattle.auc_graph.specs.Assignment.{total}
@@ -15,4 +15,5 @@ returns-clause-stopped g c =
     let by_few : IsEnding rows c.bids_after-few.result begun c.in-Some.ending new.prices.items new.owns.items = search rules in
     let is : IsEnding rows c.args.bids begun c.in-Some.ending new.prices.items new.owns.items = c.if-ran_out.ensures.no refl rows c.bids_after-few.result c.args.bids begun begun new.prices.items new.owns.items by_few in
     let le : before ≤ℤ begun = (let e = ap total c.open.ensures.prices in omega (arith, ints, e)) in
-    inr (ended_stopped rows c.args.bids before begun c.in-Some.ending new.prices.items new.owns.items le is)
+    let yes : g.W.Watch.has_stopped c.play_asked.new.watch ≡ g.W.Watch.has_stopped c.args.watch.now = search rules in
+    inr (yes, ended_stopped rows c.args.bids before begun c.in-Some.ending new.prices.items new.owns.items le is)

@@ -1,7 +1,8 @@
-use Rattle.std.proofs.Common.{pos, ◌≤◌}
+use Rattle.std.proofs.Common.{pos, ◌≡◌, ◌≤◌}
 use Rattle.std.specs.Prelude.{◌+ℤ◌, ◌≤ℤ◌}
 use Rattle.auc_graph.specs.Assignment.{total}
 use Rattle.std.specs.BinaryHeap.{heap_items}
+use Rattle.auc_direct.specs.Bids.{AreSpent, state_of}
 use Rattle.auc_direct.specs.Market.{Stands}
 use Rattle.auc_direct.specs.Path.{IsClean}
 use Rattle.auc_direct.specs.Shortlist.{Kept}
@@ -14,6 +15,8 @@ invariant-loop-eps g l = record {
   kept : Kept l.rows l.self.prices.items l.work.lists.lists.items;
   raised : (total l.fn.self.prices.items +ℤ pos l.bids) ≤ℤ (total l.self.prices.items +ℤ pos l.left);
   fewer : l.left ≤ l.bids;
+  made : AreSpent l.rows l.eps l.bids l.left (state_of l.fn.self) (state_of l.self);
+  asked : g.W.Watch.has_stopped l.watch ≡ g.W.Watch.has_stopped l.fn.watch;
 }
 
 abbrev pub decreases-loop-eps : goal.decreases-loop-eps

@@ -5,13 +5,15 @@ use Rattle.std.proofs.lemmas.List.{get_or_read}
 use Rattle.auc_rows.specs.declared.arc.ShortArc.{ShortArc}
 use Rattle.auc_direct.specs.declared.market.TheConstants.{NOBODY}
 use Rattle.auc_direct.specs.Market.{no_own, own_at}
+use Rattle.auc_direct.specs.Bids.{state_of}
+use Rattle.auc_direct.proofs.BidsLaws.{made_all, made_none, made_on, made_within, run_out}
 use Rattle.auc_direct.proofs.Serving.{one_free}
 use Rattle.auc_direct.proofs.market.Market.play_within.Goals as goal
 
 pub loop-person-init : goal.loop-person-init
 loop-person-init c =
     let f1 : FitsSigned w64 c.args.eps = c.ranges.eps in
-    simp to_z-of_z (record { stands = c.requires.stands; have = λ i l. absurd (omega (arith, l)); clean = c.requires.clean; kept = c.requires.kept; raised = omega (arith, ints); fewer = omega arith })
+    simp to_z-of_z (record { stands = c.requires.stands; have = λ i l. absurd (omega (arith, l)); clean = c.requires.clean; kept = c.requires.kept; raised = omega (arith, ints); fewer = omega arith; made = made_none c.args.rows.now c.args.eps c.args.bids (state_of c.args.self.now) })
 
 pub loop-person-preserved : goal.loop-person-preserved
 loop-person-preserved c =
@@ -35,4 +37,26 @@ loop-person-preserved c =
       kept = after.kept;
       raised = omega (arith, ints, r1, r2);
       fewer = omega (arith, l1, l2);
+      made = made_on c.args.rows.now c.args.eps c.args.bids c.loop-person.left c.chain.new.left (state_of c.args.self.now) (state_of c.loop-person.self) (state_of c.chain.new.self) (simp to_z-of_z at before.made) after.made;
     })
+
+pub returns-in-Bids-clause-made : goal.returns-in-Bids-clause-made
+returns-in-Bids-clause-made c =
+    let f1 : FitsSigned w64 c.args.eps = c.ranges.eps in
+    let after = simp to_z-of_z at c.in_ok-chain.ensures in
+    made_all c.args.rows.now c.args.eps c.args.bids c.chain.new.left (state_of c.args.self.now) (state_of c.chain.new.self) (rw c.in-Bids.is at after.chain) (made_on c.args.rows.now c.args.eps c.args.bids c.loop-person.left c.chain.new.left (state_of c.args.self.now) (state_of c.loop-person.self) (state_of c.chain.new.self) (simp to_z-of_z at c.loop-person.invariant.made) after.made)
+
+pub returns-in-Bids-clause-ending : goal.returns-in-Bids-clause-ending
+returns-in-Bids-clause-ending c =
+    let f1 : FitsSigned w64 c.args.eps = c.ranges.eps in
+    let after = simp to_z-of_z at c.in_ok-chain.ensures in
+    let none = rw c.in-Bids.is at after.chain in
+    let r1 = c.loop-person.invariant.raised in
+    let r2 = after.raised in
+    (run_out c.args.rows.now c.args.eps c.args.bids (state_of c.args.self.now) (state_of c.chain.new.self) c.requires.eps c.requires.stands (returns-in-Bids-clause-made c), omega (arith, ints, r1, r2, none))
+
+pub returns-in-Ceiling-clause-made : goal.returns-in-Ceiling-clause-made
+returns-in-Ceiling-clause-made c =
+    let f1 : FitsSigned w64 c.args.eps = c.ranges.eps in
+    let after = simp to_z-of_z at c.in_ok-chain.ensures in
+    made_within c.args.rows.now c.args.eps c.args.bids c.chain.new.left (state_of c.args.self.now) (state_of c.chain.new.self) (made_on c.args.rows.now c.args.eps c.args.bids c.loop-person.left c.chain.new.left (state_of c.args.self.now) (state_of c.loop-person.self) (state_of c.chain.new.self) (simp to_z-of_z at c.loop-person.invariant.made) after.made)

@@ -1,8 +1,11 @@
-use Rattle.std.proofs.Common.{ℕ, ◌≡◌, ◌<◌, arith, length, refl, subst, w64}
+use Rattle.std.proofs.Common.{rules, ℕ, ◌≡◌, ◌<◌, ◌-◌, arith, length, refl, subst, w64}
 use Rattle.std.specs.Prelude.{FitsSigned}
 use Rattle.std.proofs.lemmas.Int.{ints, to_z-of_z}
 use Rattle.auc_direct.specs.declared.market.TheConstants.{NOBODY}
 use Rattle.auc_direct.specs.Market.{HaveAllBut, own_at}
+use Rattle.auc_direct.specs.Bids.{state_of}
+use Rattle.auc_direct.proofs.BidsLaws.{made_more, made_none, made_still}
+use Rattle.auc_direct.proofs.MarketLaws.{too_high}
 use Rattle.auc_direct.proofs.Serving.{IsTurn, passed_have, turn_below, turn_have, turn_most, two_free}
 use Rattle.auc_direct.proofs.Ways.{way_total}
 use Rattle.auc_direct.proofs.market.Market.serve.Goals as goal
@@ -67,4 +70,50 @@ loop-left-preserved c =
       kept = c.in_ok-freed.ensures.kept;
       raised = omega (arith, ints, m, r, t, u);
       fewer = (let l = before.fewer in omega (arith, l, t));
+      made = made_more c.args.rows.now c.args.eps c.args.left.now c.loop-left.left (c.loop-left.left - 1) (state_of c.args.self.now) (state_of c.loop-left.self) (state_of c.step.new.self) (state_of c.freed_by.new.self) (simp to_z-of_z at before.made) (simp to_z-of_z at c.in-Some.ensures.made) (record { person = c.in-Some.displaced; free = c.in_ok-freed.freed; way = way }) (omega (arith, t));
+    })
+
+pub returns-in_default-clause-served : goal.returns-in_default-clause-served
+returns-in_default-clause-served c =
+    let f1 : FitsSigned w64 c.args.eps = c.ranges.eps in
+    let h = simp to_z-of_z at c.in_default.ensures.high in
+    too_high c.args.rows.now c.args.eps c.loop-left.self.prices.items c.step.new.self.prices.items c.loop-left.self.holders.items c.step.new.self.holders.items c.loop-left.self.owns.items c.step.new.self.owns.items h
+
+pub returns-in_default-clause-made : goal.returns-in_default-clause-made
+returns-in_default-clause-made c =
+    let f1 : FitsSigned w64 c.args.eps = c.ranges.eps in
+    let h = simp to_z-of_z at c.in_default.ensures.high in
+    let m = simp to_z-of_z at c.loop-left.invariant.made in
+    made_still c.args.rows.now c.args.eps c.args.left.now c.loop-left.left (state_of c.args.self.now) c.loop-left.self.prices.items c.step.new.self.prices.items c.loop-left.self.holders.items c.step.new.self.holders.items c.loop-left.self.owns.items c.step.new.self.owns.items h m
+
+pub returns-then-is_over-clause-made : goal.returns-then-is_over-clause-made
+returns-then-is_over-clause-made c =
+    let f1 : FitsSigned w64 c.args.eps = c.ranges.eps in
+    let way = simp to_z-of_z at c.in_ok-freed.ensures.way in
+    let t = c.loop-left-test.true in
+    made_more c.args.rows.now c.args.eps c.args.left.now c.loop-left.left (c.loop-left.left - 1) (state_of c.args.self.now) (state_of c.loop-left.self) (state_of c.step.new.self) (state_of c.freed_by.new.self) (simp to_z-of_z at c.loop-left.invariant.made) (simp to_z-of_z at c.in-Some.ensures.made) (record { person = c.in-Some.displaced; free = c.in_ok-freed.freed; way = way }) (omega (arith, t))
+
+pub returns-then-other-until-clause-made : goal.returns-then-other-until-clause-made
+returns-then-other-until-clause-made c = made_none c.args.rows.now c.args.eps c.args.left.now (state_of c.args.self.now)
+
+pub loop-left-init : goal.loop-left-init
+loop-left-init c =
+    let f1 : FitsSigned w64 c.args.eps = c.ranges.eps in
+    let found = c.free_from-fresh.ensures in
+    let most = c.free_from-other.ensures.most in
+    let ne = c.if-other-until.false in
+    let few = c.requires.until in
+    simp to_z-of_z (record {
+      stands = c.requires.stands;
+      known = c.requires.waiting;
+      later = omega (arith, most, ne, few);
+      most = found.most;
+      free = found.free;
+      neither = found.neither;
+      have = search rules;
+      clean = c.requires.clean;
+      kept = c.requires.kept;
+      raised = omega (arith, ints);
+      fewer = omega arith;
+      made = made_none c.args.rows.now c.args.eps c.args.left.now (state_of c.args.self.now);
     })

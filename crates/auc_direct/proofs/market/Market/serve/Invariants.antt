@@ -3,6 +3,7 @@ use Rattle.std.specs.Prelude.{◌+ℤ◌, ◌≤ℤ◌}
 use Rattle.auc_graph.specs.Assignment.{total}
 use Rattle.std.specs.BinaryHeap.{heap_items}
 use Rattle.auc_direct.specs.declared.market.TheConstants.{NOBODY}
+use Rattle.auc_direct.specs.Bids.{AreSpent, state_of}
 use Rattle.auc_direct.specs.Market.{HaveAllBut, Stands, own_at}
 use Rattle.auc_direct.specs.Path.{IsClean}
 use Rattle.auc_direct.specs.Shortlist.{Kept}
@@ -21,6 +22,7 @@ invariant-loop-left l = record {
   kept : Kept l.rows l.self.prices.items l.work.lists.lists.items;
   raised : (total l.fn.self.prices.items +ℤ pos l.fn.left) ≤ℤ (total l.self.prices.items +ℤ pos l.left);
   fewer : l.left ≤ l.fn.left;
+  made : AreSpent l.rows l.eps l.fn.left l.left (state_of l.fn.self) (state_of l.self);
 }
 
 abbrev pub decreases-loop-left : goal.decreases-loop-left

@@ -5,7 +5,7 @@ use Rattle.std.proofs.lemmas.List.Elements.{All-contains}
 use Rattle.auc_rows.specs.declared.arc.ShortArc.{ShortArc}
 use Rattle.auc_rows.specs.Rows.{IsShort}
 use Rattle.auc_direct.specs.Market.{IsAwarded}
-use Rattle.auc_direct.proofs.MarketLaws.{awarded, holder_below, raise_by}
+use Rattle.auc_direct.proofs.MarketLaws.{awarded, holder_below, offer_by, raise_by}
 use Rattle.auc_direct.proofs.Shortlists.{kept_rises}
 use Rattle.auc_direct.proofs.market.Market.step.Goals as goal
 use Rattle.auc_direct.proofs.market.Market.step.Goals.{After-award}
@@ -15,13 +15,13 @@ object_here objects row s all listed = (All-contains (IsShort objects) row s all
 
 pub award-requires-clause-price : goal.award-requires-clause-price
 award-requires-clause-price c =
-    let l = object_here c.args.rows.now.objects c.row.result.now c.bid_of-bid.result.arc c.row.ensures.each c.bid_of-bid.ensures.listed in
+    let l = object_here c.args.rows.now.objects c.row.result.now c.bid_of-bid.result.arc c.row.ensures.each c.bid_of-bid.ensures.raise.listed in
     let e = c.requires.stands.prices_are in
     omega (arith, l, e)
 
 pub award-requires-clause-holder : goal.award-requires-clause-holder
 award-requires-clause-holder c =
-    let l = object_here c.args.rows.now.objects c.row.result.now c.bid_of-bid.result.arc c.row.ensures.each c.bid_of-bid.ensures.listed in
+    let l = object_here c.args.rows.now.objects c.row.result.now c.bid_of-bid.result.arc c.row.ensures.each c.bid_of-bid.ensures.raise.listed in
     let e = c.requires.stands.holders_are in
     omega (arith, l, e)
 
@@ -37,8 +37,9 @@ returns-then-is_too_high-clause-high c =
     let f1 : FitsSigned w64 c.args.eps = c.ranges.eps in
     let f2 : FitsSigned w64 c.args.scale = c.ranges.scale in
     let f3 : FitsSigned w64 c.bid_of-bid.result.amount = search rules in
-    let bid = simp to_z-of_z at c.bid_of-bid.ensures in
-    let raise = raise_by c.args.rows.now c.args.scale c.args.eps c.args.person c.args.self.now.prices.items c.as_slice-prices.result.now c.row.result.now c.bid_of-bid.result.arc c.bid_of-bid.result.amount c.requires.scale c.as_slice-prices.ensures.value c.row.ensures.row bid in
+    let f4 : FitsSigned w64 c.args.spread = c.ranges.spread in
+    let bid = simp to_z-of_z at c.bid_of-bid.ensures.offer in
+    let offer = offer_by c.args.rows.now c.args.scale c.args.spread c.args.eps c.args.person c.args.self.now.prices.items c.as_slice-prices.result.now c.row.result.now c.bid_of-bid.result.arc c.bid_of-bid.result.amount c.requires.scale c.requires.spread c.as_slice-prices.ensures.value c.row.ensures.row bid in
     record {
       prices_are = refl;
       holders_are = refl;
@@ -48,7 +49,7 @@ returns-then-is_too_high-clause-high c =
         known = c.requires.person;
         arc = c.bid_of-bid.result.arc;
         amount = c.bid_of-bid.result.amount;
-        raise = raise;
+        offer = offer;
         above = c.if-is_too_high.ensures.above refl;
       };
     }
@@ -61,7 +62,7 @@ awarded_here c =
     let f1 : FitsSigned w64 c.args.eps = c.ranges.eps in
     let f2 : FitsSigned w64 c.args.scale = c.ranges.scale in
     let f3 : FitsSigned w64 c.bid_of-bid.result.amount = search rules in
-    let bid = simp to_z-of_z at c.bid_of-bid.ensures in
+    let bid = simp to_z-of_z at c.bid_of-bid.ensures.raise in
     let raise = raise_by c.args.rows.now c.args.scale c.args.eps c.args.person c.args.self.now.prices.items c.as_slice-prices.result.now c.row.result.now c.bid_of-bid.result.arc c.bid_of-bid.result.amount c.requires.scale c.as_slice-prices.ensures.value c.row.ensures.row bid in
     let high : c.bid_of-bid.result.amount ≤ℤ pos (2 ^ 61) = c.if-is_too_high.ensures.within refl in
     let prices : c.award.new.self.prices.items ≡ set c.args.self.now.prices.items c.bid_of-bid.result.arc.object c.bid_of-bid.result.amount = search rules in
@@ -73,3 +74,24 @@ returns-clause-awarded c = awarded_here c
 
 pub returns-clause-kept : goal.returns-clause-kept
 returns-clause-kept c = kept_rises c.args.rows.now c.args.self.now.prices.items c.award.new.self.prices.items c.best-best.new.self.lists.items (awarded_here c).higher (rw c.as_slice-prices.ensures.value at c.best-best.ensures.kept)
+
+pub returns-clause-made : goal.returns-clause-made
+returns-clause-made c =
+    let f1 : FitsSigned w64 c.args.eps = c.ranges.eps in
+    let f2 : FitsSigned w64 c.args.scale = c.ranges.scale in
+    let f3 : FitsSigned w64 c.bid_of-bid.result.amount = search rules in
+    let f4 : FitsSigned w64 c.args.spread = c.ranges.spread in
+    let bid = simp to_z-of_z at c.bid_of-bid.ensures.offer in
+    let offer = offer_by c.args.rows.now c.args.scale c.args.spread c.args.eps c.args.person c.args.self.now.prices.items c.as_slice-prices.result.now c.row.result.now c.bid_of-bid.result.arc c.bid_of-bid.result.amount c.requires.scale c.requires.spread c.as_slice-prices.ensures.value c.row.ensures.row bid in
+    let prices : c.award.new.self.prices.items ≡ set c.args.self.now.prices.items c.bid_of-bid.result.arc.object c.bid_of-bid.result.amount = search rules in
+    record {
+      person = c.args.person;
+      known = c.requires.person;
+      free = c.requires.none;
+      arc = c.bid_of-bid.result.arc;
+      amount = c.bid_of-bid.result.amount;
+      offer = offer;
+      prices = prices;
+      holders = c.award.ensures.holders;
+      owns = c.award.ensures.owns;
+    }

@@ -1,0 +1,53 @@
+use Rattle.std.proofs.Common.{◌-◌, ◌≡◌, ◌∙◌, ◌≤◌, true, arith, inr, refl, rules, sym, subst, w64}
+use Rattle.std.specs.Prelude.{FitsSigned}
+use Rattle.std.proofs.lemmas.Int.{ints, to_z-of_z}
+use Rattle.auc_graph.specs.Assignment.{total}
+use Rattle.auc_direct.specs.declared.ending.Ending.{Ending}
+use Rattle.auc_direct.specs.Bids.{state_of}
+use Rattle.auc_direct.specs.Endings.{IsEnding}
+use Rattle.auc_direct.proofs.BidsLaws.{made_all, made_none, made_slice, run_out}
+use Rattle.auc_direct.proofs.market.Market.play_unless_stuck.Goals as goal
+
+pub loop-eps-init : goal.loop-eps-init
+loop-eps-init g c =
+    let f1 : FitsSigned w64 c.args.eps = c.ranges.eps in
+    simp to_z-of_z (record { stands = c.requires.stands; clean = c.requires.clean; kept = c.requires.kept; raised = omega (arith, ints); fewer = omega arith; made = made_none c.args.rows.now c.args.eps c.args.bids (state_of c.args.self.now); asked = refl })
+
+pub loop-eps-preserved : goal.loop-eps-preserved
+loop-eps-preserved g c =
+    let f1 : FitsSigned w64 c.args.eps = c.ranges.eps in
+    let on : c.may_go_on.result ≡ true = search rules in
+    let inv = c.loop-eps.invariant in
+    let after = simp to_z-of_z at c.in_ok-ending.ensures in
+    let out = c.if-not-ran_out.ensures.yes refl in
+    let le : c.min-slice.result ≤ c.loop-eps.left = search rules in
+    let r = inv.raised in
+    let l = inv.fewer in
+    let e = rw out at after.ending in
+    let s = e.1 in
+    simp to_z-of_z (record {
+      stands = after.stands;
+      clean = after.clean;
+      kept = after.kept;
+      raised = omega (arith, ints, r, s, le);
+      fewer = omega (arith, l);
+      made = made_slice c.args.rows.now c.args.eps c.args.bids c.loop-eps.left c.min-slice.result c.in_ok-ending.ending (state_of c.args.self.now) (state_of c.loop-eps.self) (state_of c.play.new.self) out le (simp to_z-of_z at inv.made) after.made;
+      asked = c.may_go_on.ensures.yes on ∙ inv.asked;
+    })
+
+pub returns-then-left-eq0-clause-ending : goal.returns-then-left-eq0-clause-ending
+returns-then-left-eq0-clause-ending g c =
+    let f1 : FitsSigned w64 c.args.eps = c.ranges.eps in
+    let inv = c.loop-eps.invariant in
+    let after = simp to_z-of_z at c.in_ok-ending.ensures in
+    let out = c.if-not-ran_out.ensures.yes refl in
+    let le : c.min-slice.result ≤ c.loop-eps.left = search rules in
+    let none = c.if-left-eq0.true in
+    let r = inv.raised in
+    let e = rw out at after.ending in
+    let s = e.1 in
+    let new = c.play.new.self in
+    let made = made_slice c.args.rows.now c.args.eps c.args.bids c.loop-eps.left c.min-slice.result c.in_ok-ending.ending (state_of c.args.self.now) (state_of c.loop-eps.self) (state_of c.play.new.self) out le (simp to_z-of_z at inv.made) after.made in
+    let all = made_all c.args.rows.now c.args.eps c.args.bids (c.loop-eps.left - c.min-slice.result) (state_of c.args.self.now) (state_of c.play.new.self) none made in
+    let on : c.may_go_on.result ≡ true = search rules in
+    inr (c.may_go_on.ensures.yes on ∙ inv.asked, subst (λ (x : Ending). IsEnding c.args.rows.now c.args.bids (total c.args.self.now.prices.items) x new.prices.items new.owns.items) (sym out) (run_out c.args.rows.now c.args.eps c.args.bids (state_of c.args.self.now) (state_of c.play.new.self) c.requires.eps c.requires.stands all, omega (arith, ints, r, s, le, none)))

@@ -1,0 +1,48 @@
+//! What a run with as many objects as persons begins with: prices at which the cheapest arc of each column is worth the same.
+
+ghost use Rattle.std.specs.Prelude.{ℤ, ◌≡◌, ◌⊎◌, pos, ◌≤ℤ◌, length, All, IfOk};
+ghost use Rattle.auc_graph.specs.Price.{IsPrice};
+ghost use Rattle.auc_direct.specs.Endings.{IsStart};
+
+use auc_rows::FlatRows;
+use std::alloc::{AllocError, Global};
+
+/// The greatest of the least costs of all columns; the least number where nobody knows any object.
+fn greatest_of(rows: &FlatRows) -> i32 {
+    let mut greatest = i32::MIN;
+    for object in 0..rows.objects() {
+        if let Some(least) = rows.least_cost(object) {
+            greatest = greatest.max(least);
+        }
+    }
+    greatest
+}
+
+/// The price at which an arc of one cost is worth as much as one of another at price 0; and 0 where that one costs less.
+fn price_between(scale: i64, cost: i32, greatest: i32) -> i64
+    requires scale_low { pos 1 ≤ℤ scale }
+    requires scale_high { scale ≤ℤ pos 10001 }
+    ensures { IsPrice result }
+{
+    let more = i64::from(greatest) - i64::from(cost);
+    if more <= 0 { 0 } else { scale * more }
+}
+
+/// Prices that a run may begin with, by column reduction (Jonker and Volgenant, 1987). With as many objects as persons these are so that the cheapest arc of each object is worth as
+/// much as that of any other, and the object whose cheapest arc costs most, and any that nobody knows, have price 0; else all are 0. O(objects).
+pub(crate) fn start_prices(alloc: Global, rows: &FlatRows) -> Result<Vec<i64>, AllocError>
+    ensures { (eps : ℤ) → (rows.now.objects ≡ length rows.now.rows) ⊎ (eps ≡ pos 1) → IfOk result (λ v. IsStart rows.now eps v.items) }
+{
+    let mut prices = vec![in alloc; 0; rows.objects() as usize]?;
+    if rows.persons() < rows.objects() {
+        return Ok(prices);
+    }
+    let scale = rows.scale();
+    let greatest = greatest_of(rows);
+    for object in 0..prices.len() {
+        if let Some(least) = rows.least_cost(object as u32) {
+            prices[object] = price_between(scale, least, greatest);
+        }
+    }
+    Ok(prices)
+}

@@ -1,0 +1,45 @@
+//! The least cost of each column. No clause needs it: whoever begins with prices by it may begin with any.
+
+use crate::arc::ShortArc;
+use std::alloc::{AllocError, Global};
+
+/// Of an object that nobody knows: above all costs.
+const UNKNOWN: i32 = 2_147_483_647;
+
+/// For each object the least cost of the arcs that lead to it.
+#[derive(Drop)]
+pub(crate) struct Columns {
+    least: Vec<i32>,
+}
+
+impl Columns {
+    /// With no arc yet.
+    pub fn new(alloc: Global, objects: u32) -> Result<Columns, AllocError> {
+        let least = vec![in alloc; UNKNOWN; objects as usize]?;
+        Ok(Columns { least })
+    }
+
+    /// Of these arcs.
+    pub fn of(alloc: Global, objects: u32, arcs: &[ShortArc]) -> Result<Columns, AllocError> {
+        let mut columns = Columns::new(alloc, objects)?;
+        for arc in arcs {
+            columns.note(*arc);
+        }
+        Ok(columns)
+    }
+
+    /// Takes one more arc in.
+    #[inline(always)]
+    pub fn note(&mut self, arc: ShortArc) {
+        let object = arc.object as usize;
+        if object < self.least.len() && arc.cost < self.least[object] {
+            self.least[object] = arc.cost;
+        }
+    }
+
+    /// The least cost of an object's arcs; none where it has no arc.
+    pub fn least(&self, object: u32) -> Option<i32> {
+        let least = *self.least.get(object as usize)?;
+        if least == UNKNOWN { None } else { Some(least) }
+    }
+}

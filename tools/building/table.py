@@ -10,6 +10,8 @@ from typing import NamedTuple
 
 FILE = pathlib.Path(__file__).resolve().parent / "first_build.txt"
 TOTAL = "total"
+# So many minutes of the table count beside what the first crates took here, so that one that was built before doesn't decide.
+MINUTES_BESIDE = 3.0
 # Of a crate that the table doesn't have, until it is measured.
 UNKNOWN_MINUTES, UNKNOWN_MEGABYTES = 2.0, 200
 
@@ -54,7 +56,7 @@ class Estimate:
 
     def pace(self):
         """How many times the table's minutes a crate takes here."""
-        return self.took / self.wanted if self.wanted else 1.0
+        return (self.took + MINUTES_BESIDE) / (self.wanted + MINUTES_BESIDE)
 
     def megabytes(self, names):
         """What these crates leave on the disk, but for those that have been built before."""

@@ -219,9 +219,12 @@ class Telling(ToolTest):
         self.assertEqual(self.estimate(2, costs).minutes_left("abcd", {}), 7.0, "b beside c")
         self.assertEqual(self.estimate(1, costs).minutes_left("abcd", {}), 10.0, "one after the other")
         begun = self.estimate(2, costs)
-        begun.note("a", 4.0)
-        self.assertEqual(begun.minutes_left("bcd", {}), 10.0, "twice as long here")
+        begun.note("a", 7.0)
+        self.assertEqual(begun.minutes_left("bcd", {}), 10.0, "twice as long here, by these 7 minutes and 3 of the table's")
         self.assertEqual(begun.minutes_left("d", {"b": 1.0, "c": 1.0}), 9.0)
+        again = self.estimate(2, costs)
+        again.note("a", 0.0)
+        self.assertEqual(again.minutes_left("bcd", {}), 3.0, "one that was built before doesn't say that all were")
         self.assertEqual(self.estimate(2, costs).minutes_left("", {"d": 5.0}), 0.0, "longer than in the table")
 
     def test_too_little_disk(self):

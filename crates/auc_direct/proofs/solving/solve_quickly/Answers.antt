@@ -1,8 +1,8 @@
-use Rattle.std.proofs.Common.{◌≡◌, length, pos, replicate, rules, subst, w64, ℤ}
+use Rattle.std.proofs.Common.{◌≡◌, ◌∙◌, ℕ, List, length, pos, replicate, rules, subst, w64, ℤ}
 use Rattle.std.specs.Prelude.{FitsSigned, ◌⊎◌}
 use Rattle.std.proofs.lemmas.Int.{to_z-of_z}
 use Rattle.auc_graph.specs.Assignment.{total}
-use Rattle.auc_direct.specs.Endings.{IsLimited, IsStopped}
+use Rattle.auc_direct.specs.Endings.{IsLimited, IsOfPhases, IsStopped}
 use Rattle.auc_direct.proofs.Answering.{answer_limit_or_told}
 use Rattle.auc_direct.proofs.Opening.{start_none, total_none}
 use Rattle.auc_direct.proofs.solving.solve_quickly.Goals as goal
@@ -24,3 +24,14 @@ returns-clause-limit g c =
     let left = c.in-Some.outcome in
     answer_limit_or_told (g.W.Watch.has_stopped c.args.watch.now) (g.W.Watch.has_stopped c.play_quickly.new.watch) left.ending answer (IsLimited p c.args.bids (pos 0) answer) (IsStopped c.in_ok-flat.flat c.args.bids (total prices) left.ending left.market.prices.items) stopped c.in_ok-answer.ensures.told
     (λ limit. subst (λ (z : ℤ). IsLimited p c.args.bids z answer) (total_none c.objects-2.result prices zeros) (c.in_ok-answer.ensures.limit c.args.bids (total prices) limit))
+
+pub returns-clause-run : goal.returns-clause-run
+returns-clause-run g c =
+    let p = c.args.problem.now in
+    let prices = c.in_ok-prices.prices.items in
+    let answer = c.in_ok-answer.answer in
+    let zeros : prices ≡ replicate c.objects-2.result (pos 0) = search rules in
+    let rows = c.in_ok-flat.ensures in
+    let many : c.objects-2.result ≡ p.objects = c.objects-2.ensures.objects ∙ rows.same.objects ∙ rows.of.objects in
+    let run = rw c.in-Some.is at c.in_ok-outcome.ensures.run in
+    subst (λ (n : ℕ). IsOfPhases p c.args.bids (replicate n (pos 0)) answer) many (subst (λ (ps : List ℤ). IsOfPhases p c.args.bids ps answer) zeros (c.in_ok-answer.ensures.run c.args.bids prices run))

@@ -15,7 +15,7 @@ ghost use Rattle.auc_direct.specs.Phases.{IsRun};
 ghost use Rattle.auc_direct.specs.Starts.{AreStartPrices};
 
 use crate::ending::Ending;
-use crate::eps::first_eps;
+use crate::eps::{coarse_eps, first_eps};
 use crate::from_start::{play_from, play_from_unasked};
 use crate::gathering::gather;
 use crate::greedy::serves_all;
@@ -289,7 +289,7 @@ pub fn solve_direct_watched<W: Watch>(
     }
     let flat = FlatRows::build(alloc, problem)?;
     let prices = start_prices(alloc, &flat)?;
-    let eps = first_eps(&flat, prices.as_slice());
+    let eps = coarse_eps(&flat, prices.as_slice());
     solve_rows(alloc, problem, flat, limits.bids, eps, prices, watch)
 }
 

@@ -10,9 +10,9 @@ use Rattle.auc_direct.proofs.solving.solve_direct_watched.Goals as goal
 
 pub solve_rows-requires-clause-start : goal.solve_rows-requires-clause-start
 solve_rows-requires-clause-start g c =
-    let f : FitsSigned w64 c.first_eps-eps.result = search rules in
-    let start : (c.in_ok-flat.flat.objects ≡ length c.in_ok-flat.flat.rows) ⊎ (c.first_eps-eps.result ≡ pos 1) = search rules in
-    simp to_z-of_z (c.in_ok-prices.ensures c.first_eps-eps.result start)
+    let f : FitsSigned w64 c.coarse_eps-eps.result = search rules in
+    let start : (c.in_ok-flat.flat.objects ≡ length c.in_ok-flat.flat.rows) ⊎ (c.coarse_eps-eps.result ≡ pos 1) = search rules in
+    simp to_z-of_z (c.in_ok-prices.ensures c.coarse_eps-eps.result start)
 
 pub returns-clause-limit : goal.returns-clause-limit
 returns-clause-limit g c =
@@ -28,13 +28,13 @@ returns-clause-limit g c =
     (λ a h. limit_since before between after a (IsLimited p bids (pos 0) a) going (limited_earlier_unless between after p bids (pos 0) (total prices) a (start_low c.in_ok-flat.flat (pos 1) prices begun) h))
     c.solve_rows.ensures.limit
 
-pub first_eps-eps-requires-clause-many : goal.first_eps-eps-requires-clause-many
-first_eps-eps-requires-clause-many g c =
+pub coarse_eps-eps-requires-clause-many : goal.coarse_eps-eps-requires-clause-many
+coarse_eps-eps-requires-clause-many g c =
     let begun : IsStart c.in_ok-flat.flat (pos 1) c.in_ok-prices.prices.items = c.in_ok-prices.ensures (pos 1) (inr refl) in
     rw c.as_slice.ensures.value begun.each
 
-pub first_eps-eps-requires-clause-prices : goal.first_eps-eps-requires-clause-prices
-first_eps-eps-requires-clause-prices g c =
+pub coarse_eps-eps-requires-clause-prices : goal.coarse_eps-eps-requires-clause-prices
+coarse_eps-eps-requires-clause-prices g c =
     let begun : IsStart c.in_ok-flat.flat (pos 1) c.in_ok-prices.prices.items = c.in_ok-prices.ensures (pos 1) (inr refl) in
     rw c.as_slice.ensures.value begun.within
 

@@ -29,7 +29,9 @@ use Rattle.auc_answers.proofs.BracketLaws.{bound_fits, holders_price_few}
 use Rattle.auc_rows.specs.declared.arc.ShortArc.{ShortArc}
 use Rattle.auc_rows.specs.Rows.{AreRowsOf, AreSameRows, EachHasArc, FlatTable, IsFlatTable, flat_row_of, short, short_row}
 use Rattle.auc_direct.specs.declared.ending.Ending.{Ending}
-use Rattle.auc_direct.specs.Endings.{HasReason, IsLeft, IsLimit, IsLimited, IsLimitedBy, IsLimitedFrom, IsLimitedUnless, IsStopTold, IsToldOr}
+use Rattle.auc_direct.specs.Endings.{AreFirst, AreOfRun, HasReason, IsClaimOfFirst, IsClaimOfRun, IsLeft, IsLimit, IsLimited, IsLimitedBy, IsLimitedFrom, IsLimitedUnless, IsOfFirstPhases, IsOfPhases, IsOfPhasesFrom, IsStart, IsStopTold, IsToldOr}
+use Rattle.auc_direct.specs.Bids.{state}
+use Rattle.auc_direct.specs.Phases.{IsRun}
 use Rattle.auc_direct.specs.Held.{AreHeld, AreHolders, AreListed, arc_by}
 use Rattle.auc_direct.specs.Market.{EachHasRow, HaveObjects, Stands, holder_at, own_at}
 use Rattle.auc_direct.specs.Starts.{AreOpened}
@@ -224,3 +226,68 @@ stop_told p r rows prices holders owns held is sound are eps stands (Answer.Infe
 stop_told p r rows prices holders owns held is sound are eps stands (Answer.Bracket cert) (inl h) = absurd h
 stop_told p r rows prices holders owns held is sound are eps stands (Answer.Bracket cert) (inr h) = has_reason p Reason.Bids prices cert h.1.1
 stop_told p r rows prices holders owns held is sound are eps stands (Answer.Broken guard) h = absurd (either_is_answer p r rows prices holders owns held is sound are eps Reason.Bids stands (Answer.Broken guard) h)
+
+-- ---- phases have led to an answer
+
+module _ (p : Problem) (r : FlatTable) (rows : AreRowsOf p r) (bids : ℕ) (begun : List ℤ) (held : List (Option Held)) (prices : List ℤ) (holders : List ℕ) (owns : List ShortArc) (run : IsRun r bids begun (state prices holders owns)) where
+  of_run : AreOfRun p bids begun prices
+  of_run = (r, state prices holders owns, rows, refl, run)
+
+  pub sold_of_run : (answer : Answer) → IsOptimalAnswer p held prices answer → IsOfPhases p bids begun answer
+  sold_of_run (Answer.Optimal cert) h = subst (IsClaimOfRun p bids begun) (sym h.2) of_run
+  sold_of_run (Answer.Infeasible cert) h = tt
+  sold_of_run (Answer.Bracket cert) h = absurd h
+  sold_of_run (Answer.Broken guard) h = tt
+
+  pub stopped_of_run : (reason : Reason) (answer : Answer) → IsInfeasibleAnswer p answer ⊎ (HasAssignment p × IsBracketAnswer p reason held prices answer) → IsOfPhases p bids begun answer
+  stopped_of_run reason (Answer.Optimal cert) (inl h) = absurd h
+  stopped_of_run reason (Answer.Optimal cert) (inr h) = absurd h.1
+  stopped_of_run reason (Answer.Infeasible cert) h = tt
+  stopped_of_run reason (Answer.Bracket cert) (inl h) = absurd h
+  stopped_of_run reason (Answer.Bracket cert) (inr h) = subst (IsClaimOfRun p bids begun) (sym h.1.1.is) of_run
+  stopped_of_run reason (Answer.Broken guard) h = tt
+
+pub none_of_phases : (p : Problem) (bids : ℕ) (begun : List ℤ) (answer : Answer) → IsInfeasibleAnswer p answer → IsOfPhases p bids begun answer
+none_of_phases p bids begun (Answer.Optimal cert) h = absurd h
+none_of_phases p bids begun (Answer.Infeasible cert) h = tt
+none_of_phases p bids begun (Answer.Bracket cert) h = absurd h
+none_of_phases p bids begun (Answer.Broken guard) h = tt
+
+pub none_of_first : (p : Problem) (bids : ℕ) (answer : Answer) → IsInfeasibleAnswer p answer → IsOfFirstPhases p bids answer
+none_of_first p bids (Answer.Optimal cert) h = absurd h
+none_of_first p bids (Answer.Infeasible cert) h = tt
+none_of_first p bids (Answer.Bracket cert) h = absurd h
+none_of_first p bids (Answer.Broken guard) h = tt
+
+first_claim : (p : Problem) (bids : ℕ) (begun : List ℤ) (cert : CertParts) → AreFirst p begun → IsClaimOfRun p bids begun cert → IsClaimOfFirst p bids cert
+first_claim p bids begun (CertParts.Optimal cost choice prices) first run = (begun, first, run)
+first_claim p bids begun (CertParts.Infeasible persons objects) first run = tt
+first_claim p bids begun (CertParts.Bracket reason lower cost choice prices) first run = (begun, first, run)
+
+-- what comes of a run that began with such prices
+pub of_first : (p : Problem) (bids : ℕ) (begun : List ℤ) (answer : Answer) → AreFirst p begun → IsOfPhases p bids begun answer → IsOfFirstPhases p bids answer
+of_first p bids begun (Answer.Optimal cert) first run = first_claim p bids begun cert first run
+of_first p bids begun (Answer.Infeasible cert) first run = tt
+of_first p bids begun (Answer.Bracket cert) first run = first_claim p bids begun cert first run
+of_first p bids begun (Answer.Broken guard) first run = tt
+
+-- prices that a phase at the last eps may begin with are such
+pub first_prices : (p : Problem) (r : FlatTable) (prices : List ℤ) → AreRowsOf p r → IsStart r (pos 1) prices → AreFirst p prices
+first_prices p r prices rows start = record {
+  each = start.each ∙ rows.same.objects ∙ rows.of.objects;
+  within = start.within;
+  spare = elim start.spare [
+    | inl square ↦ inl (let a = rows.of.objects in let b = rows.same.objects in let c = rows.same.persons in let d = length-rows p rows.table rows.of in omega (arith, a, b, c, d, square))
+    | inr none ↦ inr none.1
+  ];
+}
+
+pub none_of_phases_from : (p : Problem) (bids : ℕ) (start : List ℤ) (answer : Answer) → IsInfeasibleAnswer p answer → IsOfPhasesFrom p bids start answer
+none_of_phases_from p bids start answer h = record { begun = start; opened = record { each = refl; same = λ e. refl; kept = λ j. inl refl }; run = none_of_phases p bids start answer h }
+
+pub phases_from : (p : Problem) (t : Table) (r : FlatTable) (bids : ℕ) (start begun : List ℤ) → IsTableOf p t → AreSameRows t r → AreOpened r.objects (length r.rows) start begun → (answer : Answer) → IsOfPhases p bids begun answer → IsOfPhasesFrom p bids start answer
+phases_from p t r bids start begun its same opened answer run = record {
+  begun = begun;
+  opened = record { each = opened.each; same = λ e. opened.same (let a = its.objects in let b = same.objects in let c = same.persons in let d = length-rows p t its in omega (arith, a, b, c, d, e)); kept = opened.kept };
+  run = run;
+}

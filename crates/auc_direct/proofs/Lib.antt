@@ -4,6 +4,7 @@ mod BidLaws
 mod HighBids
 mod MarketLaws
 mod BidsLaws
+mod PhasesLaws
 mod Example
 mod Bounds
 mod Opening

@@ -10,12 +10,13 @@ use Rattle.auc_graph.specs.Price.{IsPrice}
 use Rattle.auc_answers.specs.declared.answer.Answer.{Answer}
 use Rattle.auc_letters.specs.Price.{IsEps}
 use Rattle.auc_rows.specs.declared.arc.ShortArc.{ShortArc}
-use Rattle.auc_rows.specs.Rows.{AreSameRows, FlatTable}
+use Rattle.auc_rows.specs.Rows.{AreRowsOf, AreSameRows, FlatTable}
 use Rattle.auc_direct.specs.declared.ending.Chain.{Chain}
 use Rattle.auc_direct.specs.declared.ending.Ending.{Ending}
 use Rattle.auc_direct.specs.declared.ending.PathStep.{PathStep}
 use Rattle.auc_direct.specs.declared.market.TheConstants.{NOBODY}
-use Rattle.auc_direct.specs.Bids.{HaveRunOut}
+use Rattle.auc_direct.specs.Bids.{HaveRunOut, State, state}
+use Rattle.auc_direct.specs.Phases.{IsRun}
 use Rattle.auc_direct.specs.Market.{AreHigher, HaveAllBut, HaveObjects, IsAbove, Stands, own_at}
 use Rattle.auc_direct.specs.Starts.{AreOpened}
 
@@ -90,6 +91,7 @@ pub record IsOutcomeFrom (r : FlatTable) (bids : ℕ) (start : List ℤ) (before
   pub begun : List ℤ
   pub opened : AreOpened r.objects (length r.rows) start begun
   pub stopped : IsToldOr before after ending (IsStopped r bids (total begun) ending prices)
+  pub run : IsRun r bids begun (state prices holders owns)
 
 abbrev pub IsLimitedBy : Problem → ℕ → ℤ → CertParts → Type 0
 IsLimitedBy p bids begun (CertParts.Optimal cost choice prices) = Unit {0}
@@ -124,6 +126,46 @@ IsStopTold (Answer.Broken guard) = ⊥
 -- What is answered of a run that somebody watches: he has said no, and that is told; or he has said no more than before the call, and this holds.
 abbrev pub IsLimitedUnless : Bool → Bool → Answer → Type 0 → Type 0
 IsLimitedUnless before after answer Holds = ((after ≡ true) × IsStopTold answer) ⊎ ((after ≡ before) × Holds)
+
+-- prices to which phases of at most so many bids each lead from these
+abbrev pub AreOfRun : Problem → ℕ → List ℤ → List ℤ → Type 0
+AreOfRun p bids begun prices = (r : FlatTable) × (last : State) × AreRowsOf p r × (last.prices ≡ prices) × IsRun r bids begun last
+
+abbrev pub IsClaimOfRun : Problem → ℕ → List ℤ → CertParts → Type 0
+IsClaimOfRun p bids begun (CertParts.Optimal cost choice prices) = AreOfRun p bids begun prices
+IsClaimOfRun p bids begun (CertParts.Infeasible persons objects) = Unit {0}
+IsClaimOfRun p bids begun (CertParts.Bracket reason lower cost choice prices) = AreOfRun p bids begun prices
+
+-- No phase of the run that an answer comes from has made more bids than it may: the answer's prices are what such phases come to. Where there is no assignment nothing is said of phases.
+abbrev pub IsOfPhases : Problem → ℕ → List ℤ → Answer → Type 0
+IsOfPhases p bids begun (Answer.Optimal cert) = IsClaimOfRun p bids begun cert
+IsOfPhases p bids begun (Answer.Infeasible cert) = Unit {0}
+IsOfPhases p bids begun (Answer.Bracket cert) = IsClaimOfRun p bids begun cert
+IsOfPhases p bids begun (Answer.Broken guard) = Unit {0}
+
+-- prices that a run without a start may begin with: one for each object, and none above 0 with more objects than persons
+pub record AreFirst (p : Problem) (prices : List ℤ) : Type 0 where
+  pub each : length prices ≡ p.objects
+  pub within : All IsPrice prices
+  pub spare : (p.objects ≡ p.persons) ⊎ ((j : ℕ) → price_at prices j ≡ pos 0)
+
+abbrev pub IsClaimOfFirst : Problem → ℕ → CertParts → Type 0
+IsClaimOfFirst p bids (CertParts.Optimal cost choice prices) = (begun : List ℤ) × AreFirst p begun × AreOfRun p bids begun prices
+IsClaimOfFirst p bids (CertParts.Infeasible persons objects) = Unit {0}
+IsClaimOfFirst p bids (CertParts.Bracket reason lower cost choice prices) = (begun : List ℤ) × AreFirst p begun × AreOfRun p bids begun prices
+
+-- the same of a run without a start
+abbrev pub IsOfFirstPhases : Problem → ℕ → Answer → Type 0
+IsOfFirstPhases p bids (Answer.Optimal cert) = IsClaimOfFirst p bids cert
+IsOfFirstPhases p bids (Answer.Infeasible cert) = Unit {0}
+IsOfFirstPhases p bids (Answer.Bracket cert) = IsClaimOfFirst p bids cert
+IsOfFirstPhases p bids (Answer.Broken guard) = Unit {0}
+
+-- the same of a run from start prices
+pub record IsOfPhasesFrom (p : Problem) (bids : ℕ) (start : List ℤ) (answer : Answer) : Type 0 where
+  pub begun : List ℤ
+  pub opened : AreOpened p.objects p.persons start begun
+  pub run : IsOfPhases p bids begun answer
 
 -- A path leaves what stands between two bids, the person has an object, nobody else has got or lost one, and no price has fallen; or nothing has changed.
 abbrev pub IsPathStep : FlatTable → ℤ → ℕ → PathStep → List ℤ → List ℕ → List ShortArc → List ℤ → List ℕ → List ShortArc → Type 0

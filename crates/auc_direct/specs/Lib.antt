@@ -1,6 +1,7 @@
 pub mod Scan
 pub mod Bid
 pub mod Bids
+pub mod Phases
 pub mod Market
 pub mod Shortlist
 pub mod Starts

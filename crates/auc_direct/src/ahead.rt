@@ -6,8 +6,10 @@ ghost use Rattle.std.specs.BinaryHeap.{heap_items};
 ghost use Rattle.auc_graph.specs.Assignment.{total};
 ghost use Rattle.auc_letters.specs.Price.{IsEps};
 ghost use Rattle.auc_rows.specs.Rows.{EachHasArc};
+ghost use Rattle.auc_direct.specs.Bids.{state_of};
 ghost use Rattle.auc_direct.specs.Endings.{IsLeft, IsStart, IsStopped, IsToldOr};
 ghost use Rattle.auc_direct.specs.Path.{IsClean};
+ghost use Rattle.auc_direct.specs.Phases.{ArePhases};
 ghost use Rattle.auc_direct.specs.Shortlist.{Kept};
 
 use crate::ending::Ending;
@@ -135,6 +137,7 @@ impl Market {
         ensures start { OnOk result (IsStart rows.now eps self.new.prices.items) }
         ensures holders { OnOk result (length self.new.holders.items ≡ rows.now.objects) }
         ensures owns { OnOk result (length self.new.owns.items ≡ length rows.now.rows) }
+        ensures phases { OnOk result (ArePhases rows.now bids (state_of self.old) (state_of self.new)) }
         ensures risen { OnOk result (total self.old.prices.items ≤ℤ total self.new.prices.items) }
         ensures clean { OnOk result (IsClean rows.now.objects work.new.search.labels.items work.new.search.line.items (heap_items work.new.search.heap)) }
         ensures kept { OnOk result (Kept rows.now self.new.prices.items work.new.lists.lists.items) }

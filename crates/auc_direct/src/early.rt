@@ -4,9 +4,11 @@ ghost use Rattle.std.specs.Prelude.{◌≡◌, pos, ◌≤ℤ◌, IfOk, IfSome, 
 ghost use Rattle.std.specs.BinaryHeap.{heap_items};
 ghost use Rattle.auc_graph.specs.Assignment.{total};
 ghost use Rattle.auc_rows.specs.Rows.{EachHasArc};
+ghost use Rattle.auc_direct.specs.Bids.{state_of};
 ghost use Rattle.auc_direct.specs.Endings.{IsEnding, IsSold, IsToldOr};
 ghost use Rattle.auc_direct.specs.Market.{Stands};
 ghost use Rattle.auc_direct.specs.Path.{IsClean};
+ghost use Rattle.auc_direct.specs.Phases.{IsPhase};
 ghost use Rattle.auc_direct.specs.Shortlist.{Kept};
 
 use crate::ending::Ending;
@@ -98,6 +100,7 @@ impl Market {
         ensures sold { IfOk result (λ o. IfSome o (λ e. IsSold rows.now e self.new.owns.items)) }
         ensures ending { IfOk result (λ o. IfSome o (λ e. IsToldOr (W.has_stopped watch.old) (W.has_stopped watch.new) e (IsEnding rows.now bids (total self.old.prices.items) e self.new.prices.items self.new.owns.items))) }
         ensures going { IfOk result (λ o. IfNone o (W.has_stopped watch.new ≡ W.has_stopped watch.old)) }
+        ensures phase { OnOk result (IsPhase rows.now bids (state_of self.old) (state_of self.new)) }
         ensures risen { OnOk result (total self.old.prices.items ≤ℤ total self.new.prices.items) }
         ensures clean { OnOk result (IsClean rows.now.objects work.new.search.labels.items work.new.search.line.items (heap_items work.new.search.heap)) }
         ensures kept { OnOk result (Kept rows.now self.new.prices.items work.new.lists.lists.items) }

@@ -87,6 +87,19 @@ pub(crate) fn first_eps(rows: &FlatRows, prices: &[i64]) -> i64
     (mean_spread(rows, prices) / parts as i64).clamp(LAST_EPS, MOST_EPS)
 }
 
+/// The mean spread of a row at these prices, and at least 1; 1 where there are more objects than persons. A run begins with it where a first phase at a finer eps has taken too many bids.
+pub(crate) fn coarse_eps(rows: &FlatRows, prices: &[i64]) -> i64
+    requires many { length prices.now ≡ rows.now.objects }
+    requires prices { All IsPrice prices.now }
+    ensures range { IsEps result }
+    ensures start { (rows.now.objects ≡ length rows.now.rows) ⊎ (result ≡ pos 1) }
+{
+    if rows.persons() < rows.objects() {
+        return LAST_EPS;
+    }
+    mean_spread(rows, prices).clamp(LAST_EPS, MOST_EPS)
+}
+
 /// An eighth of the last eps, and at least 1; none after 1.
 pub(crate) fn next_eps(eps: i64) -> Option<i64>
     requires { IsEps eps }

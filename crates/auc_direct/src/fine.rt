@@ -6,9 +6,11 @@ ghost use Rattle.std.specs.BinaryHeap.{heap_items};
 ghost use Rattle.auc_graph.specs.Assignment.{total};
 ghost use Rattle.auc_letters.specs.Price.{IsEps};
 ghost use Rattle.auc_rows.specs.Rows.{EachHasArc};
+ghost use Rattle.auc_direct.specs.Bids.{AreMadeWithin, state_of};
 ghost use Rattle.auc_direct.specs.Endings.{IsStart};
 ghost use Rattle.auc_direct.specs.Market.{Stands};
 ghost use Rattle.auc_direct.specs.Path.{IsClean};
+ghost use Rattle.auc_direct.specs.Phases.{ArePhases};
 ghost use Rattle.auc_direct.specs.Shortlist.{Kept};
 ghost use Rattle.auc_direct.specs.Starts.{any_eps};
 
@@ -70,11 +72,12 @@ fn most_bids(persons: u32) -> u64 {
 }
 
 impl Market {
-    /// Plays a phase in which bids are handed out as persons begin. Gives whether all is sold; where it isn't, it is given up as it stands. How many bids there are matters for speed alone.
+    /// Plays a phase of at most so many bids, which are handed out as persons begin. Gives whether all is sold; where it isn't, it is given up as it stands.
     fn play_apace(
         &mut self,
         rows: &FlatRows,
         eps: i64,
+        bids: u64,
         patience: u64,
         work: &mut Workspace,
     ) -> Result<bool, AllocError>
@@ -84,6 +87,7 @@ impl Market {
         requires clean { IsClean rows.now.objects work.old.search.labels.items work.old.search.line.items (heap_items work.old.search.heap) }
         requires kept { Kept rows.now self.old.prices.items work.old.lists.lists.items }
         ensures stands { OnOk result (Stands rows.now eps self.new.prices.items self.new.holders.items self.new.owns.items) }
+        ensures made { OnOk result (AreMadeWithin rows.now eps bids (state_of self.old) (state_of self.new)) }
         ensures risen { OnOk result (total self.old.prices.items ≤ℤ total self.new.prices.items) }
         ensures clean { OnOk result (IsClean rows.now.objects work.new.search.labels.items work.new.search.line.items (heap_items work.new.search.heap)) }
         ensures kept { OnOk result (Kept rows.now self.new.prices.items work.new.lists.lists.items) }
@@ -95,13 +99,13 @@ impl Market {
             return Ok(true);
         }
         let mut begun = waiting + 1;
-        let mut given = u64::from(persons / 8);
-        let mut left = given;
+        let mut left = bids.min(u64::from(persons / 8));
+        let mut kept = bids - left;
         while begun < persons {
             let until = end_of_part(begun, persons, part);
-            let more = bids_of_part(begun, until, persons);
-            given = given.saturating_add(more);
-            left = left.saturating_add(more);
+            let more = kept.min(bids_of_part(begun, until, persons));
+            kept -= more;
+            left += more;
             match self.serve(
                 rows,
                 eps,
@@ -123,7 +127,7 @@ impl Market {
             Chain::Bids => return Ok(false),
             Chain::Ceiling => return Ok(false),
         }
-        work.made = work.made.saturating_add(given.saturating_sub(left));
+        work.made = work.made.saturating_add(bids - kept - left);
         Ok(true)
     }
 
@@ -147,6 +151,7 @@ impl Market {
         ensures start { IfOk result (λ o. IfSome o (λ next. IsStart rows.now next self.new.prices.items)) }
         ensures any { OnOk result (Stands rows.now any_eps self.new.prices.items self.new.holders.items self.new.owns.items) }
         ensures stands { IfOk result (λ o. IfNone o (Stands rows.now eps self.new.prices.items self.new.holders.items self.new.owns.items)) }
+        ensures phases { OnOk result (ArePhases rows.now bids (state_of self.old) (state_of self.new)) }
         ensures risen { OnOk result (total self.old.prices.items ≤ℤ total self.new.prices.items) }
         ensures clean { OnOk result (IsClean rows.now.objects work.new.search.labels.items work.new.search.line.items (heap_items work.new.search.heap)) }
         ensures kept { OnOk result (Kept rows.now self.new.prices.items work.new.lists.lists.items) }
@@ -163,7 +168,7 @@ impl Market {
             return Ok(None);
         }
         self.open();
-        if self.play_apace(rows, fine, patience, work)? {
+        if self.play_apace(rows, fine, bids, patience, work)? {
             return Ok(Some(next));
         }
         self.open();

@@ -9,6 +9,7 @@ ghost use Rattle.auc_direct.specs.Bids.{AreCounted, state_of};
 ghost use Rattle.auc_direct.specs.Endings.{IsEnding};
 ghost use Rattle.auc_direct.specs.Market.{Stands};
 ghost use Rattle.auc_direct.specs.Path.{IsClean};
+ghost use Rattle.auc_direct.specs.Phases.{IsPhase};
 ghost use Rattle.auc_direct.specs.Shortlist.{Kept};
 
 use crate::early::Course;
@@ -68,7 +69,7 @@ impl Market {
         requires kept { Kept rows.now self.old.prices.items work.old.lists.lists.items }
         ensures stands { OnOk result (Stands rows.now eps self.new.prices.items self.new.holders.items self.new.owns.items) }
         ensures ending { IfOk result (λ o. IfSome o (λ e. IsEnding rows.now bids (total self.old.prices.items) e self.new.prices.items self.new.owns.items)) }
-        ensures made { IfOk result (λ o. IfSome o (λ e. AreCounted rows.now eps bids e (state_of self.old) (state_of self.new))) }
+        ensures phase { OnOk result (IsPhase rows.now bids (state_of self.old) (state_of self.new)) }
         ensures risen { OnOk result (total self.old.prices.items ≤ℤ total self.new.prices.items) }
         ensures clean { OnOk result (IsClean rows.now.objects work.new.search.labels.items work.new.search.line.items (heap_items work.new.search.heap)) }
         ensures kept { OnOk result (Kept rows.now self.new.prices.items work.new.lists.lists.items) }

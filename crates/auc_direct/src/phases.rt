@@ -5,9 +5,11 @@ ghost use Rattle.std.specs.BinaryHeap.{heap_items};
 ghost use Rattle.auc_graph.specs.Assignment.{total};
 ghost use Rattle.auc_letters.specs.Price.{IsEps};
 ghost use Rattle.auc_rows.specs.Rows.{EachHasArc};
+ghost use Rattle.auc_direct.specs.Bids.{state_of};
 ghost use Rattle.auc_direct.specs.Endings.{IsLeft, IsStart, IsStopped, IsToldOr};
 ghost use Rattle.auc_direct.specs.Market.{Stands};
 ghost use Rattle.auc_direct.specs.Path.{IsClean};
+ghost use Rattle.auc_direct.specs.Phases.{ArePhases, IsRun};
 ghost use Rattle.auc_direct.specs.Shortlist.{Kept};
 ghost use Rattle.auc_direct.specs.Starts.{any_eps};
 
@@ -103,6 +105,7 @@ pub(crate) fn play_phases<W: Watch>(
     requires kept { Kept rows.now market.prices.items work.lists.lists.items }
     ensures left { IfOk result (λ o. IsLeft rows.now o.ending o.market.prices.items o.market.holders.items o.market.owns.items) }
     ensures stopped { IfOk result (λ o. IsToldOr (W.has_stopped watch.old) (W.has_stopped watch.new) o.ending (IsStopped rows.now bids (total market.prices.items) o.ending o.market.prices.items)) }
+    ensures phases { IfOk result (λ o. ArePhases rows.now bids (state_of market) (state_of o.market)) }
 {
     let mut market = market;
     let mut work = work;
@@ -149,6 +152,7 @@ pub(crate) fn play_all<W: Watch>(
     requires start { IsStart rows.now eps prices.items }
     ensures left { IfOk result (λ o. IsLeft rows.now o.ending o.market.prices.items o.market.holders.items o.market.owns.items) }
     ensures stopped { IfOk result (λ o. IsToldOr (W.has_stopped watch.old) (W.has_stopped watch.new) o.ending (IsStopped rows.now bids (total prices.items) o.ending o.market.prices.items)) }
+    ensures run { IfOk result (λ o. IsRun rows.now bids prices.items (state_of o.market)) }
 {
     let mut work = Workspace::new(alloc, rows)?;
     let mut market = Market::new(alloc, rows.persons(), prices)?;
@@ -178,6 +182,7 @@ pub(crate) fn play_quickly<W: Watch>(
     ensures left { IfOk result (λ x. IfSome x (λ o. IsLeft rows.now o.ending o.market.prices.items o.market.holders.items o.market.owns.items)) }
     ensures stopped { IfOk result (λ x. IfSome x (λ o. IsToldOr (W.has_stopped watch.old) (W.has_stopped watch.new) o.ending (IsStopped rows.now bids (total prices.items) o.ending o.market.prices.items))) }
     ensures going { IfOk result (λ x. IfNone x (W.has_stopped watch.new ≡ W.has_stopped watch.old)) }
+    ensures run { IfOk result (λ x. IfSome x (λ o. IsRun rows.now bids prices.items (state_of o.market))) }
 {
     if rows.is_full() || rows.persons() < rows.objects() {
         let outcome = play_all(alloc, rows, bids, eps, prices, watch)?;

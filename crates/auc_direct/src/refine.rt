@@ -175,6 +175,7 @@ impl Market {
         ensures slack { IfOk result (λ b. b ≡ true → Stands rows.now (pos 1) self.new.prices.items self.new.holders.items self.new.owns.items) }
         ensures have { IfOk result (λ b. b ≡ true → HaveObjects (length rows.now.rows) self.new.owns.items) }
         ensures start { OnOk result ((eps : ℤ) → IsStart rows.now eps self.old.prices.items → IsStart rows.now eps self.new.prices.items) }
+        ensures owns { OnOk result (self.new.owns.items ≡ self.old.owns.items) }
         ensures risen { OnOk result (total self.old.prices.items ≤ℤ total self.new.prices.items) }
         ensures kept { OnOk result (Kept rows.now self.new.prices.items lists.new.lists.items) }
     {

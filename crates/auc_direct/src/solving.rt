@@ -1,19 +1,21 @@
 //! The solver in one hand.
 
-ghost use Rattle.std.specs.Prelude.{ℕ, ℤ, ◌≡◌, ◌⊎◌, pos, All, length, IfOk, IfSome, IfNone};
+ghost use Rattle.std.specs.Prelude.{ℕ, ℤ, List, ◌≡◌, ◌⊎◌, pos, All, length, IfOk, IfSome, IfNone};
 ghost use Rattle.auc_graph.specs.Assignment.{total};
 ghost use Rattle.auc_graph.specs.Price.{IsPrice};
 ghost use Rattle.auc_letters.specs.Price.{IsEps};
 ghost use Rattle.auc_answers.specs.Answers.{HasAssignment, IsAnswer, IsBracketAnswer, IsInfeasibleAnswer};
 ghost use Rattle.auc_rows.specs.Rows.{AreRowsOf, EachHasArc, IsFlatTable};
-ghost use Rattle.auc_direct.specs.Endings.{IsLeft, IsLimited, IsLimitedFrom, IsLimitedUnless, IsStart, IsStopTold, IsStopped};
+ghost use Rattle.auc_direct.specs.Endings.{IsLeft, IsLimited, IsLimitedFrom, IsLimitedUnless, IsOfFirstPhases, IsOfPhases, IsOfPhasesFrom, IsStart, IsStopTold, IsStopped};
 ghost use Rattle.auc_cert.specs.declared.reason.Reason.{Reason};
 ghost use Rattle.auc_direct.specs.declared.ending.Ending.{Ending};
+ghost use Rattle.auc_direct.specs.Bids.{state_of};
 ghost use Rattle.auc_direct.specs.Market.{EachHasRow};
+ghost use Rattle.auc_direct.specs.Phases.{IsRun};
 ghost use Rattle.auc_direct.specs.Starts.{AreStartPrices};
 
 use crate::ending::Ending;
-use crate::eps::first_eps;
+use crate::eps::{coarse_eps, first_eps};
 use crate::from_start::{play_from, play_from_unasked};
 use crate::gathering::gather;
 use crate::greedy::serves_all;
@@ -79,6 +81,7 @@ fn answer_of(
     ensures is { IfOk result (IsAnswer problem.now) }
     ensures limit { (bids : ℕ) (begun : ℤ) → IsStopped flat bids begun outcome.ending outcome.market.prices.items → IfOk result (IsLimited problem.now bids begun) }
     ensures told { outcome.ending ≡ Ending.Stopped Reason.Bids → IfOk result IsStopTold }
+    ensures run { (bids : ℕ) (begun : List ℤ) → IsRun flat bids begun (state_of outcome.market) → IfOk result (IsOfPhases problem.now bids begun) }
 {
     // Read here, so that the proof knows what every problem keeps.
     let _ = problem.arcs();
@@ -103,6 +106,7 @@ fn solve_quickly<W: Watch>(
 ) -> Result<Option<Answer>, AllocError>
     ensures is { IfOk result (λ o. IfSome o (IsAnswer problem.now)) }
     ensures limit { IfOk result (λ o. IfSome o (λ a. IsLimitedUnless (W.has_stopped watch.old) (W.has_stopped watch.new) a (IsLimited problem.now bids (pos 0) a))) }
+    ensures run { IfOk result (λ o. IfSome o (IsOfFirstPhases problem.now bids)) }
     ensures going { IfOk result (λ o. IfNone o (W.has_stopped watch.new ≡ W.has_stopped watch.old)) }
 {
     if problem.persons() < problem.objects() && !serves_all(alloc, problem)? {
@@ -137,6 +141,7 @@ fn solve_rows<W: Watch>(
     requires start { IsStart flat eps prices.items }
     ensures is { IfOk result (IsAnswer problem.now) }
     ensures limit { IfOk result (λ a. IsLimitedUnless (W.has_stopped watch.old) (W.has_stopped watch.new) a (IsLimited problem.now bids (total prices.items) a)) }
+    ensures run { IfOk result (IsOfPhases problem.now bids prices.items) }
 {
     // Read here, so that the proof knows what all rows keep.
     let _ = flat.persons();
@@ -158,6 +163,7 @@ fn solve_rows_from<W: Watch>(
     requires start { AreStartPrices problem.now start.now }
     ensures is { IfOk result (IsAnswer problem.now) }
     ensures limit { IfOk result (λ a. IsLimitedUnless (W.has_stopped watch.old) (W.has_stopped watch.new) a (IsLimitedFrom problem.now bids start.now a)) }
+    ensures run { IfOk result (IsOfPhasesFrom problem.now bids start.now) }
 {
     // Read here, so that the proof knows what all rows keep.
     let _ = flat.persons();
@@ -178,6 +184,7 @@ fn solve_from_unasked<W: Watch>(
     requires start { AreStartPrices problem.now start.now }
     ensures is { IfOk result (λ o. IfSome o (IsAnswer problem.now)) }
     ensures limit { IfOk result (λ o. IfSome o (λ a. IsLimitedUnless (W.has_stopped watch.old) (W.has_stopped watch.new) a (IsLimitedFrom problem.now bids start.now a))) }
+    ensures run { IfOk result (λ o. IfSome o (IsOfPhasesFrom problem.now bids start.now)) }
     ensures going { IfOk result (λ o. IfNone o (W.has_stopped watch.new ≡ W.has_stopped watch.old)) }
 {
     if problem.persons() < problem.objects() && !serves_all(alloc, problem)? {
@@ -196,7 +203,7 @@ fn solve_from_unasked<W: Watch>(
 
 /// Solves a problem: an arc for each person, no object twice, of the least cost together; or persons who together know fewer objects than they number; or, where
 /// a phase would take more than so many bids or a price above 2^61, an assignment and a bound on what any costs. The checker finds no fault in any claim: of a least assignment that is proved,
-/// and the others pass it here. `Broken` is never answered.
+/// and the others pass it here. `Broken` is never answered. No phase makes more bids than `limits` says: clause `run`.
 ///
 /// The answer is right as that of `auc_world::solve_serial` is, but of several least assignments it may be another one.
 ///
@@ -218,6 +225,7 @@ pub fn solve_direct(
 ) -> Result<Answer, AllocError>
     ensures is { IfOk result (IsAnswer problem.now) }
     ensures limit { IfOk result (IsLimited problem.now limits.now.bids (pos 0)) }
+    ensures run { IfOk result (IsOfFirstPhases problem.now limits.now.bids) }
 {
     solve_direct_watched(alloc, problem, limits, &mut Onward)
 }
@@ -248,6 +256,7 @@ pub fn solve_direct_from(
     requires start { AreStartPrices problem.now start.now }
     ensures is { IfOk result (IsAnswer problem.now) }
     ensures limit { IfOk result (IsLimitedFrom problem.now limits.now.bids start.now) }
+    ensures run { IfOk result (IsOfPhasesFrom problem.now limits.now.bids start.now) }
 {
     solve_direct_watched_from(alloc, problem, limits, start, &mut Onward)
 }
@@ -270,6 +279,7 @@ pub fn solve_direct_watched<W: Watch>(
 ) -> Result<Answer, AllocError>
     ensures is { IfOk result (IsAnswer problem.now) }
     ensures limit { IfOk result (λ a. IsLimitedUnless (W.has_stopped watch.old) (W.has_stopped watch.new) a (IsLimited problem.now limits.now.bids (pos 0) a)) }
+    ensures run { IfOk result (IsOfFirstPhases problem.now limits.now.bids) }
 {
     if let Some(answer) = solve_quickly(alloc, problem, limits.bids, watch)? {
         return Ok(answer);
@@ -279,7 +289,7 @@ pub fn solve_direct_watched<W: Watch>(
     }
     let flat = FlatRows::build(alloc, problem)?;
     let prices = start_prices(alloc, &flat)?;
-    let eps = first_eps(&flat, prices.as_slice());
+    let eps = coarse_eps(&flat, prices.as_slice());
     solve_rows(alloc, problem, flat, limits.bids, eps, prices, watch)
 }
 
@@ -299,6 +309,7 @@ pub fn solve_direct_watched_from<W: Watch>(
     requires start { AreStartPrices problem.now start.now }
     ensures is { IfOk result (IsAnswer problem.now) }
     ensures limit { IfOk result (λ a. IsLimitedUnless (W.has_stopped watch.old) (W.has_stopped watch.new) a (IsLimitedFrom problem.now limits.now.bids start.now a)) }
+    ensures run { IfOk result (IsOfPhasesFrom problem.now limits.now.bids start.now) }
 {
     if let Some(answer) = solve_from_unasked(alloc, problem, limits.bids, start, watch)? {
         return Ok(answer);

@@ -8,9 +8,11 @@ ghost use Rattle.auc_letters.specs.Price.{IsEps};
 ghost use Rattle.auc_rows.specs.declared.arc.ShortArc.{ShortArc};
 ghost use Rattle.auc_rows.specs.Rows.{EachHasArc, FlatTable};
 ghost use Rattle.auc_direct.specs.declared.ending.Ending.{Ending};
+ghost use Rattle.auc_direct.specs.Bids.{state_of};
 ghost use Rattle.auc_direct.specs.Endings.{IsEnding, IsSold, IsToldOr};
 ghost use Rattle.auc_direct.specs.Market.{Stands};
 ghost use Rattle.auc_direct.specs.Path.{IsClean};
+ghost use Rattle.auc_direct.specs.Phases.{IsPhase};
 ghost use Rattle.auc_direct.specs.Shortlist.{Kept};
 
 use crate::ending::Ending;
@@ -92,6 +94,7 @@ impl Market {
         ensures yes { IfOk result (λ o. IfSome o (λ e. W.has_stopped watch.new ≡ W.has_stopped watch.old)) }
         ensures sold { IfOk result (λ o. IfSome o (λ e. IsSold rows.now e self.new.owns.items)) }
         ensures ending { IfOk result (λ o. IfSome o (λ e. IsEnding rows.now bids (total self.old.prices.items) e self.new.prices.items self.new.owns.items)) }
+        ensures phase { OnOk result (IsPhase rows.now bids (state_of self.old) (state_of self.new)) }
         ensures risen { OnOk result (total self.old.prices.items ≤ℤ total self.new.prices.items) }
         ensures clean { OnOk result (IsClean rows.now.objects work.new.search.labels.items work.new.search.line.items (heap_items work.new.search.heap)) }
         ensures kept { OnOk result (Kept rows.now self.new.prices.items work.new.lists.lists.items) }
@@ -137,6 +140,7 @@ impl Market {
         ensures stands { OnOk result (Stands rows.now eps self.new.prices.items self.new.holders.items self.new.owns.items) }
         ensures sold { IfOk result (λ e. IsSold rows.now e self.new.owns.items) }
         ensures ending { IfOk result (λ e. IsToldOr (W.has_stopped watch.old) (W.has_stopped watch.new) e (IsEnding rows.now bids (total self.old.prices.items) e self.new.prices.items self.new.owns.items)) }
+        ensures phase { OnOk result (IsPhase rows.now bids (state_of self.old) (state_of self.new)) }
         ensures risen { OnOk result (total self.old.prices.items ≤ℤ total self.new.prices.items) }
         ensures clean { OnOk result (IsClean rows.now.objects work.new.search.labels.items work.new.search.line.items (heap_items work.new.search.heap)) }
         ensures kept { OnOk result (Kept rows.now self.new.prices.items work.new.lists.lists.items) }
@@ -166,6 +170,7 @@ impl Market {
         ensures sold { IfOk result (λ o. IfSome o (λ e. IsSold rows.now e self.new.owns.items)) }
         ensures ending { IfOk result (λ o. IfSome o (λ e. IsToldOr (W.has_stopped watch.old) (W.has_stopped watch.new) e (IsEnding rows.now bids (total self.old.prices.items) e self.new.prices.items self.new.owns.items))) }
         ensures going { IfOk result (λ o. IfNone o (W.has_stopped watch.new ≡ W.has_stopped watch.old)) }
+        ensures phase { OnOk result (IsPhase rows.now bids (state_of self.old) (state_of self.new)) }
     {
         let mut left = bids;
         loop {

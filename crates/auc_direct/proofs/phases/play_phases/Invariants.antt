@@ -4,7 +4,9 @@ use Rattle.auc_letters.specs.Price.{IsEps}
 use Rattle.std.specs.BinaryHeap.{heap_items}
 use Rattle.auc_direct.specs.Endings.{IsStart}
 use Rattle.auc_direct.specs.Market.{Stands}
+use Rattle.auc_direct.specs.Bids.{state_of}
 use Rattle.auc_direct.specs.Path.{IsClean}
+use Rattle.auc_direct.specs.Phases.{ArePhases}
 use Rattle.auc_direct.specs.Shortlist.{Kept}
 use Rattle.auc_direct.specs.Starts.{any_eps}
 use Rattle.auc_direct.proofs.phases.play_phases.Given as goal
@@ -17,6 +19,7 @@ invariant-loop-work g l = record {
   clean : IsClean l.rows.objects l.work.search.labels.items l.work.search.line.items (heap_items l.work.search.heap);
   kept : Kept l.rows l.market.prices.items l.work.lists.lists.items;
   risen : total l.fn.market.prices.items ≤ℤ total l.market.prices.items;
+  phases : ArePhases l.rows l.bids (state_of l.fn.market) (state_of l.market);
   asked : g.W.Watch.has_stopped l.watch ≡ g.W.Watch.has_stopped l.fn.watch;
 }
 

@@ -1,10 +1,14 @@
-use Rattle.std.proofs.Common.{◌≡◌, arith, ap, length, rules, sym, subst, w64}
+use Rattle.std.proofs.Common.{◌≡◌, ◌≤◌, arith, refl, ap, length, rules, sym, subst, w64}
 use Rattle.std.specs.Prelude.{FitsSigned, ◌≤ℤ◌}
 use Rattle.std.proofs.lemmas.Int.{ints, to_z-of_z}
 use Rattle.auc_graph.specs.Assignment.{total}
+use Rattle.auc_direct.specs.Bids.{state_of}
 use Rattle.auc_direct.specs.Endings.{IsStart}
+use Rattle.auc_direct.specs.Market.{Stands}
+use Rattle.auc_direct.specs.Phases.ArePhases.{begins, plays}
 use Rattle.auc_direct.proofs.EndingLaws.{stopped_before}
 use Rattle.auc_direct.proofs.Opening.{stands_opened, start_next}
+use Rattle.auc_direct.proofs.PhasesLaws.{counted_within, phase_more, phases_on}
 use Rattle.auc_direct.proofs.Refinement.{stands_any}
 use Rattle.auc_direct.proofs.phases.play_quickly.Goals as goal
 
@@ -55,3 +59,31 @@ play_phases-requires-in-Sold-clause-stands g c =
     let f : FitsSigned w64 c.args.eps = c.ranges.eps in
     let after = c.play.new.self in
     stands_any c.args.rows.now c.args.eps after.prices.items after.holders.items after.owns.items c.persons-2.ensures.sound (simp to_z-of_z at c.in_ok-play.ensures.stands)
+
+-- ---- the run
+
+pub returns-then-not-may_go_on-clause-run : goal.returns-then-not-may_go_on-clause-run
+returns-then-not-may_go_on-clause-run g c =
+    let first = state_of c.in_ok-market.market in
+    record { first = first; begun_are = c.in_ok-market.ensures.prices; phases = begins first refl }
+
+pub returns-in-Some-early-clause-run : goal.returns-in-Some-early-clause-run
+returns-in-Some-early-clause-run g c =
+    let first = state_of c.in_ok-market.market in
+    record { first = first; begun_are = c.in_ok-market.ensures.prices; phases = phases_on c.args.rows.now c.args.bids first (state_of c.play_fine.new.self) (state_of c.in_ok-outcome-2.outcome.market) c.in_ok-early.ensures.phases c.in_ok-outcome-2.ensures.phases }
+
+pub returns-in_ok-outcome-in-Sold-clause-run : goal.returns-in_ok-outcome-in-Sold-clause-run
+returns-in_ok-outcome-in-Sold-clause-run g c =
+    let f : FitsSigned w64 c.args.eps = c.ranges.eps in
+    let le : c.min-few.result ≤ c.args.bids = search rules in
+    let first = state_of c.in_ok-market.market in
+    let fine = state_of c.play_fine.new.self in
+    let sold = state_of c.play.new.self in
+    let stands : Stands c.args.rows.now c.args.eps fine.prices fine.holders fine.owns = search rules in
+    let made = counted_within c.args.rows.now c.args.eps c.min-few.result c.in_ok-play.field-0 fine sold (simp to_z-of_z at c.in_ok-play.ensures.made) in
+    let phase = phase_more c.args.rows.now c.min-few.result c.args.bids fine sold le (record { eps = c.args.eps; is_eps = c.requires.eps; stands = stands; made = made }) in
+    record {
+      first = first;
+      begun_are = c.in_ok-market.ensures.prices;
+      phases = phases_on c.args.rows.now c.args.bids first sold (state_of c.in_ok-outcome-in-Sold.outcome.market) (plays fine sold c.in_ok-early.ensures.phases phase) c.in_ok-outcome-in-Sold.ensures.phases;
+    }

@@ -1,8 +1,8 @@
 use Rattle.std.proofs.Common.{◌≡◌, ◌⊎◌}
 use Rattle.auc_cert.specs.declared.reason.Reason.{Reason}
 use Rattle.auc_answers.specs.Answers.{HasAssignment, IsAnswer, IsBracketAnswer, IsInfeasibleAnswer, IsOptimalAnswer}
-use Rattle.auc_direct.specs.Endings.{IsLimited, IsStopTold}
-use Rattle.auc_direct.proofs.Answering.{are_holders, either_is_answer, either_is_limited, left_stands, of_answers, own_listed, persons_are, sold_is_answer, sold_is_limited, sold_passes, stop_told}
+use Rattle.auc_direct.specs.Endings.{IsLimited, IsOfPhases, IsStopTold}
+use Rattle.auc_direct.proofs.Answering.{are_holders, either_is_answer, either_is_limited, left_stands, of_answers, own_listed, persons_are, sold_is_answer, sold_is_limited, sold_of_run, sold_passes, stop_told, stopped_of_run}
 use Rattle.auc_direct.proofs.solving.answer_of.Goals as goal
 
 pub gather-requires-clause-persons : goal.gather-requires-clause-persons
@@ -79,4 +79,23 @@ returns-in-Stopped-clause-told c = λ bids. (
     let g = c.in_ok-gathered.ensures in
     of_answers (λ a. IsInfeasibleAnswer p a ⊎ (HasAssignment p × IsBracketAnswer p Reason.Bids left.holders.items left.prices.items a)) IsStopTold c.bracketed.result
     (rw g.prices (stop_told p r c.requires.rows m.prices.items m.holders.items m.owns.items left.holders.items c.arcs.ensures.problem c.requires.sound g.held stopped.0 stopped.1)) (rw reason at c.bracketed.ensures)
+    )
+
+pub returns-in-Sold-clause-run : goal.returns-in-Sold-clause-run
+returns-in-Sold-clause-run c = λ bids begun run. (
+    let m = c.args.outcome.market in
+    let left = c.in_ok-gathered.gathered in
+    let g = c.in_ok-gathered.ensures in
+    of_answers (IsOptimalAnswer c.args.problem.now left.holders.items left.prices.items) (IsOfPhases c.args.problem.now bids begun) c.proved_optimal.result
+    (rw g.prices (sold_of_run c.args.problem.now c.args.flat c.requires.rows bids begun left.holders.items m.prices.items m.holders.items m.owns.items run)) c.proved_optimal.ensures
+    )
+
+pub returns-in-Stopped-clause-run : goal.returns-in-Stopped-clause-run
+returns-in-Stopped-clause-run c = λ bids begun run. (
+    let p = c.args.problem.now in
+    let m = c.args.outcome.market in
+    let left = c.in_ok-gathered.gathered in
+    let g = c.in_ok-gathered.ensures in
+    of_answers (λ a. IsInfeasibleAnswer p a ⊎ (HasAssignment p × IsBracketAnswer p c.in-Stopped.reason left.holders.items left.prices.items a)) (IsOfPhases p bids begun) c.bracketed.result
+    (rw g.prices (stopped_of_run p c.args.flat c.requires.rows bids begun left.holders.items m.prices.items m.holders.items m.owns.items run c.in-Stopped.reason)) c.bracketed.ensures
     )

@@ -3,7 +3,7 @@ use Rattle.std.specs.Prelude.{FitsSigned, ◌⊎◌}
 use Rattle.std.proofs.lemmas.Int.{to_z-of_z}
 use Rattle.auc_graph.specs.Assignment.{total}
 use Rattle.auc_direct.specs.Endings.{IsLimited, IsStart, IsStopped}
-use Rattle.auc_direct.proofs.Answering.{answer_limit_or_told}
+use Rattle.auc_direct.proofs.Answering.{answer_limit_or_told, first_prices, of_first}
 use Rattle.auc_direct.proofs.EndingLaws.{limited_earlier}
 use Rattle.auc_direct.proofs.Opening.{start_low}
 use Rattle.auc_direct.proofs.solving.solve_quickly.Goals as goal
@@ -34,3 +34,11 @@ pub first_eps-eps-requires-clause-prices : goal.first_eps-eps-requires-clause-pr
 first_eps-eps-requires-clause-prices g c =
     let begun : IsStart c.in_ok-flat.flat (pos 1) c.in_ok-prices.prices.items = c.in_ok-prices.ensures (pos 1) (inr refl) in
     rw c.as_slice.ensures.value begun.within
+
+pub returns-clause-run : goal.returns-clause-run
+returns-clause-run g c =
+    let p = c.args.problem.now in
+    let prices = c.in_ok-prices.prices.items in
+    let begun : IsStart c.in_ok-flat.flat (pos 1) prices = c.in_ok-prices.ensures (pos 1) (inr refl) in
+    let run = rw c.in-Some.is at c.in_ok-outcome.ensures.run in
+    of_first p c.args.bids prices c.in_ok-answer.answer (first_prices p c.in_ok-flat.flat prices c.in_ok-flat.ensures begun) (c.in_ok-answer.ensures.run c.args.bids prices run)

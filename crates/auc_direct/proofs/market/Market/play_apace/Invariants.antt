@@ -1,8 +1,9 @@
-use Rattle.std.proofs.Common.{◌-◌, ◌<◌, ◌≤◌, length}
+use Rattle.std.proofs.Common.{◌+◌, ◌-◌, ◌<◌, ◌≤◌, length}
 use Rattle.std.specs.Prelude.{◌≤ℤ◌}
 use Rattle.auc_graph.specs.Assignment.{total}
 use Rattle.std.specs.BinaryHeap.{heap_items}
 use Rattle.auc_direct.specs.declared.market.TheConstants.{NOBODY}
+use Rattle.auc_direct.specs.Bids.{AreSpent, state_of}
 use Rattle.auc_direct.specs.Market.{HaveAllBut, Stands}
 use Rattle.auc_direct.specs.Path.{IsClean}
 use Rattle.auc_direct.specs.Shortlist.{Kept}
@@ -17,6 +18,7 @@ invariant-loop-begun l = record {
   clean : IsClean l.rows.objects l.work.search.labels.items l.work.search.line.items (heap_items l.work.search.heap);
   kept : Kept l.rows l.self.prices.items l.work.lists.lists.items;
   risen : total l.fn.self.prices.items ≤ℤ total l.self.prices.items;
+  made : AreSpent l.rows l.eps l.bids (l.kept + l.left) (state_of l.fn.self) (state_of l.self);
 }
 
 abbrev pub decreases-loop-begun : goal.decreases-loop-begun

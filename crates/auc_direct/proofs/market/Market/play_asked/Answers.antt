@@ -5,7 +5,8 @@ use Rattle.auc_graph.specs.Assignment.{total}
 use Rattle.auc_direct.specs.declared.ending.Ending.{Ending}
 use Rattle.auc_direct.specs.Bids.{state_of}
 use Rattle.auc_direct.specs.Endings.{IsEnding}
-use Rattle.auc_direct.proofs.BidsLaws.{made_all, made_none, made_slice, run_out}
+use Rattle.auc_direct.proofs.BidsLaws.{made_all, made_none, made_slice, made_within, run_out}
+use Rattle.auc_direct.proofs.PhasesLaws.{counted_within, within_slice}
 use Rattle.auc_direct.proofs.market.Market.play_asked.Goals as goal
 
 pub loop-eps-init : goal.loop-eps-init
@@ -50,3 +51,22 @@ returns-then-left-eq0-clause-ending g c =
     let made = made_slice c.args.rows.now c.args.eps c.args.bids c.loop-eps.left c.min-slice.result c.in_ok-ending.ending (state_of c.args.self.now) (state_of c.loop-eps.self) (state_of c.play.new.self) out le (simp to_z-of_z at inv.made) after.made in
     let all = made_all c.args.rows.now c.args.eps c.args.bids (c.loop-eps.left - c.min-slice.result) (state_of c.args.self.now) (state_of c.play.new.self) none made in
     subst (λ (x : Ending). IsEnding c.args.rows.now c.args.bids (total c.args.self.now.prices.items) x new.prices.items new.owns.items) (sym out) (run_out c.args.rows.now c.args.eps c.args.bids (state_of c.args.self.now) (state_of c.play.new.self) c.requires.eps c.requires.stands all, omega (arith, ints, r, s, le, none))
+
+pub returns-then-not-may_go_on-clause-phase : goal.returns-then-not-may_go_on-clause-phase
+returns-then-not-may_go_on-clause-phase g c =
+    let f1 : FitsSigned w64 c.args.eps = c.ranges.eps in
+    record { eps = c.args.eps; is_eps = c.requires.eps; stands = c.requires.stands; made = made_within c.args.rows.now c.args.eps c.args.bids c.loop-eps.left (state_of c.args.self.now) (state_of c.loop-eps.self) (simp to_z-of_z at c.loop-eps.invariant.made) }
+
+pub returns-then-not-ran_out-clause-phase : goal.returns-then-not-ran_out-clause-phase
+returns-then-not-ran_out-clause-phase g c =
+    let f1 : FitsSigned w64 c.args.eps = c.ranges.eps in
+    let after = simp to_z-of_z at c.in_ok-ending.ensures in
+    let le : c.min-slice.result ≤ c.loop-eps.left = search rules in
+    record { eps = c.args.eps; is_eps = c.requires.eps; stands = c.requires.stands; made = within_slice c.args.rows.now c.args.eps c.args.bids c.loop-eps.left c.min-slice.result (state_of c.args.self.now) (state_of c.loop-eps.self) (state_of c.play.new.self) (simp to_z-of_z at c.loop-eps.invariant.made) le (counted_within c.args.rows.now c.args.eps c.min-slice.result c.in_ok-ending.ending (state_of c.loop-eps.self) (state_of c.play.new.self) after.made) }
+
+pub returns-then-left-eq0-clause-phase : goal.returns-then-left-eq0-clause-phase
+returns-then-left-eq0-clause-phase g c =
+    let f1 : FitsSigned w64 c.args.eps = c.ranges.eps in
+    let after = simp to_z-of_z at c.in_ok-ending.ensures in
+    let le : c.min-slice.result ≤ c.loop-eps.left = search rules in
+    record { eps = c.args.eps; is_eps = c.requires.eps; stands = c.requires.stands; made = within_slice c.args.rows.now c.args.eps c.args.bids c.loop-eps.left c.min-slice.result (state_of c.args.self.now) (state_of c.loop-eps.self) (state_of c.play.new.self) (simp to_z-of_z at c.loop-eps.invariant.made) le (counted_within c.args.rows.now c.args.eps c.min-slice.result c.in_ok-ending.ending (state_of c.loop-eps.self) (state_of c.play.new.self) after.made) }

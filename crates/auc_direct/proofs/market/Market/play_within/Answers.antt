@@ -40,23 +40,34 @@ loop-person-preserved c =
       made = made_on c.args.rows.now c.args.eps c.args.bids c.loop-person.left c.chain.new.left (state_of c.args.self.now) (state_of c.loop-person.self) (state_of c.chain.new.self) (simp to_z-of_z at before.made) after.made;
     })
 
-pub returns-in-Bids-clause-made : goal.returns-in-Bids-clause-made
-returns-in-Bids-clause-made c =
-    let f1 : FitsSigned w64 c.args.eps = c.ranges.eps in
-    let after = simp to_z-of_z at c.in_ok-chain.ensures in
-    made_all c.args.rows.now c.args.eps c.args.bids c.chain.new.left (state_of c.args.self.now) (state_of c.chain.new.self) (rw c.in-Bids.is at after.chain) (made_on c.args.rows.now c.args.eps c.args.bids c.loop-person.left c.chain.new.left (state_of c.args.self.now) (state_of c.loop-person.self) (state_of c.chain.new.self) (simp to_z-of_z at c.loop-person.invariant.made) after.made)
-
 pub returns-in-Bids-clause-ending : goal.returns-in-Bids-clause-ending
 returns-in-Bids-clause-ending c =
     let f1 : FitsSigned w64 c.args.eps = c.ranges.eps in
     let after = simp to_z-of_z at c.in_ok-chain.ensures in
     let none = rw c.in-Bids.is at after.chain in
+    let made = made_on c.args.rows.now c.args.eps c.args.bids c.loop-person.left c.chain.new.left (state_of c.args.self.now) (state_of c.loop-person.self) (state_of c.chain.new.self) (simp to_z-of_z at c.loop-person.invariant.made) after.made in
     let r1 = c.loop-person.invariant.raised in
     let r2 = after.raised in
-    (run_out c.args.rows.now c.args.eps c.args.bids (state_of c.args.self.now) (state_of c.chain.new.self) c.requires.eps c.requires.stands (returns-in-Bids-clause-made c), omega (arith, ints, r1, r2, none))
+    (run_out c.args.rows.now c.args.eps c.args.bids (state_of c.args.self.now) (state_of c.chain.new.self) c.requires.eps c.requires.stands (made_all c.args.rows.now c.args.eps c.args.bids c.chain.new.left (state_of c.args.self.now) (state_of c.chain.new.self) none made), omega (arith, ints, r1, r2, none))
 
-pub returns-in-Ceiling-clause-made : goal.returns-in-Ceiling-clause-made
-returns-in-Ceiling-clause-made c =
+pub returns-in-Bids-clause-phase : goal.returns-in-Bids-clause-phase
+returns-in-Bids-clause-phase c =
     let f1 : FitsSigned w64 c.args.eps = c.ranges.eps in
     let after = simp to_z-of_z at c.in_ok-chain.ensures in
-    made_within c.args.rows.now c.args.eps c.args.bids c.chain.new.left (state_of c.args.self.now) (state_of c.chain.new.self) (made_on c.args.rows.now c.args.eps c.args.bids c.loop-person.left c.chain.new.left (state_of c.args.self.now) (state_of c.loop-person.self) (state_of c.chain.new.self) (simp to_z-of_z at c.loop-person.invariant.made) after.made)
+    record { eps = c.args.eps; is_eps = c.requires.eps; stands = c.requires.stands; made = made_within c.args.rows.now c.args.eps c.args.bids c.chain.new.left (state_of c.args.self.now) (state_of c.chain.new.self) (made_on c.args.rows.now c.args.eps c.args.bids c.loop-person.left c.chain.new.left (state_of c.args.self.now) (state_of c.loop-person.self) (state_of c.chain.new.self) (simp to_z-of_z at c.loop-person.invariant.made) after.made) }
+
+pub returns-in-Ceiling-clause-phase : goal.returns-in-Ceiling-clause-phase
+returns-in-Ceiling-clause-phase c =
+    let f1 : FitsSigned w64 c.args.eps = c.ranges.eps in
+    let after = simp to_z-of_z at c.in_ok-chain.ensures in
+    record { eps = c.args.eps; is_eps = c.requires.eps; stands = c.requires.stands; made = made_within c.args.rows.now c.args.eps c.args.bids c.chain.new.left (state_of c.args.self.now) (state_of c.chain.new.self) (made_on c.args.rows.now c.args.eps c.args.bids c.loop-person.left c.chain.new.left (state_of c.args.self.now) (state_of c.loop-person.self) (state_of c.chain.new.self) (simp to_z-of_z at c.loop-person.invariant.made) after.made) }
+
+pub returns-clause-phase : goal.returns-clause-phase
+returns-clause-phase c =
+    let f1 : FitsSigned w64 c.args.eps = c.ranges.eps in
+    record { eps = c.args.eps; is_eps = c.requires.eps; stands = c.requires.stands; made = made_within c.args.rows.now c.args.eps c.args.bids c.loop-person.left (state_of c.args.self.now) (state_of c.loop-person.self) (simp to_z-of_z at c.loop-person.invariant.made) }
+
+pub returns-then-is_lost-clause-phase : goal.returns-then-is_lost-clause-phase
+returns-then-is_lost-clause-phase c =
+    let f1 : FitsSigned w64 c.args.eps = c.ranges.eps in
+    record { eps = c.args.eps; is_eps = c.requires.eps; stands = c.requires.stands; made = made_within c.args.rows.now c.args.eps c.args.bids c.loop-person.left (state_of c.args.self.now) (state_of c.loop-person.self) (simp to_z-of_z at c.loop-person.invariant.made) }

@@ -175,8 +175,7 @@ def may_take(case):
 
 def within_of(words):
     """Which plans all that is said is about: all, or those that the wishes allow."""
-    wishes = ("--capacity", "--leave-free", "--fix", "--forbid")
-    return " within the wishes" if any(word.startswith(wishes) for word in words) else ""
+    return " within the wishes" if any(word.startswith(f"--{wish}") for word in words for wish in WISHES) else ""
 
 
 def look_at_blame(case, output, within):
@@ -198,8 +197,7 @@ def look_at_blame(case, output, within):
 def look_at_summary(case, said, plan, rank):
     count = len(plan.pairs)
     words = f"plan: {count} pair{'s' * (count != 1)}, total {case.amount(case.sign() * plan.total)}, {rank}; {JUDGES}, "
-    lines = [line for line in said.splitlines(keepends=True) if not line.startswith("plan: note: ")]
-    assert re.fullmatch(re.escape(words) + r"[0-9]+\.[0-9] s\n", "".join(lines)), f"summary: {said}"
+    assert re.fullmatch(rf"(plan: note: .*\n)*{re.escape(words)}[0-9]+\.[0-9] s\n", said), f"summary: {said}"
 
 
 def look_at_reasons(case, output, plans, person):
@@ -230,15 +228,12 @@ def look_at_reasons(case, output, plans, person):
 def judged(case, kind, folder, draw):
     """Raises where an answer isn't the one that a look at all plans gives."""
     words = words_of(case, kind, draw, folder)
-    plans = {}
-    for plan in plans_of(case):
-        plans[plan.pairs] = plan
+    plans = {plan.pairs: plan for plan in plans_of(case)}
     if kind == "margins":
         return judge_margins(case, words, folder, list(plans.values()))
     best = min((plan.total for plan in plans.values()), default=None)
     asked = {"second": ["--second"], "fair": ["--fair"], "why": ["--why", draw.choice(case.persons)]}.get(kind, [])
-    within = within_of(words)
-    status, output, said = called("plan", [*words, *asked])
+    within, (status, output, said) = within_of(words), called("plan", [*words, *asked])
     if best is None:
         if kind in ("second", "why"):
             assert status == 2 and "there is none" in said, said

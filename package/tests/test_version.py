@@ -15,7 +15,7 @@ class Version(PackageTest):
         self.assertRegex((ROOT / "VERSION").read_text(), r"\A\d+\.\d+\n\Z")
 
     def test_program_text(self):
-        self.assertEqual(self.found("crates/auction/src/main.rt", r'"auction (\S+) \(Sigdorf\)"'), VERSION)
+        self.assertEqual(self.found("crates/auction/src/usage.rt", r'"auction (\S+) \(Sigdorf\)"'), VERSION)
 
     @wants_program()
     def test_built_program(self):

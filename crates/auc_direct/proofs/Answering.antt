@@ -92,14 +92,17 @@ stopped_is_limited p t r bids begun reason held prices its same limit (Answer.Br
 stopped_is_limited p t r bids begun reason held prices its same limit (Answer.Broken guard) h = tt
 
 -- one that stands before any phase is no bracket
+pub none_is_answer : (p : Problem) (answer : Answer) → IsInfeasibleAnswer p answer → IsAnswer p answer
+none_is_answer p (Answer.Optimal cert) h = absurd h
+none_is_answer p (Answer.Infeasible cert) h = h
+none_is_answer p (Answer.Bracket cert) h = absurd h
+none_is_answer p (Answer.Broken guard) h = absurd h
+
 pub none_is_limited : (p : Problem) (bids : ℕ) (begun : ℤ) (answer : Answer) → IsInfeasibleAnswer p answer → IsLimited p bids begun answer
 none_is_limited p bids begun (Answer.Optimal cert) h = tt
 none_is_limited p bids begun (Answer.Infeasible cert) h = tt
 none_is_limited p bids begun (Answer.Bracket cert) h = absurd h
 none_is_limited p bids begun (Answer.Broken guard) h = tt
-
-pub none_is_limited_from : (p : Problem) (bids : ℕ) (start : List ℤ) (answer : Answer) → IsInfeasibleAnswer p answer → IsLimitedFrom p bids start answer
-none_is_limited_from p bids start answer h = record { begun = start; opened = record { each = refl; same = λ e. refl; kept = λ j. inl refl }; limited = none_is_limited p bids (total start) answer h }
 
 -- an answer that there is no assignment is right, and after a limit one of the bracket is
 pub either_is_answer : (p : Problem) (r : FlatTable) (rows : AreRowsOf p r) (prices : List ℤ) (holders : List ℕ) (owns : List ShortArc) (held : List (Option Held)) → IsProblem p → IsFlatTable r → AreHeld p holders owns held → (eps : ℤ) (reason : Reason) → Stands r eps prices holders owns
@@ -121,6 +124,11 @@ limited_from p t r bids start begun its same opened answer limited = record {
   opened = record { each = opened.each; same = λ e. opened.same (let a = its.objects in let b = same.objects in let c = same.persons in let d = length-rows p t its in omega (arith, a, b, c, d, e)); kept = opened.kept };
   limited = limited;
 }
+
+-- the same of a run that somebody watches
+pub limited_from_unless : (before after : Bool) (p : Problem) (t : Table) (r : FlatTable) (bids : ℕ) (start begun : List ℤ) → IsTableOf p t → AreSameRows t r → AreOpened r.objects (length r.rows) start begun → (answer : Answer) → IsLimitedUnless before after answer (IsLimited p bids (total begun) answer) → IsLimitedUnless before after answer (IsLimitedFrom p bids start answer)
+limited_from_unless before after p t r bids start begun its same opened answer (inl told) = inl told
+limited_from_unless before after p t r bids start begun its same opened answer (inr is) = inr (is.0, limited_from p t r bids start begun its same opened answer is.1)
 
 -- ---- what all phases come to
 
@@ -194,16 +202,6 @@ module _ (p : Problem) (r : FlatTable) (rows : AreRowsOf p r) where
 pub limit_or_told : {E : Type 0} (before after : Bool) (ending : Ending) (Q : Answer → Type 0) (S : Type 0) (r : Result Answer E) → IsToldOr before after ending S → (ending ≡ Ending.Stopped Reason.Bids → IfOk r IsStopTold) → (S → IfOk r Q) → IfOk r (λ a. IsLimitedUnless before after a (Q a))
 limit_or_told before after ending Q S r (inl told) stop limit = of_answers IsStopTold (λ a. IsLimitedUnless before after a (Q a)) r (λ a t. inl (told.0, t)) (stop told.1)
 limit_or_told before after ending Q S r (inr is) stop limit = of_answers Q (λ a. IsLimitedUnless before after a (Q a)) r (λ a q. inr (is.0, q)) (limit is.1)
-
--- the same of one that stands
-pub answer_limit_or_told : (before after : Bool) (ending : Ending) (answer : Answer) (Q S : Type 0) → IsToldOr before after ending S → (ending ≡ Ending.Stopped Reason.Bids → IsStopTold answer) → (S → Q) → IsLimitedUnless before after answer Q
-answer_limit_or_told before after ending answer Q S (inl told) stop limit = inl (told.0, stop told.1)
-answer_limit_or_told before after ending answer Q S (inr is) stop limit = inr (is.0, limit is.1)
-
--- and of one that comes later, when no more had been said
-pub limit_since : (before between after : Bool) (answer : Answer) (Q : Type 0) → between ≡ before → IsLimitedUnless between after answer Q → IsLimitedUnless before after answer Q
-limit_since before between after answer Q same (inl told) = inl told
-limit_since before between after answer Q same (inr is) = inr (is.0 ∙ same, is.1)
 
 not_told : (P : Answer → Type 0) (a : Answer) → IsLimitedUnless false false a (P a) → P a
 not_told P a (inl told) = absurd (false≢true told.0)
@@ -281,9 +279,6 @@ first_prices p r prices rows start = record {
     | inr none ↦ inr none.1
   ];
 }
-
-pub none_of_phases_from : (p : Problem) (bids : ℕ) (start : List ℤ) (answer : Answer) → IsInfeasibleAnswer p answer → IsOfPhasesFrom p bids start answer
-none_of_phases_from p bids start answer h = record { begun = start; opened = record { each = refl; same = λ e. refl; kept = λ j. inl refl }; run = none_of_phases p bids start answer h }
 
 pub phases_from : (p : Problem) (t : Table) (r : FlatTable) (bids : ℕ) (start begun : List ℤ) → IsTableOf p t → AreSameRows t r → AreOpened r.objects (length r.rows) start begun → (answer : Answer) → IsOfPhases p bids begun answer → IsOfPhasesFrom p bids start answer
 phases_from p t r bids start begun its same opened answer run = record {

@@ -1,6 +1,6 @@
 -- What a phase's ending says of the run.
-use Rattle.std.proofs.Common.{Bool, Err, None, Ok, Option, Result, Some, inl, inr, ℕ, ℤ, pos, ◌≡◌, ◌∙◌, refl, arith, List, subst}
-use Rattle.std.specs.Prelude.{IfNone, IfOk, IfSome, ◌≤ℤ◌}
+use Rattle.std.proofs.Common.{Bool, Err, Ok, Result, inl, inr, ℕ, ℤ, pos, ◌≡◌, ◌∙◌, refl, arith, List, subst}
+use Rattle.std.specs.Prelude.{IfErr, IfOk, ◌≤ℤ◌}
 use Rattle.std.proofs.lemmas.Int.{ints}
 use Rattle.auc_cert.specs.declared.reason.Reason.{Reason}
 use Rattle.auc_rows.specs.declared.arc.ShortArc.{ShortArc}
@@ -60,17 +60,6 @@ sold_going before after Holds (inl told) = absurd (not_stopped told.1)
     not_stopped e = absurd cc
 sold_going before after Holds (inr is) = is.0
 
--- a phase that was asked for, and went on, has heard no no
-pub ended_or_told : {E : Type 0} (before after : Bool) (Holds : Ending → Type 0) (r : Result (Option Ending) E) → after ≡ before → IfOk r (λ o. IfSome o Holds) → IfOk r (λ o. IfSome o (λ e. IsToldOr before after e (Holds e)))
-ended_or_told before after Holds (Ok (Some e)) same h = inr (same, h)
-ended_or_told before after Holds (Ok None) same h = tt
-ended_or_told before after Holds (Err e) same h = tt
-
-pub going_on : {X E : Type 0} (before after : Bool) (r : Result (Option X) E) → after ≡ before → IfOk r (λ o. IfNone o (after ≡ before))
-going_on before after (Ok (Some x)) same = tt
-going_on before after (Ok None) same = same
-going_on before after (Err e) same = tt
-
 limited_by : (p : Problem) (bids : ℕ) (begun after : ℤ) (cert : CertParts) → begun ≤ℤ after → IsLimitedBy p bids after cert → IsLimitedBy p bids begun cert
 limited_by p bids begun after (CertParts.Optimal cost choice prices) le h = tt
 limited_by p bids begun after (CertParts.Infeasible persons objects) le h = tt
@@ -87,3 +76,13 @@ limited_earlier p bids begun after (Answer.Broken guard) le h = tt
 pub limited_earlier_unless : (before after : Bool) (p : Problem) (bids : ℕ) (begun later : ℤ) (answer : Answer) → begun ≤ℤ later → IsLimitedUnless before after answer (IsLimited p bids later answer) → IsLimitedUnless before after answer (IsLimited p bids begun answer)
 limited_earlier_unless before after p bids begun later answer le (inl told) = inl told
 limited_earlier_unless before after p bids begun later answer le (inr is) = inr (is.0, limited_earlier p bids begun later answer le is.1)
+
+-- ---- what is known of a result
+
+pub of_halts : {X E : Type 0} (P Q : E → Type 0) (r : Result X E) → ((e : E) → P e → Q e) → IfErr r P → IfErr r Q
+of_halts P Q (Ok x) f h = tt
+of_halts P Q (Err e) f h = f e h
+
+pub of_outcomes : {X E : Type 0} (P Q : X → Type 0) (r : Result X E) → ((x : X) → P x → Q x) → IfOk r P → IfOk r Q
+of_outcomes P Q (Ok x) f h = f x h
+of_outcomes P Q (Err e) f h = tt

@@ -23,3 +23,5 @@ mod Walks
 mod PathLaws
 mod Ways
 mod Refinement
+mod AdoptLaws
+mod HallLaws

@@ -105,7 +105,7 @@ prices_of_start p t r start its same is = record {
 pub start_at : (r : FlatTable) (start prices : List ℤ) → ArePricesOf r start → r.objects ≡ length r.rows → prices ≡ start → IsStart r (pos 1) prices
 start_at r start prices is square e = record { each = ap length e ∙ is.each; within = subst (All IsPrice) (sym e) is.within; spare = inl square }
 
-mul_low : (s d : ℤ) → pos 0 ≤ℤ s → pos 0 ≤ℤ d → pos 0 ≤ℤ (s *ℤ d)
+pub mul_low : (s d : ℤ) → pos 0 ≤ℤ s → pos 0 ≤ℤ d → pos 0 ≤ℤ (s *ℤ d)
 mul_low (pos m) (pos n) a b = subst (λ (z : ℤ). pos 0 ≤ℤ z) (sym (pos-*ℤ-pos m n)) (omega (arith, ints))
 mul_low (pos m) (negsuc n) a b = absurd (omega (arith, ints, b))
 mul_low (negsuc m) d a b = absurd (omega (arith, ints, a))

@@ -262,9 +262,14 @@ within_next r eps prices owns n below here i lt =
       | inr ne ↦ below i (grind (arith, lt, ne))
     ]
 
+-- once the prices are those of the start
+pub stands_paid : (r : FlatTable) (eps : ℤ) (start prices : List ℤ) (holders : List ℕ) (owns : List ShortArc) → IsFlatTable r → AreSeated r eps start prices holders owns → prices ≡ start → Stands r eps prices holders owns
+stands_paid r eps start prices holders owns sound seated same =
+    stands_within r eps prices holders owns sound seated.stands (λ i lt some. subst (λ (ps : List ℤ). IsSlack r eps ps i (own_at owns i)) (sym same) (seated.within i some))
+
 pub stands_seated : (r : FlatTable) (eps : ℤ) (start prices : List ℤ) (holders : List ℕ) (owns : List ShortArc) → IsFlatTable r → AreSeated r eps start prices holders owns → r.objects ≡ length r.rows → Stands r eps prices holders owns
 stands_seated r eps start prices holders owns sound seated square =
-    stands_within r eps prices holders owns sound seated.stands (λ i lt some. subst (λ (ps : List ℤ). IsSlack r eps ps i (own_at owns i)) (sym (seated.same square)) (seated.within i some))
+    stands_paid r eps start prices holders owns sound seated (seated.same square)
 
 pub opened_same : (r : FlatTable) (start prices : List ℤ) → r.objects ≡ length r.rows → prices ≡ start → AreOpened r.objects (length r.rows) start prices
 opened_same r start prices square e = record { each = ap length e; same = λ s. e; kept = kept_all start prices e }

@@ -85,11 +85,9 @@ IsStopped r bids begun (Ending.Stopped reason) prices = IsLimit r bids begun rea
 abbrev pub IsToldOr : Bool → Bool → Ending → Type 0 → Type 0
 IsToldOr before after ending Holds = ((after ≡ true) × (ending ≡ Ending.Stopped Reason.Bids)) ⊎ ((after ≡ before) × Holds)
 
--- what a run from start prices comes to: it began with what its opening has left of them, and only a limit has stopped it, or who watched it
-pub record IsOutcomeFrom (r : FlatTable) (bids : ℕ) (start : List ℤ) (before after : Bool) (ending : Ending) (prices : List ℤ) (holders : List ℕ) (owns : List ShortArc) : Type 0 where
+-- What a run comes to that began with these prices: only a limit has stopped it, or who watched it.
+pub record IsOutcome (r : FlatTable) (bids : ℕ) (begun : List ℤ) (before after : Bool) (ending : Ending) (prices : List ℤ) (holders : List ℕ) (owns : List ShortArc) : Type 0 where
   pub left : IsLeft r ending prices holders owns
-  pub begun : List ℤ
-  pub opened : AreOpened r.objects (length r.rows) start begun
   pub stopped : IsToldOr before after ending (IsStopped r bids (total begun) ending prices)
   pub run : IsRun r bids begun (state prices holders owns)
 
@@ -171,3 +169,4 @@ pub record IsOfPhasesFrom (p : Problem) (bids : ℕ) (start : List ℤ) (answer 
 abbrev pub IsPathStep : FlatTable → ℤ → ℕ → PathStep → List ℤ → List ℕ → List ShortArc → List ℤ → List ℕ → List ShortArc → Type 0
 IsPathStep r eps start PathStep.Placed prices holders owns new sold left = Stands r eps new sold left × (total prices ≤ℤ total new) × ((own_at left start).object ≢ NOBODY) × ((i : ℕ) → (own_at owns i).object ≢ NOBODY → (own_at left i).object ≢ NOBODY) × AreHigher prices new × ((i : ℕ) → i ≢ start → (own_at owns i).object ≡ NOBODY → (own_at left i).object ≡ NOBODY)
 IsPathStep r eps start PathStep.Stayed prices holders owns new sold left = (new ≡ prices) × (sold ≡ holders) × (left ≡ owns)
+IsPathStep r eps start PathStep.Closed prices holders owns new sold left = (new ≡ prices) × (sold ≡ holders) × (left ≡ owns)

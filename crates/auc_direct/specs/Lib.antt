@@ -6,7 +6,11 @@ pub mod Market
 pub mod Shortlist
 pub mod Starts
 pub mod Way
+pub mod Adopted
 pub mod Endings
 pub mod Held
 pub mod Path
 pub mod Refine
+pub mod Hall
+pub mod Halts
+pub mod Labelled

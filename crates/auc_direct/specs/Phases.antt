@@ -1,11 +1,12 @@
 -- The phases of a run, one after another, and what is done between them.
-use Rattle.std.specs.Prelude.{ℕ, ℤ, ◌≡◌, ◌≤ℤ◌, List}
+use Rattle.std.specs.Prelude.{ℕ, ℤ, pos, ◌≡◌, ◌≤ℤ◌, List, length}
 use Rattle.auc_graph.specs.Assignment.{total}
 use Rattle.auc_letters.specs.Price.{IsEps}
 use Rattle.auc_rows.specs.Rows.{FlatTable}
 use Rattle.auc_direct.specs.declared.market.TheConstants.{NOBODY}
+use Rattle.auc_direct.specs.Adopted.{IsFullTable}
 use Rattle.auc_direct.specs.Bids.{AreMadeWithin, State}
-use Rattle.auc_direct.specs.Market.{Stands, own_at}
+use Rattle.auc_direct.specs.Market.{HaveObjects, Stands, own_at}
 
 -- a phase of at most so many bids, whole or in part
 pub record IsPhase (r : FlatTable) (bids : ℕ) (s t : State) : Type 0 where
@@ -24,11 +25,18 @@ pub record IsRefined (s t : State) : Type 0 where
   pub owns : t.owns ≡ s.owns
   pub risen : total s.prices ≤ℤ total t.prices
 
+-- in a full table: each person has an object that is within 1 of his best, as a search over the table has proposed, and no bid was made
+pub record IsAdopted (r : FlatTable) (t : State) : Type 0 where
+  pub full : IsFullTable r
+  pub stands : Stands r (pos 1) t.prices t.holders t.owns
+  pub have : HaveObjects (length r.rows) t.owns
+
 -- phases of at most so many bids each lead from one state to another
 pub data ArePhases (r : FlatTable) (bids : ℕ) (s : State) : State → Type 0 where
   begins : (t : State) → t ≡ s → ArePhases r bids s t
   plays : (t u : State) → ArePhases r bids s t → IsPhase r bids t u → ArePhases r bids s u
   opens : (t u : State) → ArePhases r bids s t → IsOpened t u → ArePhases r bids s u
+  adopts : (t u : State) → ArePhases r bids s t → IsAdopted r u → ArePhases r bids s u
   refines : (t u : State) → ArePhases r bids s t → IsRefined t u → ArePhases r bids s u
 
 -- such phases lead from these prices to a state

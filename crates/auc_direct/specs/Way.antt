@@ -1,18 +1,9 @@
 -- Paths, as the phase above sees them: who is free after one.
-use Rattle.std.specs.Prelude.{ℕ, ℤ, ◌≡◌, ◌≢◌, ◌<◌, List, length, All}
-use Rattle.auc_graph.specs.Dual.{price_at}
-use Rattle.auc_graph.specs.Price.{IsPrice}
+use Rattle.std.specs.Prelude.{ℕ, ℤ, ◌≡◌, ◌≢◌, ◌<◌, List, length}
 use Rattle.auc_rows.specs.declared.arc.ShortArc.{ShortArc}
 use Rattle.auc_rows.specs.Rows.{FlatTable}
 use Rattle.auc_direct.specs.declared.market.TheConstants.{NOBODY}
-use Rattle.auc_direct.specs.Market.{AreHigher, HaveAllBut, Stands, holder_at, own_at}
-
--- prices none of which is lower, and what nobody holds keeps its own
-pub record AreProposed (r : FlatTable) (prices : List ℤ) (holders : List ℕ) (new : List ℤ) : Type 0 where
-  pub each : length new ≡ r.objects
-  pub within : All IsPrice new
-  pub higher : AreHigher prices new
-  pub free : (j : ℕ) → holder_at holders j ≡ NOBODY → price_at new j ≡ price_at prices j
+use Rattle.auc_direct.specs.Market.{AreHigher, HaveAllBut, Stands, own_at}
 
 -- What a path of a free person comes to, whole or in part: what holds between two bids holds, no price has fallen, and one person is free in his place, or none.
 pub record IsWay (r : FlatTable) (eps : ℤ) (person : ℕ) (prices new : List ℤ) (sold : List ℕ) (owns left : List ShortArc) (free : ℕ) : Type 0 where

@@ -1,24 +1,23 @@
 //! A chain of bids: whoever is displaced bids next; where that goes far, he goes by a path.
 
-ghost use Rattle.std.specs.Prelude.{◌≡◌, ◌≢◌, ◌<◌, ◌≤◌, pos, ◌+ℤ◌, ◌≤ℤ◌, length, IfOk, IfSome, IfNone, OnOk};
-ghost use Rattle.std.specs.BinaryHeap.{heap_items};
+ghost use Rattle.std.specs.Prelude.{◌≡◌, ◌≢◌, ◌<◌, ◌≤◌, pos, ◌+ℤ◌, ◌≤ℤ◌, length, IfErr, IfOk, IfSome, IfNone, OnOk};
 ghost use Rattle.auc_graph.specs.Assignment.{total};
 ghost use Rattle.auc_letters.specs.Price.{IsEps};
 ghost use Rattle.auc_rows.specs.Rows.{EachHasArc, IsFlatTable, scale_in};
 ghost use Rattle.auc_direct.specs.Bids.{IsBidMade, AreSpent, state_of};
 ghost use Rattle.auc_direct.specs.Endings.{IsChain};
+ghost use Rattle.auc_direct.specs.Halts.{IsHalt};
 ghost use Rattle.auc_direct.specs.Market.{IsAwarded, IsTooHigh, Stands, own_at};
-ghost use Rattle.auc_direct.specs.Path.{IsClean};
 ghost use Rattle.auc_direct.specs.Shortlist.{Kept};
 ghost use Rattle.auc_direct.specs.Way.{IsWay};
 
 use crate::bid::bid_of;
 use crate::ending::Chain;
+use crate::halt::Halt;
 use crate::lists::Lists;
 use crate::market::{Market, NOBODY};
 use crate::workspace::Workspace;
 use auc_rows::FlatRows;
-use std::alloc::AllocError;
 
 /// How many bids were left where a chain ended last, after one more bid.
 ///
@@ -65,7 +64,7 @@ impl Market {
         Some(self.award(person, bid))
     }
 
-    /// Who is free after a bid, with so many left: whom it has displaced, or, where the last `patience` bids have each displaced somebody, who is free after he has looked for a path, which is no bid.
+    /// Who is free after a bid, with so many left: whom it has displaced, or, where the last `work.patience` bids have each displaced somebody, who is free after he has looked for a path, which is no bid.
     /// NOBODY where nobody is.
     #[inline(always)]
     pub(crate) fn freed_by(
@@ -75,31 +74,29 @@ impl Market {
         displaced: u32,
         left: u64,
         ended: &mut u64,
-        patience: u64,
         work: &mut Workspace,
-    ) -> Result<u32, AllocError>
+    ) -> Result<u32, Halt>
         requires below { displaced ≢ NOBODY → displaced < length rows.now.rows }
         requires arcs { EachHasArc rows.now }
         requires eps { IsEps eps }
         requires sound { IsFlatTable rows.now }
         requires stands { Stands rows.now eps self.old.prices.items self.old.holders.items self.old.owns.items }
         requires none { (own_at self.old.owns.items displaced).object ≡ NOBODY }
-        requires clean { IsClean rows.now.objects work.old.search.labels.items work.old.search.line.items (heap_items work.old.search.heap) }
         requires kept { Kept rows.now self.old.prices.items work.old.lists.lists.items }
         ensures way { IfOk result (IsWay rows.now eps displaced self.old.prices.items self.new.prices.items self.new.holders.items self.old.owns.items self.new.owns.items) }
-        ensures clean { OnOk result (IsClean rows.now.objects work.new.search.labels.items work.new.search.line.items (heap_items work.new.search.heap)) }
         ensures kept { OnOk result (Kept rows.now self.new.prices.items work.new.lists.lists.items) }
+        ensures halt { IfErr result (IsHalt rows.now) }
     {
         *ended = ended_at(*ended, left, displaced);
         // None is asked for where nobody was displaced: the chain has ended here then.
-        if ended.saturating_sub(left) <= patience.saturating_sub(1) {
+        if ended.saturating_sub(left) <= work.patience.saturating_sub(1) {
             return Ok(displaced);
         }
         *ended = left;
         self.find_way(rows, eps, displaced, work)
     }
 
-    /// A person bids, then whom he displaces, and so on, until nobody is displaced. `left` is how many bids the phase may still make. After each `patience` bids the one
+    /// A person bids, then whom he displaces, and so on, until nobody is displaced. `left` is how many bids the phase may still make. After each `work.patience` bids the one
     /// who is displaced looks for a path.
     pub(crate) fn chain(
         &mut self,
@@ -107,23 +104,21 @@ impl Market {
         eps: i64,
         first: u32,
         left: &mut u64,
-        patience: u64,
         work: &mut Workspace,
-    ) -> Result<Chain, AllocError>
+    ) -> Result<Chain, Halt>
         requires first { first < length rows.now.rows }
         requires arcs { EachHasArc rows.now }
         requires eps { IsEps eps }
         requires stands { Stands rows.now eps self.old.prices.items self.old.holders.items self.old.owns.items }
         requires none { (own_at self.old.owns.items first).object ≡ NOBODY }
-        requires clean { IsClean rows.now.objects work.old.search.labels.items work.old.search.line.items (heap_items work.old.search.heap) }
         requires kept { Kept rows.now self.old.prices.items work.old.lists.lists.items }
         ensures stands { OnOk result (Stands rows.now eps self.new.prices.items self.new.holders.items self.new.owns.items) }
         ensures chain { IfOk result (λ c. IsChain rows.now eps first left.new c self.old.owns.items self.new.prices.items self.new.owns.items) }
         ensures raised { OnOk result ((total self.old.prices.items +ℤ pos left.old) ≤ℤ (total self.new.prices.items +ℤ pos left.new)) }
         ensures fewer { OnOk result (left.new ≤ left.old) }
         ensures made { OnOk result (AreSpent rows.now eps left.old left.new (state_of self.old) (state_of self.new)) }
-        ensures clean { OnOk result (IsClean rows.now.objects work.new.search.labels.items work.new.search.line.items (heap_items work.new.search.heap)) }
         ensures kept { OnOk result (Kept rows.now self.new.prices.items work.new.lists.lists.items) }
+        ensures halt { IfErr result (IsHalt rows.now) }
     {
         let scale = rows.scale();
         let spread = rows.spread();
@@ -135,7 +130,7 @@ impl Market {
                 return Ok(Chain::Ceiling);
             };
             *left -= 1;
-            person = self.freed_by(rows, eps, displaced, *left, &mut ended, patience, work)?;
+            person = self.freed_by(rows, eps, displaced, *left, &mut ended, work)?;
             if person == NOBODY {
                 work.walked = 0;
                 return Ok(Chain::Placed);

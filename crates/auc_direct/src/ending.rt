@@ -27,6 +27,8 @@ pub(crate) enum Ending {
 pub(crate) enum PathStep {
     /// The free person has an object, and nobody else is free for it.
     Placed,
-    /// Nothing has changed.
+    /// A price would pass the greatest, so nothing has changed.
     Stayed,
+    /// No object that nobody holds is in reach, so nothing has changed.
+    Closed,
 }

@@ -1,39 +1,22 @@
 //! Eps by phases, in scaled costs.
 
-ghost use Rattle.std.specs.Prelude.{◌≡◌, ◌⊎◌, pos, ◌<ℤ◌, ◌≤ℤ◌, length, All, IfSome, IfNone};
+ghost use Rattle.std.specs.Prelude.{◌≡◌, pos, ◌<ℤ◌, ◌≤ℤ◌, length, All, IfSome, IfNone};
 ghost use Rattle.auc_graph.specs.Price.{IsPrice};
 ghost use Rattle.auc_letters.specs.Price.{IsEps};
-ghost use Rattle.auc_rows.specs.Rows.{IsFlatTable, IsShort};
+ghost use Rattle.auc_rows.specs.Rows.{IsShort};
 
 use crate::scan::value_of;
+use crate::tuning::{SAMPLE, STEP};
 use auc_rows::{FlatRows, ShortArc};
 
 /// The last eps: prices within 1 of slackness in scaled costs show that a cost is least.
 pub(crate) const LAST_EPS: i64 = 1;
 
-/// By what eps is divided from phase to phase.
-const STEP: i64 = 8;
-
-/// By what the mean spread of a row is divided at least, and at most, for the first eps.
-const LEAST_PARTS: usize = 8;
-
-const MOST_PARTS: usize = 32;
-
-/// Of how many persons the spread is looked at, at least where there are as many.
-const SAMPLE: u32 = 512;
+/// The most arcs that a row is taken to have: as many as there may be objects.
+const MOST_PARTS: usize = 20_000;
 
 /// The greatest eps.
 const MOST_EPS: i64 = 1_152_921_504_606_846_976;
-
-/// With so many arcs, half of those that a person knows in the mean, it is divided by twice as much.
-pub(crate) const MANY_ARCS: usize = 32;
-
-/// Half of the arcs that a person knows in the mean.
-pub(crate) fn half_of_mean(rows: &FlatRows) -> usize {
-    rows.arc_count()
-        .checked_div(2 * rows.persons() as usize)
-        .unwrap_or(0)
-}
 
 /// By how much the values of a row differ at most, at these prices.
 fn row_spread(scale: i64, row: &[ShortArc], prices: &[i64]) -> i64
@@ -70,33 +53,53 @@ fn mean_spread(rows: &FlatRows, prices: &[i64]) -> i64
     sum.checked_div(looked).unwrap_or(0)
 }
 
-/// The mean spread of a row at these prices by the arcs of the mean row, which count as 8 at least and 32 at most; and at least 1. Where there are more objects than persons it is 1, so that
-/// there is one phase: a later one would leave prices to objects that nobody holds.
-pub(crate) fn first_eps(rows: &FlatRows, prices: &[i64]) -> i64
-    requires many { length prices.now ≡ rows.now.objects }
-    requires prices { All IsPrice prices.now }
-    ensures range { IsEps result }
-    ensures start { (rows.now.objects ≡ length rows.now.rows) ⊎ (result ≡ pos 1) }
+/// The mean number of a row's arcs.
+fn mean_arcs(rows: &FlatRows) -> i64
+    ensures low { pos 1 ≤ℤ result }
+    ensures high { result ≤ℤ pos 20000 }
 {
-    if rows.persons() < rows.objects() {
-        return LAST_EPS;
-    }
-    let parts = half_of_mean(rows)
-        .saturating_mul(2)
-        .clamp(LEAST_PARTS, MOST_PARTS);
-    (mean_spread(rows, prices) / parts as i64).clamp(LAST_EPS, MOST_EPS)
+    let mean = rows
+        .arc_count()
+        .checked_div(rows.persons() as usize)
+        .unwrap_or(1)
+        .clamp(1, MOST_PARTS);
+    mean as i64
 }
 
-/// The mean spread of a row at these prices, and at least 1; 1 where there are more objects than persons. A run begins with it where a first phase at a finer eps has taken too many bids.
-pub(crate) fn coarse_eps(rows: &FlatRows, prices: &[i64]) -> i64
+/// The root of such a number, rounded up.
+fn root_of(number: i64) -> i64
+    ensures { pos 1 ≤ℤ result }
+{
+    for root in 1..142i64 {
+        if root.saturating_mul(root) >= number {
+            return root.max(1);
+        }
+    }
+    142
+}
+
+/// The mean spread of a row by the mean number of its arcs, and at least 1: where costs are drawn at random, how much neighbours differ.
+pub(crate) fn fine_eps(rows: &FlatRows, spread: i64) -> i64
+    requires { IsEps spread }
+    ensures { IsEps result }
+{
+    (spread / mean_arcs(rows)).max(LAST_EPS)
+}
+
+/// The mean spread of a row by the root of that number, and at least 1: where the other one was too fine.
+pub(crate) fn coarse_eps(rows: &FlatRows, spread: i64) -> i64
+    requires { IsEps spread }
+    ensures { IsEps result }
+{
+    (spread / root_of(mean_arcs(rows))).max(LAST_EPS)
+}
+
+/// The mean spread of a row at these prices, and at least 1.
+pub(crate) fn spread_of(rows: &FlatRows, prices: &[i64]) -> i64
     requires many { length prices.now ≡ rows.now.objects }
     requires prices { All IsPrice prices.now }
-    ensures range { IsEps result }
-    ensures start { (rows.now.objects ≡ length rows.now.rows) ⊎ (result ≡ pos 1) }
+    ensures { IsEps result }
 {
-    if rows.persons() < rows.objects() {
-        return LAST_EPS;
-    }
     mean_spread(rows, prices).clamp(LAST_EPS, MOST_EPS)
 }
 

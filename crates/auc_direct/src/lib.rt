@@ -1,42 +1,43 @@
 //! The auction in one hand: prices, holders and arcs stand in flat vectors, and a bid is an award at once.
 //!
 //! [`solve_direct`] answers as `auc_world::solve_serial` does, with no shards, letters or mails: by certificates in which the checker finds no fault.
+//!
+//! `market.rt` has the prices, who holds each object and by which arc; `chain.rt`, `turns.rt` and `phase.rt` bid; `way.rt` and `path.rt` go by paths; `refine.rt` refines prices; `adopt.rt` takes what the search of a
+//! full table proposes. `run.rt` is the loop over phases; `rules.rt` and `tuning.rt` choose them, and no answer depends on these two.
 #![tactic(auto)]
 
-mod ahead;
+mod adopt;
 mod best;
 mod bid;
 mod chain;
-mod early;
 mod ending;
 mod eps;
-mod fine;
 mod from_start;
 mod gathering;
-mod greedy;
+mod hall;
+mod halt;
 mod hop;
 mod label;
 mod lists;
 mod market;
 mod path;
+mod paths;
 mod phase;
-mod phases;
 mod queue;
 mod reduce;
 mod refine;
+mod rules;
+mod run;
 mod scan;
 mod search;
 mod shortlist;
 mod slack;
 mod solving;
 mod starts;
-mod table_path;
-mod table_search;
-mod trend;
+mod tuning;
 mod turns;
 mod walk;
 mod watch;
-mod watched;
 mod way;
 mod wipe;
 mod workspace;

@@ -7,33 +7,20 @@ ghost use Rattle.auc_direct.specs.Scan.{short_value};
 ghost use Rattle.auc_direct.specs.Shortlist.{IsBest, Kept};
 
 use crate::best::{Best, best_of};
-use crate::shortlist::{ROOM, Shortlist, Values};
+use crate::shortlist::{Shortlist, Values};
+use crate::tuning::{LONG, ROOM};
 use auc_rows::FlatRows;
 use std::alloc::{AllocError, Global};
-
-/// With so many arcs and more a row has a list.
-const LONG: usize = 48;
 
 /// A list for each person, indexed by person, where most arcs stand in long rows; else none. And what they are made with.
 #[derive(Drop)]
 pub(crate) struct Lists {
     pub(crate) lists: Vec<Shortlist>,
     values: Values,
-    all_short: bool,
 }
 
-/// Whether some row is long enough for a list.
-fn has_long_row(rows: &FlatRows) -> bool {
-    for person in 0..rows.persons() {
-        if rows.row(person).len() >= LONG {
-            return true;
-        }
-    }
-    false
-}
-
-/// Whether more than half of the arcs stand in such rows. Where fewer do, lists take more memory than they are worth: each person would have one.
-fn are_mostly_long(rows: &FlatRows) -> bool {
+/// How many arcs stand in rows that are long enough for a list.
+fn arcs_of_long_rows(rows: &FlatRows) -> usize {
     let mut long: usize = 0;
     for person in 0..rows.persons() {
         let arcs = rows.row(person).len();
@@ -41,39 +28,25 @@ fn are_mostly_long(rows: &FlatRows) -> bool {
             long = long.saturating_add(arcs);
         }
     }
-    long > rows.arc_count() / 2
+    long
 }
 
 impl Lists {
-    /// Lists with no arc, which say nothing. 216 bytes a person where most arcs stand in long rows, and 8 for 16 arcs of a longer one.
+    /// Lists with no arc, which say nothing. 176 bytes a person where most arcs stand in long rows. Where fewer do, lists take more memory than they are worth: each person would have one.
     pub(crate) fn new(alloc: Global, rows: &FlatRows) -> Result<Lists, AllocError>
         ensures { IfOk result (λ l. (prices : List ℤ) → Kept rows.now prices l.lists.items) }
     {
-        let values = [0; ROOM];
-        let all_short = !has_long_row(rows);
-        if !are_mostly_long(rows) {
-            let lists = Vec::new(alloc);
-            return Ok(Lists {
-                lists,
-                values,
-                all_short,
-            });
-        }
-        let mut lists = Vec::with_capacity(alloc, rows.persons() as usize)?;
-        for person in 0..rows.persons() {
-            let list = Shortlist::new(alloc, rows.row(person).len())?;
-            lists.push(list)?;
+        let long = arcs_of_long_rows(rows);
+        let are_mostly_long = long > rows.arc_count() / 2;
+        let count = if are_mostly_long { rows.persons() } else { 0 };
+        let mut lists = Vec::with_capacity(alloc, count as usize)?;
+        for _ in 0..count {
+            lists.push(Shortlist::new())?;
         }
         Ok(Lists {
             lists,
-            values,
-            all_short,
+            values: [i64::MAX; ROOM],
         })
-    }
-
-    /// Whether no row is long, so that each bid looks at few arcs.
-    pub(crate) fn all_short(&self) -> bool {
-        self.all_short
     }
 
     /// The best arc of a person at these prices: by his list where he has one and his row is long, and else by a pass over the row.
@@ -93,6 +66,9 @@ impl Lists {
         if row.len() < LONG || place >= self.lists.len() {
             return best_of(scale, row, prices);
         }
-        self.lists[place].best(scale, row, prices, &mut self.values)
+        if let Some(best) = self.lists[place].told(scale, prices) {
+            return best;
+        }
+        self.lists[place].best_anew(scale, row, prices, &mut self.values)
     }
 }

@@ -1,41 +1,38 @@
 //! The step of a phase in which a free person goes by a cheapest path to an object that nobody holds.
 
-ghost use Rattle.std.specs.Prelude.{◌≡◌, ◌<◌, length, IfOk, OnOk};
-ghost use Rattle.std.specs.BinaryHeap.{heap_items};
+ghost use Rattle.std.specs.Prelude.{◌≡◌, ◌<◌, length, IfOk, OnErr};
 ghost use Rattle.auc_letters.specs.Price.{IsEps};
 ghost use Rattle.auc_rows.specs.Rows.{IsFlatTable};
 ghost use Rattle.auc_direct.specs.declared.market.TheConstants.{NOBODY};
 ghost use Rattle.auc_direct.specs.Endings.{IsPathStep};
 ghost use Rattle.auc_direct.specs.Market.{Stands, own_at};
-ghost use Rattle.auc_direct.specs.Path.{IsClean};
 
 use crate::ending::PathStep;
 use crate::market::Market;
-use crate::search::Search;
+use crate::paths::Paths;
 use crate::walk::{fits, hand_over, raise};
 use auc_rows::FlatRows;
 use std::alloc::AllocError;
 
 impl Market {
     /// A free person goes by a cheapest path: he has an object after it, and so has each whom it moves. Nothing changes where no object
-    /// that nobody holds is in reach, or a price would pass the greatest.
+    /// that nobody holds is in reach, which is told apart, or a price would pass the greatest.
     pub(crate) fn path(
         &mut self,
         rows: &FlatRows,
         _eps: i64,
         start: u32,
-        search: &mut Search,
+        paths: &mut Paths,
     ) -> Result<PathStep, AllocError>
         requires start { start < length rows.now.rows }
         requires eps { IsEps _eps }
         requires sound { IsFlatTable rows.now }
         requires stands { Stands rows.now _eps self.old.prices.items self.old.holders.items self.old.owns.items }
         requires none { (own_at self.old.owns.items start).object ≡ NOBODY }
-        requires clean { IsClean rows.now.objects search.old.labels.items search.old.line.items (heap_items search.old.heap) }
+        ensures stays { OnErr result (self.new ≡ self.old) }
         ensures step { IfOk result (λ s. IsPathStep rows.now _eps start s self.old.prices.items self.old.holders.items self.old.owns.items self.new.prices.items self.new.holders.items self.new.owns.items) }
-        ensures clean { OnOk result (IsClean rows.now.objects search.new.labels.items search.new.line.items (heap_items search.new.heap)) }
     {
-        let found = search.find(
+        let found = paths.find(
             rows,
             self.owns.as_slice(),
             self.prices.as_slice(),
@@ -43,9 +40,9 @@ impl Market {
             start,
         )?;
         let Some(end) = found else {
-            search.clear();
-            return Ok(PathStep::Stayed);
+            return Ok(PathStep::Closed);
         };
+        let search = &paths.search;
         let near = search.labels[end as usize].near;
         if !fits(
             self.prices.as_slice(),
@@ -53,7 +50,6 @@ impl Market {
             search.line.as_slice(),
             near,
         ) {
-            search.clear();
             return Ok(PathStep::Stayed);
         }
         raise(
@@ -70,7 +66,6 @@ impl Market {
             end,
             start,
         );
-        search.clear();
         Ok(PathStep::Placed)
     }
 }

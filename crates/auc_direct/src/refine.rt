@@ -38,7 +38,7 @@ fn price_for(price: i64, value: i64, least: i64) -> i64
 
 impl Market {
     /// Whether each person has an object.
-    fn all_have(&self) -> bool
+    pub(crate) fn all_have(&self) -> bool
         ensures { result ≡ true → HaveObjects (length self.now.owns.items) self.now.owns.items }
     {
         for person in 0..self.owns.len() {

@@ -1,14 +1,14 @@
 //! The search for a cheapest path from a free person to an object that nobody holds: Dijkstra's, over the rows of those who are reached.
 
-ghost use Rattle.std.specs.Prelude.{◌≡◌, ◌<◌, ◌+◌, ◌++◌, ◌∷◌, [], ℕ, All, length, IfOk, IfSome, OnOk};
+ghost use Rattle.std.specs.Prelude.{◌≡◌, ◌<◌, ◌+◌, ◌++◌, ◌∷◌, [], ℕ, All, length, true, IfOk, IfSome, OnOk};
 ghost use Rattle.std.specs.BinaryHeap.{heap_items};
 ghost use Rattle.auc_graph.specs.Price.{IsPrice};
 ghost use Rattle.auc_direct.specs.Path.{AreHolders, AreLabels, AreLeft, AreOwns, Grows, IsClean, IsEnd, IsFrom, Reaches, seats, settled_at};
 
 use crate::hop::{reach, value_of_own};
-use crate::label::{BLANK, Label};
+use crate::label::Label;
 use crate::market::NOBODY;
-use crate::wipe::{wipe_entries, wipe_line};
+use crate::wipe::wipe;
 use auc_letters::Held;
 use auc_rows::{FlatRows, ShortArc};
 use std::alloc::{AllocError, Global};
@@ -27,14 +27,13 @@ pub(crate) struct Search {
 }
 
 impl Search {
-    /// Nothing is labelled.
-    pub(crate) fn new(alloc: Global, rows: &FlatRows) -> Result<Search, AllocError>
-        ensures { IfOk result (λ s. IsClean rows.now.objects s.labels.items s.line.items (heap_items s.heap)) }
-    {
-        let labels = vec![in alloc; BLANK; rows.objects() as usize]?;
-        let line = Vec::new(alloc);
-        let heap = BinaryHeap::new(alloc);
-        Ok(Search { labels, line, heap })
+    /// With no room for labels yet.
+    pub(crate) fn new(alloc: Global) -> Search {
+        Search {
+            labels: Vec::new(alloc),
+            line: Vec::new(alloc),
+            heap: BinaryHeap::new(alloc),
+        }
     }
 
     /// Labels the objects of a person's row. He is at `near`, which is no nearer than all that are settled.
@@ -151,14 +150,20 @@ impl Search {
         Ok(None)
     }
 
-    /// Forgets all labels, in the time that it took to make them.
-    pub(crate) fn clear(&mut self)
-        requires { AreLeft self.old.labels.items self.old.line.items 0 (heap_items self.old.heap) 0 }
-        ensures { IsClean (length self.old.labels.items) self.new.labels.items self.new.line.items (heap_items self.new.heap) }
+    /// Makes room for so many objects, with nothing labelled: in the time that it took to make the labels where it is sure that line and heap name them, else in that of all objects.
+    pub(crate) fn clear(&mut self, objects: usize, is_whole: bool) -> Result<(), AllocError>
+        requires { is_whole ≡ true → AreLeft self.old.labels.items self.old.line.items 0 (heap_items self.old.heap) 0 }
+        ensures { OnOk result (IsClean objects self.new.labels.items self.new.line.items (heap_items self.new.heap)) }
     {
-        wipe_line(self.labels.as_mut_slice(), self.line.as_slice());
-        wipe_entries(self.labels.as_mut_slice(), self.heap.as_slice());
+        wipe(
+            &mut self.labels,
+            objects,
+            self.line.as_slice(),
+            self.heap.as_slice(),
+            is_whole,
+        )?;
         self.line.clear();
         self.heap.clear();
+        Ok(())
     }
 }

@@ -1,22 +1,21 @@
 //! Two chains of bids that take turns, and persons who begin as chains end. A bid waits for memory: for who holds the object, where his row begins, and the row. While the bid of one chain waits, the
 //! processor goes on with that of the other one, which needs nothing of it.
 
-ghost use Rattle.std.specs.Prelude.{◌≡◌, ◌≢◌, ◌+◌, ◌<◌, ◌≤◌, ℕ, pos, ◌+ℤ◌, ◌≤ℤ◌, length, true, false, IfOk, OnOk};
-ghost use Rattle.std.specs.BinaryHeap.{heap_items};
+ghost use Rattle.std.specs.Prelude.{◌≡◌, ◌≢◌, ◌+◌, ◌<◌, ◌≤◌, ℕ, pos, ◌+ℤ◌, ◌≤ℤ◌, length, true, false, IfErr, IfOk, OnOk};
 ghost use Rattle.auc_graph.specs.Assignment.{total};
 ghost use Rattle.auc_letters.specs.Price.{IsEps};
 ghost use Rattle.auc_rows.specs.Rows.{EachHasArc};
 ghost use Rattle.auc_direct.specs.Bids.{AreSpent, state_of};
 ghost use Rattle.auc_direct.specs.Endings.{AreServed, AreSold};
+ghost use Rattle.auc_direct.specs.Halts.{IsHalt};
 ghost use Rattle.auc_direct.specs.Market.{HaveAllBut, Stands, own_at};
-ghost use Rattle.auc_direct.specs.Path.{IsClean};
 ghost use Rattle.auc_direct.specs.Shortlist.{Kept};
 
 use crate::ending::Chain;
+use crate::halt::Halt;
 use crate::market::{Market, NOBODY};
 use crate::workspace::Workspace;
 use auc_rows::FlatRows;
-use std::alloc::AllocError;
 
 /// Who takes a turn in place of one who has bid, and who begins next: whoever is free then, or, where nobody is, who would have begun next. LLVM makes selects of it: a branch would be guessed wrongly
 /// where a chain ends.
@@ -73,9 +72,8 @@ impl Market {
         until: u32,
         waiting: &mut u32,
         left: &mut u64,
-        patience: u64,
         work: &mut Workspace,
-    ) -> Result<Chain, AllocError>
+    ) -> Result<Chain, Halt>
         requires waiting { waiting.old < length rows.now.rows }
         requires begun { begun ≤ until }
         requires until { until ≤ length rows.now.rows }
@@ -83,15 +81,14 @@ impl Market {
         requires eps { IsEps eps }
         requires stands { Stands rows.now eps self.old.prices.items self.old.holders.items self.old.owns.items }
         requires have { HaveAllBut begun self.old.owns.items NOBODY waiting.old }
-        requires clean { IsClean rows.now.objects work.old.search.labels.items work.old.search.line.items (heap_items work.old.search.heap) }
         requires kept { Kept rows.now self.old.prices.items work.old.lists.lists.items }
         ensures stands { OnOk result (Stands rows.now eps self.new.prices.items self.new.holders.items self.new.owns.items) }
         ensures served { IfOk result (λ c. AreServed rows.now eps until left.new waiting.new c self.new.prices.items self.new.owns.items) }
         ensures raised { OnOk result ((total self.old.prices.items +ℤ pos left.old) ≤ℤ (total self.new.prices.items +ℤ pos left.new)) }
         ensures fewer { OnOk result (left.new ≤ left.old) }
         ensures made { OnOk result (AreSpent rows.now eps left.old left.new (state_of self.old) (state_of self.new)) }
-        ensures clean { OnOk result (IsClean rows.now.objects work.new.search.labels.items work.new.search.line.items (heap_items work.new.search.heap)) }
         ensures kept { OnOk result (Kept rows.now self.new.prices.items work.new.lists.lists.items) }
+        ensures halt { IfErr result (IsHalt rows.now) }
     {
         let scale = rows.scale();
         let spread = rows.spread();
@@ -108,7 +105,7 @@ impl Market {
                 return Ok(Chain::Ceiling);
             };
             *left -= 1;
-            let freed = self.freed_by(rows, eps, displaced, *left, &mut ended, patience, work)?;
+            let freed = self.freed_by(rows, eps, displaced, *left, &mut ended, work)?;
             if is_over(freed, fresh, until) {
                 work.walked = 0;
                 *waiting = other;
@@ -129,21 +126,19 @@ impl Market {
         rows: &FlatRows,
         eps: i64,
         left: &mut u64,
-        patience: u64,
         work: &mut Workspace,
-    ) -> Result<Chain, AllocError>
+    ) -> Result<Chain, Halt>
         requires arcs { EachHasArc rows.now }
         requires eps { IsEps eps }
         requires stands { Stands rows.now eps self.old.prices.items self.old.holders.items self.old.owns.items }
-        requires clean { IsClean rows.now.objects work.old.search.labels.items work.old.search.line.items (heap_items work.old.search.heap) }
         requires kept { Kept rows.now self.old.prices.items work.old.lists.lists.items }
         ensures stands { OnOk result (Stands rows.now eps self.new.prices.items self.new.holders.items self.new.owns.items) }
         ensures sold { IfOk result (λ c. AreSold rows.now eps left.new c self.new.prices.items self.new.owns.items) }
         ensures raised { OnOk result ((total self.old.prices.items +ℤ pos left.old) ≤ℤ (total self.new.prices.items +ℤ pos left.new)) }
         ensures fewer { OnOk result (left.new ≤ left.old) }
         ensures made { OnOk result (AreSpent rows.now eps left.old left.new (state_of self.old) (state_of self.new)) }
-        ensures clean { OnOk result (IsClean rows.now.objects work.new.search.labels.items work.new.search.line.items (heap_items work.new.search.heap)) }
         ensures kept { OnOk result (Kept rows.now self.new.prices.items work.new.lists.lists.items) }
+        ensures halt { IfErr result (IsHalt rows.now) }
     {
         let persons = rows.persons();
         let mut waiting = self.free_from(0, persons, NOBODY, NOBODY);
@@ -151,21 +146,12 @@ impl Market {
             return Ok(Chain::Placed);
         }
         let begun = waiting + 1;
-        match self.serve(
-            rows,
-            eps,
-            begun,
-            persons,
-            &mut waiting,
-            left,
-            patience,
-            work,
-        )? {
+        match self.serve(rows, eps, begun, persons, &mut waiting, left, work)? {
             Chain::Placed => {}
             Chain::Bids => return Ok(Chain::Bids),
             Chain::Ceiling => return Ok(Chain::Ceiling),
         }
-        let ended = self.chain(rows, eps, waiting, left, patience, work)?;
+        let ended = self.chain(rows, eps, waiting, left, work)?;
         Ok(ended)
     }
 }

@@ -1,44 +1,98 @@
 //! What the phases of a run keep beside the market.
 
-ghost use Rattle.std.specs.Prelude.{List, ℤ, IfOk};
-ghost use Rattle.std.specs.BinaryHeap.{heap_items};
-ghost use Rattle.auc_direct.specs.Path.{IsClean};
+ghost use Rattle.std.specs.Prelude.{List, ℤ, ◌≡◌, ◌≤◌, IfOk};
 ghost use Rattle.auc_direct.specs.Shortlist.{Kept};
 
+use crate::eps::LAST_EPS;
 use crate::lists::Lists;
-use crate::search::Search;
-use crate::table_search::TableSearch;
+use crate::paths::Paths;
+use crate::tuning::{EARLY, LONG, ROOM, SEARCH, SLICE};
 use auc_rows::FlatRows;
 use std::alloc::{AllocError, Global};
 
-/// The lists of candidates, which stay through all phases; room for searches, and for those in a full table; how many bids in a row have displaced somebody, after the last
-/// search for a path; whether such a search has found none; and how many bids the phase at hand has made, where it has sold all or a slice of it has run out.
+/// The lists of candidates, which stay through all phases; room for searches; how many arcs a bid looks at, about; how many bids take as long as a search; whether the last phase is at hand; after how many bids in a
+/// row that each displace somebody a path is looked for; how many there were up to now, after the last search; and how many bids the phase at hand has made.
 #[derive(Drop)]
 pub(crate) struct Workspace {
+    pub(crate) alloc: Global,
     pub(crate) lists: Lists,
-    pub(crate) search: Search,
-    pub(crate) table: TableSearch,
+    pub(crate) paths: Paths,
+    arcs_a_bid: u64,
+    search: u64,
+    is_last: bool,
+    pub(crate) patience: u64,
     pub(crate) walked: u64,
-    pub(crate) found_none: bool,
     pub(crate) made: u64,
+}
+
+/// How many arcs a bid looks at, about: those of the mean row, or of a list.
+fn arcs_a_bid(rows: &FlatRows) -> u64 {
+    let mean = rows
+        .arc_count()
+        .checked_div(rows.persons() as usize)
+        .unwrap_or(1)
+        .max(1);
+    if mean < LONG {
+        mean as u64
+    } else {
+        ROOM as u64
+    }
 }
 
 impl Workspace {
     /// With lists that say nothing, and nothing labelled.
     pub(crate) fn new(alloc: Global, rows: &FlatRows) -> Result<Workspace, AllocError>
-        ensures kept { IfOk result (λ w. (prices : List ℤ) → Kept rows.now prices w.lists.lists.items) }
-        ensures clean { IfOk result (λ w. IsClean rows.now.objects w.search.labels.items w.search.line.items (heap_items w.search.heap)) }
+        ensures { IfOk result (λ w. (prices : List ℤ) → Kept rows.now prices w.lists.lists.items) }
     {
         let lists = Lists::new(alloc, rows)?;
-        let search = Search::new(alloc, rows)?;
-        let table = TableSearch::new(alloc, rows)?;
+        let arcs_a_bid = arcs_a_bid(rows);
+        let arcs = (rows.arc_count() as u64).saturating_mul(SEARCH) / EARLY;
         Ok(Workspace {
+            alloc,
             lists,
-            search,
-            table,
+            paths: Paths::new(alloc),
+            arcs_a_bid,
+            search: arcs.checked_div(arcs_a_bid).unwrap_or(1),
+            is_last: false,
+            patience: 1,
             walked: 0,
-            found_none: false,
             made: 0,
         })
+    }
+
+    /// After how many bids in a row a path is looked for.
+    fn wait(&mut self)
+        ensures { self.new.lists ≡ self.old.lists }
+    {
+        let times = if self.is_last { 1 } else { EARLY };
+        self.patience = self.search.saturating_mul(times).max(1);
+    }
+
+    /// A phase begins at this eps.
+    pub(crate) fn begin(&mut self, eps: i64)
+        ensures { self.new.lists ≡ self.old.lists }
+    {
+        self.made = 0;
+        self.is_last = eps <= LAST_EPS;
+        self.wait();
+    }
+
+    /// A search has looked at so many arcs: half of what was known of searches before it counts, and half of what it took.
+    pub(crate) fn learn(&mut self, looked: u64)
+        ensures { self.new.lists ≡ self.old.lists }
+    {
+        let bids = looked
+            .saturating_mul(SEARCH)
+            .checked_div(self.arcs_a_bid)
+            .unwrap_or(1);
+        self.search = (self.search / 2).saturating_add(bids / 2);
+        self.wait();
+    }
+
+    /// How many bids a phase makes between two questions to a watch.
+    pub(crate) fn slice(&self) -> u64
+        ensures { 1 ≤ result }
+    {
+        SLICE.checked_div(self.arcs_a_bid).unwrap_or(1).max(1)
     }
 }

@@ -78,6 +78,7 @@ fn optimal(rt: HostRuntime) {
     assert_same(&rt, (status, found.kind), (INVALID, 4));
 }
 
+/// The second person doesn't know the second object here, so it is no full table, which would be searched without bids.
 #[test]
 fn bracket_and_start(rt: HostRuntime) {
     let (mut choice, mut prices, mut objects, mut found) = ([7; 2], [7; 2], [7; 2], NOTHING);
@@ -85,7 +86,7 @@ fn bracket_and_start(rt: HostRuntime) {
         rt.alloc(),
         2,
         0,
-        &TWO,
+        &TWO[..3],
         &[],
         0,
         &mut choice,

@@ -55,12 +55,17 @@ struct Behind {
 
 /// Solves them in one hand.
 fn solved(rt: &HostRuntime, start: &[i64], bids: u64) -> Behind {
+    solved_of(rt, &outlets(), start, bids)
+}
+
+/// The same of these arcs.
+fn solved_of(rt: &HostRuntime, arcs: &[Arc], start: &[i64], bids: u64) -> Behind {
     let (mut choice, mut prices, mut objects, mut found) = ([7; 3], [7; 4], [7; 3], NOTHING);
     let status = solve_call(
         rt.alloc(),
         3,
         4,
-        &outlets(),
+        arcs,
         start,
         bids,
         &mut choice,
@@ -113,13 +118,13 @@ fn least_from_any_start(rt: HostRuntime) {
     }
 }
 
-/// Where bids run out: an assignment and a bound, and which limit it was.
+/// Where bids run out: an assignment and a bound, and which limit it was. The last arc is left out, which no least assignment has: a full table would be searched without bids.
 #[test]
 fn no_bids(rt: HostRuntime) {
     let none: &[i64] = &[];
     let some: &[i64] = &[0, 0, MOST, MOST];
     for start in [none, some] {
-        let told = solved(&rt, start, 0);
+        let told = solved_of(&rt, &outlets()[..11], start, 0);
         assert_same(&rt, (told.status, told.found.kind), (BRACKET, 1));
         assert!(rt; told.found.lower <= 100_000_000 && 100_000_000 <= told.found.cost);
     }

@@ -77,7 +77,7 @@ fn problem_of(rt: &HostRuntime, dice: &mut Dice, shape: Shape) -> Result<ArcList
     ArcList::from_arcs(persons, objects, arcs).map_err(|_| Fail::new("no problem"))
 }
 
-/// A price war: all want the same objects in the same order, and know nearly all, each some 15 of 16. So many lists of a person are made, the later ones by blocks.
+/// A price war: all want the same objects in the same order, and know nearly all, each some 15 of 16. So many lists of a person are made.
 fn war(rt: &HostRuntime) -> Result<ArcList, Fail> {
     let persons = 300;
     let mut arcs = Vec::new(rt.alloc());

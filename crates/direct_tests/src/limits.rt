@@ -4,8 +4,8 @@ use crate::texts::{answered, problem_of};
 use auc_direct::DirectLimits;
 use std::test::*;
 
-/// Three persons who all like the first object best.
-const THREE: &str = "3\n1 1 4 1 2 1 1 3 3\n2 1 2 2 2 0 2 3 5\n3 1 3 3 2 2 3 3 2\n";
+/// Three persons, of whom the first doesn't know the last object: so it is no full table, and goes by bids.
+const THREE: &str = "3\n1 1 4 1 2 1\n2 1 2 2 2 0 2 3 5\n3 1 3 3 2 2 3 3 2\n";
 
 /// With no bid the prices are those that make up for the least cost of each column, 2, 0 and 2; the scale is 4.
 #[test]
@@ -20,6 +20,15 @@ fn few_bids(rt: HostRuntime) -> Result<(), Fail> {
         told.as_slice()
             .ends_with(b"\nprice 1 0\nprice 2 8\nprice 3 0\n")
     );
+    Ok(())
+}
+
+/// A full table is searched as one, which takes no bids.
+#[test]
+fn no_bids_for_a_full_table(rt: HostRuntime) -> Result<(), Fail> {
+    let problem = problem_of(&rt, "2\n1 1 4 1 2 1\n2 1 2 2 2 0\n", 0)?;
+    let told = answered(&rt, &problem, &DirectLimits { bids: 0 })?;
+    assert!(rt; told.as_slice().starts_with(b"auction 1\noptimal 2 3\n"));
     Ok(())
 }
 

@@ -1,7 +1,7 @@
 //! Solves in one hand: readers that fail, and each kind of answer by a call.
 
 use crate::fakes::{Broken, Flaky, Slow};
-use crate::said::{ONE_OBJECT, ONE_OBJECT_CERT, TWO, TWO_BEST, TWO_BRACKET, is_unwritten, says};
+use crate::said::{ONE_OBJECT, ONE_OBJECT_CERT, TWO, is_unwritten, says};
 use crate::same::assert_same;
 use auc_run::Job;
 use std::io::ErrorKind;
@@ -40,9 +40,19 @@ const FROM: Job = Job::Solve {
 /// Prices of 0 for three objects.
 const NO_PRICES: &str = "auction 2\noptimal 1 3 7\nassign 1 2 7\nprice 1 0\nprice 2 0\nprice 3 0\n";
 
+/// The certificate of two persons, who both know both objects.
+const BEST: &str = "auction 1\noptimal 2 3\nassign 1 2 2\nassign 2 1 1\nprice 1 6\nprice 2 3\n";
+
+/// Two persons, of whom the second doesn't know the second object: so it is no full table, and goes by bids.
+const PART: &str = "2\n1 1 1\n1 2 2\n2 1 1\n";
+
+/// What one bid leaves of it.
+const PART_BRACKET: &str =
+    "auction 1\nbracket bids 2 3 3\nassign 1 2 2\nassign 2 1 1\nprice 1 4\nprice 2 0\n";
+
 /// The certificate of two persons with a third object.
 const TWO_OF_THREE: &str =
-    "auction 2\noptimal 2 3 3\nassign 1 2 2\nassign 2 1 1\nprice 1 7\nprice 2 5\nprice 3 0\n";
+    "auction 2\noptimal 2 3 3\nassign 1 2 2\nassign 2 1 1\nprice 1 7\nprice 2 0\nprice 3 0\n";
 
 #[test]
 fn answers(rt: HostRuntime) {
@@ -50,9 +60,9 @@ fn answers(rt: HostRuntime) {
     let mut first = Slow {
         rest: TWO.as_bytes(),
     };
-    assert!(rt; says(&rt, &USUAL, &mut first, &mut second, TWO_BEST, 0));
-    let mut first = TWO.as_bytes();
-    assert!(rt; says(&rt, &ONE_BID, &mut first, &mut second, TWO_BRACKET, 4));
+    assert!(rt; says(&rt, &USUAL, &mut first, &mut second, BEST, 0));
+    let mut first = PART.as_bytes();
+    assert!(rt; says(&rt, &ONE_BID, &mut first, &mut second, PART_BRACKET, 4));
     let mut first = ONE_OBJECT.as_bytes();
     assert!(rt; says(&rt, &USUAL, &mut first, &mut second, ONE_OBJECT_CERT, 3));
     assert_same(&rt, second.len(), 10);

@@ -1,30 +1,34 @@
-use Rattle.std.proofs.Common.{◌≡◌, inr, rules}
-use Rattle.auc_answers.specs.declared.answer.Answer.{Answer}
-use Rattle.auc_direct.specs.Endings.{IsLimitedFrom, IsLimitedUnless}
-use Rattle.auc_direct.specs.Market.{EachHasRow}
-use Rattle.auc_direct.proofs.Answering.{each_has_arc, limit_since, none_is_limited_from, none_of_phases_from, of_answers}
+use Rattle.std.proofs.Common.{◌≡◌}
+use Rattle.auc_graph.specs.Assignment.{total}
+use Rattle.auc_direct.specs.Endings.{IsLimited, IsLimitedFrom, IsLimitedUnless, IsOfPhases, IsOfPhasesFrom}
+use Rattle.auc_direct.specs.Halts.{IsHalt}
+use Rattle.auc_direct.proofs.Answering.{limited_from_unless, of_answers, phases_from}
+use Rattle.auc_direct.proofs.EndingLaws.{of_halts}
 use Rattle.auc_direct.proofs.solving.solve_direct_watched_from.Goals as goal
-
-pub returns-in-Some-clause-limit : goal.returns-in-Some-clause-limit
-returns-in-Some-clause-limit g c = rw c.in-Some.is at c.in_ok-answer.ensures.limit
-
-pub returns-in-Some-2-clause-limit : goal.returns-in-Some-2-clause-limit
-returns-in-Some-2-clause-limit g c =
-    let going : g.W.Watch.has_stopped c.solve_from_unasked.new.watch ≡ g.W.Watch.has_stopped c.args.watch.now = search rules in
-    inr (going, none_is_limited_from c.args.problem.now c.args.limits.now.bids c.args.start.now c.in-Some-2.answer (rw c.in-Some-2.is at c.in_ok-answer-2.ensures.some))
-
-pub solve_rows_from-requires-clause-arcs : goal.solve_rows_from-requires-clause-arcs
-solve_rows_from-requires-clause-arcs g c =
-    let has : EachHasRow c.args.problem.now = search rules in
-    each_has_arc c.args.problem.now c.in_ok-flat.flat c.in_ok-flat.ensures has
 
 pub returns-clause-limit : goal.returns-clause-limit
 returns-clause-limit g c =
-    let going : g.W.Watch.has_stopped c.solve_from_unasked.new.watch ≡ g.W.Watch.has_stopped c.args.watch.now = search rules in
-    let limited = λ (a : Answer). IsLimitedFrom c.args.problem.now c.args.limits.now.bids c.args.start.now a in
-    of_answers (λ a. IsLimitedUnless (g.W.Watch.has_stopped c.solve_from_unasked.new.watch) (g.W.Watch.has_stopped c.solve_rows_from.new.watch) a (limited a)) (λ a. IsLimitedUnless (g.W.Watch.has_stopped c.args.watch.now) (g.W.Watch.has_stopped c.solve_rows_from.new.watch) a (limited a)) c.solve_rows_from.result
-    (λ a h. limit_since (g.W.Watch.has_stopped c.args.watch.now) (g.W.Watch.has_stopped c.solve_from_unasked.new.watch) (g.W.Watch.has_stopped c.solve_rows_from.new.watch) a (limited a) going h)
-    c.solve_rows_from.ensures.limit
+    let p = c.args.problem.now in
+    let rows = c.in_ok-flat.ensures in
+    let r = c.in_ok-flat.flat in
+    let bids = c.args.limits.now.bids in
+    let start = c.args.start.now in
+    let begun = c.in_ok-market.market.prices.items in
+    let before = g.W.Watch.has_stopped c.args.watch.now in
+    let after = g.W.Watch.has_stopped c.run-ended.new.watch in
+    of_answers (λ a. IsLimitedUnless before after a (IsLimited p bids (total begun) a)) (λ a. IsLimitedUnless before after a (IsLimitedFrom p bids start a)) c.concluded.result
+    (λ a h. limited_from_unless before after p rows.table r bids start begun rows.of rows.same c.in_ok-market.ensures.opened a h)
+    (c.concluded.ensures.limit bids begun before after c.run-ended.ensures.outcome (of_halts (λ h. IsHalt r h × (after ≡ before)) (λ h. after ≡ before) c.run-ended.result (λ h x. x.1) c.run-ended.ensures.halt))
 
-pub returns-in-Some-2-clause-run : goal.returns-in-Some-2-clause-run
-returns-in-Some-2-clause-run g c = none_of_phases_from c.args.problem.now c.args.limits.now.bids c.args.start.now c.in-Some-2.answer (rw c.in-Some-2.is at c.in_ok-answer-2.ensures.some)
+pub returns-clause-run : goal.returns-clause-run
+returns-clause-run g c =
+    let p = c.args.problem.now in
+    let rows = c.in_ok-flat.ensures in
+    let bids = c.args.limits.now.bids in
+    let start = c.args.start.now in
+    let begun = c.in_ok-market.market.prices.items in
+    let before = g.W.Watch.has_stopped c.args.watch.now in
+    let after = g.W.Watch.has_stopped c.run-ended.new.watch in
+    of_answers (IsOfPhases p bids begun) (IsOfPhasesFrom p bids start) c.concluded.result
+    (λ a h. phases_from p rows.table c.in_ok-flat.flat bids start begun rows.of rows.same c.in_ok-market.ensures.opened a h)
+    (c.concluded.ensures.run bids begun before after c.run-ended.ensures.outcome)

@@ -2,5 +2,5 @@ use Rattle.std.specs.Prelude.{All}
 use Rattle.auc_direct.specs.Shortlist.{SaysNothing}
 use Rattle.auc_direct.proofs.lists.Lists.new.Given as goal
 
-abbrev pub invariant-loop-person : goal.invariant-loop-person
-invariant-loop-person l = All SaysNothing l.lists.items
+abbrev pub invariant-loop : goal.invariant-loop
+invariant-loop l = All SaysNothing l.lists.items

@@ -41,7 +41,6 @@ loop-left-preserved c =
       known = way.below c.if-person.false;
       none = way.none;
       but = λ n h. way.but n NOBODY (a.but n NOBODY (c.loop-left.invariant.but n h));
-      clean = c.in_ok-person.ensures.clean;
       kept = c.in_ok-person.ensures.kept;
       raised = omega (arith, ints, m, r, t, u);
       fewer = (let l = c.loop-left.invariant.fewer in omega (arith, l, t));
@@ -51,7 +50,7 @@ loop-left-preserved c =
 pub loop-left-init : goal.loop-left-init
 loop-left-init c =
     let f1 : FitsSigned w64 c.args.eps = c.ranges.eps in
-    simp to_z-of_z (record { stands = c.requires.stands; known = c.requires.first; none = c.requires.none; but = λ n h. h; clean = c.requires.clean; kept = c.requires.kept; raised = omega (arith, ints); fewer = omega arith; made = made_none c.args.rows.now c.args.eps c.args.left.now (state_of c.args.self.now) })
+    simp to_z-of_z (record { stands = c.requires.stands; known = c.requires.first; none = c.requires.none; but = λ n h. h; kept = c.requires.kept; raised = omega (arith, ints); fewer = omega arith; made = made_none c.args.rows.now c.args.eps c.args.left.now (state_of c.args.self.now) })
 
 pub returns-in_default-clause-chain : goal.returns-in_default-clause-chain
 returns-in_default-clause-chain c =

@@ -1,11 +1,9 @@
 use Rattle.std.proofs.Common.{ℕ, pos, ◌<◌, ◌≤◌, ◌≡◌, length}
 use Rattle.std.specs.Prelude.{◌+ℤ◌, ◌≤ℤ◌}
 use Rattle.auc_graph.specs.Assignment.{total}
-use Rattle.std.specs.BinaryHeap.{heap_items}
 use Rattle.auc_direct.specs.declared.market.TheConstants.{NOBODY}
 use Rattle.auc_direct.specs.Bids.{AreSpent, state_of}
 use Rattle.auc_direct.specs.Market.{HaveAllBut, Stands, own_at}
-use Rattle.auc_direct.specs.Path.{IsClean}
 use Rattle.auc_direct.specs.Shortlist.{Kept}
 use Rattle.auc_direct.proofs.market.Market.chain.Given as goal
 
@@ -15,7 +13,6 @@ invariant-loop-left l = record {
   known : l.person < length l.rows.rows;
   none : (own_at l.self.owns.items l.person).object ≡ NOBODY;
   but : (n : ℕ) → HaveAllBut n l.fn.self.owns.items l.first NOBODY → HaveAllBut n l.self.owns.items l.person NOBODY;
-  clean : IsClean l.rows.objects l.work.search.labels.items l.work.search.line.items (heap_items l.work.search.heap);
   kept : Kept l.rows l.self.prices.items l.work.lists.lists.items;
   raised : (total l.fn.self.prices.items +ℤ pos l.fn.left) ≤ℤ (total l.self.prices.items +ℤ pos l.left);
   fewer : l.left ≤ l.fn.left;

@@ -66,7 +66,6 @@ loop-left-preserved c =
       free = found.free;
       neither = found.neither;
       have = passed_have c.turn-next.result.1 c.free_from-fresh-in-loop-left.result c.freed_by.new.self.owns.items c.loop-left.other c.turn-next.result.0 found.passed (turned_have c.before);
-      clean = c.in_ok-freed.ensures.clean;
       kept = c.in_ok-freed.ensures.kept;
       raised = omega (arith, ints, m, r, t, u);
       fewer = (let l = before.fewer in omega (arith, l, t));
@@ -111,7 +110,6 @@ loop-left-init c =
       free = found.free;
       neither = found.neither;
       have = search rules;
-      clean = c.requires.clean;
       kept = c.requires.kept;
       raised = omega (arith, ints);
       fewer = omega arith;

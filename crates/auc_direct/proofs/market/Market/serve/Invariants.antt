@@ -1,11 +1,9 @@
 use Rattle.std.proofs.Common.{pos, ◌<◌, ◌≤◌, ◌≡◌, ◌≢◌, length}
 use Rattle.std.specs.Prelude.{◌+ℤ◌, ◌≤ℤ◌}
 use Rattle.auc_graph.specs.Assignment.{total}
-use Rattle.std.specs.BinaryHeap.{heap_items}
 use Rattle.auc_direct.specs.declared.market.TheConstants.{NOBODY}
 use Rattle.auc_direct.specs.Bids.{AreSpent, state_of}
 use Rattle.auc_direct.specs.Market.{HaveAllBut, Stands, own_at}
-use Rattle.auc_direct.specs.Path.{IsClean}
 use Rattle.auc_direct.specs.Shortlist.{Kept}
 use Rattle.auc_direct.proofs.market.Market.serve.Given as goal
 
@@ -18,7 +16,6 @@ invariant-loop-left l = record {
   free : l.fresh < l.until → (own_at l.self.owns.items l.fresh).object ≡ NOBODY;
   neither : l.fresh < l.until → (l.fresh ≢ l.person) × (l.fresh ≢ l.other);
   have : HaveAllBut l.fresh l.self.owns.items l.person l.other;
-  clean : IsClean l.rows.objects l.work.search.labels.items l.work.search.line.items (heap_items l.work.search.heap);
   kept : Kept l.rows l.self.prices.items l.work.lists.lists.items;
   raised : (total l.fn.self.prices.items +ℤ pos l.fn.left) ≤ℤ (total l.self.prices.items +ℤ pos l.left);
   fewer : l.left ≤ l.fn.left;

@@ -1,0 +1,37 @@
+use Rattle.std.proofs.Common.{◌≡◌, inr}
+use Rattle.auc_answers.specs.Answers.{IsAnswer, IsInfeasibleAnswer}
+use Rattle.auc_graph.specs.Assignment.{total}
+use Rattle.auc_direct.specs.Endings.{IsLimited, IsLimitedUnless, IsOfPhases, IsStopped}
+use Rattle.auc_direct.proofs.Answering.{limit_or_told, none_is_answer, none_is_limited, none_of_phases, of_answers}
+use Rattle.auc_direct.proofs.solving.concluded.Goals as goal
+
+pub answer_of-requires-clause-left : goal.answer_of-requires-clause-left
+answer_of-requires-clause-left c = rw c.in-Ok.is at c.requires.left
+
+pub halted-requires-clause-halt : goal.halted-requires-clause-halt
+halted-requires-clause-halt c = rw c.in-Err.is at c.requires.halt
+
+pub returns-in-Err-clause-is : goal.returns-in-Err-clause-is
+returns-in-Err-clause-is c = of_answers (IsInfeasibleAnswer c.args.problem.now) (IsAnswer c.args.problem.now) c.halted.result (none_is_answer c.args.problem.now) c.halted.ensures
+
+pub returns-in-Err-clause-limit : goal.returns-in-Err-clause-limit
+returns-in-Err-clause-limit c = λ bids begun before after _ same. (
+    let going : after ≡ before = rw c.in-Err.is at same in
+    of_answers (IsInfeasibleAnswer c.args.problem.now) (λ a. IsLimitedUnless before after a (IsLimited c.args.problem.now bids (total begun) a)) c.halted.result (λ a h. inr (going, none_is_limited c.args.problem.now bids (total begun) a h)) c.halted.ensures
+    )
+
+pub returns-in-Err-clause-run : goal.returns-in-Err-clause-run
+returns-in-Err-clause-run c = λ bids begun before after _. of_answers (IsInfeasibleAnswer c.args.problem.now) (IsOfPhases c.args.problem.now bids begun) c.halted.result (none_of_phases c.args.problem.now bids begun) c.halted.ensures
+
+pub returns-in-Ok-clause-limit : goal.returns-in-Ok-clause-limit
+returns-in-Ok-clause-limit c = λ bids begun before after ended _. (
+    let o = rw c.in-Ok.is at ended in
+    let outcome = c.in-Ok.outcome in
+    limit_or_told before after outcome.ending (IsLimited c.args.problem.now bids (total begun)) (IsStopped c.args.flat bids (total begun) outcome.ending outcome.market.prices.items) c.answer_of.result o.stopped c.answer_of.ensures.told (c.answer_of.ensures.limit bids (total begun))
+    )
+
+pub returns-in-Ok-clause-run : goal.returns-in-Ok-clause-run
+returns-in-Ok-clause-run c = λ bids begun before after ended. (
+    let o = rw c.in-Ok.is at ended in
+    c.answer_of.ensures.run bids begun o.run
+    )

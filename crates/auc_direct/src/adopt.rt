@@ -1,0 +1,153 @@
+//! A full table, solved by a search over its costs of which nothing is proved: persons try what it proposes before they take it.
+
+ghost use Rattle.std.specs.Prelude.{ℕ, ◌≡◌, ◌≢◌, ◌<◌, pos, length, IfOk, IfSome};
+ghost use Rattle.auc_rows.specs.Rows.{IsFlatTable};
+ghost use Rattle.auc_direct.specs.declared.market.TheConstants.{NOBODY};
+ghost use Rattle.auc_direct.specs.Adopted.{IsFullTable};
+ghost use Rattle.auc_direct.specs.Market.{HaveObjects, Stands, own_at};
+ghost use Rattle.auc_direct.specs.Starts.{ArePricesOf, AreSeated};
+
+use crate::bid::Bid;
+use crate::eps::LAST_EPS;
+use crate::from_start::prices_before;
+use crate::market::{Market, NOBODY};
+use crate::slack::is_slack;
+use auc_rows::FlatRows;
+use auc_table::{Proposal, Table, propose};
+use std::alloc::{AllocError, Global};
+
+/// The highest price that is taken, in costs of the table: scaled by persons + 1 it is below 2^61. Those of a least assignment need not be above 10,000 times the spread of the costs.
+const HIGHEST: i64 = 200_000_000_000_000;
+
+/// The costs of all rows, one row after another. None where the rows aren't a full table: no clause of theirs says that they are, so each arc is looked at.
+fn costs_of(alloc: Global, rows: &FlatRows) -> Result<Option<Vec<i64>>, AllocError>
+    ensures { IfOk result (λ o. IfSome o (λ costs. IsFullTable rows.now)) }
+{
+    let objects = rows.objects() as usize;
+    let mut costs = Vec::with_capacity(alloc, rows.arc_count())?;
+    for person in 0..rows.persons() {
+        let row = rows.row(person);
+        if row.len() != objects {
+            return Ok(None);
+        }
+        for object in 0..row.len() {
+            let arc = row[object];
+            if arc.object as usize != object {
+                return Ok(None);
+            }
+            costs.push(i64::from(arc.cost))?;
+        }
+    }
+    Ok(Some(costs))
+}
+
+/// Proposed prices, scaled. None where there isn't one for each object, or where one is below 0 or too high.
+fn scaled_prices(rows: &FlatRows, mut prices: Vec<i64>) -> Option<Vec<i64>>
+    ensures { IfSome result (λ scaled. ArePricesOf rows.now scaled.items) }
+{
+    if prices.len() != rows.objects() as usize {
+        return None;
+    }
+    let scale = rows.scale();
+    for object in 0..prices.len() {
+        let price = prices[object];
+        if price < 0 || HIGHEST < price {
+            return None;
+        }
+        prices[object] = scale * price;
+    }
+    Some(prices)
+}
+
+impl Market {
+    /// A person takes the object that is proposed for him, at the price that is. Not where somebody has it, or where another one is better for him by more than the last eps.
+    fn take(&mut self, rows: &FlatRows, start: &[i64], person: u32, object: u32)
+        requires person { person < length rows.now.rows }
+        requires sound { IsFlatTable rows.now }
+        requires start { ArePricesOf rows.now start.now }
+        requires seated { AreSeated rows.now (pos 1) start.now self.old.prices.items self.old.holders.items self.old.owns.items }
+        requires none { (own_at self.old.owns.items person).object ≡ NOBODY }
+        ensures seated { AreSeated rows.now (pos 1) start.now self.new.prices.items self.new.holders.items self.new.owns.items }
+        ensures none { (i : ℕ) → i ≢ person → (own_at self.old.owns.items i).object ≡ NOBODY → (own_at self.new.owns.items i).object ≡ NOBODY }
+    {
+        let row = rows.row(person);
+        if object as usize >= row.len() {
+            return;
+        }
+        let arc = row[object as usize];
+        if self.holders[arc.object as usize] != NOBODY {
+            return;
+        }
+        if !is_slack(rows, LAST_EPS, start, person, arc) {
+            return;
+        }
+        let amount = start[arc.object as usize];
+        self.award(person, Bid { amount, arc });
+    }
+}
+
+/// The market of a proposal, where each person takes his object at its prices, and nobody is left out. What nobody takes must have no price where there are more objects than persons.
+fn tried(alloc: Global, rows: &FlatRows, proposal: Proposal) -> Result<Option<Market>, AllocError>
+    ensures stands { IfOk result (λ o. IfSome o (λ m. Stands rows.now (pos 1) m.prices.items m.holders.items m.owns.items)) }
+    ensures have { IfOk result (λ o. IfSome o (λ m. HaveObjects (length rows.now.rows) m.owns.items)) }
+{
+    let Proposal {
+        objects,
+        prices,
+        ..
+    } = proposal;
+    let Some(start) = scaled_prices(rows, prices) else {
+        return Ok(None);
+    };
+    let persons = rows.persons();
+    if objects.len() != persons as usize {
+        return Ok(None);
+    }
+    let before = prices_before(alloc, rows, start.as_slice())?;
+    let mut market = Market::new(alloc, persons, before)?;
+    for person in 0..persons {
+        market.take(rows, start.as_slice(), person, objects[person as usize]);
+    }
+    if !market.all_have() {
+        return Ok(None);
+    }
+    // Prices that nobody has paid stayed at 0 where there are more objects than persons.
+    if market.prices.as_slice() != start.as_slice() {
+        return Ok(None);
+    }
+    Ok(Some(market))
+}
+
+/// Solves a full table by a search that may look at so many costs, and tries what it proposes. None where the rows aren't a full table, or where that doesn't show a least assignment.
+/// Takes O(persons * objects) time and 8 bytes of memory an arc beside the search.
+///
+/// # Errors
+///
+/// Only where memory was refused.
+pub(crate) fn adopted(
+    alloc: Global,
+    rows: &FlatRows,
+    looks: u64,
+) -> Result<Option<Market>, AllocError>
+    ensures stands { IfOk result (λ o. IfSome o (λ m. Stands rows.now (pos 1) m.prices.items m.holders.items m.owns.items)) }
+    ensures have { IfOk result (λ o. IfSome o (λ m. HaveObjects (length rows.now.rows) m.owns.items)) }
+    ensures full { IfOk result (λ o. IfSome o (λ m. IsFullTable rows.now)) }
+{
+    if !rows.is_full() {
+        return Ok(None);
+    }
+    let Some(costs) = costs_of(alloc, rows)? else {
+        return Ok(None);
+    };
+    let objects = rows.objects();
+    let table = Table {
+        persons: rows.persons(),
+        objects,
+        stride: objects as usize,
+        costs: costs.as_slice(),
+    };
+    let Some(proposal) = propose(alloc, &table, None, looks)? else {
+        return Ok(None);
+    };
+    tried(alloc, rows, proposal)
+}

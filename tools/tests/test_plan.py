@@ -78,7 +78,8 @@ class Plans(ToolTest):
         self.assertEqual(self.call("plan", "table.csv", "-o", "plan.csv", "--quiet"), (3, "", ""))
 
     def test_search_that_is_stopped(self):
-        self.write("table.csv", "a,x,1\na,y,2\nb,x,1\nb,y,9\n")
+        # No full table, which would be searched without bids.
+        self.write("table.csv", "a,x,1\na,y,2\nb,x,1\n")
         status, output, said = self.call("plan", "table.csv", "--bids", "1")
         self.assertEqual(status, 4)
         self.assertIn("The search was stopped early", output)

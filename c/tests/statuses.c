@@ -46,7 +46,8 @@ static void solves(void) {
     want("more objects", solve(2, 4, two, COUNT(two), no_prices, 0, SIGDORF_USUAL_BIDS), SIGDORF_OPTIMAL);
     want("cost with more objects", found.cost, 3);
     want("price of nobody's object", prices[3], 0);
-    fault("no bids", solve(2, 0, two, COUNT(two), no_prices, 0, 0), SIGDORF_BRACKET, SIGDORF_BIDS, 0x55555555);
+    // Without its last arc it is no full table, which would be searched without bids.
+    fault("no bids", solve(2, 0, two, COUNT(two) - 1, no_prices, 0, 0), SIGDORF_BRACKET, SIGDORF_BIDS, 0x55555555);
     want("bound", found.lower <= 3 && 3 <= found.cost, 1);
     sigdorf_arc both[] = {{1, 0, 1}, {1, 1, 1}};
     want("infeasible", solve(2, 0, both, 2, no_prices, 0, SIGDORF_USUAL_BIDS), SIGDORF_INFEASIBLE);

@@ -101,7 +101,10 @@ pub(crate) fn bids_from_start(rows: &FlatRows) -> u64 {
     STARTED.saturating_mul(u64::from(rows.persons()))
 }
 
-/// How many entries of a full table its own search may look at.
+/// How many entries of a full table its own search may look at: any number with more objects than persons, where one phase at the last eps would take far longer.
 pub(crate) fn looks_at_table(rows: &FlatRows) -> u64 {
+    if rows.persons() < rows.objects() {
+        return u64::MAX;
+    }
     TABLE.saturating_mul(rows.arc_count() as u64)
 }

@@ -27,7 +27,7 @@ pub(crate) const LOOKS: u64 = 2;
 /// How many bids a person a run from start prices may make before it begins as any other.
 pub(crate) const STARTED: u64 = 4;
 
-/// How many looks at an entry of a full table its own search may take, for each entry: they go eight at a time, and bids take more.
+/// How many looks the search of a full table may take for each entry, with as many objects as persons.
 pub(crate) const TABLE: u64 = 8;
 
 /// How many arcs are looked at between two questions to a watch, about: some milliseconds.

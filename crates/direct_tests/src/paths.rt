@@ -1,4 +1,4 @@
-//! Where bids at eps 1 would go on for billions, since many want few objects: paths end that within a few.
+//! Where bids at eps 1 would go on for billions, since many want few objects: paths end that within a few. With objects to spare there is no other phase, so these tests tell.
 
 use crate::texts::{AMPLE, answered, problem_of, text_of};
 use auc_cert::{read_cert, start_prices};
@@ -6,9 +6,8 @@ use auc_direct::{DirectLimits, solve_direct_from};
 use auc_graph::{Arc, ArcList};
 use std::test::*;
 
-/// Three persons, of whom each has one of two objects for nothing, and else pays the greatest cost.
-const THREE: &str =
-    "3\n1 1 0 1 2 0 1 3 1000000000\n2 1 0 2 2 0 2 3 1000000000\n3 1 0 3 2 0 3 3 1000000000\n";
+/// Three persons, of whom each has one of two objects for nothing, and else pays the greatest cost; the last one can't, so it is no full table, which would be searched without bids.
+const THREE: &str = "3\n1 1 0 1 2 0 1 3 1000000000\n2 1 0 2 2 0 2 3 1000000000\n3 1 0 3 2 0\n";
 
 /// A certificate of another problem, at prices of 0.
 const NO_PRICES: &str =
@@ -17,18 +16,21 @@ const NO_PRICES: &str =
 /// Far fewer bids than the greatest cost is steps of eps.
 const FEW: DirectLimits = DirectLimits { bids: 1_000 };
 
-/// Each person has each object; the first ones for nothing, and the others for a penalty.
+/// Each person has each object; the first ones for nothing, and the others for a penalty. Where it is to be no full table, the last person doesn't have the last object.
 fn crowd(
     rt: &HostRuntime,
     persons: u32,
     objects: u32,
     free: u32,
-    penalty: i64,
+    is_full: bool,
 ) -> Result<ArcList, Fail> {
     let mut arcs = Vec::new(rt.alloc());
     for person in 0..persons {
         for object in 0..objects {
-            let cost = if object < free { 0 } else { penalty };
+            if !is_full && person + 1 == persons && object + 1 == objects {
+                continue;
+            }
+            let cost = if object < free { 0 } else { 1_000_000_000 };
             arcs.push(Arc {
                 cost,
                 person,
@@ -54,7 +56,7 @@ fn a_penalty_with_objects_to_spare(rt: HostRuntime) -> Result<(), Fail> {
 /// Twenty persons, fifteen free objects, and ten that cost the most.
 #[test]
 fn many_penalties_with_objects_to_spare(rt: HostRuntime) -> Result<(), Fail> {
-    let problem = crowd(&rt, 20, 25, 15, 1_000_000_000)?;
+    let problem = crowd(&rt, 20, 25, 15, false)?;
     let told = answered(&rt, &problem, &FEW)?;
     assert!(rt;
         told.as_slice()
@@ -63,7 +65,7 @@ fn many_penalties_with_objects_to_spare(rt: HostRuntime) -> Result<(), Fail> {
     Ok(())
 }
 
-/// From prices of 0 there is one phase, at eps 1.
+/// From prices of 0 a phase at eps 1 is tried.
 #[test]
 fn a_start_without_prices(rt: HostRuntime) -> Result<(), Fail> {
     let problem = problem_of(&rt, THREE, 0)?;
@@ -81,7 +83,7 @@ fn a_start_without_prices(rt: HostRuntime) -> Result<(), Fail> {
 /// A price war in phases of falling eps.
 #[test]
 fn a_war_in_all_phases(rt: HostRuntime) -> Result<(), Fail> {
-    let problem = crowd(&rt, 40, 40, 39, 1_000_000_000)?;
+    let problem = crowd(&rt, 40, 40, 39, false)?;
     let told = answered(&rt, &problem, &AMPLE)?;
     assert!(rt;
         told.as_slice()
@@ -90,11 +92,11 @@ fn a_war_in_all_phases(rt: HostRuntime) -> Result<(), Fail> {
     Ok(())
 }
 
-/// As many objects as persons, and five of them at the greatest cost: the phase that comes first in a full table needs no more bids than four a person.
+/// As many objects as persons, and five of them at the greatest cost: the search of a full table takes no bids.
 #[test]
 fn penalties_in_a_full_table(rt: HostRuntime) -> Result<(), Fail> {
-    let problem = crowd(&rt, 20, 20, 15, 1_000_000_000)?;
-    let told = answered(&rt, &problem, &DirectLimits { bids: 80 })?;
+    let problem = crowd(&rt, 20, 20, 15, true)?;
+    let told = answered(&rt, &problem, &DirectLimits { bids: 0 })?;
     assert!(rt;
         told.as_slice()
             .starts_with(b"auction 1\noptimal 20 5000000000\n")

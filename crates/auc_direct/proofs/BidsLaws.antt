@@ -1,13 +1,19 @@
 -- Bids one after another are counted.
-use Rattle.std.proofs.Common.{◌≡◌, ℕ, ℤ, ◌+◌, ◌-◌, ◌≤◌, refl, List, subst, sym, arith}
+use Rattle.std.proofs.Common.{◌≡◌, ◌∙◌, ℕ, ℤ, pos, ◌+◌, ◌-◌, ◌<◌, ◌≤◌, ap, length, refl, List, subst, sym, arith}
+use Rattle.std.specs.Prelude.{◌+ℤ◌, ◌≤ℤ◌}
+use Rattle.std.proofs.lemmas.Int.{ints}
+use Rattle.std.proofs.lemmas.List.{length-set}
+use Rattle.std.proofs.lemmas.List.Elements.{All-contains}
 use Rattle.auc_cert.specs.declared.reason.Reason.{Reason}
-use Rattle.auc_letters.specs.Price.{IsEps}
-use Rattle.auc_rows.specs.declared.arc.ShortArc.{ShortArc}
-use Rattle.auc_rows.specs.Rows.{FlatTable}
+use Rattle.auc_graph.specs.Assignment.{total}
+use Rattle.auc_rows.specs.Rows.{FlatTable, IsFlatTable, IsShort, flat_row_of}
 use Rattle.auc_direct.specs.declared.ending.Ending.{Ending}
-use Rattle.auc_direct.specs.Bids.{AreCounted, HaveRunOut, IsBidMade, IsPathMade, AreSpent, AreMadeWithin, AreMade, State, state}
+use Rattle.auc_direct.specs.Bids.{AreCounted, HaveRunOut, IsBidMade, IsPathMade, AreSpent, AreMadeWithin, AreMade, State}
 use Rattle.auc_direct.specs.Bids.AreMade.{bids, goes, opens}
-use Rattle.auc_direct.specs.Market.{IsTooHigh, Stands}
+use Rattle.auc_direct.specs.Eps.{IsEpsOf}
+use Rattle.auc_direct.specs.Market.{Stands}
+use Rattle.auc_direct.proofs.MarketLaws.{total_set}
+use Rattle.auc_direct.proofs.Walks.{total_rises}
 
 -- none so far
 pub made_none : (r : FlatTable) (eps : ℤ) (left : ℕ) (s : State) → AreSpent r eps left left s s
@@ -40,15 +46,33 @@ made_within r eps before after s t m = record { made = m.made; few = (let x = m.
 pub made_all : (r : FlatTable) (eps : ℤ) (before after : ℕ) (s t : State) → after ≡ 0 → AreSpent r eps before after s t → AreMade r eps s before t
 made_all r eps before after s t none m = subst (λ (k : ℕ). AreMade r eps s k t) (let x = m.sum in omega (arith, x, none)) m.run
 
--- a bid that would be too high has changed nothing
-pub made_still : (r : FlatTable) (eps : ℤ) (before after : ℕ) (s : State) (prices new : List ℤ) (holders sold : List ℕ) (owns left : List ShortArc) → IsTooHigh r eps prices new holders sold owns left → AreSpent r eps before after s (state prices holders owns) → AreSpent r eps before after s (state new sold left)
-made_still r eps before after s prices new holders sold owns left h m =
-    subst (λ (ps : List ℤ). AreSpent r eps before after s (state ps sold left)) (sym h.prices_are)
-    (subst (λ (hs : List ℕ). AreSpent r eps before after s (state prices hs left)) (sym h.holders_are)
-    (subst (λ (os : List ShortArc). AreSpent r eps before after s (state prices holders os)) (sym h.owns_are) m))
+-- each bid has raised a price by 1 or more, and no path lowers one
+pub made_raises : (r : FlatTable) (eps : ℤ) (s t : State) (n : ℕ) → IsFlatTable r → pos 1 ≤ℤ eps → length s.prices ≡ r.objects → AreMade r eps s n t → (length t.prices ≡ r.objects) × ((total s.prices +ℤ pos n) ≤ℤ total t.prices)
+made_raises r eps s t n sound some many (opens k u none same) = subst (λ (x : State). (length x.prices ≡ r.objects) × ((total s.prices +ℤ pos k) ≤ℤ total x.prices)) (sym same) (many, omega (arith, ints, none))
+made_raises r eps s t n sound some many (bids m k u v run bid one) =
+    let before = made_raises r eps s u m sound some many run in
+    let e = before.0 in
+    let b = before.1 in
+    let o = (All-contains (IsShort r.objects) (flat_row_of r bid.person) bid.arc (sound.each bid.person) bid.offer.listed).object in
+    let set_is = total_set u.prices bid.arc.object bid.amount (omega (arith, o, e)) in
+    let low = bid.offer.low in
+    let is = bid.offer.is in
+    let same = ap total bid.prices in
+    (ap length bid.prices ∙ length-set u.prices bid.arc.object bid.amount ∙ e, omega (arith, ints, b, set_is, low, is, same, one, some))
+made_raises r eps s t n sound some many (goes k u v run gone) =
+    let before = made_raises r eps s u k sound some many run in
+    let e = before.0 in
+    let b = before.1 in
+    let l = gone.way.stands.prices_are in
+    let up = total_rises u.prices v.prices (omega (arith, l, e)) gone.way.higher in
+    (l, omega (arith, ints, b, up))
+
+-- so a phase leaves no lower sum
+pub made_risen : (r : FlatTable) (eps : ℤ) (s t : State) (most : ℕ) → IsFlatTable r → pos 1 ≤ℤ eps → length s.prices ≡ r.objects → AreMadeWithin r eps most s t → total s.prices ≤ℤ total t.prices
+made_risen r eps s t most sound some many within = let up = (made_raises r eps s t within.made sound some many within.run).1 in omega (arith, ints, up)
 
 -- they have run out
-pub run_out : (r : FlatTable) (eps : ℤ) (n : ℕ) (s t : State) → IsEps eps → Stands r eps s.prices s.holders s.owns → AreMade r eps s n t → HaveRunOut r n t.prices
+pub run_out : (r : FlatTable) (eps : ℤ) (n : ℕ) (s t : State) → IsEpsOf r eps → Stands r eps s.prices s.holders s.owns → AreMade r eps s n t → HaveRunOut r n t.prices
 run_out r eps n s t is stands run = record { eps = eps; is_eps = is; first = s; stands = stands; last = t; run = run; prices_are = refl }
 
 -- and those of a slice of a phase

@@ -5,6 +5,7 @@ mod HighBids
 mod MarketLaws
 mod BidsLaws
 mod PhasesLaws
+mod Moving
 mod Example
 mod Bounds
 mod Opening

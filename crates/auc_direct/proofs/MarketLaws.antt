@@ -11,14 +11,14 @@ use Rattle.auc_graph.specs.Price.{IsPrice}
 use Rattle.auc_letters.specs.Price.{IsEps}
 use Rattle.auc_rows.specs.declared.arc.ShortArc.{ShortArc}
 use Rattle.auc_rows.specs.Rows.{FlatTable, IsFlatTable, IsShort, flat_row_of, scale_in}
-use Rattle.auc_direct.specs.declared.market.TheConstants.{NOBODY}
+use Rattle.auc_direct.specs.declared.holdings.TheConstants.{NOBODY}
 use Rattle.auc_direct.specs.Bid.{IsOffer, IsRaise}
 use Rattle.auc_direct.specs.Market.{AreSpare, HaveAllBut, IsAbove, IsAwarded, IsSlack, IsTooHigh, Stands, holder_at, no_own, own_at}
 use Rattle.auc_direct.proofs.BidLaws.{risen}
 
 -- ---- sums of prices
 
-total_set : (prices : List ℤ) (j : ℕ) (amount : ℤ) → j < length prices → (total (set prices j amount) +ℤ price_at prices j) ≡ (total prices +ℤ amount)
+pub total_set : (prices : List ℤ) (j : ℕ) (amount : ℤ) → j < length prices → (total (set prices j amount) +ℤ price_at prices j) ≡ (total prices +ℤ amount)
 total_set [] j amount lt = absurd (omega (arith, lt))
 total_set (z ∷ zs) zero amount lt = omega (arith, ints)
 total_set (z ∷ zs) (suc j) amount lt = let e = total_set zs j amount (omega (arith, lt)) in omega (arith, ints, e)
@@ -279,7 +279,3 @@ awarded r eps person prices new holders sold owns left d s amount sound is_eps s
       below = λ some. (let l = displaced_below r eps prices holders owns person s amount sound stands known none up fits (λ z. some (h ∙ z)) in omega (arith, l, h));
       higher = λ k. (let up_k = rise r eps prices holders owns person s amount sound stands known none up fits k in rw e up_k);
     }
-
--- a bid that is too high would be so still
-pub too_high : (r : FlatTable) (eps : ℤ) (prices after : List ℤ) (holders they : List ℕ) (owns those : List ShortArc) → IsTooHigh r eps prices after holders they owns those → IsAbove r eps after
-too_high r eps prices after holders they owns those h = subst (λ (ps : List ℤ). IsAbove r eps ps) (sym h.prices_are) h.above

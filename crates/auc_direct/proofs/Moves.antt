@@ -8,7 +8,7 @@ use Rattle.auc_graph.specs.declared.limits.TheConstants.{MOST_OBJECTS, MOST_PERS
 use Rattle.auc_rows.specs.declared.arc.ShortArc.{ShortArc}
 use Rattle.auc_rows.specs.Rows.{FlatTable}
 use Rattle.auc_direct.specs.declared.label.Label.{Label}
-use Rattle.auc_direct.specs.declared.market.TheConstants.{NOBODY}
+use Rattle.auc_direct.specs.declared.holdings.TheConstants.{NOBODY}
 use Rattle.auc_direct.specs.Market.{holder_at, no_own, own_at}
 use Rattle.auc_direct.specs.Path.{AreTaken, Agree, IsChain, IsFrom, IsLabelArc, IsMoved, label_of, near_of, place_of, seats}
 use Rattle.auc_direct.proofs.Labels.{settled_within}

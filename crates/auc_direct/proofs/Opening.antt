@@ -11,11 +11,10 @@ use Rattle.auc_graph.specs.Dual.{price_at}
 use Rattle.auc_graph.specs.Problem.{Problem}
 use Rattle.auc_graph.specs.Table.{IsTableOf, Table}
 use Rattle.auc_graph.specs.Price.{IsPrice}
-use Rattle.auc_letters.specs.Price.{IsEps}
 use Rattle.auc_answers.proofs.NewShards.{replicate_default}
 use Rattle.auc_rows.specs.declared.arc.ShortArc.{ShortArc}
 use Rattle.auc_rows.specs.Rows.{AreSameRows, FlatTable}
-use Rattle.auc_direct.specs.declared.market.TheConstants.{NOBODY}
+use Rattle.auc_direct.specs.declared.holdings.TheConstants.{NOBODY}
 use Rattle.auc_direct.proofs.Bounds.{product_abs}
 use Rattle.auc_direct.proofs.MarketLaws.{total_low}
 use Rattle.auc_direct.specs.Endings.{IsStart}
@@ -50,24 +49,6 @@ stands_opened r first eps prices holders owns n m start objects persons nobody n
     spare (inl square) = inl square
     spare (inr zeros) = inr (λ j free. zeros.1 j)
 
--- the next phase begins with the prices that the one before has left, where there are as many objects as persons
-pub start_next : (r : FlatTable) (eps next : ℤ) (prices new : List ℤ) (holders : List ℕ) (owns : List ShortArc) → IsEps next → next <ℤ eps → IsStart r eps prices → Stands r eps new holders owns → IsStart r next new
-start_next r eps next prices new holders owns is_eps less start stands = record { each = stands.prices_are; within = stands.within; spare = by start.spare }
-  where
-    by : (r.objects ≡ length r.rows) ⊎ ((eps ≡ pos 1) × ((j : ℕ) → price_at prices j ≡ pos 0)) → (r.objects ≡ length r.rows) ⊎ ((next ≡ pos 1) × ((j : ℕ) → price_at new j ≡ pos 0))
-    by (inl square) = inl square
-    by (inr one) = absurd (let e = one.0 in let l = is_eps.low in omega (arith, ints, e, l, less))
-
--- the same after a phase at a lesser eps than the one that might have been played
-pub start_finer : (r : FlatTable) (eps fine next : ℤ) (prices new : List ℤ) (holders : List ℕ) (owns : List ShortArc) → IsEps next → next <ℤ fine → fine <ℤ eps → IsStart r eps prices → Stands r fine new holders owns → IsStart r next new
-start_finer r eps fine next prices new holders owns is_eps less finer start stands = record { each = stands.prices_are; within = stands.within; spare = by start.spare }
-  where
-    by : (r.objects ≡ length r.rows) ⊎ ((eps ≡ pos 1) × ((j : ℕ) → price_at prices j ≡ pos 0)) → (r.objects ≡ length r.rows) ⊎ ((next ≡ pos 1) × ((j : ℕ) → price_at new j ≡ pos 0))
-    by (inl square) = inl square
-    by (inr one) = absurd (let e = one.0 in let l = is_eps.low in omega (arith, ints, e, l, less, finer))
-
-pub less_eps : (eps next : ℤ) → IsEps next → next <ℤ eps → unsigned_abs next < unsigned_abs eps
-less_eps eps next is l = let low = is.low in omega (arith, ints, low, l)
 
 -- ---- what a run begins with
 

@@ -13,7 +13,7 @@ use Rattle.auc_letters.specs.Price.{IsEps}
 use Rattle.auc_rows.specs.declared.arc.ShortArc.{ShortArc}
 use Rattle.auc_rows.specs.Rows.{IsFlatTable, IsShort, FlatTable, flat_row_of}
 use Rattle.auc_direct.specs.declared.label.Label.{Label}
-use Rattle.auc_direct.specs.declared.market.TheConstants.{NOBODY}
+use Rattle.auc_direct.specs.declared.holdings.TheConstants.{NOBODY}
 use Rattle.auc_direct.specs.Market.{AreSpare, Stands, holder_at, no_own, own_at}
 use Rattle.auc_direct.specs.Path.{Agree, AreHolders, AreOwns, AreRaised, AreTaken, IsEnd, IsFrom, IsLabelArc, IsMoved, label_of, near_of, place_of, seat, seats}
 use Rattle.auc_direct.proofs.MarketLaws.{holder_below, holder_has, owner_below}

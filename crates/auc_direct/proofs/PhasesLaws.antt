@@ -1,13 +1,13 @@
 -- Phases one after another are phases.
 use Rattle.std.proofs.Common.{◌≡◌, ◌∙◌, ℕ, ℤ, ◌+◌, ◌≤◌, List, ap, arith, refl, replicate, subst, sym}
 use Rattle.auc_cert.specs.declared.reason.Reason.{Reason}
-use Rattle.auc_letters.specs.Price.{IsEps}
 use Rattle.auc_answers.proofs.NewShards.{replicate_default}
 use Rattle.auc_rows.specs.declared.arc.ShortArc.{ShortArc}
 use Rattle.auc_rows.specs.Rows.{FlatTable}
 use Rattle.auc_direct.specs.declared.ending.Ending.{Ending}
 use Rattle.auc_direct.specs.Bids.{AreCounted, AreMadeWithin, AreSpent, State}
 use Rattle.auc_direct.specs.Bids.AreMade.{opens as begins_at}
+use Rattle.auc_direct.specs.Eps.{IsEpsOf}
 use Rattle.auc_direct.specs.Market.{Stands, no_own, own_at}
 use Rattle.auc_direct.specs.Phases.{ArePhases, IsOpened, IsPhase, IsRefined}
 use Rattle.auc_direct.specs.Phases.ArePhases.{adopts, begins, opens, plays, refines}
@@ -40,7 +40,7 @@ within_slice r eps most left slice s t u spent le made = record {
 pub within_more : (r : FlatTable) (eps : ℤ) (most more : ℕ) (s t : State) → most ≤ more → AreMadeWithin r eps most s t → AreMadeWithin r eps more s t
 within_more r eps most more s t le made = record { made = made.made; few = (let a = made.few in omega (arith, a, le)); run = made.run }
 
-pub no_phase : (r : FlatTable) (eps : ℤ) (bids : ℕ) (s : State) → IsEps eps → Stands r eps s.prices s.holders s.owns → IsPhase r bids s s
+pub no_phase : (r : FlatTable) (eps : ℤ) (bids : ℕ) (s : State) → IsEpsOf r eps → Stands r eps s.prices s.holders s.owns → IsPhase r bids s s
 no_phase r eps bids s is stands = record { eps = eps; is_eps = is; stands = stands; made = record { made = 0; few = omega arith; run = begins_at 0 s refl refl } }
 
 pub one_phase : (r : FlatTable) (bids : ℕ) (s t : State) → IsPhase r bids s t → ArePhases r bids s t

@@ -6,7 +6,7 @@ use Rattle.std.proofs.lemmas.List.{get_or-map, get_or_past, length-map}
 use Rattle.std.proofs.lemmas.Option.{same_Some}
 use Rattle.auc_answers.specs.Claims.{holder_at as held_at}
 use Rattle.auc_letters.specs.declared.state.Held.{Held}
-use Rattle.auc_direct.specs.declared.market.TheConstants.{NOBODY}
+use Rattle.auc_direct.specs.declared.holdings.TheConstants.{NOBODY}
 use Rattle.auc_direct.specs.Market.{holder_at}
 use Rattle.auc_direct.specs.Path.{seat, seats}
 

@@ -4,11 +4,10 @@ use Rattle.std.proofs.lemmas.Bool.{cases_eq, cases_lt}
 use Rattle.std.proofs.lemmas.List.{get_or_past}
 use Rattle.auc_graph.specs.declared.limits.TheConstants.{MOST_PERSONS}
 use Rattle.auc_rows.specs.declared.arc.ShortArc.{ShortArc}
-use Rattle.auc_rows.specs.Rows.{FlatTable}
 use Rattle.auc_direct.specs.declared.ending.Chain.{Chain}
-use Rattle.auc_direct.specs.declared.market.TheConstants.{NOBODY}
-use Rattle.auc_direct.specs.Endings.{AreSold, IsChain}
+use Rattle.auc_direct.specs.declared.holdings.TheConstants.{NOBODY}
 use Rattle.auc_direct.specs.Market.{HaveAllBut, HaveObjects, no_own, own_at}
+use Rattle.auc_direct.specs.Position.{AreSold, IsChain, Position}
 
 -- nobody has no object
 pub nobody_has : (owns : List ShortArc) → length owns ≤ MOST_PERSONS → (own_at owns NOBODY).object ≡ NOBODY
@@ -58,10 +57,10 @@ begins n owns waits few ne none h = record {
 }
 
 -- the last one bids alone
-pub sold_of : (r : FlatTable) (eps : ℤ) (waits left : ℕ) (ended : Chain) (owns : List ShortArc) (prices : List ℤ) (new : List ShortArc) → length r.rows ≤ MOST_PERSONS → length owns ≤ MOST_PERSONS → HaveAllBut (length r.rows) owns NOBODY waits → IsChain r eps waits left ended owns prices new → AreSold r eps left ended prices new
-sold_of r eps waits left Chain.Placed owns prices new few many h chain = chain (length r.rows) (omega arith) (alone (length r.rows) owns waits few many h)
-sold_of r eps waits left Chain.Bids owns prices new few many h chain = chain
-sold_of r eps waits left Chain.Ceiling owns prices new few many h chain = chain
+pub sold_of : (waits left : ℕ) (ended : Chain) (old new : Position) → new.table ≡ old.table → length old.table.rows ≤ MOST_PERSONS → length old.owns ≤ MOST_PERSONS → HaveAllBut (length old.table.rows) old.owns NOBODY waits → IsChain waits left ended old new → AreSold left ended new
+sold_of waits left Chain.Placed old new same few many h chain = rw same (chain (length old.table.rows) (rw same (omega arith)) (alone (length old.table.rows) old.owns waits few many h))
+sold_of waits left Chain.Bids old new same few many h chain = chain
+sold_of waits left Chain.Ceiling old new same few many h chain = chain
 
 -- ---- turns
 

@@ -11,7 +11,7 @@ use Rattle.auc_answers.specs.Claims.{holder_at as held_at}
 use Rattle.auc_rows.specs.declared.arc.ShortArc.{ShortArc}
 use Rattle.auc_rows.specs.Rows.{IsFlatTable, FlatTable, flat_row_of}
 use Rattle.auc_direct.specs.declared.label.Label.{Label}
-use Rattle.auc_direct.specs.declared.market.TheConstants.{NOBODY}
+use Rattle.auc_direct.specs.declared.holdings.TheConstants.{NOBODY}
 use Rattle.auc_direct.specs.Market.{IsSlack, holder_at, own_at}
 use Rattle.auc_direct.specs.Path.{AreRaised, AreTaken, Agree, IsAsNear, IsEnd, IsFrom, IsLabelArc, IsMoved, Reaches, label_of, near_of, own_value, pays, place_of, seats}
 use Rattle.auc_direct.proofs.Bounds.{value_in}

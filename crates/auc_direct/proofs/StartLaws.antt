@@ -10,7 +10,7 @@ use Rattle.auc_graph.specs.Dual.{price_at}
 use Rattle.auc_graph.specs.Price.{IsPrice}
 use Rattle.auc_rows.specs.declared.arc.ShortArc.{ShortArc}
 use Rattle.auc_rows.specs.Rows.{FlatTable, IsFlatTable, IsShort, flat_row_of, scale_in}
-use Rattle.auc_direct.specs.declared.market.TheConstants.{NOBODY}
+use Rattle.auc_direct.specs.declared.holdings.TheConstants.{NOBODY}
 use Rattle.auc_direct.specs.Endings.{IsStart}
 use Rattle.auc_direct.specs.Market.{AreSpare, IsSlack, Stands, holder_at, no_own, own_at}
 use Rattle.auc_direct.specs.declared.scan.Found.{Found}

@@ -6,7 +6,7 @@ use Rattle.std.proofs.lemmas.List.{get_or_past}
 use Rattle.auc_graph.specs.Assignment.{total}
 use Rattle.auc_rows.specs.declared.arc.ShortArc.{ShortArc}
 use Rattle.auc_rows.specs.Rows.{FlatTable, IsFlatTable, flat_row_of, scale_in}
-use Rattle.auc_direct.specs.declared.market.TheConstants.{NOBODY}
+use Rattle.auc_direct.specs.declared.holdings.TheConstants.{NOBODY}
 use Rattle.auc_direct.specs.Market.{AreHigher, IsSlack, Stands, no_own, own_at}
 use Rattle.auc_direct.specs.Scan.{short_value}
 use Rattle.auc_direct.specs.Way.{IsWay}

@@ -1,13 +1,13 @@
 -- The bids of a phase, one after another, and how many they are.
 use Rattle.std.specs.Prelude.{ℕ, ℤ, ◌≡◌, ◌+◌, ◌≤◌, ◌<◌, List, length, set}
 use Rattle.auc_cert.specs.declared.reason.Reason.{Reason}
-use Rattle.auc_letters.specs.Price.{IsEps}
 use Rattle.auc_rows.specs.declared.arc.ShortArc.{ShortArc}
 use Rattle.auc_rows.specs.Rows.{FlatTable, flat_row_of, scale_in}
 use Rattle.auc_direct.specs.declared.ending.Ending.{Ending}
-use Rattle.auc_direct.specs.declared.market.Market.{Market}
-use Rattle.auc_direct.specs.declared.market.TheConstants.{NOBODY}
+use Rattle.auc_direct.specs.declared.holdings.Holdings.{Holdings}
+use Rattle.auc_direct.specs.declared.holdings.TheConstants.{NOBODY}
 use Rattle.auc_direct.specs.Bid.{IsOffer}
+use Rattle.auc_direct.specs.Eps.{IsEpsOf}
 use Rattle.auc_direct.specs.Market.{Stands, holder_at, no_own, own_at}
 use Rattle.auc_direct.specs.Way.{IsWay}
 
@@ -21,7 +21,7 @@ abbrev pub state : List ℤ → List ℕ → List ShortArc → State
 state p h o = record { prices = p; holders = h; owns = o }
 
 -- the state that a market is in
-abbrev pub state_of : Market → State
+abbrev pub state_of : Holdings → State
 state_of m = state m.prices.items m.holders.items m.owns.items
 
 -- One bid: a person who has no object offers by the rule, the object is his, the amount is its price, and who has held it has none.
@@ -72,7 +72,7 @@ AreCounted r eps most (Ending.Stopped Reason.Mail) s t = ⊥
 -- as many bids as a phase may make lead to these prices, from a state in which all is as it is between two bids
 pub record HaveRunOut (r : FlatTable) (bids : ℕ) (prices : List ℤ) : Type 0 where
   pub eps : ℤ
-  pub is_eps : IsEps eps
+  pub is_eps : IsEpsOf r eps
   pub first : State
   pub stands : Stands r eps first.prices first.holders first.owns
   pub last : State

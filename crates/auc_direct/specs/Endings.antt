@@ -8,44 +8,25 @@ use Rattle.auc_graph.specs.Problem.{Problem}
 use Rattle.auc_graph.specs.Table.{IsTableOf, Table}
 use Rattle.auc_graph.specs.Price.{IsPrice}
 use Rattle.auc_answers.specs.declared.answer.Answer.{Answer}
-use Rattle.auc_letters.specs.Price.{IsEps}
 use Rattle.auc_rows.specs.declared.arc.ShortArc.{ShortArc}
 use Rattle.auc_rows.specs.Rows.{AreRowsOf, AreSameRows, FlatTable}
-use Rattle.auc_direct.specs.declared.ending.Chain.{Chain}
 use Rattle.auc_direct.specs.declared.ending.Ending.{Ending}
 use Rattle.auc_direct.specs.declared.ending.PathStep.{PathStep}
-use Rattle.auc_direct.specs.declared.market.TheConstants.{NOBODY}
+use Rattle.auc_direct.specs.declared.holdings.TheConstants.{NOBODY}
 use Rattle.auc_direct.specs.Bids.{HaveRunOut, State, state}
+use Rattle.auc_direct.specs.Eps.{IsEpsOf}
 use Rattle.auc_direct.specs.Phases.{IsRun}
-use Rattle.auc_direct.specs.Market.{AreHigher, HaveAllBut, HaveObjects, IsAbove, Stands, own_at}
+use Rattle.auc_direct.specs.Market.{AreHigher, HaveObjects, IsAbove, Stands, own_at}
 use Rattle.auc_direct.specs.Starts.{AreOpened}
 
 -- Why a phase may be stopped: it has made as many bids as it may, and the prices add up to more than those that the run began with, by no less than the bids that a phase may
 -- take, each of which has raised one; or somebody's bid, at an eps of a phase, would be more than the greatest price.
 abbrev pub IsLimit : FlatTable → ℕ → ℤ → Reason → List ℤ → Type 0
 IsLimit r bids begun Reason.Bids prices = HaveRunOut r bids prices × ((begun +ℤ pos bids) ≤ℤ total prices)
-IsLimit r bids begun Reason.Ceiling prices = (eps : ℤ) × IsEps eps × IsAbove r eps prices
+IsLimit r bids begun Reason.Ceiling prices = (eps : ℤ) × IsEpsOf r eps × IsAbove r eps prices
 IsLimit r bids begun Reason.Posts prices = ⊥
 IsLimit r bids begun Reason.Trail prices = ⊥
 IsLimit r bids begun Reason.Mail prices = ⊥
-
--- whoever had an object, or began the chain, has one; or the bids have run out; or a bid would be too high
-abbrev pub IsChain : FlatTable → ℤ → ℕ → ℕ → Chain → List ShortArc → List ℤ → List ShortArc → Type 0
-IsChain r eps first left Chain.Placed owns prices new = (n : ℕ) → n ≤ length r.rows → HaveAllBut n owns first NOBODY → HaveObjects n new
-IsChain r eps first left Chain.Bids owns prices new = left ≡ 0
-IsChain r eps first left Chain.Ceiling owns prices new = IsAbove r eps prices
-
--- the first n persons have objects, but for one who waits; or as above
-abbrev pub AreServed : FlatTable → ℤ → ℕ → ℕ → ℕ → Chain → List ℤ → List ShortArc → Type 0
-AreServed r eps n left waits Chain.Placed prices owns = (waits < length r.rows) × HaveAllBut n owns NOBODY waits
-AreServed r eps n left waits Chain.Bids prices owns = left ≡ 0
-AreServed r eps n left waits Chain.Ceiling prices owns = IsAbove r eps prices
-
--- all persons have objects; or as above
-abbrev pub AreSold : FlatTable → ℤ → ℕ → Chain → List ℤ → List ShortArc → Type 0
-AreSold r eps left Chain.Placed prices owns = HaveObjects (length r.rows) owns
-AreSold r eps left Chain.Bids prices owns = left ≡ 0
-AreSold r eps left Chain.Ceiling prices owns = IsAbove r eps prices
 
 -- each person has an object; or a limit has stopped the phase
 abbrev pub IsEnding : FlatTable → ℕ → ℤ → Ending → List ℤ → List ShortArc → Type 0

@@ -5,7 +5,7 @@ use Rattle.auc_graph.specs.Problem.{Problem}
 use Rattle.auc_letters.specs.declared.state.Held.{Held}
 use Rattle.auc_answers.specs.Claims.{holder_at as held_at}
 use Rattle.auc_rows.specs.declared.arc.ShortArc.{ShortArc}
-use Rattle.auc_direct.specs.declared.market.TheConstants.{NOBODY}
+use Rattle.auc_direct.specs.declared.holdings.TheConstants.{NOBODY}
 use Rattle.auc_direct.specs.Market.{holder_at, own_at}
 
 -- the arc of a person for which one of his row stands

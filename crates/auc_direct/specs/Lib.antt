@@ -1,5 +1,6 @@
 pub mod Scan
 pub mod Bid
+pub mod Eps
 pub mod Bids
 pub mod Phases
 pub mod Market
@@ -8,6 +9,7 @@ pub mod Starts
 pub mod Way
 pub mod Adopted
 pub mod Endings
+pub mod Position
 pub mod Held
 pub mod Path
 pub mod Refine

@@ -6,7 +6,7 @@ use Rattle.auc_graph.specs.Problem.{Problem}
 use Rattle.auc_graph.specs.Price.{IsPrice}
 use Rattle.auc_rows.specs.declared.arc.ShortArc.{ShortArc}
 use Rattle.auc_rows.specs.Rows.{FlatTable, flat_row_of, scale_in, short_row}
-use Rattle.auc_direct.specs.declared.market.TheConstants.{NOBODY}
+use Rattle.auc_direct.specs.declared.holdings.TheConstants.{NOBODY}
 use Rattle.auc_direct.specs.Bid.{IsOffer}
 use Rattle.auc_direct.specs.Scan.{short_value}
 

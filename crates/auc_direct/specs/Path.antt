@@ -10,7 +10,7 @@ use Rattle.auc_answers.specs.Claims.{holder_at}
 use Rattle.auc_rows.specs.Rows.{FlatTable, IsShort, flat_row_of, scale_in}
 use Rattle.auc_rows.specs.declared.arc.ShortArc.{ShortArc}
 use Rattle.auc_direct.specs.declared.label.Label.{Label}
-use Rattle.auc_direct.specs.declared.market.TheConstants.{NOBODY}
+use Rattle.auc_direct.specs.declared.holdings.TheConstants.{NOBODY}
 use Rattle.auc_direct.specs.Market.{holder_at as seat_at, own_at}
 use Rattle.auc_direct.specs.Scan.{short_value}
 

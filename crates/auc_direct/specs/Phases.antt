@@ -1,17 +1,17 @@
 -- The phases of a run, one after another, and what is done between them.
 use Rattle.std.specs.Prelude.{ℕ, ℤ, pos, ◌≡◌, ◌≤ℤ◌, List, length}
 use Rattle.auc_graph.specs.Assignment.{total}
-use Rattle.auc_letters.specs.Price.{IsEps}
 use Rattle.auc_rows.specs.Rows.{FlatTable}
-use Rattle.auc_direct.specs.declared.market.TheConstants.{NOBODY}
+use Rattle.auc_direct.specs.declared.holdings.TheConstants.{NOBODY}
 use Rattle.auc_direct.specs.Adopted.{IsFullTable}
 use Rattle.auc_direct.specs.Bids.{AreMadeWithin, State}
+use Rattle.auc_direct.specs.Eps.{IsEpsOf}
 use Rattle.auc_direct.specs.Market.{HaveObjects, Stands, own_at}
 
 -- a phase of at most so many bids, whole or in part
 pub record IsPhase (r : FlatTable) (bids : ℕ) (s t : State) : Type 0 where
   pub eps : ℤ
-  pub is_eps : IsEps eps
+  pub is_eps : IsEpsOf r eps
   pub stands : Stands r eps s.prices s.holders s.owns
   pub made : AreMadeWithin r eps bids s t
 

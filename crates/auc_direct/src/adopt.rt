@@ -2,7 +2,7 @@
 
 ghost use Rattle.std.specs.Prelude.{ℕ, ◌≡◌, ◌≢◌, ◌<◌, pos, length, IfOk, IfSome};
 ghost use Rattle.auc_rows.specs.Rows.{IsFlatTable};
-ghost use Rattle.auc_direct.specs.declared.market.TheConstants.{NOBODY};
+ghost use Rattle.auc_direct.specs.declared.holdings.TheConstants.{NOBODY};
 ghost use Rattle.auc_direct.specs.Adopted.{IsFullTable};
 ghost use Rattle.auc_direct.specs.Market.{HaveObjects, Stands, own_at};
 ghost use Rattle.auc_direct.specs.Starts.{ArePricesOf, AreSeated};
@@ -10,7 +10,7 @@ ghost use Rattle.auc_direct.specs.Starts.{ArePricesOf, AreSeated};
 use crate::bid::Bid;
 use crate::eps::LAST_EPS;
 use crate::from_start::prices_before;
-use crate::market::{Market, NOBODY};
+use crate::holdings::{Holdings, NOBODY};
 use crate::slack::is_slack;
 use auc_rows::FlatRows;
 use auc_table::{Proposal, Table, propose};
@@ -59,7 +59,7 @@ fn scaled_prices(rows: &FlatRows, mut prices: Vec<i64>) -> Option<Vec<i64>>
     Some(prices)
 }
 
-impl Market {
+impl Holdings {
     /// A person takes the object that is proposed for him, at the price that is. Not where somebody has it, or where another one is better for him by more than the last eps.
     fn take(&mut self, rows: &FlatRows, start: &[i64], person: u32, object: u32)
         requires person { person < length rows.now.rows }
@@ -86,8 +86,8 @@ impl Market {
     }
 }
 
-/// The market of a proposal, where each person takes his object at its prices, and nobody is left out. What nobody takes must have no price where there are more objects than persons.
-fn tried(alloc: Global, rows: &FlatRows, proposal: Proposal) -> Result<Option<Market>, AllocError>
+/// The holdings of a proposal, where each person takes his object at its prices, and nobody is left out. What nobody takes must have no price where there are more objects than persons.
+fn tried(alloc: Global, rows: &FlatRows, proposal: Proposal) -> Result<Option<Holdings>, AllocError>
     ensures stands { IfOk result (λ o. IfSome o (λ m. Stands rows.now (pos 1) m.prices.items m.holders.items m.owns.items)) }
     ensures have { IfOk result (λ o. IfSome o (λ m. HaveObjects (length rows.now.rows) m.owns.items)) }
 {
@@ -104,18 +104,18 @@ fn tried(alloc: Global, rows: &FlatRows, proposal: Proposal) -> Result<Option<Ma
         return Ok(None);
     }
     let before = prices_before(alloc, rows, start.as_slice())?;
-    let mut market = Market::new(alloc, persons, before)?;
+    let mut holdings = Holdings::new(alloc, persons, before)?;
     for person in 0..persons {
-        market.take(rows, start.as_slice(), person, objects[person as usize]);
+        holdings.take(rows, start.as_slice(), person, objects[person as usize]);
     }
-    if !market.all_have() {
+    if !holdings.all_have() {
         return Ok(None);
     }
     // Prices that nobody has paid stayed at 0 where there are more objects than persons.
-    if market.prices.as_slice() != start.as_slice() {
+    if holdings.prices.as_slice() != start.as_slice() {
         return Ok(None);
     }
-    Ok(Some(market))
+    Ok(Some(holdings))
 }
 
 /// Solves a full table by a search that may look at so many costs, and tries what it proposes. None where the rows aren't a full table, or where that doesn't show a least assignment.
@@ -128,7 +128,7 @@ pub(crate) fn adopted(
     alloc: Global,
     rows: &FlatRows,
     looks: u64,
-) -> Result<Option<Market>, AllocError>
+) -> Result<Option<Holdings>, AllocError>
     ensures stands { IfOk result (λ o. IfSome o (λ m. Stands rows.now (pos 1) m.prices.items m.holders.items m.owns.items)) }
     ensures have { IfOk result (λ o. IfSome o (λ m. HaveObjects (length rows.now.rows) m.owns.items)) }
     ensures full { IfOk result (λ o. IfSome o (λ m. IsFullTable rows.now)) }

@@ -32,7 +32,7 @@ impl Bid {
 
 /// The spread of the costs, scaled.
 #[inline(always)]
-fn scaled(scale: i64, spread: i64) -> i64
+pub(crate) fn scaled(scale: i64, spread: i64) -> i64
     requires scale_low { pos 1 ≤ℤ scale }
     requires scale_high { scale ≤ℤ pos 10001 }
     requires spread_low { pos 0 ≤ℤ spread }

@@ -1,23 +1,15 @@
-//! A chain of bids: whoever is displaced bids next; where that goes far, he goes by a path.
+//! A chain of bids: whoever is displaced bids next; where that goes far, a path is looked for.
 
-ghost use Rattle.std.specs.Prelude.{◌≡◌, ◌≢◌, ◌<◌, ◌≤◌, pos, ◌+ℤ◌, ◌≤ℤ◌, length, IfErr, IfOk, IfSome, IfNone, OnOk};
-ghost use Rattle.auc_graph.specs.Assignment.{total};
-ghost use Rattle.auc_letters.specs.Price.{IsEps};
-ghost use Rattle.auc_rows.specs.Rows.{EachHasArc, IsFlatTable, scale_in};
-ghost use Rattle.auc_direct.specs.Bids.{IsBidMade, AreSpent, state_of};
-ghost use Rattle.auc_direct.specs.Endings.{IsChain};
+ghost use Rattle.std.specs.Prelude.{◌≡◌, IfErr, IfOk, OnOk};
+ghost use Rattle.auc_direct.specs.declared.holdings.TheConstants.{NOBODY};
 ghost use Rattle.auc_direct.specs.Halts.{IsHalt};
-ghost use Rattle.auc_direct.specs.Market.{IsAwarded, IsTooHigh, Stands, own_at};
-ghost use Rattle.auc_direct.specs.Shortlist.{Kept};
-ghost use Rattle.auc_direct.specs.Way.{IsWay};
+ghost use Rattle.auc_direct.specs.Position.{IsChain, IsFree, IsFreed, IsMove, Spends};
 
-use crate::bid::bid_of;
 use crate::ending::Chain;
 use crate::halt::Halt;
-use crate::lists::Lists;
-use crate::market::{Market, NOBODY};
-use crate::workspace::Workspace;
-use auc_rows::FlatRows;
+use crate::holdings::NOBODY;
+use crate::market::Market;
+use crate::pace::Pace;
 
 /// How many bids were left where a chain ended last, after one more bid.
 ///
@@ -30,113 +22,60 @@ fn ended_at(ended: u64, left: u64, displaced: u32) -> u64
     if displaced == NOBODY { left } else { ended }
 }
 
-impl Market {
-    /// A person bids, and has the object; gives who has held it. None where the bid would be above the greatest price.
-    #[inline(always)]
-    pub(crate) fn step(
-        &mut self,
-        rows: &FlatRows,
-        scale: i64,
-        spread: i64,
-        eps: i64,
-        person: u32,
-        lists: &mut Lists,
-    ) -> Option<u32>
-        requires person { person < length rows.now.rows }
-        requires arcs { EachHasArc rows.now }
-        requires scale { scale ≡ scale_in rows.now }
-        requires spread { spread ≡ rows.now.spread }
-        requires eps { IsEps eps }
-        requires stands { Stands rows.now eps self.old.prices.items self.old.holders.items self.old.owns.items }
-        requires none { (own_at self.old.owns.items person).object ≡ NOBODY }
-        requires kept { Kept rows.now self.old.prices.items lists.old.lists.items }
-        ensures awarded { IfSome result (IsAwarded rows.now eps person self.old.prices.items self.new.prices.items self.new.holders.items self.old.owns.items self.new.owns.items) }
-        ensures made { IfSome result (λ d. IsBidMade rows.now eps (state_of self.old) (state_of self.new)) }
-        ensures high { IfNone result (IsTooHigh rows.now eps self.old.prices.items self.new.prices.items self.old.holders.items self.new.holders.items self.old.owns.items self.new.owns.items) }
-        ensures kept { Kept rows.now self.new.prices.items lists.new.lists.items }
-    {
-        let prices = self.prices.as_slice();
-        let best = lists.best(rows, scale, person, prices);
-        let bid = bid_of(scale, spread, eps, rows.row(person), best, prices);
-        if bid.is_too_high() {
-            return None;
-        }
-        Some(self.award(person, bid))
-    }
-
-    /// Who is free after a bid, with so many left: whom it has displaced, or, where the last `work.patience` bids have each displaced somebody, who is free after he has looked for a path, which is no bid.
+impl<'a> Market<'a> {
+    /// Who is free after a bid, with so many left: the displaced person, or, where the last `pace.patience` bids have each displaced somebody, whoever is free after a search for a path, which is no bid.
     /// NOBODY where nobody is.
     #[inline(always)]
     pub(crate) fn freed_by(
         &mut self,
-        rows: &FlatRows,
-        eps: i64,
         displaced: u32,
         left: u64,
         ended: &mut u64,
-        work: &mut Workspace,
+        pace: &mut Pace,
     ) -> Result<u32, Halt>
-        requires below { displaced ≢ NOBODY → displaced < length rows.now.rows }
-        requires arcs { EachHasArc rows.now }
-        requires eps { IsEps eps }
-        requires sound { IsFlatTable rows.now }
-        requires stands { Stands rows.now eps self.old.prices.items self.old.holders.items self.old.owns.items }
-        requires none { (own_at self.old.owns.items displaced).object ≡ NOBODY }
-        requires kept { Kept rows.now self.old.prices.items work.old.lists.lists.items }
-        ensures way { IfOk result (IsWay rows.now eps displaced self.old.prices.items self.new.prices.items self.new.holders.items self.old.owns.items self.new.owns.items) }
-        ensures kept { OnOk result (Kept rows.now self.new.prices.items work.new.lists.lists.items) }
-        ensures halt { IfErr result (IsHalt rows.now) }
+        requires { IsFreed self.old displaced }
+        ensures moved { IfOk result (IsMove displaced self.old self.new) }
+        ensures halt { IfErr result (IsHalt self.old.table) }
     {
+        self.law();
         *ended = ended_at(*ended, left, displaced);
         // None is asked for where nobody was displaced: the chain has ended here then.
-        if ended.saturating_sub(left) <= work.patience.saturating_sub(1) {
+        if ended.saturating_sub(left) <= pace.patience.saturating_sub(1) {
             return Ok(displaced);
         }
         *ended = left;
-        self.find_way(rows, eps, displaced, work)
+        let way = self.path(displaced)?;
+        pace.learn(way.looked);
+        Ok(way.free)
     }
 
-    /// A person bids, then whom he displaces, and so on, until nobody is displaced. `left` is how many bids the phase may still make. After each `work.patience` bids the one
-    /// who is displaced looks for a path.
+    /// A person bids, then whoever is displaced, and so on, until nobody is. `left` is how many bids the phase may still make. After each `pace.patience` bids a path is looked for.
     pub(crate) fn chain(
         &mut self,
-        rows: &FlatRows,
-        eps: i64,
         first: u32,
         left: &mut u64,
-        work: &mut Workspace,
+        pace: &mut Pace,
     ) -> Result<Chain, Halt>
-        requires first { first < length rows.now.rows }
-        requires arcs { EachHasArc rows.now }
-        requires eps { IsEps eps }
-        requires stands { Stands rows.now eps self.old.prices.items self.old.holders.items self.old.owns.items }
-        requires none { (own_at self.old.owns.items first).object ≡ NOBODY }
-        requires kept { Kept rows.now self.old.prices.items work.old.lists.lists.items }
-        ensures stands { OnOk result (Stands rows.now eps self.new.prices.items self.new.holders.items self.new.owns.items) }
-        ensures chain { IfOk result (λ c. IsChain rows.now eps first left.new c self.old.owns.items self.new.prices.items self.new.owns.items) }
-        ensures raised { OnOk result ((total self.old.prices.items +ℤ pos left.old) ≤ℤ (total self.new.prices.items +ℤ pos left.new)) }
-        ensures fewer { OnOk result (left.new ≤ left.old) }
-        ensures made { OnOk result (AreSpent rows.now eps left.old left.new (state_of self.old) (state_of self.new)) }
-        ensures kept { OnOk result (Kept rows.now self.new.prices.items work.new.lists.lists.items) }
-        ensures halt { IfErr result (IsHalt rows.now) }
+        requires { IsFree self.old first }
+        ensures spends { OnOk result (Spends left.old left.new self.old self.new) }
+        ensures chain { IfOk result (λ c. IsChain first left.new c self.old self.new) }
+        ensures halt { IfErr result (IsHalt self.old.table) }
     {
-        let scale = rows.scale();
-        let spread = rows.spread();
+        self.law();
         let mut person = first;
-        let mut ended = left.saturating_add(work.walked);
+        let mut ended = left.saturating_add(pace.walked);
         while *left > 0 {
-            let lists = &mut work.lists;
-            let Some(displaced) = self.step(rows, scale, spread, eps, person, lists) else {
+            let Some(displaced) = self.bid(person) else {
                 return Ok(Chain::Ceiling);
             };
             *left -= 1;
-            person = self.freed_by(rows, eps, displaced, *left, &mut ended, work)?;
+            person = self.freed_by(displaced, *left, &mut ended, pace)?;
             if person == NOBODY {
-                work.walked = 0;
+                pace.walked = 0;
                 return Ok(Chain::Placed);
             }
         }
-        work.walked = ended.saturating_sub(*left);
+        pace.walked = ended.saturating_sub(*left);
         Ok(Chain::Bids)
     }
 }

@@ -2,9 +2,10 @@
 
 ghost use Rattle.std.specs.Prelude.{◌≡◌, pos, ◌<ℤ◌, ◌≤ℤ◌, length, All, IfSome, IfNone};
 ghost use Rattle.auc_graph.specs.Price.{IsPrice};
-ghost use Rattle.auc_letters.specs.Price.{IsEps};
 ghost use Rattle.auc_rows.specs.Rows.{IsShort};
+ghost use Rattle.auc_direct.specs.Eps.{IsEpsOf};
 
+use crate::bid::scaled;
 use crate::scan::value_of;
 use crate::tuning::{SAMPLE, STEP};
 use auc_rows::{FlatRows, ShortArc};
@@ -14,9 +15,6 @@ pub(crate) const LAST_EPS: i64 = 1;
 
 /// The most arcs that a row is taken to have: as many as there may be objects.
 const MOST_PARTS: usize = 20_000;
-
-/// The greatest eps.
-const MOST_EPS: i64 = 1_152_921_504_606_846_976;
 
 /// By how much the values of a row differ at most, at these prices.
 fn row_spread(scale: i64, row: &[ShortArc], prices: &[i64]) -> i64
@@ -80,33 +78,36 @@ fn root_of(number: i64) -> i64
 
 /// The mean spread of a row by the mean number of its arcs, and at least 1: where costs are drawn at random, how much neighbours differ.
 pub(crate) fn fine_eps(rows: &FlatRows, spread: i64) -> i64
-    requires { IsEps spread }
-    ensures { IsEps result }
+    requires { IsEpsOf rows.now spread }
+    ensures { IsEpsOf rows.now result }
 {
     (spread / mean_arcs(rows)).max(LAST_EPS)
 }
 
 /// The mean spread of a row by the root of that number, and at least 1: where the other one was too fine.
 pub(crate) fn coarse_eps(rows: &FlatRows, spread: i64) -> i64
-    requires { IsEps spread }
-    ensures { IsEps result }
+    requires { IsEpsOf rows.now spread }
+    ensures { IsEpsOf rows.now result }
 {
     (spread / root_of(mean_arcs(rows))).max(LAST_EPS)
 }
 
-/// The mean spread of a row at these prices, and at least 1.
+/// The mean spread of a row at these prices: at least 1, and no more than the scaled spread of all costs.
 pub(crate) fn spread_of(rows: &FlatRows, prices: &[i64]) -> i64
     requires many { length prices.now ≡ rows.now.objects }
     requires prices { All IsPrice prices.now }
-    ensures { IsEps result }
+    ensures { IsEpsOf rows.now result }
 {
-    mean_spread(rows, prices).clamp(LAST_EPS, MOST_EPS)
+    let most = scaled(rows.scale(), rows.spread());
+    mean_spread(rows, prices)
+        .min(most)
+        .max(LAST_EPS)
 }
 
 /// An eighth of the last eps, and at least 1; none after 1.
 pub(crate) fn next_eps(eps: i64) -> Option<i64>
-    requires { IsEps eps }
-    ensures range { IfSome result IsEps }
+    requires { pos 1 ≤ℤ eps }
+    ensures low { IfSome result (λ next. pos 1 ≤ℤ next) }
     ensures less { IfSome result (λ next. next <ℤ eps) }
     ensures last { IfNone result (eps ≡ pos 1) }
 {

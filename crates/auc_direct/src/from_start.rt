@@ -1,4 +1,4 @@
-//! The market that a run from start prices begins with.
+//! The holdings that a run from start prices begins with.
 
 ghost use Rattle.std.specs.Prelude.{◌≡◌, pos, length, IfOk};
 ghost use Rattle.auc_rows.specs.Rows.{EachHasArc};
@@ -7,7 +7,7 @@ ghost use Rattle.auc_direct.specs.Market.{Stands};
 ghost use Rattle.auc_direct.specs.Starts.{AreKept, AreOpened, ArePricesOf};
 
 use crate::eps::LAST_EPS;
-use crate::market::Market;
+use crate::holdings::Holdings;
 use auc_rows::FlatRows;
 use std::alloc::{AllocError, Global};
 
@@ -30,19 +30,19 @@ pub(crate) fn prices_before(
     Ok(none)
 }
 
-/// A market at the prices that the run begins with, in which persons hold what they keep at the start prices.
+/// A holdings at the prices that the run begins with, in which persons hold what they keep at the start prices.
 pub(crate) fn market_from(
     alloc: Global,
     rows: &FlatRows,
     start: &[i64],
-) -> Result<Market, AllocError>
+) -> Result<Holdings, AllocError>
     requires arcs { EachHasArc rows.now }
     requires start { ArePricesOf rows.now start.now }
     ensures stands { IfOk result (λ m. Stands rows.now (pos 1) m.prices.items m.holders.items m.owns.items) }
     ensures opened { IfOk result (λ m. AreOpened rows.now.objects (length rows.now.rows) start.now m.prices.items) }
 {
     let prices = prices_before(alloc, rows, start)?;
-    let mut market = Market::new(alloc, rows.persons(), prices)?;
-    market.open_at(rows, LAST_EPS, start);
-    Ok(market)
+    let mut holdings = Holdings::new(alloc, rows.persons(), prices)?;
+    holdings.open_at(rows, LAST_EPS, start);
+    Ok(holdings)
 }

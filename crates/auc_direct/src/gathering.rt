@@ -4,7 +4,7 @@ ghost use Rattle.std.specs.Prelude.{ℕ, true, false, ◌≡◌, ◌<◌, length
 ghost use Rattle.auc_direct.specs.Held.{AreHeld, AreHolders, AreListed, arc_by};
 ghost use Rattle.auc_direct.specs.Market.{own_at};
 
-use crate::market::Market;
+use crate::holdings::Holdings;
 use auc_answers::Gathered;
 use auc_graph::{Arc, ArcList};
 use auc_letters::Held;
@@ -36,22 +36,22 @@ fn guessed(
     alloc: Global,
     problem: &ArcList,
     rows: &FlatRows,
-    market: &Market,
+    holdings: &Holdings,
 ) -> Result<Option<Vec<Option<Held>>>, AllocError>
     requires persons { length rows.now.rows ≡ problem.now.persons }
-    requires holders { AreHolders problem.now market.now.holders.items market.now.owns.items }
-    ensures held { IfOk result (λ o. IfSome o (λ v. AreHeld problem.now market.now.holders.items market.now.owns.items v.items)) }
-    ensures many { IfOk result (λ o. IfSome o (λ v. length v.items ≡ length market.now.holders.items)) }
+    requires holders { AreHolders problem.now holdings.now.holders.items holdings.now.owns.items }
+    ensures held { IfOk result (λ o. IfSome o (λ v. AreHeld problem.now holdings.now.holders.items holdings.now.owns.items v.items)) }
+    ensures many { IfOk result (λ o. IfSome o (λ v. length v.items ≡ length holdings.now.holders.items)) }
 {
     let arcs = problem.arcs();
-    let mut holders = vec![in alloc; None; market.holders.len()]?;
+    let mut holders = vec![in alloc; None; holdings.holders.len()]?;
     for person in 0..rows.persons() {
-        let object = market.owns[person as usize].object;
+        let object = holdings.owns[person as usize].object;
         let place = place_of(rows, person, object);
         let Some(arc) = arcs.get(place) else {
             return Ok(None);
         };
-        if arc.person != person || !is_own(market.owns.as_slice(), arc) {
+        if arc.person != person || !is_own(holdings.owns.as_slice(), arc) {
             return Ok(None);
         }
         holders[arc.object as usize] = Some(Held {
@@ -66,16 +66,16 @@ fn guessed(
 fn passed(
     alloc: Global,
     problem: &ArcList,
-    market: &Market,
+    holdings: &Holdings,
 ) -> Result<Vec<Option<Held>>, AllocError>
-    requires holders { AreHolders problem.now market.now.holders.items market.now.owns.items }
-    requires listed { AreListed problem.now market.now.holders.items market.now.owns.items }
-    ensures held { IfOk result (λ v. AreHeld problem.now market.now.holders.items market.now.owns.items v.items) }
-    ensures many { IfOk result (λ v. length v.items ≡ length market.now.holders.items) }
+    requires holders { AreHolders problem.now holdings.now.holders.items holdings.now.owns.items }
+    requires listed { AreListed problem.now holdings.now.holders.items holdings.now.owns.items }
+    ensures held { IfOk result (λ v. AreHeld problem.now holdings.now.holders.items holdings.now.owns.items v.items) }
+    ensures many { IfOk result (λ v. length v.items ≡ length holdings.now.holders.items) }
 {
-    let mut holders = vec![in alloc; None; market.holders.len()]?;
+    let mut holders = vec![in alloc; None; holdings.holders.len()]?;
     for (place, arc) in problem.arcs().iter().enumerate() {
-        if is_own(market.owns.as_slice(), arc) {
+        if is_own(holdings.owns.as_slice(), arc) {
             holders[arc.object as usize] = Some(Held {
                 person: arc.person,
                 arc: place as u32,
@@ -94,20 +94,20 @@ pub(crate) fn gather(
     alloc: Global,
     problem: &ArcList,
     rows: &FlatRows,
-    market: Market,
+    holdings: Holdings,
 ) -> Result<Gathered, AllocError>
     requires persons { length rows.now.rows ≡ problem.now.persons }
-    requires holders { AreHolders problem.now market.holders.items market.owns.items }
-    requires listed { AreListed problem.now market.holders.items market.owns.items }
-    ensures held { IfOk result (λ g. AreHeld problem.now market.holders.items market.owns.items g.holders.items) }
-    ensures many { IfOk result (λ g. length g.holders.items ≡ length market.holders.items) }
-    ensures prices { IfOk result (λ g. g.prices.items ≡ market.prices.items) }
+    requires holders { AreHolders problem.now holdings.holders.items holdings.owns.items }
+    requires listed { AreListed problem.now holdings.holders.items holdings.owns.items }
+    ensures held { IfOk result (λ g. AreHeld problem.now holdings.holders.items holdings.owns.items g.holders.items) }
+    ensures many { IfOk result (λ g. length g.holders.items ≡ length holdings.holders.items) }
+    ensures prices { IfOk result (λ g. g.prices.items ≡ holdings.prices.items) }
 {
-    let guessed = guessed(alloc, problem, rows, &market)?;
+    let guessed = guessed(alloc, problem, rows, &holdings)?;
     let holders = match guessed {
         Some(holders) => holders,
-        None => passed(alloc, problem, &market)?,
+        None => passed(alloc, problem, &holdings)?,
     };
-    let Market { prices, .. } = market;
+    let Holdings { prices, .. } = holdings;
     Ok(Gathered { holders, prices })
 }

@@ -6,7 +6,7 @@ ghost use Rattle.auc_rows.specs.Rows.{IsShort};
 ghost use Rattle.auc_direct.specs.Path.{AreOwns, IsAsNear, IsNoNearer, own_value};
 ghost use Rattle.auc_direct.specs.Scan.{IsValue, short_value};
 
-use crate::market::NOBODY;
+use crate::holdings::NOBODY;
 use crate::scan::value_of;
 use auc_rows::{FlatRows, ShortArc};
 

@@ -2,8 +2,10 @@
 //!
 //! [`solve_direct`] answers as `auc_world::solve_serial` does, with no shards, letters or mails: by certificates in which the checker finds no fault.
 //!
-//! `market.rt` has the prices, who holds each object and by which arc; `chain.rt`, `turns.rt` and `phase.rt` bid; `way.rt` and `path.rt` go by paths; `refine.rt` refines prices; `adopt.rt` takes what the search of a
-//! full table proposes. `run.rt` is the loop over phases; `rules.rt` and `tuning.rt` choose them, and no answer depends on these two.
+//! The kernel: `market.rt` has all moves, and what always holds, on one type; below it are `holdings.rt` (prices, holders, arcs), `step.rt` (a bid), `path.rt` (an augmenting path) and `refine.rt` (price refinement).
+//!
+//! The strategy: `chain.rt`, `turns.rt`, `phase.rt` and `run.rt` make moves; `rules.rt`, `pace.rt` and `tuning.rt` choose which, and no answer depends on these three. `starts.rt` seats persons at start prices, and
+//! `adopt.rt` those of a full table as a search over it proposes.
 #![tactic(auto)]
 
 mod adopt;
@@ -16,10 +18,12 @@ mod from_start;
 mod gathering;
 mod hall;
 mod halt;
+mod holdings;
 mod hop;
 mod label;
 mod lists;
 mod market;
+mod pace;
 mod path;
 mod paths;
 mod phase;
@@ -34,13 +38,13 @@ mod shortlist;
 mod slack;
 mod solving;
 mod starts;
+mod step;
 mod tuning;
 mod turns;
 mod walk;
 mod watch;
 mod way;
 mod wipe;
-mod workspace;
 
 pub use solving::{
     DirectLimits, solve_direct, solve_direct_from, solve_direct_watched, solve_direct_watched_from,

@@ -1,111 +1,199 @@
-//! The state of a phase: the prices, who holds each object, and by which arc each person holds his.
+//! The market: rows, eps, prices and who holds what, and all moves that change them. What always holds of it is said here, once, on its type:
+//!
+//! 1. Each object has one price and one place for a holder, and each person has one place for an arc.
+//! 2. A price is from 0 to 2^61.
+//! 3. The holder of an object holds that object.
+//! 4. A person who holds an object is its holder, so no object is held twice.
+//! 5. A person holds by an arc of his row.
+//! 6. Epsilon-complementary slackness: no other arc of that row has a reduced cost that is lower by more than eps.
+//! 7. Where there are more objects than persons, an object that nobody holds has price 0.
+//! 8. Eps is from 1 to the scaled spread of the costs, or 1; and each person has an arc.
+//! 9. Each candidate list is right: no arc that it leaves out is worth less than its bound.
+//!
+//! A move takes the market from one such position to another: [`Market::bid`] (a bid is an award, as in Gauss-Seidel), [`Market::path`] (a shortest augmenting path, or the Hall violator that it has reached),
+//! [`Market::refine`] (price refinement) and [`Market::open`] (the next eps). When each is made is strategy, and no answer depends on it. Starts are seated before there is a market (`starts.rt`, `adopt.rt`).
 
-ghost use Rattle.std.specs.Prelude.{◌≡◌, ◌≢◌, ◌<◌, pos, length, replicate, set, IfOk};
-ghost use Rattle.auc_direct.specs.Market.{holder_at, no_own, own_at};
+ghost use Rattle.std.specs.Prelude.{true, ◌≡◌, ◌≢◌, ◌≤◌, ◌<◌, ℕ, pos, length, IfErr, IfNone, IfOk, IfSome, OnOk};
+ghost use Rattle.auc_rows.specs.Rows.{EachHasArc};
+ghost use Rattle.auc_direct.specs.declared.holdings.TheConstants.{NOBODY};
+ghost use Rattle.auc_direct.specs.Eps.{IsEpsOf};
+ghost use Rattle.auc_direct.specs.Halts.{IsHalt};
+ghost use Rattle.auc_direct.specs.Market.{IsAbove, Stands, own_at};
+ghost use Rattle.auc_direct.specs.Position.{IsBegun, IsBid, IsFree, IsMove, IsRefinedWhole, IsRefinement, Law, position};
 
-use crate::bid::Bid;
-use auc_rows::ShortArc;
+use crate::eps::{LAST_EPS, spread_of};
+use crate::halt::Halt;
+use crate::holdings::{Holdings, NOBODY};
+use crate::lists::Lists;
+use crate::paths::Paths;
+use crate::way::Way;
+use auc_rows::FlatRows;
 use std::alloc::{AllocError, Global};
+use std::marker::Model;
 
-/// Stands for the holder of an object that nobody holds, and for the object of a person who holds none.
-pub(crate) const NOBODY: u32 = 4_294_967_295;
-
-/// Stands for the arc of a person who holds no object.
-pub(crate) const NO_OWN: ShortArc = ShortArc {
-    object: NOBODY,
-    cost: 0,
-};
-
-/// Prices in scaled costs and holders, both indexed by object, and the arcs by which persons hold, indexed by person.
+/// The rows; eps, in scaled costs; prices, holders and arcs; candidate lists; and room for searches.
 #[derive(Drop)]
-pub(crate) struct Market {
-    pub(crate) prices: Vec<i64>,
-    pub(crate) holders: Vec<u32>,
-    pub(crate) owns: Vec<ShortArc>,
+pub(crate) struct Market<'a> {
+    alloc: Global,
+    rows: &'a FlatRows,
+    eps: i64,
+    holdings: Holdings,
+    lists: Lists,
+    paths: Paths,
 }
 
-impl Market {
-    /// At these prices nobody holds anything.
-    pub(crate) fn new(alloc: Global, persons: u32, prices: Vec<i64>) -> Result<Market, AllocError>
-        ensures prices { IfOk result (λ m. m.prices.items ≡ prices.items) }
-        ensures holders { IfOk result (λ m. m.holders.items ≡ replicate (length prices.items) NOBODY) }
-        ensures owns { IfOk result (λ m. m.owns.items ≡ replicate persons no_own) }
+impl<'a> Model for Market<'a> {
+    ghost use Rattle.auc_direct.specs.Position.{IsMarket, Position};
+
+    ghost Value = { Position };
+
+    ghost view = { λ m. record { table = m.rows.now; eps = m.eps; prices = m.holdings.prices.items; holders = m.holdings.holders.items; owns = m.holdings.owns.items } };
+
+    ghost invariant = { λ m. IsMarket (record { table = m.rows.now; eps = m.eps; prices = m.holdings.prices.items; holders = m.holdings.holders.items; owns = m.holdings.owns.items }) m.lists.lists.items };
+}
+
+impl<'a> Market<'a> {
+    /// The market in which persons hold this, at the last eps.
+    pub(crate) fn new(
+        alloc: Global,
+        rows: &'a FlatRows,
+        holdings: Holdings,
+    ) -> Result<Market<'a>, AllocError>
+        requires arcs { EachHasArc rows.now }
+        requires stands { Stands rows.now (pos 1) holdings.prices.items holdings.holders.items holdings.owns.items }
+        ensures { IfOk result (λ m. m ≡ position rows.now (pos 1) holdings.prices.items holdings.holders.items holdings.owns.items) }
     {
-        let holders = vec![in alloc; NOBODY; prices.len()]?;
-        let owns = vec![in alloc; NO_OWN; persons as usize]?;
+        // Read here, so that the proof knows what all rows keep.
+        let _ = rows.persons();
+        let lists = Lists::new(alloc, rows)?;
         Ok(Market {
-            prices,
-            holders,
-            owns,
+            alloc,
+            rows,
+            eps: LAST_EPS,
+            holdings,
+            lists,
+            paths: Paths::new(alloc),
         })
     }
 
-    /// Nobody holds anything any more, and the prices stay.
-    pub(crate) fn open(&mut self)
-        ensures prices { self.new.prices.items ≡ self.old.prices.items }
-        ensures holders { self.new.holders.items ≡ replicate (length self.old.holders.items) NOBODY }
-        ensures owns { self.new.owns.items ≡ replicate (length self.old.owns.items) no_own }
-    {
-        for object in 0..self.holders.len() {
-            self.holders[object] = NOBODY;
-        }
-        for person in 0..self.owns.len() {
-            self.owns[person] = NO_OWN;
-        }
-    }
-
-    /// Nobody holds anything any more, and nothing has a price.
-    pub(crate) fn empty(&mut self)
-        ensures prices { self.new.prices.items ≡ replicate (length self.old.prices.items) (pos 0) }
-        ensures holders { self.new.holders.items ≡ replicate (length self.old.holders.items) NOBODY }
-        ensures owns { self.new.owns.items ≡ replicate (length self.old.owns.items) no_own }
-    {
-        for object in 0..self.prices.len() {
-            self.prices[object] = 0;
-        }
-        self.open();
-    }
-
-    /// A person leaves his object, which has no price then.
-    pub(crate) fn leave(&mut self, person: u32)
-        requires person { person < length self.old.owns.items }
-        requires price { (own_at self.old.owns.items person).object < length self.old.prices.items }
-        requires holder { (own_at self.old.owns.items person).object < length self.old.holders.items }
-        ensures prices { self.new.prices.items ≡ set self.old.prices.items (own_at self.old.owns.items person).object (pos 0) }
-        ensures holders { self.new.holders.items ≡ set self.old.holders.items (own_at self.old.owns.items person).object NOBODY }
-        ensures owns { self.new.owns.items ≡ set self.old.owns.items person no_own }
-    {
-        let object = self.owns[person as usize].object as usize;
-        self.prices[object] = 0;
-        self.holders[object] = NOBODY;
-        self.owns[person as usize] = NO_OWN;
-    }
-
-    /// The object of a bid is the bidder's, the amount is its price, and who has held it has none; gives him.
+    /// What holds of each market, for a caller whose proof wants it. It does nothing.
     #[inline(always)]
-    pub(crate) fn award(&mut self, person: u32, bid: Bid) -> u32
-        requires price { bid.arc.object < length self.old.prices.items }
-        requires holder { bid.arc.object < length self.old.holders.items }
-        requires person { person < length self.old.owns.items }
-        requires earlier { holder_at self.old.holders.items bid.arc.object ≢ NOBODY → holder_at self.old.holders.items bid.arc.object < length self.old.owns.items }
-        requires few { length self.old.owns.items < NOBODY }
-        ensures prices { self.new.prices.items ≡ set self.old.prices.items bid.arc.object bid.amount }
-        ensures holders { self.new.holders.items ≡ set self.old.holders.items bid.arc.object person }
-        ensures owns { self.new.owns.items ≡ set (set self.old.owns.items person bid.arc) (holder_at self.old.holders.items bid.arc.object) no_own }
-        ensures earlier { result ≡ holder_at self.old.holders.items bid.arc.object }
+    pub(crate) fn law(&self)
+        ensures { Law self.now }
     {
-        let object = bid.arc.object as usize;
-        let earlier = self.holders[object];
-        self.prices[object] = bid.amount;
-        self.holders[object] = person;
-        self.owns[person as usize] = bid.arc;
-        // Where nobody has held it the bidder's own arc is written again, so that there is no branch: it would be guessed wrongly where a chain of bids ends.
-        let (last, own) = if earlier == NOBODY {
-            (person, bid.arc)
-        } else {
-            (earlier, NO_OWN)
-        };
-        self.owns[last as usize] = own;
-        earlier
+        let _ = &self.rows;
+    }
+
+    /// The number of persons.
+    #[inline(always)]
+    pub(crate) fn persons(&self) -> u32
+        ensures { result ≡ length self.now.table.rows }
+    {
+        let rows = self.rows;
+        rows.persons()
+    }
+
+    /// Eps, in scaled costs.
+    pub(crate) fn eps(&self) -> i64
+        ensures { result ≡ self.now.eps }
+    {
+        self.eps
+    }
+
+    /// How many persons hold an object. O(persons).
+    pub(crate) fn held(&self) -> u32 {
+        self.holdings.count()
+    }
+
+    /// The mean spread of a row at the present prices, in scaled costs, and at least 1: eps of a phase may be as great.
+    pub(crate) fn spread(&self) -> i64
+        ensures { IsEpsOf self.now.table result }
+    {
+        let rows = self.rows;
+        spread_of(rows, self.holdings.prices.as_slice())
+    }
+
+    /// The first person from here on, below `until`, who holds no object and is neither of these two; `until` where there is none.
+    #[inline(always)]
+    pub(crate) fn free_from(&self, from: u32, until: u32, person: u32, other: u32) -> u32
+        requires from { from ≤ until }
+        requires until { until ≤ length self.now.table.rows }
+        ensures least { from ≤ result }
+        ensures most { result ≤ until }
+        ensures free { result < until → (own_at self.now.owns result).object ≡ NOBODY }
+        ensures neither { result < until → (result ≢ person) × (result ≢ other) }
+        ensures passed { (i : ℕ) → from ≤ i → i < result → i ≢ person → i ≢ other → (own_at self.now.owns i).object ≢ NOBODY }
+    {
+        self.holdings.free_from(from, until, person, other)
+    }
+
+    /// A free person bids, and has the object; gives who has held it, or NOBODY. None where the bid would be above the greatest price: nothing has changed then.
+    #[inline(always)]
+    pub(crate) fn bid(&mut self, person: u32) -> Option<u32>
+        requires { IsFree self.old person }
+        ensures bid { IfSome result (IsBid person self.old self.new) }
+        ensures above { IfNone result ((self.new ≡ self.old) × IsAbove self.old.table self.old.eps self.old.prices) }
+    {
+        let rows = self.rows;
+        let lists = &mut self.lists;
+        self.holdings.step(rows, self.eps, person, lists)
+    }
+
+    /// A free person goes by a shortest augmenting path where there is one; gives who is free then, and how many arcs were looked at.
+    ///
+    /// # Errors
+    ///
+    /// Persons who together know too few objects, or memory was refused.
+    pub(crate) fn path(&mut self, person: u32) -> Result<Way, Halt>
+        requires { IsFree self.old person }
+        ensures way { IfOk result (λ w. IsMove person self.old self.new w.free) }
+        ensures halt { IfErr result (IsHalt self.old.table) }
+    {
+        let rows = self.rows;
+        let paths = &mut self.paths;
+        self.holdings
+            .find_way(self.alloc, rows, self.eps, person, paths)
+    }
+
+    /// Raises prices, with so many looks at persons, until each is within 1 of his best: then nothing costs less than what persons hold, and eps is the last one. Gives whether that came to its end; where it
+    /// was begun and hasn't, nobody holds anything any more.
+    pub(crate) fn refine(&mut self, looks: u64) -> Result<bool, AllocError>
+        requires square { self.old.table.objects ≡ length self.old.table.rows }
+        ensures refined { OnOk result (IsRefinement self.old self.new) }
+        ensures whole { IfOk result (λ b. b ≡ true → IsRefinedWhole self.new) }
+    {
+        if looks == 0 {
+            return Ok(false);
+        }
+        let rows = self.rows;
+        let lists = &mut self.lists;
+        let is_least = self
+            .holdings
+            .refine(self.alloc, rows, looks, lists)?;
+        if !is_least {
+            self.holdings.open();
+            return Ok(false);
+        }
+        self.eps = LAST_EPS;
+        Ok(true)
+    }
+
+    /// The next phase begins at this eps: prices stay, and nobody holds anything.
+    pub(crate) fn open(&mut self, eps: i64)
+        requires eps { IsEpsOf self.old.table eps }
+        requires square { self.old.table.objects ≡ length self.old.table.rows }
+        ensures { IsBegun eps self.old self.new }
+    {
+        self.eps = eps;
+        self.holdings.open();
+    }
+
+    /// What it has come to.
+    pub(crate) fn into_holdings(self) -> Holdings
+        ensures prices { result.prices.items ≡ self.entry.prices }
+        ensures holders { result.holders.items ≡ self.entry.holders }
+        ensures owns { result.owns.items ≡ self.entry.owns }
+    {
+        self.holdings
     }
 }

@@ -3,18 +3,18 @@
 ghost use Rattle.std.specs.Prelude.{◌≡◌, ◌<◌, length, IfOk, OnErr};
 ghost use Rattle.auc_letters.specs.Price.{IsEps};
 ghost use Rattle.auc_rows.specs.Rows.{IsFlatTable};
-ghost use Rattle.auc_direct.specs.declared.market.TheConstants.{NOBODY};
+ghost use Rattle.auc_direct.specs.declared.holdings.TheConstants.{NOBODY};
 ghost use Rattle.auc_direct.specs.Endings.{IsPathStep};
 ghost use Rattle.auc_direct.specs.Market.{Stands, own_at};
 
 use crate::ending::PathStep;
-use crate::market::Market;
+use crate::holdings::Holdings;
 use crate::paths::Paths;
 use crate::walk::{fits, hand_over, raise};
 use auc_rows::FlatRows;
 use std::alloc::AllocError;
 
-impl Market {
+impl Holdings {
     /// A free person goes by a cheapest path: he has an object after it, and so has each whom it moves. Nothing changes where no object
     /// that nobody holds is in reach, which is told apart, or a price would pass the greatest.
     pub(crate) fn path(

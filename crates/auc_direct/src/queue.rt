@@ -3,7 +3,7 @@
 ghost use Rattle.std.specs.Prelude.{ℕ, true, ◌≡◌, ◌≢◌, ◌<◌, length, IfOk};
 ghost use Rattle.auc_direct.specs.Refine.{IsPushed, IsQueue, next_at};
 
-use crate::market::NOBODY;
+use crate::holdings::NOBODY;
 use std::alloc::{AllocError, Global};
 
 /// A linked list in one vector: for each person who waits who comes after him, or himself where he is the last, and NOBODY for one who doesn't wait; and who is the first and the last one. The first

@@ -4,11 +4,10 @@
 //! A person who would do better with another object, by more than 1, raises its price until he wouldn't, and then whoever holds it is looked at again. Where what they hold costs more than need be, that
 //! goes round in circles, so it is given up after some time. It is a step between two phases of Goldberg and Kennedy (1995), by labels that are corrected first come, first served (Bellman, 1958; Moore, 1959).
 
-ghost use Rattle.std.specs.Prelude.{true, ℕ, ℤ, ◌≡◌, ◌≢◌, ◌+◌, ◌<◌, ◌^◌, pos, neg_ℤ, ◌+ℤ◌, ◌-ℤ◌, ◌≤ℤ◌, ◌<ℤ◌, length, set, IfOk, OnOk};
+ghost use Rattle.std.specs.Prelude.{true, ℕ, ℤ, ◌≡◌, ◌≢◌, ◌+◌, ◌<◌, ◌^◌, pos, neg_ℤ, ◌+ℤ◌, ◌-ℤ◌, ◌≤ℤ◌, ◌<ℤ◌, length, set, IfOk, OnErr, OnOk};
 ghost use Rattle.auc_graph.specs.Assignment.{total};
 ghost use Rattle.auc_graph.specs.Price.{IsPrice};
 ghost use Rattle.auc_rows.specs.Rows.{EachHasArc, IsFlatTable, flat_row_of, scale_in};
-ghost use Rattle.auc_direct.specs.Endings.{IsStart};
 ghost use Rattle.auc_direct.specs.Market.{AreHigher, HaveObjects, IsSlack, Stands, holder_at, own_at};
 ghost use Rattle.auc_direct.specs.Refine.{AreRefined, IsQueue, next_at};
 ghost use Rattle.auc_direct.specs.Scan.{short_value};
@@ -17,7 +16,7 @@ ghost use Rattle.auc_direct.specs.Starts.{any_eps};
 
 use crate::best::Best;
 use crate::lists::Lists;
-use crate::market::{Market, NOBODY};
+use crate::holdings::{Holdings, NOBODY};
 use crate::queue::Queue;
 use crate::scan::value_of;
 use auc_graph::MOST_PRICE;
@@ -36,7 +35,7 @@ fn price_for(price: i64, value: i64, least: i64) -> i64
     price + (least - value)
 }
 
-impl Market {
+impl Holdings {
     /// Whether each person has an object.
     pub(crate) fn all_have(&self) -> bool
         ensures { result ≡ true → HaveObjects (length self.now.owns.items) self.now.owns.items }
@@ -174,14 +173,14 @@ impl Market {
         ensures stands { OnOk result (Stands rows.now any_eps self.new.prices.items self.new.holders.items self.new.owns.items) }
         ensures slack { IfOk result (λ b. b ≡ true → Stands rows.now (pos 1) self.new.prices.items self.new.holders.items self.new.owns.items) }
         ensures have { IfOk result (λ b. b ≡ true → HaveObjects (length rows.now.rows) self.new.owns.items) }
-        ensures start { OnOk result ((eps : ℤ) → IsStart rows.now eps self.old.prices.items → IsStart rows.now eps self.new.prices.items) }
         ensures owns { OnOk result (self.new.owns.items ≡ self.old.owns.items) }
         ensures risen { OnOk result (total self.old.prices.items ≤ℤ total self.new.prices.items) }
-        ensures kept { OnOk result (Kept rows.now self.new.prices.items lists.new.lists.items) }
+        ensures kept { Kept rows.now self.new.prices.items lists.new.lists.items }
+        ensures stays { OnErr result (self.new ≡ self.old) }
     {
         let scale = rows.scale();
         let persons = rows.persons();
-        if looks == 0 || persons == 0 || persons != rows.objects() || !self.all_have() {
+        if persons == 0 || persons != rows.objects() || !self.all_have() {
             return Ok(false);
         }
         let mut queue = Queue::of_all(alloc, persons)?;

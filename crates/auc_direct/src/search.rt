@@ -7,7 +7,7 @@ ghost use Rattle.auc_direct.specs.Path.{AreHolders, AreLabels, AreLeft, AreOwns,
 
 use crate::hop::{reach, value_of_own};
 use crate::label::Label;
-use crate::market::NOBODY;
+use crate::holdings::NOBODY;
 use crate::wipe::wipe;
 use auc_letters::Held;
 use auc_rows::{FlatRows, ShortArc};

@@ -18,7 +18,7 @@ use crate::from_start::market_from;
 use crate::gathering::gather;
 use crate::hall::infeasible_by;
 use crate::halt::Halt;
-use crate::market::Market;
+use crate::holdings::Holdings;
 use crate::reduce::start_prices;
 use crate::rules::bids_from_start;
 use crate::run::{Outcome, run};
@@ -82,16 +82,16 @@ fn answer_of(
 ) -> Result<Answer, AllocError>
     requires rows { AreRowsOf problem.now flat }
     requires sound { IsFlatTable flat }
-    requires left { IsLeft flat outcome.ending outcome.market.prices.items outcome.market.holders.items outcome.market.owns.items }
+    requires left { IsLeft flat outcome.ending outcome.holdings.prices.items outcome.holdings.holders.items outcome.holdings.owns.items }
     ensures is { IfOk result (IsAnswer problem.now) }
-    ensures limit { (bids : ℕ) (begun : ℤ) → IsStopped flat bids begun outcome.ending outcome.market.prices.items → IfOk result (IsLimited problem.now bids begun) }
+    ensures limit { (bids : ℕ) (begun : ℤ) → IsStopped flat bids begun outcome.ending outcome.holdings.prices.items → IfOk result (IsLimited problem.now bids begun) }
     ensures told { outcome.ending ≡ Ending.Stopped Reason.Bids → IfOk result IsStopTold }
-    ensures run { (bids : ℕ) (begun : List ℤ) → IsRun flat bids begun (state_of outcome.market) → IfOk result (IsOfPhases problem.now bids begun) }
+    ensures run { (bids : ℕ) (begun : List ℤ) → IsRun flat bids begun (state_of outcome.holdings) → IfOk result (IsOfPhases problem.now bids begun) }
 {
     // Read here, so that the proof knows what every problem keeps.
     let _ = problem.arcs();
-    let Outcome { ending, market } = outcome;
-    let gathered = gather(alloc, problem, &flat, market)?;
+    let Outcome { ending, holdings } = outcome;
+    let gathered = gather(alloc, problem, &flat, holdings)?;
     drop(flat);
     match ending {
         // That the checker finds no fault in it is proved, so no time is spent on a check.
@@ -126,11 +126,11 @@ fn concluded(
 ) -> Result<Answer, AllocError>
     requires rows { AreRowsOf problem.now flat }
     requires sound { IsFlatTable flat }
-    requires left { IfOk ended (λ o. IsLeft flat o.ending o.market.prices.items o.market.holders.items o.market.owns.items) }
+    requires left { IfOk ended (λ o. IsLeft flat o.ending o.holdings.prices.items o.holdings.holders.items o.holdings.owns.items) }
     requires halt { IfErr ended (IsHalt flat) }
     ensures is { IfOk result (IsAnswer problem.now) }
-    ensures limit { (bids : ℕ) (begun : List ℤ) (before after : Bool) → IfOk ended (λ o. IsOutcome flat bids begun before after o.ending o.market.prices.items o.market.holders.items o.market.owns.items) → IfErr ended (λ h. after ≡ before) → IfOk result (λ a. IsLimitedUnless before after a (IsLimited problem.now bids (total begun) a)) }
-    ensures run { (bids : ℕ) (begun : List ℤ) (before after : Bool) → IfOk ended (λ o. IsOutcome flat bids begun before after o.ending o.market.prices.items o.market.holders.items o.market.owns.items) → IfOk result (IsOfPhases problem.now bids begun) }
+    ensures limit { (bids : ℕ) (begun : List ℤ) (before after : Bool) → IfOk ended (λ o. IsOutcome flat bids begun before after o.ending o.holdings.prices.items o.holdings.holders.items o.holdings.owns.items) → IfErr ended (λ h. after ≡ before) → IfOk result (λ a. IsLimitedUnless before after a (IsLimited problem.now bids (total begun) a)) }
+    ensures run { (bids : ℕ) (begun : List ℤ) (before after : Bool) → IfOk ended (λ o. IsOutcome flat bids begun before after o.ending o.holdings.prices.items o.holdings.holders.items o.holdings.owns.items) → IfOk result (IsOfPhases problem.now bids begun) }
 {
     match ended {
         Ok(outcome) => answer_of(alloc, problem, flat, outcome),
@@ -223,8 +223,8 @@ pub fn solve_direct_watched<W: Watch>(
         return Ok(answer);
     }
     let prices = start_prices(alloc, &flat)?;
-    let market = Market::new(alloc, flat.persons(), prices)?;
-    let ended = run(alloc, &flat, limits.bids, market, 0, watch);
+    let holdings = Holdings::new(alloc, flat.persons(), prices)?;
+    let ended = run(alloc, &flat, limits.bids, holdings, 0, watch);
     concluded(alloc, problem, flat, ended)
 }
 
@@ -249,8 +249,8 @@ pub fn solve_direct_watched_from<W: Watch>(
     if let Some(answer) = answered(alloc, problem, &flat)? {
         return Ok(answer);
     }
-    let market = market_from(alloc, &flat, start)?;
+    let holdings = market_from(alloc, &flat, start)?;
     let few = bids_from_start(&flat);
-    let ended = run(alloc, &flat, limits.bids, market, few, watch);
+    let ended = run(alloc, &flat, limits.bids, holdings, few, watch);
     concluded(alloc, problem, flat, ended)
 }

@@ -3,12 +3,12 @@
 ghost use Rattle.std.specs.Prelude.{ℕ, ◌≡◌, ◌≢◌, ◌<◌, ◌↔◌, length, false, IsTrue, IfSome};
 ghost use Rattle.auc_letters.specs.Price.{IsEps};
 ghost use Rattle.auc_rows.specs.Rows.{EachHasArc, IsFlatTable};
-ghost use Rattle.auc_direct.specs.declared.market.TheConstants.{NOBODY};
+ghost use Rattle.auc_direct.specs.declared.holdings.TheConstants.{NOBODY};
 ghost use Rattle.auc_direct.specs.Market.{Stands, own_at};
 ghost use Rattle.auc_direct.specs.Starts.{AreKept, AreOpened, ArePricesOf, AreSeated, AreStartPrices, IsFreeWithin, any_eps};
 
 use crate::bid::Bid;
-use crate::market::{Market, NOBODY};
+use crate::holdings::{Holdings, NOBODY};
 use crate::scan::{scan, value_of};
 use crate::slack::is_slack;
 use auc_cert::HIGHEST_START;
@@ -28,7 +28,7 @@ pub fn may_start(problem: &ArcList, start: &[i64]) -> bool
             .all(|price| 0 <= *price && *price <= HIGHEST_START)
 }
 
-impl Market {
+impl Holdings {
     /// The first arc of a person to an object that nobody holds, and that is within eps of his best at the start prices.
     fn free_within(&self, rows: &FlatRows, eps: i64, start: &[i64], person: u32) -> Option<ShortArc>
         requires person { person < length rows.now.rows }

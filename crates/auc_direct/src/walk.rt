@@ -5,7 +5,7 @@ ghost use Rattle.auc_graph.specs.Dual.{price_at};
 ghost use Rattle.auc_graph.specs.Price.{IsPrice};
 ghost use Rattle.auc_rows.specs.declared.arc.ShortArc.{ShortArc};
 ghost use Rattle.auc_rows.specs.Rows.{IsFlatTable, flat_row_of};
-ghost use Rattle.auc_direct.specs.declared.market.TheConstants.{NOBODY};
+ghost use Rattle.auc_direct.specs.declared.holdings.TheConstants.{NOBODY};
 ghost use Rattle.auc_direct.specs.Market.{holder_at, no_own, own_at};
 ghost use Rattle.auc_direct.specs.Path.{Agree, AreRaised, AreTaken, IsChain, IsLabelArc, IsLine, label_of, near_of, place_of, seats};
 

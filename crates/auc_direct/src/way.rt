@@ -2,22 +2,27 @@
 
 ghost use Rattle.std.specs.Prelude.{◌≡◌, ◌<◌, length, IfErr, IfOk, IfSome};
 ghost use Rattle.auc_letters.specs.Price.{IsEps};
-ghost use Rattle.auc_rows.specs.Rows.{IsFlatTable};
 ghost use Rattle.auc_direct.specs.Hall.{IsShortHallSet};
 ghost use Rattle.auc_direct.specs.Halts.{IsHalt};
-ghost use Rattle.auc_direct.specs.Market.{Stands, own_at};
-ghost use Rattle.auc_direct.specs.Shortlist.{Kept};
+ghost use Rattle.auc_direct.specs.Market.{AreHigher, Stands, own_at};
 ghost use Rattle.auc_direct.specs.Way.{IsWay};
 
 use crate::ending::PathStep;
 use crate::hall::{HallSet, hall_set_of};
 use crate::halt::Halt;
-use crate::market::{Market, NOBODY};
-use crate::workspace::Workspace;
+use crate::holdings::{Holdings, NOBODY};
+use crate::paths::Paths;
 use auc_rows::FlatRows;
 use std::alloc::{AllocError, Global};
 
-impl Market {
+/// Who is free after a search for a path, and how many arcs it has looked at.
+#[derive(Clone, Copy)]
+pub(crate) struct Way {
+    pub(crate) free: u32,
+    pub(crate) looked: u64,
+}
+
+impl Holdings {
     /// How many arcs a search has looked at that settled these objects and began from this person.
     fn looked_at(&self, rows: &FlatRows, start: u32, line: &[u32]) -> u64
         requires { start < length rows.now.rows }
@@ -56,33 +61,47 @@ impl Market {
     }
 
     /// A free person goes by a path where one is found; gives who is free then.
+    ///
+    /// # Errors
+    ///
+    /// Persons who together know too few objects, or memory was refused: nothing has changed then.
     pub(crate) fn find_way(
         &mut self,
+        alloc: Global,
         rows: &FlatRows,
         eps: i64,
         person: u32,
-        work: &mut Workspace,
-    ) -> Result<u32, Halt>
+        paths: &mut Paths,
+    ) -> Result<Way, Halt>
         requires person { person < length rows.now.rows }
         requires eps { IsEps eps }
-        requires sound { IsFlatTable rows.now }
         requires stands { Stands rows.now eps self.old.prices.items self.old.holders.items self.old.owns.items }
         requires none { (own_at self.old.owns.items person).object ≡ NOBODY }
-        requires kept { Kept rows.now self.old.prices.items work.old.lists.lists.items }
-        ensures way { IfOk result (IsWay rows.now eps person self.old.prices.items self.new.prices.items self.new.holders.items self.old.owns.items self.new.owns.items) }
-        ensures kept { IfOk result (λ _. Kept rows.now self.new.prices.items work.new.lists.lists.items) }
+        ensures stands { Stands rows.now eps self.new.prices.items self.new.holders.items self.new.owns.items }
+        ensures higher { AreHigher self.old.prices.items self.new.prices.items }
+        ensures way { IfOk result (λ w. IsWay rows.now eps person self.old.prices.items self.new.prices.items self.new.holders.items self.old.owns.items self.new.owns.items w.free) }
         ensures halt { IfErr result (IsHalt rows.now) }
     {
-        let step = self.path(rows, eps, person, &mut work.paths)?;
-        let looked = self.looked_at(rows, person, work.paths.line());
-        work.learn(looked);
+        // Read here, so that the proof knows what all rows keep.
+        let _ = rows.persons();
+        let step = self.path(rows, eps, person, paths)?;
+        let looked = self.looked_at(rows, person, paths.line());
         match step {
-            PathStep::Placed => Ok(NOBODY),
-            PathStep::Stayed => Ok(person),
+            PathStep::Placed => Ok(Way {
+                free: NOBODY,
+                looked,
+            }),
+            PathStep::Stayed => Ok(Way {
+                free: person,
+                looked,
+            }),
             PathStep::Closed => {
-                match self.reached(work.alloc, rows, person, work.paths.line())? {
+                match self.reached(alloc, rows, person, paths.line())? {
                     Some(hall) => Err(Halt::Closed(hall)),
-                    None => Ok(person),
+                    None => Ok(Way {
+                        free: person,
+                        looked,
+                    }),
                 }
             }
         }

@@ -4,6 +4,6 @@ use Rattle.auc_direct.proofs.gathering.guessed.Given as goal
 
 abbrev pub invariant-loop-person : goal.invariant-loop-person
 invariant-loop-person l = record {
-  many : length l.holders.items ≡ length l.market.holders.items;
-  seen : AreSeen l.problem l.market.holders.items l.market.owns.items l.person l.holders.items;
+  many : length l.holders.items ≡ length l.holdings.holders.items;
+  seen : AreSeen l.problem l.holdings.holders.items l.holdings.owns.items l.person l.holders.items;
 }

@@ -5,7 +5,7 @@ use Rattle.std.proofs.lemmas.Option.{slice_get-get_or}
 use Rattle.auc_graph.specs.declared.arc.Arc.{Arc}
 use Rattle.auc_letters.specs.declared.state.Held.{Held}
 use Rattle.auc_rows.proofs.ArcLaws.{none, within_at}
-use Rattle.auc_direct.specs.declared.market.TheConstants.{NOBODY}
+use Rattle.auc_direct.specs.declared.holdings.TheConstants.{NOBODY}
 use Rattle.auc_direct.specs.Held.{IsHeld, arc_by}
 use Rattle.auc_direct.specs.Market.{holder_at, own_at}
 use Rattle.auc_direct.proofs.HeldLaws.{met_all, met_now, met_other}
@@ -15,7 +15,7 @@ use Rattle.auc_direct.proofs.gathering.passed.Goals.{then-is_own, else-is_own}
 pub loop-place-preserved : goal.loop-place-preserved
 loop-place-preserved c =
     let p = c.args.problem.now in
-    let m = c.args.market.now in
+    let m = c.args.holdings.now in
     let n = c.loop-place.place in
     let lt = c.loop-place-test.true in
     let old = c.loop-place.invariant in
@@ -50,4 +50,4 @@ loop-place-preserved c =
 pub returns-clause-held : goal.returns-clause-held
 returns-clause-held c =
     let over : length c.args.problem.now.arcs ≤ c.loop-place.place = (let e = ap length c.arcs-arc-items.ensures.arcs in let f = c.loop-place-test.false in omega (arith, e, f)) in
-    met_all c.args.problem.now c.args.market.now.holders.items c.args.market.now.owns.items c.loop-place.place c.loop-place.holders.items over c.requires.listed c.loop-place.invariant.met
+    met_all c.args.problem.now c.args.holdings.now.holders.items c.args.holdings.now.owns.items c.loop-place.place c.loop-place.holders.items over c.requires.listed c.loop-place.invariant.met

@@ -10,19 +10,19 @@ gather-requires-clause-persons c = persons_are c.args.problem.now c.args.flat c.
 
 pub gather-requires-clause-holders : goal.gather-requires-clause-holders
 gather-requires-clause-holders c =
-    let m = c.args.outcome.market in
+    let m = c.args.outcome.holdings in
     let s = left_stands c.args.flat c.args.outcome.ending m.prices.items m.holders.items m.owns.items c.requires.left in
     are_holders c.args.problem.now c.args.flat c.requires.rows s.0 m.prices.items m.holders.items m.owns.items s.1
 
 pub gather-requires-clause-listed : goal.gather-requires-clause-listed
 gather-requires-clause-listed c =
-    let m = c.args.outcome.market in
+    let m = c.args.outcome.holdings in
     let s = left_stands c.args.flat c.args.outcome.ending m.prices.items m.holders.items m.owns.items c.requires.left in
     own_listed c.args.problem.now c.args.flat c.requires.rows s.0 m.prices.items m.holders.items m.owns.items c.requires.sound s.1
 
 pub proved_optimal-requires : goal.proved_optimal-requires
 proved_optimal-requires c =
-    let m = c.args.outcome.market in
+    let m = c.args.outcome.holdings in
     let sold = rw c.in-Sold.is at c.requires.left in
     let left = c.in_ok-gathered.gathered in
     let g = c.in_ok-gathered.ensures in
@@ -30,7 +30,7 @@ proved_optimal-requires c =
 
 pub returns-in-Sold-clause-is : goal.returns-in-Sold-clause-is
 returns-in-Sold-clause-is c =
-    let m = c.args.outcome.market in
+    let m = c.args.outcome.holdings in
     let sold = rw c.in-Sold.is at c.requires.left in
     let left = c.in_ok-gathered.gathered in
     let g = c.in_ok-gathered.ensures in
@@ -41,7 +41,7 @@ pub returns-in-Stopped-clause-is : goal.returns-in-Stopped-clause-is
 returns-in-Stopped-clause-is c =
     let p = c.args.problem.now in
     let r = c.args.flat in
-    let m = c.args.outcome.market in
+    let m = c.args.outcome.holdings in
     let stopped = rw c.in-Stopped.is at c.requires.left in
     let left = c.in_ok-gathered.gathered in
     let g = c.in_ok-gathered.ensures in
@@ -57,7 +57,7 @@ returns-in-Sold-clause-limit c = λ bids begun stopped. (
 pub returns-in-Stopped-clause-limit : goal.returns-in-Stopped-clause-limit
 returns-in-Stopped-clause-limit c = λ bids begun stopped. (
     let p = c.args.problem.now in
-    let m = c.args.outcome.market in
+    let m = c.args.outcome.holdings in
     let left = c.in_ok-gathered.gathered in
     let g = c.in_ok-gathered.ensures in
     of_answers (λ a. IsInfeasibleAnswer p a ⊎ (HasAssignment p × IsBracketAnswer p c.in-Stopped.reason left.holders.items left.prices.items a)) (IsLimited p bids begun) c.bracketed.result
@@ -72,7 +72,7 @@ pub returns-in-Stopped-clause-told : goal.returns-in-Stopped-clause-told
 returns-in-Stopped-clause-told c = λ bids. (
     let p = c.args.problem.now in
     let r = c.args.flat in
-    let m = c.args.outcome.market in
+    let m = c.args.outcome.holdings in
     let reason : c.in-Stopped.reason ≡ Reason.Bids = (let e = c.in-Stopped.is in cc) in
     let stopped = rw c.in-Stopped.is at c.requires.left in
     let left = c.in_ok-gathered.gathered in
@@ -83,7 +83,7 @@ returns-in-Stopped-clause-told c = λ bids. (
 
 pub returns-in-Sold-clause-run : goal.returns-in-Sold-clause-run
 returns-in-Sold-clause-run c = λ bids begun run. (
-    let m = c.args.outcome.market in
+    let m = c.args.outcome.holdings in
     let left = c.in_ok-gathered.gathered in
     let g = c.in_ok-gathered.ensures in
     of_answers (IsOptimalAnswer c.args.problem.now left.holders.items left.prices.items) (IsOfPhases c.args.problem.now bids begun) c.proved_optimal.result
@@ -93,7 +93,7 @@ returns-in-Sold-clause-run c = λ bids begun run. (
 pub returns-in-Stopped-clause-run : goal.returns-in-Stopped-clause-run
 returns-in-Stopped-clause-run c = λ bids begun run. (
     let p = c.args.problem.now in
-    let m = c.args.outcome.market in
+    let m = c.args.outcome.holdings in
     let left = c.in_ok-gathered.gathered in
     let g = c.in_ok-gathered.ensures in
     of_answers (λ a. IsInfeasibleAnswer p a ⊎ (HasAssignment p × IsBracketAnswer p c.in-Stopped.reason left.holders.items left.prices.items a)) (IsOfPhases p bids begun) c.bracketed.result

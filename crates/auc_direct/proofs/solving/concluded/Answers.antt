@@ -27,7 +27,7 @@ pub returns-in-Ok-clause-limit : goal.returns-in-Ok-clause-limit
 returns-in-Ok-clause-limit c = λ bids begun before after ended _. (
     let o = rw c.in-Ok.is at ended in
     let outcome = c.in-Ok.outcome in
-    limit_or_told before after outcome.ending (IsLimited c.args.problem.now bids (total begun)) (IsStopped c.args.flat bids (total begun) outcome.ending outcome.market.prices.items) c.answer_of.result o.stopped c.answer_of.ensures.told (c.answer_of.ensures.limit bids (total begun))
+    limit_or_told before after outcome.ending (IsLimited c.args.problem.now bids (total begun)) (IsStopped c.args.flat bids (total begun) outcome.ending outcome.holdings.prices.items) c.answer_of.result o.stopped c.answer_of.ensures.told (c.answer_of.ensures.limit bids (total begun))
     )
 
 pub returns-in-Ok-clause-run : goal.returns-in-Ok-clause-run

@@ -1,22 +1,14 @@
-use Rattle.std.proofs.Common.{ℕ, pos, ◌<◌, ◌≤◌, ◌≡◌, length}
-use Rattle.std.specs.Prelude.{◌+ℤ◌, ◌≤ℤ◌}
-use Rattle.auc_graph.specs.Assignment.{total}
-use Rattle.auc_direct.specs.declared.market.TheConstants.{NOBODY}
-use Rattle.auc_direct.specs.Bids.{AreSpent, state_of}
-use Rattle.auc_direct.specs.Market.{HaveAllBut, Stands, own_at}
-use Rattle.auc_direct.specs.Shortlist.{Kept}
+use Rattle.std.proofs.Common.{ℕ}
+use Rattle.auc_direct.specs.declared.holdings.TheConstants.{NOBODY}
+use Rattle.auc_direct.specs.Market.{HaveAllBut}
+use Rattle.auc_direct.specs.Position.{IsFree, Spends}
 use Rattle.auc_direct.proofs.market.Market.chain.Given as goal
 
 abbrev pub invariant-loop-left : goal.invariant-loop-left
 invariant-loop-left l = record {
-  stands : Stands l.rows l.eps l.self.prices.items l.self.holders.items l.self.owns.items;
-  known : l.person < length l.rows.rows;
-  none : (own_at l.self.owns.items l.person).object ≡ NOBODY;
-  but : (n : ℕ) → HaveAllBut n l.fn.self.owns.items l.first NOBODY → HaveAllBut n l.self.owns.items l.person NOBODY;
-  kept : Kept l.rows l.self.prices.items l.work.lists.lists.items;
-  raised : (total l.fn.self.prices.items +ℤ pos l.fn.left) ≤ℤ (total l.self.prices.items +ℤ pos l.left);
-  fewer : l.left ≤ l.fn.left;
-  made : AreSpent l.rows l.eps l.fn.left l.left (state_of l.fn.self) (state_of l.self);
+  free : IsFree l.self l.person;
+  spends : Spends l.fn.left l.left l.fn.self l.self;
+  but : (n : ℕ) → HaveAllBut n l.fn.self.owns l.first NOBODY → HaveAllBut n l.self.owns l.person NOBODY;
 }
 
 abbrev pub decreases-loop-left : goal.decreases-loop-left

@@ -1,17 +1,34 @@
-use Rattle.std.proofs.Common.{rules, ◌≤◌, length, ◌∙◌}
-use Rattle.auc_direct.specs.declared.market.TheConstants.{NOBODY}
-use Rattle.auc_direct.specs.Market.{no_own}
-use Rattle.auc_direct.proofs.Opening.{all_same}
+use Rattle.std.proofs.Common.{inl, length, refl, w64}
+use Rattle.std.specs.Prelude.{FitsSigned}
+use Rattle.std.proofs.lemmas.Int.{to_z-of_z}
+use Rattle.auc_direct.specs.Bids.{state}
+use Rattle.auc_direct.proofs.Opening.{stands_opened}
+use Rattle.auc_direct.proofs.PhasesLaws.{opened_is}
 use Rattle.auc_direct.proofs.market.Market.open.Goals as goal
 
-pub returns-clause-holders : goal.returns-clause-holders
-returns-clause-holders c =
-    let inv = c.loop-object.invariant in
-    let enough : length c.loop-object.self.holders.items ≤ c.loop-object.object = search rules in
-    c.loop-person.invariant.holders ∙ all_same NOBODY c.loop-object.self.holders.items c.args.self.now.holders.items c.loop-object.object inv.many enough inv.blank
+pub invariant_of-self : goal.invariant_of-self
+invariant_of-self c =
+    let f : FitsSigned w64 c.args.eps = c.ranges.eps in
+    let law = c.self.invariant.law in
+    let square = rw (← c.self.view_is) at c.requires.square in
+    let eps = rw (← c.self.view_is) at c.requires.eps in
+    let rows = c.self.inside.rows.now in
+    let old = c.self.inside.holdings in
+    let same = c.open.ensures.prices in
+    simp to_z-of_z (record {
+      law = record {
+        sound = law.sound;
+        arcs = law.arcs;
+        eps = eps;
+        stands = rw same (stands_opened rows c.args.eps c.args.eps old.prices.items c.open.new.self.holders.items c.open.new.self.owns.items (length old.holders.items) (length old.owns.items) (record { each = law.stands.prices_are; within = law.stands.within; spare = inl square }) law.stands.holders_are law.stands.owns_are c.open.ensures.holders c.open.ensures.owns);
+      };
+      kept = rw same c.self.invariant.kept;
+    })
 
-pub returns-clause-owns : goal.returns-clause-owns
-returns-clause-owns c =
-    let inv = c.loop-person.invariant in
-    let enough : length c.loop-person.self.owns.items ≤ c.loop-person.person = search rules in
-    all_same no_own c.loop-person.self.owns.items c.args.self.now.owns.items c.loop-person.person inv.many enough inv.blank
+pub returns : goal.returns
+returns c =
+    let f : FitsSigned w64 c.args.eps = c.ranges.eps in
+    let old = c.self.inside.holdings in
+    let new = c.open.new.self in
+    let opened = opened_is (state old.prices.items old.holders.items old.owns.items) (state new.prices.items new.holders.items new.owns.items) (length old.owns.items) c.open.ensures.prices c.open.ensures.owns in
+    rw (← c.self.view_is) (simp to_z-of_z (record { table = refl; eps_is = refl; prices = opened.prices; none = opened.none }))

@@ -1,20 +1,12 @@
-use Rattle.std.proofs.Common.{pos, ◌≡◌, ◌≤◌}
-use Rattle.std.specs.Prelude.{◌+ℤ◌, ◌≤ℤ◌}
-use Rattle.auc_graph.specs.Assignment.{total}
-use Rattle.auc_direct.specs.Bids.{AreSpent, state_of}
-use Rattle.auc_direct.specs.Market.{Stands}
-use Rattle.auc_direct.specs.Shortlist.{Kept}
+use Rattle.std.proofs.Common.{◌≡◌}
+use Rattle.auc_direct.specs.Position.{Spends}
 use Rattle.auc_direct.proofs.market.Market.play.Given as goal
 
-abbrev pub invariant-loop-eps : goal.invariant-loop-eps
-invariant-loop-eps g l = record {
-  stands : Stands l.rows l.eps l.self.prices.items l.self.holders.items l.self.owns.items;
-  kept : Kept l.rows l.self.prices.items l.work.lists.lists.items;
-  raised : (total l.fn.self.prices.items +ℤ pos l.bids) ≤ℤ (total l.self.prices.items +ℤ pos l.left);
-  fewer : l.left ≤ l.bids;
-  made : AreSpent l.rows l.eps l.bids l.left (state_of l.fn.self) (state_of l.self);
+abbrev pub invariant-loop-bids : goal.invariant-loop-bids
+invariant-loop-bids g l = record {
+  spends : Spends l.bids l.left l.fn.self l.self;
   asked : g.W.Watch.has_stopped l.watch ≡ g.W.Watch.has_stopped l.fn.watch;
 }
 
-abbrev pub decreases-loop-eps : goal.decreases-loop-eps
-decreases-loop-eps g l = l.left
+abbrev pub decreases-loop-bids : goal.decreases-loop-bids
+decreases-loop-bids g l = l.left

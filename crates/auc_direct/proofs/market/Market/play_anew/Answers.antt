@@ -1,40 +1,33 @@
-use Rattle.std.proofs.Common.{arith, inl, length, refl, w64}
-use Rattle.std.specs.Prelude.{FitsSigned}
+use Rattle.std.proofs.Common.{Bool, ℕ, ℤ, Err, None, Ok, Option, Result, Some, w64}
+use Rattle.std.specs.Prelude.{FitsSigned, IfNone, IfOk, IfSome, OnOk}
 use Rattle.std.proofs.lemmas.Int.{to_z-of_z}
-use Rattle.auc_direct.specs.Bids.{state_of}
-use Rattle.auc_direct.specs.Endings.{IsStart}
-use Rattle.auc_direct.specs.Market.{Stands}
-use Rattle.auc_direct.specs.Phases.{ArePhases, IsPhase}
-use Rattle.auc_direct.specs.Phases.ArePhases.{begins}
-use Rattle.auc_direct.specs.Starts.{any_eps}
-use Rattle.auc_direct.proofs.EndingLaws.{of_outcomes}
-use Rattle.auc_direct.proofs.Opening.{stands_opened}
-use Rattle.auc_direct.proofs.PhasesLaws.{opened_is, opened_phase}
-use Rattle.auc_direct.proofs.Refinement.{stands_any}
+use Rattle.auc_direct.specs.declared.ending.Ending.{Ending}
+use Rattle.auc_direct.specs.Position.{IsBegun, IsPlayed, IsPlayedAt, IsTried, Plays, Position}
+use Rattle.auc_direct.proofs.Moving.{played_begun, plays_begun, plays_none}
 use Rattle.auc_direct.proofs.market.Market.play_anew.Goals as goal
 
-pub try_phase-requires-clause-stands : goal.try_phase-requires-clause-stands
-try_phase-requires-clause-stands g c =
+pub returns-then-few-eq0-clause-plays : goal.returns-then-few-eq0-clause-plays
+returns-then-few-eq0-clause-plays g c = plays_none c.args.bids c.args.self.now
+
+module _ {Y : Type 0} (eps : ℤ) (bids : ℕ) (before after : Bool) (a b d : Position) (begun : IsBegun eps a b) where
+  plays_by : (res : Result (Option Ending) Y) → IfOk res (λ o. IfSome o (λ e. IsPlayed bids before after e b d)) → IfOk res (λ o. IfNone o (IsTried bids b d)) → OnOk res (Plays bids a d)
+  plays_by (Ok (Some e)) played tried = plays_begun eps bids a b d begun played.tried
+  plays_by (Ok None) played tried = plays_begun eps bids a b d begun tried
+  plays_by (Err x) played tried = tt
+
+  played_by : (res : Result (Option Ending) Y) → IfOk res (λ o. IfSome o (λ e. IsPlayed bids before after e b d)) → IfOk res (λ o. IfSome o (λ e. IsPlayedAt eps bids before after e a d))
+  played_by (Ok (Some e)) played = played_begun eps bids before after e a b d begun played
+  played_by (Ok None) played = tt
+  played_by (Err x) played = tt
+
+pub returns-clause-plays : goal.returns-clause-plays
+returns-clause-plays g c =
     let f : FitsSigned w64 c.args.eps = c.ranges.eps in
-    let old = c.args.self.now in
-    let new = c.open.new.self in
-    let start : IsStart c.args.rows.now c.args.eps new.prices.items = rw c.open.ensures.prices (record { each = c.requires.stands.prices_are; within = c.requires.stands.within; spare = inl c.requires.square }) in
-    simp to_z-of_z (stands_opened c.args.rows.now c.args.eps c.args.eps new.prices.items new.holders.items new.owns.items (length old.holders.items) (length old.owns.items) start c.requires.stands.holders_are c.requires.stands.owns_are c.open.ensures.holders c.open.ensures.owns)
+    let begun = simp to_z-of_z at c.open.ensures in
+    plays_by c.args.eps c.args.bids (g.W.Watch.has_stopped c.args.watch.now) (g.W.Watch.has_stopped c.try_phase.new.watch) c.args.self.now c.open.new.self c.try_phase.new.self begun c.try_phase.result c.try_phase.ensures.played c.try_phase.ensures.tried
 
-pub returns-clause-any : goal.returns-clause-any
-returns-clause-any g c =
+pub returns-clause-played : goal.returns-clause-played
+returns-clause-played g c =
     let f : FitsSigned w64 c.args.eps = c.ranges.eps in
-    let new = c.try_phase.new.self in
-    of_outcomes (λ _. Stands c.args.rows.now c.args.eps new.prices.items new.holders.items new.owns.items) (λ _. Stands c.args.rows.now any_eps new.prices.items new.holders.items new.owns.items) c.try_phase.result
-    (λ _ stands. stands_any c.args.rows.now c.args.eps new.prices.items new.holders.items new.owns.items c.persons.ensures.sound stands) (simp to_z-of_z at c.try_phase.ensures.stands)
-
--- ---- it is a phase, after nobody had an object any more
-
-pub returns-then-few-eq0-clause-phases : goal.returns-then-few-eq0-clause-phases
-returns-then-few-eq0-clause-phases g c = begins (state_of c.args.self.now) refl
-
-pub returns-clause-phases : goal.returns-clause-phases
-returns-clause-phases g c =
-    let opened = opened_is (state_of c.args.self.now) (state_of c.open.new.self) (length c.args.self.now.owns.items) c.open.ensures.prices c.open.ensures.owns in
-    of_outcomes (λ _. IsPhase c.args.rows.now c.args.bids (state_of c.open.new.self) (state_of c.try_phase.new.self)) (λ _. ArePhases c.args.rows.now c.args.bids (state_of c.args.self.now) (state_of c.try_phase.new.self)) c.try_phase.result
-    (λ _ phase. opened_phase c.args.rows.now c.args.bids c.args.bids (state_of c.args.self.now) (state_of c.open.new.self) (state_of c.try_phase.new.self) opened (omega arith) phase) c.try_phase.ensures.phase
+    let begun = simp to_z-of_z at c.open.ensures in
+    played_by c.args.eps c.args.bids (g.W.Watch.has_stopped c.args.watch.now) (g.W.Watch.has_stopped c.try_phase.new.watch) c.args.self.now c.open.new.self c.try_phase.new.self begun c.try_phase.result c.try_phase.ensures.played

@@ -1,30 +1,42 @@
-use Rattle.std.proofs.Common.{arith, w64}
-use Rattle.std.specs.Prelude.{FitsSigned}
-use Rattle.std.proofs.lemmas.Int.{ints, to_z-of_z}
-use Rattle.auc_direct.specs.Bids.{state_of}
-use Rattle.auc_direct.proofs.BidsLaws.{made_all, made_within, run_out}
+use Rattle.std.proofs.Common.{arith}
+use Rattle.auc_direct.specs.Position.{state_at}
+use Rattle.auc_direct.proofs.BidsLaws.{made_all, made_within}
+use Rattle.auc_direct.proofs.Moving.{all_spent}
 use Rattle.auc_direct.proofs.market.Market.play_slice.Goals as goal
 
-pub returns-clause-made : goal.returns-clause-made
-returns-clause-made c =
-    let f1 : FitsSigned w64 c.args.eps = c.ranges.eps in
-    made_within c.args.rows.now c.args.eps c.args.bids c.sell.new.left (state_of c.args.self.now) (state_of c.sell.new.self) (simp to_z-of_z at c.in_ok-sell.ensures.made)
+pub returns-clause-slice : goal.returns-clause-slice
+returns-clause-slice c =
+    let spends = c.in_ok-sell.ensures.spends in
+    let old = c.args.self.now in
+    let new = c.sell.new.self in
+    record {
+      table = spends.table;
+      eps = spends.eps;
+      ended = rw spends.table at (rw c.in-Placed.is at c.in_ok-sell.ensures.sold);
+      counted = made_within old.table old.eps c.args.bids c.sell.new.left (state_at old) (state_at new) spends.spent;
+    }
 
-pub returns-in-Ceiling-clause-made : goal.returns-in-Ceiling-clause-made
-returns-in-Ceiling-clause-made c =
-    let f1 : FitsSigned w64 c.args.eps = c.ranges.eps in
-    made_within c.args.rows.now c.args.eps c.args.bids c.sell.new.left (state_of c.args.self.now) (state_of c.sell.new.self) (simp to_z-of_z at c.in_ok-sell.ensures.made)
+pub returns-in-Ceiling-clause-slice : goal.returns-in-Ceiling-clause-slice
+returns-in-Ceiling-clause-slice c =
+    let spends = c.in_ok-sell.ensures.spends in
+    let old = c.args.self.now in
+    let new = c.sell.new.self in
+    record {
+      table = spends.table;
+      eps = spends.eps;
+      ended = (old.eps, c.law.ensures.eps, rw (spends.table, spends.eps) at (rw c.in-Ceiling.is at c.in_ok-sell.ensures.sold));
+      counted = made_within old.table old.eps c.args.bids c.sell.new.left (state_at old) (state_at new) spends.spent;
+    }
 
-pub returns-in-Bids-clause-made : goal.returns-in-Bids-clause-made
-returns-in-Bids-clause-made c =
-    let f1 : FitsSigned w64 c.args.eps = c.ranges.eps in
-    let after = simp to_z-of_z at c.in_ok-sell.ensures in
-    made_all c.args.rows.now c.args.eps c.args.bids c.sell.new.left (state_of c.args.self.now) (state_of c.sell.new.self) (rw c.in-Bids.is at after.sold) after.made
-
-pub returns-in-Bids-clause-ending : goal.returns-in-Bids-clause-ending
-returns-in-Bids-clause-ending c =
-    let f1 : FitsSigned w64 c.args.eps = c.ranges.eps in
-    let after = simp to_z-of_z at c.in_ok-sell.ensures in
-    let none = rw c.in-Bids.is at after.sold in
-    let r = after.raised in
-    (run_out c.args.rows.now c.args.eps c.args.bids (state_of c.args.self.now) (state_of c.sell.new.self) c.requires.eps c.requires.stands (returns-in-Bids-clause-made c), omega (arith, ints, r, none))
+pub returns-in-Bids-clause-slice : goal.returns-in-Bids-clause-slice
+returns-in-Bids-clause-slice c =
+    let spends = c.in_ok-sell.ensures.spends in
+    let old = c.args.self.now in
+    let new = c.sell.new.self in
+    let none = rw c.in-Bids.is at c.in_ok-sell.ensures.sold in
+    record {
+      table = spends.table;
+      eps = spends.eps;
+      ended = all_spent c.args.bids c.sell.new.left old new c.law.ensures none spends;
+      counted = made_all old.table old.eps c.args.bids c.sell.new.left (state_at old) (state_at new) none spends.spent;
+    }

@@ -1,10 +1,6 @@
-use Rattle.std.proofs.Common.{w64}
-use Rattle.std.specs.Prelude.{FitsSigned}
-use Rattle.auc_direct.specs.Bids.{state_of}
-use Rattle.auc_direct.proofs.PhasesLaws.{no_phase}
+use Rattle.std.proofs.Common.{arith}
+use Rattle.auc_direct.proofs.Moving.{spends_none, spent_tried}
 use Rattle.auc_direct.proofs.market.Market.try_phase.Goals as goal
 
-pub returns-then-few-eq0-clause-phase : goal.returns-then-few-eq0-clause-phase
-returns-then-few-eq0-clause-phase g c =
-    let f : FitsSigned w64 c.args.eps = c.ranges.eps in
-    no_phase c.args.rows.now c.args.eps c.args.bids (state_of c.args.self.now) c.requires.eps c.requires.stands
+pub returns-then-few-eq0-clause-tried : goal.returns-then-few-eq0-clause-tried
+returns-then-few-eq0-clause-tried g c = spent_tried c.args.bids c.args.bids c.args.self.now c.args.self.now c.law.ensures (spends_none c.args.self.now c.args.bids)

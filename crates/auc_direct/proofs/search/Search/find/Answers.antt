@@ -2,7 +2,7 @@ use Rattle.std.proofs.Common.{◌∙◌, ◌<◌, ◌≢◌, ap, arith, get_or, 
 use Rattle.std.proofs.lemmas.List.{get_or_default, get_or_read, length-map}
 use Rattle.auc_letters.specs.declared.state.Held.{Held}
 use Rattle.auc_answers.specs.Claims.{holder_at}
-use Rattle.auc_direct.specs.declared.market.TheConstants.{NOBODY}
+use Rattle.auc_direct.specs.declared.holdings.TheConstants.{NOBODY}
 use Rattle.auc_direct.proofs.Seats.{nobody_at, somebody_at}
 use Rattle.auc_direct.specs.declared.label.Label.{Label}
 use Rattle.auc_direct.specs.Market.{holder_at as seat_at}

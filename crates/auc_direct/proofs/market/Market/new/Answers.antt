@@ -1,0 +1,8 @@
+use Rattle.auc_direct.proofs.Moving.{eps_one}
+use Rattle.auc_direct.proofs.market.Market.new.Goals as goal
+
+pub invariant_of-result : goal.invariant_of-result
+invariant_of-result c = record {
+  law = record { sound = c.persons.ensures.sound; arcs = c.requires.arcs; eps = eps_one c.args.rows.now; stands = c.requires.stands };
+  kept = c.in_ok-lists.ensures c.args.holdings.prices.items;
+}

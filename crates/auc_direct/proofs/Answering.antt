@@ -30,8 +30,7 @@ use Rattle.auc_rows.specs.declared.arc.ShortArc.{ShortArc}
 use Rattle.auc_rows.specs.Rows.{AreRowsOf, AreSameRows, EachHasArc, FlatTable, IsFlatTable, flat_row_of, short, short_row}
 use Rattle.auc_direct.specs.declared.ending.Ending.{Ending}
 use Rattle.auc_direct.specs.Endings.{AreFirst, AreOfRun, HasReason, IsClaimOfFirst, IsClaimOfRun, IsLeft, IsLimit, IsLimited, IsLimitedBy, IsLimitedFrom, IsLimitedUnless, IsOfFirstPhases, IsOfPhases, IsOfPhasesFrom, IsStart, IsStopTold, IsToldOr}
-use Rattle.auc_direct.specs.Bids.{state}
-use Rattle.auc_direct.specs.Phases.{IsRun}
+use Rattle.auc_direct.specs.Phases.{HasRun}
 use Rattle.auc_direct.specs.Held.{AreHeld, AreHolders, AreListed, arc_by}
 use Rattle.auc_direct.specs.Market.{EachHasRow, HaveObjects, Stands, holder_at, own_at}
 use Rattle.auc_direct.specs.Starts.{AreOpened}
@@ -227,9 +226,9 @@ stop_told p r rows prices holders owns held is sound are eps stands (Answer.Brok
 
 -- ---- phases have led to an answer
 
-module _ (p : Problem) (r : FlatTable) (rows : AreRowsOf p r) (bids : ℕ) (begun : List ℤ) (held : List (Option Held)) (prices : List ℤ) (holders : List ℕ) (owns : List ShortArc) (run : IsRun r bids begun (state prices holders owns)) where
+module _ (p : Problem) (r : FlatTable) (rows : AreRowsOf p r) (bids : ℕ) (begun : List ℤ) (held : List (Option Held)) (prices : List ℤ) (run : HasRun r bids begun prices) where
   of_run : AreOfRun p bids begun prices
-  of_run = (r, state prices holders owns, rows, refl, run)
+  of_run = (r, run.0, rows, run.1, run.2)
 
   pub sold_of_run : (answer : Answer) → IsOptimalAnswer p held prices answer → IsOfPhases p bids begun answer
   sold_of_run (Answer.Optimal cert) h = subst (IsClaimOfRun p bids begun) (sym h.2) of_run

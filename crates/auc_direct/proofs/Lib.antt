@@ -6,6 +6,7 @@ mod MarketLaws
 mod BidsLaws
 mod PhasesLaws
 mod Moving
+mod Incumbents
 mod Example
 mod Bounds
 mod Opening

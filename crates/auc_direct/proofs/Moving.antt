@@ -5,15 +5,16 @@ use Rattle.std.proofs.lemmas.Int.{ints}
 use Rattle.auc_cert.specs.declared.reason.Reason.{Reason}
 use Rattle.auc_graph.specs.Assignment.{total}
 use Rattle.auc_letters.specs.Price.{IsEps}
+use Rattle.auc_rows.specs.declared.arc.ShortArc.{ShortArc}
 use Rattle.auc_rows.specs.Rows.{FlatTable, IsFlatTable, scale_in}
 use Rattle.auc_direct.specs.declared.ending.Ending.{Ending}
 use Rattle.auc_direct.specs.Bids.{AreCounted, AreSpent, IsBidMade}
-use Rattle.auc_direct.specs.Endings.{IsEnding, IsOutcome, IsSold, IsStopped, IsToldOr}
+use Rattle.auc_direct.specs.Endings.{IsEnding, IsLeft, IsOutcome, IsSold, IsStopped, IsToldOr}
 use Rattle.auc_direct.specs.Eps.{IsEpsOf}
 use Rattle.auc_direct.specs.Market.{HaveObjects, IsAbove, Stands}
 use Rattle.auc_direct.specs.Phases.{ArePhases, IsOpened, IsPhase}
 use Rattle.auc_direct.specs.Phases.ArePhases.{begins, opens, refines}
-use Rattle.auc_direct.specs.Position.{IsBegun, IsBid, IsMove, IsPlayed, IsPlayedAt, IsRefinedWhole, IsRefinement, IsRunOut, IsSlice, IsTried, Law, Plays, Position, Spends, state_at}
+use Rattle.auc_direct.specs.Position.{AreHandedOn, IsBegun, IsBid, IsMove, IsPlayed, IsPlayedAt, IsRefinedWhole, IsRefinement, IsRunOut, IsSlice, IsTried, Law, Plays, Position, Spends, state_at}
 use Rattle.auc_direct.specs.Way.{IsWay}
 use Rattle.auc_direct.proofs.BidsLaws.{made_all, made_more, made_none, made_on, made_raises, made_risen, made_slice, made_within, run_out}
 use Rattle.auc_direct.proofs.Bounds.{scaled_abs}
@@ -214,10 +215,21 @@ over_before bids before between after ending a b c same plays is =
       phases = phases_on a.table bids (state_at a) (state_at b) (state_at c) plays.phases phases;
     }
 
+-- what is handed on has the prices of the last market
+handed_prices : (ending : Ending) (b : Position) (prices : List ℤ) (holders : List ℕ) (owns : List ShortArc) → AreHandedOn ending b prices holders owns → prices ≡ b.prices
+handed_prices Ending.Sold b prices holders owns h = h.0
+handed_prices (Ending.Stopped reason) b prices holders owns h = h.0
+
+handed_left : (ending : Ending) (r : FlatTable) (b : Position) (prices : List ℤ) (holders : List ℕ) (owns : List ShortArc) → b.table ≡ r → IsLeft r ending b.prices b.holders b.owns → AreHandedOn ending b prices holders owns → IsLeft r ending prices holders owns
+handed_left Ending.Sold r b prices holders owns table left h = rw (h.0, h.1, h.2) left
+handed_left (Ending.Stopped reason) r b prices holders owns table left h = (h.1.0, rw table at h.1.1, left.2)
+
 -- what a run comes to that began with these prices
-pub outcome_of : (r : FlatTable) (bids : ℕ) (before after : Bool) (ending : Ending) (begun : List ℤ) (a b : Position) → a.table ≡ r → a.prices ≡ begun → IsRunOut bids before after ending a b → IsOutcome r bids begun before after ending b.prices b.holders b.owns
-outcome_of r bids before after ending begun a b table prices is = record {
-  left = rw table at is.left;
-  stopped = rw (table, prices) at is.stopped;
-  run = record { first = state_at a; begun_are = prices; phases = rw table at is.phases };
-}
+pub outcome_of : (r : FlatTable) (bids : ℕ) (before after : Bool) (ending : Ending) (begun : List ℤ) (a b : Position) (prices : List ℤ) (holders : List ℕ) (owns : List ShortArc) → a.table ≡ r → a.prices ≡ begun → IsRunOut bids before after ending a b → AreHandedOn ending b prices holders owns → IsOutcome r bids begun before after ending prices holders owns
+outcome_of r bids before after ending begun a b prices holders owns table first is h =
+    let same = handed_prices ending b prices holders owns h in
+    record {
+      left = handed_left ending r b prices holders owns (is.table ∙ table) (rw table at is.left) h;
+      stopped = rw same (rw (table, first) at is.stopped);
+      run = (state_at b, sym same, record { first = state_at a; begun_are = first; phases = rw table at is.phases });
+    }

@@ -13,9 +13,9 @@ use Rattle.auc_rows.specs.Rows.{AreRowsOf, AreSameRows, FlatTable}
 use Rattle.auc_direct.specs.declared.ending.Ending.{Ending}
 use Rattle.auc_direct.specs.declared.ending.PathStep.{PathStep}
 use Rattle.auc_direct.specs.declared.holdings.TheConstants.{NOBODY}
-use Rattle.auc_direct.specs.Bids.{HaveRunOut, State, state}
+use Rattle.auc_direct.specs.Bids.{HaveRunOut, State}
 use Rattle.auc_direct.specs.Eps.{IsEpsOf}
-use Rattle.auc_direct.specs.Phases.{IsRun}
+use Rattle.auc_direct.specs.Phases.{HasRun, IsRun}
 use Rattle.auc_direct.specs.Market.{AreHigher, HaveObjects, IsAbove, Stands, own_at}
 use Rattle.auc_direct.specs.Starts.{AreOpened}
 
@@ -70,7 +70,7 @@ IsToldOr before after ending Holds = ((after ≡ true) × (ending ≡ Ending.Sto
 pub record IsOutcome (r : FlatTable) (bids : ℕ) (begun : List ℤ) (before after : Bool) (ending : Ending) (prices : List ℤ) (holders : List ℕ) (owns : List ShortArc) : Type 0 where
   pub left : IsLeft r ending prices holders owns
   pub stopped : IsToldOr before after ending (IsStopped r bids (total begun) ending prices)
-  pub run : IsRun r bids begun (state prices holders owns)
+  pub run : HasRun r bids begun prices
 
 abbrev pub IsLimitedBy : Problem → ℕ → ℤ → CertParts → Type 0
 IsLimitedBy p bids begun (CertParts.Optimal cost choice prices) = Unit {0}

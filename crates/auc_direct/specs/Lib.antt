@@ -9,6 +9,7 @@ pub mod Starts
 pub mod Way
 pub mod Adopted
 pub mod Endings
+pub mod Incumbent
 pub mod Position
 pub mod Held
 pub mod Path

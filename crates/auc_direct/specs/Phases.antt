@@ -44,3 +44,7 @@ pub record IsRun (r : FlatTable) (bids : ℕ) (begun : List ℤ) (last : State) 
   pub first : State
   pub begun_are : first.prices ≡ begun
   pub phases : ArePhases r bids first last
+
+-- and from these prices to those
+abbrev pub HasRun : FlatTable → ℕ → List ℤ → List ℤ → Type 0
+HasRun r bids begun prices = (last : State) × (last.prices ≡ prices) × IsRun r bids begun last

@@ -7,10 +7,12 @@ use Rattle.auc_rows.specs.Rows.{EachHasArc, FlatTable, IsFlatTable}
 use Rattle.auc_direct.specs.declared.ending.Chain.{Chain}
 use Rattle.auc_direct.specs.declared.ending.Ending.{Ending}
 use Rattle.auc_direct.specs.declared.holdings.TheConstants.{NOBODY}
+use Rattle.auc_direct.specs.declared.incumbent.Incumbent.{Incumbent}
 use Rattle.auc_direct.specs.declared.shortlist.Shortlist.{Shortlist}
 use Rattle.auc_direct.specs.Bids.{AreCounted, AreSpent, IsBidMade, State, state}
 use Rattle.auc_direct.specs.Endings.{IsEnding, IsLeft, IsSold, IsStopped, IsToldOr}
 use Rattle.auc_direct.specs.Eps.{IsEpsOf}
+use Rattle.auc_direct.specs.Incumbent.{IsIncumbent}
 use Rattle.auc_direct.specs.Market.{HaveAllBut, HaveObjects, IsAbove, IsAwarded, Stands, own_at}
 use Rattle.auc_direct.specs.Phases.{ArePhases, IsOpened, IsPhase, IsRefined}
 use Rattle.auc_direct.specs.Shortlist.{Kept}
@@ -38,10 +40,11 @@ pub record Law (p : Position) : Type 0 where
   pub eps : IsEpsOf p.table p.eps
   pub stands : Stands p.table p.eps p.prices p.holders p.owns
 
--- and each list of candidates is right
-pub record IsMarket (p : Position) (lists : List Shortlist) : Type 0 where
+-- and each list of candidates is right, and the incumbent was held once
+pub record IsMarket (p : Position) (lists : List Shortlist) (incumbent : Incumbent) : Type 0 where
   pub law : Law p
   pub kept : Kept p.table p.prices lists
+  pub incumbent_is : IsIncumbent p.table incumbent
 
 -- ---- moves within a phase
 
@@ -152,3 +155,8 @@ pub record IsRunOut (bids : ℕ) (before after : Bool) (ending : Ending) (old ne
   pub left : IsLeft old.table ending new.prices new.holders new.owns
   pub stopped : IsToldOr before after ending (IsStopped old.table bids (total old.prices) ending new.prices)
   pub phases : ArePhases old.table bids (state_at old) (state_at new)
+
+-- what such a market is given up for: what each person holds, where all have one; else that, or the incumbent, at the same prices
+abbrev pub AreHandedOn : Ending → Position → List ℤ → List ℕ → List ShortArc → Type 0
+AreHandedOn Ending.Sold p prices holders owns = (prices ≡ p.prices) × (holders ≡ p.holders) × (owns ≡ p.owns)
+AreHandedOn (Ending.Stopped reason) p prices holders owns = (prices ≡ p.prices) × ((eps : ℤ) × Stands p.table eps prices holders owns)

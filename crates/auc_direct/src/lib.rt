@@ -20,6 +20,7 @@ mod hall;
 mod halt;
 mod holdings;
 mod hop;
+mod incumbent;
 mod label;
 mod lists;
 mod market;

@@ -13,17 +13,19 @@
 //! A move takes the market from one such position to another: [`Market::bid`] (a bid is an award, as in Gauss-Seidel), [`Market::path`] (a shortest augmenting path, or the Hall violator that it has reached),
 //! [`Market::refine`] (price refinement) and [`Market::open`] (the next eps). When each is made is strategy, and no answer depends on it. Starts are seated before there is a market (`starts.rt`, `adopt.rt`).
 
-ghost use Rattle.std.specs.Prelude.{true, ◌≡◌, ◌≢◌, ◌≤◌, ◌<◌, ℕ, pos, length, IfErr, IfNone, IfOk, IfSome, OnOk};
+ghost use Rattle.std.specs.Prelude.{true, ◌≡◌, ◌≢◌, ◌≤◌, ◌<◌, ℕ, ℤ, pos, length, IfErr, IfNone, IfOk, IfSome, OnOk};
 ghost use Rattle.auc_rows.specs.Rows.{EachHasArc};
 ghost use Rattle.auc_direct.specs.declared.holdings.TheConstants.{NOBODY};
 ghost use Rattle.auc_direct.specs.Eps.{IsEpsOf};
 ghost use Rattle.auc_direct.specs.Halts.{IsHalt};
 ghost use Rattle.auc_direct.specs.Market.{IsAbove, Stands, own_at};
-ghost use Rattle.auc_direct.specs.Position.{IsBegun, IsBid, IsFree, IsMove, IsRefinedWhole, IsRefinement, Law, position};
+ghost use Rattle.auc_direct.specs.Position.{AreHandedOn, IsBegun, IsBid, IsFree, IsMove, IsRefinedWhole, IsRefinement, Law, position};
 
+use crate::ending::Ending;
 use crate::eps::{LAST_EPS, spread_of};
 use crate::halt::Halt;
 use crate::holdings::{Holdings, NOBODY};
+use crate::incumbent::Incumbent;
 use crate::lists::Lists;
 use crate::paths::Paths;
 use crate::way::Way;
@@ -40,6 +42,7 @@ pub(crate) struct Market<'a> {
     holdings: Holdings,
     lists: Lists,
     paths: Paths,
+    incumbent: Incumbent,
 }
 
 impl<'a> Model for Market<'a> {
@@ -49,7 +52,7 @@ impl<'a> Model for Market<'a> {
 
     ghost view = { λ m. record { table = m.rows.now; eps = m.eps; prices = m.holdings.prices.items; holders = m.holdings.holders.items; owns = m.holdings.owns.items } };
 
-    ghost invariant = { λ m. IsMarket (record { table = m.rows.now; eps = m.eps; prices = m.holdings.prices.items; holders = m.holdings.holders.items; owns = m.holdings.owns.items }) m.lists.lists.items };
+    ghost invariant = { λ m. IsMarket (record { table = m.rows.now; eps = m.eps; prices = m.holdings.prices.items; holders = m.holdings.holders.items; owns = m.holdings.owns.items }) m.lists.lists.items m.incumbent };
 }
 
 impl<'a> Market<'a> {
@@ -63,9 +66,8 @@ impl<'a> Market<'a> {
         requires stands { Stands rows.now (pos 1) holdings.prices.items holdings.holders.items holdings.owns.items }
         ensures { IfOk result (λ m. m ≡ position rows.now (pos 1) holdings.prices.items holdings.holders.items holdings.owns.items) }
     {
-        // Read here, so that the proof knows what all rows keep.
-        let _ = rows.persons();
         let lists = Lists::new(alloc, rows)?;
+        let incumbent = Incumbent::new(alloc, rows.persons(), rows.objects())?;
         Ok(Market {
             alloc,
             rows,
@@ -73,6 +75,7 @@ impl<'a> Market<'a> {
             holdings,
             lists,
             paths: Paths::new(alloc),
+            incumbent,
         })
     }
 
@@ -171,6 +174,7 @@ impl<'a> Market<'a> {
             .holdings
             .refine(self.alloc, rows, looks, lists)?;
         if !is_least {
+            self.holdings.set_aside(&mut self.incumbent);
             self.holdings.open();
             return Ok(false);
         }
@@ -185,15 +189,39 @@ impl<'a> Market<'a> {
         ensures { IsBegun eps self.old self.new }
     {
         self.eps = eps;
+        self.holdings.set_aside(&mut self.incumbent);
         self.holdings.open();
     }
 
-    /// What it has come to.
-    pub(crate) fn into_holdings(self) -> Holdings
-        ensures prices { result.prices.items ≡ self.entry.prices }
-        ensures holders { result.holders.items ≡ self.entry.holders }
-        ensures owns { result.owns.items ≡ self.entry.owns }
+    /// What it has come to. Where it was stopped, the incumbent, if there is one, at the present prices.
+    pub(crate) fn into_holdings(self, ending: Ending) -> Holdings
+        ensures { AreHandedOn ending self.entry result.prices.items result.holders.items result.owns.items }
     {
-        self.holdings
+        match ending {
+            Ending::Sold => self.holdings,
+            Ending::Stopped(_) => self.or_incumbent(),
+        }
+    }
+
+    /// The incumbent at the present prices; or what is held, where there is none.
+    fn or_incumbent(self) -> Holdings
+        ensures prices { result.prices.items ≡ self.entry.prices }
+        ensures stands { (eps : ℤ) × Stands self.entry.table eps result.prices.items result.holders.items result.owns.items }
+    {
+        let Market {
+            holdings,
+            incumbent,
+            ..
+        } = self;
+        if incumbent.is_whole {
+            let Holdings { prices, .. } = holdings;
+            let Incumbent { holders, owns, .. } = incumbent;
+            return Holdings {
+                prices,
+                holders,
+                owns,
+            };
+        }
+        holdings
     }
 }

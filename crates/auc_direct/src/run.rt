@@ -121,7 +121,7 @@ pub(crate) fn run<W: Watch>(
         market.law();
         return Ok(Outcome {
             ending,
-            holdings: market.into_holdings(),
+            holdings: market.into_holdings(ending),
         });
     }
     if let Some(holdings) = adopted(alloc, rows, looks_at_table(rows))? {
@@ -135,12 +135,12 @@ pub(crate) fn run<W: Watch>(
         market.law();
         return Ok(Outcome {
             ending,
-            holdings: market.into_holdings(),
+            holdings: market.into_holdings(ending),
         });
     }
     let ending = market.play_phases(rows, bids, &mut pace, watch)?;
     Ok(Outcome {
         ending,
-        holdings: market.into_holdings(),
+        holdings: market.into_holdings(ending),
     })
 }

@@ -9,8 +9,7 @@ ghost use Rattle.auc_rows.specs.Rows.{AreRowsOf, EachHasArc, IsFlatTable};
 ghost use Rattle.auc_direct.specs.Endings.{IsLeft, IsLimited, IsLimitedFrom, IsLimitedUnless, IsOfFirstPhases, IsOfPhases, IsOfPhasesFrom, IsOutcome, IsStopTold, IsStopped};
 ghost use Rattle.auc_cert.specs.declared.reason.Reason.{Reason};
 ghost use Rattle.auc_direct.specs.declared.ending.Ending.{Ending};
-ghost use Rattle.auc_direct.specs.Bids.{state_of};
-ghost use Rattle.auc_direct.specs.Phases.{IsRun};
+ghost use Rattle.auc_direct.specs.Phases.{HasRun};
 ghost use Rattle.auc_direct.specs.Starts.{AreStartPrices};
 
 use crate::ending::Ending;
@@ -86,7 +85,7 @@ fn answer_of(
     ensures is { IfOk result (IsAnswer problem.now) }
     ensures limit { (bids : ℕ) (begun : ℤ) → IsStopped flat bids begun outcome.ending outcome.holdings.prices.items → IfOk result (IsLimited problem.now bids begun) }
     ensures told { outcome.ending ≡ Ending.Stopped Reason.Bids → IfOk result IsStopTold }
-    ensures run { (bids : ℕ) (begun : List ℤ) → IsRun flat bids begun (state_of outcome.holdings) → IfOk result (IsOfPhases problem.now bids begun) }
+    ensures run { (bids : ℕ) (begun : List ℤ) → HasRun flat bids begun outcome.holdings.prices.items → IfOk result (IsOfPhases problem.now bids begun) }
 {
     // Read here, so that the proof knows what every problem keeps.
     let _ = problem.arcs();

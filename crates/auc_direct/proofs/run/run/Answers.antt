@@ -17,7 +17,7 @@ returns-in-Some-clause-outcome g c =
     let after = g.W.Watch.has_stopped c.try_phase.new.watch in
     let played = rw c.in-Some.is at c.in_ok-ending.ensures.played in
     let over = over_at a.eps bids before before after c.in-Some.ending a a b refl c.law.ensures (plays_none bids a) (plays_tried bids a b played.tried) (played_at bids before after c.in-Some.ending a b played) (λ _. ap (λ (p : Position). p.eps) e) in
-    rw (c.into_holdings.ensures.prices, c.into_holdings.ensures.holders, c.into_holdings.ensures.owns) (outcome_of c.args.rows.now bids before after c.in-Some.ending c.args.holdings.prices.items a b (ap (λ (p : Position). p.table) e) (ap (λ (p : Position). p.prices) e) over)
+    outcome_of c.args.rows.now bids before after c.in-Some.ending c.args.holdings.prices.items a b c.into_holdings.result.prices.items c.into_holdings.result.holders.items c.into_holdings.result.owns.items (ap (λ (p : Position). p.table) e) (ap (λ (p : Position). p.prices) e) over c.into_holdings.ensures
 
 -- a full table was adopted after it
 pub returns-in-Some-2-clause-outcome : goal.returns-in-Some-2-clause-outcome
@@ -34,7 +34,7 @@ returns-in-Some-2-clause-outcome g c =
     record {
       left = (stands, have);
       stopped = inr (rw c.in_default.is at c.in_ok-ending.ensures.going, tt);
-      run = record { first = state_at a; begun_are = ap (λ (p : Position). p.prices) e; phases = adopts (state_at b) (state_of c.in-Some-2.holdings) phases is };
+      run = (state_of c.in-Some-2.holdings, refl, record { first = state_at a; begun_are = ap (λ (p : Position). p.prices) e; phases = adopts (state_at b) (state_of c.in-Some-2.holdings) phases is });
     }
 
 -- one phase after it
@@ -51,7 +51,7 @@ returns-then-persons-objects-clause-outcome g c =
     let tried = rw c.in_default.is at c.in_ok-ending.ensures.tried in
     let played = c.in_ok-ending-2.ensures.played in
     let over = over_at b.eps bids before between after c.in_ok-ending-2.ending a b d (rw c.in_default.is at c.in_ok-ending.ensures.going) c.law-then-persons-objects.ensures (plays_tried bids a b tried) (plays_tried bids b d played.tried) (played_at bids between after c.in_ok-ending-2.ending b d played) (λ _. tried.eps ∙ ap (λ (p : Position). p.eps) e) in
-    rw (c.into_holdings-then-persons-objects.ensures.prices, c.into_holdings-then-persons-objects.ensures.holders, c.into_holdings-then-persons-objects.ensures.owns) (outcome_of c.args.rows.now bids before after c.in_ok-ending-2.ending c.args.holdings.prices.items a d (ap (λ (p : Position). p.table) e) (ap (λ (p : Position). p.prices) e) over)
+    outcome_of c.args.rows.now bids before after c.in_ok-ending-2.ending c.args.holdings.prices.items a d c.into_holdings-then-persons-objects.result.prices.items c.into_holdings-then-persons-objects.result.holders.items c.into_holdings-then-persons-objects.result.owns.items (ap (λ (p : Position). p.table) e) (ap (λ (p : Position). p.prices) e) over c.into_holdings-then-persons-objects.ensures
 
 -- all phases after it
 pub returns-clause-outcome : goal.returns-clause-outcome
@@ -66,4 +66,4 @@ returns-clause-outcome g c =
     let after = g.W.Watch.has_stopped c.play_phases.new.watch in
     let tried = rw c.in_default.is at c.in_ok-ending.ensures.tried in
     let over = over_before bids before between after c.in_ok-ending-3.ending a b d (rw c.in_default.is at c.in_ok-ending.ensures.going) (plays_tried bids a b tried) c.in_ok-ending-3.ensures.over in
-    rw (c.into_holdings-2.ensures.prices, c.into_holdings-2.ensures.holders, c.into_holdings-2.ensures.owns) (outcome_of c.args.rows.now bids before after c.in_ok-ending-3.ending c.args.holdings.prices.items a d (ap (λ (p : Position). p.table) e) (ap (λ (p : Position). p.prices) e) over)
+    outcome_of c.args.rows.now bids before after c.in_ok-ending-3.ending c.args.holdings.prices.items a d c.into_holdings-2.result.prices.items c.into_holdings-2.result.holders.items c.into_holdings-2.result.owns.items (ap (λ (p : Position). p.table) e) (ap (λ (p : Position). p.prices) e) over c.into_holdings-2.ensures

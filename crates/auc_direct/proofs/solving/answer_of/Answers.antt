@@ -87,7 +87,7 @@ returns-in-Sold-clause-run c = λ bids begun run. (
     let left = c.in_ok-gathered.gathered in
     let g = c.in_ok-gathered.ensures in
     of_answers (IsOptimalAnswer c.args.problem.now left.holders.items left.prices.items) (IsOfPhases c.args.problem.now bids begun) c.proved_optimal.result
-    (rw g.prices (sold_of_run c.args.problem.now c.args.flat c.requires.rows bids begun left.holders.items m.prices.items m.holders.items m.owns.items run)) c.proved_optimal.ensures
+    (rw g.prices (sold_of_run c.args.problem.now c.args.flat c.requires.rows bids begun left.holders.items m.prices.items run)) c.proved_optimal.ensures
     )
 
 pub returns-in-Stopped-clause-run : goal.returns-in-Stopped-clause-run
@@ -97,5 +97,5 @@ returns-in-Stopped-clause-run c = λ bids begun run. (
     let left = c.in_ok-gathered.gathered in
     let g = c.in_ok-gathered.ensures in
     of_answers (λ a. IsInfeasibleAnswer p a ⊎ (HasAssignment p × IsBracketAnswer p c.in-Stopped.reason left.holders.items left.prices.items a)) (IsOfPhases p bids begun) c.bracketed.result
-    (rw g.prices (stopped_of_run p c.args.flat c.requires.rows bids begun left.holders.items m.prices.items m.holders.items m.owns.items run c.in-Stopped.reason)) c.bracketed.ensures
+    (rw g.prices (stopped_of_run p c.args.flat c.requires.rows bids begun left.holders.items m.prices.items run c.in-Stopped.reason)) c.bracketed.ensures
     )

@@ -43,6 +43,7 @@ invariant_of-self c =
         stands = stands_by c.self.inside.rows.now c.self.inside.eps c.args.person old.prices.items new.prices.items old.holders.items new.holders.items old.owns.items new.owns.items c.step.result law.stands step.awarded step.high;
       };
       kept = step.kept;
+      incumbent_is = c.self.invariant.incumbent_is;
     }
 
 pub returns-clause-bid : goal.returns-clause-bid

@@ -1,7 +1,8 @@
-use Rattle.std.proofs.Common.{inl, length, refl, w64}
+use Rattle.std.proofs.Common.{ap, inl, length, refl, w64, ◌∙◌}
 use Rattle.std.specs.Prelude.{FitsSigned}
 use Rattle.std.proofs.lemmas.Int.{to_z-of_z}
 use Rattle.auc_direct.specs.Bids.{state}
+use Rattle.auc_direct.proofs.Incumbents.{aside_holders, aside_is, aside_owns}
 use Rattle.auc_direct.proofs.Opening.{stands_opened}
 use Rattle.auc_direct.proofs.PhasesLaws.{opened_is}
 use Rattle.auc_direct.proofs.market.Market.open.Goals as goal
@@ -14,21 +15,27 @@ invariant_of-self c =
     let eps = rw (← c.self.view_is) at c.requires.eps in
     let rows = c.self.inside.rows.now in
     let old = c.self.inside.holdings in
-    let same = c.open.ensures.prices in
+    let aside = c.set_aside.ensures.aside in
+    let mid = c.set_aside.new.self in
+    let same = rw c.set_aside.ensures.prices at c.open.ensures.prices in
+    let is = c.self.invariant.incumbent_is in
     simp to_z-of_z (record {
       law = record {
         sound = law.sound;
         arcs = law.arcs;
         eps = eps;
-        stands = rw same (stands_opened rows c.args.eps c.args.eps old.prices.items c.open.new.self.holders.items c.open.new.self.owns.items (length old.holders.items) (length old.owns.items) (record { each = law.stands.prices_are; within = law.stands.within; spare = inl square }) law.stands.holders_are law.stands.owns_are c.open.ensures.holders c.open.ensures.owns);
+        stands = rw same (stands_opened rows c.args.eps c.args.eps old.prices.items c.open.new.self.holders.items c.open.new.self.owns.items (length mid.holders.items) (length mid.owns.items) (record { each = law.stands.prices_are; within = law.stands.within; spare = inl square }) (aside_holders rows c.self.inside.eps old.prices.items old c.self.inside.incumbent mid c.set_aside.new.incumbent square law.stands is aside) (aside_owns rows c.self.inside.eps old.prices.items old c.self.inside.incumbent mid c.set_aside.new.incumbent square law.stands is aside) c.open.ensures.holders c.open.ensures.owns);
       };
       kept = rw same c.self.invariant.kept;
+      incumbent_is = aside_is rows c.self.inside.eps old.prices.items old c.self.inside.incumbent mid c.set_aside.new.incumbent square law.stands is aside;
     })
 
 pub returns : goal.returns
 returns c =
     let f : FitsSigned w64 c.args.eps = c.ranges.eps in
     let old = c.self.inside.holdings in
+    let mid = c.set_aside.new.self in
     let new = c.open.new.self in
-    let opened = opened_is (state old.prices.items old.holders.items old.owns.items) (state new.prices.items new.holders.items new.owns.items) (length old.owns.items) c.open.ensures.prices c.open.ensures.owns in
+    let same = rw c.set_aside.ensures.prices at c.open.ensures.prices in
+    let opened = opened_is (state old.prices.items old.holders.items old.owns.items) (state new.prices.items new.holders.items new.owns.items) (length mid.owns.items) same c.open.ensures.owns in
     rw (← c.self.view_is) (simp to_z-of_z (record { table = refl; eps_is = refl; prices = opened.prices; none = opened.none }))

@@ -29,6 +29,7 @@ invariant_of-self c =
     record {
       law = record { sound = law.sound; arcs = law.arcs; eps = law.eps; stands = way.stands };
       kept = kept_rises c.self.inside.rows.now c.self.inside.holdings.prices.items c.find_way.new.self.prices.items c.self.inside.lists.lists.items way.higher c.self.invariant.kept;
+      incumbent_is = c.self.invariant.incumbent_is;
     }
 
 pub returns-clause-way : goal.returns-clause-way

@@ -1,6 +1,8 @@
 use Rattle.std.proofs.Common.{inl, inr, length, refl}
 use Rattle.auc_direct.specs.Bids.{State, state}
 use Rattle.auc_direct.proofs.Moving.{no_refinement}
+use Rattle.auc_direct.specs.Starts.{any_eps}
+use Rattle.auc_direct.proofs.Incumbents.{aside_holders, aside_is, aside_owns}
 use Rattle.auc_direct.proofs.Opening.{stands_opened}
 use Rattle.auc_direct.proofs.PhasesLaws.{opened_is}
 use Rattle.auc_direct.proofs.Refinement.{stands_any}
@@ -19,27 +21,35 @@ invariant_of-self-then-not-is_least c =
     let law = c.self.invariant.law in
     let square = rw (← c.self.view_is) at c.requires.square in
     let refined = c.in_ok-is_least.ensures in
-    let mid = c.refine.new.self in
+    let rows = c.self.inside.rows.now in
+    let held = c.refine.new.self in
+    let mid = c.set_aside.new.self in
     let new = c.open.new.self in
+    let aside = c.set_aside.ensures.aside in
+    let same = rw c.set_aside.ensures.prices at c.open.ensures.prices in
+    let is = c.self.invariant.incumbent_is in
     record {
       law = record {
         sound = law.sound;
         arcs = law.arcs;
         eps = law.eps;
-        stands = rw c.open.ensures.prices (stands_opened c.self.inside.rows.now c.self.inside.eps c.self.inside.eps mid.prices.items new.holders.items new.owns.items (length mid.holders.items) (length mid.owns.items) (record { each = refined.stands.prices_are; within = refined.stands.within; spare = inl square }) refined.stands.holders_are refined.stands.owns_are c.open.ensures.holders c.open.ensures.owns);
+        stands = rw same (stands_opened rows c.self.inside.eps c.self.inside.eps held.prices.items new.holders.items new.owns.items (length mid.holders.items) (length mid.owns.items) (record { each = refined.stands.prices_are; within = refined.stands.within; spare = inl square }) (aside_holders rows any_eps held.prices.items held c.self.inside.incumbent mid c.set_aside.new.incumbent square refined.stands is aside) (aside_owns rows any_eps held.prices.items held c.self.inside.incumbent mid c.set_aside.new.incumbent square refined.stands is aside) c.open.ensures.holders c.open.ensures.owns);
       };
-      kept = rw c.open.ensures.prices refined.kept;
+      kept = rw same refined.kept;
+      incumbent_is = aside_is rows any_eps held.prices.items held c.self.inside.incumbent mid c.set_aside.new.incumbent square refined.stands is aside;
     }
 
 pub returns-then-not-is_least-clause-refined : goal.returns-then-not-is_least-clause-refined
 returns-then-not-is_least-clause-refined c =
     let refined = c.in_ok-is_least.ensures in
-    let mid = c.refine.new.self in
+    let held = c.refine.new.self in
+    let mid = c.set_aside.new.self in
     let new = c.open.new.self in
-    let b : State = state mid.prices.items mid.holders.items mid.owns.items in
+    let b : State = state held.prices.items held.holders.items held.owns.items in
     let d : State = state new.prices.items new.holders.items new.owns.items in
-    let opened = opened_is b d (length mid.owns.items) c.open.ensures.prices c.open.ensures.owns in
-    rw (← c.self.view_is) (record { table = refl; refined = b; is = record { owns = refined.owns; risen = refined.risen }; after = inr opened; risen = rw c.open.ensures.prices refined.risen })
+    let same = rw c.set_aside.ensures.prices at c.open.ensures.prices in
+    let opened = opened_is b d (length mid.owns.items) same c.open.ensures.owns in
+    rw (← c.self.view_is) (record { table = refl; refined = b; is = record { owns = refined.owns; risen = refined.risen }; after = inr opened; risen = rw same refined.risen })
 
 -- ---- to the end
 

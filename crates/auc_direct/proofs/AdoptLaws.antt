@@ -10,14 +10,13 @@ use Rattle.auc_rows.specs.declared.arc.ShortArc.{ShortArc}
 use Rattle.auc_rows.specs.Rows.{FlatTable, flat_row_of}
 use Rattle.auc_direct.specs.Adopted.{IsFullRow}
 use Rattle.auc_direct.specs.Scan.{no_arc}
-use Rattle.auc_direct.proofs.Bounds.{product_abs}
-use Rattle.auc_direct.proofs.Opening.{mul_low}
+use Rattle.auc_direct.proofs.Bounds.{product_abs, product_low}
 
 -- a price in costs of the table that is not too high, scaled
 pub scaled_price : (s d : ℤ) → pos 1 ≤ℤ s → s ≤ℤ pos 10001 → pos 0 ≤ℤ d → d ≤ℤ pos (2 * 10 ^ 14) → IsPrice (s *ℤ d) × FitsSigned w64 (s *ℤ d)
 scaled_price s d a b plain most =
     let h : unsigned_abs (s *ℤ d) ≤ 10001 * (2 * 10 ^ 14) = product_abs s d 10001 (2 * 10 ^ 14) (omega (arith, ints)) (omega (arith, ints)) in
-    let low : pos 0 ≤ℤ (s *ℤ d) = mul_low s d (omega (arith, ints)) (omega (arith, ints)) in
+    let low : pos 0 ≤ℤ (s *ℤ d) = product_low s d (omega (arith, ints)) (omega (arith, ints)) in
     (record { low = low; high = omega (arith, ints, h) }, omega (arith, ints, h))
 
 -- one row more of a full table

@@ -1,8 +1,9 @@
 -- How large the values are.
-use Rattle.std.proofs.Common.{◌≡◌, ℕ, ◌+◌, ◌*◌, ◌≤◌, ◌^◌, arith, length, List, w64, pos}
+use Rattle.std.proofs.Common.{◌≡◌, ℕ, ◌+◌, ◌*◌, ◌≤◌, ◌^◌, arith, length, List, subst, sym, w64, pos, negsuc}
 use Rattle.std.specs.Prelude.{All, ℤ, ◌+ℤ◌, ◌-ℤ◌, ◌*ℤ◌, ◌≤ℤ◌, neg_ℤ, FitsSigned, unsigned_abs}
 use Rattle.std.proofs.lemmas.Int.{ints, unsigned_abs-mul}
 use Rattle.std.proofs.lemmas.List.Elements.{All-get_or}
+use Rattle.std.proofs.Math.IntN.{pos-*ℤ-pos}
 use Rattle.std.proofs.Math.Nat.{mul-le-mul_left}
 use Rattle.auc_graph.specs.Dual.{price_at}
 use Rattle.auc_graph.specs.Price.{IsPrice}
@@ -16,6 +17,11 @@ product_abs s c m n a b =
     let f : unsigned_abs s * unsigned_abs c ≤ unsigned_abs s * n = mul-le-mul_left (unsigned_abs s) b in
     let g : n * unsigned_abs s ≤ n * m = mul-le-mul_left n a in
     omega (arith, e, f, g)
+
+pub product_low : (s d : ℤ) → pos 0 ≤ℤ s → pos 0 ≤ℤ d → pos 0 ≤ℤ (s *ℤ d)
+product_low (pos m) (pos n) a b = subst (λ (z : ℤ). pos 0 ≤ℤ z) (sym (pos-*ℤ-pos m n)) (omega (arith, ints))
+product_low (pos m) (negsuc n) a b = absurd (omega (arith, ints, b))
+product_low (negsuc m) d a b = absurd (omega (arith, ints, a))
 
 pub product_below : (s c : ℤ) → pos 1 ≤ℤ s → s ≤ℤ pos 10001 → neg_ℤ (pos (10 ^ 9)) ≤ℤ c → c ≤ℤ pos (10 ^ 9) → unsigned_abs (s *ℤ c) ≤ 10001 * 10 ^ 9
 product_below s c a b d e = product_abs s c 10001 (10 ^ 9) (omega (arith, ints)) (omega (arith, ints))
@@ -40,6 +46,10 @@ scaled_fits s w h = omega (arith, ints, h)
 
 pub scaled_high : (s w : ℤ) → unsigned_abs (s *ℤ w) ≤ 10001 * (2 * 10 ^ 9) → (s *ℤ w) ≤ℤ pos (2 ^ 45)
 scaled_high s w h = omega (arith, ints, h)
+
+-- the spread of all costs, scaled
+pub scaled_low : (r : FlatTable) → IsFlatTable r → pos 0 ≤ℤ (scale_in r *ℤ r.spread)
+scaled_low r sound = product_low (scale_in r) r.spread (omega (arith, ints)) sound.low
 
 pub diff_fits : (b a : ℤ) → IsValue b → IsValue a → FitsSigned w64 (b -ℤ a)
 diff_fits b a i j = omega (arith, ints, i.low, i.high, j.low, j.high)

@@ -12,7 +12,7 @@ use Rattle.auc_letters.specs.Price.{IsEps}
 use Rattle.auc_rows.specs.declared.arc.ShortArc.{ShortArc}
 use Rattle.auc_rows.specs.Rows.{FlatTable, IsFlatTable, IsShort, flat_row_of, scale_in}
 use Rattle.auc_direct.specs.declared.holdings.TheConstants.{NOBODY}
-use Rattle.auc_direct.specs.Bid.{IsOffer, IsRaise}
+use Rattle.auc_direct.specs.Bid.{IsRaise}
 use Rattle.auc_direct.specs.Market.{AreSpare, HaveAllBut, IsAbove, IsAwarded, IsSlack, IsTooHigh, Stands, holder_at, no_own, own_at}
 use Rattle.auc_direct.proofs.BidLaws.{risen}
 
@@ -240,21 +240,6 @@ module _ (r : FlatTable) (eps : ℤ) (prices : List ℤ) (holders : List ℕ) (o
       | inr ni ↦ others_have k ni nd (h.others k l ni no)
     ];
   }
-
--- a bid at prices and by a row that are these
-pub raise_by : (r : FlatTable) (scale eps : ℤ) (i : ℕ) (prices these : List ℤ) (row : List ShortArc) (s : ShortArc) (amount : ℤ) → scale ≡ scale_in r → these ≡ prices → row ≡ flat_row_of r i → IsRaise scale eps these row s amount → IsRaise (scale_in r) eps prices (flat_row_of r i) s amount
-raise_by r scale eps i prices these row s amount e f g h =
-    subst (λ (z : ℤ). IsRaise z eps prices (flat_row_of r i) s amount) e
-    (subst (λ (ps : List ℤ). IsRaise scale eps ps (flat_row_of r i) s amount) f
-    (subst (λ (xs : List ShortArc). IsRaise scale eps these xs s amount) g h))
-
--- the same of its amount
-pub offer_by : (r : FlatTable) (scale spread eps : ℤ) (i : ℕ) (prices these : List ℤ) (row : List ShortArc) (s : ShortArc) (amount : ℤ) → scale ≡ scale_in r → spread ≡ r.spread → these ≡ prices → row ≡ flat_row_of r i → IsOffer scale spread eps these row s amount → IsOffer (scale_in r) r.spread eps prices (flat_row_of r i) s amount
-offer_by r scale spread eps i prices these row s amount e same f g h =
-    subst (λ (z : ℤ). IsOffer z r.spread eps prices (flat_row_of r i) s amount) e
-    (subst (λ (z : ℤ). IsOffer scale z eps prices (flat_row_of r i) s amount) same
-    (subst (λ (ps : List ℤ). IsOffer scale spread eps ps (flat_row_of r i) s amount) f
-    (subst (λ (xs : List ShortArc). IsOffer scale spread eps these xs s amount) g h)))
 
 -- what holds of lists holds of those that are the same
 pub stands_by : (r : FlatTable) (eps : ℤ) (prices these : List ℤ) (holders they : List ℕ) (owns those : List ShortArc) → these ≡ prices → they ≡ holders → those ≡ owns → Stands r eps prices holders owns → Stands r eps these they those

@@ -4,7 +4,6 @@ use Rattle.std.specs.Prelude.{All, FitsSigned, ◌⊎◌, ◌*◌, ◌^◌, ◌*
 use Rattle.std.proofs.lemmas.Int.{ints}
 use Rattle.std.proofs.lemmas.List.{get_or-replicate, get_or_default, length-replicate, same_lists}
 use Rattle.std.proofs.lemmas.List.Elements.{All-replicate, All-weaker}
-use Rattle.std.proofs.Math.IntN.{pos-*ℤ-pos}
 use Rattle.auc_cert.specs.Start.{IsStartPrice}
 use Rattle.auc_graph.specs.Assignment.{total}
 use Rattle.auc_graph.specs.Dual.{price_at}
@@ -15,7 +14,7 @@ use Rattle.auc_answers.proofs.NewShards.{replicate_default}
 use Rattle.auc_rows.specs.declared.arc.ShortArc.{ShortArc}
 use Rattle.auc_rows.specs.Rows.{AreSameRows, FlatTable}
 use Rattle.auc_direct.specs.declared.holdings.TheConstants.{NOBODY}
-use Rattle.auc_direct.proofs.Bounds.{product_abs}
+use Rattle.auc_direct.proofs.Bounds.{product_abs, product_low}
 use Rattle.auc_direct.proofs.MarketLaws.{total_low}
 use Rattle.auc_direct.specs.Endings.{IsStart}
 use Rattle.auc_direct.specs.Market.{AreSpare, Stands, holder_at, no_own, own_at}
@@ -86,16 +85,11 @@ prices_of_start p t r start its same is = record {
 pub start_at : (r : FlatTable) (start prices : List ℤ) → ArePricesOf r start → r.objects ≡ length r.rows → prices ≡ start → IsStart r (pos 1) prices
 start_at r start prices is square e = record { each = ap length e ∙ is.each; within = subst (All IsPrice) (sym e) is.within; spare = inl square }
 
-pub mul_low : (s d : ℤ) → pos 0 ≤ℤ s → pos 0 ≤ℤ d → pos 0 ≤ℤ (s *ℤ d)
-mul_low (pos m) (pos n) a b = subst (λ (z : ℤ). pos 0 ≤ℤ z) (sym (pos-*ℤ-pos m n)) (omega (arith, ints))
-mul_low (pos m) (negsuc n) a b = absurd (omega (arith, ints, b))
-mul_low (negsuc m) d a b = absurd (omega (arith, ints, a))
-
 -- a price by which a cost is made up for
 pub product_price : (s d : ℤ) → pos 1 ≤ℤ s → s ≤ℤ pos 10001 → pos 0 <ℤ d → d ≤ℤ pos (2 ^ 33) → IsPrice (s *ℤ d) × FitsSigned w64 (s *ℤ d)
 product_price s d a b more most =
     let h : unsigned_abs (s *ℤ d) ≤ 10001 * 2 ^ 33 = product_abs s d 10001 (2 ^ 33) (omega (arith, ints)) (omega (arith, ints)) in
-    let low : pos 0 ≤ℤ (s *ℤ d) = mul_low s d (omega (arith, ints)) (omega (arith, ints)) in
+    let low : pos 0 ≤ℤ (s *ℤ d) = product_low s d (omega (arith, ints)) (omega (arith, ints)) in
     (record { low = low; high = omega (arith, ints, h) }, omega (arith, ints, h))
 
 -- a run that began with prices that add up to no less than nothing

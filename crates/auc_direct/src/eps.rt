@@ -5,7 +5,7 @@ ghost use Rattle.auc_graph.specs.Price.{IsPrice};
 ghost use Rattle.auc_rows.specs.Rows.{IsShort};
 ghost use Rattle.auc_direct.specs.Eps.{IsEpsOf};
 
-use crate::bid::scaled;
+use crate::bid::scaled_spread;
 use crate::scan::value_of;
 use crate::tuning::{SAMPLE, STEP};
 use auc_rows::{FlatRows, ShortArc};
@@ -98,7 +98,7 @@ pub(crate) fn spread_of(rows: &FlatRows, prices: &[i64]) -> i64
     requires prices { All IsPrice prices.now }
     ensures { IsEpsOf rows.now result }
 {
-    let most = scaled(rows.scale(), rows.spread());
+    let most = scaled_spread(rows);
     mean_spread(rows, prices)
         .min(most)
         .max(LAST_EPS)

@@ -34,11 +34,9 @@ impl Holdings {
         ensures high { IfNone result (IsTooHigh rows.now eps self.old.prices.items self.new.prices.items self.old.holders.items self.new.holders.items self.old.owns.items self.new.owns.items) }
         ensures kept { Kept rows.now self.new.prices.items lists.new.lists.items }
     {
-        let scale = rows.scale();
-        let spread = rows.spread();
         let prices = self.prices.as_slice();
-        let best = lists.best(rows, scale, person, prices);
-        let bid = bid_of(scale, spread, eps, rows.row(person), best, prices);
+        let best = lists.best(rows, rows.scale(), person, prices);
+        let bid = bid_of(rows, eps, person, best, prices);
         if bid.is_too_high() {
             return None;
         }

@@ -1,6 +1,6 @@
 -- What was held once may be held at any lawful prices, where there are as many objects as persons.
-use Rattle.std.proofs.Common.{ℕ, ℤ, true, ◌≡◌, ◌∙◌, List, ap, inl, inr, length, subst, sym}
-use Rattle.std.specs.Prelude.{All, ◌⊎◌}
+use Rattle.std.proofs.Common.{ℕ, ℤ, ◌≡◌, ◌∙◌, List, ap, inl, inr, length, subst, sym}
+use Rattle.std.specs.Prelude.{All}
 use Rattle.auc_graph.specs.Price.{IsPrice}
 use Rattle.auc_rows.specs.declared.arc.ShortArc.{ShortArc}
 use Rattle.auc_rows.specs.Rows.{FlatTable, IsFlatTable}

@@ -13,7 +13,7 @@ use Rattle.auc_rows.specs.declared.arc.ShortArc.{ShortArc}
 use Rattle.auc_rows.specs.Rows.{FlatTable, IsFlatTable, IsShort, flat_row_of, scale_in}
 use Rattle.auc_direct.specs.declared.holdings.TheConstants.{NOBODY}
 use Rattle.auc_direct.specs.Bid.{IsRaise}
-use Rattle.auc_direct.specs.Market.{AreSpare, HaveAllBut, IsAbove, IsAwarded, IsSlack, IsTooHigh, Stands, holder_at, no_own, own_at}
+use Rattle.auc_direct.specs.Market.{AreSpare, HaveAllBut, IsAwarded, IsSlack, Stands, holder_at, no_own, own_at}
 use Rattle.auc_direct.proofs.BidLaws.{risen}
 
 -- ---- sums of prices

@@ -1,6 +1,6 @@
 -- Moves of a market, one after another.
-use Rattle.std.proofs.Common.{Bool, ap, ℕ, ℤ, pos, refl, ◌+◌, ◌-◌, ◌^◌, ◌<◌, ◌≤◌, ◌≡◌, ◌∙◌, arith, List, inl, inr, length, sym, subst}
-use Rattle.std.specs.Prelude.{◌⊎◌, ◌*ℤ◌, ◌<ℤ◌, ◌≤ℤ◌}
+use Rattle.std.proofs.Common.{Bool, ap, ℕ, ℤ, pos, refl, ◌+◌, ◌-◌, ◌^◌, ◌≤◌, ◌≡◌, ◌∙◌, arith, List, inl, inr, length, sym, subst}
+use Rattle.std.specs.Prelude.{◌⊎◌, ◌*ℤ◌, ◌≤ℤ◌}
 use Rattle.std.proofs.lemmas.Int.{ints}
 use Rattle.auc_cert.specs.declared.reason.Reason.{Reason}
 use Rattle.auc_graph.specs.Assignment.{total}

@@ -1,5 +1,5 @@
 -- What a phase begins with.
-use Rattle.std.proofs.Common.{ℕ, ℤ, pos, negsuc, w64, zero, suc, refl, ◌<◌, ◌≤◌, ◌≡◌, arith, List, length, get_or, replicate, inl, inr, ap, sym, subst, ◌∙◌}
+use Rattle.std.proofs.Common.{ℕ, ℤ, pos, w64, zero, suc, refl, ◌<◌, ◌≤◌, ◌≡◌, arith, List, length, get_or, replicate, inl, inr, ap, sym, subst, ◌∙◌}
 use Rattle.std.specs.Prelude.{All, FitsSigned, ◌⊎◌, ◌*◌, ◌^◌, ◌*ℤ◌, ◌<ℤ◌, ◌≤ℤ◌, unsigned_abs}
 use Rattle.std.proofs.lemmas.Int.{ints}
 use Rattle.std.proofs.lemmas.List.{get_or-replicate, get_or_default, length-replicate, same_lists}
@@ -47,7 +47,6 @@ stands_opened r first eps prices holders owns n m start objects persons nobody n
     spare : (r.objects ≡ length r.rows) ⊎ ((first ≡ pos 1) × ((j : ℕ) → price_at prices j ≡ pos 0)) → AreSpare r prices holders
     spare (inl square) = inl square
     spare (inr zeros) = inr (λ j free. zeros.1 j)
-
 
 -- ---- what a run begins with
 

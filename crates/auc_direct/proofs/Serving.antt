@@ -1,5 +1,5 @@
 -- Who has begun, who bids next, and who waits.
-use Rattle.std.proofs.Common.{ℕ, ℤ, ◌+◌, ◌<◌, ◌≤◌, ◌≡◌, ◌≢◌, refl, arith, List, length, inl, inr, ap, sym, subst}
+use Rattle.std.proofs.Common.{ℕ, ◌+◌, ◌<◌, ◌≤◌, ◌≡◌, ◌≢◌, refl, arith, List, length, inl, inr, ap, sym, subst}
 use Rattle.std.proofs.lemmas.Bool.{cases_eq, cases_lt}
 use Rattle.std.proofs.lemmas.List.{get_or_past}
 use Rattle.auc_graph.specs.declared.limits.TheConstants.{MOST_PERSONS}

@@ -1,6 +1,5 @@
 -- What clauses see of a market, what always holds of it, and what each move comes to.
 use Rattle.std.specs.Prelude.{Bool, ℕ, ℤ, pos, ◌≡◌, ◌≢◌, ◌⊎◌, ◌<◌, ◌≤◌, ◌≤ℤ◌, List, length}
-use Rattle.auc_cert.specs.declared.reason.Reason.{Reason}
 use Rattle.auc_graph.specs.Assignment.{total}
 use Rattle.auc_rows.specs.declared.arc.ShortArc.{ShortArc}
 use Rattle.auc_rows.specs.Rows.{EachHasArc, FlatTable, IsFlatTable}

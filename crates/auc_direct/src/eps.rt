@@ -99,9 +99,7 @@ pub(crate) fn spread_of(rows: &FlatRows, prices: &[i64]) -> i64
     ensures { IsEpsOf rows.now result }
 {
     let most = scaled_spread(rows);
-    mean_spread(rows, prices)
-        .min(most)
-        .max(LAST_EPS)
+    mean_spread(rows, prices).min(most).max(LAST_EPS)
 }
 
 /// An eighth of the last eps, and at least 1; none after 1.

@@ -170,9 +170,7 @@ impl<'a> Market<'a> {
         }
         let rows = self.rows;
         let lists = &mut self.lists;
-        let is_least = self
-            .holdings
-            .refine(self.alloc, rows, looks, lists)?;
+        let is_least = self.holdings.refine(self.alloc, rows, looks, lists)?;
         if !is_least {
             self.holdings.set_aside(&mut self.incumbent);
             self.holdings.open();

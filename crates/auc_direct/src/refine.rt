@@ -15,8 +15,8 @@ ghost use Rattle.auc_direct.specs.Shortlist.{IsBest, Kept};
 ghost use Rattle.auc_direct.specs.Starts.{any_eps};
 
 use crate::best::Best;
-use crate::lists::Lists;
 use crate::holdings::{Holdings, NOBODY};
+use crate::lists::Lists;
 use crate::queue::Queue;
 use crate::scan::value_of;
 use auc_graph::MOST_PRICE;

@@ -5,9 +5,9 @@ ghost use Rattle.std.specs.BinaryHeap.{heap_items};
 ghost use Rattle.auc_graph.specs.Price.{IsPrice};
 ghost use Rattle.auc_direct.specs.Path.{AreHolders, AreLabels, AreLeft, AreOwns, Grows, IsClean, IsEnd, IsFrom, Reaches, seats, settled_at};
 
+use crate::holdings::NOBODY;
 use crate::hop::{reach, value_of_own};
 use crate::label::Label;
-use crate::holdings::NOBODY;
 use crate::wipe::wipe;
 use auc_letters::Held;
 use auc_rows::{FlatRows, ShortArc};

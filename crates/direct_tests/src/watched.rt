@@ -7,6 +7,9 @@ use std::test::*;
 /// Three persons, of whom the first doesn't know the last object: so it is no full table, and goes by phases.
 const THREE: &str = "3\n1 1 4 1 2 1\n2 1 2 2 2 0 2 3 500\n3 1 3 3 2 2 3 3 2\n";
 
+/// Each person's first arc is dear, and his other one cheap; all take the dear ones, or all the cheap ones.
+const DEAR_FIRST: &str = "3\n1 1 1000 1 2 1\n2 2 1000 2 3 1\n3 1 1 3 3 1000\n";
+
 /// Goes on so many times, and then says no.
 #[derive(Drop)]
 struct Patience {
@@ -58,6 +61,24 @@ fn stops(rt: HostRuntime) -> Result<(), Fail> {
     let told = text_of(&rt, &problem, answer)?;
     assert!(rt; told.as_slice().starts_with(b"auction 1\noptimal 3 "));
     assert!(rt; watch.asked > 1);
+    Ok(())
+}
+
+/// A no after the first phase has what that has come to: the cheap arcs. Nothing is held then, and an assignment that is completed from nothing has the dear ones, at a thousand times the cost.
+#[test]
+fn keeps_the_last_assignment(rt: HostRuntime) -> Result<(), Fail> {
+    let problem = problem_of(&rt, DEAR_FIRST, 0)?;
+    let mut watch = going_on(1);
+    let answer = solve_direct_watched(rt.alloc(), &problem, &AMPLE, &mut watch)?;
+    let told = text_of(&rt, &problem, answer)?;
+    assert!(rt; watch.has_stopped);
+    assert!(rt; told.as_slice().starts_with(b"auction 1\nbracket bids 3 "));
+    let assigned = b"\nassign 1 2 1\nassign 2 3 1\nassign 3 1 1\n";
+    assert!(rt;
+        told.as_slice()
+            .windows(assigned.len())
+            .any(|part| part == assigned.as_slice())
+    );
     Ok(())
 }
 

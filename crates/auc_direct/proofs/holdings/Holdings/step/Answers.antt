@@ -1,5 +1,5 @@
 use Rattle.std.proofs.Common.{pos, ◌≡◌, ◌<◌, ◌^◌, arith, refl, rules, set, w64}
-use Rattle.std.specs.Prelude.{All, FitsSigned, ◌≤ℤ◌}
+use Rattle.std.specs.Prelude.{FitsSigned, ◌≤ℤ◌}
 use Rattle.std.proofs.lemmas.Int.{to_z-of_z}
 use Rattle.std.proofs.lemmas.List.Elements.{All-contains}
 use Rattle.auc_rows.specs.Rows.{IsShort, flat_row_of, scale_in}

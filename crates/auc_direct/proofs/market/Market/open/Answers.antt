@@ -1,4 +1,4 @@
-use Rattle.std.proofs.Common.{ap, inl, length, refl, w64, ◌∙◌}
+use Rattle.std.proofs.Common.{inl, length, refl, w64}
 use Rattle.std.specs.Prelude.{FitsSigned}
 use Rattle.std.proofs.lemmas.Int.{to_z-of_z}
 use Rattle.auc_direct.specs.Bids.{state}

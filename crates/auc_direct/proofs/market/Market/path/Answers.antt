@@ -1,4 +1,4 @@
-use Rattle.std.proofs.Common.{ℕ, ℤ, ◌≡◌, refl, rules, w64, List, Result, Ok, Err}
+use Rattle.std.proofs.Common.{ℕ, ℤ, refl, rules, w64, List, Result, Ok, Err}
 use Rattle.std.specs.Prelude.{FitsSigned, IfOk}
 use Rattle.std.proofs.lemmas.Int.{to_z-of_z}
 use Rattle.auc_rows.specs.declared.arc.ShortArc.{ShortArc}

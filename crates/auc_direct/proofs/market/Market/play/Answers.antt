@@ -1,4 +1,4 @@
-use Rattle.std.proofs.Common.{◌-◌, ◌≡◌, ◌∙◌, ◌≤◌, true, arith, inl, inr, refl, rules, sym, subst}
+use Rattle.std.proofs.Common.{◌-◌, ◌≡◌, ◌∙◌, ◌≤◌, true, inl, inr, refl, rules, sym, subst}
 use Rattle.auc_graph.specs.Assignment.{total}
 use Rattle.auc_direct.specs.declared.ending.Ending.{Ending}
 use Rattle.auc_direct.specs.Endings.{IsEnding}

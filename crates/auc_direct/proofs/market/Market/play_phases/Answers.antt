@@ -1,4 +1,4 @@
-use Rattle.std.proofs.Common.{◌∙◌, ◌≡◌, arith, refl, rules, sym, w64}
+use Rattle.std.proofs.Common.{◌∙◌, arith, refl, rules, sym, w64}
 use Rattle.std.specs.Prelude.{FitsSigned}
 use Rattle.std.proofs.lemmas.Int.{ints, to_z-of_z}
 use Rattle.auc_graph.specs.Assignment.{total}

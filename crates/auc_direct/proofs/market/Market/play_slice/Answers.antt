@@ -1,4 +1,3 @@
-use Rattle.std.proofs.Common.{arith}
 use Rattle.auc_direct.specs.Position.{state_at}
 use Rattle.auc_direct.proofs.BidsLaws.{made_all, made_within}
 use Rattle.auc_direct.proofs.Moving.{all_spent}

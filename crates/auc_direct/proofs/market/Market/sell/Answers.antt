@@ -1,5 +1,4 @@
-use Rattle.std.proofs.Common.{◌<◌, ap, arith, length}
-use Rattle.auc_rows.specs.Rows.{FlatTable}
+use Rattle.std.proofs.Common.{◌<◌, arith}
 use Rattle.auc_direct.proofs.Moving.{spends_none, spends_on}
 use Rattle.auc_direct.proofs.Serving.{first_waits, sold_of}
 use Rattle.auc_direct.proofs.market.Market.sell.Goals as goal

@@ -1,4 +1,3 @@
-use Rattle.std.proofs.Common.{arith}
 use Rattle.auc_direct.proofs.Moving.{spends_none, spent_tried}
 use Rattle.auc_direct.proofs.market.Market.try_phase.Goals as goal
 

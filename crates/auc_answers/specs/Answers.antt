@@ -93,6 +93,13 @@ IsBracketAnswer p reason holders prices (Answer.Infeasible cert) = IsHallCertifi
 IsBracketAnswer p reason holders prices (Answer.Bracket cert) = ArePlaceable p holders × IsBracketBy p reason prices cert × IsCertified p cert × GrowsFrom p holders (picks_of cert)
 IsBracketAnswer p reason holders prices (Answer.Broken guard) = (guard ≡ Guard.Check) × (ArePlaceable p holders → BoundFits p prices → ⊥)
 
+-- a bracket of an assignment that wasn't completed, with the bound that these prices give
+abbrev pub IsBracketOf : Problem → Reason → List ℤ → Answer → Type 0
+IsBracketOf p reason prices (Answer.Optimal cert) = ⊥
+IsBracketOf p reason prices (Answer.Infeasible cert) = ⊥
+IsBracketOf p reason prices (Answer.Bracket cert) = IsBracketBy p reason prices cert × IsCertified p cert
+IsBracketOf p reason prices (Answer.Broken guard) = ⊥
+
 -- and where some persons know too few objects
 abbrev pub IsInfeasibleAnswer : Problem → Answer → Type 0
 IsInfeasibleAnswer p (Answer.Optimal cert) = ⊥

@@ -7,7 +7,7 @@ ghost use Rattle.auc_graph.specs.Price.{IsPrice};
 ghost use Rattle.auc_graph.specs.Table.{IsTableOf};
 ghost use Rattle.auc_cert.specs.Claim.{chosen};
 ghost use Rattle.auc_hall.specs.OfProblem.{IsHallSetOf};
-ghost use Rattle.auc_answers.specs.Answers.{IsBracketAnswer, IsCertified, IsInfeasibleAnswer, IsOptimalAnswer, stop_of};
+ghost use Rattle.auc_answers.specs.Answers.{IsBracketAnswer, IsBracketOf, IsCertified, IsInfeasibleAnswer, IsOptimalAnswer, stop_of};
 ghost use Rattle.auc_answers.specs.Claims.{BoundFits, IsBracketBy, IsChoiceOf, IsClaimOf, claim_of, picks_of};
 
 use crate::answer::{Answer, Guard};
@@ -195,6 +195,39 @@ pub fn bracket(
         Some(cert) => Ok(Answer::Bracket(cert)),
         None => Ok(Answer::Broken(Guard::Check)),
     }
+}
+
+/// The bracket of holders of whom each person is one, and whose arcs are an assignment: nothing is completed, so no rows are wanted. That the checker lets it pass is proved, so no time is spent on it.
+///
+/// `gathered.prices` are in scaled costs, from 0 to 2^61, and both lists are indexed by object. Takes one pass over the arcs, for the bound, beside O(persons + objects), and O(persons) memory.
+///
+/// # Errors
+///
+/// Only where memory was refused.
+pub fn proved_bracket(
+    alloc: Global,
+    problem: &ArcList,
+    reason: Reason,
+    gathered: Gathered,
+) -> Result<Answer, AllocError>
+    requires choice { (choice : List Arc) × IsChoiceOf problem.now gathered.holders.items choice × IsAssignment problem.now choice }
+    requires prices { length gathered.prices.items ≡ problem.now.objects }
+    requires within { All IsPrice gathered.prices.items }
+    requires fits { BoundFits problem.now gathered.prices.items }
+    ensures { IfOk result (IsBracketOf problem.now reason gathered.prices.items) }
+{
+    let Gathered { holders, prices } = gathered;
+    let Some(picks) = picks_of_holders(alloc, problem, holders.as_slice())? else {
+        unreachable!("the holders' arcs are a choice");
+    };
+    let places = places_of_holders(alloc, problem.persons(), holders.as_slice())?;
+    let Some(parts) = bracket_parts(alloc, problem, reason, picks, places, prices)? else {
+        unreachable!("the bound has 64 bits");
+    };
+    let Ok(cert) = Cert::make(parts) else {
+        unreachable!("what the checker lets pass has a text");
+    };
+    Ok(Answer::Bracket(cert))
 }
 
 /// The answer where persons were found who together know fewer objects than they number. Takes O(arcs + persons) time and

@@ -11,7 +11,7 @@ use Rattle.auc_cert.specs.declared.reason.Reason.{Reason}
 use Rattle.auc_cert.specs.Claim.{pick_of}
 use Rattle.auc_cert.proofs.ClaimLaws.{faultless_is_allowed}
 use Rattle.auc_cert.proofs.Converse.{assignment_spelled, slack_right_faultless}
-use Rattle.auc_graph.specs.Assignment.{total, total_cost}
+use Rattle.auc_graph.specs.Assignment.{IsAssignment, total, total_cost}
 use Rattle.auc_graph.specs.declared.arc.Arc.{Arc}
 use Rattle.auc_graph.specs.Problem.{IsProblem, Problem}
 use Rattle.auc_graph.specs.Row.{row}
@@ -22,7 +22,7 @@ use Rattle.auc_hall.proofs.ProblemLaws.{length-rows, row_is}
 use Rattle.auc_letters.specs.declared.state.Held.{Held}
 use Rattle.auc_model.proofs.Chosen.{Found, row_arc_listed}
 use Rattle.auc_answers.specs.declared.answer.Answer.{Answer}
-use Rattle.auc_answers.specs.Answers.{HasAssignment, IsAnswer, IsBracketAnswer, IsCertified, IsInfeasibleAnswer, IsOptimalAnswer}
+use Rattle.auc_answers.specs.Answers.{HasAssignment, IsAnswer, IsBracketAnswer, IsBracketOf, IsCertified, IsInfeasibleAnswer, IsOptimalAnswer}
 use Rattle.auc_answers.specs.Claims.{BoundFits, IsBracketBy, IsChoiceOf, claim_of}
 use Rattle.auc_answers.specs.Prepared.{NobodyStuck}
 use Rattle.auc_answers.proofs.BracketLaws.{bound_fits, holders_price_few}
@@ -75,6 +75,37 @@ module _ (p : Problem) (t : Table) (r : FlatTable) (prices : List ℤ) (holders 
     stopped_is_answer (Answer.Infeasible cert) h = h
     stopped_is_answer (Answer.Bracket cert) h = let by = h.1 in record { reason = reason; lower = by.lower; cost = total_cost by.choice; choice = map pick_of by.choice; prices = prices; is = by.is; certified = h.2 }
     stopped_is_answer (Answer.Broken guard) h = absurd (h.1 (choices.placeable p t r eps prices holders owns held its same sound stands are) fits)
+
+  -- ---- the same where each person has an object
+
+  module _ (eps : ℤ) (reason : Reason) (stands : Stands r eps prices holders owns) (all : HaveObjects (length r.rows) owns) where
+    pub whole_choice : (arcs : List Arc) × IsChoiceOf p held arcs × IsAssignment p arcs
+    whole_choice = (choices.arcs p t r eps prices holders owns held its same sound stands are all, choices.is_choice p t r eps prices holders owns held its same sound stands are all, choices.assigned p t r eps prices holders owns held its same sound stands are all)
+
+    pub whole_prices : length prices ≡ p.objects
+    whole_prices = choices.many_prices p t r eps prices holders owns held its same sound stands are
+
+    pub whole_fits : BoundFits p prices
+    whole_fits = fits eps reason stands (whole_choice.0, whole_choice.2)
+
+-- an assignment with a bound
+pub whole_is_answer : (p : Problem) (reason : Reason) (prices : List ℤ) (answer : Answer) → IsBracketOf p reason prices answer → IsAnswer p answer
+whole_is_answer p reason prices (Answer.Optimal cert) h = absurd h
+whole_is_answer p reason prices (Answer.Infeasible cert) h = absurd h
+whole_is_answer p reason prices (Answer.Bracket cert) h = let by = h.0 in record { reason = reason; lower = by.lower; cost = total_cost by.choice; choice = map pick_of by.choice; prices = prices; is = by.is; certified = h.1 }
+whole_is_answer p reason prices (Answer.Broken guard) h = absurd h
+
+pub whole_is_limited : (p : Problem) (r : FlatTable) (rows : AreRowsOf p r) (bids : ℕ) (begun : ℤ) (reason : Reason) (prices : List ℤ) → IsLimit r bids begun reason prices → (answer : Answer) → IsBracketOf p reason prices answer → IsLimited p bids begun answer
+whole_is_limited p r rows bids begun reason prices limit (Answer.Optimal cert) h = tt
+whole_is_limited p r rows bids begun reason prices limit (Answer.Infeasible cert) h = tt
+whole_is_limited p r rows bids begun reason prices limit (Answer.Bracket cert) h = subst (IsLimitedBy p bids begun) (sym h.0.is) (rows.table, r, rows.of, rows.same, limit)
+whole_is_limited p r rows bids begun reason prices limit (Answer.Broken guard) h = tt
+
+pub whole_told : (p : Problem) (prices : List ℤ) (answer : Answer) → IsBracketOf p Reason.Bids prices answer → IsStopTold answer
+whole_told p prices (Answer.Optimal cert) h = absurd h
+whole_told p prices (Answer.Infeasible cert) h = tt
+whole_told p prices (Answer.Bracket cert) h = subst (HasReason Reason.Bids) (sym h.0.is) refl
+whole_told p prices (Answer.Broken guard) h = absurd h
 
 -- ---- a bracket is answered only where a limit has stopped a phase
 
@@ -243,6 +274,12 @@ module _ (p : Problem) (r : FlatTable) (rows : AreRowsOf p r) (bids : ℕ) (begu
   stopped_of_run reason (Answer.Bracket cert) (inl h) = absurd h
   stopped_of_run reason (Answer.Bracket cert) (inr h) = subst (IsClaimOfRun p bids begun) (sym h.1.1.is) of_run
   stopped_of_run reason (Answer.Broken guard) h = tt
+
+  pub whole_of_run : (reason : Reason) (answer : Answer) → IsBracketOf p reason prices answer → IsOfPhases p bids begun answer
+  whole_of_run reason (Answer.Optimal cert) h = absurd h
+  whole_of_run reason (Answer.Infeasible cert) h = tt
+  whole_of_run reason (Answer.Bracket cert) h = subst (IsClaimOfRun p bids begun) (sym h.0.is) of_run
+  whole_of_run reason (Answer.Broken guard) h = tt
 
 pub none_of_phases : (p : Problem) (bids : ℕ) (begun : List ℤ) (answer : Answer) → IsInfeasibleAnswer p answer → IsOfPhases p bids begun answer
 none_of_phases p bids begun (Answer.Optimal cert) h = absurd h

@@ -22,7 +22,7 @@ use crate::reduce::start_prices;
 use crate::rules::bids_from_start;
 use crate::run::{Outcome, run};
 use crate::watch::{Onward, Watch};
-use auc_answers::finish::{bracket, proved_optimal};
+use auc_answers::finish::{bracket, proved_bracket, proved_optimal};
 use auc_answers::{Answer, Gathered, Prepared, prepare};
 use auc_cert::Reason;
 use auc_graph::{ArcList, Rows};
@@ -90,12 +90,18 @@ fn answer_of(
     // Read here, so that the proof knows what every problem keeps.
     let _ = problem.arcs();
     let Outcome { ending, holdings } = outcome;
+    let each_has_one = holdings.all_have();
     let gathered = gather(alloc, problem, &flat, holdings)?;
     drop(flat);
+    // That the checker finds no fault in these two is proved, so no time is spent on a check.
     match ending {
-        // That the checker finds no fault in it is proved, so no time is spent on a check.
         Ending::Sold => proved_optimal(alloc, problem, gathered),
-        Ending::Stopped(reason) => bracketed(alloc, problem, reason, gathered),
+        Ending::Stopped(reason) => {
+            if each_has_one {
+                return proved_bracket(alloc, problem, reason, gathered);
+            }
+            bracketed(alloc, problem, reason, gathered)
+        }
     }
 }
 

@@ -150,8 +150,8 @@ fn concluded(
 /// The answer is right as that of `auc_world::solve_serial` is, but of several least assignments it may be another one.
 ///
 /// Takes the time of the bids, each O(arcs of the person), or O(1) where the list of a long row tells it, of the paths, each at most O(arcs * log arcs), and of one check of what is no least assignment. A full
-/// table is searched as one first ([`auc_table::propose`]), which takes no bids. A search for an assignment of any cost ([`auc_hall::complete`]) is made for a bracket, and where somebody has no arc; it takes 12
-/// bytes of memory an arc. Else 8 bytes an arc and some 60 an object are taken beside the problem's own, 176 a person where most arcs stand in rows of 48 and more, 8 an arc more while a full table is
+/// table is searched as one first ([`auc_table::propose`]), which takes no bids. A search for an assignment of any cost ([`auc_hall::complete`]) is made where somebody has no arc, and for a bracket before the
+/// first phase has come to its end; it takes 12 bytes of memory an arc. Else 8 bytes an arc and some 60 an object are taken beside the problem's own, 176 a person where most arcs stand in rows of 48 and more, 8 an arc more while a full table is
 /// searched, and 16 for each label that waits in a search for a path, of which there are at most as many as arcs. That paths are taken at all no clause says, nor that lists are.
 ///
 /// The method is the auction with epsilon scaling (Bertsekas, 1979; Bertsekas and Eckstein, 1988), in two chains that take turns, of each of which whoever is displaced bids next, and successive shortest paths
@@ -204,8 +204,8 @@ pub fn solve_direct_from(
 }
 
 /// Solves a problem as [`solve_direct`] does, and asks between bids whether the run goes on: before each phase, and after as many bids of one as look at some four million arcs. Where it doesn't, the answer is
-/// a bracket with the reason `Bids`, or that there is no assignment; where it has said no more than before the call, a bracket stands only after a limit: clause `limit`. Who has said no isn't asked
-/// again. To ask takes O(persons) time, and that of `goes_on`.
+/// a bracket with the reason `Bids`, or that there is no assignment; where it has said no more than before the call, a bracket stands only after a limit: clause `limit`. The bracket has the pairs of the last whole
+/// phase, if there was one. Who has said no isn't asked again. To ask takes O(persons) time, and that of `goes_on`.
 ///
 /// Nothing is asked before the rows are laid out, within a search for a path, while a full table is searched, while prices are refined, which takes at most the time of some twice the bids of the phase before
 /// it, or after a no, while a bracket is made and checked.

@@ -4,6 +4,7 @@ import json
 import os
 import sys
 
+from .clocks import MARK
 from .faults import Fault
 from .kinds import ANSWERS, Asked
 from .plans import Free, blamed, rows_of_free, rows_of_pairs, sentence_of, write_rows
@@ -20,7 +21,7 @@ def text_of_rows(names, rows):
 
 def json_of(names, claim, judges, free=Free(), asked=Asked()):
     """An answer as JSON: amounts are numbers with the decimals of the table, exactly."""
-    names = names._replace(mark=".")
+    names = names.for_programs()
     told = {"answer": STATUS_WORDS.get(claim.kind, ANSWERS[asked.kind]), **asked.fields(names, number)}
     told |= {"sentence": sentence_of(names, claim, asked)}
     if claim.kind == "infeasible":
@@ -53,7 +54,9 @@ def json_of_reasons(names, rows):
 
 
 def number(text):
-    """The number of an amount; a floating-point number has more digits than a total has, so it is written as it was."""
+    """The number of an amount; a floating-point number has more digits than a total has, so it is written as it was. A time stays a text."""
+    if MARK in text:
+        return text
     return float(text) if "." in text else int(text)
 
 

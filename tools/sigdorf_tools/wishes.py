@@ -9,6 +9,7 @@ from .forms import is_title
 from .models import Model
 from .notes import note
 from .problems import Arcs
+from .reading import parted_from_sheet
 from .tables import columns, read_table
 
 MOST_CAPACITY = 10_000
@@ -35,7 +36,7 @@ def capacities_said(word, persons):
         return {}
     if word.isdecimal():
         return {None: (f"--capacity {word}", word)}
-    if word != "-" and not os.path.exists(word):
+    if word != "-" and not os.path.exists(parted_from_sheet(word)[0]):
         wanted = f"a whole number from 0 to {MOST_CAPACITY:,} is wanted, or a file of persons and numbers"
         raise Fault(f"--capacity {word}: {wanted}, and there is no such file")
     table = read_table(word)

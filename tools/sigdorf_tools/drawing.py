@@ -172,7 +172,7 @@ def hidden_by(scene, label, others, placed):
 def bars(scene):
     """The price of each object as a bar below it, and as a number in the unit of costs."""
     prices = scene.prices[: len(scene.objects)]
-    most = max(max(prices), 1)
+    most = max([*prices, 1])
     top = BARS_AT
     yield text_at(24, top + 13, "price", FAINT, PRICE_SIZE, "start")
     yield f'<line x1="{scene.left():.1f}" y1="{top}" x2="{scene.width() - RIGHT:.1f}" y2="{top}" stroke="{ARC}" stroke-width="1"/>'

@@ -2,6 +2,8 @@
 from html import escape
 
 from .kinds import among
+from .models import Model
+from .names import counted
 from .pictures import picture_of
 from .plans import blamed, rows_of_free, rows_of_pairs, sentence_of
 from .prices import told_prices
@@ -21,7 +23,8 @@ def page_of(names, problem, model, claim, free, asked, summary):
     title = sentence_of(names, claim, asked)
     single = names._replace(persons=problem.persons)
     pairs = {(model.owners[copy] + 1, thing) for copy, (thing, _) in enumerate(claim.picks[: len(model.owners)]) if thing <= model.objects}
-    prices = told_prices(model.rows(), claim, model.persons())[: len(names.objects)]
+    # Prices are told where the solver has one for each object.
+    prices = told_prices(model.rows(), claim, model.persons())[: len(names.objects)] if isinstance(model, Model) else []
     is_hall = claim.kind == "infeasible"
     parts = [
         "<!DOCTYPE html>",
@@ -30,10 +33,10 @@ def page_of(names, problem, model, claim, free, asked, summary):
         f"<h1>{escape(title)}</h1>",
         f'<p class="judged">{escape(names.table)}: {escape(summary)}</p>',
         *list_of_wishes(asked),
-        *(tables_of_hall(names, claim) if is_hall else tables_of_plan(names, claim, free)),
+        *(tables_of_hall(names, claim) if is_hall else tables_of_plan(names, claim, free, asked)),
         "<h2>Picture</h2>",
         picture_of(single, rows_of(problem), pairs, claim_of_owners(model, claim), prices, title),
-        *([] if is_hall else table_of_prices(names, claim, asked, prices)),
+        *(table_of_prices(names, claim, asked, prices) if prices and not is_hall else []),
         "</body></html>",
     ]
     return "\n".join(parts) + "\n"
@@ -62,10 +65,22 @@ def list_of_wishes(asked):
         yield f"<ul>{''.join(f'<li>{escape(wish)}</li>' for wish in asked.wishes)}</ul>"
 
 
-def tables_of_plan(names, claim, free):
+def tables_of_plan(names, claim, free, asked):
     yield "<h2>Plan</h2>"
     rows = [("", row) for row in rows_of_pairs(names, claim)] + [("free", [person or "nobody", thing or "stays free", cost]) for person, thing, cost in rows_of_free(names, claim, free)]
     yield table(names.titles, [*rows, ("total", ["total", "", names.amount(claim.cost)])], {2})
+    if asked.changes:
+        yield from tables_of_changes(names, claim, asked.changes)
+
+
+def tables_of_changes(names, claim, changes):
+    """What comes and what goes, and what that costs."""
+    new, gone = changes.of_plan(rows_of_pairs(names, claim))
+    each = names._replace(maximise=False).amount(changes.cost)
+    yield "<h2>Changes</h2>"
+    yield f"<p>{counted(len(new), 'pair')} that the old plan doesn't have, at {escape(each)} each, which the total has in it.</p>"
+    rows = [("", [person, thing, "new"]) for person, thing in new] + [("free", [person, thing, "before"]) for person, thing in sorted(gone)]
+    yield table([*names.titles[:2], ""], rows, set())
 
 
 def tables_of_hall(names, claim):

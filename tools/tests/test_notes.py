@@ -9,7 +9,7 @@ from sigdorf_tools.names import plain_names
 from sigdorf_tools.notes import notes_of_plan
 from sigdorf_tools.problems import Arcs, Problem
 
-MANY = "who may take more than one object may take all its copies: forbid such pairs, or leave --capacity out"
+MANY = "who may take more than one object may take all its copies: write it once and say --need, or forbid such pairs"
 MAKE_XLSX = """
 import openpyxl
 book = openpyxl.Workbook()

@@ -7,7 +7,7 @@ from .plans import blamed, is_by_objects, sentence_of
 MOST_DRAWN, MOST_WIDE = 40, 2_000
 
 
-def picture_of(names, rows, pairs, claim, prices, title=None):
+def picture_of(names, rows, pairs, claim, prices, title=None, has_title=True):
     """The picture of a claim. The arcs come as a number of a person, of the names, with his objects and their costs;
     pairs are those of the plan, by numbers; prices are in smallest units."""
     title = title or sentence_of(names, claim)
@@ -16,8 +16,8 @@ def picture_of(names, rows, pairs, claim, prices, title=None):
         rows = list(rows)
         scene = scene_of(names, rows, pairs, prices, hall, is_by_objects(names, claim))
         if scene.width() <= MOST_WIDE:
-            return drawing(scene, title)
-    return heat_map(names, rows, pairs, title, hall)
+            return drawing(scene, title, has_title)
+    return heat_map(names, rows, pairs, title, hall, has_title)
 
 
 def scene_of(names, rows, pairs, prices, hall, by_objects):

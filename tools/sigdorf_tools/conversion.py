@@ -1,12 +1,14 @@
 """From a table to an arc file and its names: what `from_csv` and `plan` have in common."""
 import argparse
 import os
+from typing import NamedTuple
 
 from .amounts import MOST_DECIMALS
 from .clocks import MARK
 from .columns import picked, titles_said
 from .faults import Fault, say
 from .headers import from_header
+from .lists import taken_row
 from .marks import MARKS
 from .matrices import problem_by_arrays
 from .models import look_at_size, plain_model
@@ -17,7 +19,7 @@ from .problems import problem_of
 from .reading import parted_from_sheet, reading_of
 from .tables import read_source, table_of_source
 from .text_tables import SEPARATORS
-from .wishes import by_persons
+from .wishes import by_names
 
 
 def add_options(words):
@@ -48,30 +50,50 @@ def number_of_decimals(word):
     return int(word)
 
 
-def read_problem(words, extras=()):
-    """The table that the words name, or its text, its problem, and what columns of these titles say of each person.
-    Decimals that nobody said are told on standard error, and what may not be meant."""
+class Extras(NamedTuple):
+    """Columns that say something of persons, by their titles; a column that does of objects; and the name of a row that does."""
+
+    of_persons: tuple = ()
+    of_objects: tuple = ()
+    row: str | None = None
+
+
+def read_problem(words, extras=Extras()):
+    """The table that the words name, or its text, its problem, and what columns of these titles say of each person, and of
+    each object; then the row. Decimals that nobody said are told on standard error, and what may not be meant."""
     if words.round is not None and words.decimals is not None:
         raise Fault(f"--round {words.round}: --decimals {words.decimals} says how many decimals are kept; leave one of them out")
     source, has_header = read_source(words.file, reading_of(words)), not words.no_header
     said = has_header, words.decimals, words.maximise, MARKS.get(words.decimal_mark)
-    is_whole = words.columns is None and not extras and not words.ignore_column
+    is_whole = words.columns is None and extras == Extras() and not words.ignore_column
     problem, told = None, []
     if is_whole and words.range is None and words.round is None and not words.gap:
         problem = problem_by_arrays(source, words.form, *said) or problem_of_pairs(source, words.form, *said)
     if problem is None:
-        source, form, columns, places = table_of_source(source), words.form, [], []
+        source, form = table_of_source(source), words.form
         if has_header and source.form is None:
             source = from_header(source)
         has_header = has_header or source.form is not None
         if not is_whole:
-            titles = titles_said(words.columns) if words.columns is not None else []
-            source, columns, places = picked(source, titles, [*extras, *words.ignore_column], has_header)
+            source, told = picked_extras(words, source, extras, has_header)
             form = form if words.columns is None else "pairs"
         problem = problem_of(source, form, *said, words.round)
-        told = [by_persons(source, cells, place, 1 if has_header else 0) for _, cells, place in zip(extras, columns, places)]
     tell_of_reading(words, source, problem)
     return source, problem, told
+
+
+def picked_extras(words, table, extras, has_header):
+    """The table with the columns that are its own, and what the others and the row say."""
+    titles = titles_said(words.columns) if words.columns is not None else []
+    all_extras = [*extras.of_persons, *extras.of_objects]
+    table, columns, places = picked(table, titles, [*all_extras, *words.ignore_column], has_header)
+    told = []
+    for number, (cells, place) in enumerate(zip(columns[: len(all_extras)], places)):
+        told.append(by_names(table, cells, place, 1 if has_header else 0, int(number >= len(extras.of_persons))))
+    if extras.row is not None:
+        table, cells = taken_row(table, extras.row)
+        told.append(cells)
+    return table, told
 
 
 def tell_of_reading(words, source, problem):

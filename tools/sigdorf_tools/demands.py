@@ -2,6 +2,7 @@
 from .amounts import MOST, NotAnAmount, units_of
 from .faults import Fault, quoted
 from .lists import groups_said, number_of, numbers_said
+from .names_told import unknown
 from .networks import Demand, Network
 
 NEED = "need", "write how many persons the object wants"
@@ -10,12 +11,16 @@ MOST_DUMMY_ARCS = 1_000_000
 
 
 def is_asked(words):
-    return any(word is not None for word in (words.need, words.apart, words.undone))
+    return any(word is not None for word in (words.need, words.need_column, words.need_row, words.apart, words.undone))
 
 
-def demand_of(words, problem):
-    """The demand that the words tell for the objects of a problem."""
-    told = numbers_said("--need", words.need, set(problem.objects), "object", "an object and how many persons it wants")
+def demand_of(words, problem, told=None):
+    """The demand that the words tell for the objects of a problem, or the table itself does."""
+    if told is None:
+        told = numbers_said("--need", words.need, set(problem.objects), "object", "an object and how many persons it wants")
+    for name in told:
+        if name is not None and name not in problem.objects:
+            raise Fault(f"{told[name][0]}: {unknown('object', name, problem.objects)}")
     needs = [number_of(*(told.get(name) or told.get(None) or ("", "1")), NEED) for name in problem.objects]
     if not any(needs):
         raise Fault("--need: nobody is wanted for anything; give an object a need above 0")

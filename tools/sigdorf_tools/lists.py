@@ -52,6 +52,18 @@ def numbers_said(option, word, names, kind, told):
     return found
 
 
+def taken_row(table, name):
+    """The table without the row that has a name in front, and what its cells say of the objects above them, each with its
+    place."""
+    rows = [row for row, cells in enumerate(table.rows) if row and cells[0] == name]
+    if len(rows) != 1:
+        found = "there is no row" if not rows else f"there are {len(rows)} rows"
+        raise table.fault_of_row(0, f"--need-row {name}: {found} with this name in front; name one of those below the header")
+    taken = rows[0]
+    cells = {thing: (table.place(taken, column), cell) for column, (thing, cell) in enumerate(zip(table.rows[0], table.rows[taken])) if column and cell}
+    return table.without_row(taken), cells
+
+
 def groups_said(word, objects):
     """For each object the number of its group, of which a person may have one, as a list names them: in each row objects
     that can't go together, or an object and what it shares with those that can't go with it, such as its day."""

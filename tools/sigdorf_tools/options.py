@@ -9,7 +9,7 @@ from .workbooks import needed
 # The least and the greatest number of each option, as the solver takes them.
 LIMITS = {"bids": (1, 10**12), "seconds": (1, 10**6), "workers": (0, 16)}
 # Wishes for a plan of which it can't be asked how it stands beside others.
-WITHOUT_QUESTIONS = "need", "apart", "undone", "keep"
+WITHOUT_QUESTIONS = "need", "need_column", "need_row", "apart", "undone", "keep"
 # What is written by which option, under which endings of a file's name; and what isn't written at all.
 ENDINGS = {"--json": (".json",), "--html": (".html", ".htm")}
 BOOK, TABLES, UNWRITTEN = ".xlsx", (".csv", ".tsv"), (".xlsm", ".xls", ".ods", ".pdf")
@@ -37,7 +37,7 @@ def look_at_questions(words):
     asked = next((option for option in ("why", "second", "fair") if getattr(words, option)), None)
     beside = next((option for option in WITHOUT_QUESTIONS if getattr(words, option) is not None), None)
     if asked and beside:
-        raise Fault(f"--{asked}: it isn't told beside --{beside}; leave one of them out")
+        raise Fault(f"--{asked}: it isn't told beside --{beside.replace('_', '-')}; leave one of them out")
 
 
 def look_at_output(file, said):

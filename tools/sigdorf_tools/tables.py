@@ -54,6 +54,12 @@ class Table(NamedTuple):
         blanks = {(row - count, column): cell for (row, column), cell in self.blanks.items() if row >= count}
         return self._replace(rows=self.rows[count:], lines=self.lines[count:], blanks=blanks)
 
+    def without_row(self, taken):
+        """The table without one row."""
+        blanks = {(row - (row > taken), column): cell for (row, column), cell in self.blanks.items() if row != taken}
+        rows, lines = ([each for row, each in enumerate(column) if row != taken] for column in (self.rows, self.lines))
+        return self._replace(rows=rows, lines=lines, blanks=blanks)
+
     def without_columns(self, count):
         """The table without its first columns."""
         width = max(map(len, self.rows))

@@ -25,15 +25,15 @@ def capacities_said(word, persons):
     return numbers_said("--capacity", word, persons, "person", "a person and how many objects he may take at most")
 
 
-def by_persons(table, cells, column, first):
-    """What a column says of each person: the place and the text. Where a person has more rows they have to agree."""
+def by_names(table, cells, column, first, which):
+    """What a column says of each name of another one, of persons or of objects: the place and the text. Where a name has more rows they have to agree."""
     found = {}
     for row in range(first, len(table.rows)):
-        person, place = table.rows[row][0], f"{table.file}, {table.line_word} {table.lines[row]}, column {column + 1}"
-        before = found.setdefault(person, (place, cells[row]))
+        name, place = table.rows[row][which], f"{table.file}, {table.line_word} {table.lines[row]}, column {column + 1}"
+        before = found.setdefault(name, (place, cells[row]))
         if before[1] != cells[row]:
-            raise Fault(f"{place}: {quoted(person)} has {quoted(cells[row])} here, and {quoted(before[1])} in another row; write the same in all of them")
-    return {person: told for person, told in found.items() if told[1]}
+            raise Fault(f"{place}: {quoted(name)} has {quoted(cells[row])} here, and {quoted(before[1])} in another row; write the same in all of them")
+    return {name: told for name, told in found.items() if told[1]}
 
 
 def pair_of(option, word, problem):

@@ -36,6 +36,21 @@ class Demands(ToolTest):
         self.write("needs.csv", "early,0\nnight,4\n")
         self.assertEqual(self.planned("--need", "needs.csv", "--fix", "Ada=late")[-2:], [",night,", "total,,14"])
 
+    def test_needs_in_the_table(self):
+        """As a row of a matrix, and as a column of a list of pairs."""
+        best = ["Ada,early,1", "Ben,late,1", "Cleo,early,3", "Dan,night,1", ",night,", "total,,6"]
+        rows = SHIFTS.splitlines()
+        table = "\n".join([*rows[:2], "needed,2,,2", *rows[2:], ""])
+        self.assertEqual(self.planned("--need-row", "needed", table=table), best)
+        needs = {"early": "2", "late": "", "night": "2"}
+        pairs = [f"{row.split(',')[0]},{shift},{cost},{needs[shift]}\n" for row in rows[1:] for shift, cost in zip(needs, row.split(",")[1:])]
+        self.assertEqual(self.planned("--need-column", "wanted", table=f"nurse,shift,cost,wanted\n{''.join(pairs)}"), best)
+        self.write("table.csv", table.replace("needed,2", "needed,few"))
+        self.assert_fault(self.call("plan", "table.csv", "--need-row", "needed"), "table.csv, line 3, column 2", "`few`", "how many persons")
+        self.assert_fault(self.call("plan", "table.csv", "--need-row", "wanted"), "--need-row wanted", "no row")
+        self.assert_fault(self.call("plan", "table.csv", "--need-row", "needed", "--need", "2"), "--need and --need-row", "leave one of them out")
+        self.assert_fault(self.call("plan", "table.csv", "--need-row", "needed", "--second"), "--second", "--need-row")
+
     def test_objects_apart(self):
         """One shift of a day for each: by days, and by rows of shifts."""
         table = "who,Mon early,Mon late,Tue early\nAda,1,1,1\nBen,5,6,7\n"
@@ -44,6 +59,8 @@ class Demands(ToolTest):
         for rows in ("shift,day\nMon early,Mon\nMon late,Mon\nTue early,Tue\n", "Mon early,Mon late\n"):
             self.write("days.csv", rows)
             self.assertEqual(self.planned("--capacity", "3", "--apart", "days.csv", table=table), best)
+        said = self.call("plan", "table.csv", "--apart", "days.csv", "--quiet")[2]
+        self.assertEqual(said, "plan: note: --apart changes nothing, since nobody may take more than one object; say --capacity too\n")
 
     def test_undone(self):
         self.assertEqual(self.planned("--undone", "2"), ["Ada,early,1", "Ben,late,1", "Dan,night,1", "Cleo,,", "total,,3"])

@@ -4,7 +4,6 @@ from typing import NamedTuple
 
 from .amounts import DELETE_THOUSANDS, MOST, THOUSANDS, NoNumber, NotAnAmount, TooManyDecimals, parts_of, parts_with, room_for_decimals, ungrouped, units_of, way_out
 from .clocks import MARK
-from .cost_cells import cells_of
 from .faults import Fault, quoted
 from .marks import OTHER, TO_SHAPE, Marks
 from .notations import made_plain

@@ -18,8 +18,9 @@ def demand_of(words, problem, told=None):
     """The demand that the words tell for the objects of a problem, or the table itself does."""
     if told is None:
         told = numbers_said("--need", words.need, set(problem.objects), "object", "an object and how many persons it wants")
+    known = {None, *problem.objects}
     for name in told:
-        if name is not None and name not in problem.objects:
+        if name not in known:
             raise Fault(f"{told[name][0]}: {unknown('object', name, problem.objects)}")
     needs = [number_of(*(told.get(name) or told.get(None) or ("", "1")), NEED) for name in problem.objects]
     if not any(needs):

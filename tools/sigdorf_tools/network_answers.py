@@ -1,6 +1,5 @@
 """Answers for networks, told of the table's persons and objects: who has what, or who is in the way of a plan."""
 from .claims import Claim
-from .networks import Network
 
 
 def answer_of_network(solver, name, network):

@@ -42,6 +42,9 @@ class Network:
         for copy, owner in enumerate(owners):
             if copy not in self.fixed:
                 self.copies[owner].append(copy)
+        self.has = [set() for _ in arcs]
+        for copy, (_, thing) in self.fixed.items():
+            self.has[owners[copy]].add(demand.groups[thing - 1])
         self.costs = [arcs[person].pairs() for person in range(len(arcs))]
         self.pairs = [self.pairs_of(person) for person in range(len(arcs))]
         self.helpers, self.helped, self.least = [], {}, []
@@ -50,8 +53,7 @@ class Network:
 
     def pairs_of(self, person):
         """The objects that a person may have beside fixed ones, with their costs."""
-        groups = self.demand.groups
-        has = {groups[thing - 1] for copy, (_, thing) in self.fixed.items() if self.owners[copy] == person}
+        groups, has = self.demand.groups, self.has[person]
         return [(thing, cost) for thing, cost in self.costs[person].items() if groups[thing - 1] not in has and self.open_places[thing]]
 
     def add_helpers(self, person):
@@ -103,8 +105,17 @@ class Network:
         return 0
 
     def count(self):
-        """How many arcs there are."""
-        return sum(len(row) for row in self.rows())
+        """How many arcs there are, without a look at each of them."""
+        total = len(self.fixed)
+        for person, pairs in enumerate(self.pairs):
+            places = [len(self.open_places[thing]) for thing, _ in pairs if self.helper_of(person, thing) is None]
+            total += len(self.copies[person]) * sum(places)
+        for person, pairs in self.helpers:
+            total += 1 + len(self.copies[person]) + sum(len(self.open_places[thing]) for thing, _ in pairs)
+        if self.free:
+            total += sum(price is not None for price in self.free) + len(self.places) + len(self.fixed)
+            total += sum(len(self.copies[person]) * len(self.open_places[thing]) for person, pairs in enumerate(self.pairs) for thing, _ in pairs)
+        return total
 
     def lines(self):
         """The text of the arc file, in pieces."""

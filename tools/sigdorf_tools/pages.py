@@ -41,8 +41,9 @@ def page_of(names, problem, model, claim, free, asked, summary, time):
     title = sentence_of(names, claim, asked)
     single = names._replace(persons=problem.persons)
     pairs = {(model.owners[copy] + 1, thing) for copy, (thing, _) in enumerate(claim.picks[: len(model.owners)]) if thing <= model.objects}
-    # Prices are told where the solver has one for each object.
-    prices = told_prices(model.rows(), claim, model.persons())[: len(names.objects)] if isinstance(model, Model) else []
+    # Prices are told where the solver has one for each object, by the costs of the table.
+    has_prices = isinstance(model, Model) and not asked.changes
+    prices = told_prices(model.rows(), claim, model.persons())[: len(names.objects)] if has_prices else []
     is_hall = claim.kind == "infeasible"
     parts = [
         "<!DOCTYPE html>",

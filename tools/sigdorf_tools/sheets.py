@@ -70,7 +70,8 @@ def chosen(file, sheets, sheet):
         return sheets[sheet]
     filled = [found for found in sheets.values() if found.rows]
     if len(filled) > 1:
-        raise Fault(f"{file}: more than one sheet has cells; say --sheet with one of {names}")
+        example = next(name for name, found in sheets.items() if found.rows)
+        raise Fault(f"{file}: more than one sheet has cells; name one after a colon, as in {file}:{example}, or by --sheet, of {names}")
     return filled[0] if filled else Sheet({})
 
 

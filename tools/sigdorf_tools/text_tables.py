@@ -2,6 +2,7 @@
 
 Rows come as fast as the library parts them: what is rare, as a quote or white space around a cell, is looked for once in the whole text, and not in each cell.
 """
+import collections
 import csv
 import io
 import itertools
@@ -62,20 +63,23 @@ def separator_line_of(file, text):
 
 
 def separator_of(text):
-    """The separator that parts the rows evenly, or else the one that parts the first row most which any does. (`csv.Sniffer` takes `a;x;1,5` to be parted by commas.)"""
+    """The separator that parts the rows evenly, or else the one that parts most rows alike; of several the one that parts the first row most which any does. (`csv.Sniffer` takes `a;x;1,5` to be parted by
+    commas.)"""
     sample = text[:SAMPLE_CHARACTERS]
     if len(sample) < len(text):
         # A row that is cut says nothing.
         sample = sample[: max(sample.rfind("\n"), sample.rfind("\r")) + 1]
+    alike = dict.fromkeys(SEPARATORS.values(), 0)
     for separator in SEPARATORS.values():
         try:
-            lengths = {len(cells) for cells in itertools.islice(reader_of(sample, separator), SAMPLE) if "".join(cells).strip()}
+            lengths = collections.Counter(len(cells) for cells in itertools.islice(reader_of(sample, separator), SAMPLE) if "".join(cells).strip())
         except csv.Error:
             continue
         if len(lengths) == 1 and max(lengths) > 1:
             return separator
+        alike[separator] = max((count for length, count in lengths.items() if length > 1), default=0)
     first = next((line for line in lines_of(sample) if any(separator in line for separator in SEPARATORS.values())), "")
-    return max(SEPARATORS.values(), key=first.count)
+    return max(SEPARATORS.values(), key=lambda separator: (alike[separator], first.count(separator)))
 
 
 def reader_of(text, separator):

@@ -6,6 +6,8 @@ import unittest
 
 import compare_demands
 from calls import ToolTest, has_program
+from sigdorf_tools.networks import Demand, Network
+from sigdorf_tools.problems import Arcs
 
 SHIFTS = "nurse,early,late,night\nAda,1,2,3\nBen,5,1,2\nCleo,3,3,9\nDan,4,4,1\n"
 
@@ -15,6 +17,25 @@ class AllPlans(unittest.TestCase):
     def test_against_all_plans(self):
         """A short run of compare_demands.py, which takes more by hand."""
         self.assertEqual(compare_demands.faults_of_run(seed=3, count=200), [])
+
+
+class Networks(unittest.TestCase):
+    def test_count(self):
+        """The arcs are as many as are counted, and the lines name persons and objects that there are."""
+        draw = random.Random(5)
+        for _ in range(200):
+            persons, objects = draw.randrange(1, 5), draw.randrange(1, 5)
+            arcs = [Arcs(things := [thing for thing in range(1, objects + 1) if draw.random() < 0.8], "\n".join(["7"] * len(things))) for _ in range(persons)]
+            owners = [person for person in range(persons) for _ in range(draw.randrange(1, 3))]
+            demand = Demand([draw.randrange(3) for _ in range(objects)], [draw.randrange(3) for _ in range(objects)])
+            free = draw.choice([[], [draw.choice([None, 4]) for _ in owners]])
+            able = [thing for thing in arcs[0].objects if demand.needs[thing - 1]]
+            fixed = [(0, able[0])] if able and draw.random() < 0.3 else []
+            free = [None, *free[1:]] if free and fixed else free
+            network = Network(arcs, owners, free, fixed, demand)
+            rows = list(network.rows())
+            self.assertEqual((len(rows), sum(map(len, rows))), (network.persons(), network.count()))
+            self.assertTrue(all(1 <= thing <= network.all_objects() for row in rows for thing, _ in row))
 
 
 @has_program()
@@ -143,6 +164,7 @@ class Keeping(ToolTest):
         self.assertEqual((told["total"], told["change_cost"], told["new_pairs"], told["old_pairs"][0]), (111, 2, new, {"person": "Ada", "object": "wiring"}))
         self.assertEqual(self.kept("2", "--html", "-o", "page.html")[0], 0)
         self.assertIn("<h2>Changes</h2>", self.read("page.html"))
+        self.assertNotIn("<h2>Prices</h2>", self.read("page.html"))
 
     def test_plans_that_were_written(self):
         """What `plan` wrote is read again, as a table and as JSON, and then nothing changes."""

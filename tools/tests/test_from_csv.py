@@ -3,7 +3,8 @@ import random
 from fractions import Fraction
 
 from calls import ToolTest
-from sigdorf_tools.costs import cells_of, read_costs
+from sigdorf_tools.cost_cells import cells_of
+from sigdorf_tools.costs import read_costs
 
 
 class Tables(ToolTest):

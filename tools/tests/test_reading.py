@@ -54,6 +54,10 @@ class Places(ReadingTest):
         self.assertEqual(self.read_as("Week 48,,\nwho,what,min\na,x,4\na,y,5\nb,x,6\nb,y,7\n")[0], CREW)
         self.assertEqual(self.read_as("Week 48,,\nwho,2026-11-28,29.11.2026\na,4,5\nb,6,7\n", "--matrix")[0], CREW)
 
+    def test_title_with_a_separator(self):
+        """What parts the table isn't told by a title above it."""
+        self.assertEqual(self.read_as("Plan, week 48, north\nwho;x;y\na;4;5\nb;6;7\n", "--matrix")[0], CREW)
+
     def test_no_title(self):
         """A header or a pair in which something was forgotten is no title."""
         for table, place in [

@@ -4,7 +4,6 @@ from typing import NamedTuple
 
 from .amounts import MOST, NotAnAmount, units_of
 from .faults import Fault, quoted, read_bytes
-from .forms import is_title
 from .lists import table_of_list
 from .names import counted
 from .notes import note
@@ -44,11 +43,13 @@ def changes_of(words, problem):
 def pairs_known(file, problem):
     """The pairs of an old plan whose names the table has."""
     persons, objects, pairs = set(problem.persons), set(problem.objects), pairs_of_plan(file)
+    if pairs and pairs[0][0] not in persons and pairs[0][1] not in objects:
+        # Titles, as a rule.
+        pairs = pairs[1:]
     known = frozenset(pair for pair in pairs if pair[0] in persons and pair[1] in objects)
     if not known:
         raise Fault(f"{file}: no row has a person and an object of the table; name a plan as it was written, with the person in the first column and the object in the second")
-    if len(known) < len(pairs):
-        left = len(pairs) - len(known)
+    if left := len(set(pairs)) - len(known):
         note(f"{file}: {counted(left, 'pair')} of the old plan {'has' if left == 1 else 'have'} a name that the table hasn't, and {'is' if left == 1 else 'are'} left out")
     return known
 
@@ -57,16 +58,13 @@ def pairs_of_plan(file):
     """The pairs of a plan as it was written: rows of a person and an object, apart from titles, sums and what is free."""
     if file.lower().endswith(".json"):
         return pairs_of_json(file)
-    table = table_of_list(file)
-    rows = [cells for cells in table.rows if len(cells) > 1 and cells[0] and cells[1]]
-    has_titles = bool(rows) and rows[0] is table.rows[0] and len(rows[0]) > 2 and is_title(rows[0][2])
-    return {tuple(cells[:2]) for cells in rows[int(has_titles) :]}
+    return [tuple(cells[:2]) for cells in table_of_list(file).rows if len(cells) > 1 and cells[0] and cells[1]]
 
 
 def pairs_of_json(file):
     try:
         told = json.loads(read_bytes(file))
-        return {(pair["person"], pair["object"]) for pair in told["pairs"]}
+        return [(str(pair["person"]), str(pair["object"])) for pair in told["pairs"]]
     except (ValueError, TypeError, KeyError, RecursionError):
         raise Fault(f"{file}: no plan, since it is no JSON with `pairs` of `person` and `object`; name one that --json wrote") from None
 

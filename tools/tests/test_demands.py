@@ -174,8 +174,12 @@ class Keeping(ToolTest):
             answer = self.call("plan", "table.csv", "--keep", name, "--change-cost", "7")
             self.assertIn("total 105 with 0 changes at 7 each", answer[2])
 
+    def test_two_columns(self):
+        answer = self.kept("3", old="who,what\nAda,wiring\nBen,pump\n")
+        self.assertEqual((answer[1].splitlines()[-1], answer[2].count("\n")), ("total,,113,", 1))
+
     def test_names_that_are_gone(self):
-        answer = self.kept("3", old="Ada,wiring,1\nEve,pump,1\nBen,attic,2\n")
+        answer = self.kept("3", old="Ada,wiring,1\nEve,pump,1\nBen,attic,2\n,roof,\n")
         self.assertIn("plan: note: old.csv: 2 pairs of the old plan have a name that the table hasn't, and are left out\n", answer[2])
 
     def test_faults(self):

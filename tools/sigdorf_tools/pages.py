@@ -26,7 +26,8 @@ document.addEventListener("click", (event) => {
   const body = title.closest("table").tBodies[0], column = title.cellIndex;
   const key = (row) => row.cells[column] ? row.cells[column].textContent : "";
   const amount = (text) => text.trim() === "" ? Infinity : Number(text.replace(/[^0-9-]/g, ""));
-  const compare = title.className === "number" ? (a, b) => amount(key(a)) - amount(key(b)) : (a, b) => key(a).localeCompare(key(b), undefined, { numeric: true });
+  const order = (a, b) => (a > b) - (a < b);
+  const compare = title.className === "number" ? (a, b) => order(amount(key(a)), amount(key(b))) : (a, b) => key(a).localeCompare(key(b), undefined, { numeric: true });
   const rows = [...body.rows], last = rows.filter((row) => row.className === "total");
   const sorted = rows.filter((row) => row.className !== "total").sort(compare);
   if (title.dataset.sorted === "up") sorted.reverse();

@@ -95,6 +95,11 @@ class Faults(ToolTest):
 
     def test_other_forms(self):
         python = python_with("openpyxl")
-        for words, *parts in [(["-o", "plan.ods"], "plan.xlsx"), (["--json", "-o", "plan.xlsx"], "leave --json out"), (["--html", "-o", "plan.xlsx"], "leave --html out"), (["--why", "Ada", "-o", "plan.xlsx"], "leave --why out")]:
+        for words, *parts in [
+            (["-o", "plan.ods"], "plan.xlsx"),
+            (["--json", "-o", "plan.xlsx"], "leave --json out"),
+            (["--html", "-o", "plan.xlsx"], "leave --html out"),
+            (["--why", "Ada", "-o", "plan.xlsx"], "leave --why out"),
+        ]:
             if python:
                 self.assert_fault(self.call("plan", CREW, *words, python=python), f"-o {words[-1]}", *parts)

@@ -86,8 +86,11 @@ def groups_said(word, objects):
 
 def by_label(table, numbers):
     """The groups of objects that share a second cell."""
-    groups, first = list(range(len(numbers))), {}
+    groups, first, seen = list(range(len(numbers))), {}, set()
     for row, cells in enumerate(table.rows):
+        if cells[0] in seen:
+            raise table.fault(row, 0, f"the name {quoted(cells[0])} stands there twice; leave one of the rows out")
+        seen.add(cells[0])
         if len(cells) != 2:
             raise table.fault(row, min(len(cells), 2), f"the row has {columns(len(cells))}, and 2 are wanted; write an object and its day, or objects that can't go together")
         if cells[1]:
@@ -109,7 +112,7 @@ def by_rows(table, numbers, objects):
         for other in sorted(others):
             if apart[other] != others:
                 third = min(apart[other] ^ others)
-                told = f"{quoted(objects[third])} can't go with one of {quoted(objects[place])} and {quoted(objects[other])}, and with the other one it can"
-                raise Fault(f"{table.file}: {told}; so nothing could be proved of a plan: list all three as apart, or plan such objects one day after the other")
+                told = f"{quoted(objects[third])} may go with just one of {quoted(objects[place])} and {quoted(objects[other])}, which are apart"
+                raise Fault(f"{table.file}: {told}; nothing could be proved of such a plan: list all three as apart")
             groups[other] = min(groups[other], groups[place])
     return groups

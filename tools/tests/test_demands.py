@@ -122,6 +122,7 @@ class Demands(ToolTest):
         self.write("few.csv", "early,few\n")
         self.write("days.csv", "early,late\nlate,night\n")
         self.write("mixed.csv", "early,late\nlate,Mon\n")
+        self.write("twice.csv", "early,Mon\nearly,Tue\n")
         for words, *parts in [
             (["--need", "unknown.csv"], "unknown.csv, line 2, column 1", "no object `lat`", "`late`"),
             (["--need", "few.csv"], "few.csv, line 1, column 2", "`few`", "how many persons"),
@@ -132,6 +133,7 @@ class Demands(ToolTest):
             (["--undone", "1", "--fair"], "--fair", "--undone"),
             (["--undone", "x"], "--undone x", "no number"),
             (["--apart", "days.csv"], "days.csv", "`night`", "nothing could be proved"),
+            (["--apart", "twice.csv"], "twice.csv, line 2, column 1", "`early` stands there twice"),
             (["--apart", "mixed.csv"], "mixed.csv, line 2, column 2", "no object `Mon`"),
             (["--fix", "Ada=early", "--fix", "Ben=early", "--need", "1"], "--fix Ben=early", "wants 1"),
             (["--fix", "Ada=early", "--fix", "Ada=early", "--need", "2", "--capacity", "2"], "--fix Ada=early"),

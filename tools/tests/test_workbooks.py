@@ -1,9 +1,12 @@
 """Workbooks as offices have them: times, dates as headers, merged cells, hidden columns, sheets by their names. They are made by
 the two libraries, where these are installed."""
+import functools
 import json
+import pathlib
 import subprocess
+import tempfile
 
-from calls import ToolTest, python_with
+from calls import ToolTest, has_program, python_with
 
 MAKE_XLSX = """
 import datetime, openpyxl
@@ -66,14 +69,23 @@ book.save("book.ods")
 CREW = "2\n1 1 4\n1 2 5\n2 1 6\n2 2 7\n"
 
 
+@functools.cache
+def books(python):
+    """The two workbooks, which are made once for all tests."""
+    with tempfile.TemporaryDirectory() as folder:
+        for script in (MAKE_XLSX, MAKE_ODS):
+            subprocess.run([python, "-c", script], cwd=folder, check=True)
+        return {name: pathlib.Path(folder, name).read_bytes() for name in ("book.xlsx", "book.ods")}
+
+
 class Books(ToolTest):
     def setUp(self):
         super().setUp()
         self.python = python_with("openpyxl", "odf")
         if not self.python:
             self.skipTest("it needs openpyxl and odfpy")
-        for script in (MAKE_XLSX, MAKE_ODS):
-            subprocess.run([self.python, "-c", script], cwd=self.folder, check=True)
+        for name, content in books(self.python).items():
+            self.write(name, content)
 
     def sheet(self, name, *words):
         """The arc file of a sheet, the names of persons and objects, and the notes."""
@@ -109,6 +121,16 @@ class Books(ToolTest):
         arcs, _, said = self.sheet("book.xlsx:Hidden", "--matrix", "--gap", "few")
         self.assertEqual(arcs, "2\n1 1 4\n1 2 5\n2 1 6\n")
         self.assertIn("row 3 and column 3 are hidden, and left out", said)
+
+    @has_program()
+    def test_lists_in_sheets(self):
+        """A sheet is named wherever a file may stand; times are told as they came."""
+        answer = self.call("plan", "book.xlsx:Dates", "--matrix", "--capacity", "book.xlsx:Capacities", python=self.python)
+        self.assertEqual(answer[1], "who,object,cost\na,2026-11-28,4\na,2026-11-29,5\nb,,\ntotal,,9\n", answer[2])
+        answer = self.call("plan", "book.xlsx:Dates", "--matrix", "--capacity", "book.xlsx", python=self.python)
+        self.assert_fault(answer, "book.xlsx", "more than one sheet", "as in book.xlsx:Times")
+        answer = self.call("plan", "book.xlsx:Times", "--matrix", python=self.python)
+        self.assertEqual(answer[1], "who,object,cost\na,y,0:45\nb,x,2:00\ntotal,,2:45\n", answer[2])
 
     def test_sheets_by_name(self):
         self.assert_fault(self.call("tools/from_csv", "book.xlsx:Plan", python=self.python), "book.xlsx:Plan", "no sheet `Plan`")

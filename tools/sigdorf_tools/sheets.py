@@ -191,14 +191,22 @@ def cells_of_ods(file, row, number, merged):
             column += repeated
 
 
+def day_of(text):
+    """The date that a text has, or None."""
+    try:
+        return datetime.datetime.fromisoformat(text or "")
+    except ValueError:
+        return None
+
+
 def text_of_ods(cell):
     """The text of a cell: of a number, a date or a time its value, and otherwise its paragraphs."""
     from odf import teletype
     kind = cell.getAttribute("valuetype")
     if kind in ("float", "currency", "percentage"):
         return text_of_value(float(cell.getAttribute("value")))
-    if kind == "date" and cell.getAttribute("datevalue"):
-        return text_of_value(datetime.datetime.fromisoformat(cell.getAttribute("datevalue")))
+    if kind == "date" and (day := day_of(cell.getAttribute("datevalue"))):
+        return text_of_value(day)
     if kind == "time" and cell.getAttribute("timevalue"):
         return clock_of_duration(cell.getAttribute("timevalue"))
     paragraphs = [child for child in cell.childNodes if child.qname[1] == "p"]

@@ -48,6 +48,10 @@ def replaced(cells, change):
     return cells_of([change(cost) for cost in cells.text.split("\n")], cells.place_of)
 
 
+def is_like_clock(cost):
+    return CLOCK_SHAPE.fullmatch(cost.translate(TO_SHAPE)) is not None
+
+
 def by_clock(table, groups):
     """Times as numbers of their smallest parts, all of them with as many parts."""
     first, found = None, []
@@ -55,8 +59,8 @@ def by_clock(table, groups):
         units = []
         for place, cost in cells.each():
             read = units_of_clock(cost)
-            if read is None and not CLOCK_SHAPE.fullmatch(cost.translate(TO_SHAPE)):
-                other = first or next(text for some in groups for _, text in some.each() if units_of_clock(text))
+            if not is_like_clock(cost):
+                other = first or next(text for some in groups for _, text in some.each() if is_like_clock(text))
                 raise table.fault(*place, f"{quoted(cost)} is no time, and other costs are, such as {quoted(other)}; write all of them alike, or say --gap where no pair is meant")
             if read is None:
                 raise table.fault(*place, f"{quoted(cost)} is no time, since minutes and seconds go from 00 to 59; write hours and minutes")

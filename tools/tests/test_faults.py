@@ -31,6 +31,7 @@ FAULTS = [
     ("a,x,$5\nb,y,\u20ac1\n", "", ", line 2, column 3", "write all costs in one unit"),
     ("a,x,5%\nb,y,1\n", "", ", line 2, column 3", "write all of them alike"),
     ("a,x,1:30\nb,y,40\n", "", ", line 2, column 3", "write all of them alike"),
+    ("a,x,40\nb,y,1:75\n", "", ", line 1, column 3", "such as `1:75`"),
     ("a,x,1:30\nb,y,1:75\n", "", ", line 2, column 3", "go from 00 to 59"),
     ("a,x,1:30\nb,y,1:30:00\n", "", ", line 2, column 3", "write all times with seconds, or none"),
     ("a,x,1:30\nb,y,1:40\n", "--decimals 2", "", "leave it out"),

@@ -4,7 +4,6 @@ import importlib.util
 import os
 
 from .faults import Fault
-from .workbooks import needed
 
 # The least and the greatest number of each option, as the solver takes them.
 LIMITS = {"bids": (1, 10**12), "seconds": (1, 10**6), "workers": (0, 16)}
@@ -48,7 +47,8 @@ def look_at_output(file, said):
         way_out = f"name {stem}.csv or {stem}.xlsx, which a spreadsheet opens, or say --html and name {stem}.html"
         raise Fault(f"-o {file}: a plan is written as CSV, a workbook, JSON or a page; {way_out}")
     if ending == BOOK and importlib.util.find_spec("openpyxl") is None:
-        raise needed(file)
+        way_out = f"install it, or name {stem}.csv"
+        raise Fault(f"-o {file}: to write .xlsx Python needs openpyxl (python3-openpyxl of Debian, `pip install openpyxl` elsewhere); {way_out}")
     wanted = next((option for option, endings in ENDINGS.items() if ending in endings), None)
     fitting = f"{stem}{ENDINGS[said][0] if said in ENDINGS else '.csv'}"
     if wanted and wanted != said:

@@ -7,7 +7,6 @@ from decimal import Decimal
 from typing import NamedTuple
 
 from .clocks import MARK, units_of_clock
-from .faults import Fault
 from .models import Model
 from .plans import by_objects, rows_of_hall_set, rows_of_pairs, rows_of_plan, sentence_of
 from .reasons import rows_of_reasons
@@ -26,11 +25,6 @@ class Sheet(NamedTuple):
     title: str
     rows: list
     amounts: set = frozenset()
-
-
-def needed(file):
-    """The fault of a Python that lacks the library."""
-    return Fault(f"-o {file}: to write .xlsx Python needs openpyxl (python3-openpyxl of Debian, `pip install openpyxl` elsewhere); install it, or name {file.rpartition('.')[0]}.csv")
 
 
 def workbook_of(names, problem, model, claim, free, asked, summary, time):

@@ -25,10 +25,10 @@ def look_at_options(words):
     look_at_questions(words)
     if words.why is not None and words.html:
         raise Fault("--why: there is no page of reasons; leave --html out, or say --json")
-    if words.output is not None:
-        look_at_output(words.output, "--json" if words.json else "--html" if words.html else "--why" if words.why is not None else None)
     if words.by is not None and (words.json or words.html or words.why is not None or is_book(words.output)):
         raise Fault(f"--by {words.by}: it says the order of a plan's rows in a table alone; leave it out, or name another file")
+    if words.output is not None:
+        look_at_output(words.output, "--json" if words.json else "--html" if words.html else "--why" if words.why is not None else None)
 
 
 def look_at_questions(words):

@@ -2,6 +2,8 @@
 import re
 from typing import NamedTuple
 
+from .clocks import MARK, clock_of, units_of_clock
+
 # The most that a cost may be, in smallest units.
 MOST = 10**9
 MOST_DECIMALS = 9
@@ -62,7 +64,9 @@ def parts_with(text, mark):
 
 
 def units_of(text, decimals, mark):
-    """How many smallest units an amount is, where a unit of the table has 10^decimals of them, and decimals stand behind a mark."""
+    """How many smallest units an amount is, where a unit of the table has 10^decimals of them, and decimals stand behind a mark. Behind the mark of times stand so many parts of 60."""
+    if mark == MARK:
+        return units_of_time(text, decimals)
     parts = parts_with(text, mark)
     if len(parts.fraction) > decimals:
         raise TooManyDecimals(f"has more decimals than the {decimals} that are kept")
@@ -70,6 +74,16 @@ def units_of(text, decimals, mark):
         raise NotAnAmount(f"is out of range: with {decimals} decimals the most is {amount_of(MOST, decimals, '.')}; count in greater units")
     units = int((parts.whole + parts.fraction.ljust(decimals, "0")) or "0")
     return units if parts.sign in ("", "+") else -units
+
+
+def units_of_time(text, parts):
+    """The same of a time."""
+    read = units_of_clock(text)
+    if read is None or read[1] != parts:
+        raise NoNumber(f"is no time, and costs of the table are; write it as in {clock_of(90 * 60 ** (parts - 1), parts)}")
+    if abs(read[0]) > MOST:
+        raise NotAnAmount(f"is out of range: the most is {clock_of(MOST, parts)}")
+    return read[0]
 
 
 def is_in_range(parts, decimals):
@@ -97,11 +111,13 @@ def way_out(texts, mark, is_found):
         return f"; --decimals {wanted} keeps them"
     reason = "no cost can have more" if most == MOST_DECIMALS else "costs as great as these can't have more"
     kept = f"{most} decimal{'s' * (most > 1)}" if most else "whole numbers"
-    return f"; round the costs in the table to {kept}{'' if is_found else f' and say --decimals {most}'}, since {reason}"
+    return f"; round the costs in the table to {kept}{'' if is_found else f' and say --decimals {most}'}, since {reason}; --round {most} does it"
 
 
 def amount_of(units, decimals, mark):
-    """The text of an amount, with all its decimals."""
+    """The text of an amount, with all its decimals, or of a time."""
+    if mark == MARK:
+        return clock_of(units, decimals)
     whole, fraction = divmod(abs(units), 10**decimals)
     sign = "-" if units < 0 else ""
     return f"{sign}{whole}{mark}{fraction:0{decimals}d}" if decimals else f"{sign}{whole}"

@@ -27,7 +27,8 @@ INVALID = {
 
 
 class Claim(NamedTuple):
-    """What a certificate says. Picks and prices are of a plan, persons and objects of a Hall set; the lower bound is the cost where the claim is optimal."""
+    """What a certificate says. Picks and prices are of a plan, persons and objects of a Hall set; the lower bound is the cost where the claim is optimal. Of a Hall set that is told as it is, and not by
+    what is beside it, the last field says whether it tells of objects that too few can take."""
 
     kind: str
     picks: list
@@ -36,6 +37,7 @@ class Claim(NamedTuple):
     cost: int
     persons: list
     objects: list
+    by_objects: bool | None = None
 
 
 def read_arcs(file, text, objects=None):

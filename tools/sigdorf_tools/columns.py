@@ -22,7 +22,8 @@ def picked(table, titles, extras, has_header):
     columns = [[cells[place] for cells in table.rows] for place in beside]
     # Columns that were named by their titles are below these.
     form = "pairs" if titles and has_header else table.form
-    return table._replace(rows=rows, columns=kept, gaps=[], form=form), columns, beside
+    placed = [table.column(place) for place in kept]
+    return table._replace(rows=rows, columns=placed, gaps=[], form=form), columns, [table.column(place) for place in beside]
 
 
 def place_of(table, title, has_header):

@@ -3,26 +3,14 @@ import re
 from typing import NamedTuple
 
 from .amounts import DELETE_THOUSANDS, MOST, THOUSANDS, NoNumber, NotAnAmount, TooManyDecimals, parts_of, parts_with, room_for_decimals, ungrouped, units_of, way_out
-from .faults import quoted
+from .clocks import MARK
+from .faults import Fault, quoted
 from .marks import OTHER, TO_SHAPE, Marks
+from .notations import made_plain
+from .rounding import note_of_rounded, rounded
 
 # How many digits a cost may have so that it is in range, whichever they are; and how many so that it is read with others at once.
 SURE_DIGITS, MOST_DIGITS = len(str(MOST)) - 1, 18
-
-
-class Cells(NamedTuple):
-    """Costs of a row or a column of the table, none of them empty, parted by line ends; their shapes, where they are more than digits; how many digits the longest one has before its mark, or in
-    all; and where each one stands, by its place among them."""
-
-    text: str
-    shapes: frozenset
-    digits: int
-    length: int
-    place_of: object
-
-    def each(self):
-        """The costs, each with the row and column where it stands."""
-        return zip(map(self.place_of, range(self.text.count("\n") + 1)), self.text.split("\n"))
 
 
 class Costs(NamedTuple):
@@ -31,39 +19,45 @@ class Costs(NamedTuple):
     texts: list
     decimals: int
     mark: str
+    notes: tuple = ()
 
 
-def cells_of(cells, place_of):
-    text = "\n".join(cells)
-    longest = max(map(len, cells))
-    if text.isascii() and "".join(cells).isdigit():
-        return Cells(text, frozenset(), longest, longest, place_of)
-    shapes = frozenset(text.translate(TO_SHAPE).split("\n"))
-    return Cells(text, shapes, max(map(digits_before_mark, shapes)), longest, place_of)
-
-
-def digits_before_mark(shape):
-    """At most how many digits the shape has before the mark of its decimals."""
-    return len(re.split("[.,]", shape)[0]) if shape.count(".") + shape.count(",") < 2 else len(shape)
-
-
-def read_costs(table, groups, decimals=None, maximise=False, mark=None):
-    """The costs of groups of cells. The decimals and their mark are found, where they aren't given."""
+def read_costs(table, groups, decimals=None, maximise=False, mark=None, most=None):
+    """The costs of groups of cells. The decimals and their mark are found, where they aren't given; costs with more decimals than the most are rounded, where that is given."""
+    groups, clock, notes = made_plain(table, groups, mark)
+    if clock:
+        if decimals is not None or most is not None:
+            raise Fault(f"{table.file}: {'--decimals' if most is None else '--round'} is said, and costs are times; leave it out")
+        # They are whole numbers by now.
+        mark, decimals = ".", 0
     is_found = decimals is None
     mark = mark or mark_of(table, groups, not is_found)
+    look_at_shapes(table, groups, mark)
+    if most is not None:
+        groups, count = rounded(groups, most, mark)
+        notes = [*notes, *([note_of_rounded(count, most)] if count else [])]
+    if is_found:
+        decimals = decimals_of(table, groups, mark)
+    texts = texts_of(table, groups, decimals, mark, maximise, is_found)
+    return Costs(texts, clock or decimals, MARK if clock else mark, tuple(notes))
+
+
+def look_at_shapes(table, groups, mark):
     is_amount = amounts_with(mark).fullmatch
     for cells in groups:
         if not all(map(is_amount, cells.shapes)):
             raise first_fault(table, [cells], lambda cost: parts_with(cost, mark))
-    if is_found:
-        decimals = decimals_of(table, groups, mark)
+
+
+def texts_of(table, groups, decimals, mark, maximise, is_found):
+    """For each group the costs in smallest units, as texts parted by line ends."""
     texts = []
     for cells in groups:
         text = units_text(cells, decimals, mark)
         if text is None or cells.digits + decimals > SURE_DIGITS and max(map(abs, map(int, text.split("\n")))) > MOST:
             raise fault_of_amounts(table, groups, decimals, mark, is_found)
         texts.append(canonical(negated(text) if maximise else text))
-    return Costs(texts, decimals, mark)
+    return texts
 
 
 def amounts_with(mark):
@@ -174,5 +168,6 @@ def first_fault(table, groups, look):
                 look(cost)
             except NotAnAmount as why:
                 allowed = " or leave out the row of a pair that" if is_of_pairs else " or leave the cell empty where the pair"
-                return table.fault(row, column, f"{quoted(cost)} {why}" + (f",{allowed} isn't allowed" if isinstance(why, NoNumber) else ""))
+                way_out = f",{allowed} isn't allowed; --gap names what stands for that" if isinstance(why, NoNumber) else ""
+                return table.fault(row, column, f"{quoted(cost)} {why}{way_out}")
     raise AssertionError("one of the costs is at fault")

@@ -59,6 +59,10 @@ class Scene(NamedTuple):
     objects_told: set
     is_hall: bool
 
+    def has_bars(self):
+        """Whether there are prices to be drawn."""
+        return bool(self.prices) and not self.is_hall
+
     def step(self):
         """From the middle of a name to the middle of the next one."""
         prices = () if self.is_hall else map(self.price, self.prices[: len(self.objects)])
@@ -92,11 +96,12 @@ class Scene(NamedTuple):
         return arc in self.arcs_told
 
 
-def drawing(scene, title):
-    """The text of the picture."""
+def drawing(scene, title, has_title=True):
+    """The text of the picture, in which the title is shown, or stands for those who can't see it alone."""
     width = scene.width()
-    title_lines = wrapped(title, TITLE_SIZE, width - 2 * 24, True)
-    legend, legend_at = (HALL_LEGEND, OBJECTS_AT + BOX_HEIGHT + 40) if scene.is_hall else (LEGEND, BARS_AT + BAR_MOST + 52)
+    title_lines = wrapped(title, TITLE_SIZE, width - 2 * 24, True) if has_title else []
+    legend = HALL_LEGEND if scene.is_hall else LEGEND if scene.prices else LEGEND[:1]
+    legend_at = BARS_AT + BAR_MOST + 52 if scene.has_bars() else OBJECTS_AT + BOX_HEIGHT + 40
     top, height = 26 + TITLE_LINE * len(title_lines) + 20, legend_at + LEGEND_LINE * len(legend)
     parts = [
         f'<svg xmlns="http://www.w3.org/2000/svg" viewBox="0 0 {width:.0f} {top + height}" width="{width:.0f}" height="{top + height}" font-family="Helvetica, Arial, DejaVu Sans, sans-serif">',
@@ -110,7 +115,7 @@ def drawing(scene, title):
         *(box(scene.x(number, scene.persons), 0, name, *colours(scene, number in scene.persons_told)) for number, name in enumerate(scene.persons, 1)),
         *(box(scene.x(number, scene.objects), OBJECTS_AT, name, *colours(scene, number in scene.objects_told)) for number, name in enumerate(scene.objects, 1)),
         *costs(scene),
-        *([] if scene.is_hall else bars(scene)),
+        *(bars(scene) if scene.has_bars() else []),
         *(text_at(24, legend_at + LEGEND_LINE * place, line, FAINT, COST_SIZE, "start") for place, line in enumerate(legend)),
         "</g>",
         "</svg>",

@@ -58,7 +58,7 @@ def look_for_more_columns(table):
     and which ones are to be taken has to be said."""
     rest = table.rows[1:]
     for column, cell in enumerate(rest[0] if rest else [], 0):
-        if column and cell and not is_number(cell) and not looks_like_number(cell) and not any(is_number(cells[column]) for cells in rest if column < len(cells)) and len(rest) > 1:
+        if column and cell and cell not in table.not_possible and not is_number(cell) and not looks_like_number(cell) and not any(is_number(cells[column]) for cells in rest if column < len(cells)) and len(rest) > 1:
             raise table.fault(1, column, f"{quoted(cell)} is no cost, nor is another cell of this column; say --columns with the titles of person, object and cost, or --ignore-column with the title of this one")
 
 

@@ -10,9 +10,16 @@ from .widths import width_of, wrapped
 MOST_DOWN, MOST_ACROSS, WIDE, GREATEST, LEAST = 120, 160, 880, 16, 5
 # Names stand beside squares that are as large as this, cut where they are longer than so many letters.
 NAMED, LONGEST, NAME_SIZE = 11, 28, 10
-LEVELS = ["#eef3f8", "#dbe6f1", "#c4d6e8", "#a9c3dd", "#8aadd0", "#6a94c0", "#4d7aac", "#355f92", "#214573"]
+LEVELS = ["#d9e7f5", "#c8dbee", "#b5cde6", "#9fbddc", "#86aad0", "#6a94c0", "#4d7aac", "#355f92", "#214573"]
 PICK = "#e0701a"
 MARGIN, LEGEND_LINE = 24, 19
+# How large a square of the scale of costs is, and where it stands below the picture.
+SCALE, SCALE_AT = 18, 14
+# What isn't allowed is hatched, so that it is the colour of no cost.
+HATCH = (
+    '<defs><pattern id="none" width="6" height="6" patternUnits="userSpaceOnUse"><rect width="6" height="6" fill="#ffffff"/>'
+    '<path d="M-1 7L7 -1" stroke="#b9b2a6" stroke-width="1"/></pattern></defs>'
+)
 
 
 class Grid:
@@ -37,9 +44,12 @@ class Grid:
             counts[column] += 1
             sums[column] += cost
 
-    def levels(self):
-        """The level of each square that has arcs, by its row and column."""
-        means = {(row, column): self.sums[row][column] / count for row, counts in enumerate(self.counts) for column, count in enumerate(counts) if count}
+    def means(self):
+        """The mean cost of each square that has arcs, by its row and column."""
+        return {(row, column): self.sums[row][column] / count for row, counts in enumerate(self.counts) for column, count in enumerate(counts) if count}
+
+    def levels(self, means):
+        """The level of each square, by the least and the greatest mean."""
         least, most = min(means.values(), default=0), max(means.values(), default=0)
         return {place: min(int((mean - least) / (most - least or 1) * len(LEVELS)), len(LEVELS) - 1) for place, mean in means.items()}
 
@@ -48,7 +58,7 @@ class Grid:
         return self.down == self.across == 1
 
 
-def heat_map(names, rows, picks, title, hall=None):
+def heat_map(names, rows, picks, title, hall=None, has_title=True):
     """The text of the picture. The arcs of each person come as his number, objects and costs; picks are pairs of numbers; a Hall set is two lists of numbers, of persons and objects."""
     grid = Grid(len(names.persons), len(names.objects))
     for person, objects, costs in rows:
@@ -58,22 +68,25 @@ def heat_map(names, rows, picks, title, hall=None):
     above = (max(width_of(cut(name), NAME_SIZE) for name in names.objects) if has_names else NAME_SIZE) + 34
     legend = legend_of(grid, hall)
     width = max(left + grid.size * grid.columns + MARGIN, 2 * MARGIN + max(width_of(line, COST_SIZE) for line in legend))
-    title_lines = wrapped(title, TITLE_SIZE, width - 2 * MARGIN, True)
+    title_lines = wrapped(title, TITLE_SIZE, width - 2 * MARGIN, True) if has_title else []
     top = 30 + TITLE_LINE * len(title_lines) + above
     bottom = top + grid.size * grid.rows
-    height = bottom + 30 + LEGEND_LINE * len(legend)
+    legend_at, means = bottom + SCALE_AT + SCALE + 30, grid.means()
+    height = legend_at + LEGEND_LINE * len(legend)
     parts = [
         f'<svg xmlns="http://www.w3.org/2000/svg" viewBox="0 0 {width:.0f} {height:.0f}" width="{width:.0f}" height="{height:.0f}" font-family="Helvetica, Arial, DejaVu Sans, sans-serif">',
         f"<title>{escape(title)}</title>",
+        HATCH,
         f'<rect width="100%" height="100%" fill="{PAPER}"/>',
         *(text_at(MARGIN, 40 + TITLE_LINE * place, line, INK, TITLE_SIZE, "start", "bold") for place, line in enumerate(title_lines)),
         *labels(names, grid, left, top, has_names),
         f'<g transform="translate({left:.1f} {top:.1f})">',
-        *squares(grid),
+        *squares(grid, means),
         *(marks_of_hall(grid, *hall) if hall else ()),
         *picked(grid, picks),
         "</g>",
-        *(text_at(MARGIN, bottom + 30 + LEGEND_LINE * place, line, FAINT, COST_SIZE, "start") for place, line in enumerate(legend)),
+        *scale_of(names, means, bottom + SCALE_AT),
+        *(text_at(MARGIN, legend_at + LEGEND_LINE * place, line, FAINT, COST_SIZE, "start") for place, line in enumerate(legend)),
         "</svg>",
     ]
     return "\n".join(parts) + "\n"
@@ -82,7 +95,19 @@ def heat_map(names, rows, picks, title, hall=None):
 def legend_of(grid, hall):
     each = "a square is a pair" if grid.is_whole() else f"a square is {grid.down} by {grid.across} pairs"
     told = "red: who is in the way of a plan, and all that they may take" if hall else "orange: the plan"
-    return [f"{each}; white: none is allowed; the darker, the greater the cost", told]
+    return [f"{each}; hatched: none is allowed; the darker, the greater the cost", told]
+
+
+def scale_of(names, means, top):
+    """The colours of costs, between the least and the greatest one."""
+    if not means:
+        return
+    least, most = (names._replace(maximise=False).amount(round(end(means.values()))) for end in (min, max))
+    left = MARGIN + width_of(least, COST_SIZE) + 8
+    yield text_at(MARGIN, top + SCALE - 5, least, FAINT, COST_SIZE, "start")
+    for place, level in enumerate(LEVELS):
+        yield f'<rect x="{left + SCALE * place:.1f}" y="{top:.1f}" width="{SCALE}" height="{SCALE}" fill="{level}"/>'
+    yield text_at(left + SCALE * len(LEVELS) + 8, top + SCALE - 5, most, FAINT, COST_SIZE, "start")
 
 
 def cut(name):
@@ -106,10 +131,11 @@ def labels(names, grid, left, top, has_names):
             yield text_at(x, top - 6, str(column * grid.across + 1), INK, NAME_SIZE)
 
 
-def squares(grid):
+def squares(grid, means):
     """A path for each level: so that even large pictures are short."""
     paths = {}
-    for (row, column), level in grid.levels().items():
+    yield f'<rect width="{grid.columns * grid.size}" height="{grid.rows * grid.size}" fill="url(#none)"/>'
+    for (row, column), level in grid.levels(means).items():
         paths.setdefault(level, []).append(f"M{column * grid.size} {row * grid.size}h{grid.size}v{grid.size}h-{grid.size}z")
     for level, path in sorted(paths.items()):
         yield f'<path fill="{LEVELS[level]}" d="{"".join(path)}"/>'

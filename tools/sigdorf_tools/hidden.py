@@ -1,7 +1,5 @@
-"""Rows and columns of a workbook that a spreadsheet doesn't show. They count like all others, so a note tells them."""
-import io
+"""Rows and columns of a workbook that a spreadsheet doesn't show. They are left out, and a note tells them."""
 import re
-import zipfile
 
 # In the text of a sheet: what a row or some columns are told by, and an attribute of it.
 ROW, COLUMNS = (re.compile(rb"<(?:[A-Za-z0-9_]+:)?%s\b([^>]*)>" % name) for name in (b"row", b"col"))
@@ -12,14 +10,9 @@ HIDDEN_IN_XLSX, HIDDEN_IN_ODS = (b"1", b"true"), ("collapse", "filter")
 MOST, MOST_TOLD = 20_001, 5
 
 
-def hidden_in_xlsx(content, sheet):
+def hidden_in_xlsx(text):
     """The numbers of hidden rows and columns of a sheet, from its text: the library doesn't tell them where it reads
     row by row."""
-    path = getattr(sheet, "_worksheet_path", None)
-    if path is None:
-        return set(), set()
-    with zipfile.ZipFile(io.BytesIO(content)) as archive:
-        text = archive.read(path)
     rows, columns, number = set(), set(), 0
     for found in ROW.finditer(text):
         told = dict(ATTRIBUTE.findall(found[1]))
@@ -48,6 +41,17 @@ def hidden_in_ods(table, repeats):
     return found
 
 
+def without_hidden(rows, hidden_rows, hidden_columns):
+    """The rows by their numbers without hidden ones, and where the columns that are left stand in the file; None where
+    all are."""
+    shown = {number: cells for number, cells in rows.items() if number not in hidden_rows}
+    if not hidden_columns:
+        return shown, None
+    width = max(map(len, rows.values()), default=0)
+    columns = [column for column in range(width) if column + 1 not in hidden_columns]
+    return {number: [cells[column] for column in columns] for number, cells in shown.items()}, columns
+
+
 def note_of_hidden(file, rows, hidden_rows, hidden_columns):
     """A note on the hidden rows and columns that have cells, if there are any."""
     filled = {number for cells in rows.values() for number, cell in enumerate(cells, 1) if cell}
@@ -56,8 +60,7 @@ def note_of_hidden(file, rows, hidden_rows, hidden_columns):
     if not count:
         return []
     told = " and ".join(numbered(word, numbers) for word, numbers in found.items() if numbers)
-    how = "is hidden, and counts" if count == 1 else "are hidden, and count"
-    return [f"{file}: {told} {how} like all others; delete what isn't meant"]
+    return [f"{file}: {told} {'is' if count == 1 else 'are'} hidden, and left out; show what is meant to be planned"]
 
 
 def numbered(word, numbers):

@@ -1,29 +1,67 @@
-"""Tables as JSON: a list of records, a list of rows, or for each person an object with the costs of what he may take. Numbers are kept as they are written."""
+"""Tables as JSON: a list of records, a list of rows, or for each person an object with the costs of what he may take; or a record or a row in each line. Numbers are kept as they are written."""
 import json
 
 from .faults import Fault, quoted
-from .text_tables import text_of
+from .text_encodings import decoded
 
+# What names of files end in, the second ones of those with a value in each line.
+ENDING, LINES = ".json", (".jsonl", ".ndjson")
 TITLES = ["person", "object", "cost"]
 WANTED = "a list of records, a list of rows, or for each person an object of costs is wanted"
 
 
-def read_json(file, content):
-    """The rows of the table, the numbers of what they come from, what that is called, and the form where it is known: what is `pairs` then has titles on top."""
-    value = value_of(file, text_of(file, content))
-    if isinstance(value, dict) and value and all(isinstance(costs, dict) for costs in value.values()):
+def is_json(path, content):
+    """Whether a file is JSON, by its name; of standard input by its first character."""
+    return path.lower().endswith((ENDING, *LINES)) or path == "-" and content.lstrip()[:1] in (b"[", b"{")
+
+
+def read_json(file, content, encoding=None, has_lines=False):
+    """The rows of the table, the numbers of what they come from, and what that is called; the form where it is known: what is `pairs` then has titles on top; and notes on how the text was read."""
+    text, notes = decoded(file, content, encoding)
+    numbers = None
+    if has_lines or is_of_lines(text):
+        numbers, value = values_of_lines(file, text)
+    else:
+        value = value_of(file, text)
+    return *table_of_value(file, value, numbers), notes
+
+
+def table_of_value(file, value, lines):
+    """The rows of a value, with what tells where they come from, and the form; lines are those of its parts, where each has one."""
+    if lines is None and isinstance(value, dict) and value and all(isinstance(costs, dict) for costs in value.values()):
         return rows_of_persons(file, value)
     if not isinstance(value, list) or not value:
         raise Fault(f"{file}: no table, since {WANTED}")
+    numbers = lines or list(range(1, len(value) + 1))
     if all(isinstance(row, list) for row in value):
-        return texts(file, "row", value, range(1, len(value) + 1)), None
-    for number, record in enumerate(value, 1):
+        return texts(file, "line" if lines else "row", value, numbers), None
+    word = "line" if lines else "record"
+    for number, record in zip(numbers, value):
         if not isinstance(record, dict):
-            raise Fault(f"{file}, record {number}: no record; {WANTED}")
+            raise Fault(f"{file}, {word} {number}: no record; {WANTED}")
     titles = list(dict.fromkeys(title for record in value for title in record))
     # Fields of a record have no order of their own, so that where they are named so, the names tell which is which.
     titles = TITLES if sorted(titles) == sorted(TITLES) else titles
-    return texts(file, "record", [titles, *([record.get(title) for title in titles] for record in value)], numbers_below_titles(value)), "pairs"
+    rows = [titles, *([record.get(title) for title in titles] for record in value)]
+    return texts(file, word, rows, [numbers[0], *numbers]), "pairs"
+
+
+def is_of_lines(text):
+    """Whether a text has a value in each line: its first line is a whole one, and more follow."""
+    first, _, rest = text.lstrip().partition("\n")
+    if not rest.strip() or first[:1] not in ("{", "["):
+        return False
+    try:
+        json.loads(first)
+    except (ValueError, RecursionError):
+        return False
+    return True
+
+
+def values_of_lines(file, text):
+    """The numbers of the lines that have a value, and the values."""
+    lines = [(number, line) for number, line in enumerate(text.split("\n"), 1) if line.strip()]
+    return [number for number, _ in lines], [value_of(file, line, number) for number, line in lines]
 
 
 def rows_of_persons(file, value):
@@ -51,7 +89,8 @@ def texts(file, word, rows, numbers):
     return [["" if value is None else str(value).lower() if isinstance(value, bool) else value for value in row] for row in rows], list(numbers), word
 
 
-def value_of(file, text):
+def value_of(file, text, line=1):
+    """The value of a text that begins in a line of the file."""
     def record(pairs):
         found = dict(pairs)
         if len(found) < len(pairs):
@@ -61,6 +100,6 @@ def value_of(file, text):
     try:
         return json.loads(text, parse_float=str, parse_int=str, parse_constant=str, object_pairs_hook=record)
     except json.JSONDecodeError as error:
-        raise Fault(f"{file}, line {error.lineno}, column {error.colno}: no JSON ({error.msg}); write it by a program that knows the format") from None
+        raise Fault(f"{file}, line {error.lineno + line - 1}, column {error.colno}: no JSON ({error.msg}); write it by a program that knows the format") from None
     except RecursionError:
         raise Fault(f"{file}: no table, since its lists are too deep; {WANTED}") from None

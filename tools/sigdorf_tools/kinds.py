@@ -5,17 +5,20 @@ from typing import NamedTuple
 # What an answer is called for programs, where the search came to its end.
 ANSWERS = {"best": "best", "second": "second best", "fair": "fair"}
 # Options that narrow which plans there are: those that are said once, and those that may be said more often.
-SINGLE, SEVERAL = ("capacity", "capacity_column", "leave_free", "leave_free_column"), ("fix", "forbid")
+SINGLE = "capacity", "capacity_column", "leave_free", "leave_free_column", "need", "need_column", "need_row", "apart", "undone", "keep", "change_cost"
+SEVERAL = "fix", "forbid"
 JUDGES = ["the proved checker", "a second one"]
 
 
 class Asked(NamedTuple):
-    """The kind of plan, `best`, `second` or `fair`; the wishes for it, as they were said; and what stands beside its
-    total: of a second best plan the total of the best one, of a fair plan the cost that no plan betters."""
+    """The kind of plan, `best`, `second` or `fair`; the wishes for it, as they were said; what stands beside its total:
+    of a second best plan the total of the best one, of a fair plan the cost that no plan betters; and the old plan that
+    is kept as far as it pays, if there is one."""
 
     kind: str = "best"
     wishes: tuple = ()
     beside: int | None = None
+    changes: object = None
 
     def within(self):
         """Which plans all that is said is about: all, or those that the wishes allow."""
@@ -32,7 +35,7 @@ class Asked(NamedTuple):
 
 def wishes_said(words):
     """The wishes that the words of a command tell, one by one."""
-    said = [(option, getattr(words, option)) for option in SINGLE if getattr(words, option) is not None]
+    said = [(option, getattr(words, option, None)) for option in SINGLE if getattr(words, option, None) is not None]
     said += [(option, word) for option in SEVERAL for word in getattr(words, option)]
     return tuple(f"--{option.replace('_', '-')} {word}" for option, word in said)
 

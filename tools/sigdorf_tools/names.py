@@ -3,6 +3,7 @@ import json
 from typing import NamedTuple
 
 from .amounts import MOST_DECIMALS, amount_of
+from .clocks import MARK
 from .faults import Fault, read_bytes
 
 FORMAT = "sigdorf names 2"
@@ -25,6 +26,10 @@ class Names(NamedTuple):
     def amount(self, cost):
         """A cost of the solver as an amount of the table, in the table's sign."""
         return amount_of(-cost if self.maximise else cost, self.decimals, self.mark)
+
+    def for_programs(self):
+        """The names such that amounts are numbers for programs, or times as they are."""
+        return self if self.mark == MARK else self._replace(mark=".")
 
     def person(self, number):
         """The name of a person."""
@@ -87,8 +92,8 @@ def look_at_names(file, names):
         "titles": len(names.titles) == 3,
         "persons": bool(names.persons) and all(isinstance(text, str) for text in texts),
         "separator": names.separator in (",", ";", "\t"),
-        "mark": names.mark in (".", ","),
-        "decimals": 0 <= names.decimals <= MOST_DECIMALS,
+        "mark": names.mark in (".", ",", MARK),
+        "decimals": 0 <= names.decimals <= MOST_DECIMALS if names.mark != MARK else 1 <= names.decimals <= 2,
         "dummy_objects": names.dummy_objects == max(len(names.persons) - len(names.objects), 0),
         "arcs": names.arcs.split(maxsplit=1)[:1] == [str(len(names.persons))],
     }

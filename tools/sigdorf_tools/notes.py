@@ -67,7 +67,7 @@ def notes_of_copies(rows):
     person, *things = twice[0]
     count = len(twice) - 1
     more = f", and {count} more person{'s have' if count > 1 else ' has'} copies of one object" if count else ""
-    way_out = "forbid such pairs, or leave --capacity out"
+    way_out = "write it once and say --need, or forbid such pairs"
     told = f"{quoted(person)} has {' and '.join(map(quoted, things))}{more}"
     yield f"{told}; who may take more than one object may take all its copies: {way_out}"
 

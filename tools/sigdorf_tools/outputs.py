@@ -4,9 +4,11 @@ import json
 import os
 import sys
 
+from .clocks import MARK
 from .faults import Fault
 from .kinds import ANSWERS, Asked
 from .plans import Free, blamed, rows_of_free, rows_of_pairs, sentence_of, write_rows
+from .reading import parted_from_sheet
 
 STATUS_WORDS = {"bracket": "stopped", "infeasible": "no plan"}
 
@@ -20,13 +22,13 @@ def text_of_rows(names, rows):
 
 def json_of(names, claim, judges, free=Free(), asked=Asked()):
     """An answer as JSON: amounts are numbers with the decimals of the table, exactly."""
-    names = names._replace(mark=".")
+    names = names.for_programs()
     told = {"answer": STATUS_WORDS.get(claim.kind, ANSWERS[asked.kind]), **asked.fields(names, number)}
     told |= {"sentence": sentence_of(names, claim, asked)}
     if claim.kind == "infeasible":
         persons, objects = blamed(names, claim)
         told |= {"persons": list(dict.fromkeys(map(names.person, persons)))}
-        told |= {"objects": list(map(names.object, objects))}
+        told |= {"objects": list(dict.fromkeys(map(names.object, objects)))}
     else:
         rows = rows_of_free(names, claim, free)
         told |= {
@@ -35,6 +37,11 @@ def json_of(names, claim, judges, free=Free(), asked=Asked()):
             "free_persons": [{"person": person} | ({"cost": number(cost)} if cost else {}) for person, _, cost in rows if person],
             "free_objects": [thing for person, thing, _ in rows if not person],
         }
+        if asked.changes:
+            new, gone = asked.changes.of_plan(rows_of_pairs(names, claim))
+            each = names._replace(maximise=False).amount(asked.changes.cost)
+            fields = [("new_pairs", new), ("old_pairs", sorted(gone))]
+            told |= {"change_cost": number(each)} | {field: [dict(person=person, object=thing) for person, thing in pairs] for field, pairs in fields}
         if claim.kind == "bracket":
             told |= {"bound": number(names.amount(claim.lower))}
     return json.dumps(told | {"proved_by": judges}, ensure_ascii=False, indent=1) + "\n"
@@ -53,18 +60,21 @@ def json_of_reasons(names, rows):
 
 
 def number(text):
-    """The number of an amount; a floating-point number has more digits than a total has, so it is written as it was."""
+    """The number of an amount; a floating-point number has more digits than a total has, so it is written as it was. A time stays a text."""
+    if MARK in text:
+        return text
     return float(text) if "." in text else int(text)
 
 
-def write_text(text, file, table):
-    """Writes a text to standard output, or into a file, which mustn't be the table that the plan is for."""
+def write_output(content, file, table):
+    """Writes a text to standard output, or a text or bytes into a file, which mustn't be the table that the plan is for."""
     if file is None:
         sys.stdout.reconfigure(encoding="utf-8", newline="")
-        sys.stdout.write(text)
+        sys.stdout.write(content)
         sys.stdout.flush()
         return
+    table, _ = parted_from_sheet(table)
     if os.path.exists(file) and os.path.exists(table) and os.path.samefile(file, table):
         raise Fault(f"{file}: the plan would go over the table that it is made from; name another file after -o")
-    with open(file, "w", encoding="utf-8", newline="") as opened:
-        opened.write(text)
+    with open(file, "wb") as opened:
+        opened.write(content if isinstance(content, bytes) else content.encode("utf-8"))

@@ -6,7 +6,8 @@ from typing import NamedTuple
 
 from . import arrays
 from .arrays import numpy_for
-from .costs import cells_of, read_costs
+from .cost_cells import cells_of
+from .costs import read_costs
 from .faults import Fault
 from .forms import are_names_of_objects, is_title, look_for_header
 from .matrices import USUAL_MARK, is_mark_sure

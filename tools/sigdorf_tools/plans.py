@@ -13,10 +13,13 @@ MOST_LISTED = 5
 
 
 class Free(NamedTuple):
-    """Who stays free beside those whom the solver left so: persons who may take nothing; and whether staying free has a price, which is told then."""
+    """Who stays free beside those whom the solver left so: persons who may take nothing; whether staying free has a price, which is told then; for each object how many persons it wants, where it isn't
+    one; and what a place costs that stays open, if anything."""
 
     absent: list = []
     has_prices: bool = False
+    needs: list | None = None
+    undone: int | None = None
 
 
 def rows_of_plan(names, claim, free=Free(), asked=Asked()):
@@ -24,9 +27,34 @@ def rows_of_plan(names, claim, free=Free(), asked=Asked()):
     if claim.kind == "infeasible":
         return rows_of_hall_set(names, claim, asked)
     rows = [names.titles, *rows_of_pairs(names, claim), *rows_of_free(names, claim, free), ["total", "", names.amount(claim.cost)]]
+    rows = with_old_objects(rows, names, claim, asked.changes) if asked.changes else rows
     if claim.kind == "bracket":
         rows.append([sentence_of(names, claim, asked)])
     return rows
+
+
+def by_objects(names, rows):
+    """The rows of a plan by objects: the object first, in the order of the table, and who stays free at the end."""
+    places = {name: place for place, name in enumerate(names.objects)}
+    header, *rest = rows
+    end = next(place for place in range(len(rest) - 1, -1, -1) if rest[place][:2] == ["total", ""])
+    turned = [[thing, person, *more] for person, thing, *more in rest[:end]]
+    turned.sort(key=lambda row: places.get(row[0], len(places)))
+    return [[header[1], header[0], *header[2:]], *turned, *rest[end:]]
+
+
+def with_old_objects(rows, names, claim, changes):
+    """The rows of a plan with one more column: in the first row of a person that is new, what he had and has no more."""
+    _, gone = changes.of_plan(rows_of_pairs(names, claim))
+    had = {}
+    for person, thing in sorted(gone):
+        had.setdefault(person, []).append(thing)
+    told = [[*rows[0], "before"]]
+    for person, thing, cost in rows[1:]:
+        is_new = (person, thing) not in changes.pairs
+        told.append([person, thing, cost, " and ".join(had.pop(person, ())) if is_new else ""])
+    # Who keeps one object and loses another one.
+    return [*told[:-1], *([person, "", "", " and ".join(things)] for person, things in had.items()), told[-1]]
 
 
 def rows_of_pairs(names, claim):
@@ -38,14 +66,17 @@ def rows_of_pairs(names, claim):
 
 
 def rows_of_free(names, claim, free=Free()):
-    """A row for each person who has no object, and for each object that nobody has."""
-    taken, costs = {thing for _, (thing, _) in zip(names.persons, claim.picks)}, {}
+    """A row for each person who has no object, and for each object, or each place of one, that nobody has."""
+    taken, costs = collections.Counter(thing for _, (thing, _) in zip(names.persons, claim.picks)), {}
     busy = {person for person, (thing, _) in zip(names.persons, claim.picks) if names.object(thing) is not None}
     for person, (_, cost) in zip(names.persons, claim.picks):
         if person not in busy:
             costs[person] = costs.get(person, 0) + cost
     persons = [[person, "", names.amount(cost) if free.has_prices else ""] for person, cost in costs.items()] + [[person, "", ""] for person in free.absent]
-    return persons + [["", name, ""] for number, name in enumerate(names.objects, 1) if number not in taken]
+    price = "" if free.undone is None else names.amount(free.undone)
+    needs = free.needs or [1] * len(names.objects)
+    left = ([name] * (need - taken[number]) for (number, name), need in zip(enumerate(names.objects, 1), needs))
+    return persons + [["", name, price] for places in left for name in places]
 
 
 def rows_of_hall_set(names, claim, asked=Asked()):
@@ -53,13 +84,18 @@ def rows_of_hall_set(names, claim, asked=Asked()):
     persons, objects = blamed(names, claim)
     rows = [[sentence_of(names, claim, asked)]]
     rows += [["person", name] for name in dict.fromkeys(map(names.person, persons))]
-    rows += [["object", names.object(number)] for number in objects]
+    rows += [["object", name] for name in dict.fromkeys(map(names.object, objects))]
     return rows
+
+
+def is_by_objects(names, claim):
+    """Whether a Hall set is told as one of objects that too few persons may take."""
+    return names.dummy_objects > 0 if claim.by_objects is None else claim.by_objects
 
 
 def blamed(names, claim):
     """Persons who may take too few objects; or, where some persons have to stay without an object, objects that too few persons may take."""
-    if not names.dummy_objects:
+    if claim.by_objects is not None or not names.dummy_objects:
         return claim.persons, claim.objects
     # Each person may take each dummy, so all of them are in the set: what is left of the objects is for the persons who are left.
     persons = sorted(set(range(1, len(names.persons) + 1)) - set(claim.persons))
@@ -72,8 +108,8 @@ def sentence_of(names, claim, asked=Asked()):
         return sentence_of_plan(names, claim, asked)
     (persons, objects), no_plan = blamed(names, claim), f"No plan{asked.within()} gives"
     told_persons = listed(with_times(map(names.person, persons)), "person")
-    told_objects = listed([names.object(number) for number in objects], "object")
-    if names.dummy_objects:
+    told_objects = listed(with_times(map(names.object, objects)), "object")
+    if is_by_objects(names, claim):
         more = ", and to nobody else" if persons else ""
         return f"{no_plan} every object to somebody: {told_objects} can go to {told_persons}{more}."
     more = ", and nothing else" if objects else ""
@@ -122,5 +158,10 @@ def summary_of(names, claim, judges, asked=Asked()):
     """What an answer says, and who checked it, in half a sentence."""
     if claim.kind == "infeasible":
         return f"there is no plan{asked.within()}; {judged_by(judges)}"
-    pairs = counted(len(rows_of_pairs(names, claim)), "pair")
-    return f"{pairs}, total {names.amount(claim.cost)}, {rank_of(names, claim, asked)}; {judged_by(judges)}"
+    rows = rows_of_pairs(names, claim)
+    changed = ""
+    if asked.changes:
+        new, _ = asked.changes.of_plan(rows)
+        each = names._replace(maximise=False).amount(asked.changes.cost)
+        changed = f" with {counted(len(new), 'change')} at {each} each"
+    return f"{counted(len(rows), 'pair')}, total {names.amount(claim.cost)}{changed}, {rank_of(names, claim, asked)}; {judged_by(judges)}"

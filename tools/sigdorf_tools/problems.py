@@ -1,7 +1,8 @@
 """Problems with names: who may take what at which cost, from the rows of a table to the text of an arc file."""
 from typing import NamedTuple
 
-from .costs import cells_of, read_costs
+from .cost_cells import cells_of
+from .costs import read_costs
 from .faults import Fault, quoted
 from .forms import form_of, is_title
 from .json_tables import TITLES
@@ -10,7 +11,7 @@ from .tables import below_header, look_at_blanks, look_at_lengths
 MOST_PERSONS = 10_000
 MOST_OBJECTS = 20_000
 MOST_ARCS = 33_554_432
-NAME_WANTED = "a name is wanted, and the cell is empty; write one, or leave out what is no part of the table"
+NAME_WANTED = "a name is wanted, and the cell is empty; write one, or leave out what is no part of the table, as by --range"
 
 
 class Arcs(NamedTuple):
@@ -43,7 +44,7 @@ class Arcs(NamedTuple):
 
 
 class Problem(NamedTuple):
-    """The names of persons and objects, each at the place of its number less 1; for each person the arcs; and how costs are told."""
+    """The names of persons and objects, each at the place of its number less 1; for each person the arcs; how costs are told; and notes on how they were read."""
 
     titles: list
     mark: str
@@ -51,9 +52,10 @@ class Problem(NamedTuple):
     persons: list
     objects: list
     arcs: list
+    notes: tuple = ()
 
 
-def problem_of(table, form, has_header, decimals=None, maximise=False, mark=None):
+def problem_of(table, form, has_header, decimals=None, maximise=False, mark=None, most=None):
     """The problem of a table. The form is `pairs`, `matrix`, or None, where the table tells it; so are decimals and their mark."""
     has_header = has_header or table.form is not None
     # Of costs alone an empty column is an object that nobody may have.
@@ -61,7 +63,7 @@ def problem_of(table, form, has_header, decimals=None, maximise=False, mark=None
     form = table.form or form or form_of(table, has_header)
 
     def costs(groups):
-        return read_costs(table._replace(form=form), groups, decimals, maximise, mark)
+        return read_costs(table._replace(form=form), groups, decimals, maximise, mark, most)
     if form == "pairs":
         return problem_of_pairs(table, has_header, costs)
     return problem_of_matrix(table, costs) if has_header else problem_of_costs(table, costs)
@@ -72,25 +74,36 @@ def problem_of_pairs(table, has_header, costs):
     look_for_more_than_pairs(table)
     look_at_lengths(table, 3)
     titles, first = TITLES, 0
-    if table.form or has_header and is_title(table.rows[0][2]):
+    if table.form or has_header and is_title(table.rows[0][2]) and table.rows[0][2] not in table.not_possible:
         titles, first = titles_of(table), 1
     elif has_header and not table.rows[0][2]:
         raise table.fault(0, 2, "the cell is empty, so the row may have titles, or a pair without a cost; write a title or a cost into it, or leave the row out")
     persons, objects, amounts = zip(*table.rows[first:])
-    look_for_gap(table, amounts, first, 2, "a cost is wanted, and the cell is empty; leave out the row of a pair that isn't allowed")
     person_names, person_numbers = numbered(table, persons, first, 0, MOST_PERSONS)
     object_names, object_numbers = numbered(table, objects, first, 1, MOST_OBJECTS)
-    read = costs([cells_of(amounts, lambda place: (first + place, 2))])
-    texts = read.texts[0].split("\n")
+    read, texts = read_amounts(table, costs, amounts, first)
     pairs = [person * MOST_OBJECTS + thing for person, thing in zip(person_numbers, object_numbers)]
     if len(set(pairs)) < len(pairs):
         person_numbers, object_numbers, texts = without_doubles(table, first, pairs, person_numbers, object_numbers, texts)
     rows = [([], []) for _ in person_names]
     for person, thing, text in zip(person_numbers, object_numbers, texts):
-        row = rows[person - 1]
-        row[0].append(thing)
-        row[1].append(text)
-    return Problem(titles, read.mark, read.decimals, person_names, object_names, [Arcs(things, "\n".join(amounts)) for things, amounts in rows])
+        if text:
+            row = rows[person - 1]
+            row[0].append(thing)
+            row[1].append(text)
+    return Problem(titles, read.mark, read.decimals, person_names, object_names, [Arcs(things, "\n".join(amounts)) for things, amounts in rows], read.notes)
+
+
+def read_amounts(table, costs, amounts, first):
+    """The costs of a column, and each one's text; of an empty cell, or what stands for one, there is none."""
+    rows = [row for row, amount in enumerate(amounts, first) if amount and amount not in table.not_possible]
+    if not rows:
+        raise table.fault(first, 2, "no row has a cost; write one for each pair that is allowed")
+    read = costs([cells_of([table.rows[row][2] for row in rows], lambda place: (rows[place], 2))])
+    texts = [""] * len(amounts)
+    for row, text in zip(rows, read.texts[0].split("\n")):
+        texts[row - first] = text
+    return read, texts
 
 
 def look_for_more_than_pairs(table):
@@ -106,7 +119,7 @@ def without_doubles(table, first, pairs, *columns):
         before, cost = seen.setdefault(pair, (place, others[-1]))
         if cost != others[-1]:
             person, thing, _ = table.rows[first + place]
-            told = f"{quoted(person)} and {quoted(thing)} have another cost in {table.line_word} {table.lines[first + before]}"
+            told = f"{quoted(person)} and {quoted(thing)} have {'another cost' if cost else 'no cost'} in {table.line_word} {table.lines[first + before]}"
             raise table.fault(first + place, 2, f"{told}; leave out the row that is wrong")
         if before == place:
             kept.append(others)
@@ -153,7 +166,13 @@ def problem_of_matrix(table, costs):
     if not rest:
         raise table.fault_of_row(0, "there is no person, since no row follows the names of the objects; put a row for each person below")
     titles = [first[0] or TITLES[0], *TITLES[1:]]
-    return problem_of_rows(titles, persons, first[1:], [cells[1:] for cells in rest], costs, lambda row, column: (row + 1, column + 1))
+    rows = without_words([cells[1:] for cells in rest], table.not_possible)
+    return problem_of_rows(titles, persons, first[1:], rows, costs, lambda row, column: (row + 1, column + 1))
+
+
+def without_words(rows, words):
+    """The rows of costs, in which empty cells stand for pairs that aren't allowed, in place of such words."""
+    return [["" if cell in words else cell for cell in cells] for cells in rows] if words else rows
 
 
 def look_at_names(table, names, place_of, most):
@@ -184,7 +203,7 @@ def problem_of_rows(titles, persons, objects, rows, costs, place_of):
             groups.append(cells_of(cells, lambda place, row=row, taken=taken: place_of(row, taken[place] - 1)))
     read = costs(groups)
     texts = iter(read.texts)
-    return Problem(titles, read.mark, read.decimals, persons, objects, [Arcs(taken, next(texts) if taken else "") for taken in numbers])
+    return Problem(titles, read.mark, read.decimals, persons, objects, [Arcs(taken, next(texts) if taken else "") for taken in numbers], read.notes)
 
 
 def problem_of_costs(table, costs):
@@ -197,4 +216,4 @@ def problem_of_costs(table, costs):
         if count > most:
             raise Fault(f"{table.file}: {count:,} {word}s are more than the {most:,} that a problem may have; leave some out")
     numbers = [str(number) for number in range(1, max(rows, columns) + 1)]
-    return problem_of_rows(TITLES, numbers[:rows], numbers[:columns], table.rows, costs, lambda row, column: (row, column))
+    return problem_of_rows(TITLES, numbers[:rows], numbers[:columns], without_words(table.rows, table.not_possible), costs, lambda row, column: (row, column))

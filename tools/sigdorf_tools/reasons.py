@@ -1,8 +1,8 @@
 """Why a person has this object and not that, told from the prices of a plan in the units of its table."""
 from .faults import Fault
 from .margins import detours_of, margins_of
+from .names_told import unknown
 from .prices import told_prices
-from .wishes import unknown
 
 
 def rows_of_reasons(names, problem, model, claim, name):

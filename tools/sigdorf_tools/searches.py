@@ -4,6 +4,8 @@ import heapq
 
 from .claims import Claim, with_all_persons
 from .faults import Fault
+from .network_answers import answer_of_network
+from .networks import Network
 from .rises import Change, Rises
 
 
@@ -15,6 +17,8 @@ class Plans:
 
     def answer(self, model, start=None):
         """The answer for a model. Where nobody can be found for all who mustn't stay free, it speaks of them alone."""
+        if isinstance(model, Network):
+            return answer_of_network(self.solver, self.name, model)
         start = None if model.objects_said() else start
         answer = self.solver.answer(self.name, model.lines(), model.count(), model.objects_said(), start)
         if answer.claim.kind == "infeasible" and model.free:

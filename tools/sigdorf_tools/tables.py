@@ -3,8 +3,10 @@ import sys
 import unicodedata
 from typing import NamedTuple
 
+from .areas import cut
 from .faults import Fault, quoted, read_bytes
-from .json_tables import read_json
+from .json_tables import LINES, is_json, read_json
+from .reading import Reading, parted_from_sheet, sheet_said
 from .sheets import WORKBOOK, read_workbook
 from .text_tables import Text, parted, read_text
 
@@ -14,10 +16,10 @@ OLD_WORKBOOK = b"\xd0\xcf\x11\xe0\xa1\xb1\x1a\xe1"
 
 class Table(NamedTuple):
     """The cells of each row that isn't empty, the lines where these rows begin, and the lines of empty rows that have
-    cells. Rows and columns are named by places, from 0 on. Of a table whose columns were picked the columns say where
-    these stand in the file. Where the form is known, it is said: what is `pairs` then has their titles on top. Cells
-    with other blanks in them than single ones are kept as they were written, by their places in the file; and there are
-    notes on what may not be meant."""
+    cells. Rows and columns are named by places, from 0 on. Of a table that hasn't all columns of its file the columns
+    say where these stand there. Where the form is known, it is said: what is `pairs` then has their titles on top.
+    Cells with other blanks in them than single ones are kept as they were written, by their places in the file; there
+    are notes on what may not be meant; and what stands for a pair that isn't allowed, apart from an empty cell."""
 
     file: str
     separator: str
@@ -29,6 +31,7 @@ class Table(NamedTuple):
     form: str | None = None
     blanks: dict = {}
     notes: list = []
+    not_possible: frozenset = frozenset()
 
     def column(self, column):
         """Where a column stands in the file. Of a cell that isn't there the place is after the last one."""
@@ -42,33 +45,69 @@ class Table(NamedTuple):
     def fault_of_row(self, row, sentence):
         return Fault(f"{self.file}, {self.line_word} {self.lines[row]}: {sentence}")
 
+    def place(self, row, column):
+        """The place of a cell in a sentence."""
+        return f"{self.file}, {self.line_word} {self.lines[row]}, column {self.column(column) + 1}"
 
-def read_table(file, separator=None, sheet=None):
+    def without_rows(self, count):
+        """The table without its first rows."""
+        blanks = {(row - count, column): cell for (row, column), cell in self.blanks.items() if row >= count}
+        return self._replace(rows=self.rows[count:], lines=self.lines[count:], blanks=blanks)
+
+    def without_row(self, taken):
+        """The table without one row."""
+        blanks = {(row - (row > taken), column): cell for (row, column), cell in self.blanks.items() if row != taken}
+        rows, lines = ([each for row, each in enumerate(column) if row != taken] for column in (self.rows, self.lines))
+        return self._replace(rows=rows, lines=lines, blanks=blanks)
+
+    def without_columns(self, count):
+        """The table without its first columns."""
+        width = max(map(len, self.rows))
+        columns = [self.column(column) for column in range(count, width)]
+        return self._replace(rows=[cells[count:] for cells in self.rows], columns=columns)
+
+
+def read_table(file, reading=Reading()):
     """The table of a file, without its empty rows. A separator that isn't given is found, and the only sheet of a workbook is taken."""
-    return table_of_source(read_source(file, separator, sheet))
+    return table_of_source(read_source(file, reading))
 
 
-def read_source(file, separator=None, sheet=None):
-    """What a file holds: of a text its `Text`, whose cells aren't parted yet, and of others the table."""
-    content = sys.stdin.buffer.read() if file == "-" else read_bytes(file)
-    is_json = file.lower().endswith(".json") or file == "-" and content.lstrip()[:1] in (b"[", b"{")
-    file = name_of(file)
+def read_source(file, reading=Reading()):
+    """What a file holds: of a text its `Text`, whose cells aren't parted yet, and of others the table. Its name may end in that of a sheet."""
+    path, sheet = parted_from_sheet(file)
+    reading = reading._replace(sheet=sheet_said(file, sheet, reading.sheet))
+    content, file = sys.stdin.buffer.read() if path == "-" else read_bytes(path), name_of(file)
     if content.startswith(OLD_WORKBOOK):
         raise Fault(f"{file}: it is a workbook of an old Excel (.xls); save it as .xlsx, or as CSV in UTF-8")
     if content.startswith(WORKBOOK):
-        rows, lines, notes = read_workbook(file, content, sheet)
-        return table_of(file, ",", rows, lines, False)._replace(notes=notes)
-    if sheet is not None:
-        raise Fault(f"{file}: --sheet is said, and this is no workbook; leave it out")
-    if is_json:
-        (rows, lines, word), form = read_json(file, content)
-        return table_of(file, ",", rows, lines, False, word)._replace(form=form)
-    return read_text(file, content, separator)
+        if reading.encoding is not None:
+            raise Fault(f"{file}: --encoding is said, and a workbook tells its own; leave it out")
+        rows, lines, columns, notes = read_workbook(file, content, reading.sheet)
+        rows, lines, columns = cut(reading.area, rows, lines, columns)
+        return table_of(file, ",", rows, lines, False, columns=columns)._replace(notes=notes, not_possible=reading.gaps)
+    if reading.sheet is not None:
+        raise Fault(f"{file}: {'--sheet is said' if sheet is None else f'the sheet {quoted(sheet)} is named'}, and this is no workbook; leave it out")
+    if is_json(path, content):
+        return read_json_table(file, path, content, reading)
+    return read_text(file, content, reading)
+
+
+def read_json_table(file, path, content, reading):
+    """The table of JSON, which has no cells that a range could name."""
+    if reading.area is not None:
+        raise Fault(f"{file}: --range is said, and JSON has no cells; leave it out")
+    (rows, lines, word), form, notes = read_json(file, content, reading.encoding, path.lower().endswith(LINES))
+    return table_of(file, ",", rows, lines, False, word)._replace(form=form, notes=notes, not_possible=reading.gaps)
 
 
 def table_of_source(source):
     """The table of what a file holds."""
-    return table_of(source.file, source.separator, *parted(source)) if isinstance(source, Text) else source
+    if not isinstance(source, Text):
+        return source
+    rows, lines, is_plain = parted(source)
+    rows, lines, columns = cut(source.area, rows, lines, None)
+    table = table_of(source.file, source.separator, rows, lines, is_plain, columns=columns)
+    return table._replace(notes=source.notes, not_possible=source.not_possible)
 
 
 def name_of(file):
@@ -76,7 +115,7 @@ def name_of(file):
     return "standard input" if file == "-" else file
 
 
-def table_of(file, separator, rows, lines, is_plain, line_word="line"):
+def table_of(file, separator, rows, lines, is_plain, line_word="line", columns=None):
     """The table of rows, empty ones among them. Where they aren't plain, white space around a cell is left out, and inside it is one space."""
     written = rows
     if not is_plain:
@@ -87,20 +126,20 @@ def table_of(file, separator, rows, lines, is_plain, line_word="line"):
         lines, rows, written = ([column[place] for place in kept] for column in (lines, rows, written))
     if not rows:
         raise Fault(f"{file}: the table is empty; put person, object and cost into three columns, or a row for each person")
-    table = Table(file, separator, rows, lines, gaps, line_word)
+    table = Table(file, separator, rows, lines, gaps, line_word, columns)
     if max(map(len, rows)) == 1:
         raise table.fault_of_row(0, "no table, since no comma, semicolon or tab parts its columns; save the table as .xlsx, .ods or CSV in UTF-8")
     if is_plain:
         return table
     look_for_control_characters(table)
-    return table._replace(blanks=with_odd_blanks(written, rows))
+    return table._replace(blanks=with_odd_blanks(table, written))
 
 
-def with_odd_blanks(written, rows):
+def with_odd_blanks(table, written):
     """The cells that have other white space in them than single blanks, as they were written, by their places."""
-    changed = (row for row, (before, after) in enumerate(zip(written, rows)) if before != after)
+    changed = (row for row, (before, after) in enumerate(zip(written, table.rows)) if before != after)
     cells = ((row, column, cell.strip()) for row in changed for column, cell in enumerate(written[row]))
-    return {(row, column): cell for row, column, cell in cells if cell != rows[row][column]}
+    return {(row, table.column(column)): cell for row, column, cell in cells if cell != table.rows[row][column]}
 
 
 def look_at_blanks(table, names, place_of):

@@ -1,14 +1,17 @@
-"""Tables as text, as spreadsheets write them for others: CSV with commas, semicolons or tabs, in UTF-8.
+"""Tables as text, as spreadsheets write them for others: CSV with commas, semicolons or tabs.
 
 Rows come as fast as the library parts them: what is rare, as a quote or white space around a cell, is looked for once in the whole text, and not in each cell.
 """
+import collections
 import csv
 import io
 import itertools
 import re
 from typing import NamedTuple
 
+from .areas import Area
 from .faults import Fault
+from .text_encodings import decoded
 
 # In the order in which they are preferred where more than one parts the table evenly.
 SEPARATORS = {"tab": "\t", "semicolon": ";", "comma": ","}
@@ -23,38 +26,30 @@ PLAIN_BYTES = bytes(range(32, 127)) + b"\t\r\n"
 
 
 class Text(NamedTuple):
-    """A table whose cells aren't parted yet: its file, what parts them, the text, and how many lines are left out above it."""
+    """A table whose cells aren't parted yet: its file, what parts them, the text, and how many lines are left out above it; notes on how it was read; the range of cells that is meant, or None for
+    all; and what stands for a pair that isn't allowed."""
 
     file: str
     separator: str
     text: str
     skipped: int
+    notes: list = []
+    area: Area | None = None
+    not_possible: frozenset = frozenset()
 
 
-def read_text(file, content, separator):
+def read_text(file, content, reading):
     """The text of a file's content. A separator that isn't given is found."""
-    text = text_of(file, content)
+    text, notes = decoded(file, content, reading.encoding)
     told, text, skipped = separator_line_of(file, text)
-    return Text(file, separator or told or separator_of(text), text, skipped)
+    return Text(file, reading.separator or told or separator_of(text), text, skipped, notes, reading.area, reading.gaps)
 
 
 def parted(table):
     """The rows of cells, the lines where they begin, and whether all cells are plain."""
-    rows, lines = rows_of(*table)
+    rows, lines = rows_of(*table[:4])
     # A cell with a line end in it makes the lines no range.
     return rows, lines, isinstance(lines, range) and is_plain(table.text, table.separator)
-
-
-def text_of(file, content):
-    """The text of a file in UTF-8, with or without a byte order mark."""
-    if content.startswith((b"\xff\xfe", b"\xfe\xff")):
-        raise Fault(f"{file}: it is UTF-16; save the table as CSV in UTF-8")
-    try:
-        return content.decode("utf-8-sig")
-    except UnicodeDecodeError as error:
-        before = content[: error.start]
-        line, byte = before.count(b"\n") + 1, error.start - (before.rfind(b"\n") + 1) + 1
-        raise Fault(f"{file}, line {line}, byte {byte} of the line: no UTF-8; save the table as CSV in UTF-8") from None
 
 
 def separator_line_of(file, text):
@@ -68,20 +63,23 @@ def separator_line_of(file, text):
 
 
 def separator_of(text):
-    """The separator that parts the rows evenly, or else the one that parts the first row most which any does. (`csv.Sniffer` takes `a;x;1,5` to be parted by commas.)"""
+    """The separator that parts the rows evenly, or else the one that parts most rows alike; of several the one that parts the first row most which any does. (`csv.Sniffer` takes `a;x;1,5` to be parted by
+    commas.)"""
     sample = text[:SAMPLE_CHARACTERS]
     if len(sample) < len(text):
         # A row that is cut says nothing.
         sample = sample[: max(sample.rfind("\n"), sample.rfind("\r")) + 1]
+    alike = dict.fromkeys(SEPARATORS.values(), 0)
     for separator in SEPARATORS.values():
         try:
-            lengths = {len(cells) for cells in itertools.islice(reader_of(sample, separator), SAMPLE) if "".join(cells).strip()}
+            lengths = collections.Counter(len(cells) for cells in itertools.islice(reader_of(sample, separator), SAMPLE) if "".join(cells).strip())
         except csv.Error:
             continue
         if len(lengths) == 1 and max(lengths) > 1:
             return separator
+        alike[separator] = max((count for length, count in lengths.items() if length > 1), default=0)
     first = next((line for line in lines_of(sample) if any(separator in line for separator in SEPARATORS.values())), "")
-    return max(SEPARATORS.values(), key=first.count)
+    return max(SEPARATORS.values(), key=lambda separator: (alike[separator], first.count(separator)))
 
 
 def reader_of(text, separator):

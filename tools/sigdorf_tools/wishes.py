@@ -1,17 +1,14 @@
 """What planners ask of a plan beside its costs: how many objects a person may take, who may stay free at what price, which pairs are fixed, and which forbidden."""
-import difflib
-import os
 from typing import NamedTuple
 
 from .amounts import NotAnAmount, units_of
 from .faults import Fault, quoted
-from .forms import is_title
+from .lists import number_of, numbers_said
 from .models import Model
-from .notes import note
+from .names_told import unknown
 from .problems import Arcs
-from .tables import columns, read_table
 
-MOST_CAPACITY = 10_000
+CAPACITY = "capacity", "write how many objects the person may take at most"
 
 
 class Wishes(NamedTuple):
@@ -23,47 +20,20 @@ class Wishes(NamedTuple):
     forbidden: list
 
 
-def capacity_of(place, text):
-    if not text.isascii() or not text.isdigit() or int(text[:9]) > MOST_CAPACITY:
-        raise Fault(f"{place}: a capacity from 0 to {MOST_CAPACITY:,} is wanted, not {quoted(text)}; write how many objects the person may take at most")
-    return int(text)
-
-
 def capacities_said(word, persons):
     """The capacities that a word of the command names: one number for all, or a file with a row for each person, which may have titles above."""
-    if word is None:
-        return {}
-    if word.isdecimal():
-        return {None: (f"--capacity {word}", word)}
-    if word != "-" and not os.path.exists(word):
-        wanted = f"a whole number from 0 to {MOST_CAPACITY:,} is wanted, or a file of persons and numbers"
-        raise Fault(f"--capacity {word}: {wanted}, and there is no such file")
-    table = read_table(word)
-    for sentence in table.notes:
-        note(sentence)
-    found = {}
-    for row, cells in enumerate(table.rows):
-        if len(cells) != 2:
-            raise table.fault(row, min(len(cells), 2), f"the row has {columns(len(cells))}, and 2 are wanted; write a person and how many objects he may take at most")
-        if row == 0 and is_title(cells[1]) and cells[0] not in persons:
-            continue
-        if cells[0] in found:
-            raise table.fault(row, 0, f"the name {quoted(cells[0])} stands there twice; leave one of the rows out")
-        if cells[0] not in persons:
-            raise table.fault(row, 0, unknown("person", cells[0], persons))
-        found[cells[0]] = f"{table.file}, {table.line_word} {table.lines[row]}, column 2", cells[1]
-    return found
+    return numbers_said("--capacity", word, persons, "person", "a person and how many objects he may take at most")
 
 
-def by_persons(table, cells, column, first):
-    """What a column says of each person: the place and the text. Where a person has more rows they have to agree."""
+def by_names(table, cells, column, first, which):
+    """What a column says of each name of another one, of persons or of objects: the place and the text. Where a name has more rows they have to agree."""
     found = {}
     for row in range(first, len(table.rows)):
-        person, place = table.rows[row][0], f"{table.file}, {table.line_word} {table.lines[row]}, column {column + 1}"
-        before = found.setdefault(person, (place, cells[row]))
+        name, place = table.rows[row][which], f"{table.file}, {table.line_word} {table.lines[row]}, column {column + 1}"
+        before = found.setdefault(name, (place, cells[row]))
         if before[1] != cells[row]:
-            raise Fault(f"{place}: {quoted(person)} has {quoted(cells[row])} here, and {quoted(before[1])} in another row; write the same in all of them")
-    return {person: told for person, told in found.items() if told[1]}
+            raise Fault(f"{place}: {quoted(name)} has {quoted(cells[row])} here, and {quoted(before[1])} in another row; write the same in all of them")
+    return {name: told for name, told in found.items() if told[1]}
 
 
 def pair_of(option, word, problem):
@@ -82,39 +52,47 @@ def pair_of(option, word, problem):
     raise Fault(f"{option} {word}: {unknown('person' if known is persons else 'object', person if known is persons else thing, known)}")
 
 
-def unknown(word, name, names):
-    """What to do about a name that isn't there: the end of a sentence."""
-    near = difflib.get_close_matches(name, names, 1)
-    return f"the table has no {word} {quoted(name)}{f'; is {quoted(near[0])} meant?' if near else '; write it as it stands there'}"
+class Copies(NamedTuple):
+    """The persons with a copy for each object that they may take: for each copy the place of its person, the arcs, and what it costs to stay free, if anybody may; which copies stand for a fixed pair, and
+    with which object; the fixed pairs as they were said, each with the place of the person; and for each person the arcs, without forbidden ones."""
+
+    owners: list
+    arcs: list
+    free: list
+    fixed: list
+    pairs: list
+    allowed: list
 
 
-def model_of(problem, wishes, maximise):
-    """The model of a problem and the wishes for its plan."""
-    fixed = [pair_of("--fix", word, problem) for word in wishes.fixed]
+def copies_of(problem, wishes, maximise):
+    """The copies that the wishes for a plan ask for."""
+    pairs = [pair_of("--fix", word, problem) for word in wishes.fixed]
     forbidden = {pair_of("--forbid", word, problem): word for word in wishes.forbidden}
-    has_free = bool(wishes.prices)
-    owners, arcs, free, single = [], [], [], set()
+    found = Copies([], [], [], [], pairs, [])
     for place, name in enumerate(problem.persons):
         told = wishes.capacities.get(name) or wishes.capacities.get(None)
-        capacity = capacity_of(*told) if told else 1
+        capacity = number_of(*told, CAPACITY) if told else 1
         price = price_of(problem, wishes.prices.get(name) or wishes.prices.get(None), maximise, capacity)
-        mine = [(word, pair) for word, pair in zip(wishes.fixed, fixed) if pair[0] == place]
+        mine = [(word, pair) for word, pair in zip(wishes.fixed, pairs) if pair[0] == place]
         if len(mine) > capacity:
             raise Fault(f"--fix {mine[-1][0]}: {quoted(name)} may take {capacity} and more pairs are fixed; leave one out, or say --capacity")
-        allowed = problem.arcs[place].without({thing for person, thing in forbidden if person == place})
+        found.allowed.append(problem.arcs[place].without({thing for person, thing in forbidden if person == place}))
         for copy in range(capacity):
-            owners.append(place)
             if copy < len(mine):
-                single.add(len(arcs))
-                arcs.append(fixed_arc(problem, *mine[copy], forbidden))
-            else:
-                arcs.append(allowed)
+                found.fixed.append((len(found.owners), mine[copy][1][1]))
+            found.owners.append(place)
+            found.arcs.append(fixed_arc(problem, *mine[copy], forbidden) if copy < len(mine) else found.allowed[place])
             # A person who has an object stays free with his other copies at no cost.
-            free.append(None if copy < len(mine) else price if copy == 0 else 0)
-    look_for_doubles(wishes, fixed)
-    if not owners:
+            found.free.append(None if copy < len(mine) else price if copy == 0 else 0)
+    if not found.owners:
         raise Fault("--capacity: nobody may take anything; give a person a capacity above 0")
-    return Model(owners, arcs, free if has_free else [], frozenset(single), len(problem.objects))
+    return found if wishes.prices else found._replace(free=[])
+
+
+def model_of(problem, wishes, copies):
+    """The model of a problem, the wishes for its plan, and the copies of persons that they ask for."""
+    look_for_doubles(wishes, copies.pairs)
+    return Model(copies.owners, copies.arcs, copies.free, frozenset(copy for copy, _ in copies.fixed), len(problem.objects))
 
 
 def look_for_doubles(wishes, fixed):

@@ -15,15 +15,18 @@ import tempfile
 sys.dont_write_bytecode = True
 sys.path.append(str(pathlib.Path(__file__).resolve().parents[1]))
 import check_certificate  # noqa: E402
+from sigdorf_tools.areas import Area  # noqa: E402
 from sigdorf_tools.columns import picked, titles_said  # noqa: E402
 from sigdorf_tools.faults import Fault  # noqa: E402
+from sigdorf_tools.headers import from_header  # noqa: E402
 from sigdorf_tools.models import look_at_size, plain_model  # noqa: E402
 from sigdorf_tools.problems import problem_of  # noqa: E402
+from sigdorf_tools.reading import Reading  # noqa: E402
 from sigdorf_tools.tables import read_table  # noqa: E402
 
 # What is put into tables: what parts and quotes, marks and signs, what is no text, and what has stood in tables.
 PIECES = [",", ";", "\t", "\n", "\r", "\r\n", '"', '""', ".", "-", "+", "\u2212", "'", " ", "\u00a0", "e9", "1.234", "1,234.5", "0", "00", "999999999", "1000000000", "inf", "nan", "#N/A", "TRUE", "12 km", "\ufeff", "\x00", "\x07",
-          "\u0085", "sep=;\n", "\u00e4", "\U0001f600", "[", "{", "null", "=A1", "%s", "@", "2026-11-26", "0." + "0" * 40 + "1", "9" * 5000]
+          "\u0085", "sep=;\n", "\u00e4", "\U0001f600", "[", "{", "null", "=A1", "%s", "@", "2026-11-26", "1:30", "0:01:30", "\u20ac", "%", "1e5", "Week 48,,\n", "0." + "0" * 40 + "1", "9" * 5000]
 BYTES = [b"\xff", b"\xfe\xff", b"\xc3", b"\x80", b"PK\x03\x04"]
 NAMES = ["Ada", "Ben", "Smith, Ann", "roof", "x", "1", "total", "a=b", "\u00d6l"]
 
@@ -61,15 +64,19 @@ def spoiled_table(draw):
 
 
 def words_for(draw):
-    """What may be said of the table: decimals, the form, whether there is a header, the mark, columns."""
-    return draw.choice([None, None, 0, 2, 9]), draw.choice([None, None, "pairs", "matrix"]), draw.random() < 0.8, draw.choice([None, None, None, ".", ","]), draw.choice([None, None, None, "1,2,3", "Ada,x,1"])
+    """What may be said of the table: how it is read, decimals, the form, whether there is a header, the mark, columns, and to how many decimals costs are rounded."""
+    area = draw.choice([None] * 9 + [Area(1, 3, 0, 2), Area(2, 9, 1, 9)])
+    reading = Reading(None, None, area, draw.choice([None] * 9 + ["cp1252", "utf-16", "nosuch"]), frozenset(draw.choice([[], [], ["x", "1"]])))
+    most = draw.choice([None, None, None, 1])
+    return reading, most, draw.choice([None, None, 0, 2, 9]), draw.choice([None, None, "pairs", "matrix"]), draw.random() < 0.8, draw.choice([None, None, None, ".", ","]), draw.choice([None, None, None, "1,2,3", "Ada,x,1"])
 
 
-def look(file, decimals, form, has_header, mark, columns):
-    table = read_table(str(file))
+def look(file, reading, most, decimals, form, has_header, mark, columns):
+    table = read_table(str(file), reading)
+    table = from_header(table) if has_header and table.form is None else table
     if columns:
         table, form = picked(table, titles_said(columns), [], has_header)[0], "pairs"
-    problem = problem_of(table, form, has_header, decimals, False, mark)
+    problem = problem_of(table, form, has_header, decimals if most is None else None, False, mark, most)
     model = plain_model(problem)
     look_at_size(table.file, model)
     check_certificate.read_problem("".join(model.lines()).encode(), max(len(problem.persons), len(problem.objects)))

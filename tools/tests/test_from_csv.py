@@ -3,7 +3,8 @@ import random
 from fractions import Fraction
 
 from calls import ToolTest
-from sigdorf_tools.costs import cells_of, read_costs
+from sigdorf_tools.cost_cells import cells_of
+from sigdorf_tools.costs import read_costs
 
 
 class Tables(ToolTest):
@@ -193,8 +194,8 @@ class Faults(ToolTest):
         "only empty rows": ("\n\n,,\n", [], "empty"),
         "no table": ("hello\nworld\n", [], "line 1", "no table"),
         "binary": (b"\x00\x01\xff\xfe\x80,1,2\n", [], "line 1", "UTF-8"),
-        "UTF-16": ("a,b,1\n".encode("utf-16"), [], "UTF-16"),
-        "Latin-1": ("a,b,1\nJosé,c,2\n".encode("latin-1"), [], "line 2", "byte 4", "UTF-8"),
+        "UTF-16 that is cut": ("a,b,1\n".encode("utf-16") + b"\xd8", [], "UTF-16"),
+        "Latin-1": ("a,b,1\nJosé,c,2\n".encode("latin-1"), ["--encoding", "utf-8"], "line 2", "byte 10", "utf-8"),
         "control character": ("a,b,1\nx\x07y,c,2\n", [], "line 2, column 1", "control character"),
         "ragged pairs": ("a,x,1\nb,y\n", [], "line 2, column 3", "2 columns", "3 are wanted"),
         "ragged matrix": (",x,y,z\na,1,2,3\nb,1,2,3,4\n", [], "line 3, column 5", "5 columns"),
@@ -202,12 +203,12 @@ class Faults(ToolTest):
         "object twice": (",x,y,x\na,1,2,3\n", [], "line 1, column 4", "`x`", "twice"),
         "pair twice": ("a,x,1\nb,y,2\na,x,3\n", [], "line 3, column 3", "`a` and `x`", "line 1"),
         "no name": (",x,y,z\n,1,2,3\n", [], "line 2, column 1", "name"),
-        "no cost": ("a,x,1\nb,y,\n", [], "line 2, column 3", "empty"),
+        "no cost": ("a,x,\nb,y,\n", ["--no-header", "--pairs"], "line 1, column 3", "no row has a cost"),
         "no rows": (",x,y,z\n", [], "line 1", "no person"),
         "titles alone": ("a,b,c\n", [], "line 1, column 3", "no row below"),
         "no number": ("a,x,1\nb,y,2 km\n", [], "line 2, column 3", "`2 km` is no number"),
         "first row is no title": ("Ada,pump,later\nAda,roof,3\n", [], "line 1, column 3", "no title"),
-        "exponent": ("a,x,1e3\nb,y,2\n", [], "line 1, column 3", "no number"),
+        "exponent": ("a,x,1e\nb,y,2\n", [], "line 1, column 3", "no number"),
         "infinity": (",x,y\na,1,inf\n", [], "line 2, column 3", "no number"),
         "too many decimals": ("a,x,1\nb,y,2.125\n", ["--decimals", "2"], "line 2, column 3", "--decimals 3"),
         "comma in a table with tabs": ("a\tx\t1,5\nb\ty\t2\n", ["--decimals", "1"], "line 1, column 3", "comma"),

@@ -9,7 +9,7 @@ from sigdorf_tools.names import plain_names
 from sigdorf_tools.notes import notes_of_plan
 from sigdorf_tools.problems import Arcs, Problem
 
-MANY = "who may take more than one object may take all its copies: forbid such pairs, or leave --capacity out"
+MANY = "who may take more than one object may take all its copies: write it once and say --need, or forbid such pairs"
 MAKE_XLSX = """
 import openpyxl
 book = openpyxl.Workbook()
@@ -43,7 +43,7 @@ book.save("both.ods")
 
 
 class Tables(ToolTest):
-    REST = "like all others; delete what isn't meant\n"
+    REST = "hidden, and left out; show what is meant to be planned\n"
 
     def said(self, content, *words):
         self.write("table.csv", content)
@@ -62,10 +62,10 @@ class Tables(ToolTest):
         self.assertEqual(self.said(",a,Total,b\nTotal,1,2,3\nAnn,1,2,3\nTotalisator,1,2,3\n"), "")
 
     def hidden(self, name):
-        """What is said of a workbook, which is read like any other."""
-        status, output, said = self.call("tools/from_csv", name, python=self.python)
-        self.assertEqual((status, output.split(",")[0]), (0, f"{name.split('.')[0]}.arcs: 3 persons"), said)
-        return said
+        """What is said of a workbook, and how many persons are left of its three."""
+        status, output, said = self.call("tools/from_csv", name, "--matrix", python=self.python)
+        self.assertEqual(status, 0, said)
+        return output.split(",")[0].split()[1], said
 
     def made(self, library, script):
         self.python = python_with(library)
@@ -75,15 +75,14 @@ class Tables(ToolTest):
 
     def test_hidden_in_xlsx(self):
         self.made("openpyxl", MAKE_XLSX)
-        self.assertEqual(self.hidden("shown.xlsx"), "")
-        self.assertEqual(self.hidden("row.xlsx"), f"from_csv: note: row.xlsx: row 3 is hidden, and counts {self.REST}")
-        both = f"row 3 and column 3 are hidden, and count {self.REST}"
-        self.assertEqual(self.hidden("both.xlsx"), f"from_csv: note: both.xlsx: {both}")
+        self.assertEqual(self.hidden("shown.xlsx"), ("3", ""))
+        self.assertEqual(self.hidden("row.xlsx"), ("2", f"from_csv: note: row.xlsx: row 3 is {self.REST}"))
+        self.assertEqual(self.hidden("both.xlsx"), ("2", f"from_csv: note: both.xlsx: row 3 and column 3 are {self.REST}"))
+        self.assertEqual(self.read("both.arcs"), "2\n1 1 1\n1 2 3\n2 1 2\n2 2 1\n")
 
     def test_hidden_in_ods(self):
         self.made("odf", MAKE_ODS)
-        both = f"row 3 and column 3 are hidden, and count {self.REST}"
-        self.assertEqual(self.hidden("both.ods"), f"from_csv: note: both.ods: {both}")
+        self.assertEqual(self.hidden("both.ods"), ("2", f"from_csv: note: both.ods: row 3 and column 3 are {self.REST}"))
 
 
 class PlansInProcess(unittest.TestCase):

@@ -49,6 +49,24 @@ class Pages(ToolTest):
         self.assertIn("total 145, the least of all; checked by the proved checker and by a second one", " ".join(texts))
         self.assertNotIn("Wishes", texts)
 
+    def test_lists(self):
+        """The plan by persons and by objects, with the day; the title is shown once; and titles of columns can be pressed."""
+        texts = self.page(EXAMPLES / "tours.csv")
+        self.assertRegex(" ".join(texts), r"tours.csv, planned 20[0-9]{2}-[0-9]{2}-[0-9]{2} [0-9]{2}:[0-9]{2}: 5 pairs")
+        page = self.read("page.html")
+        self.assertIn("<h2>By tour</h2>", page)
+        self.assertIn("<tr><td>market</td><td>van 2</td><td class=number>3,9</td></tr>", page)
+        self.assertIn('<th class=number><button type="button">kilometres</button></th>', page)
+        self.assertEqual(page.count("A best plan: the least total is 37,7.<"), 3)
+        self.assertNotIn('font-weight="bold">A best plan', page)
+        self.assertNotIn("http", page.replace("http://www.w3.org/2000/svg", ""))
+
+    def test_no_prices(self):
+        """Where jobs have places there are no prices, and none is drawn."""
+        texts = self.page(EXAMPLES / "crew.csv", "--need", "1", "--capacity", "2")
+        self.assertNotIn("Prices", texts)
+        self.assertNotIn("bars: prices, in the unit of costs", texts)
+
     def test_wishes(self):
         texts = self.page(EXAMPLES / "tours.csv", "--capacity", "2")
         self.assertIn("stays free", texts)

@@ -74,6 +74,15 @@ class Pictures(ToolTest):
                 self.assertGreaterEqual(len(marks), picks)
                 self.assertLess(len(picture.toxml()), 400_000)
 
+    def test_scale_of_a_heat_map(self):
+        """The least and the greatest cost stand beside the colours, and what isn't allowed is hatched, which no cost is."""
+        picture = self.heat_map(41)
+        texts = [text.firstChild.data for text in picture.getElementsByTagName("text")]
+        self.assertEqual((texts.count("1"), texts.count("82")), (2 + 1, 1))
+        fills = [mark.getAttribute("fill") for name in ("rect", "path") for mark in picture.getElementsByTagName(name)]
+        self.assertIn("url(#none)", fills)
+        self.assertNotIn("#eef3f8", fills)
+
     def test_heat_map_of_a_hall_set(self):
         self.write("many.arcs", "45\n" + "".join(f"{n} {min(n, 44)} 5\n" for n in range(1, 46)))
         self.write("many.certificate", "auction 1\ninfeasible 2 1\nperson 44\nperson 45\nobject 44\n")

@@ -233,7 +233,7 @@ class Faults(ToolTest):
         "more titles in JSON": ("a.json", '[{"who": "a", "what": "x", "cost": 1, "day": 2}]', [], "record 1, column 4", "--columns"),
         "name twice in JSON": ("a.json", '{"a": {"x": 1}, "a": {"x": 2}}', [], "`a`", "twice"),
         "truth in JSON": ("a.json", '{"a": {"x": true}}', [], "pair 1, column 3", "`true` is no number"),
-        "no cost in JSON": ("a.json", '[{"who": "a", "what": "x", "cost": null}, {"who": "b", "what": "y", "cost": 1}]', [], "record 1, column 3", "empty"),
+        "no cost in JSON": ("a.json", '[{"who": "a", "what": "x", "cost": null}, {"who": "b", "what": "y", "cost": null}]', [], "record 1, column 3", "no row has a cost"),
     }
 
     def test_faults(self):

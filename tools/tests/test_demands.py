@@ -1,0 +1,199 @@
+"""Jobs that want several persons, can't go together, or may be left undone at a price; and many more persons than jobs."""
+import json
+import os
+import random
+import unittest
+
+import compare_demands
+from calls import ToolTest, has_program
+from sigdorf_tools.networks import Demand, Network
+from sigdorf_tools.problems import Arcs
+
+SHIFTS = "nurse,early,late,night\nAda,1,2,3\nBen,5,1,2\nCleo,3,3,9\nDan,4,4,1\n"
+
+
+@has_program()
+class AllPlans(unittest.TestCase):
+    def test_against_all_plans(self):
+        """A short run of compare_demands.py, which takes more by hand."""
+        self.assertEqual(compare_demands.faults_of_run(seed=3, count=200), [])
+
+
+class Networks(unittest.TestCase):
+    def test_count(self):
+        """The arcs are as many as are counted, and the lines name persons and objects that there are."""
+        draw = random.Random(5)
+        for _ in range(200):
+            persons, objects = draw.randrange(1, 5), draw.randrange(1, 5)
+            arcs = [Arcs(things := [thing for thing in range(1, objects + 1) if draw.random() < 0.8], "\n".join(["7"] * len(things))) for _ in range(persons)]
+            owners = [person for person in range(persons) for _ in range(draw.randrange(1, 3))]
+            demand = Demand([draw.randrange(3) for _ in range(objects)], [draw.randrange(3) for _ in range(objects)])
+            free = draw.choice([[], [draw.choice([None, 4]) for _ in owners]])
+            able = [thing for thing in arcs[0].objects if demand.needs[thing - 1]]
+            fixed = [(0, able[0])] if able and draw.random() < 0.3 else []
+            free = [None, *free[1:]] if free and fixed else free
+            network = Network(arcs, owners, free, fixed, demand)
+            rows = list(network.rows())
+            self.assertEqual((len(rows), sum(map(len, rows))), (network.persons(), network.count()))
+            self.assertTrue(all(1 <= thing <= network.all_objects() for row in rows for thing, _ in row))
+
+
+@has_program()
+class Demands(ToolTest):
+    def planned(self, *words, status=0, table=SHIFTS):
+        self.write("table.csv", table)
+        answer = self.call("plan", "table.csv", "--quiet", *words)
+        self.assertEqual(answer[0], status, answer)
+        return answer[1].splitlines()[1:] if not status else answer[1].splitlines()
+
+    def test_needs(self):
+        """Early 2, late 1, night 2, of whom four nurses fill four: Ada and Cleo 1 + 3, Ben 1, Dan 1."""
+        self.write("needs.csv", "shift,nurses\nearly,2\nlate,1\nnight,2\n")
+        self.assertEqual(self.planned("--need", "needs.csv"), ["Ada,early,1", "Ben,late,1", "Cleo,early,3", "Dan,night,1", ",night,", "total,,6"])
+        # Nobody has both places of one shift.
+        rows = self.planned("--need", "2", "--capacity", "2")
+        self.assertEqual(len({tuple(row.split(",")[:2]) for row in rows}), len(rows))
+        self.assertEqual(rows[-1], "total,,10")
+        self.write("needs.csv", "early,0\nnight,4\n")
+        self.assertEqual(self.planned("--need", "needs.csv", "--fix", "Ada=late")[-2:], [",night,", "total,,14"])
+
+    def test_needs_in_the_table(self):
+        """As a row of a matrix, and as a column of a list of pairs."""
+        best = ["Ada,early,1", "Ben,late,1", "Cleo,early,3", "Dan,night,1", ",night,", "total,,6"]
+        rows = SHIFTS.splitlines()
+        table = "\n".join([*rows[:2], "needed,2,,2", *rows[2:], ""])
+        self.assertEqual(self.planned("--need-row", "needed", table=table), best)
+        needs = {"early": "2", "late": "", "night": "2"}
+        pairs = [f"{row.split(',')[0]},{shift},{cost},{needs[shift]}\n" for row in rows[1:] for shift, cost in zip(needs, row.split(",")[1:])]
+        self.assertEqual(self.planned("--need-column", "wanted", table=f"nurse,shift,cost,wanted\n{''.join(pairs)}"), best)
+        self.write("table.csv", table.replace("needed,2", "needed,few"))
+        self.assert_fault(self.call("plan", "table.csv", "--need-row", "needed"), "table.csv, line 3, column 2", "`few`", "how many persons")
+        self.assert_fault(self.call("plan", "table.csv", "--need-row", "wanted"), "--need-row wanted", "no row")
+        self.assert_fault(self.call("plan", "table.csv", "--need-row", "needed", "--need", "2"), "--need and --need-row", "leave one of them out")
+        self.assert_fault(self.call("plan", "table.csv", "--need-row", "needed", "--second"), "--second", "--need-row")
+
+    def test_objects_apart(self):
+        """One shift of a day for each: by days, and by rows of shifts."""
+        table = "who,Mon early,Mon late,Tue early\nAda,1,1,1\nBen,5,6,7\n"
+        self.assertEqual(self.planned("--capacity", "3", table=table), ["Ada,Mon early,1", "Ada,Mon late,1", "Ada,Tue early,1", "Ben,,", "total,,3"])
+        best = ["Ada,Mon late,1", "Ada,Tue early,1", "Ben,Mon early,5", "total,,7"]
+        for rows in ("shift,day\nMon early,Mon\nMon late,Mon\nTue early,Tue\n", "Mon early,Mon late\n"):
+            self.write("days.csv", rows)
+            self.assertEqual(self.planned("--capacity", "3", "--apart", "days.csv", table=table), best)
+        said = self.call("plan", "table.csv", "--apart", "days.csv", "--quiet")[2]
+        self.assertEqual(said, "plan: note: --apart changes nothing, since nobody may take more than one object; say --capacity too\n")
+
+    def test_undone(self):
+        self.assertEqual(self.planned("--undone", "2"), ["Ada,early,1", "Ben,late,1", "Dan,night,1", "Cleo,,", "total,,3"])
+        self.assertEqual(self.planned("--undone", "0"), ["Ada,,", "Ben,,", "Cleo,,", "Dan,,", ",early,0", ",late,0", ",night,0", "total,,0"])
+        told = json.loads("\n".join(["{", *self.planned("--undone", "2.5", "--decimals", "1", "--need", "2", "--json")]))
+        self.assertEqual((told["total"], told["wishes"]), (10.5, ["--need 2", "--undone 2.5"]))
+
+    def test_no_plan(self):
+        table = "who,x,y\nAda,1,\nBen,1,\nCleo,1,2\n"
+        self.write("needs.csv", "x,1\ny,2\n")
+        lines = self.planned("--need", "needs.csv", "--matrix", status=3, table=table)
+        self.assertIn("Ada and Ben may take x, and nothing else", lines[0])
+        self.assertEqual(lines[1:], ["person,Ada", "person,Ben", "object,x"])
+        lines = self.planned("--need", "1", "--matrix", "--forbid", "Cleo=y", status=3, table=table)
+        self.assertIn("gives every object to somebody: y can go to", lines[0])
+
+    def test_sides_are_swapped(self):
+        """Many more persons than objects: each object goes to whoever is cheapest for it, since these are different persons."""
+        draw, persons, objects = random.Random(2), 3_000, 1_000
+        rows = [f"p{person},x{person % objects},{draw.randrange(5, 90) if person >= objects else person % 5}\n" for person in range(persons)]
+        self.write("table.csv", "".join(rows))
+        status, output, said = self.call("plan", "table.csv", "--json")
+        told = json.loads(output)
+        self.assertEqual((status, told["total"], len(told["pairs"]), len(told["free_persons"])), (0, 2 * objects, objects, persons - objects))
+        self.assertTrue(all(pair["person"][1:] == pair["object"][1:] for pair in told["pairs"]))
+        self.assertIn("plan: 1000 pairs, total 2000, the least of all; checked by", said)
+
+    def test_page_and_notes(self):
+        status, _, said = self.call("plan", self.write("table.csv", SHIFTS), "--need", "2", "--html", "-o", "page.html")
+        self.assertEqual(status, 0, said)
+        page = self.read("page.html")
+        self.assertIn("<li>--need 2</li>", page)
+        self.assertNotIn("<h2>Prices</h2>", page)
+
+    def test_faults(self):
+        self.write("table.csv", SHIFTS)
+        self.write("unknown.csv", "early,2\nlat,1\n")
+        self.write("few.csv", "early,few\n")
+        self.write("days.csv", "early,late\nlate,night\n")
+        self.write("mixed.csv", "early,late\nlate,Mon\n")
+        self.write("twice.csv", "early,Mon\nearly,Tue\n")
+        for words, *parts in [
+            (["--need", "unknown.csv"], "unknown.csv, line 2, column 1", "no object `lat`", "`late`"),
+            (["--need", "few.csv"], "few.csv, line 1, column 2", "`few`", "how many persons"),
+            (["--need", "nosuch.csv"], "--need nosuch.csv", "no such file"),
+            (["--need", "0"], "--need", "above 0"),
+            (["--need", "2", "--why", "Ada"], "--why", "--need"),
+            (["--need", "2", "--second"], "--second", "leave one of them out"),
+            (["--undone", "1", "--fair"], "--fair", "--undone"),
+            (["--undone", "x"], "--undone x", "no number"),
+            (["--apart", "days.csv"], "days.csv", "`night`", "nothing could be proved"),
+            (["--apart", "twice.csv"], "twice.csv, line 2, column 1", "`early` stands there twice"),
+            (["--apart", "mixed.csv"], "mixed.csv, line 2, column 2", "no object `Mon`"),
+            (["--fix", "Ada=early", "--fix", "Ben=early", "--need", "1"], "--fix Ben=early", "wants 1"),
+            (["--fix", "Ada=early", "--fix", "Ada=early", "--need", "2", "--capacity", "2"], "--fix Ada=early"),
+        ]:
+            with self.subTest(words=words):
+                self.assert_fault(self.call("plan", "table.csv", *words), *parts)
+
+
+@has_program()
+class Keeping(ToolTest):
+    CREW = "fitter,pump,roof,wiring\nAda,40,65,30\nBen,35,,20\nCleo,,45,60\n"
+
+    def kept(self, cost, *words, old="who,what,cost\nAda,wiring,1\nBen,pump,1\n,roof,\ntotal,,2\n"):
+        self.write("table.csv", self.CREW)
+        self.write("old.csv", old)
+        return self.call("plan", "table.csv", "--keep", "old.csv", "--change-cost", cost, *words)
+
+    def test_changes(self):
+        """The best plan costs 105, and 110 with the two pairs of the old one; Cleo is new in both. So two changes of 3 are worth
+        while less than 5, and of 2 they are more."""
+        status, output, said = self.kept("3")
+        self.assertEqual((status, output), (0, "fitter,object,cost,before\nAda,wiring,30,\nBen,pump,35,\nCleo,roof,45,\ntotal,,113,\n"), said)
+        self.assertIn("plan: 3 pairs, total 113 with 1 change at 3 each, the least within the wishes; ", said)
+        output = self.kept("2")[1]
+        self.assertEqual(output, "fitter,object,cost,before\nAda,pump,40,wiring\nBen,wiring,20,pump\nCleo,roof,45,\ntotal,,111,\n")
+
+    def test_programs_and_pages(self):
+        told = json.loads(self.kept("2", "--json")[1])
+        new = [{"person": person, "object": thing} for person, thing in (("Ada", "pump"), ("Ben", "wiring"), ("Cleo", "roof"))]
+        self.assertEqual((told["total"], told["change_cost"], told["new_pairs"], told["old_pairs"][0]), (111, 2, new, {"person": "Ada", "object": "wiring"}))
+        self.assertEqual(self.kept("2", "--html", "-o", "page.html")[0], 0)
+        self.assertIn("<h2>Changes</h2>", self.read("page.html"))
+        self.assertNotIn("<h2>Prices</h2>", self.read("page.html"))
+
+    def test_plans_that_were_written(self):
+        """What `plan` wrote is read again, as a table and as JSON, and then nothing changes."""
+        self.write("table.csv", self.CREW)
+        for words, name in ([], "old.csv"), (["--json"], "old.json"):
+            self.assertEqual(self.call("plan", "table.csv", "-o", name, *words)[0], 0)
+            answer = self.call("plan", "table.csv", "--keep", name, "--change-cost", "7")
+            self.assertIn("total 105 with 0 changes at 7 each", answer[2])
+
+    def test_two_columns(self):
+        answer = self.kept("3", old="who,what\nAda,wiring\nBen,pump\n")
+        self.assertEqual((answer[1].splitlines()[-1], answer[2].count("\n")), ("total,,113,", 1))
+
+    def test_names_that_are_gone(self):
+        answer = self.kept("3", old="Ada,wiring,1\nEve,pump,1\nBen,attic,2\n,roof,\n")
+        self.assertIn("plan: note: old.csv: 2 pairs of the old plan have a name that the table hasn't, and are left out\n", answer[2])
+
+    def test_faults(self):
+        self.assert_fault(self.kept("x"), "--change-cost x", "no number")
+        self.assert_fault(self.kept("1.5"), "--change-cost 1.5", "decimals")
+        self.assert_fault(self.kept("3", old="a,b,c\n"), "old.csv", "no row has a person and an object of the table")
+        self.assert_fault(self.call("plan", "table.csv", "--keep", "old.csv"), "--keep old.csv", "--change-cost")
+        self.assert_fault(self.call("plan", "table.csv", "--change-cost", "3"), "--change-cost 3", "--keep")
+        self.assert_fault(self.kept("3", "--why", "Ada"), "--why", "--keep")
+        self.assert_fault(self.kept("1000000000"), "--change-cost", "out of range")
+
+
+if __name__ == "__main__":
+    os.environ.setdefault("AUCTION", "auction")
+    unittest.main()

@@ -1,6 +1,4 @@
 """What a caller asks for, made plain, and the one road to an answer."""
-import functools
-
 from . import fast
 from .arguments import HIGHEST_START, INT64, MOST_BIDS, number, truth, whole_numbers
 from .costs import MOST_DECIMALS
@@ -22,9 +20,9 @@ class Asked:
     def __init__(self, rows, columns=None, costs=None, shape=None, maximize=False, decimals=None):
         self.maximize = truth(maximize, "maximize")
         self.decimals = None if decimals is None else number(decimals, "decimals", 0, MOST_DECIMALS)
-        self.names, self.table = NUMBERS, None
+        self.names, self.table, self._lists, self._problem = NUMBERS, None, None, None
         if columns is not None or costs is not None:
-            self.lists = lists_of(rows, columns, costs, shape)
+            self._lists = lists_of(rows, columns, costs, shape)
         elif shape is not None:
             raise ValueError("a table has a shape of its own")
         elif type(rows) is fast.ARRAY and decimals is None:
@@ -32,22 +30,34 @@ class Asked:
         else:
             self._take_table(rows)
 
+    @classmethod
+    def of_lists(cls, lists, maximize, decimals=None):
+        """What is asked of Lists that were looked at before."""
+        asked = cls.__new__(cls)
+        asked.maximize, asked.decimals, asked.names, asked.table, asked._lists, asked._problem = maximize, decimals, NUMBERS, None, lists, None
+        return asked
+
     def _take_table(self, table):
         values, self.names = named(table)
         if self.decimals is not None or is_sparse(values):
-            self.lists = lists_of_matrix(values, self.maximize, self.names)
+            self._lists = lists_of_matrix(values, self.maximize, self.names)
         else:
             self.table = numbers_of(values)
 
-    @functools.cached_property
+    # What functools keeps of such is made under one lock for all callers, which a fork may leave locked.
+    @property
     def lists(self):
         """The entries, as Lists."""
-        return lists_of_matrix(self.table, self.maximize, self.names)
+        if self._lists is None:
+            self._lists = lists_of_matrix(self.table, self.maximize, self.names)
+        return self._lists
 
-    @functools.cached_property
+    @property
     def problem(self):
         """The arcs, where Python solves them."""
-        return Problem(self.lists, self.maximize, self.decimals)
+        if self._problem is None:
+            self._problem = Problem(self.lists, self.maximize, self.decimals)
+        return self._problem
 
     @property
     def sides(self):

@@ -55,6 +55,10 @@ def solve(
 
     Raises Infeasible where there is no full assignment, ValueError where an argument is at fault (a masked array among them), and MemoryError.
     KeyboardInterrupt gets away from a long call at once; the search itself runs on to its end in a thread of its own, unseen.
+
+    >>> solution = sigdorf.solve([0, 0, 1, 1], [0, 1, 0, 1], [1, 2.5, 1, 4])
+    >>> solution.rows.tolist(), solution.columns.tolist(), solution.cost
+    ([0, 1], [1, 0], 3.5)
     """
     began = time.monotonic()
     asked = Asked(rows, columns, costs, shape, maximize, decimals)
@@ -79,6 +83,13 @@ def check(
 
     The other arguments are those of :func:`solve`, and a ValueError says which one is at fault. Whoever found the solution is not trusted: type,
     length and range of each of its parts are looked at, and each number exactly; nothing of the solver is used. What a limit has ended
-    (`is_optimal` is False) is refused. O(entries) time.
+    (`is_optimal` is False) is refused. O(entries) time. An assignment without prices is what :func:`certify` takes.
+
+    >>> table = [[1, 2], [1, 4]]
+    >>> sigdorf.check(sigdorf.solve(table), table)
+    >>> sigdorf.check(sigdorf.solve(table), [[0, 2], [1, 4]])
+    Traceback (most recent call last):
+        ...
+    sigdorf.faults.Refused: number 0 has a better entry at these prices
     """
     check_claim(Asked(rows, columns, costs, shape, maximize, decimals).problem, solution)

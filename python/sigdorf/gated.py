@@ -14,10 +14,15 @@ from .faults import Unsettled
 from .library import USUAL_BIDS
 from .problem import Lists, Problem
 from .scipy_calls import linear_sum_assignment
+from .shown import equal, hashed, shown_list, shown_pairs, unequal
 
 
 class Match(typing.NamedTuple):
-    """Pairs of rows and columns, and those that stay free."""
+    """Pairs of rows and columns, and those that stay free. Two are equal where all parts of them are.
+
+    >>> sigdorf.match([[1.0, 9.0], [9.0, 8.0]], 2.0)
+    Match(pairs={0: 0}, free_rows=[1], free_columns=[1])
+    """
 
     rows: numpy.ndarray
     """The rows that have a column, rising: int64."""
@@ -31,6 +36,11 @@ class Match(typing.NamedTuple):
     """The cost of each pair, as the caller gave it."""
     labels: list[tuple] | None = None
     """The names of each pair's row and column, where the table has names."""
+
+    def __repr__(self):
+        return f"Match(pairs={shown_pairs(self)}, free_rows={shown_list(self.free_rows)}, free_columns={shown_list(self.free_columns)})"
+
+    __eq__, __ne__, __hash__ = equal, unequal, hashed
 
 
 def match(
@@ -56,6 +66,10 @@ def match(
     bids: that of :func:`solve`.
 
     Raises ValueError where an argument is at fault, and Unsettled where a limit of the search ended it.
+
+    >>> found = sigdorf.match([[1.0, 9.0, 9.0], [9.0, 0.5, 9.0], [9.0, 0.75, 9.0]], 2.0)
+    >>> found.rows.tolist(), found.columns.tolist(), found.free_rows.tolist()
+    ([0, 1], [0, 1], [2])
     """
     listed = rows is not None or columns is not None
     asked = Asked(rows, columns, costs, shape, maximize) if listed else Asked(costs, shape=shape, maximize=maximize)
@@ -134,6 +148,10 @@ def lapjv(cost: ArrayLike, extend_cost: bool = False, cost_limit: float = math.i
     return_cost: whether the sum is wanted; else the two arrays of int32 alone are answered.
 
     Raises Infeasible where there is no limit and no full assignment, and what :func:`match` does.
+
+    >>> total, of_row, of_column = sigdorf.lapjv([[1.0, 9.0], [9.0, 8.0]], cost_limit=2.0)
+    >>> total, of_row.tolist(), of_column.tolist()
+    (1.0, [0, -1], [0, -1])
     """
     matrix = numpy.asarray(cost)
     if matrix.ndim != 2:

@@ -37,6 +37,9 @@ def solve_many(
     extension, where it was built, and all else one by one.
 
     Raises what :func:`solve` does, of a problem that is at fault, with a note that tells its number, from 0; the others are given up.
+
+    >>> [solution.cost for solution in sigdorf.solve_many([[[4, 1], [2, 3]], ([0, 1], [0, 1], [7, 8])], threads=2)]
+    [3, 15]
     """
     problems = list(problems)
     threads = len(os.sched_getaffinity(0)) if threads is None else number(threads, "threads", 1, MOST_THREADS)

@@ -1,6 +1,4 @@
 """Problems: lists of a caller as arcs, by which the smaller side takes the larger one."""
-import functools
-
 import numpy
 
 from .arguments import HIGHEST_START, MOST_ENTRIES, MOST_INDEX, MOST_OBJECTS, MOST_PERSONS, array_of, sides_of, whole_numbers
@@ -71,12 +69,15 @@ class Problem:
         self.costs = costs_of(lists.costs, decimals, maximize, lists.fault)
         self.by_columns = lists.sides[0] > lists.sides[1]
         self.persons, self.objects = sorted(lists.sides)
+        self._arcs = None
 
-    @functools.cached_property
+    @property
     def arcs(self):
         """The arcs, as the library takes them."""
-        lists = self.lists
-        return arcs_of(*((lists.columns, lists.rows) if self.by_columns else (lists.rows, lists.columns)), self.costs.whole)
+        if self._arcs is None:
+            lists = self.lists
+            self._arcs = arcs_of(*((lists.columns, lists.rows) if self.by_columns else (lists.rows, lists.columns)), self.costs.whole)
+        return self._arcs
 
     @property
     def has_whole_costs(self):

@@ -21,6 +21,9 @@ def linear_sum_assignment(
 
     Raises what :func:`solve` does, and Unsettled where a limit ended the search before the least cost was found. A cost that is NaN or
     infinite the other way is a ValueError, and a matrix of what aren't numbers a :class:`~.faults.Mistyped`.
+
+    >>> sigdorf.linear_sum_assignment([[4, 1, 3], [2, 0, 5], [3, 2, 2]])
+    (array([0, 1, 2]), array([1, 0, 2]))
     """
     return Asked(cost_matrix, None, None, None, maximize, decimals).pairs(bids_of(bids), "cost matrix is infeasible")
 
@@ -32,11 +35,14 @@ def min_weight_full_bipartite_matching(
 
     Stored zeros are no entries here, and a warning says so; to :func:`solve` and :func:`linear_sum_assignment` they are. Stored infinities are
     none either. Raises what :func:`linear_sum_assignment` does.
+
+    >>> sigdorf.min_weight_full_bipartite_matching(scipy.sparse.csr_matrix([[4, 1, 0], [2, 0, 5], [3, 2, 2]]))
+    (array([0, 1, 2]), array([1, 0, 2]))
     """
     if not is_sparse(biadjacency):
         raise Mistyped("graph must be in CSC, CSR, or COO format, and this one isn't sparse.")
     asked = Asked(biadjacency, None, None, None, maximize, decimals)
     if not asked.lists.costs.all():
         warnings.warn("explicit zero weights are removed before matching.", stacklevel=2)
-        asked.lists = asked.lists.where(asked.lists.costs != 0)
+        asked = Asked.of_lists(asked.lists.where(asked.lists.costs != 0), asked.maximize, asked.decimals)
     return asked.pairs(bids_of(bids), "no full matching exists")

@@ -56,7 +56,7 @@ static void close_shop(workshop *shop) {
 
 /* Keeps what isn't too much in place of what is kept already. */
 static void give_back(workshop *shop) {
-    if (shop->costs.bytes + shop->level.bytes + shop->round.bytes + shop->arcs * 24 > MOST_KEPT) {
+    if (shop->costs.bytes + shop->level.bytes + shop->round.bytes + shop->arcs * 4 + shop->slacks * 20 > MOST_KEPT) {
         close_shop(shop);
         return;
     }

@@ -51,7 +51,7 @@ typedef struct {
     uint32_t *object, *entry;
     int64_t *slack;
     double *tail;
-    size_t arcs;
+    size_t arcs, slacks; /* for so many objects, and for so many of the others, there is room */
 } workshop;
 
 /* A problem at work. The smaller side are the persons: of more rows than columns the columns. Costs are whole numbers of 2^-unit, turned so that the least is
@@ -149,7 +149,7 @@ int list_entries(job *w);
 void write_pairs(job *w);
 
 /* A level, as refinement.py has it: arcs by rising persons, of each where they begin and the place of his choice among them. `entry` has the numbers of their
- * entries, or is NULL where w has a table. */
+ * entries, or is NULL where w has a table; then objects rise. Of a table of whole costs there are no slacks and tails: each arc is as good as the choice. */
 typedef struct {
     size_t persons, objects;
     int unit, is_settled;
@@ -157,6 +157,18 @@ typedef struct {
     int64_t *slack, *price;
     double *tail;
 } level;
+/* The first of a person's arcs whose object isn't below this one, where objects rise. */
+static inline size_t arc_from(const level *l, size_t person, uint32_t object) {
+    size_t low = l->first[person], high = l->first[person + 1];
+    while (low < high) {
+        size_t middle = (low + high) / 2;
+        if (l->object[middle] < object)
+            low = middle + 1;
+        else
+            high = middle;
+    }
+    return low;
+}
 static inline size_t entry_of(const job *w, const level *l, size_t person, size_t e) { return l->entry ? l->entry[e] : person * w->objects + l->object[e]; }
 
 /* Of _levels.c: 1 where there is no memory, or the library answers something else. */

@@ -337,21 +337,26 @@ static int finer_by_library(level *l, nearby *r, uint64_t bids) {
     return status;
 }
 
-/* Room for so many arcs of another row behind so many. 1 where there is no memory. */
+/* Room for so many arcs of another person behind so many. 1 where there is no memory. */
 static int widen(const job *w, level *l, size_t count, size_t more) {
     workshop *shop = w->shop;
+    int has_slacks = w->arcs || w->has_tails;
     if (shop->arcs - count < more) {
         size_t arcs = 4 * (shop->arcs + more);
-        void *object = realloc(shop->object, arcs * 4), *entry = realloc(shop->entry, arcs * 4);
-        void *slack = realloc(shop->slack, arcs * 8), *tail = realloc(shop->tail, arcs * 8);
-        if (object) shop->object = object;
+        void *object = realloc(shop->object, arcs * 4);
+        if (!object) return 1;
+        shop->object = object, shop->arcs = arcs;
+    }
+    if (has_slacks && shop->slacks < shop->arcs) {
+        void *entry = realloc(shop->entry, shop->arcs * 4), *slack = realloc(shop->slack, shop->arcs * 8), *tail = realloc(shop->tail, shop->arcs * 8);
         if (entry) shop->entry = entry;
         if (slack) shop->slack = slack;
         if (tail) shop->tail = tail;
-        if (!object || !entry || !slack || !tail) return 1;
-        shop->arcs = arcs;
+        if (!entry || !slack || !tail) return 1;
+        shop->slacks = shop->arcs;
     }
-    l->object = shop->object, l->entry = w->arcs ? shop->entry : NULL, l->slack = shop->slack, l->tail = shop->tail;
+    l->object = shop->object, l->entry = w->arcs ? shop->entry : NULL;
+    l->slack = has_slacks ? shop->slack : NULL, l->tail = has_slacks ? shop->tail : NULL;
     return 0;
 }
 
@@ -431,6 +436,11 @@ static int list_person(const job *w, level *l, size_t person, int64_t window) {
     if (widen(w, l, first, w->arcs ? w->first[person + 1] - w->first[person] + 1 : l->objects)) return 1;
     int64_t own = whole_at(w, choice) + l->price[object_of(w, person, choice)];
     size_t end = first + (w->arcs ? list_entries_below : list_row_below)(w, l, person, own + window, first);
+    l->first[person + 1] = (uint32_t)end;
+    if (!l->tail) {
+        l->pick[person] = (uint32_t)arc_from(l, person, (uint32_t)object_of(w, person, choice));
+        return 0;
+    }
     double mine = 0;
     int is_other = w->has_tails && tail_of(w, person, choice, &mine);
     for (size_t e = first; e < end; e++) {
@@ -441,7 +451,6 @@ static int list_person(const job *w, level *l, size_t person, int64_t window) {
         if (l->slack[e] == 0 && l->tail[e] < mine) l->is_settled = 0;
         if (entry == choice) l->pick[person] = (uint32_t)e;
     }
-    l->first[person + 1] = (uint32_t)end;
     return is_other;
 }
 

@@ -62,11 +62,13 @@ static int look_at_some_floats(job *w) {
 /* Whether floats are all whole numbers to 10^9. */
 static int are_small(const job *w) {
     if (!(w->floor >= -SIGDORF_MOST_COST && w->ceiling <= SIGDORF_MOST_COST)) return 0;
-    int are_whole = !w->q.has_limit || nearbyint(w->q.limit) == w->q.limit;
+    if (w->q.has_limit && nearbyint(w->q.limit) != w->q.limit) return 0;
     const double *values = w->q.costs;
-    for (size_t e = 0; are_whole && e < w->q.count; e += BLOCK)
-        for (size_t k = e; k < w->q.count && k < e + BLOCK; k++) are_whole &= nearbyint(values[k]) == values[k] || (w->has_gaps && is_gap(w, (uint32_t)k));
-    return are_whole;
+    double rests = 0;
+    for (size_t e = 0; rests == 0 && e < w->q.count; e += BLOCK)
+        for (size_t k = e; k < w->q.count && k < e + BLOCK; k++)
+            if (!w->has_gaps || !is_gap(w, (uint32_t)k)) rests += fabs(nearbyint(values[k]) - values[k]);
+    return rests == 0;
 }
 
 static int look_over_floats(job *w) {
@@ -248,13 +250,14 @@ int write_costs(job *w) {
     w->back = ldexp(1, -w->unit);
     double rounder = rounder_of(w->unit);
     uint64_t tails = 0;
-    if (is_plain && is_float && !w->is_small && !w->has_gaps && !w->gate_cost)
+    /* Small ones too, in whole units from 0. */
+    if (is_plain && is_float && !w->has_gaps && !w->gate_cost)
         tails = round_all(w->q.costs, w->q.count, w->sign, rounder, w->least, w->costs);
     else if (is_plain && !is_float && w->is_small)
         turn_all(w->q.costs, w->q.count, w->sign, w->costs);
     else
         tails = write_each(w, rounder);
-    w->has_tails = tails != 0;
+    w->has_tails = tails != 0 && !w->is_small;
     if (!w->is_small && !w->has_tails && !w->gate_cost) drop_twos(w);
     return 0;
 }

@@ -105,9 +105,9 @@ class Asked:
         labels = self.labels(found.rows, found.columns)
         return found if labels is None else found._replace(labels=labels)
 
-    def pairs(self, bids, words):
-        """Rows and columns of the least pairs, and Unsettled where the bids didn't suffice for them."""
-        found = fast.found(self.plain(), self.maximize and self.decimals is None, False, None, None, bids)
+    def pairs(self, bids, words, asks=True):
+        """Rows and columns of the least pairs, and Unsettled where the bids didn't suffice for them. `asks` says whether the extension wasn't asked before."""
+        found = fast.found(self.plain(), self.maximize and self.decimals is None, False, None, None, bids) if asks else None
         if found is not None:
             return found
         solution = self.problem.solution(None, bids, words)

@@ -20,7 +20,11 @@ def shown_list(numbers):
 
 def equal(one, other):
     """Whether two results are of one kind and all their parts are the same."""
-    return type(one) is type(other) and all(part is its or (numpy.array_equal(part, its) if isinstance(part, numpy.ndarray) else part == its) for part, its in zip(tuple(one), tuple(other)))
+    return type(one) is type(other) and all(map(_equal_parts, tuple(one), tuple(other)))
+
+
+def _equal_parts(one, other):
+    return numpy.array_equal(one, other) if isinstance(one, numpy.ndarray) else one == other
 
 
 def unequal(one, other):

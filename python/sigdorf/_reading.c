@@ -45,29 +45,34 @@ static int look_at_floats(const double *values, size_t count, double *least, dou
 
 /* The same where some may be gaps, turned: 1 where something is no cost. */
 static int look_at_some_floats(job *w) {
-    double least = w->q.has_limit ? float_at(w, NO_PLACE) : INFINITY, most = w->q.has_limit ? least : -INFINITY;
-    w->entries = w->outlets;
-    for (size_t e = 0; e < w->q.count; e++) {
-        double value = float_at(w, (uint32_t)e);
-        if (!(value > -INFINITY) || (w->q.row && !(value < INFINITY))) return 1;
-        if (is_gap(w, (uint32_t)e)) continue;
-        w->entries++;
-        least = value < least ? value : least;
-        most = value > most ? value : most;
+    /* A copy that no pointer leads to, so that nothing of it is read again. */
+    const job own = *w;
+    double least = own.q.has_limit ? float_at(&own, NO_PLACE) : INFINITY, most = own.q.has_limit ? least : -INFINITY;
+    size_t entries = own.outlets, faults = 0;
+    for (size_t e = 0; e < own.q.count; e++) {
+        double value = float_at(&own, (uint32_t)e);
+        int is_entry = !is_gap(&own, (uint32_t)e);
+        faults += (size_t)!(value > -INFINITY) + (size_t)(own.q.row && !(value < INFINITY));
+        entries += (size_t)is_entry;
+        /* No choice is made on the way, which nobody could foresee. */
+        double low = is_entry ? value : INFINITY, high = is_entry ? value : -INFINITY;
+        least = low < least ? low : least;
+        most = high > most ? high : most;
     }
-    w->floor = least, w->ceiling = most;
-    return 0;
+    w->floor = least, w->ceiling = most, w->entries = entries;
+    return faults != 0;
 }
 
 /* Whether floats are all whole numbers to 10^9. */
 static int are_small(const job *w) {
     if (!(w->floor >= -SIGDORF_MOST_COST && w->ceiling <= SIGDORF_MOST_COST)) return 0;
     if (w->q.has_limit && nearbyint(w->q.limit) != w->q.limit) return 0;
-    const double *values = w->q.costs;
+    const job own = *w;
+    const double *values = own.q.costs;
     double rests = 0;
-    for (size_t e = 0; rests == 0 && e < w->q.count; e += BLOCK)
-        for (size_t k = e; k < w->q.count && k < e + BLOCK; k++)
-            if (!w->has_gaps || !is_gap(w, (uint32_t)k)) rests += fabs(nearbyint(values[k]) - values[k]);
+    for (size_t e = 0; rests == 0 && e < own.q.count; e += BLOCK)
+        for (size_t k = e; k < own.q.count && k < e + BLOCK; k++)
+            if (!own.has_gaps || !is_gap(&own, (uint32_t)k)) rests += fabs(nearbyint(values[k]) - values[k]);
     return rests == 0;
 }
 
@@ -222,10 +227,11 @@ static void turn_all(const int64_t *restrict values, size_t count, int64_t sign,
 
 /* Costs in whole units of what is written entry by entry; 0 where none has a tail. */
 static uint64_t write_each(job *w, double rounder) {
+    const job own = *w;
     uint64_t tails = 0;
-    for (size_t k = 0; w->arcs && k < w->entries; k++) w->arcs[k].cost = whole_of(w, w->place[k], rounder, &tails);
-    for (size_t i = 0; !w->arcs && i < w->persons; i++)
-        for (size_t e = i * w->objects; e < (i + 1) * w->objects; e++) w->costs[e] = whole_of(w, place_of(w, i, e), rounder, &tails);
+    for (size_t k = 0; own.arcs && k < own.entries; k++) own.arcs[k].cost = whole_of(&own, own.place[k], rounder, &tails);
+    for (size_t i = 0; !own.arcs && i < own.persons; i++)
+        for (size_t e = i * own.objects; e < (i + 1) * own.objects; e++) own.costs[e] = whole_of(&own, place_of(&own, i, e), rounder, &tails);
     return tails;
 }
 

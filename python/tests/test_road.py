@@ -57,6 +57,26 @@ class Road(Limited):
             solution = sigdorf.solve(gaps / 10, bids=bids)
             self.assertLessEqual(solution.exact_cost - solution.gap, sigdorf.solve(gaps / 10).exact_cost)
 
+    def test_tables_with_gaps(self):
+        """Those with many are solved entry by entry, and answered as tables."""
+        random = numpy.random.default_rng(2)
+        for shape in [(60, 60), (50, 70), (70, 50), (9, 300), (300, 9)]:
+            for share in (0.1, 0.3, 0.7, 0.95):
+                for kind in range(4):
+                    costs = [random.integers(0, 5, shape) * 1.0, random.random(shape), random.integers(0, 3, shape) / 10, random.integers(0, 10**12, shape) * 1.0][kind]
+                    is_entry = random.random(shape) < share
+                    for side in range(max(shape)):
+                        is_entry[side % shape[0], side % shape[1]] = True
+                    maximize = kind == 1
+                    table = numpy.where(is_entry, costs, -numpy.inf if maximize else numpy.inf)
+                    solution = sigdorf.solve(table, maximize=maximize)
+                    sigdorf.check(solution, table, maximize=maximize)
+                    listed = sigdorf.solve(*numpy.nonzero(is_entry), costs[is_entry], shape, maximize=maximize)
+                    self.assertEqual([side.tolist() for side in solution[:3]], [side.tolist() for side in listed[:3]])
+                    if scipy:
+                        pairs = scipy.optimize.linear_sum_assignment(table, maximize)
+                        self.assertAlmostEqual(float(solution.cost), table[pairs].sum(), delta=1e-9 * abs(table[pairs].sum()))
+
     @unittest.skipUnless(scipy, "scipy is not there")
     def test_sparse(self):
         for table in (self.table, self.table / 10, self.table * 10**12):

@@ -14,8 +14,8 @@ from .library import USUAL_BIDS, address_of
 from .solution import Solution
 from .waiting import call_waiting
 
-# A call with fewer entries ends so soon that a thread of its own isn't worth its time.
-FEWEST = 1 << 16
+# A call of a table with fewer entries, or of a list with fewer, ends so soon that a thread of its own isn't worth its time.
+FEWEST, FEWEST_LISTED = 1 << 16, 1 << 13
 # That of the extension of these sources; one that was built of others isn't used.
 INTERFACE = 5
 ARRAY = numpy.ndarray
@@ -75,8 +75,7 @@ def found(problem, maximize, wants_prices, limit=None, start=None, bids=USUAL_BI
     """
     if _extension is None:
         return None
-    size = (problem[2] if type(problem) is tuple else problem).size
-    if size < FEWEST:
+    if problem[2].size < FEWEST_LISTED if type(problem) is tuple else problem.size < FEWEST:
         return _extension.found(problem, maximize, wants_prices, limit, start, bids)
     return call_waiting(True, _extension.found, problem, maximize, wants_prices, limit, start, bids)
 

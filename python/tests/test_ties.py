@@ -82,7 +82,8 @@ class Ties(Limited):
         for number, table, maximize in tables(TABLES, 1):
             wanted = first_of_all(table, maximize)
             some = list(guises(table))
-            for given in some if number % 20 == 0 else [some[number % len(some)], table]:
+            # Without the extension each call takes some hundred microseconds.
+            for given in some if fast.is_there() or number % 20 == 0 else [some[number % len(some)], table]:
                 told = table.tolist(), getattr(given, "dtype", list), maximize
                 self.assert_first(sigdorf.linear_sum_assignment(given, numpy.bool_(maximize)), wanted, told)
                 self.assert_first(sigdorf.solve(given, maximize=int(maximize)), wanted, told)

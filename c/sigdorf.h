@@ -10,7 +10,8 @@
  *   3  What a pointer without const leads to is initialised, and is read and written by nobody else while the call runs: it shares no
  *      byte with any other argument.
  *   4  malloc, realloc and free are those of one allocator, and align as the C standard says.
- *   5  No call from a signal handler, nor in the child of a fork of a process with threads.
+ *   5  No call from a signal handler. In the child of a fork of a process with threads only where malloc may be called there: POSIX
+ *      doesn't promise that, and glibc keeps it. A fork while another thread is within a call is as good, since no call holds a lock.
  * Sizes and ranges are no duty: they are tested. Several threads may call at a time, each with memory of its own for what is written. No
  * call keeps a pointer, waits, prints, or ends the process; all memory that a call takes is given back before it returns.
  */
@@ -144,6 +145,11 @@ int32_t sigdorf_check(uint32_t persons, uint32_t objects, const sigdorf_arc *arc
 /* Checks a Hall set, whoever found it. SIGDORF_OPTIMAL: all arcs of these persons lead to these objects, which are fewer. */
 int32_t sigdorf_check_hall(uint32_t persons, uint32_t objects, const sigdorf_arc *arcs, size_t arcs_len, const uint32_t *hall_persons,
                            size_t hall_persons_len, const uint32_t *hall_objects, size_t hall_objects_len, sigdorf_found *found);
+
+/* The version of the library that a program has found, as SIGDORF_VERSION of its own header, and a status in words. Neither is proved. The
+ * texts are constant, and stay the library's. */
+const char *sigdorf_version(void);
+const char *sigdorf_status_text(int32_t status);
 
 #ifdef __cplusplus
 }

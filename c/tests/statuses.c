@@ -143,7 +143,18 @@ static void limits(void) {
     free(arcs);
 }
 
+/* Each status has a text of its own, and so has what is none. */
+static void texts(void) {
+    const int32_t statuses[] = {SIGDORF_OPTIMAL, SIGDORF_SIZES, SIGDORF_INFEASIBLE, SIGDORF_BRACKET, SIGDORF_REFUSED, SIGDORF_MEMORY, SIGDORF_START, 1, -1};
+    const size_t count = sizeof statuses / sizeof *statuses;
+    want("the version", strcmp(sigdorf_version(), SIGDORF_VERSION), 0);
+    for (size_t i = 0; i < count; i++)
+        for (size_t k = 0; k < i; k++)
+            want("the same text", strcmp(sigdorf_status_text(statuses[i]), sigdorf_status_text(statuses[k])) == 0, i == count - 1 && k == count - 2);
+}
+
 int main(int words, char **word) {
+    texts();
     solves();
     refusals(SIGDORF_OTHER_SIZE, SIGDORF_PRICE);
     spare_starts();

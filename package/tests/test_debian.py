@@ -5,6 +5,7 @@ import pathlib
 import re
 import shutil
 import subprocess
+import sys
 import tarfile
 
 from calls import ROOT, VERSION, PackageTest, packages, wants, wants_library, wants_program
@@ -25,7 +26,7 @@ PLACES = {
     "sigdorf": r"usr/(bin|share)/",
     SHARED: rf"{LIBRARIES}/libsigdorf\.so\.",
     DEVELOPMENT: rf"usr/include/|{LIBRARIES}/(libsigdorf\.(a|so)$|pkgconfig/|cmake/)",
-    PYTHON: r"usr/lib/python3/dist-packages/sigdorf/",
+    PYTHON: rf"usr/lib/python3/dist-packages/sigdorf(-{re.escape(VERSION)}\.dist-info)?/",
 }
 # The sections that a processor or the loader sees.
 CODE = (".text", ".rodata", ".data")
@@ -91,6 +92,12 @@ class Debian(PackageTest):
         text = (self.unpacked(DEVELOPMENT) / LIBRARIES / "pkgconfig/sigdorf.pc").read_text()
         libraries = LIBRARIES.removeprefix("usr/")
         self.assertIn(f"prefix=/usr\nlibdir=${{prefix}}/{libraries}\nincludedir=${{prefix}}/include\n", text)
+
+    def test_python_knows_the_module(self):
+        found = self.unpacked(PYTHON) / "usr/lib/python3/dist-packages"
+        program = "import importlib.metadata as known; print(known.version('sigdorf'), known.requires('sigdorf'), known.metadata('sigdorf')['Requires-Python'])"
+        told = self.done(sys.executable, "-B", "-c", program, environment={"PYTHONPATH": str(found)})
+        self.assertEqual(told, f"{VERSION} ['numpy>=1.24'] >=3.10\n")
 
     @wants("cc", "cmake", "make")
     def test_cmake(self):

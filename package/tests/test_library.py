@@ -3,9 +3,10 @@ import os
 
 from calls import ROOT, VERSION, PackageTest, run, wants, wants_library, wants_program
 
+NAMES = ["sigdorf_check", "sigdorf_check_hall", "sigdorf_solve", "sigdorf_solve_by_messages", "sigdorf_solve_dense", "sigdorf_status_text", "sigdorf_version"]
 CMAKE = """cmake_minimum_required(VERSION 3.13)
 project(crew C)
-find_package(Sigdorf {wanted} REQUIRED)
+find_package({name} {wanted} REQUIRED)
 foreach(kind sigdorf archive)
   add_executable(crew_${{kind}} crew.c)
   target_link_libraries(crew_${{kind}} PRIVATE Sigdorf::${{kind}})
@@ -31,7 +32,13 @@ class Library(PackageTest):
         library = self.prefix / "lib/libsigdorf.so"
         self.assertIn(f"[libsigdorf.so.{VERSION.partition('.')[0]}]", self.done("readelf", "-d", library))
         shown = [line.split()[-1] for line in self.done("readelf", "--dyn-syms", "-W", library).splitlines() if " GLOBAL DEFAULT " in line and " UND " not in line]
-        self.assertEqual(sorted(shown), ["sigdorf_check", "sigdorf_check_hall", "sigdorf_solve", "sigdorf_solve_by_messages", "sigdorf_solve_dense"])
+        self.assertEqual(sorted(shown), sorted([f"{name}@@SIGDORF_1" for name in NAMES] + ["SIGDORF_1"]))
+
+    @wants("nm")
+    def test_names_of_the_archive(self):
+        """None that another archive of Rattle code in the same program might have too."""
+        told = self.done("nm", "--defined-only", "--extern-only", "--format=posix", self.prefix / "lib/libsigdorf.a")
+        self.assertEqual(sorted(line.split()[0] for line in told.splitlines() if " " in line and not line.endswith(":")), NAMES)
 
     @wants("cc", "pkg-config")
     def test_pkg_config(self):
@@ -41,17 +48,18 @@ class Library(PackageTest):
         self.done("sh", "-c", command, cwd=self.folder, environment=environment)
         self.assert_runs(self.folder / "crew", LD_LIBRARY_PATH=str(self.prefix / "lib"))
 
-    def configure(self, wanted):
-        (self.folder / "CMakeLists.txt").write_text(CMAKE.format(wanted=wanted))
-        return run("cmake", "-S", self.folder, "-B", self.folder / "made", f"-DCMAKE_PREFIX_PATH={self.prefix}")
+    def configure(self, wanted, name="Sigdorf"):
+        (self.folder / "CMakeLists.txt").write_text(CMAKE.format(name=name, wanted=wanted))
+        return run("cmake", "-S", self.folder, "-B", self.folder / f"made {name}", f"-DCMAKE_PREFIX_PATH={self.prefix}")
 
     @wants("cc", "cmake", "make")
     def test_cmake(self):
-        status, told = self.configure(VERSION)
-        self.assertEqual(status, 0, told)
-        self.done("cmake", "--build", self.folder / "made")
-        for kind in ("sigdorf", "archive"):
-            self.assert_runs(self.folder / "made" / f"crew_{kind}")
+        for name in ("Sigdorf", "sigdorf"):
+            status, told = self.configure(VERSION, name)
+            self.assertEqual(status, 0, told)
+            self.done("cmake", "--build", self.folder / f"made {name}")
+            for kind in ("sigdorf", "archive"):
+                self.assert_runs(self.folder / f"made {name}" / f"crew_{kind}")
 
     @wants("cc", "cmake", "make")
     def test_cmake_refuses_other_versions(self):

@@ -7,6 +7,8 @@
     match(costs, limit)                             the best pairs of at most a limit; whoever has none stays free
     lapjv(cost, cost_limit=limit)                   the same as the package `lap` has it
     solve_many(problems, threads)                   solves many problems, over threads
+    certify(rows, columns, table)                   anybody's assignment, with prices that show it to be the least, or how far it is off
+    k_best(table, k)                                the k best assignments, the best first
 
 Costs count exactly as they stand, floats too (docs/EXACT.md). Where there is no full assignment, each raises Infeasible, which names the rows
 that together know too few columns. Where a limit ended the search, `solve` answers a solution whose `is_optimal` is False, and the two calls of
@@ -20,6 +22,8 @@ except ModuleNotFoundError:
 del numpy
 
 from .assignment import check, solve
+from .best import Ranked, k_best
+from .certified import certify
 from .faults import Infeasible, Mistyped, Refused, Unsettled
 from .gated import Match, lapjv, match
 from .library import USUAL_BIDS
@@ -32,11 +36,14 @@ __all__ = [
     "Infeasible",
     "Match",
     "Mistyped",
+    "Ranked",
     "Refused",
     "Solution",
     "USUAL_BIDS",
     "Unsettled",
+    "certify",
     "check",
+    "k_best",
     "lapjv",
     "linear_sum_assignment",
     "match",

@@ -49,22 +49,29 @@ static void sum_up_all(job *w, const double *costs, size_t count) {
     w->has_sum = 1;
 }
 
-/* The sum of the choice's costs. 1 where there is no memory, or the matrix was written meanwhile. */
+/* The sum of the choice's costs. 1 where there is no memory. */
 int sum_up(job *w) {
-    size_t persons = w->table.persons;
-    w->has_sum = w->is_small;
+    w->has_sum = w->is_small || w->q.type != 'd';
+    if (w->is_small)
+        for (size_t i = 0; i < w->persons; i++) w->sum += whole_at(w, w->choice[i]);
     if (w->is_small) return 0;
-    double *costs = block_of(&w->shop->level, persons * 8), tail;
-    int fails = !costs;
-    for (size_t i = 0; !fails && i < persons; i++) fails = cost_of(w, i, w->choice[i], &costs[i], &tail);
-    if (!fails) sum_up_all(w, costs, persons);
-    return fails;
+    double *costs = block_of(&w->shop->level, w->persons * 8);
+    if (!costs) return 1;
+    for (size_t i = 0; i < w->persons; i++) {
+        uint32_t place = place_of(w, i, w->choice[i]);
+        if (w->q.type == 'd')
+            costs[i] = float_at(w, place);
+        else
+            w->sum += w->sign * (w->q.type == 'q' ? (__int128)((const int64_t *)w->q.costs)[place] : (__int128)((const uint64_t *)w->q.costs)[place]);
+    }
+    if (w->q.type == 'd') sum_up_all(w, costs, w->persons);
+    return 0;
 }
 
 /* Whether a choice is a gate. */
 static int uses_gate(const job *w) {
-    for (size_t i = 0; w->gate_cost && i < w->table.persons; i++)
-        if (w->own_costs[i * w->table.objects + w->choice[i]] == w->gate_cost) return 1;
+    for (size_t i = 0; w->gate_cost && i < w->persons; i++)
+        if (whole_at(w, w->choice[i]) == w->gate_cost) return 1;
     return 0;
 }
 
@@ -76,11 +83,11 @@ static int by_size(const void *one, const void *other) {
 /* A number to add to prices from 0, below `step`, so that no price of a choice is less than `span` above a multiple of `step`, which is more than
  * `span` times the choices. -1 where there is no memory. */
 static __int128 offset_of(const job *w, const __int128 *prices, __int128 step, __int128 span) {
-    size_t persons = w->table.persons;
+    size_t persons = w->persons;
     __int128 *from = malloc(persons * sizeof *from), offset = -1;
     if (!from) return -1;
     /* Each choice forbids `span` numbers from here. */
-    for (size_t i = 0; i < persons; i++) from[i] = (step - prices[w->choice[i]] % step) % step;
+    for (size_t i = 0; i < persons; i++) from[i] = (step - prices[object_of(w, i, w->choice[i])] % step) % step;
     qsort(from, persons, sizeof *from, by_size);
     for (size_t i = 0; offset < 0 && i < persons; i++)
         if ((i + 1 < persons ? from[i + 1] : from[0] + step) - from[i] > span) offset = (from[i] + span) % step;
@@ -90,11 +97,11 @@ static __int128 offset_of(const job *w, const __int128 *prices, __int128 step, _
 
 /* Takes prices from 0, in a unit, to those of the matrix with its gate as it is: EXACT.md says why. 1 where they are beyond 128 bits, or there is no memory. */
 static int lift(const job *w, __int128 *prices, int unit) {
-    size_t objects = w->table.objects;
+    size_t objects = w->objects;
     __int128 step = (__int128)w->gate_cost << (unit - w->unit), span = (__int128)w->gate_span << (unit - w->unit), most = 0;
     double gate = ldexp(w->gate, unit);
     for (size_t j = 0; j < objects; j++) most = prices[j] > most ? prices[j] : most;
-    double times = (double)(most / step + 2) * (double)(w->table.persons + 1);
+    double times = (double)(most / step + 2) * (double)(w->persons + 1);
     if (!(fabs(gate) * times < ldexp(1, 120)) || (double)most * times > ldexp(1, 120) || nearbyint(gate) != gate) return 1;
     __int128 more = (__int128)gate - step - (__int128)w->least * ((__int128)1 << (unit - w->unit)), offset = offset_of(w, prices, step, span);
     for (size_t j = 0; j < objects; j++) prices[j] += more * ((prices[j] + offset) / step);
@@ -104,30 +111,28 @@ static int lift(const job *w, __int128 *prices, int unit) {
 /* Prices of all levels together, as the answer has them, where they are within 128 bits: else Python puts them together. 1 where there is no memory,
  * or Python has to solve the matrix. */
 int combine(job *w) {
-    const table *t = &w->table;
-    size_t objects = t->objects;
+    size_t objects = w->objects, persons = w->persons;
     w->are_narrow = w->is_small;
+    for (size_t j = 0; w->is_small && w->are_whole && j < objects; j++) w->prices[j] *= (int64_t)persons + 1;
     if (w->is_small) return 0;
-    int last = w->levels ? w->units[w->levels - 1] : w->unit, lifts = uses_gate(w), is_whole = w->has_tails;
-    if (!is_whole && (last < 0 || lifts)) {
-        uint8_t *seen = block_of(&w->shop->level, t->persons + 1);
-        if (!seen) return 1;
-        make_whole(w->prices, objects, w->choice, t->persons, seen);
-        is_whole = 1;
-    }
-    if (last < 0 || last - w->unit > 60) return lifts;
+    int last = w->levels ? w->units[w->levels - 1] : w->unit, lifts = uses_gate(w);
+    if (last < 0) last = 0;
+    int is_wide = last - w->unit > 60;
+    if (is_wide && !w->are_whole) return 1;
+    if (is_wide) return lifts;
     __int128 *combined = block_of(&w->shop->round, objects * sizeof *combined), least = 0;
     if (!combined) return 1;
     for (size_t j = 0; j < objects; j++) {
         combined[j] = (__int128)w->prices[j] << (last - w->unit);
         for (size_t k = 0; k < w->levels; k++) combined[j] += (__int128)w->changes[k * objects + j] * ((__int128)1 << (last - w->units[k]));
-        if (t->persons == objects && (j == 0 || combined[j] < least)) least = combined[j];
+        if (persons == objects && (j == 0 || combined[j] < least)) least = combined[j];
     }
     for (size_t j = 0; j < objects; j++) combined[j] -= least;
     if (lifts && lift(w, combined, last)) return 1;
     int are_narrow = 1;
     for (size_t j = 0; j < objects; j++) {
-        combined[j] *= is_whole ? (__int128)t->persons + 1 : 1;
+        /* Far below what 128 bits hold: prices of the library are to 2^61, and 60 places more. */
+        if (w->are_whole) combined[j] *= (__int128)persons + 1;
         are_narrow &= combined[j] >= INT64_MIN && combined[j] <= INT64_MAX;
     }
     w->are_narrow = are_narrow;

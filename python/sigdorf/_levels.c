@@ -14,15 +14,6 @@
 #define LANES 4
 #define MANY 24
 
-/* A level, as refinement.py has it: arcs by rising persons, of each where they begin and the place of his choice among them. */
-typedef struct {
-    size_t persons, objects;
-    int unit, is_settled;
-    uint32_t *first, *object, *pick;
-    int64_t *slack, *price;
-    double *tail;
-} level;
-
 /* A power of two as two factors, so that a float and its product may have any exponents. */
 typedef struct {
     double first, second;
@@ -33,12 +24,15 @@ static double times(double value, power by) { return value * by.first * by.secon
 
 static size_t count_of(const level *l) { return l->first[l->persons]; }
 
-/* Whether no arc of slack 0 has a smaller tail than its person's choice: then the choices are least, and the prices show it. */
-static int is_settled(const level *l) {
-    for (size_t i = 0; i < l->persons; i++)
-        for (size_t e = l->first[i]; e < l->first[i + 1]; e++)
-            if (l->slack[e] == 0 && l->tail[e] < l->tail[l->pick[i]]) return 0;
-    return 1;
+/* How many persons have an arc of slack 0 with a smaller tail than their choice. Where none has, the choices are least, and the prices show it. */
+static int64_t count_unsettled(const level *l) {
+    int64_t count = 0;
+    for (size_t i = 0; i < l->persons; i++) {
+        int has_better = 0;
+        for (size_t e = l->first[i]; e < l->first[i + 1]; e++) has_better |= l->slack[e] == 0 && l->tail[e] < l->tail[l->pick[i]];
+        count += has_better;
+    }
+    return count;
 }
 
 /* Whether all of a person's arcs up to a slack but his choice lead to objects that are gone. */
@@ -84,6 +78,7 @@ static void drop_far(level *l) {
             if (l->slack[e] > most) continue;
             if (l->pick[i] == e) l->pick[i] = (uint32_t)count;
             l->object[count] = l->object[e];
+            if (l->entry) l->entry[count] = l->entry[e];
             l->slack[count] = l->slack[e];
             l->tail[count++] = l->tail[e];
         }
@@ -172,12 +167,6 @@ typedef struct {
     uint32_t *from, *own;
 } nearby;
 
-static void *cut(char **at, size_t count, size_t size) {
-    char *part = *at;
-    *at += (count * size + 7) / 8 * 8;
-    return part;
-}
-
 /* Takes room for all parts of a round of so many arcs. 1 where there is no memory. */
 static int take_room(room *from, nearby *r, size_t persons, size_t objects, size_t count) {
     size_t numbers = 7 * persons + 1 + 3 * (objects + 1) + count, longs = 2 * (objects + 1) + persons + count;
@@ -232,8 +221,8 @@ static void list_near(const level *l, nearby *r, int64_t cost) {
     for (size_t i = 0; i < r->persons; i++) r->arcs[r->near + i] = (sigdorf_arc){cost, (uint32_t)i, (uint32_t)r->objects};
 }
 
-/* Solves a round: new choices, a worth of each person, and a change of each object's price. 1 where the library doesn't. */
-static int solve_near(level *l, nearby *r, int64_t gap) {
+/* Solves a round: new choices, a worth of each person, and a change of each object's price. Else the library's status, or 1. */
+static int solve_near(level *l, nearby *r, int64_t gap, uint64_t bids) {
     memset(r->worth, 0, l->persons * 8);
     memset(r->change, 0, l->objects * 8);
     if (gap == 0) return 0;
@@ -245,9 +234,9 @@ static int solve_near(level *l, nearby *r, int64_t gap) {
     memset(r->choice, 0, persons * 4);
     memset(r->hall, 0, persons * 4);
     const int64_t start = 0;
-    if (solve_arcs((uint32_t)persons, (uint32_t)objects, r->arcs, r->near + persons, &start, 0, SIGDORF_USUAL_BIDS, r->choice, persons, r->prices,
-                   objects, r->hall, persons, &found) != SIGDORF_OPTIMAL)
-        return 1;
+    int32_t status = solve_arcs((uint32_t)persons, (uint32_t)objects, r->arcs, r->near + persons, &start, 0, bids, r->choice, persons, r->prices, objects,
+                                r->hall, persons, &found);
+    if (status != SIGDORF_OPTIMAL) return status;
     for (size_t i = 0; i < persons; i++) {
         if (r->choice[i] >= r->near) return 1;
         r->picked[i] = r->arcs[r->choice[i]].object;
@@ -332,40 +321,42 @@ static int finer_by_prices(level *l, nearby *r) {
     step s = in_finer(l, MOST_FINER, r->finer);
     if (!relax(l, r, s)) return 1;
     for (size_t j = 0; j < l->objects; j++) r->change[j] >>= s.spare;
-    if (!s.has_tails) {
-        /* The last level: nobody looks at its slacks. */
-        l->unit += s.by - s.spare;
-        l->is_settled = 1;
-        return 0;
-    }
     take_finer(l, s, r->finer);
     for (size_t i = 0; i < l->persons; i++) r->worth[i] = l->slack[l->pick[i]] + r->change[l->object[l->pick[i]]];
     take_changes(l, r);
     return 0;
 }
 
-/* Takes the next level by choices of the library's. 1 where memory or the library doesn't. */
-static int finer_by_library(level *l, nearby *r) {
+/* Takes the next level by choices of the library's. Else the library's status, or 1. */
+static int finer_by_library(level *l, nearby *r, uint64_t bids) {
     step s = in_finer(l, step_of(l), r->finer);
     while (2 * (s.gap + 1) > SIGDORF_MOST_COST) s = in_finer(l, s.by - 1, r->finer);
     take_finer(l, s, r->finer);
-    if (solve_near(l, r, s.gap >> s.spare)) return 1;
-    take_changes(l, r);
-    return 0;
+    int status = solve_near(l, r, s.gap >> s.spare, bids);
+    if (!status) take_changes(l, r);
+    return status;
 }
 
-/* Room for the arcs of another row behind so many. 1 where there is no memory. */
-static int widen(workshop *shop, level *l, size_t count) {
-    if (shop->arcs - count < l->objects) {
-        size_t arcs = 4 * (shop->arcs + l->objects);
-        void *object = realloc(shop->object, arcs * 4), *slack = realloc(shop->slack, arcs * 8), *tail = realloc(shop->tail, arcs * 8);
-        if (object) shop->object = object;
+/* Room for so many arcs of another person behind so many. 1 where there is no memory. */
+static int widen(const job *w, level *l, size_t count, size_t more) {
+    workshop *shop = w->shop;
+    int has_slacks = w->arcs || w->has_tails;
+    if (shop->arcs - count < more) {
+        size_t arcs = 4 * (shop->arcs + more);
+        void *object = realloc(shop->object, arcs * 4);
+        if (!object) return 1;
+        shop->object = object, shop->arcs = arcs;
+    }
+    if (has_slacks && shop->slacks < shop->arcs) {
+        void *entry = realloc(shop->entry, shop->arcs * 4), *slack = realloc(shop->slack, shop->arcs * 8), *tail = realloc(shop->tail, shop->arcs * 8);
+        if (entry) shop->entry = entry;
         if (slack) shop->slack = slack;
         if (tail) shop->tail = tail;
-        if (!object || !slack || !tail) return 1;
-        shop->arcs = arcs;
+        if (!entry || !slack || !tail) return 1;
+        shop->slacks = shop->arcs;
     }
-    l->object = shop->object, l->slack = shop->slack, l->tail = shop->tail;
+    l->object = shop->object, l->entry = w->arcs ? shop->entry : NULL;
+    l->slack = has_slacks ? shop->slack : NULL, l->tail = has_slacks ? shop->tail : NULL;
     return 0;
 }
 
@@ -421,39 +412,66 @@ static size_t list_below_of_many(const int64_t *restrict row, const int64_t *res
     return count;
 }
 
-/* Lists the arcs of a person that aren't far at the prices. 1 where the matrix was written meanwhile. */
-static int list_row(const job *w, level *l, size_t person) {
-    size_t first = l->first[person], choice = w->choice[person];
-    const int64_t *row = w->costs + person * w->stride, *prices = w->prices;
-    int64_t own = row[choice] + prices[choice];
-    double cost, mine;
-    int is_other = cost_of(w, person, choice, &cost, &mine);
-    int are_many = !w->has_gaps && (l->objects < 2 * MANY || (person && (first - l->first[person - 1]) * MANY > l->objects));
-    size_t end = first + (are_many ? list_below_of_many : list_below)(row, prices, l->objects, own + 4 * (int64_t)l->persons + 17, l->object + first);
-    for (size_t e = first; e < end; e++) {
-        size_t j = l->object[e];
-        l->slack[e] = row[j] + prices[j] - own;
-        is_other |= cost_of(w, person, j, &cost, &l->tail[e]);
-        if (l->slack[e] == 0 && l->tail[e] < mine) l->is_settled = 0;
-        if (j == choice) l->pick[person] = (uint32_t)e;
+/* The same of a person's entries. */
+static size_t list_entries_below(const job *w, const level *l, size_t person, int64_t limit, size_t first) {
+    size_t count = 0;
+    for (size_t k = w->first[person]; k < w->first[person + 1]; k++) {
+        l->object[first + count] = w->arcs[k].object;
+        l->entry[first + count] = (uint32_t)k;
+        count += w->arcs[k].cost + l->price[w->arcs[k].object] < limit;
     }
+    return count;
+}
+
+/* Lists the columns of a person's row. */
+static size_t list_row_below(const job *w, const level *l, size_t person, int64_t limit, size_t first) {
+    const int64_t *row = w->costs + person * w->objects;
+    int are_many = !w->has_gaps && (l->objects < 2 * MANY || (person && (first - l->first[person - 1]) * MANY > l->objects));
+    return (are_many ? list_below_of_many : list_below)(row, l->price, l->objects, limit, l->object + first);
+}
+
+/* Lists the arcs of a person that are less than a window worse than his choice. 1 where there is no memory, or the costs were written meanwhile. */
+static int list_person(const job *w, level *l, size_t person, int64_t window) {
+    size_t first = l->first[person], choice = w->choice[person];
+    if (widen(w, l, first, w->arcs ? w->first[person + 1] - w->first[person] + 1 : l->objects)) return 1;
+    int64_t own = whole_at(w, choice) + l->price[object_of(w, person, choice)];
+    size_t end = first + (w->arcs ? list_entries_below : list_row_below)(w, l, person, own + window, first);
     l->first[person + 1] = (uint32_t)end;
+    if (!l->tail) {
+        l->pick[person] = (uint32_t)arc_from(l, person, (uint32_t)object_of(w, person, choice));
+        return 0;
+    }
+    double mine = 0;
+    int is_other = w->has_tails && tail_of(w, person, choice, &mine);
+    for (size_t e = first; e < end; e++) {
+        size_t entry = entry_of(w, l, person, e);
+        l->slack[e] = whole_at(w, entry) + l->price[l->object[e]] - own;
+        l->tail[e] = 0;
+        if (w->has_tails) is_other |= tail_of(w, person, entry, &l->tail[e]);
+        if (l->slack[e] == 0 && l->tail[e] < mine) l->is_settled = 0;
+        if (entry == choice) l->pick[person] = (uint32_t)e;
+    }
     return is_other;
 }
 
-/* The first level, of a matrix that was solved in whole units: its prices are made whole. 1 where there is no memory. */
+/* The first level, of a problem that was solved in whole units: its prices are made whole. Of whole costs it has just the arcs that are as good as the
+ * choices. 1 where there is no memory. */
 static int first_level(job *w, level *l) {
-    size_t persons = w->table.persons, objects = w->table.objects;
+    size_t persons = w->persons, objects = w->objects;
     char *at = block_of(&w->shop->level, (2 * persons + 1) * 4 + objects * 8 + persons + 1 + 4 * 8);
     if (!at) return 1;
     l->price = cut(&at, objects, 8);
     l->pick = cut(&at, persons, 4);
     l->first = cut(&at, persons + 1, 4);
-    make_whole(w->prices, objects, w->choice, persons, cut(&at, persons + 1, 1));
+    for (size_t i = 0; i < persons; i++) l->pick[i] = (uint32_t)object_of(w, i, w->choice[i]);
+    memcpy(l->price, w->prices, objects * 8);
+    make_whole(l->price, objects, l->pick, persons, cut(&at, persons + 1, 1));
+    memcpy(w->prices, l->price, objects * 8);
+    w->are_whole = 1;
     l->persons = persons, l->objects = objects, l->unit = w->unit, l->is_settled = 1, l->first[0] = 0;
     for (size_t i = 0; i < persons; i++)
-        if (widen(w->shop, l, l->first[i]) || list_row(w, l, i)) return 1;
-    for (size_t j = 0; j < objects; j++) l->price[j] = objects == persons ? 0 : w->prices[j] < PLENTY ? w->prices[j] : PLENTY;
+        if (list_person(w, l, i, w->has_tails ? 4 * (int64_t)persons + 17 : 1)) return 1;
+    for (size_t j = 0; j < objects; j++) l->price[j] = objects == persons ? 0 : l->price[j] < PLENTY ? l->price[j] : PLENTY;
     return 0;
 }
 
@@ -471,26 +489,41 @@ static int keep_change(job *w, const level *l, const nearby *r) {
     return 0;
 }
 
+/* Where the bids of a round didn't suffice, the choices of the level before it are answered: whoever has a better arc gains less than a unit by it. */
+static int take_gap(job *w, int status, int64_t left, int unit) {
+    w->gap = left;
+    w->gap_unit = unit;
+    return status != SIGDORF_BRACKET || !w->q.wants_prices || w->gate_cost;
+}
+
 /* Takes levels until the choices are the least. 1 where Python has to do it. */
 static int settle(job *w, level *l, nearby *r) {
-    if (!w->wants_prices && is_only(l, r->choice, r->seen)) return 0;
     while (!l->is_settled) {
-        if (finer_by_prices(l, r) && finer_by_library(l, r)) return 1;
-        if (w->wants_prices && keep_change(w, l, r)) return 1;
-        if (l->is_settled || (l->is_settled = is_settled(l))) return 0;
+        int unit = l->unit;
+        if (finer_by_prices(l, r)) {
+            int64_t left = count_unsettled(l);
+            int status = finer_by_library(l, r, w->q.bids);
+            if (status) return take_gap(w, status, left, unit);
+        }
+        if (w->q.wants_prices && keep_change(w, l, r)) return 1;
+        if (l->is_settled || (l->is_settled = !count_unsettled(l))) return 0;
         drop_far(l);
     }
     return 0;
 }
 
-/* From a solution in whole units to one of the costs as they stand. 1 where Python has to do it. */
+/* From a solution in whole units to the first least one of the costs as they stand. 1 where Python has to do it. */
 int refine(job *w) {
-    size_t persons = w->table.persons, objects = w->table.objects;
     level l = {0};
     nearby r = {0};
     if (first_level(w, &l)) return 1;
-    if (l.is_settled) return 0;
-    if (take_room(&w->shop->round, &r, persons, objects, count_of(&l)) || settle(w, &l, &r)) return 1;
-    for (size_t i = 0; i < persons; i++) w->choice[i] = l.object[l.pick[i]];
+    int is_one = 0;
+    if (!l.is_settled) {
+        if (take_room(&w->shop->round, &r, l.persons, l.objects, count_of(&l))) return 1;
+        is_one = !w->q.wants_prices && is_only(&l, r.choice, r.seen);
+        if (!is_one && settle(w, &l, &r)) return 1;
+    }
+    if (!is_one && !w->gap && take_first(&l)) return 1;
+    for (size_t i = 0; i < l.persons; i++) w->choice[i] = (uint32_t)entry_of(w, &l, i, l.pick[i]);
     return 0;
 }

@@ -68,3 +68,10 @@ def float_below(amount):
     """The greatest float that isn't above a Fraction."""
     found = nearest_float(amount)
     return found if found == -math.inf or found <= amount else math.nextafter(found, -math.inf)
+
+
+def outer_bound(amount, maximize, is_whole):
+    """A bound as solutions show it, rounded away from all sums: whole where they are."""
+    outer = -amount if maximize else amount
+    shown = math.floor(outer) if is_whole else float_below(outer)
+    return -shown if maximize else shown

@@ -9,6 +9,8 @@ MOST_PERSONS, MOST_OBJECTS, MOST_ENTRIES = 10_000, 20_000, 33_554_432
 MOST_BIDS = 2**64 - 1
 MOST_INDEX = 2**32 - 2
 INT64 = -(2**63), 2**63 - 1
+# The highest price that a start may have, on the scale of whole costs times persons + 1.
+HIGHEST_START = 2**60
 
 
 def number(value, name, least, most):

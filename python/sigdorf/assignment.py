@@ -3,21 +3,13 @@ import functools
 import time
 import typing
 
-import numpy
 from numpy.typing import ArrayLike
 
-from .arguments import INT64, MOST_BIDS, number, whole_numbers
+from .asked import Asked, bids_of
 from .claims import check_claim
-from .exact import Answer
-from .fast import is_there, solution_of
-from .library import START_FAULTS, USUAL_BIDS
-from .matrices import entries_of, is_sparse, numbers_of
-from .problem import Lists, Problem
-from .slices import Slices, answer_in_slices, look_at_progress, seconds_of
+from .library import USUAL_BIDS
+from .slices import Slices, progress_of, seconds_of, solve_in_slices
 from .solution import Solution
-from .tables import NUMBERS, named
-
-HIGHEST_START = 2**60
 
 
 def solve(
@@ -63,72 +55,18 @@ def solve(
 
     Raises Infeasible where there is no full assignment, ValueError where an argument is at fault (a masked array among them), and MemoryError.
     KeyboardInterrupt gets away from a long call at once; the search itself runs on to its end in a thread of its own, unseen.
+
+    >>> solution = sigdorf.solve([0, 0, 1, 1], [0, 1, 0, 1], [1, 2.5, 1, 4])
+    >>> solution.rows.tolist(), solution.columns.tolist(), solution.cost
+    ([0, 1], [1, 0], 3.5)
     """
     began = time.monotonic()
-    is_sliced = not (seconds is None and progress is None)
-    if columns is None and costs is None and shape is None and start is None and decimals is None and bids is USUAL_BIDS and not is_sliced:
-        found = _quick(rows, maximize) if maximize is True or maximize is False else None
-        if found is not None:
-            return found
-    seconds = seconds_of(seconds)
-    look_at_progress(progress)
-    problem = _problem_of(rows, columns, costs, shape, maximize, decimals)
-    start, bids = _start_of(problem, start), number(bids, "bids", 0, MOST_BIDS)
-    if not is_sliced:
-        return problem.solution(answer_of(problem, start, bids))
-    slices = Slices(problem, seconds, bids, began)
-    return problem.solution(answer_in_slices(problem, functools.partial(answer_of, problem, start), slices, progress))
-
-
-def _quick(table, maximize):
-    """The Solution of a dense table by the extension, or None where it has to be looked at closer."""
-    names = NUMBERS
-    if type(table) is not numpy.ndarray:
-        if not is_there() or is_sparse(table):
-            return None
-        table, names = named(table)
-        table = numbers_of(table)
-    found = solution_of(table, maximize)
-    if found is None or names is NUMBERS:
-        return found
-    return found._replace(labels=list(zip(*names.of(found.rows, found.columns))))
-
-
-def _problem_of(rows, columns, costs, shape, maximize, decimals):
-    """The problem of a caller's lists, or of a table alone."""
-    return Problem(lists_of(rows, columns, costs, shape, maximize), maximize, decimals)
-
-
-def lists_of(rows, columns, costs, shape, maximize):
-    """The Lists of a caller, or those of a table alone."""
-    if columns is not None or costs is not None:
-        return Lists(rows, columns, costs, shape)
-    if shape is not None:
-        raise ValueError("a table has a shape of its own")
-    table, names = named(rows)
-    return Lists(*entries_of(table, maximize, names), names)
-
-
-def answer_of(problem, start, bids, words="no full assignment exists"):
-    """The Answer to a problem; these words begin an Infeasible."""
-    bids = number(bids, "bids", 0, MOST_BIDS)
-    if problem.persons == 0:
-        return Answer(numpy.zeros(0, numpy.int64), [(numpy.zeros(problem.objects, numpy.int64), 0)], 1, 0)
-    return problem.answered(start, bids, words)
-
-
-def _start_of(problem, start):
-    """The prices of a start, or none at all where there is no start. What the library takes for none, an empty list, is a fault."""
-    if start is None:
-        return numpy.zeros(0, numpy.int64)
-    start = whole_numbers(start, "start", *INT64)
-    if len(start) != problem.objects:
-        raise ValueError(START_FAULTS[2])
-    outside = (start < 0) | (start > HIGHEST_START)
-    if outside.any():
-        raise ValueError(START_FAULTS[3].format(place=numpy.argmax(outside)))
-    finer, coarser = max(problem.costs.unit, 0), max(-problem.costs.unit, 0)
-    return numpy.minimum(start, HIGHEST_START >> finer) << finer >> coarser
+    asked = Asked(rows, columns, costs, shape, maximize, decimals)
+    start, bids = asked.start_of(start), bids_of(bids)
+    if seconds is None and progress is None:
+        return asked.solution(start, bids)
+    slices = Slices(asked.costs.size, min(asked.sides), seconds_of(seconds), bids, began)
+    return solve_in_slices(functools.partial(asked.solution, start), slices, asked.maximize, progress_of(progress))
 
 
 def check(
@@ -145,6 +83,13 @@ def check(
 
     The other arguments are those of :func:`solve`, and a ValueError says which one is at fault. Whoever found the solution is not trusted: type,
     length and range of each of its parts are looked at, and each number exactly; nothing of the solver is used. What a limit has ended
-    (`is_optimal` is False) is refused. O(entries) time.
+    (`is_optimal` is False) is refused. O(entries) time. An assignment without prices is what :func:`certify` takes.
+
+    >>> table = [[1, 2], [1, 4]]
+    >>> sigdorf.check(sigdorf.solve(table), table)
+    >>> sigdorf.check(sigdorf.solve(table), [[0, 2], [1, 4]])
+    Traceback (most recent call last):
+        ...
+    sigdorf.faults.Refused: number 0 has a better entry at these prices
     """
-    check_claim(_problem_of(rows, columns, costs, shape, maximize, decimals), solution)
+    check_claim(Asked(rows, columns, costs, shape, maximize, decimals).problem, solution)

@@ -5,7 +5,7 @@ import math
 
 import numpy
 
-from .amounts import exact_sum, float_below, nearest_float
+from .amounts import exact_sum, nearest_float, outer_bound
 
 MOST = 10**9
 MOST_DECIMALS = 9
@@ -64,8 +64,7 @@ class Costs:
 
     def shown_bound(self, amount):
         """A bound as solutions show it, rounded away from all sums."""
-        outer = self._sign * amount
-        return self._sign * (math.floor(outer) if self._has_whole_sums() else float_below(outer))
+        return outer_bound(amount, self._sign < 0, self._has_whole_sums())
 
     def _has_whole_sums(self):
         return self._given.dtype.kind != "f" or self.is_whole and self.unit == 0

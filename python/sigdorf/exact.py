@@ -6,6 +6,7 @@ import numpy
 
 from .near import OutOfBids
 from .refinement import first_level
+from .ties import take_first
 from .whole import solve_whole, whole_prices
 
 
@@ -23,22 +24,25 @@ class Answer(typing.NamedTuple):
 
 
 def solve_costs(persons, objects, arcs, costs, start, bids):
-    """The Answer to a problem of these arcs and Costs. Raises NoAssignment."""
+    """The Answer to a problem of these arcs and Costs: the first of the least ones. Raises NoAssignment."""
     found = solve_whole(persons, objects, arcs, start, bids)
     unit, above = costs.unit, found.cost - found.lower
-    if above or costs.is_whole and unit >= 0:
+    if above:
         # The tails of an assignment are half a unit for each person at most, and so are those of another one.
         gap = above if costs.is_whole else above + persons
         return Answer(found.choice, [(found.prices, unit)], persons + 1, abs(costs.amount(gap)))
     prices = whole_prices(persons, found.prices, arcs["object"][found.choice])
     if costs.is_whole:
-        return Answer(found.choice, [(prices, unit)], 1, fractions.Fraction(0))
+        slack = costs.whole + prices[arcs["object"]]
+        tight = numpy.flatnonzero(slack == slack[found.choice][arcs["person"]])
+        choice = take_first(arcs, tight, found.choice, (prices > 0) & (objects > persons))
+        return Answer(choice, [(prices, unit)], 1, fractions.Fraction(0))
     # Floats that run under are next to nothing in a unit: a caller who has numpy raise that has no use of it here.
     with numpy.errstate(all="ignore"):
-        return _refined(first_level(arcs, objects, costs, found.choice, prices), prices, bids)
+        return _refined(arcs, first_level(arcs, objects, costs, found.choice, prices), prices, bids)
 
 
-def _refined(level, prices, bids):
+def _refined(arcs, level, prices, bids):
     """The Answer that finer levels come to, from the first one with its prices."""
     levels, left = [(prices, level.unit)], level.unsettled()
     try:
@@ -48,9 +52,12 @@ def _refined(level, prices, bids):
             left = level.unsettled()
     except OutOfBids:
         pass
+    choice = level.place[level.pick]
+    if not left:
+        choice = take_first(arcs, level.place[level.tight()], choice, level.price > 0)
     # Whoever has a better arc gains less than a unit by it.
     gap = left / fractions.Fraction(2) ** level.unit
-    return Answer(level.place[level.pick], levels, 1, gap)
+    return Answer(choice, levels, 1, gap)
 
 
 def combined(levels):

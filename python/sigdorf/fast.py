@@ -1,22 +1,25 @@
-"""Dense matrices by the extension `_fast`, where it was built and the library has the call that it makes.
+"""The extension `_fast`, where it was built and the library has the calls that it makes: the one road of tables, matrices and lists.
 
-Without it, and wherever it answers None, the rest of the package solves the same: it is slower, and knows what to say of a fault.
+Without it, and wherever it answers None, the rest of the package solves the same with the same pairs: it is slower, and knows what to say of a fault.
 """
-import ctypes
+import fractions
 import os
 
 import numpy
 
-from .amounts import exact_sum, fraction_of, nearest_float
+from .amounts import exact_sum, fraction_of, nearest_float, outer_bound
+from .arguments import MOST_ENTRIES
 from .exact import Answer, priced
-from .library import address_of
+from .library import USUAL_BIDS, address_of
 from .solution import Solution
 from .waiting import call_waiting
 
-# A call with fewer entries ends so soon that a thread of its own isn't worth its time.
-FEWEST = 1 << 16
+# A call of a table with fewer entries, or of a list with fewer, ends so soon that a thread of its own isn't worth its time.
+FEWEST, FEWEST_LISTED = 1 << 16, 1 << 13
 # That of the extension of these sources; one that was built of others isn't used.
-INTERFACE = 4
+INTERFACE = 5
+ARRAY = numpy.ndarray
+FLOAT, WHOLE, NATURAL = map(numpy.dtype, ("f8", "i8", "u8"))
 
 
 def _bound():
@@ -42,38 +45,69 @@ def is_there():
     return _extension is not None
 
 
-def pairs_of(matrix, maximize):
-    """Rows and columns of a least assignment of an array, or None where it has to be looked at closer."""
-    if _extension is None or type(matrix) is not numpy.ndarray:
+def plain(numbers):
+    """An array of numbers as one of native doubles or whole numbers of 64 bits, row by row: itself where it is that, or no such array can be made of it."""
+    kind = numbers.dtype
+    if (kind is FLOAT or kind is WHOLE) and numbers.flags.c_contiguous:
+        return numbers
+    if kind.kind not in "biuf" or numbers.size > MOST_ENTRIES:
+        return numbers
+    if kind.itemsize > 8:
+        return _narrow(numbers)
+    try:
+        return numbers.astype(FLOAT if kind.kind == "f" else NATURAL if kind.kind == "u" and kind.itemsize == 8 else WHOLE, order="C", copy=False)
+    except (FloatingPointError, RuntimeWarning):
+        # A caller has numpy raise where a number that isn't one is met, which is told later.
+        return numbers
+
+
+def _narrow(numbers):
+    """Long floats as doubles, where nothing is lost."""
+    with numpy.errstate(all="ignore"):
+        narrow = numbers.astype(FLOAT, order="C")
+        return narrow if (narrow == numbers).all() else numbers
+
+
+def found(problem, maximize, wants_prices, limit=None, start=None, bids=USUAL_BIDS):
+    """What the extension finds of a plain table, or of (rows, columns, costs, number of rows, number of columns): None where it has to be looked at closer.
+
+    The arrays of the pairs; with a limit their places too, and rows and columns that stay free. Or the parts of a solution, where prices are wanted.
+    """
+    if _extension is None:
         return None
-    if matrix.size < FEWEST:
-        return _extension.pairs(matrix, maximize)
-    return call_waiting(True, _extension.pairs, matrix, maximize)
+    if problem[2].size < FEWEST_LISTED if type(problem) is tuple else problem.size < FEWEST:
+        return _extension.found(problem, maximize, wants_prices, limit, start, bids)
+    return call_waiting(True, _extension.found, problem, maximize, wants_prices, limit, start, bids)
 
 
-def solution_of(matrix, maximize):
-    """The Solution of an array, or None where it has to be looked at closer."""
-    if _extension is None or type(matrix) is not numpy.ndarray:
-        return None
-    parts = call_waiting(matrix.size >= FEWEST, _extension.solved, matrix, maximize)
-    return None if parts is None else _made(matrix, maximize, parts)
+def solution_of(problem, maximize, start=None, bids=USUAL_BIDS):
+    """The Solution of such a problem, or None."""
+    parts = found(problem, maximize, True, None, start, bids)
+    return None if parts is None else _made(problem, maximize, parts)
 
 
-def solutions_of(matrices, maximize):
-    """The Solution of each array of a list, or None in its place."""
-    return [
-        None if parts is None else _made(matrix, maximize, parts) for matrix, parts in zip(matrices, _extension.solved_all(matrices, maximize))
-    ]
+def solutions_of(tables, maximize):
+    """The Solution of each plain table of a list, or None in its place."""
+    return [None if parts is None else _made(table, maximize, parts) for table, parts in zip(tables, _extension.found_all(tables, maximize))]
 
 
-def _made(matrix, maximize, parts):
+def _made(problem, maximize, parts):
     """The Solution of what the extension has found."""
-    rows, columns, entries, prices, unit, total, total_unit, shown = parts
-    exact = exact_sum(matrix[rows, columns].astype(numpy.float64, copy=False)) if total is None else fraction_of(total, total_unit)
+    pairs, prices, unit, total, total_unit, shown, gap, gap_unit = parts
+    rows, columns, places = pairs
+    if total is None:
+        exact = exact_sum(problem[2][places] if type(problem) is tuple else problem[rows, columns])
+    else:
+        exact = fraction_of(total, total_unit)
     if shown is None:
         shown = nearest_float(exact)
     if type(prices) is tuple:
-        prices, scale = priced(len(rows), max(matrix.shape), Answer(None, prices, 1, 0))
+        sides = problem[3:] if type(problem) is tuple else problem.shape
+        prices, scale = priced(len(rows), max(sides), Answer(None, prices, 1, 0))
     else:
         prices, scale = numpy.array(prices, object) if type(prices) is list else prices, (len(rows) + 1) << unit
-    return Solution(rows, columns, entries, shown, shown, prices, scale, exact)
+    if not gap:
+        return Solution(rows, columns, places, shown, shown, prices, scale, exact)
+    gap = fractions.Fraction(gap) / fractions.Fraction(2) ** gap_unit
+    bound = outer_bound(exact + gap if maximize else exact - gap, maximize, type(shown) is int)
+    return Solution(rows, columns, places, shown, bound, prices, scale, exact, gap)

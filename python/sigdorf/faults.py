@@ -10,6 +10,11 @@ class Infeasible(ValueError):
     `rows` and `columns` are arrays of indices, rising. Where there are more rows than columns it is the other way round: the entries of
     these columns lead to just these rows, which are fewer, and `by_columns` is True. `labels` are the names of these rows and of these
     columns, where the problem was a table that has names, and else None.
+
+    >>> sigdorf.solve([0, 1], [0, 0], [5, 6], (2, 2))
+    Traceback (most recent call last):
+        ...
+    sigdorf.faults.Infeasible: no full assignment exists: 2 rows have entries in only 1 column (rows 0, 1; column 0)
     """
 
     def __init__(self, rows, columns, by_columns=False, words="no full assignment exists", labels=None):
@@ -37,11 +42,23 @@ def _listed(name, some):
 
 
 class Mistyped(TypeError, ValueError):
-    """An argument is of a type that isn't taken: a TypeError, as SciPy raises, and a ValueError, as the other faults of arguments here."""
+    """An argument is of a type that isn't taken: a TypeError, as SciPy raises, and a ValueError, as the other faults of arguments here.
+
+    >>> sigdorf.linear_sum_assignment([["1"]])
+    Traceback (most recent call last):
+        ...
+    sigdorf.faults.Mistyped: Cannot cast array data from dtype('<U1') to dtype('float64') according to the rule 'safe'
+    """
 
 
 class Refused(ValueError):
-    """A solution doesn't hold of a problem: the message says why."""
+    """A solution doesn't hold of a problem: the message says why.
+
+    >>> sigdorf.certify([0, 0], [0, 1], [[1, 2], [1, 4]])
+    Traceback (most recent call last):
+        ...
+    sigdorf.faults.Refused: row 0 stands 2 times
+    """
 
 
 class Unsettled(RuntimeError):
@@ -49,6 +66,13 @@ class Unsettled(RuntimeError):
 
     `solution` is what the search came to: a full assignment, its cost, and the bound that none is better than. It is no ValueError: those who
     take that for a problem without an assignment would be wrong here.
+
+    >>> inf = float("inf")
+    >>> try:
+    ...     sigdorf.linear_sum_assignment([[1, 2, inf], [1, 4, 9], [inf, 3, 7]], bids=0)
+    ... except sigdorf.Unsettled as fault:
+    ...     print(fault.solution.bound <= 10 <= fault.solution.cost)
+    True
     """
 
     def __init__(self, solution):

@@ -5,22 +5,24 @@ import typing
 import numpy
 from numpy.typing import ArrayLike
 
+from . import fast
 from .amounts import exact_sum, nearest_float
 from .arguments import MOST_OBJECTS, attempt, is_whole, truth
-from .assignment import answer_of, lists_of
+from .asked import NO_ASSIGNMENT, Asked, bids_of
 from .costs import costs_of
-from .fast import is_there, pairs_of
 from .faults import Unsettled
 from .library import USUAL_BIDS
 from .problem import Lists, Problem
 from .scipy_calls import linear_sum_assignment
-
-# Types of which each number is a float of 64 bits, and up to where each whole number is.
-EXACT_AS_FLOATS, MOST_EXACT = tuple(map(numpy.dtype, ("f8", "f4", "i4", "i2", "i1", "u4", "u2", "u1"))), 2**53
+from .shown import equal, hashed, shown_list, shown_pairs, unequal
 
 
 class Match(typing.NamedTuple):
-    """Pairs of rows and columns, and those that stay free."""
+    """Pairs of rows and columns, and those that stay free. Two are equal where all parts of them are.
+
+    >>> sigdorf.match([[1.0, 9.0], [9.0, 8.0]], 2.0)
+    Match(pairs={0: 0}, free_rows=[1], free_columns=[1])
+    """
 
     rows: numpy.ndarray
     """The rows that have a column, rising: int64."""
@@ -34,6 +36,11 @@ class Match(typing.NamedTuple):
     """The cost of each pair, as the caller gave it."""
     labels: list[tuple] | None = None
     """The names of each pair's row and column, where the table has names."""
+
+    def __repr__(self):
+        return f"Match(pairs={shown_pairs(self)}, free_rows={shown_list(self.free_rows)}, free_columns={shown_list(self.free_columns)})"
+
+    __eq__, __ne__, __hash__ = equal, unequal, hashed
 
 
 def match(
@@ -59,71 +66,56 @@ def match(
     bids: that of :func:`solve`.
 
     Raises ValueError where an argument is at fault, and Unsettled where a limit of the search ended it.
+
+    >>> found = sigdorf.match([[1.0, 9.0, 9.0], [9.0, 0.5, 9.0], [9.0, 0.75, 9.0]], 2.0)
+    >>> found.rows.tolist(), found.columns.tolist(), found.free_rows.tolist()
+    ([0, 1], [0, 1], [2])
     """
-    if rows is None and columns is None and shape is None and bids is USUAL_BIDS:
-        found = _match_of_array(costs, limit, maximize)
-        if found is not None:
-            return found
-    lists = lists_of(costs, None, None, shape, maximize) if rows is None and columns is None else lists_of(rows, columns, costs, shape, maximize)
-    if sum(lists.sides) > MOST_OBJECTS:
-        raise ValueError(f"rows and columns must number {MOST_OBJECTS:,} at most together")
-    # What isn't finite is refused before some costs are left out.
-    costs_of(lists.costs, None, maximize, lists.fault)
-    values, limit = _of_one_kind(lists.costs, limit)
-    some = numpy.flatnonzero(values >= limit if truth(maximize, "maximize") else values <= limit)
-    problem = Problem(_with_outlets(lists, some, values, limit), maximize, None)
-    answer = answer_of(problem, numpy.zeros(0, numpy.int64), bids)
-    if answer.gap:
-        raise Unsettled(problem.solution(answer))
-    return _without_outlets(lists, some[answer.choice[answer.choice < len(some)]])
-
-
-def _match_of_array(costs, limit, maximize):
-    """The Match of an array by the extension, or None where it has to be looked at closer."""
-    is_plain = type(costs) is numpy.ndarray and costs.ndim == 2 and costs.dtype in EXACT_AS_FLOATS and 0 < costs.size and sum(costs.shape) <= MOST_OBJECTS
-    if not (is_there() and is_plain and type(limit) in (int, float) and abs(limit) <= MOST_EXACT and type(maximize) is bool):
-        return None
-    by_columns = costs.shape[0] > costs.shape[1]
-    sides = sorted(costs.shape)
-    found = pairs_of(_gated(costs.T if by_columns else costs, limit, maximize), maximize)
+    listed = rows is not None or columns is not None
+    asked = Asked(rows, columns, costs, shape, maximize) if listed else Asked(costs, shape=shape, maximize=maximize)
+    bids = bids_of(bids)
+    limit = _limit_of(asked.costs, limit)
+    found = fast.found(asked.plain(_as_limit(asked.costs, limit)), asked.maximize, False, limit, None, bids)
     if found is None:
-        return None
-    some = found[1] < sides[1]
-    held = found[0][some], found[1][some]
-    free = [numpy.flatnonzero(numpy.bincount(numbers, minlength=side) == 0) for numbers, side in zip(held, sides)]
-    if by_columns:
-        order = numpy.argsort(held[1])
-        held, free = (held[1][order], held[0][order]), free[::-1]
-    return Match(*held, *free, costs[held])
+        return _by_lists(asked, limit, bids)
+    rows, columns, places, free_rows, free_columns = found
+    return Match(rows, columns, free_rows, free_columns, asked.costs[places] if asked.table is None else asked.table[rows, columns], asked.labels(rows, columns))
 
 
-def _gated(costs, limit, maximize):
-    """The table of these costs without those beyond the limit, and a way out for each row that is its own and costs the limit."""
-    rows, columns = costs.shape
-    none = -math.inf if maximize else math.inf
-    table = numpy.full((rows, columns + rows), none)
-    near = table[:, :columns]
-    # What is no number stays so, and is found later.
-    with numpy.errstate(all="ignore"):
-        near[:] = costs
-        near[near < limit if maximize else near > limit] = none
-    table.ravel()[columns :: columns + rows + 1] = limit
-    return table
-
-
-def _of_one_kind(costs, limit):
-    """The costs, and the limit as a number of their type; neither is rounded."""
+def _limit_of(costs, limit):
+    """The limit as a whole number of the costs' type, or a float; neither is rounded."""
     if costs.dtype.kind != "f" and is_whole(limit):
-        wide = costs.astype(numpy.uint64 if costs.dtype == numpy.uint64 else numpy.int64)
-        if not numpy.iinfo(wide.dtype).min <= limit <= numpy.iinfo(wide.dtype).max:
-            raise ValueError(f"limit must be within the type of the costs, {wide.dtype}")
-        return wide, wide.dtype.type(limit)
+        type_of_costs = numpy.iinfo(numpy.uint64 if costs.dtype == numpy.uint64 else numpy.int64)
+        if not type_of_costs.min <= limit <= type_of_costs.max:
+            raise ValueError(f"limit must be within the type of the costs, {type_of_costs.dtype}")
+        return int(limit)
     near = attempt(float, limit)
     if isinstance(limit, (str, bytes)) or near is None or not math.isfinite(near) or near != limit:
         raise ValueError("limit must be a finite number, that a float of 64 bits is")
-    if costs.dtype.kind != "f" and costs.size and max(-int(costs.min()), int(costs.max())) > 2**53:
+    if costs.dtype.kind in "biu" and costs.size and max(-int(costs.min()), int(costs.max())) > 2**53:
         raise ValueError("limit must be a whole number where costs are whole numbers beyond 2^53")
-    return costs.astype(numpy.float64), near
+    return near
+
+
+def _as_limit(costs, limit):
+    """The costs as numbers that can be compared with the limit; none is rounded."""
+    return costs.astype(numpy.float64) if type(limit) is float and costs.dtype.kind in "biu" else costs
+
+
+def _by_lists(asked, limit, bids):
+    """The Match, where the extension has none."""
+    lists = asked.lists
+    values = fast.plain(_as_limit(lists.costs, limit))
+    if sum(lists.sides) > MOST_OBJECTS:
+        raise ValueError(f"rows and columns must number {MOST_OBJECTS:,} at most together")
+    # What isn't finite is refused before some costs are left out.
+    costs_of(lists.costs, None, asked.maximize, lists.fault)
+    some = numpy.flatnonzero(values >= limit if asked.maximize else values <= limit)
+    problem = Problem(_with_outlets(lists, some, values, limit), asked.maximize, None)
+    solution = problem.solution(None, bids, NO_ASSIGNMENT)
+    if solution.gap:
+        raise Unsettled(solution)
+    return _without_outlets(lists, some[solution.entries[solution.entries < len(some)]])
 
 
 def _with_outlets(lists, some, values, limit):
@@ -156,6 +148,10 @@ def lapjv(cost: ArrayLike, extend_cost: bool = False, cost_limit: float = math.i
     return_cost: whether the sum is wanted; else the two arrays of int32 alone are answered.
 
     Raises Infeasible where there is no limit and no full assignment, and what :func:`match` does.
+
+    >>> total, of_row, of_column = sigdorf.lapjv([[1.0, 9.0], [9.0, 8.0]], cost_limit=2.0)
+    >>> total, of_row.tolist(), of_column.tolist()
+    (1.0, [0, -1], [0, -1])
     """
     matrix = numpy.asarray(cost)
     if matrix.ndim != 2:

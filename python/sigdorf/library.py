@@ -43,7 +43,7 @@ class Found(ctypes.Structure):
 
 
 def _path():
-    """The library that SIGDORF_LIBRARY names, or the one beside this module, or the one that `c/build` has made."""
+    """The library that SIGDORF_LIBRARY names, or the one beside this module, or the one that `c/build` has made, or an installed one."""
     named = os.environ.get("SIGDORF_LIBRARY")
     if named:
         return named
@@ -51,14 +51,17 @@ def _path():
     for path in (here.with_name("libsigdorf.so"), here.parents[2] / "c" / "out" / "libsigdorf.so"):
         if path.exists():
             return str(path)
-    raise ImportError("libsigdorf.so isn't there: make it by c/build, or name it in the variable SIGDORF_LIBRARY")
+    return "libsigdorf.so.1"
 
 
 PATH = _path()
 
 
 def _load():
-    library = ctypes.CDLL(PATH)
+    try:
+        library = ctypes.CDLL(PATH)
+    except OSError as fault:
+        raise ImportError(f"libsigdorf.so can't be loaded: make it by c/build, install it, or name it in the variable SIGDORF_LIBRARY ({fault})") from None
     number, pointer, size, found = ctypes.c_uint32, ctypes.c_void_p, ctypes.c_size_t, ctypes.POINTER(Found)
     problem = [number, number, pointer, size]
     library.sigdorf_solve.argtypes = [*problem, pointer, size, ctypes.c_uint64, *[pointer, size] * 3, found]
@@ -69,6 +72,15 @@ def _load():
 
 
 _library = _load()
+
+
+def version():
+    """The version of the library that was loaded, or None of one before 1.1 that doesn't tell it."""
+    call = getattr(_library, "sigdorf_version", None)
+    if call is None:
+        return None
+    call.restype = ctypes.c_char_p
+    return call().decode()
 
 
 def address_of(name):

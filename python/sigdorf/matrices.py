@@ -1,11 +1,11 @@
-"""Matrices of a caller, dense or sparse, as lists of entries."""
+"""Matrices of a caller, dense or sparse, as Lists of entries."""
 import numpy
 
-from .arguments import MOST_ENTRIES, MOST_OBJECTS, array_of, attempt, sides_of, truth, whole_numbers
+from .arguments import MOST_ENTRIES, MOST_OBJECTS, array_of, attempt, sides_of, whole_numbers
 from .costs import KINDS, look_at_rounding
 from .faults import Mistyped
 from .library import LIST_FAULTS
-from .problem import look_at_sides
+from .problem import Lists, look_at_sides
 from .tables import NUMBERS
 
 # The sparse formats that store what the caller has put there; others fill up with zeros, or leave some out.
@@ -17,12 +17,12 @@ def is_sparse(matrix):
     return attempt(lambda given: given.tocoo, matrix) is not None
 
 
-def entries_of(matrix, maximize, names=NUMBERS):
-    """Rows, columns, costs and shape of a matrix: of a sparse one what is stored, of a dense one all, and of both what isn't infinite.
+def lists_of_matrix(matrix, maximize, names=NUMBERS):
+    """The Lists of a matrix: of a sparse one what is stored, of a dense one all, and of both what isn't infinite.
 
     A ValueError tells a row and a column by these names.
     """
-    none = -numpy.inf if truth(maximize, "maximize") else numpy.inf
+    none = -numpy.inf if maximize else numpy.inf
     return _stored(matrix, none, names) if is_sparse(matrix) else _dense(matrix, none, names)
 
 
@@ -32,6 +32,30 @@ def _stored(matrix, none, names):
         raise ValueError(f"a sparse matrix must be of a format that stores its entries alone: {', '.join(FORMATS)}")
     shape = sides_of(attempt(lambda given: given.shape, matrix))
     look_at_sides(shape)
+    parts = _compressed(matrix, shape) if matrix.format == "csr" else _listed(matrix, shape)
+    rows, columns, costs = _summed(*parts, shape)
+    is_entry = _are_entries(costs, none, lambda place: names.told(rows[place], columns[place]))
+    lists = Lists(rows, columns, costs, shape, names)
+    return lists if is_entry is None else lists.where(is_entry)
+
+
+def _compressed(matrix, shape):
+    """Rows, columns and costs of a matrix by rows, or what another way makes of it where its parts are no such arrays."""
+    parts = attempt(lambda given: (given.indptr, given.indices, given.data), matrix)
+    are_arrays = parts is not None and all(type(part) is numpy.ndarray and part.ndim == 1 for part in parts)
+    if not are_arrays or parts[0].dtype.kind != "i" or parts[1].dtype.kind != "i" or parts[2].dtype.kind not in KINDS or len(parts[0]) != shape[0] + 1:
+        return _listed(matrix, shape)
+    counts, stored = parts[0][1:] - parts[0][:-1], len(parts[2])
+    if stored > MOST_ENTRIES or len(parts[1]) != stored or shape[0] and (parts[0][0] != 0 or parts[0][-1] != stored or counts.min() < 0):
+        return _listed(matrix, shape)
+    columns = parts[1].astype(numpy.int64)
+    if stored and not 0 <= columns.min() <= columns.max() < shape[1]:
+        return _listed(matrix, shape)
+    return numpy.repeat(numpy.arange(shape[0]), counts), columns, parts[2]
+
+
+def _listed(matrix, shape):
+    """Rows, columns and costs of a matrix of any of the formats."""
     entries = attempt(lambda given: given.tocoo(copy=False), matrix)
     parts = attempt(lambda given: (given.row, given.col, given.data), entries)
     if parts is None:
@@ -42,16 +66,17 @@ def _stored(matrix, none, names):
         raise Mistyped(f"expected a matrix containing numerical entries, got {costs.dtype}")
     if costs.ndim != 1 or not len(rows) == len(columns) == len(costs):
         raise ValueError("the sparse matrix must have a number for each of its entries")
-    rows, columns, costs = _summed(rows, columns, costs)
-    is_entry = _are_entries(costs, none, lambda place: names.told(rows[place], columns[place]))
-    return (rows, columns, costs, shape) if is_entry is None else (rows[is_entry], columns[is_entry], costs[is_entry], shape)
+    return rows, columns, costs
 
 
-def _summed(rows, columns, costs):
-    """The entries by rows and columns, with one of each pair: the sum, which a type of few bits might not hold."""
-    order = numpy.lexsort((columns, rows))
-    rows, columns, costs = rows[order], columns[order], costs[order]
-    firsts = numpy.flatnonzero((numpy.diff(rows, prepend=-1) != 0) | (numpy.diff(columns, prepend=-1) != 0))
+def _summed(rows, columns, costs, shape):
+    """The entries by rows and columns, with one of each pair: the sum, which a type of few bits might not hold. What is sorted isn't sorted again."""
+    places = rows * shape[1] + columns
+    if (places[1:] > places[:-1]).all():
+        return rows, columns, costs
+    order = numpy.argsort(places, kind="stable")
+    rows, columns, costs, places = rows[order], columns[order], costs[order], places[order]
+    firsts = numpy.flatnonzero(numpy.diff(places, prepend=-1))
     if len(firsts) == len(rows):
         return rows, columns, costs
     with numpy.errstate(all="ignore"):
@@ -87,14 +112,14 @@ def _dense(matrix, none, names):
         raise ValueError(LIST_FAULTS[3])
     if is_entry is None:
         rows, columns = numpy.indices(numbers.shape).reshape(2, -1)
-        return rows, columns, numbers.ravel(), numbers.shape
+        return Lists(rows, columns, numbers.ravel(), numbers.shape, names)
     rows, columns = numpy.nonzero(is_entry)
-    return rows, columns, numbers[rows, columns], numbers.shape
+    return Lists(rows, columns, numbers[rows, columns], numbers.shape, names)
 
 
 def _are_entries(costs, none, told):
     """Which costs are entries, or None where all are: those of floats that aren't the infinite one. A ValueError names the first that is none at all."""
-    if costs.dtype.kind != "f":
+    if costs.dtype.kind != "f" or numpy.isfinite(costs).all():
         return None
     with numpy.errstate(all="ignore"):
         is_entry = costs != none
@@ -102,4 +127,4 @@ def _are_entries(costs, none, told):
     if not is_number.all():
         place = int(numpy.argmin(is_number))
         raise ValueError(f"matrix contains invalid numeric entries: {told(place)} has {costs.ravel()[place]}")
-    return None if is_entry.all() else is_entry
+    return is_entry

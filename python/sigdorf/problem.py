@@ -1,9 +1,9 @@
 """Problems: lists of a caller as arcs, by which the smaller side takes the larger one."""
 import numpy
 
-from .arguments import MOST_ENTRIES, MOST_INDEX, MOST_OBJECTS, MOST_PERSONS, array_of, number, sides_of, truth, whole_numbers
-from .costs import KINDS, MOST_DECIMALS, DecimalCosts, costs_of, look_at_rounding
-from .exact import priced, solve_costs
+from .arguments import HIGHEST_START, MOST_ENTRIES, MOST_INDEX, MOST_OBJECTS, MOST_PERSONS, array_of, sides_of, whole_numbers
+from .costs import KINDS, DecimalCosts, costs_of, look_at_rounding
+from .exact import Answer, priced, solve_costs
 from .faults import Infeasible
 from .library import LIST_FAULTS
 from .solution import Solution
@@ -11,29 +11,38 @@ from .tables import NUMBERS
 from .whole import NoAssignment, arcs_of
 
 
+def lists_of(rows, columns, costs, shape):
+    """The Lists of a caller's own. A ValueError says what is at fault."""
+    rows, columns = (whole_numbers(side, name, 0, MOST_INDEX) for side, name in ((rows, "rows"), (columns, "columns")))
+    costs = _numbers(costs)
+    if not len(rows) == len(columns) == len(costs):
+        raise ValueError("rows and columns must be as many as the costs")
+    if shape is None:
+        shape = tuple(int(side.max()) + 1 if side.size else 0 for side in (rows, columns))
+    lists = Lists(rows, columns, costs, sides_of(shape))
+    look_at_sides(lists.sides)
+    lists.look_at_indices()
+    return lists
+
+
 class Lists:
-    """A caller's lists: which row may have which column at which cost. A ValueError says what is at fault."""
+    """Which row may have which column at which cost, and the numbers of rows and columns. `names` are those of a matrix; a caller's lists have none, and their
+    faults tell the entry too."""
 
-    def __init__(self, rows, columns, costs, shape, names=None):
-        """`names` are those of a matrix; a caller's lists have none, and their faults tell the entry too."""
+    def __init__(self, rows, columns, costs, sides, names=None):
         self._names, self._is_matrix = names or NUMBERS, names is not None
-        self.rows, self.columns = (whole_numbers(side, name, 0, MOST_INDEX) for side, name in ((rows, "rows"), (columns, "columns")))
-        self.costs = _numbers(costs)
-        if not len(self.rows) == len(self.columns) == len(self.costs):
-            raise ValueError("rows and columns must be as many as the costs")
-        self.sides = self._sides(shape)
+        self.rows, self.columns, self.costs, self.sides = rows, columns, costs, sides
 
-    def _sides(self, shape):
-        """The numbers of rows and of columns. A ValueError names an entry that isn't within them."""
-        if shape is None:
-            shape = tuple(int(side.max()) + 1 if side.size else 0 for side in (self.rows, self.columns))
-        sides = sides_of(shape)
-        look_at_sides(sides)
-        outside = (self.rows >= sides[0]) | (self.columns >= sides[1])
+    def look_at_indices(self):
+        """A ValueError names an entry that isn't within the sides."""
+        outside = (self.rows >= self.sides[0]) | (self.columns >= self.sides[1])
         if outside.any():
             place = int(numpy.argmax(outside))
             raise ValueError(f"{LIST_FAULTS[4].format(place=place)}: {self._told(place)}")
-        return sides
+
+    def where(self, some):
+        """The Lists of some of the entries."""
+        return Lists(self.rows[some], self.columns[some], self.costs[some], self.sides, self._names if self._is_matrix else None)
 
     def fault(self, place, sentence):
         """The fault of the cost at a place: what is said of it follows its row and column."""
@@ -56,13 +65,19 @@ class Problem:
     """
 
     def __init__(self, lists, maximize, decimals):
-        decimals = None if decimals is None else number(decimals, "decimals", 0, MOST_DECIMALS)
-        maximize = truth(maximize, "maximize")
         self.lists, self.sign = lists, -1 if maximize else 1
         self.costs = costs_of(lists.costs, decimals, maximize, lists.fault)
         self.by_columns = lists.sides[0] > lists.sides[1]
         self.persons, self.objects = sorted(lists.sides)
-        self.arcs = arcs_of(*((lists.columns, lists.rows) if self.by_columns else (lists.rows, lists.columns)), self.costs.whole)
+        self._arcs = None
+
+    @property
+    def arcs(self):
+        """The arcs, as the library takes them."""
+        if self._arcs is None:
+            lists = self.lists
+            self._arcs = arcs_of(*((lists.columns, lists.rows) if self.by_columns else (lists.rows, lists.columns)), self.costs.whole)
+        return self._arcs
 
     @property
     def has_whole_costs(self):
@@ -74,21 +89,30 @@ class Problem:
         """How many units of the costs are one of the caller's, where costs have decimals."""
         return 10**self.costs.decimals if isinstance(self.costs, DecimalCosts) else 1
 
-    def answered(self, start, bids, words="no full assignment exists"):
-        """The :class:`~.exact.Answer` of the solver. Raises Infeasible, with these words."""
+    def answered(self, start, bids, words):
+        """The :class:`~.exact.Answer` of the solver, from prices in units of whole costs, or from None. Raises Infeasible, with these words."""
+        if self.persons == 0:
+            return Answer(numpy.zeros(0, numpy.int64), [(numpy.zeros(self.objects, numpy.int64), 0)], 1, 0)
         try:
-            return solve_costs(self.persons, self.objects, self.arcs, self.costs, start, bids)
+            return solve_costs(self.persons, self.objects, self.arcs, self.costs, self._in_units(start), bids)
         except NoAssignment as fault:
             persons, objects = fault.persons, fault.objects
         rows, columns = (objects, persons) if self.by_columns else (persons, objects)
         raise Infeasible(rows, columns, self.by_columns, words, self.lists.named(rows, columns))
+
+    def _in_units(self, start):
+        """Prices in units of the costs. What the library takes for none is an empty list."""
+        if start is None:
+            return numpy.zeros(0, numpy.int64)
+        finer, coarser = min(max(self.costs.unit, 0), 60), min(max(-self.costs.unit, 0), 62)
+        return numpy.minimum(start, HIGHEST_START >> finer) << finer >> coarser
 
     def labels(self, rows, columns):
         """The names of pairs, or None."""
         named = self.lists.named(rows, columns)
         return named and list(zip(*named))
 
-    def pairs(self, choice):
+    def _pairs(self, choice):
         """Rows, columns and entries of an arc for each person, by rising rows."""
         taken, mine = self.arcs["object"][choice].astype(numpy.int64), numpy.arange(self.persons)
         if not self.by_columns:
@@ -96,15 +120,21 @@ class Problem:
         order = numpy.argsort(taken)
         return taken[order], order, choice[order]
 
-    def solution(self, answer):
-        """The Solution of an answer."""
-        rows, columns, entries = self.pairs(answer.choice)
+    def solution(self, start, bids, words):
+        """The Solution, by the library's calls for lists."""
+        answer = self.answered(start, bids, words)
         cost = self.costs.total(answer.choice)
-        bound = cost - self.sign * answer.gap
         shown = self.costs.shown(cost)
-        told = self.costs.shown_bound(bound) if answer.gap else shown
+        told = self.costs.shown_bound(cost - self.sign * answer.gap) if answer.gap else shown
         prices, scale = priced(self.persons, self.objects, answer)
-        return Solution(rows, columns, entries, shown, told, prices, scale * self.decimal_scale, cost, answer.gap or 0, self.labels(rows, columns))
+        return Solution(*self._pairs(answer.choice), shown, told, prices, scale * self.decimal_scale, cost, answer.gap or 0)
+
+    def solution_of_units(self, found):
+        """The Solution in the caller's decimals of one in whole units."""
+        cost, gap = self.costs.amount(int(found.exact_cost)), abs(self.costs.amount(found.gap))
+        shown = self.costs.shown(cost)
+        told = self.costs.shown_bound(cost - self.sign * gap) if gap else shown
+        return found._replace(cost=shown, bound=told, scale=found.scale * self.decimal_scale, exact_cost=cost, gap=gap or 0)
 
 
 def look_at_sides(sides):

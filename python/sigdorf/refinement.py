@@ -35,6 +35,12 @@ class Level:
         mine = self.person[nearest]
         return len(numpy.unique(mine[self.tail[nearest] < self.tail[self.pick[mine]]]))
 
+    def tight(self):
+        """The places among the arcs of those that are as good as the choice of their person, where that is least."""
+        mine, half = self.tail[self.pick][self.person], numpy.ldexp(0.5, -self.unit)
+        are_halves = (self.slack == 1) & (mine == half) & (self.tail == -half) & (half > 0)
+        return numpy.flatnonzero((self.slack == 0) & (self.tail == mine) | are_halves)
+
     def _drop_far(self):
         """Leaves out arcs that no later round brings near: they all together move a slack by less than 4 persons + 16 of this unit."""
         keep = self.slack <= most_slack(self.persons)

@@ -4,13 +4,12 @@ import warnings
 
 import numpy
 
-from .assignment import answer_of
-from .fast import pairs_of
-from .faults import Mistyped, Unsettled
+from . import fast
+from .arguments import truth
+from .asked import Asked, bids_of
+from .faults import Mistyped
 from .library import USUAL_BIDS
-from .matrices import entries_of, is_sparse, numbers_of
-from .problem import Lists, Problem
-from .tables import NUMBERS
+from .matrices import is_sparse
 
 
 def linear_sum_assignment(
@@ -24,15 +23,17 @@ def linear_sum_assignment(
 
     Raises what :func:`solve` does, and Unsettled where a limit ended the search before the least cost was found. A cost that is NaN or
     infinite the other way is a ValueError, and a matrix of what aren't numbers a :class:`~.faults.Mistyped`.
+
+    >>> sigdorf.linear_sum_assignment([[4, 1, 3], [2, 0, 5], [3, 2, 2]])
+    (array([0, 1, 2]), array([1, 0, 2]))
     """
-    if decimals is None and bids is USUAL_BIDS and (maximize is True or maximize is False):
-        if type(cost_matrix) is not numpy.ndarray and not is_sparse(cost_matrix):
-            # One way for all dense matrices: of several least assignments a list is to get that of the array.
-            cost_matrix = numbers_of(cost_matrix)
-        found = pairs_of(cost_matrix, maximize)
+    is_array, bids = type(cost_matrix) is fast.ARRAY and decimals is None, bids_of(bids)
+    if is_array:
+        # The same road, a few steps shorter, since these calls end so soon.
+        found = fast.found(fast.plain(cost_matrix), truth(maximize, "maximize"), False, None, None, bids)
         if found is not None:
             return found
-    return _pairs(entries_of(cost_matrix, maximize), maximize, decimals, bids, "cost matrix is infeasible")
+    return Asked(cost_matrix, None, None, None, maximize, decimals).pairs(bids, "cost matrix is infeasible", not is_array)
 
 
 def min_weight_full_bipartite_matching(
@@ -42,21 +43,14 @@ def min_weight_full_bipartite_matching(
 
     Stored zeros are no entries here, and a warning says so; to :func:`solve` and :func:`linear_sum_assignment` they are. Stored infinities are
     none either. Raises what :func:`linear_sum_assignment` does.
+
+    >>> sigdorf.min_weight_full_bipartite_matching(scipy.sparse.csr_matrix([[4, 1, 0], [2, 0, 5], [3, 2, 2]]))
+    (array([0, 1, 2]), array([1, 0, 2]))
     """
     if not is_sparse(biadjacency):
         raise Mistyped("graph must be in CSC, CSR, or COO format, and this one isn't sparse.")
-    rows, columns, weights, shape = entries_of(biadjacency, maximize)
-    if not weights.all():
+    asked = Asked(biadjacency, None, None, None, maximize, decimals)
+    if not asked.lists.costs.all():
         warnings.warn("explicit zero weights are removed before matching.", stacklevel=2)
-        some = weights != 0
-        rows, columns, weights = rows[some], columns[some], weights[some]
-    return _pairs((rows, columns, weights, shape), maximize, decimals, bids, "no full matching exists")
-
-
-def _pairs(entries, maximize, decimals, bids, words):
-    """Rows and columns of the least pairs. Where there are none, these words begin the fault."""
-    problem = Problem(Lists(*entries, NUMBERS), maximize, decimals)
-    answer = answer_of(problem, numpy.zeros(0, numpy.int64), bids, words)
-    if answer.gap:
-        raise Unsettled(problem.solution(answer))
-    return problem.pairs(answer.choice)[:2]
+        asked = Asked.of_lists(asked.lists.where(asked.lists.costs != 0), asked.maximize, asked.decimals)
+    return asked.pairs(bids_of(bids), "no full matching exists")

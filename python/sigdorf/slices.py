@@ -7,7 +7,6 @@ import math
 import time
 
 from .arguments import attempt
-from .exact import Answer
 
 # A slice has so many times the bids of the one before, and one that ends at the limit so many at least.
 TIMES, LEAST_TIMES = 4, 1.2
@@ -28,18 +27,20 @@ def seconds_of(value):
     return found
 
 
-def look_at_progress(progress):
-    if progress is not None and not callable(progress):
+def progress_of(value):
+    """What is to be called with a bound and a cost."""
+    if value is not None and not callable(value):
         raise ValueError("progress must be something to call, with a bound and a cost")
+    return value or (lambda bound, cost: None)
 
 
 class Slices:
     """How many bids the slices have. `began` is when the time began to run, by :func:`time.monotonic`."""
 
-    def __init__(self, problem, seconds, bids, began):
+    def __init__(self, entries, rows, seconds, bids, began):
         self._end, self._most, self._before = began + seconds, bids, None
         share = FIRST_SECONDS if math.isinf(seconds) else seconds * FIRST_SHARE
-        a_bid = SECONDS_A_BID + SECONDS_AN_ENTRY * len(problem.arcs) / max(1, problem.persons)
+        a_bid = SECONDS_A_BID + SECONDS_AN_ENTRY * entries / max(1, rows)
         self.bids = min(bids, max(FEWEST_BIDS, int(share / a_bid)))
 
     def has_next(self, took):
@@ -65,25 +66,23 @@ class Slices:
         return max(took - before, took / TIMES**2) / (self.bids - bids)
 
 
-def answer_in_slices(problem, answered, slices, progress):
-    """The best Answer to a problem that slices come to; `answered` has that of a number of bids. After each slice `progress` is told the bound and the cost."""
+def solve_in_slices(solved, slices, maximize, progress):
+    """The best Solution that slices come to; `solved` has that of a number of bids. After each slice `progress` is told the bound and the cost."""
     best = None
     while True:
         began = time.monotonic()
-        answer = answered(slices.bids)
+        found = solved(slices.bids)
         took = time.monotonic() - began
-        best = answer if best is None else best_of(problem, best, answer)
-        if progress is not None:
-            cost = problem.costs.total(best.choice)
-            shown = problem.costs.shown(cost)
-            progress(problem.costs.shown_bound(cost - problem.sign * best.gap) if best.gap else shown, shown)
+        best = found if best is None else best_of(best, found, maximize)
+        progress(best.bound, best.cost)
         if not best.gap or not slices.has_next(took):
             return best
 
 
-def best_of(problem, *answers):
-    """The least of some assignments, with the prices of the best bound."""
-    costs = [problem.sign * problem.costs.total(answer.choice) for answer in answers]
-    bounds = [cost - answer.gap for cost, answer in zip(costs, answers)]
-    least, best = costs.index(min(costs)), bounds.index(max(bounds))
-    return Answer(answers[least].choice, answers[best].levels, answers[best].scale, costs[least] - bounds[best])
+def best_of(one, other, maximize):
+    """The least of two assignments, with the prices of the better bound."""
+    sign = -1 if maximize else 1
+    least = min(one, other, key=lambda found: sign * found.exact_cost)
+    bound = max(one, other, key=lambda found: sign * found.exact_cost - found.gap)
+    gap = sign * (least.exact_cost - bound.exact_cost) + bound.gap
+    return least._replace(bound=bound.bound if gap else least.cost, prices=bound.prices, scale=bound.scale, gap=gap or 0)

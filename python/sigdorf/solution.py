@@ -5,11 +5,19 @@ import typing
 
 import numpy
 
+from .shown import equal, hashed, shown_pairs, unequal
 from .whole import whole_prices
 
 
 class Solution(typing.NamedTuple):
-    """A full assignment of the smaller side, and what shows that it costs least."""
+    """A full assignment of the smaller side, and what shows that it costs least. Two are equal where all parts of them are.
+
+    >>> solution = sigdorf.solve([[1, 2], [1, 4]])
+    >>> solution
+    Solution(cost=3, pairs={0: 1, 1: 0})
+    >>> solution == sigdorf.solve([[1, 2], [1, 4]]), solution.is_optimal, solution.exact_prices()
+    (True, True, [Fraction(3, 1), Fraction(2, 1)])
+    """
 
     rows: numpy.ndarray
     """The rows that have a column, rising: int64, as many as the smaller side."""
@@ -32,6 +40,12 @@ class Solution(typing.NamedTuple):
     """What the cost is above the least one at most (below the greatest), exactly: 0, unless the bids didn't suffice."""
     labels: list[tuple] | None = None
     """The names of each pair's row and column, where the problem was a table that has names, such as a DataFrame; `dict(labels)` gives each its own."""
+
+    def __repr__(self):
+        bound = "" if self.is_optimal else f"bound={self.bound!r}, "
+        return f"Solution(cost={self.cost!r}, {bound}pairs={shown_pairs(self)})"
+
+    __eq__, __ne__, __hash__ = equal, unequal, hashed
 
     @property
     def is_optimal(self) -> bool:

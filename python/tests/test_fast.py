@@ -41,6 +41,15 @@ def sum_of(matrix, pairs):
     return exact_sum(chosen.astype(numpy.float64)) if chosen.dtype.kind == "f" else sum(map(int, chosen))
 
 
+def pairs(matrix, maximize=False):
+    """What the extension itself finds."""
+    return fast._extension.found(matrix, maximize, False, None, None, sigdorf.USUAL_BIDS)
+
+
+def solved(matrix, maximize=False):
+    return fast._extension.found(matrix, maximize, True, None, None, sigdorf.USUAL_BIDS)
+
+
 @contextlib.contextmanager
 def without():
     with unittest.mock.patch.object(fast, "_extension", None):
@@ -161,7 +170,7 @@ class Fast(Limited):
         writer.start()
         try:
             for number in range(400):
-                found = fast._extension.pairs(matrix, False) if number % 2 else fast._extension.solved(matrix, False)
+                found = pairs(matrix) if number % 2 else (solved(matrix) or [None])[0]
                 # What is no answer is looked at by Python.
                 self.assertTrue(found is None or sorted(found[1].tolist()) == list(range(60)))
         finally:
@@ -186,17 +195,25 @@ class Fast(Limited):
     def test_what_it_leaves(self):
         extension = fast._extension
         for matrix in [numpy.zeros((0, 3)), numpy.zeros(3), numpy.zeros((2, 2, 2)), numpy.zeros((2, 2), complex), numpy.zeros((2, 2), object), numpy.eye(1).view(type('Own', (numpy.ndarray,), {})), numpy.ma.array([[1]]), [[1]], None,
-                       numpy.array([[numpy.nan]]), numpy.array([[-numpy.inf]]), numpy.array([[numpy.inf]]), numpy.array([[10**9 + 1]]), numpy.zeros((1, 2), [("a", "i8")]), numpy.zeros((1, 1), "M8[s]"),
-                       numpy.broadcast_to(numpy.int8(0), (10**9, 10**9)), numpy.zeros((1, 1), "S1"), numpy.zeros((1, 1), "U1"), numpy.zeros((1, 1), "V8")]:
+                       numpy.array([[numpy.nan]]), numpy.array([[-numpy.inf]]), numpy.array([[numpy.inf]]), numpy.zeros((1, 2), [("a", "i8")]), numpy.zeros((1, 1), "M8[s]"), numpy.eye(3)[::2], numpy.eye(2, dtype=">f8"),
+                       numpy.broadcast_to(numpy.int8(0), (10**9, 10**9)), numpy.zeros((1, 1), "S1"), numpy.zeros((1, 1), "U1"), numpy.zeros((1, 1), "V8"), numpy.eye(2, dtype="f4"), numpy.eye(2, dtype="i4")]:
             with self.subTest(kind=type(matrix), dtype=getattr(matrix, "dtype", None)):
-                self.assertIsNone(extension.pairs(matrix, False))
-                self.assertIsNone(extension.solved(matrix, False))
-                self.assertEqual(extension.solved_all([matrix], False), [None])
+                self.assertIsNone(pairs(matrix))
+                self.assertIsNone(solved(matrix))
+                self.assertEqual(extension.found_all([matrix], False), [None])
+        two, ones = numpy.arange(2), numpy.ones(2)
+        for problem in [(), (two, two), (two, two, ones, 2), (two, two, ones, 2, -1), (two, two, ones, 2, 1), (two, -two, ones, 2, 2), (two, two[:1], ones, 2, 2), (two, two, ones[:1], 2, 2), (two, two, two.astype("i4"), 2, 2),
+                        (two, ones, ones, 2, 2), (two.astype("i4"), two, ones, 2, 2), (two, two, numpy.array([1, numpy.inf]), 2, 2), (two, two, ones * numpy.nan, 2, 2), (two, two, ones, 2, "2"), (two, two, ones, 10**30, 2)]:
+            self.assertIsNone(solved(problem), problem)
         matrix = numpy.eye(2)
-        for arguments in [(), (matrix,), (matrix, 1), (matrix, None), (matrix, False, 1)]:
-            for call in (extension.pairs, extension.solved, extension.solved_all):
-                with self.assertRaises(TypeError):
-                    call(*arguments)
+        for limit, start, bids in [("1", None, 9), (numpy.inf, None, 9), (numpy.nan, None, 9), (None, two.astype(float), 9), (None, numpy.arange(3), 9), (None, None, -1), (None, None, 2**64), (None, None, 0.5)]:
+            self.assertIsNone(extension.found(matrix, False, False, limit, start, bids))
+        for arguments in [(), (matrix,), (matrix, 1, True, None, None, 9), (matrix, None, True, None, None, 9), (matrix, False, 1, None, None, 9), (matrix, False)]:
+            with self.assertRaises(TypeError):
+                extension.found(*arguments)
+        for arguments in [(), (matrix,), ([matrix], 1), (matrix, False), ([matrix], None)]:
+            with self.assertRaises(TypeError):
+                extension.found_all(*arguments)
         for arguments in [(), (1,), (0, 1), (1, 0), ("1", 1), (1, None)]:
             with self.assertRaises((TypeError, ValueError)):
                 extension.bind(*arguments)
@@ -212,7 +229,7 @@ class Fast(Limited):
             for dense, arcs in ((address, real[1]), (address, address)):
                 fast._extension.bind(dense, arcs)
                 try:
-                    self.assertIsNone(fast._extension.pairs(matrix, False))
+                    self.assertIsNone(pairs(matrix))
                     self.assertEqual(sigdorf.linear_sum_assignment(matrix)[1].tolist(), [1, 0])
                     self.assertEqual(sigdorf.solve_many([matrix] * 3, 1)[2].columns.tolist(), [1, 0])
                 finally:
@@ -222,6 +239,8 @@ class Fast(Limited):
         """Nothing is kept of what a call has seen or made."""
         random = numpy.random.default_rng(4)
         matrices = [random.random((9, 9)), random.integers(0, 9, (9, 9)), numpy.full((3, 3), numpy.inf), floats.levels(random, (8, 8)), floats.any_exponents(random, (6, 6)), random.random((60, 70))]
+        rows = numpy.arange(2)
+        matrices.append(rows)
         counts = [sys.getrefcount(matrix) for matrix in matrices]
         tracemalloc.start()
         try:
@@ -230,9 +249,11 @@ class Fast(Limited):
                     gc.collect()
                     before = tracemalloc.get_traced_memory()[0]
                 for matrix in matrices:
-                    fast._extension.pairs(matrix, False)
-                    fast._extension.solved(matrix, True)
-                fast._extension.solved_all(matrices, False)
+                    pairs(matrix)
+                    solved(matrix, True)
+                    fast._extension.found((rows, rows, numpy.ones(2), 2, 2), False, True, None, None, 0)
+                    fast._extension.found(matrix, False, False, 1, None, 9)
+                fast._extension.found_all(matrices, False)
             gc.collect()
             self.assertLess(tracemalloc.get_traced_memory()[0] - before, 20_000)
         finally:

@@ -152,5 +152,31 @@ class Interrupted(Limited):
         self.assertLess(float(told) - sent, 1.0)
 
 
+FORKED = """
+import os, threading, numpy, sigdorf
+def work():
+    while not done:
+        sigdorf.solve(numpy.random.default_rng(1).random((200, 200)))
+done = []
+threads = [threading.Thread(target=work) for _ in range(3)]
+for thread in threads:
+    thread.start()
+for turn in range(20):
+    child = os.fork()
+    if not child:
+        os._exit(7 if sigdorf.solve([[1.5, 2], [1, 4]]).cost == 3 and sigdorf.solve(numpy.eye(300) + 0.1).cost == 30 else 1)
+    assert os.waitstatus_to_exitcode(os.waitpid(child, 0)[1]) == 7
+done.append(1)
+print("ended")
+"""
+
+
+class Forked(Limited):
+    def test_child_of_threads(self):
+        """A fork while other threads are within calls: the child's calls answer."""
+        done = subprocess.run([sys.executable, "-W", "ignore", "-B", "-c", FORKED], capture_output=True, text=True, timeout=50)
+        self.assertEqual((done.returncode, done.stdout), (0, "ended\n"), done.stderr)
+
+
 if __name__ == "__main__":
     unittest.main()

@@ -30,6 +30,10 @@ class Pages(Limited):
     def test_exact(self):
         self.assert_right("EXACT.md")
 
+    @unittest.skipUnless((ROOT / "python" / "README.md").exists(), "the package's own page isn't here")
+    def test_package(self):
+        self.assert_right("../python/README.md")
+
     def test_tracking(self):
         self.assert_right("TRACKING.md")
 

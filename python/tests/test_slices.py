@@ -8,12 +8,12 @@ import unittest.mock
 from limited import Limited, numpy, sigdorf
 
 if numpy:
-    from sigdorf import assignment, slices
-    from sigdorf.exact import Answer
+    from sigdorf import slices
+    from sigdorf.asked import Asked
 
 TWO = [0, 0, 1, 1], [0, 1, 0, 1], [1, 2, 1, 4]
-# The two assignments of these: the entries, and the cost.
-LEAST, OTHER = ([1, 2], 3), ([0, 3], 5)
+# The two assignments of these: the columns, the entries, and the cost.
+LEAST, OTHER = ([1, 0], [1, 2], 3), ([0, 1], [0, 3], 5)
 
 
 class Clock:
@@ -25,19 +25,20 @@ class Clock:
     def monotonic(self):
         return self.now
 
-    def answer(self, problem, start, bids, words=""):
+    def solution(self, bids):
         """The least assignment where the bids suffice, else the other one with a bound that is the better, the more bids there were."""
         self.budgets.append(bids)
         self.now += self.first + self.a_bid * min(bids, self.wants)
         is_least = bids >= self.wants
-        entries, cost = LEAST if is_least or len(self.budgets) % 2 == 0 else OTHER
+        columns, entries, cost = LEAST if is_least or len(self.budgets) % 2 == 0 else OTHER
         bound = 3 if is_least else fractions.Fraction(3) - fractions.Fraction(self.wants - bids, self.wants)
-        return Answer(numpy.array(entries), [(numpy.array([0, len(self.budgets)]), 0)], 3, cost - bound)
+        prices = numpy.array([0, len(self.budgets)])
+        return sigdorf.Solution(numpy.arange(2), numpy.array(columns), numpy.array(entries), cost, math.floor(bound), prices, 3, fractions.Fraction(cost), cost - bound)
 
 
 class Sliced(Limited):
     def solved(self, clock, seconds=None, progress=None, **words):
-        with unittest.mock.patch.object(slices.time, "monotonic", clock.monotonic), unittest.mock.patch.object(assignment, "answer_of", clock.answer):
+        with unittest.mock.patch.object(slices.time, "monotonic", clock.monotonic), unittest.mock.patch.object(Asked, "solution", lambda asked, start, bids: clock.solution(bids)):
             return sigdorf.solve(*TWO, seconds=seconds, progress=progress, **words)
 
     def test_ends_in_time(self):

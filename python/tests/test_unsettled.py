@@ -6,6 +6,9 @@ from limited import Limited, numpy, scipy, sigdorf
 # More columns than rows at very unequal costs, which take a phase of bids by the smallest steps.
 UNEQUAL = [[0, 0, 10**9, 5 * 10**8], [0, 0, 999_999_500, 10**8], [0, 0, 999_999_000, 6 * 10**8]]
 BIDS = 10**5
+# A table without gaps is solved before any bid.
+GAPS = [[1, 2, float("inf")], [1, 4, 9], [float("inf"), 3, 7]]
+LISTS = [0, 0, 1, 1, 1, 2, 2], [0, 1, 0, 1, 2, 1, 2], [1, 2, 1, 4, 9, 3, 7]
 
 
 def with_ends(rows, shared, end):
@@ -44,12 +47,11 @@ class Limits(Limited):
         return shared[rows[columns < 50], columns[columns < 50]].sum()
 
     def test_pairs_that_no_limit_allows(self):
-        matrix = [[1, 2], [1, 4]]
         for call in self.calls():
             with self.subTest(call), self.assertRaises(sigdorf.Unsettled) as caught:
-                call(matrix, bids=0)
+                call(GAPS, bids=0)
             self.assertIn("bids", str(caught.exception))
-            self.assertTrue(caught.exception.solution.bound <= 3 <= caught.exception.solution.cost)
+            self.assertTrue(caught.exception.solution.bound <= 10 <= caught.exception.solution.cost)
             again = pickle.loads(pickle.dumps(caught.exception))
             self.assertEqual((type(again), str(again)), (sigdorf.Unsettled, str(caught.exception)))
 
@@ -63,8 +65,9 @@ class Limits(Limited):
         self.assertFalse(issubclass(sigdorf.Unsettled, ValueError))
 
     def test_solve_answers(self):
-        solution = sigdorf.solve([0, 0, 1, 1], [0, 1, 0, 1], [1, 2, 1, 4], bids=0)
+        solution = sigdorf.solve(*LISTS, bids=0)
         self.assertFalse(solution.is_optimal)
+        self.assertTrue(solution.bound <= 10 <= solution.cost)
         with self.assertRaises(sigdorf.Refused):
-            sigdorf.check(solution, [0, 0, 1, 1], [0, 1, 0, 1], [1, 2, 1, 4])
+            sigdorf.check(solution, *LISTS)
         self.assertIn("is_optimal", sigdorf.solve.__doc__.split("\n")[0])

@@ -1,0 +1,37 @@
+"""How results are shown and compared: shortly, and part by part."""
+import numpy
+
+# So many pairs, rows or columns are shown.
+MOST_SHOWN = 6
+
+
+def shown_pairs(found):
+    """The first pairs of a result, as a dict is shown: by their names where they have some."""
+    pairs = found.labels or list(zip(found.rows.tolist(), found.columns.tolist()))
+    more = [f"and {len(pairs) - MOST_SHOWN:,} more"] if len(pairs) > MOST_SHOWN else []
+    return "{" + ", ".join([f"{row!r}: {column!r}" for row, column in pairs[:MOST_SHOWN]] + more) + "}"
+
+
+def shown_list(numbers):
+    """The first of some numbers."""
+    more = [f"and {len(numbers) - MOST_SHOWN:,} more"] if len(numbers) > MOST_SHOWN else []
+    return "[" + ", ".join([str(number) for number in numbers[:MOST_SHOWN]] + more) + "]"
+
+
+def equal(one, other):
+    """Whether two results are of one kind and all their parts are the same."""
+    return type(one) is type(other) and all(map(_equal_parts, tuple(one), tuple(other)))
+
+
+def _equal_parts(one, other):
+    return numpy.array_equal(one, other) if isinstance(one, numpy.ndarray) else one == other
+
+
+def unequal(one, other):
+    """What tuples have of their own beside `equal`."""
+    return not one == other
+
+
+def hashed(found):
+    """What two equal results have in common: their pairs."""
+    return hash((tuple(found.rows.tolist()), tuple(found.columns.tolist())))

@@ -23,6 +23,14 @@ def has_program():
     return unittest.skipUnless("AUCTION" in os.environ, "it needs a built program (--program)")
 
 
+def told(faults, count):
+    """Prints the faults of a run of so many cases and how many passed; the exit status."""
+    for fault in faults:
+        print(fault)
+    print(f"{count - len(faults)} passed, {len(faults)} failed")
+    return 1 if faults else 0
+
+
 def python_with(*modules):
     """A Python that has these modules, this one or the system's; None where neither has."""
     for python in (sys.executable, "/usr/bin/python3"):

@@ -20,7 +20,7 @@ from typing import NamedTuple
 
 sys.dont_write_bytecode = True
 sys.path.append(str(pathlib.Path(__file__).resolve().parents[1]))
-from calls import called  # noqa: E402
+from calls import called, told  # noqa: E402
 
 
 class Case(NamedTuple):
@@ -216,10 +216,7 @@ def main():
     words = words.parse_args()
     os.environ["AUCTION"] = os.path.abspath(words.program)
     faults = faults_of_run(words.seed, words.count)
-    for fault in faults:
-        print(fault)
-    print(f"{words.count - len(faults)} passed, {len(faults)} failed")
-    return 1 if faults else 0
+    return told(faults, words.count)
 
 
 if __name__ == "__main__":

@@ -21,7 +21,7 @@ from typing import NamedTuple
 
 sys.dont_write_bytecode = True
 sys.path.append(str(pathlib.Path(__file__).resolve().parents[1]))
-from calls import called  # noqa: E402
+from calls import called, told  # noqa: E402
 from sigdorf_tools.amounts import amount_of  # noqa: E402
 
 KINDS = ["plain", "capacity", "capacity-column", "leave-free", "leave-free-column", "fix", "forbid", "second", "fair", "why", "margins"]
@@ -339,10 +339,7 @@ def main():
     os.environ["AUCTION"] = os.path.abspath(words.program)
     kinds = words.kind or KINDS
     faults = faults_of_run(words.seed, words.count, kinds)
-    for fault in faults:
-        print(fault)
-    print(f"{words.count * len(kinds) - len(faults)} passed, {len(faults)} failed")
-    return 1 if faults else 0
+    return told(faults, words.count * len(kinds))
 
 
 if __name__ == "__main__":

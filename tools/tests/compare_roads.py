@@ -14,6 +14,7 @@ import tempfile
 
 sys.dont_write_bytecode = True
 sys.path.append(str(pathlib.Path(__file__).resolve().parents[1]))
+from calls import told  # noqa: E402
 from fuzz_tables import NAMES, PIECES  # noqa: E402
 from sigdorf_tools import array_lines, arrays, pair_arrays, pair_texts  # noqa: E402
 from sigdorf_tools.faults import Fault  # noqa: E402
@@ -110,11 +111,8 @@ def main():
     with tempfile.TemporaryDirectory() as folder:
         taken, found = zip(*(fault_of(pathlib.Path(folder), number, words.seed) for number in range(words.count)))
     faults = [fault for fault in found if fault]
-    for fault in faults:
-        print(fault)
     print(f"{taken.count(0)} matrices, {taken.count(1)} pairs")
-    print(f"{words.count - len(faults)} passed, {len(faults)} failed")
-    return 1 if faults else 0
+    return told(faults, words.count)
 
 
 if __name__ == "__main__":

@@ -18,7 +18,7 @@ import tempfile
 
 sys.dont_write_bytecode = True
 sys.path.append(str(pathlib.Path(__file__).resolve().parents[1]))
-from calls import called  # noqa: E402
+from calls import called, told  # noqa: E402
 from fuzz_tables import BYTES, NAMES, sound_table, spoiled_table  # noqa: E402
 
 # A best plan; a fault; no plan; a search that was stopped.
@@ -113,11 +113,8 @@ def main():
     words = words.parse_args()
     os.environ["AUCTION"] = os.path.abspath(words.program)
     statuses, faults = results_of_run(words.seed, words.count)
-    for fault in faults:
-        print(fault)
     print(", ".join(f"status {status}: {count}" for status, count in sorted(statuses.items(), key=str)))
-    print(f"{words.count - len(faults)} passed, {len(faults)} failed")
-    return 1 if faults else 0
+    return told(faults, words.count)
 
 
 if __name__ == "__main__":

@@ -15,6 +15,7 @@ import tempfile
 sys.dont_write_bytecode = True
 sys.path.append(str(pathlib.Path(__file__).resolve().parents[1]))
 import check_certificate  # noqa: E402
+from calls import told  # noqa: E402
 from sigdorf_tools.areas import Area  # noqa: E402
 from sigdorf_tools.columns import picked, titles_said  # noqa: E402
 from sigdorf_tools.faults import Fault  # noqa: E402
@@ -108,10 +109,7 @@ def main():
     words.add_argument("--count", type=int, default=20_000)
     words = words.parse_args()
     faults = faults_of_run(words.seed, words.count)
-    for fault in faults:
-        print(fault)
-    print(f"{words.count - len(faults)} passed, {len(faults)} failed")
-    return 1 if faults else 0
+    return told(faults, words.count)
 
 
 if __name__ == "__main__":

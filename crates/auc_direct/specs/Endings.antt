@@ -1,5 +1,5 @@
 -- What a chain of bids, a phase and a run come to.
-use Rattle.std.specs.Prelude.{Bool, true, ℕ, ℤ, pos, ◌≡◌, ◌≢◌, ◌⊎◌, ◌+ℤ◌, ◌≤ℤ◌, List, length, All}
+use Rattle.std.specs.Prelude.{Bool, true, ℕ, ℤ, pos, ◌≡◌, ◌⊎◌, ◌+ℤ◌, ◌≤ℤ◌, List, length, All}
 use Rattle.auc_cert.specs.declared.cert.CertParts.{CertParts}
 use Rattle.auc_cert.specs.declared.reason.Reason.{Reason}
 use Rattle.auc_graph.specs.Assignment.{total}
@@ -11,12 +11,10 @@ use Rattle.auc_answers.specs.declared.answer.Answer.{Answer}
 use Rattle.auc_rows.specs.declared.arc.ShortArc.{ShortArc}
 use Rattle.auc_rows.specs.Rows.{AreRowsOf, AreSameRows, FlatTable}
 use Rattle.auc_direct.specs.declared.ending.Ending.{Ending}
-use Rattle.auc_direct.specs.declared.ending.PathStep.{PathStep}
-use Rattle.auc_direct.specs.declared.holdings.TheConstants.{NOBODY}
 use Rattle.auc_direct.specs.Bids.{HaveRunOut, State}
 use Rattle.auc_direct.specs.Eps.{IsEpsOf}
 use Rattle.auc_direct.specs.Phases.{HasRun, IsRun}
-use Rattle.auc_direct.specs.Market.{AreHigher, HaveObjects, IsAbove, Stands, own_at}
+use Rattle.auc_direct.specs.Market.{HaveObjects, IsAbove, Stands}
 use Rattle.auc_direct.specs.Starts.{AreOpened}
 
 -- Why a phase may be stopped: it has made as many bids as it may, and the prices add up to more than those that the run began with, by no less than the bids that a phase may
@@ -145,9 +143,3 @@ pub record IsOfPhasesFrom (p : Problem) (bids : ℕ) (start : List ℤ) (answer 
   pub begun : List ℤ
   pub opened : AreOpened p.objects p.persons start begun
   pub run : IsOfPhases p bids begun answer
-
--- A path leaves what stands between two bids, the person has an object, nobody else has got or lost one, and no price has fallen; or nothing has changed.
-abbrev pub IsPathStep : FlatTable → ℤ → ℕ → PathStep → List ℤ → List ℕ → List ShortArc → List ℤ → List ℕ → List ShortArc → Type 0
-IsPathStep r eps start PathStep.Placed prices holders owns new sold left = Stands r eps new sold left × (total prices ≤ℤ total new) × ((own_at left start).object ≢ NOBODY) × ((i : ℕ) → (own_at owns i).object ≢ NOBODY → (own_at left i).object ≢ NOBODY) × AreHigher prices new × ((i : ℕ) → i ≢ start → (own_at owns i).object ≡ NOBODY → (own_at left i).object ≡ NOBODY)
-IsPathStep r eps start PathStep.Stayed prices holders owns new sold left = (new ≡ prices) × (sold ≡ holders) × (left ≡ owns)
-IsPathStep r eps start PathStep.Closed prices holders owns new sold left = (new ≡ prices) × (sold ≡ holders) × (left ≡ owns)

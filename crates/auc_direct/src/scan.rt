@@ -64,20 +64,6 @@ impl Found {
     }
 }
 
-/// The value of a cost at a price.
-#[inline(always)]
-fn value_at(scale: i64, cost: i32, price: i64) -> i64
-    requires scale { IsScale scale }
-    requires cost_low { neg_ℤ (pos (10 ^ 9)) ≤ℤ cost }
-    requires cost_high { cost ≤ℤ pos (10 ^ 9) }
-    requires price { IsPrice price }
-    ensures is { result ≡ (scale *ℤ cost) +ℤ price }
-    ensures low { neg_ℤ (pos (2 ^ 44)) ≤ℤ result }
-    ensures high { result ≤ℤ pos (2 ^ 61 + 2 ^ 44) }
-{
-    scale * i64::from(cost) + price
-}
-
 /// What an arc of this cost is worth at this price, by sums that wrap: for searches, whose finds are tried.
 #[inline(always)]
 pub(crate) fn worth(scale: i64, cost: i32, price: i64) -> i64 {
@@ -103,7 +89,8 @@ pub(crate) fn value_of(scale: i64, arc: ShortArc, prices: &[i64]) -> i64
     ensures is { result ≡ short_value scale prices.now arc }
     ensures range { IsValue result }
 {
-    value_at(scale, arc.cost, prices[arc.object as usize])
+    let price = prices[arc.object as usize];
+    scale * i64::from(arc.cost) + price
 }
 
 /// The best arc of a row. Two arcs to one object count as any two do.

@@ -2,7 +2,7 @@
 use Rattle.std.proofs.Common.{◌≡◌, ◌≢◌, ℕ, List, Option, Some, None, refl, sym, ap, subst, arith}
 use Rattle.std.specs.Prelude.{ℤ, pos, unsigned_abs, Result, Ok, Err, Contains}
 use Rattle.auc_graph.specs.declared.list_faults.ListFault.{ListFault}
-use Rattle.auc_graph.specs.Problem.{Problem}
+use Rattle.auc_graph.specs.Problem.{IsProblem, Problem}
 use Rattle.auc_graph.specs.InMemory.{problem_fault}
 use Rattle.auc_call.specs.declared.driver.Driver.{Driver}
 use Rattle.auc_call.specs.declared.found.Found.{Found}
@@ -73,13 +73,13 @@ told_refused d p start before after (Err (Fault fault)) old h e = list_fault_is 
 told_refused d p start before after (Err (Start fault)) old h e = absurd (omega (arith, apart 7 5 e))
 told_refused d p start before after (Err NoMemory) old h e = absurd (omega (arith, apart 6 5 e))
 
-pub told_start : (d : Driver) (p : Problem) (start : List ℤ) (before after : Memory) (r : Result Solved Failed) (old : Found) → Solves d p start before after r → solve_status r ≡ pos 7 → IsStartFault (start_fault_by d p start) (solve_found r old).kind (solve_found r old).place
+pub told_start : (d : Driver) (p : Problem) (start : List ℤ) (before after : Memory) (r : Result Solved Failed) (old : Found) → Solves d p start before after r → solve_status r ≡ pos 7 → IsProblem p × IsStartFault (start_fault_by d p start) (solve_found r old).kind (solve_found r old).place
 told_start d p start before after (Ok (Optimal cost)) old h e = absurd (omega (arith, apart 0 7 e))
 told_start d p start before after (Ok (Infeasible persons objects)) old h e = absurd (omega (arith, apart 3 7 e))
 told_start d p start before after (Ok (Bracket reason lower cost)) old h e = absurd (omega (arith, apart 4 7 e))
 told_start d p start before after (Err Sizes) old h e = absurd (omega (arith, apart 2 7 e))
 told_start d p start before after (Err (Fault fault)) old h e = absurd (omega (arith, apart 5 7 e))
-told_start d p start before after (Err (Start fault)) old h e = start_fault_is (start_fault_by d p start) fault h.0.2
+told_start d p start before after (Err (Start fault)) old h e = (h.0.1, start_fault_is (start_fault_by d p start) fault h.0.2)
 told_start d p start before after (Err NoMemory) old h e = absurd (omega (arith, apart 6 7 e))
 
 pub told_sizes : (d : Driver) (p : Problem) (start : List ℤ) (before after : Memory) (r : Result Solved Failed) → Solves d p start before after r → solve_status r ≡ pos 2 → AreSizes p before → ⊥

@@ -1,7 +1,7 @@
 -- What a status says of a solve of a table.
 use Rattle.std.proofs.Common.{◌≡◌, ◌≢◌, ℕ, List, None, refl, ap, arith}
 use Rattle.std.specs.Prelude.{ℤ, pos, Result, Ok, Err}
-use Rattle.auc_graph.specs.Problem.{Problem}
+use Rattle.auc_graph.specs.Problem.{IsProblem, Problem}
 use Rattle.auc_call.specs.declared.found.Found.{Found}
 use Rattle.auc_call.specs.declared.solved.Solved.{Solved}
 use Rattle.auc_call.specs.declared.solved.Solved.TheVariants.{Optimal, Infeasible, Bracket}
@@ -64,13 +64,13 @@ table_refused p stride entries start bids before after (Err (Fault fault)) old h
 table_refused p stride entries start bids before after (Err (Start fault)) old h e = absurd (omega (arith, apart 7 5 e))
 table_refused p stride entries start bids before after (Err NoMemory) old h e = absurd (omega (arith, apart 6 5 e))
 
-pub table_start : (p : Problem) (stride entries : ℕ) (start : List ℤ) (bids : ℕ) (before after : Memory) (r : Result Solved Failed) (old : Found) → SolvesTable p stride entries start bids before after r → solve_status r ≡ pos 7 → IsStartFault (start_fault p start) (solve_found r old).kind (solve_found r old).place
+pub table_start : (p : Problem) (stride entries : ℕ) (start : List ℤ) (bids : ℕ) (before after : Memory) (r : Result Solved Failed) (old : Found) → SolvesTable p stride entries start bids before after r → solve_status r ≡ pos 7 → IsProblem p × IsStartFault (start_fault p start) (solve_found r old).kind (solve_found r old).place
 table_start p stride entries start bids before after (Ok (Optimal cost)) old h e = absurd (omega (arith, apart 0 7 e))
 table_start p stride entries start bids before after (Ok (Infeasible persons objects)) old h e = absurd (omega (arith, apart 3 7 e))
 table_start p stride entries start bids before after (Ok (Bracket reason lower cost)) old h e = absurd (omega (arith, apart 4 7 e))
 table_start p stride entries start bids before after (Err Sizes) old h e = absurd (omega (arith, apart 2 7 e))
 table_start p stride entries start bids before after (Err (Fault fault)) old h e = absurd (omega (arith, apart 5 7 e))
-table_start p stride entries start bids before after (Err (Start fault)) old h e = start_fault_is (start_fault p start) fault h.0.1
+table_start p stride entries start bids before after (Err (Start fault)) old h e = (h.0.1, start_fault_is (start_fault p start) fault h.0.2)
 table_start p stride entries start bids before after (Err NoMemory) old h e = absurd (omega (arith, apart 6 7 e))
 
 pub table_sizes : (p : Problem) (stride entries : ℕ) (start : List ℤ) (bids : ℕ) (before after : Memory) (r : Result Solved Failed) → SolvesTable p stride entries start bids before after r → solve_status r ≡ pos 2 → AreTableSizes p stride entries before → ⊥

@@ -1,7 +1,7 @@
 -- What a solve of a table comes to.
 use Rattle.std.specs.Prelude.{◌≡◌, ℕ, ◌<◌, ℤ, List, length, All, Some, None, Result, Ok, Err, ⊤}
 use Rattle.auc_graph.specs.declared.arc.Arc.{Arc}
-use Rattle.auc_graph.specs.Problem.{Problem}
+use Rattle.auc_graph.specs.Problem.{IsProblem, Problem}
 use Rattle.auc_call.specs.declared.solved.Solved.{Solved}
 use Rattle.auc_call.specs.declared.solved.Solved.TheVariants.{Optimal, Infeasible, Bracket}
 use Rattle.auc_call.specs.declared.solved.Failed.{Failed}
@@ -54,7 +54,7 @@ SolvesArcs p start bids before after (Err failed) = IsStop Direct p start failed
 abbrev pub IsTableCause : Problem → ℕ → ℕ → List ℤ → Memory → Failed → Type 0
 IsTableCause p stride entries start before Sizes = AreTableSizes p stride entries before → ⊥
 IsTableCause p stride entries start before (Fault fault) = AreTableSizes p stride entries before × (table_fault p ≡ Some fault)
-IsTableCause p stride entries start before (Start fault) = AreTableSizes p stride entries before × (start_fault p start ≡ Some fault)
+IsTableCause p stride entries start before (Start fault) = AreTableSizes p stride entries before × IsProblem p × (start_fault p start ≡ Some fault)
 IsTableCause p stride entries start before NoMemory = AreTableSizes p stride entries before
 
 -- what a solve came to is right; where it is refused, nothing is written

@@ -1,3 +1,4 @@
+pub mod CallingLaws
 pub mod TakingLaws
 pub mod PostingLaws
 pub mod StepLaws

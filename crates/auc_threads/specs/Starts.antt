@@ -27,11 +27,11 @@ pub record IsObjectStart (task : Task) (k : ℕ) (s : Objects) (a p h : Account 
   pub shard : s ≡ new_objects task.limits.now.shards (length task.rows.now.rows) task.prices.now k
   pub seats : AreNewSeats (task.limits.now.shards + k) a p h
 
--- What comes of a worker of the objects: it dealt with bids and said what it had to, and at its end tells the hub why.
+-- What comes of a worker of the objects: it dealt with bids from the box of its shard's number and said what it had to, and at its end tells the hub why.
 pub record IsObjectWork (eps : ℤ) (objects_room persons_room hub_room : ℕ) (s : Objects) (a p h : Account Letter) (t : Objects) (a' p' h' : Account Letter) (why : Option Why) : Type 0 where
   pub step : Step
   pub before : Account Letter
-  pub serves : Serves eps objects_room persons_room hub_room s a p h t a' p' before step
+  pub serves : Serves eps objects_room persons_room hub_room s.shard s a p h t a' p' before step
   pub ended : step ≢ Step.On
   pub ends : Ends hub_room before step h'
   pub why_is : why ≡ why_of step
@@ -61,14 +61,14 @@ pub record IsBuyerStart (task : Task) (k : ℕ) (s : Persons) (lists : List List
   pub begins : IsPersonStart task k s a p h
   pub kept : (copies : List ℤ) → Kept task.rows.now copies lists
 
--- What comes of a worker of the persons: it bid and heard, and at its end tells the hub why.
+-- What comes of a worker of the persons: it bid and heard, by the box of its shard's number, and at its end tells the hub why.
 pub record IsPersonWork (t : Table) (eps : ℤ) (objects_room persons_room hub_room : ℕ) (s : Persons) (a p h : Account Letter) (n : Persons) (a' p' h' : Account Letter) (why : Option Why) : Type 0 where
   pub step : Step
-  pub buys : Buys t eps objects_room persons_room s a p n a' p' step
+  pub buys : Buys t eps objects_room persons_room s.shard s a p n a' p' step
   pub ended : step ≢ Step.On
   pub ends : Ends hub_room h step h'
   pub why_is : why ≡ why_of step
-  pub hears : Hears persons_room s p n p' (why ≡ Some Why.Fell)
+  pub hears : Hears persons_room s.shard s p n p' (why ≡ Some Why.Fell)
   pub stuck : why ≡ Some Why.Stuck → SomebodyStuck t
 
 pub record IsPersonPromise (task : Task) (k : ℕ) (eps : ℤ) (t : Table) (s : Persons) (a p h : Account Letter) : Type 0 where

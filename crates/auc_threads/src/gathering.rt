@@ -123,3 +123,19 @@ pub(crate) fn end_of<O: MailBrand, P: MailBrand, H: MailBrand>(
         None => None,
     }
 }
+
+/// The end as it is told. Where no trail is kept none is full: of a worker that was turned away since a mail had counted all calls that it can, nothing is said.
+pub(crate) fn told_end(end: Option<End>, audit: u32) -> Option<End>
+    ensures kept { 0 < audit → result ≡ end }
+    ensures some { IfSome result (λ e. end ≡ Some e) }
+    ensures others { end ≢ Some (End.Stopped Why.Trail) → result ≡ end }
+    ensures trail { result ≡ Some (End.Stopped Why.Trail) → 0 < audit }
+{
+    if audit > 0 {
+        return end;
+    }
+    match end {
+        Some(End::Stopped { why: Why::Trail }) => None,
+        _ => end,
+    }
+}

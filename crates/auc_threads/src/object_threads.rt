@@ -57,7 +57,7 @@ pub(crate) fn start_objects<
             start: Snapshot::of(&start),
         };
         let work = move || -> ObjectWork<O, P, H>
-            requires { (start.shard.person_shards ≡ run.now.task.limits.now.shards) × (number < run.now.task.limits.now.shards) }
+            requires { (start.shard.shard ≡ number) × (start.shard.person_shards ≡ run.now.task.limits.now.shards) × (number < run.now.task.limits.now.shards) }
         { sell(rt, gate, run, number, start) };
         let Ok(handle) = scope.spawn_with(promise, work) else {
             return false;

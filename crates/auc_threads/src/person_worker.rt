@@ -51,8 +51,8 @@ fn serve<O: MailBrand, P: MailBrand, H: MailBrand, R: Wait, G: Gate>(
     requires known { number < run.now.task.limits.now.shards }
     ensures is { IsPersonShard run.now.task.rows.now run.now.task.limits.now.shards number worker.new.buyer.shard }
     ensures kept { Kept run.now.task.rows.now worker.new.buyer.shard.copies worker.new.buyer.lists }
-    ensures hears { Hears P.room worker.old.buyer.shard worker.old.seats.persons worker.new.buyer.shard worker.new.seats.persons (result ≡ Step.Stop Why.Fell) }
-    ensures buys { Buys run.now.task.rows.now run.now.task.eps O.room P.room worker.old.buyer.shard worker.old.seats.objects worker.old.seats.persons worker.new.buyer.shard worker.new.seats.objects worker.new.seats.persons result }
+    ensures hears { Hears P.room number worker.old.buyer.shard worker.old.seats.persons worker.new.buyer.shard worker.new.seats.persons (result ≡ Step.Stop Why.Fell) }
+    ensures buys { Buys run.now.task.rows.now run.now.task.eps O.room P.room number worker.old.buyer.shard worker.old.seats.objects worker.old.seats.persons worker.new.buyer.shard worker.new.seats.objects worker.new.seats.persons result }
     ensures hub { worker.new.seats.hub ≡ worker.old.seats.hub }
     ensures stuck { result ≡ Step.Stop Why.Stuck → SomebodyStuck run.now.task.rows.now }
 {

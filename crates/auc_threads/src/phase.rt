@@ -12,7 +12,7 @@ ghost use Rattle.auc_threads.specs.Starts.{IsObjectResult, IsPersonResult};
 
 use crate::error::RunError;
 use crate::gate::Gate;
-use crate::gathering::{bids_of, end_of, gather};
+use crate::gathering::{bids_of, end_of, gather, told_end};
 use crate::mails::{Ledgers, Mails};
 use crate::running::{Works, run_in_scope, starts_of};
 use crate::settling::{Trails, seats_of, settle_all};
@@ -62,7 +62,8 @@ fn finish<O: MailBrand, P: MailBrand, H: MailBrand>(
     let shards = task.limits.shards;
     let gathered = gather(alloc, task.rows.objects(), shards, works.objects.as_slice())?;
     let bids = bids_of(alloc, works.persons.as_slice())?;
-    let end = end_of(&works);
+    let ended = end_of(&works);
+    let end = told_end(ended, task.limits.audit);
     let all = seats_of(alloc, works)?;
     let trails = settle_all(mails, all);
     Ok(PhaseEnd {

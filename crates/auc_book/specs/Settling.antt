@@ -36,7 +36,8 @@ TellsSent trail a = (b : ℕ) → sent b a.worker (events_of trail) ≡ sent b a
 
 -- what a box handed out is what the seat's own lines tell, where its worker alone takes from the box
 abbrev pub TellsHanded : {T : Type 0} → List (TrailLine T) → Account T → Type 0
-TellsHanded trail a = (b k : ℕ) → All (λ l. IsTakeAt b l.call → l.worker ≡ a.worker) trail → handed b k (events_of trail) ≡ handed b k (events_of a.lines)
+TellsHanded trail a = (b k : ℕ) → All (λ l. IsTakeAt b l.call → l.worker ≡ a.worker) trail → handed b k (events_of trail)
+    ≡ handed b k (events_of a.lines)
 
 -- The trail is a run from the empty mail of these numbers, as long as the seats counted together, and each seat's lines are those of its worker.
 pub record IsSettled {T : Type 0} (boxes workers nodes most room : ℕ) (seats : List (Account T)) (trail : List (TrailLine T)) : Type 0 where

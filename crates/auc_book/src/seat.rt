@@ -11,7 +11,8 @@ use std::alloc::{AllocError, Global};
 use std::marker::Model;
 use std::sync::ledger::{Book, Share};
 
-/// A worker's seat at a shared mail: it counts his calls, and notes them where the mail keeps a trail. Calls that are turned away are counted apart.
+/// A worker's seat at a shared mail: it counts his calls, and notes them where the mail keeps a trail. Calls that are turned away are
+/// counted apart.
 ///
 /// Its count is his share of the ledger of all calls, whose total lies under the mail's lock. So it rises only where a call was made there.
 ///
@@ -34,7 +35,9 @@ impl<T: Copy, N: MailBrand> Model for Seat<T, N> {
 
     ghost view = { λ s. record { worker = s.number; count = s.calls; turned_away = s.turned; lines = s.own.items } };
 
-    ghost invariant = { λ s. IsSeated N.workers N.room (record { worker = s.number; count = s.calls; turned_away = s.turned; lines = s.own.items }) s.places (vec_capacity s.own) s.share.parts s.share.amount };
+    ghost invariant = { λ s. IsSeated N.workers N.room (record
+        { worker = s.number; count = s.calls; turned_away = s.turned; lines = s.own.items }) s.places (vec_capacity s.own) s.share.parts
+        s.share.amount };
 }
 
 impl<T: Copy, N: MailBrand> Seat<T, N> {

@@ -26,7 +26,8 @@ fn place_of<T: Copy, N: MailBrand>(seats: &[Seat<T, N>], worker: u32) -> Option<
 
 // Takes a seat of the worker out of the list.
 fn take_seat<T: Copy, N: MailBrand>(seats: &mut Vec<Seat<T, N>>, worker: u32) -> Option<Seat<T, N>>
-    ensures { MatchOption result (IsUnseated seats.old.items worker × (seats.new.items ≡ seats.old.items)) (λ seat. TakesSeat worker seats.old.items seat seats.new.items) }
+    ensures { MatchOption result (IsUnseated seats.old.items worker × (seats.new.items ≡ seats.old.items))
+        (λ seat. TakesSeat worker seats.old.items seat seats.new.items) }
 {
     match place_of(seats.as_slice(), worker) {
         None => None,

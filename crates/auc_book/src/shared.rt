@@ -135,7 +135,8 @@ impl<T: Copy, N: MailBrand> SharedMail<T, N> {
     /// Posts `item` to the box `to` in the name of the seat's worker, and answers the letter's number in its lane, from 1. Wakes who waits at this
     /// box, and all who wait at this mail where the trail has no place left for more calls.
     ///
-    /// Refused as by `MailState::post`; after `TrailFull` the seat counts one call more that was turned away. Takes O(1) time under the lock, and no memory.
+    /// Refused as by `MailState::post`; after `TrailFull` the seat counts one call more that was turned away. Takes O(1) time under the
+    /// lock, and no memory.
     pub fn post<R: Wait>(
         &self,
         rt: &R,

@@ -197,6 +197,7 @@ none_taken t eps n (Step.Stop why) h = ((λ e. cc), (λ e. stops why (why_same e
   where
     why_same : Step.Stop why ≡ Step.Stop Why.Trail → why ≡ Why.Trail
     why_same e = cc
+
     stops : (y : Why) → y ≡ Why.Trail → Stops t eps n (first_idle n) y → ⊥
     stops y e s = subst (λ (z : Why). Stops t eps n (first_idle n) z) e s
 

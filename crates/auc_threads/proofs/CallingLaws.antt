@@ -1,5 +1,5 @@
 -- Calls at one mail, one after another.
-use Rattle.std.proofs.Common.{◌≡◌, ◌⊎◌, ℕ, ◌==◌, ◌+◌, ◌≤◌, false, cond, List, [], ◌∷◌, ◌++◌, length, length-append, Some, None, refl, ap, sym, ◌∙◌, subst, inl, inr, arith, append_assoc, min}
+use Rattle.std.proofs.Common.{◌≡◌, ◌⊎◌, ℕ, ◌==◌, ◌+◌, ◌≤◌, false, cond, List, [], ◌∷◌, ◌++◌, length, length-append, Some, None, refl, ap, sym, ◌∙◌, subst, inl, inr, arith, append_assoc}
 use Rattle.std.specs.Prelude.{Option}
 use Rattle.std.proofs.lemmas.Bool.{ne_eqb}
 use Rattle.std.proofs.lemmas.List.{append-nil}
@@ -8,7 +8,7 @@ use Rattle.auc_mail.specs.declared.call.Call.{Call}
 use Rattle.auc_mail.specs.declared.call.Reply.{Reply}
 use Rattle.auc_book.specs.declared.line.TrailLine.{TrailLine}
 use Rattle.auc_book.specs.Seat.{Account, SeatCalls, one_more}
-use Rattle.auc_threads.specs.Calling.{Called, IsMore, Makes, lines_by, lines_made, turned_by, turned_in}
+use Rattle.auc_threads.specs.Calling.{Called, IsMore, Makes, lines_by, lines_made, turned_in}
 
 -- ---- counts of calls that were turned away
 
@@ -20,6 +20,7 @@ more_one x y e = by (least x) e
   where
     least : (x : ℕ) → (one_more x ≡ x + 1) ⊎ ((one_more x ≡ 18446744073709551615) × (18446744073709551615 ≤ x + 1))
     least x = grind arith
+
     by : (one_more x ≡ x + 1) ⊎ ((one_more x ≡ 18446744073709551615) × (18446744073709551615 ≤ x + 1)) → y ≡ one_more x → IsMore x 1 y
     by (inl is) e = inl (e ∙ is)
     by (inr last) e = inr (let l = last.0 in omega (arith, e, l), last.1)

@@ -1,5 +1,5 @@
 -- What the hub counts, and how it closes all boxes.
-use Rattle.std.proofs.Common.{◌≡◌, ◌≢◌, ℕ, ◌+◌, ◌<◌, Bool, List, [], ◌∷◌, ◌++◌, length, length-append, true, false, cond, Some, refl, ap, sym, ◌∙◌, subst, inl, inr, arith, append_assoc}
+use Rattle.std.proofs.Common.{◌≡◌, ◌≢◌, ℕ, ◌+◌, ◌<◌, Bool, List, [], ◌∷◌, ◌++◌, length, length-append, true, false, cond, Some, refl, ap, sym, ◌∙◌, inl, inr, arith}
 use Rattle.std.specs.Prelude.{None, Option, Result, Ok, Err, ◌⊎◌}
 use Rattle.std.proofs.lemmas.List.{append-nil}
 use Rattle.std.proofs.lemmas.List.Elements.{All-nil, All-push}
@@ -135,7 +135,7 @@ module _ (room persons : ℕ) (h n : Counting) (a b c : Account Letter) (r : Ans
 
 -- the hub has no reason of a shard
 ends_free : (r : Answer) (why : Option Why) (y : Why) → EndsBy r why → why ≡ Some y → (y ≡ Why.Trail) ⊎ (y ≡ Why.Stray)
-ends_free (Ok (Taken.Letter s n x)) why y ends e = elim ends.1 [ | inl stop ↦ absurd (let f = sym stop.1 ∙ e in cc) | inr stray ↦ inr (let f = sym stray.1 ∙ e in cc) ]
+ends_free (Ok (Taken.Letter s n x)) why y ends e = elim ends.1 [ inl stop ↦ absurd (let f = sym stop.1 ∙ e in cc) | inr stray ↦ inr (let f = sym stray.1 ∙ e in cc) ]
 ends_free (Ok Taken.Empty) why y ends e = absurd ends
 ends_free (Ok Taken.Over) why y ends e = absurd (let f = sym ends ∙ e in cc)
 ends_free (Err t) why y ends e = inl (let f = sym ends ∙ e in cc)
@@ -146,9 +146,9 @@ hub_free room persons a false why b y c e = ends_free c.last why y (c.ends refl)
 
 pub hub_guard : (room persons : ℕ) (a : Account Letter) (is_all : Bool) (why : Option Why) (b : Account Letter) → Counts room persons a is_all why b → (why ≢ Some Why.Stuck) × (why ≢ Some Why.Fell)
 hub_guard room persons a is_all why b c = (
-  (λ e. elim (hub_free room persons a is_all why b Why.Stuck c e) [ | inl f ↦ cc | inr f ↦ cc ]),
-  (λ e. elim (hub_free room persons a is_all why b Why.Fell c e) [ | inl f ↦ cc | inr f ↦ cc ]),
+  (λ e. elim (hub_free room persons a is_all why b Why.Stuck c e) [ inl f ↦ cc | inr f ↦ cc ]),
+  (λ e. elim (hub_free room persons a is_all why b Why.Fell c e) [ inl f ↦ cc | inr f ↦ cc ]),
 )
 
 pub hub_bids : (room persons : ℕ) (a : Account Letter) (is_all : Bool) (why : Option Why) (b : Account Letter) → Counts room persons a is_all why b → why ≢ Some Why.Bids
-hub_bids room persons a is_all why b c e = elim (hub_free room persons a is_all why b Why.Bids c e) [ | inl f ↦ cc | inr f ↦ cc ]
+hub_bids room persons a is_all why b c e = elim (hub_free room persons a is_all why b Why.Bids c e) [ inl f ↦ cc | inr f ↦ cc ]

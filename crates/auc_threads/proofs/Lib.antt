@@ -11,6 +11,7 @@ pub mod HearingLaws
 pub mod AskingLaws
 pub mod StartsLaws
 pub mod WorkedLaws
+pub mod SenderLaws
 pub mod PhaseLaws
 pub mod SolvedLaws
 mod WorkedPosts

@@ -18,7 +18,8 @@ use Rattle.auc_objects.specs.Objects.{Objects, Owns, holder_of, price_of, sale_o
 use Rattle.auc_book.specs.declared.line.TrailLine.{TrailLine}
 use Rattle.auc_book.specs.Seat.{Account, new_account}
 use Rattle.auc_book.specs.Settling.{Agrees, IsSettled, IsTrueOf, IsTurnedByFull}
-use Rattle.auc_book.specs.Trail.{lines_of}
+use Rattle.auc_book.specs.Trail.{IsOwn, lines_of}
+use Rattle.auc_threads.proofs.SenderLaws.{persons_post}
 use Rattle.auc_answers.specs.Shards.{new_objects}
 use Rattle.auc_answers.specs.declared.limits.Limits.{Limits}
 use Rattle.auc_answers.proofs.NewShards.{replicate_default}
@@ -284,11 +285,14 @@ module _ {X Z : Type 0} (f : X → Persons) (a p h : X → Account Letter) (y : 
   pub told_phase : IsSettled bo wo no mo ro so trails.objects → IsSettled bp wp np mp rp sp trails.persons → IsSettled bh wh nh mh rh sh trails.hub → IsToldBy task.rows.now task.limits.now task.eps task.prices.now e trails
   told_phase o u v =
       let hub_told = all_told rh (length task.rows.now.rows) (2 * task.limits.now.shards) is_all hub_why hub trails.hub v.kept counts (all_last (Agrees trails.hub) h i xs zs hub sh eh v.agree) in
+      let kept : 0 < task.limits.now.audit = subst (λ (x : ℕ). 0 < x) named_o.room_is o.kept in
+      let own = subst (λ (n : ℕ). All (λ l. (l.worker < n) × IsOwn l.worker l.call) trails.objects) named_o.workers_are o.own in
       record {
-        kept = subst (λ (x : ℕ). 0 < x) named_o.room_is o.kept;
+        kept = kept;
         objects_trail = trail_of bo wo no mo ro task.limits.now.shards (objects_nodes task.limits.now (length task.rows.now.rows)) task.limits.now so trails.objects named_o o;
         persons_trail = trail_of bp wp np mp rp task.limits.now.shards (persons_nodes task.limits.now (length task.rows.now.rows)) task.limits.now sp trails.persons named_p u;
         hub_trail = trail_of bh wh nh mh rh 1 (hub_nodes task.limits.now (length task.rows.now.rows)) task.limits.now sh trails.hub named_h v;
+        bids_of_persons = persons_post task.rows.now task.limits.now task.eps task.prices.now trails e.bids.items e.end kept (worked o u v) own;
         sold = λ j low.
             sold_told g b q i z task ro rp rh zs sold trails.objects j (price_in e.gathered.prices.items j) (get_or e.gathered.holders.items j None) o.kept (all_second (Agrees trails.objects) a b xs zs hub_objects so eo o.agree) objects_many some (omega (arith, low, each)) (λ d. gathers j d low);
         all = ((λ x. hub_told.0 (ends.0 x)), (λ x. ends.1 (hub_told.1 x)));

@@ -1,6 +1,6 @@
 -- What a worker took, one letter after another.
-use Rattle.std.proofs.Common.{◌≡◌, ◌⊎◌, ℕ, ◌<◌, List, [], ◌∷◌, ◌++◌, Some, None, refl, ap, sym, ◌∙◌, subst, inl, inr, append_assoc}
-use Rattle.std.specs.Prelude.{Option, Result, Ok, Err}
+use Rattle.std.proofs.Common.{◌≡◌, ℕ, ◌<◌, List, [], ◌∷◌, ◌++◌, refl, ap, sym, ◌∙◌, subst, inl, inr, append_assoc}
+use Rattle.std.specs.Prelude.{Ok, Err}
 use Rattle.std.proofs.lemmas.List.{append-nil}
 use Rattle.auc_letters.specs.declared.letter.Letter.{Letter}
 use Rattle.auc_mail.specs.declared.call.Taken.{Taken}
@@ -9,7 +9,7 @@ use Rattle.auc_book.specs.declared.line.TrailLine.{TrailLine}
 use Rattle.auc_book.specs.Replies.{take_reply}
 use Rattle.auc_book.specs.Seat.{Account, SeatCalls}
 use Rattle.auc_threads.specs.declared.calls.Step.{Step}
-use Rattle.auc_threads.specs.Calling.{Called, Makes, lines_by, lines_made}
+use Rattle.auc_threads.specs.Calling.{lines_by, lines_made}
 use Rattle.auc_threads.specs.Taking.{AfterTake, AfterTakes, Answer, Takes, calls_taken, letter_by, letter_of, letters_in, letters_taken}
 use Rattle.auc_threads.proofs.CallingLaws.{makes_as, makes_call, makes_none, makes_then}
 

@@ -71,14 +71,16 @@ pub record ListensTo (t : Table) (eps : ℤ) (s : Persons) (letters : List Lette
   pub after : AfterActs t eps n fault step
 
 -- and the worker took them from its box
-pub record Listens (t : Table) (eps : ℤ) (room at : ℕ) (s : Persons) (a : Account Letter) (n : Persons) (b : Account Letter) (step : Step) : Type 0 where
+pub record Listens (t : Table) (eps : ℤ) (room at : ℕ) (s : Persons) (a : Account Letter) (n : Persons) (b : Account Letter)
+    (step : Step) : Type 0 where
   pub letters : List Letter
   pub took : Takes room at a letters b
   pub listens : ListensTo t eps s letters n step
   pub taken : AfterTakes took.answers step
 
 -- It bid and heard: it took just these letters from its box, and posted the bids in order, up to the first post that ends it.
-pub record Buys (t : Table) (eps : ℤ) (objects_room persons_room at : ℕ) (s : Persons) (a p : Account Letter) (n : Persons) (a' p' : Account Letter) (step : Step) : Type 0 where
+pub record Buys (t : Table) (eps : ℤ) (objects_room persons_room at : ℕ) (s : Persons) (a p : Account Letter) (n : Persons)
+    (a' p' : Account Letter) (step : Step) : Type 0 where
   pub acts : List Act
   pub fault : List Letter
   pub posts_step : Step

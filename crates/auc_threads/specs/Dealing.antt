@@ -26,7 +26,8 @@ prices_told s n one object = map (λ q. price_told s.persons q object (price_of 
 abbrev pub says : ℤ → Objects → Bid → List Out
 says eps s bid =
     answers s.person_shards eps (sale_of s bid.object) bid
-    ++ (if is_accepted eps (sale_of s bid.object) bid then prices_told (after_bid s eps bid) s.person_shards (bid.person % s.person_shards) bid.object else [])
+    ++ (if is_accepted eps (sale_of s bid.object) bid then prices_told (after_bid s eps bid) s.person_shards (bid.person % s.person_shards)
+    bid.object else [])
 
 -- the shard when bids were dealt with, one after another, and what it says of them
 abbrev pub after_bids : ℤ → Objects → List Bid → Objects
@@ -67,14 +68,16 @@ pub record DealsWith (eps : ℤ) (s : Objects) (letters : List Letter) (said : L
   pub after : AfterLetters t stray step
 
 -- and the worker took them from its box
-pub record Deals (eps : ℤ) (room at : ℕ) (s : Objects) (a : Account Letter) (said : List Out) (t : Objects) (b : Account Letter) (step : Step) : Type 0 where
+pub record Deals (eps : ℤ) (room at : ℕ) (s : Objects) (a : Account Letter) (said : List Out) (t : Objects) (b : Account Letter)
+    (step : Step) : Type 0 where
   pub letters : List Letter
   pub took : Takes room at a letters b
   pub dealt : DealsWith eps s letters said t step
   pub taken : AfterTakes took.answers step
 
 -- It dealt with letters, and posted what it had to say of them.
-pub record Serves (eps : ℤ) (objects_room persons_room hub_room at : ℕ) (s : Objects) (a p h : Account Letter) (t : Objects) (a' p' h' : Account Letter) (step : Step) : Type 0 where
+pub record Serves (eps : ℤ) (objects_room persons_room hub_room at : ℕ) (s : Objects) (a p h : Account Letter) (t : Objects)
+    (a' p' h' : Account Letter) (step : Step) : Type 0 where
   pub said : List Out
   pub took_step : Step
   pub said_step : Step

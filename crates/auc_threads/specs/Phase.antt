@@ -4,6 +4,7 @@ use Rattle.auc_graph.specs.Table.{Table}
 use Rattle.auc_letters.specs.declared.letter.Letter.{Letter}
 use Rattle.auc_letters.specs.declared.letter.Why.{Why}
 use Rattle.auc_letters.specs.Award.{Sale, award_all, bids_on}
+use Rattle.auc_mail.specs.declared.call.Call.{Call}
 use Rattle.auc_mail.specs.Mail.{Mail, empty_mail}
 use Rattle.auc_mail.specs.Run.{Run}
 use Rattle.auc_book.specs.declared.line.TrailLine.{TrailLine}
@@ -32,6 +33,12 @@ pub record IsTrail (boxes workers nodes most : ℕ) (lines : List (TrailLine Let
   pub run : IsRun boxes workers nodes most lines
   pub own : All (λ l. (l.worker < workers) × IsOwn l.worker l.call) lines
 
+-- the call is a post
+abbrev pub IsPost : Call Letter → Type 0
+IsPost (Call.Post s b x r) = Unit {0}
+IsPost (Call.Take b) = ⊥
+IsPost (Call.Close b) = ⊥
+
 -- the letters that a worker took, in order
 abbrev pub taken_by : ℕ → List (TrailLine Letter) → List Letter
 taken_by worker trail = letters_in (lines_of worker trail)
@@ -54,8 +61,8 @@ pub record AreCounted (limits : Limits) (bids : List ℕ) (end : Option End) : T
   pub few : All (λ n. n ≤ limits.bids) bids
   pub spent : end ≡ Some (End.Stopped Why.Bids) → (k : ℕ) × (k < limits.shards) × (slice_index_or bids k 0 ≡ limits.bids)
 
--- What the shard number k of the persons did, with trails or without: from its beginning it heard letters and made bids, one after another, of which so many
--- were posted at most, and no copy of a price fell.
+-- What the shard number k of the persons did, with trails or without: from its beginning it heard letters and made bids, one after
+-- another, of which it posted so many and no more, and no copy of a price fell.
 pub record HasPlayed (t : Table) (limits : Limits) (eps : ℤ) (start : List ℤ) (k bids : ℕ) : Type 0 where
   pub acts : List Act
   pub left : Persons
@@ -71,8 +78,11 @@ pub record IsToldBy (t : Table) (limits : Limits) (eps : ℤ) (start : List ℤ)
   pub objects_trail : IsTrail limits.shards (workers_of limits.shards) (objects_nodes limits (length t.rows)) limits.posts trails.objects
   pub persons_trail : IsTrail limits.shards (workers_of limits.shards) (persons_nodes limits (length t.rows)) limits.posts trails.persons
   pub hub_trail : IsTrail 1 (workers_of limits.shards) (hub_nodes limits (length t.rows)) limits.posts trails.hub
+  -- nobody but the persons posts bids
+  pub bids_of_persons : All (λ l. IsPost l.call → l.worker < limits.shards) trails.objects
   -- each object's price and holder are what the award rule makes of it by the bids on it that its shard's worker took, in order
-  pub sold : (j : ℕ) → j < t.objects → left_in p.gathered j ≡ award_all eps (unsold start j) (bids_on j (taken_by (limits.shards + j % limits.shards) trails.objects))
+  pub sold : (j : ℕ) → j < t.objects → left_in p.gathered j ≡ award_all eps (unsold start j)
+      (bids_on j (taken_by (limits.shards + j % limits.shards) trails.objects))
   -- everyone has an object exactly where the hub took a First for each person
   pub all : (p.end ≡ Some End.All) ↔ (firsts_in (taken_by (2 * limits.shards) trails.hub) ≡ length t.rows)
   -- a price fell only where a worker of the persons took one below the start price, or below an earlier one that he took

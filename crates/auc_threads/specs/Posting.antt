@@ -42,7 +42,8 @@ abbrev pub Posts : List Out → List Sent → Step → Type 0
 Posts [] [] step = step ≡ Step.On
 Posts [] (x ∷ xs) step = ⊥
 Posts (o ∷ os) [] step = ⊥
-Posts (o ∷ os) (x ∷ xs) step = (x.out ≡ o) × (((step_of x ≡ Step.On) × Posts os xs step) ⊎ ((step_of x ≢ Step.On) × (xs ≡ []) × (step ≡ step_of x)))
+Posts (o ∷ os) (x ∷ xs) step = (x.out ≡ o) × (((step_of x ≡ Step.On) × Posts os xs step)
+    ⊎ ((step_of x ≢ Step.On) × (xs ≡ []) × (step ≡ step_of x)))
 
 -- the post of a letter, as a call
 abbrev pub post_of : ℕ → Out → Call Letter
@@ -94,13 +95,15 @@ why_of (Step.Stop why) = Some why
 abbrev pub calls_stopped : ℕ → Why → Result ℕ CallRefused → Result Bool TrailFull → List Called
 calls_stopped k why (Ok n) closed = record { call = post_of k (to_hub (Letter.Stop why)); reply = post_reply (Ok n) } ∷ []
 calls_stopped k why (Err e) closed =
-    record { call = post_of k (to_hub (Letter.Stop why)); reply = post_reply (Err e) } ∷ record { call = Call.Close 0; reply = close_reply closed } ∷ []
+    record { call = post_of k (to_hub (Letter.Stop why)); reply = post_reply (Err e) }
+    ∷ record { call = Call.Close 0; reply = close_reply closed } ∷ []
 
 -- the calls at the hub's mail of a worker that ends so
 abbrev pub AreLast : ℕ → Step → List Called → Type 0
 AreLast k Step.On calls = calls ≡ []
 AreLast k Step.Over calls = calls ≡ []
-AreLast k (Step.Stop why) calls = (posted : Result ℕ CallRefused) × (closed : Result Bool TrailFull) × (calls ≡ calls_stopped k why posted closed)
+AreLast k (Step.Stop why) calls = (posted : Result ℕ CallRefused) × (closed : Result Bool TrailFull)
+    × (calls ≡ calls_stopped k why posted closed)
 
 pub record Ends (room : ℕ) (a : Account Letter) (step : Step) (b : Account Letter) : Type 0 where
   pub calls : List Called

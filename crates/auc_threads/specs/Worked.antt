@@ -33,7 +33,8 @@ pub record IsBuyer (t : Table) (limits : Limits) (eps : ℤ) (start : List ℤ) 
   pub objects : Account Letter
   pub persons : Account Letter
   pub hub : Account Letter
-  pub work : IsPersonWork t eps limits.audit limits.audit limits.audit (new_persons limits.shards (length t.rows) limits.bids start k) (new_account k) (new_account k) (new_account k) left objects persons hub why
+  pub work : IsPersonWork t eps limits.audit limits.audit limits.audit (new_persons limits.shards (length t.rows) limits.bids start k)
+      (new_account k) (new_account k) (new_account k) left objects persons hub why
   pub told : AreTold limits.audit k trails objects persons hub
   pub counted : length objects.lines ≡ bids
   pub few : length objects.lines ≤ limits.bids
@@ -45,7 +46,8 @@ pub record IsSeller (t : Table) (limits : Limits) (eps : ℤ) (start : List ℤ)
   pub objects : Account Letter
   pub persons : Account Letter
   pub hub : Account Letter
-  pub work : IsObjectWork eps limits.audit limits.audit limits.audit (new_objects limits.shards (length t.rows) start k) (new_account (limits.shards + k)) (new_account (limits.shards + k)) (new_account (limits.shards + k)) left objects persons hub why
+  pub work : IsObjectWork eps limits.audit limits.audit limits.audit (new_objects limits.shards (length t.rows) start k)
+      (new_account (limits.shards + k)) (new_account (limits.shards + k)) (new_account (limits.shards + k)) left objects persons hub why
   pub told : AreTold limits.audit (limits.shards + k) trails objects persons hub
 
 -- The hub, which has counted a First for each person or not. It closed all boxes.
@@ -71,14 +73,16 @@ end_by false None = None
 end_by false (Some why) = Some (End.Stopped why)
 
 -- What the trails tell of the workers, each with its reason to stop, if it has one; the first of these counts, of the persons, the objects and the hub.
-pub record AreWorked (t : Table) (limits : Limits) (eps : ℤ) (start : List ℤ) (trails : Trails) (bids : List ℕ) (end : Option End) : Type 0 where
-  pub person_reasons : List (Option Why)
-  pub object_reasons : List (Option Why)
-  pub hub_reason : Option Why
-  pub is_all : Bool
-  pub buyers : (k : ℕ) → k < limits.shards → IsBuyer t limits eps start trails (slice_index_or bids k 0) k (slice_index_or person_reasons k None)
-  pub sellers : (k : ℕ) → k < limits.shards → IsSeller t limits eps start trails k (slice_index_or object_reasons k None)
-  pub hub : IsHub t limits trails is_all hub_reason
-  pub person_many : length person_reasons ≡ limits.shards
-  pub object_many : length object_reasons ≡ limits.shards
-  pub end_is : end ≡ end_by is_all (first_some ((person_reasons ++ object_reasons) ++ hub_reason ∷ []))
+pub record AreWorked (t : Table) (limits : Limits) (eps : ℤ) (start : List ℤ) (trails : Trails) (bids : List ℕ) (end : Option End) : Type 0
+  where
+    pub person_reasons : List (Option Why)
+    pub object_reasons : List (Option Why)
+    pub hub_reason : Option Why
+    pub is_all : Bool
+    pub buyers : (k : ℕ) → k < limits.shards → IsBuyer t limits eps start trails (slice_index_or bids k 0) k
+        (slice_index_or person_reasons k None)
+    pub sellers : (k : ℕ) → k < limits.shards → IsSeller t limits eps start trails k (slice_index_or object_reasons k None)
+    pub hub : IsHub t limits trails is_all hub_reason
+    pub person_many : length person_reasons ≡ limits.shards
+    pub object_many : length object_reasons ≡ limits.shards
+    pub end_is : end ≡ end_by is_all (first_some ((person_reasons ++ object_reasons) ++ hub_reason ∷ []))

@@ -82,7 +82,8 @@ fn deal_letter(
 ) -> Step
     requires shards { shard.old.person_shards ≡ task.now.limits.now.shards }
     requires room { array_vec_len said.old + MOST_SAID ≤ ROOM }
-    ensures deals { (more : List AnOut) × (said.new.items ≡ said.old.items ++ more) × DealsWith task.now.eps shard.old (letter ∷ []) more shard.new result }
+    ensures deals { (more : List AnOut) × (said.new.items ≡ said.old.items ++ more)
+        × DealsWith task.now.eps shard.old (letter ∷ []) more shard.new result }
     ensures goes { (result ≢ AStep.Over) × (result ≢ AStep.Stop AWhy.Trail) }
 {
     let Some(bid) = shard.bid_in(letter) else {
@@ -108,7 +109,8 @@ fn deal(
     requires shards { shard.old.person_shards ≡ task.now.limits.now.shards }
     requires room { array_vec_len said.old + MOST_SAID ≤ ROOM }
     requires some { taken ≢ Ok ATaken.Empty }
-    ensures deals { (more : List AnOut) × (said.new.items ≡ said.old.items ++ more) × DealsWith task.now.eps shard.old (letter_of taken) more shard.new result }
+    ensures deals { (more : List AnOut) × (said.new.items ≡ said.old.items ++ more)
+        × DealsWith task.now.eps shard.old (letter_of taken) more shard.new result }
     ensures after { AfterTake taken result }
 {
     match taken {
@@ -160,7 +162,8 @@ pub(crate) fn deal_next<O: MailBrand, P: MailBrand, H: MailBrand, R: Wait, G: Ga
     requires shards { worker.old.shard.person_shards ≡ run.now.task.limits.now.shards }
     requires known { number < run.now.task.limits.now.shards }
     requires none { said.old.items ≡ [] }
-    ensures deals { Deals run.now.task.eps O.room number worker.old.shard worker.old.seats.objects said.new.items worker.new.shard worker.new.seats.objects result }
+    ensures deals { Deals run.now.task.eps O.room number worker.old.shard worker.old.seats.objects said.new.items worker.new.shard
+        worker.new.seats.objects result }
     ensures persons { worker.new.seats.persons ≡ worker.old.seats.persons }
     ensures hub { worker.new.seats.hub ≡ worker.old.seats.hub }
 {

@@ -48,7 +48,8 @@ fn person_starts<O: MailBrand, P: MailBrand, H: MailBrand>(
 ) -> Result<Vec<PersonWorker<O, P, H>>, AllocError>
     requires seats { Placed (λ k w. AreNewSeats k w.objects w.persons w.hub) 0 seats.items }
     requires many { vec_len seats ≡ task.now.limits.now.shards }
-    ensures starts { IfOk result (λ v. Placed (λ k x. IsBuyerStart task.now k x.buyer.shard x.buyer.lists x.seats.objects x.seats.persons x.seats.hub) 0 v.items) }
+    ensures starts { IfOk result (λ v. Placed (λ k x. IsBuyerStart task.now k x.buyer.shard x.buyer.lists x.seats.objects x.seats.persons
+        x.seats.hub) 0 v.items) }
     ensures many { IfOk result (λ v. vec_len v ≡ task.now.limits.now.shards) }
 {
     let shards = task.limits.shards;
@@ -74,7 +75,8 @@ fn object_starts<O: MailBrand, P: MailBrand, H: MailBrand>(
 ) -> Result<Vec<ObjectWorker<O, P, H>>, AllocError>
     requires seats { Placed (λ k w. AreNewSeats k w.objects w.persons w.hub) task.now.limits.now.shards seats.items }
     requires many { vec_len seats ≡ task.now.limits.now.shards }
-    ensures starts { IfOk result (λ v. Placed (λ k x. IsObjectStart task.now k x.shard x.seats.objects x.seats.persons x.seats.hub) 0 v.items) }
+    ensures starts { IfOk result (λ v. Placed (λ k x. IsObjectStart task.now k x.shard x.seats.objects x.seats.persons x.seats.hub) 0
+        v.items) }
     ensures many { IfOk result (λ v. vec_len v ≡ task.now.limits.now.shards) }
 {
     let shards = task.limits.shards;
@@ -97,9 +99,11 @@ pub(crate) fn starts_of<O: MailBrand, P: MailBrand, H: MailBrand>(
 ) -> Result<Starts<O, P, H>, AllocError>
     requires seats { Placed (λ k w. AreNewSeats k w.objects w.persons w.hub) 0 seats.items }
     requires many { vec_len seats ≡ workers_of task.now.limits.now.shards }
-    ensures persons { IfOk result (λ r. Placed (λ k x. IsBuyerStart task.now k x.buyer.shard x.buyer.lists x.seats.objects x.seats.persons x.seats.hub) 0 r.persons.items) }
+    ensures persons { IfOk result (λ r. Placed (λ k x. IsBuyerStart task.now k x.buyer.shard x.buyer.lists x.seats.objects x.seats.persons
+        x.seats.hub) 0 r.persons.items) }
     ensures persons_many { IfOk result (λ r. vec_len r.persons ≡ task.now.limits.now.shards) }
-    ensures objects { IfOk result (λ r. Placed (λ k x. IsObjectStart task.now k x.shard x.seats.objects x.seats.persons x.seats.hub) 0 r.objects.items) }
+    ensures objects { IfOk result (λ r. Placed (λ k x. IsObjectStart task.now k x.shard x.seats.objects x.seats.persons x.seats.hub) 0
+        r.objects.items) }
     ensures objects_many { IfOk result (λ r. vec_len r.objects ≡ task.now.limits.now.shards) }
     ensures hub { IfOk result (λ r. AreNewSeats (2 * task.now.limits.now.shards) r.hub.objects r.hub.persons r.hub.hub) }
 {
@@ -161,7 +165,8 @@ fn start_all<
     person_handles: &mut Vec<PromisedHandle<PersonWork<O, P, H>, Bought<O, P, H>>>,
     object_handles: &mut Vec<PromisedHandle<ObjectWork<O, P, H>, Sold<O, P, H>>>,
 ) -> bool
-    requires persons { Placed (λ k x. IsBuyerStart run.now.task k x.buyer.shard x.buyer.lists x.seats.objects x.seats.persons x.seats.hub) 0 persons.items }
+    requires persons { Placed (λ k x. IsBuyerStart run.now.task k x.buyer.shard x.buyer.lists x.seats.objects x.seats.persons x.seats.hub) 0
+        persons.items }
     requires persons_many { vec_len persons ≡ run.now.task.limits.now.shards }
     requires persons_none { person_handles.old.items ≡ [] }
     requires persons_room { vec_len persons ≤ vec_capacity person_handles.old }
@@ -169,9 +174,13 @@ fn start_all<
     requires objects_many { vec_len objects ≡ run.now.task.limits.now.shards }
     requires objects_none { object_handles.old.items ≡ [] }
     requires objects_room { vec_len objects ≤ vec_capacity object_handles.old }
-    ensures persons { Placed (λ k h. IsPersonPromise run.now.task k h.promise.eps h.promise.rows.value h.promise.start.value.buyer.shard h.promise.start.value.seats.objects h.promise.start.value.seats.persons h.promise.start.value.seats.hub) 0 person_handles.new.items }
+    ensures persons { Placed (λ k h. IsPersonPromise run.now.task k h.promise.eps h.promise.rows.value h.promise.start.value.buyer.shard
+        h.promise.start.value.seats.objects h.promise.start.value.seats.persons h.promise.start.value.seats.hub) 0
+        person_handles.new.items }
     ensures persons_few { vec_len person_handles.new ≤ run.now.task.limits.now.shards }
-    ensures objects { Placed (λ k h. IsObjectPromise run.now.task k h.promise.eps h.promise.start.value.shard h.promise.start.value.seats.objects h.promise.start.value.seats.persons h.promise.start.value.seats.hub) 0 object_handles.new.items }
+    ensures objects { Placed (λ k h. IsObjectPromise run.now.task k h.promise.eps h.promise.start.value.shard
+        h.promise.start.value.seats.objects h.promise.start.value.seats.persons h.promise.start.value.seats.hub) 0
+        object_handles.new.items }
     ensures objects_few { vec_len object_handles.new ≤ run.now.task.limits.now.shards }
     ensures persons_all { IsTrue result → vec_len person_handles.new ≡ run.now.task.limits.now.shards }
     ensures objects_all { IsTrue result → vec_len object_handles.new ≡ run.now.task.limits.now.shards }
@@ -200,15 +209,20 @@ fn run_all<
     run: &'e PhaseRun<'e, O, P, H>,
     starts: Starts<O, P, H>,
 ) -> Result<Works<O, P, H>, RunError>
-    requires persons { Placed (λ k x. IsBuyerStart run.now.task k x.buyer.shard x.buyer.lists x.seats.objects x.seats.persons x.seats.hub) 0 starts.persons.items }
+    requires persons { Placed (λ k x. IsBuyerStart run.now.task k x.buyer.shard x.buyer.lists x.seats.objects x.seats.persons x.seats.hub) 0
+        starts.persons.items }
     requires persons_many { vec_len starts.persons ≡ run.now.task.limits.now.shards }
-    requires objects { Placed (λ k x. IsObjectStart run.now.task k x.shard x.seats.objects x.seats.persons x.seats.hub) 0 starts.objects.items }
+    requires objects { Placed (λ k x. IsObjectStart run.now.task k x.shard x.seats.objects x.seats.persons x.seats.hub) 0
+        starts.objects.items }
     requires objects_many { vec_len starts.objects ≡ run.now.task.limits.now.shards }
-    ensures persons { IfOk result (λ r. Placed (λ k w. IsPersonResult run.now.task O.room P.room H.room k w.shard w.seats.objects w.seats.persons w.seats.hub w.why) 0 r.persons.items) }
+    ensures persons { IfOk result (λ r. Placed (λ k w. IsPersonResult run.now.task O.room P.room H.room k w.shard w.seats.objects
+        w.seats.persons w.seats.hub w.why) 0 r.persons.items) }
     ensures persons_many { IfOk result (λ r. vec_len r.persons ≡ run.now.task.limits.now.shards) }
-    ensures objects { IfOk result (λ r. Placed (λ k w. IsObjectResult run.now.task O.room P.room H.room k w.shard w.seats.objects w.seats.persons w.seats.hub w.why) 0 r.objects.items) }
+    ensures objects { IfOk result (λ r. Placed (λ k w. IsObjectResult run.now.task O.room P.room H.room k w.shard w.seats.objects
+        w.seats.persons w.seats.hub w.why) 0 r.objects.items) }
     ensures objects_many { IfOk result (λ r. vec_len r.objects ≡ run.now.task.limits.now.shards) }
-    ensures counts { IfOk result (λ r. Counts H.room (length run.now.task.rows.now.rows) starts.hub.hub r.hub.is_all r.hub.why r.hub.seats.hub) }
+    ensures counts { IfOk result (λ r. Counts H.room (length run.now.task.rows.now.rows) starts.hub.hub r.hub.is_all r.hub.why
+        r.hub.seats.hub) }
     ensures hub_objects { IfOk result (λ r. Closes O.room O.boxes starts.hub.objects r.hub.seats.objects) }
     ensures hub_persons { IfOk result (λ r. Closes P.room P.boxes starts.hub.persons r.hub.seats.persons) }
 {
@@ -260,15 +274,20 @@ pub(crate) fn run_in_scope<
     run: &PhaseRun<'_, O, P, H>,
     starts: Starts<O, P, H>,
 ) -> Result<Works<O, P, H>, RunError>
-    requires persons { Placed (λ k x. IsBuyerStart run.now.task k x.buyer.shard x.buyer.lists x.seats.objects x.seats.persons x.seats.hub) 0 starts.persons.items }
+    requires persons { Placed (λ k x. IsBuyerStart run.now.task k x.buyer.shard x.buyer.lists x.seats.objects x.seats.persons x.seats.hub) 0
+        starts.persons.items }
     requires persons_many { vec_len starts.persons ≡ run.now.task.limits.now.shards }
-    requires objects { Placed (λ k x. IsObjectStart run.now.task k x.shard x.seats.objects x.seats.persons x.seats.hub) 0 starts.objects.items }
+    requires objects { Placed (λ k x. IsObjectStart run.now.task k x.shard x.seats.objects x.seats.persons x.seats.hub) 0
+        starts.objects.items }
     requires objects_many { vec_len starts.objects ≡ run.now.task.limits.now.shards }
-    ensures persons { IfOk result (λ r. Placed (λ k w. IsPersonResult run.now.task O.room P.room H.room k w.shard w.seats.objects w.seats.persons w.seats.hub w.why) 0 r.persons.items) }
+    ensures persons { IfOk result (λ r. Placed (λ k w. IsPersonResult run.now.task O.room P.room H.room k w.shard w.seats.objects
+        w.seats.persons w.seats.hub w.why) 0 r.persons.items) }
     ensures persons_many { IfOk result (λ r. vec_len r.persons ≡ run.now.task.limits.now.shards) }
-    ensures objects { IfOk result (λ r. Placed (λ k w. IsObjectResult run.now.task O.room P.room H.room k w.shard w.seats.objects w.seats.persons w.seats.hub w.why) 0 r.objects.items) }
+    ensures objects { IfOk result (λ r. Placed (λ k w. IsObjectResult run.now.task O.room P.room H.room k w.shard w.seats.objects
+        w.seats.persons w.seats.hub w.why) 0 r.objects.items) }
     ensures objects_many { IfOk result (λ r. vec_len r.objects ≡ run.now.task.limits.now.shards) }
-    ensures counts { IfOk result (λ r. Counts H.room (length run.now.task.rows.now.rows) starts.hub.hub r.hub.is_all r.hub.why r.hub.seats.hub) }
+    ensures counts { IfOk result (λ r. Counts H.room (length run.now.task.rows.now.rows) starts.hub.hub r.hub.is_all r.hub.why
+        r.hub.seats.hub) }
     ensures hub_objects { IfOk result (λ r. Closes O.room O.boxes starts.hub.objects r.hub.seats.objects) }
     ensures hub_persons { IfOk result (λ r. Closes P.room P.boxes starts.hub.persons r.hub.seats.persons) }
 {
@@ -276,15 +295,20 @@ pub(crate) fn run_in_scope<
         thread::scope_env(),
         rt,
         |scope| -> Result<Works<O, P, H>, RunError>
-            requires persons { Placed (λ k x. IsBuyerStart run.now.task k x.buyer.shard x.buyer.lists x.seats.objects x.seats.persons x.seats.hub) 0 starts.persons.items }
+            requires persons { Placed (λ k x. IsBuyerStart run.now.task k x.buyer.shard x.buyer.lists x.seats.objects x.seats.persons
+                x.seats.hub) 0 starts.persons.items }
             requires persons_many { vec_len starts.persons ≡ run.now.task.limits.now.shards }
-            requires objects { Placed (λ k x. IsObjectStart run.now.task k x.shard x.seats.objects x.seats.persons x.seats.hub) 0 starts.objects.items }
+            requires objects { Placed (λ k x. IsObjectStart run.now.task k x.shard x.seats.objects x.seats.persons x.seats.hub) 0
+                starts.objects.items }
             requires objects_many { vec_len starts.objects ≡ run.now.task.limits.now.shards }
-            ensures persons { IfOk result (λ r. Placed (λ k w. IsPersonResult run.entry.now.task O.room P.room H.room k w.shard w.seats.objects w.seats.persons w.seats.hub w.why) 0 r.persons.items) }
+            ensures persons { IfOk result (λ r. Placed (λ k w. IsPersonResult run.entry.now.task O.room P.room H.room k w.shard
+                w.seats.objects w.seats.persons w.seats.hub w.why) 0 r.persons.items) }
             ensures persons_many { IfOk result (λ r. vec_len r.persons ≡ run.entry.now.task.limits.now.shards) }
-            ensures objects { IfOk result (λ r. Placed (λ k w. IsObjectResult run.entry.now.task O.room P.room H.room k w.shard w.seats.objects w.seats.persons w.seats.hub w.why) 0 r.objects.items) }
+            ensures objects { IfOk result (λ r. Placed (λ k w. IsObjectResult run.entry.now.task O.room P.room H.room k w.shard
+                w.seats.objects w.seats.persons w.seats.hub w.why) 0 r.objects.items) }
             ensures objects_many { IfOk result (λ r. vec_len r.objects ≡ run.entry.now.task.limits.now.shards) }
-            ensures counts { IfOk result (λ r. Counts H.room (length run.entry.now.task.rows.now.rows) starts.hub.hub r.hub.is_all r.hub.why r.hub.seats.hub) }
+            ensures counts { IfOk result (λ r. Counts H.room (length run.entry.now.task.rows.now.rows) starts.hub.hub r.hub.is_all r.hub.why
+                r.hub.seats.hub) }
             ensures hub_objects { IfOk result (λ r. Closes O.room O.boxes starts.hub.objects r.hub.seats.objects) }
             ensures hub_persons { IfOk result (λ r. Closes P.room P.boxes starts.hub.persons r.hub.seats.persons) }
         { run_all(scope, alloc, rt, gate, run, starts) },

@@ -1,4 +1,4 @@
-use Rattle.std.proofs.Common.{◌⊎◌, inl, inr, false, [], vec_len, ◌≡◌, ◌<◌, ◌∙◌, length, ap, sym, subst, arith}
+use Rattle.std.proofs.Common.{◌⊎◌, inl, inr, false, [], vec_len, ◌≡◌, ◌<◌, ◌∙◌, length, sym, subst, arith}
 use Rattle.std.proofs.lemmas.List.{nil_from_length}
 use Rattle.auc_book.specs.Settling.{Differ, IsTrueOf}
 use Rattle.auc_book.specs.Seat.{Account}

@@ -46,7 +46,7 @@ fn solve_by(
     ensures start { result ≡ pos 7 → IsProblem (problem_from persons objects arcs.now) × IsStartFault (start_fault_by driver (problem_from persons objects arcs.now) start.now) found.new.kind found.new.place }
     ensures started { result ≢ pos 2 → result ≢ pos 5 → result ≢ pos 6 → result ≢ pos 7 → start_fault_by driver (problem_from persons objects arcs.now) start.now ≡ None }
     ensures run { IsToldBy driver (problem_from persons objects arcs.now) start.now bids (memory choice.new prices.new hall_objects.new) result found.old found.new }
-    ensures same { KeepsMemory result (memory choice.old prices.old hall_objects.old) (memory choice.new prices.new hall_objects.new) }
+    ensures same { KeepsMemory result found.new.persons found.new.objects (memory choice.old prices.old hall_objects.old) (memory choice.new prices.new hall_objects.new) }
     ensures same_found { KeepsFound result found.old found.new }
 {
     let solved = solve_into(
@@ -99,7 +99,7 @@ pub fn solve_call(
     ensures start { result ≡ pos 7 → IsProblem (problem_from persons objects arcs.now) × IsStartFault (start_fault (problem_from persons objects arcs.now) start.now) found.new.kind found.new.place }
     ensures started { result ≢ pos 2 → result ≢ pos 5 → result ≢ pos 6 → result ≢ pos 7 → start_fault (problem_from persons objects arcs.now) start.now ≡ None }
     ensures limit { result ≡ pos 4 → IsLimitTold (problem_from persons objects arcs.now) start.now bids choice.new prices.new found.new.kind found.new.lower found.new.cost }
-    ensures same { KeepsMemory result (memory choice.old prices.old hall_objects.old) (memory choice.new prices.new hall_objects.new) }
+    ensures same { KeepsMemory result found.new.persons found.new.objects (memory choice.old prices.old hall_objects.old) (memory choice.new prices.new hall_objects.new) }
     ensures same_found { KeepsFound result found.old found.new }
 {
     solve_by(
@@ -143,7 +143,7 @@ pub fn solve_by_messages_call(
     ensures start { result ≡ pos 7 → IsProblem (problem_from persons objects arcs.now) × IsStartFault (start_fault_by_messages (problem_from persons objects arcs.now) start.now) found.new.kind found.new.place }
     ensures started { result ≢ pos 2 → result ≢ pos 5 → result ≢ pos 6 → result ≢ pos 7 → start_fault_by_messages (problem_from persons objects arcs.now) start.now ≡ None }
     ensures run { result ≢ pos 2 → result ≢ pos 5 → result ≢ pos 6 → result ≢ pos 7 → IsRunTold (problem_from persons objects arcs.now) start.now bids (memory choice.new prices.new hall_objects.new) result found.old found.new }
-    ensures same { KeepsMemory result (memory choice.old prices.old hall_objects.old) (memory choice.new prices.new hall_objects.new) }
+    ensures same { KeepsMemory result found.new.persons found.new.objects (memory choice.old prices.old hall_objects.old) (memory choice.new prices.new hall_objects.new) }
     ensures same_found { KeepsFound result found.old found.new }
 {
     solve_by(

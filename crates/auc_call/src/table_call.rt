@@ -55,7 +55,7 @@ pub fn solve_table_call(
     ensures start { result ≡ pos 7 → IsProblem (table_problem persons objects costs.now stride none) × IsStartFault (start_fault (table_problem persons objects costs.now stride none) start.now) found.new.kind found.new.place }
     ensures started { result ≢ pos 2 → result ≢ pos 5 → result ≢ pos 6 → result ≢ pos 7 → start_fault (table_problem persons objects costs.now stride none) start.now ≡ None }
     ensures limit { result ≡ pos 4 → ByObjects (table_problem persons objects costs.now stride none).arcs choice.new (λ places. IsLimitTold (table_problem persons objects costs.now stride none) start.now bids places prices.new found.new.kind found.new.lower found.new.cost) }
-    ensures same { KeepsMemory result (memory choice.old prices.old hall_objects.old) (memory choice.new prices.new hall_objects.new) }
+    ensures same { KeepsMemory result found.new.persons found.new.objects (memory choice.old prices.old hall_objects.old) (memory choice.new prices.new hall_objects.new) }
     ensures same_found { KeepsFound result found.old found.new }
 {
     let solved = solve_table_into(

@@ -211,7 +211,7 @@ class Faults(ToolTest):
         "exponent": ("a,x,1e\nb,y,2\n", [], "line 1, column 3", "no number"),
         "infinity": (",x,y\na,1,inf\n", [], "line 2, column 3", "no number"),
         "too many decimals": ("a,x,1\nb,y,2.125\n", ["--decimals", "2"], "line 2, column 3", "--decimals 3"),
-        "comma in a table with tabs": ("a\tx\t1,5\nb\ty\t2\n", ["--decimals", "1"], "line 1, column 3", "comma"),
+        "two marks in a table with tabs": ("a\tx\t1,5\nb\ty\t2.5\n", [], "line 2, column 3", "point"),
         "two marks": ("a;x;1,5\nb;y;2.5\n", ["--decimals", "1"], "line 2, column 3", "point"),
         "huge": ("a,x,1\nb,y,1000000001\n", [], "line 2, column 3", "out of range"),
         "huge with decimals": ("a,x,1\nb,y,10000000.01\n", ["--decimals", "2"], "line 2, column 3", "10000000.00"),

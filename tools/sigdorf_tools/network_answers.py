@@ -3,9 +3,10 @@ from .claims import Claim
 from .faults import Fault
 
 
-def answer_of_network(solver, name, network):
-    """The answer of the solver, with its claim as it is told of the copies of persons and of the table's objects."""
-    answer = solver.answer(name, network.lines(), network.count(), network.objects_said())
+def answer_of_network(solver, name, network, looked=0):
+    """The answer of the solver, with its claim as it is told of the copies of persons and of the table's objects. So many
+    arcs were looked at before for the same answer."""
+    answer = solver.answer(name, network.lines(), looked + network.count(), network.objects_said())
     if answer.claim.kind == "infeasible" and network.free:
         return answer_of_bound(solver, name, network, answer)
     return answer._replace(claim=told(network, answer.claim))

@@ -80,7 +80,7 @@ class Network:
 
     def helper_of(self, person, thing):
         """The number of the helper that stands between a person and an object, from 0 on, or None."""
-        return self.helped.get((person, self.demand.groups[thing - 1]))
+        return self.helped.get((person, self.demand.groups[thing - 1])) if self.helped else None
 
     def without(self, pairs):
         """The network in which persons don't have some objects, each pair by the place of the person and the number of the

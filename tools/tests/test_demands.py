@@ -206,6 +206,30 @@ class Apart(ToolTest):
                 parts.append(told.get("assignments", 1))
         self.assertGreaterEqual(sum(count > 1 for count in parts), 3)
 
+    def test_roster(self):
+        """A week of shifts with rest between them: the plan keeps to all wishes, whether the gap is closed or not, and with a limit of time."""
+        draw = random.Random(7)
+        costs, apart = [[draw.randrange(60) for _ in range(12)] for _ in range(9)], []
+        for day in range(4):
+            early, late, night = (3 * day + shift for shift in range(3))
+            apart += [(early, late, night), *([(late, early + 3), (night, early + 3), (night, late + 3)] if day < 3 else [])]
+        clashes = [set(pair) for row in apart for pair in itertools.combinations(row, 2)]
+        rows = [[f"x{thing}" for thing in row] for row in apart]
+        for words in ([], ["--seconds", "1"], ["--undone", "25", "--leave-free", "40"]):
+            status, output, said = self.planned(costs, rows, "--capacity", "3", "--need", "2", *words)
+            told = json.loads(output)
+            self.assertIn(status, (0, 4), said)
+            self.assertLessEqual(told.get("bound", told["total"]), told["total"])
+            mine = {}
+            for pair in told["pairs"]:
+                mine.setdefault(pair["person"], []).append(int(pair["object"][1:]))
+            self.assertTrue(all(len(things) <= 3 and not any(clash <= set(things) for clash in clashes) for things in mine.values()), output)
+            counts = [sum(thing in things for things in mine.values()) for thing in range(12)]
+            self.assertTrue(all(count == 2 for count in counts) if "--undone" not in words else max(counts) <= 2, counts)
+            paid = sum(costs[int(pair["person"][1:])][int(pair["object"][1:])] for pair in told["pairs"])
+            paid += 25 * sum(2 - count for count in counts) + 40 * (9 - len(mine)) if "--undone" in words else 0
+            self.assertEqual(told["total"], paid)
+
     COSTS = [[1, 1, 1], [4, 5, 9]]
 
     def test_what_is_proved(self):

@@ -70,10 +70,9 @@ class Branching:
 
     def solved(self, gone):
         """The answer without some pairs of a person and an object, which may have others that are apart."""
-        if self.end is not None:
-            self.solver.seconds = max(1, round(self.end - time.monotonic()))
         network = self.network.without(gone)
-        answer = answer_of_network(self.solver, self.name, network, self.looked)
+        solver = self.solver if self.end is None else self.solver.within(max(1, round(self.end - time.monotonic())))
+        answer = answer_of_network(solver, self.name, network, self.looked)
         self.count, self.looked = self.count + 1, self.looked + network.count()
         self.judges = [judge for judge in answer.judges if self.judges is None or judge in self.judges]
         return answer

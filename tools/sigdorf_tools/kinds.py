@@ -75,15 +75,15 @@ def sentence_of_bracket(names, claim, asked):
     return f"The search was stopped early:{fair} {far}, and {bound}.{put_together(asked)}"
 
 
-def put_together(asked):
+def put_together(asked, what="assignments"):
     """What is proved of an answer that is put together from several ones, and what isn't."""
-    return f" {asked.parts} assignments show it: each of them is proved, and that they leave no plan out is not." if asked.parts > 1 else ""
+    return f" {asked.parts} {what} show it: each of them is proved, and that they leave no plan out is not." if asked.parts > 1 else ""
 
 
 def sentence_of_no_parts(asked):
     """That there is no plan, as none of the parts has one that the problem was parted into."""
     told = f"No plan{asked.within()} keeps all objects apart that can't go together: with --undone or --leave-free something may stay open."
-    return told + put_together(asked).replace("assignments show", "problems without one show")
+    return told + put_together(asked, "problems without a plan")
 
 
 def rank_of(names, claim, asked):

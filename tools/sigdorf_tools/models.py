@@ -70,13 +70,13 @@ class Model(NamedTuple):
 
     def lines_of_free(self):
         """The arcs to the own objects, and those of the persons for the objects."""
-        copies, count = len(self.owners), self.objects
+        copies, count, is_square = len(self.owners), self.objects, self.is_square()
         for copy, (arcs, price) in enumerate(zip(self.arcs, self.free), 1):
             if price is not None:
                 yield f"{copy} {count + copy} {price}\n"
-            if self.is_square():
+            if is_square:
                 yield "".join([f"{copies + thing} {count + copy} 0\n" for thing in arcs.objects])
-        if self.is_square():
+        if is_square:
             yield "".join([f"{copies + thing} {thing} 0\n" for thing in range(1, count + 1)])
 
     def rows(self):

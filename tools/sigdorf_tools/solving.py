@@ -1,4 +1,5 @@
 """Solves problems by the program `auction`, and has its answers judged: by its proved checker always, and by the second checker where that takes no long time."""
+import copy
 import signal
 import subprocess
 import sys
@@ -36,6 +37,12 @@ class Solver:
         self.program, self.has_second = program, has_second
         self.bids, self.workers, self.seconds = bids, workers, seconds
         self.is_ready = False
+
+    def within(self, seconds):
+        """The same with another limit of time."""
+        other = copy.copy(self)
+        other.seconds = seconds
+        return other
 
     def limits(self):
         """What the program is told of its search."""

@@ -261,7 +261,7 @@ class Apart(ToolTest):
         told = json.loads(output)
         self.assertEqual((status, told["answer"], told["persons"], told["objects"]), (3, "no plan", [], []))
         self.assertIn("No plan within the wishes keeps all objects apart that can't go together: with --undone or --leave-free something may stay open.", told["sentence"])
-        self.assertRegex(told["sentence"], "[0-9]+ problems without one show it: each of them is proved, and that they leave no plan out is not.$")
+        self.assertRegex(told["sentence"], "[0-9]+ problems without a plan show it: each of them is proved, and that they leave no plan out is not.$")
         status, output, _ = self.planned([[1] * 5, [2] * 5], ring, "--capacity", "3", "--undone", "7")
         # Two of the first and two of the second person, and one stays open.
         self.assertEqual((status, json.loads(output)["total"]), (0, 2 * 1 + 2 * 2 + 7))

@@ -229,7 +229,7 @@ class Faults(ToolTest):
         "too many columns of costs": (",".join(["1"] * 20_001), ["--no-header"], "20,001 columns", "20,000"),
         "too many persons": ("".join(f"a{n},x,{n}\n" for n in range(10_001)), [], "line 10001, column 1", "10,000"),
         "too many objects": ("".join(f"a,x{n},{n}\n" for n in range(20_001)), [], "line 20001, column 2", "20,000"),
-        "too many dummies": ("".join(f"a{n},x,{n}\n" for n in range(9_000)), [], "arcs"),
+        "too many dummies": ("".join(f"a{n},x,{n}\n" for n in range(9_000)), [], "pairs"),
     }
 
     def test_faults(self):

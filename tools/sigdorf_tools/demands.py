@@ -8,7 +8,7 @@ from .wishes import price_of
 
 NEED = "need", "write how many persons the object wants"
 # What says something of objects, each by itself, by a column or by a row of the table.
-OPTIONS = "need", "need_column", "need_row", "apart", "undone", "undone_column", "undone_row"
+OPTIONS = "need", "need_column", "need_row", "apart", "apart_column", "apart_row", "undone", "undone_column", "undone_row"
 # From so many arcs of dummies on, where persons are more than objects, the sides are swapped.
 MOST_DUMMY_ARCS = 1_000_000
 
@@ -25,7 +25,15 @@ def demand_of(words, problem, told={}):
     needs = [number_of(*(needs.get(name) or needs.get(None) or ("", "1")), NEED) for name in problem.objects]
     if not any(needs):
         raise Fault("--need: nobody is wanted for anything; give an object a need above 0")
-    return Demand(needs, *apart_said(words.apart, problem.objects), prices_of_undone(words, problem, said_by_table(told, "undone", problem)))
+    shared = said_by_table(told, "apart", problem)
+    apart = apart_said(words.apart, problem.objects) if shared is None else (groups_by(shared, problem.objects), frozenset())
+    return Demand(needs, *apart, prices_of_undone(words, problem, said_by_table(told, "undone", problem)))
+
+
+def groups_by(said, objects):
+    """The groups of objects that share what is said of them."""
+    first = {}
+    return [first.setdefault(said[name][1], place) if name in said else place for place, name in enumerate(objects)]
 
 
 def said_by_table(told, option, problem):

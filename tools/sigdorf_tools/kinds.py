@@ -5,7 +5,8 @@ from typing import NamedTuple
 # What an answer is called for programs, where the search came to its end.
 ANSWERS = {"best": "best", "second": "second best", "fair": "fair"}
 # Options that narrow which plans there are: those that are said once, and those that may be said more often.
-SINGLE = "capacity", "capacity_column", "leave_free", "leave_free_column", "need", "need_column", "need_row", "apart", "undone", "undone_column", "undone_row", "keep", "change_cost"
+SINGLE = "capacity", "capacity_column", "leave_free", "leave_free_column", "need", "need_column", "need_row"
+SINGLE += "apart", "apart_column", "apart_row", "undone", "undone_column", "undone_row", "keep", "change_cost"
 SEVERAL = "fix", "forbid"
 JUDGES = ["the proved checker", "a second one"]
 

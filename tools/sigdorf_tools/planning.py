@@ -57,11 +57,11 @@ class Outcome(NamedTuple):
 
 def given_by(words):
     """The table that the words name, as they say that it is to be read."""
-    for one, others in (("capacity", ["column"]), ("leave_free", ["column"]), ("need", ["column", "row"]), ("undone", ["column", "row"])):
+    for one, others in (("capacity", ["column"]), ("leave_free", ["column"]), *((one, ["column", "row"]) for one in ("need", "apart", "undone"))):
         said = [option for option in (one, *(f"{one}_{other}" for other in others)) if getattr(words, option) is not None]
         if len(said) > 1:
             raise Fault(f"{' and '.join(f'--{option}'.replace('_', '-') for option in said)}: both say the same thing; leave one of them out")
-    options = ("capacity_column", "leave_free_column"), ("need_column", "undone_column"), ("need_row", "undone_row")
+    options = ("capacity_column", "leave_free_column"), ("need_column", "apart_column", "undone_column"), ("need_row", "apart_row", "undone_row")
     extras = ({option: getattr(words, option) for option in each if getattr(words, option) is not None} for each in options)
     return Given(*read_problem(words, Extras(*extras)))
 
@@ -81,7 +81,8 @@ def model_asked(words, problem, told):
     copies = copies_of(problem, wishes, words.maximise)
     if is_asked(words):
         network = network_of(problem, wishes, copies, demand_of(words, problem, told))
-        if words.apart is not None and len(set(copies.owners)) == len(copies.owners):
+        asks_apart = any(word is not None for word in (words.apart, words.apart_column, words.apart_row))
+        if asks_apart and len(set(copies.owners)) == len(copies.owners):
             note("--apart changes nothing, since nobody may take more than one object; say --capacity too")
         return network
     model = model_of(problem, wishes, copies)

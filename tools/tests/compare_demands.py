@@ -139,13 +139,16 @@ def words_of(case, folder):
     rows = [["who", *map(object_of, range(objects)), *["free"] * has_column]]
     rows += [[person_of(person), *(told(case.costs.get((person, thing))) for thing in range(objects)), *free[person]] for person in range(persons)]
     rows += [["undone", *map(told, case.undone), *[""] * has_column]] if has_row else []
-    words = [written(folder, "table.csv", rows), "--matrix"]
+    # By a row of the table, or by a list.
+    has_days, is_listed = len(set(case.days)) < objects, len(case.costs) % 2
+    rows += [["day", *(f"day {day}" for day in case.days), *[""] * has_column]] if has_days and not is_listed else []
+    words = [written(folder, "table.csv", rows), "--matrix", *(["--apart-row", "day"] if has_days and not is_listed else [])]
     words += [*(["--leave-free-column", "free"] if has_column else []), *(["--undone-row", "undone"] if has_row else [])]
     if set(case.capacities) != {1}:
         words += ["--capacity", written(folder, "capacities.csv", [[person_of(number), str(count)] for number, count in enumerate(case.capacities)])]
     if set(case.needs) != {1}:
         words += ["--need", written(folder, "needs.csv", [[object_of(number), str(count)] for number, count in enumerate(case.needs)])]
-    if len(set(case.days)) < objects:
+    if has_days and is_listed:
         words += ["--apart", written(folder, "days.csv", [[object_of(number), f"day {day}"] for number, day in enumerate(case.days)])]
     if case.apart:
         words += ["--apart", written(folder, "apart.csv", [[object_of(one), object_of(other)] for one, other in sorted(case.apart)])]

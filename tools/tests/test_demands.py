@@ -83,6 +83,11 @@ class Demands(ToolTest):
         for rows in ("shift,day\nMon early,Mon\nMon late,Mon\nTue early,Tue\n", "Mon early,Mon late\n"):
             self.write("days.csv", rows)
             self.assertEqual(self.planned("--capacity", "3", "--apart", "days.csv", table=table), best)
+        self.assertEqual(self.planned("--capacity", "3", "--apart-row", "day", table=f"{table}day,Mon,Mon,\n"), best)
+        rows = [row.split(",") for row in table.splitlines()]
+        pairs = "".join(f"{who},{shift},{cost},{shift[:3]}\n" for who, *costs in rows[1:] for shift, cost in zip(rows[0][1:], costs))
+        self.assertEqual(self.planned("--capacity", "3", "--apart-column", "day", table=f"who,shift,min,day\n{pairs}"), best)
+        self.write("table.csv", table)
         said = self.call("plan", "table.csv", "--apart", "days.csv", "--quiet")[2]
         self.assertEqual(said, "plan: note: --apart changes nothing, since nobody may take more than one object; say --capacity too\n")
 

@@ -13,6 +13,7 @@ import time
 
 from .claims import Claim
 from .faults import Fault
+from .names import counted
 from .network_answers import answer_of_network
 
 # So many assignments are made, all in all.
@@ -118,8 +119,10 @@ class Branching:
 
     def repair(self, gone, answer, is_firm):
         """Looks for a plan, if there is none yet: each person keeps his cheapest objects, as far as they go together, and the
-        others are taken from him; if it is firm, also all that is apart from what he keeps."""
-        while self.best is None and not self.is_over() and answer.claim.kind != "infeasible":
+        others are taken from him; if it is firm, also all that is apart from what he keeps. That ends soon with a plan where
+        places may stay open, so there it goes on beyond the limits."""
+        is_sure = is_firm and bool(self.network.free)
+        while self.best is None and (is_sure or not self.is_over()) and answer.claim.kind != "infeasible":
             for owner, mine in self.clashes(answer).items():
                 kept = set()
                 for thing in sorted(mine, key=lambda thing: (mine[thing], thing)):
@@ -172,7 +175,7 @@ class Branching:
         """The best plan, with the bound of all parts that are left."""
         if self.best is None and self.left:
             way_out = "say --undone or --leave-free, so that something may stay open"
-            raise Fault(f"{self.name}: --apart: {self.count} assignments have shown no plan, nor that there is none; {way_out}")
+            raise Fault(f"{self.name}: --apart: no plan was found by {counted(self.count, 'assignment')}, and there may be one; {way_out}")
         if self.best is None:
             return root._replace(claim=Claim("infeasible", [], [], None, None, [], [], False), status=3, judges=self.judges, parts=self.count)
         claim = self.best.claim

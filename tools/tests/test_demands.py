@@ -251,12 +251,17 @@ class Apart(ToolTest):
         self.assertNotIn("assignments", told)
 
     def test_search_that_is_stopped(self):
-        """The bound stays below the least, and the plan above."""
-        for most in (1, 2, 3):
+        """The bound stays below the least, and the plan above; where no place may stay open, there may be no plan yet."""
+        chain, seen = [["x0", "x1"], ["x1", "x2"]], []
+        for most in (1, 2, 3, 4, 9):
             with mock.patch.object(branching, "MOST", most):
-                status, output, _ = self.planned(self.COSTS, [["x0", "x1"], ["x1", "x2"]], "--capacity", "2", "--undone", "50")
-            told = json.loads(output) if status == 4 else {"bound": 7, "total": 7}
-            self.assertTrue(told["bound"] <= 7 <= told["total"], output)
+                status, output, _ = self.planned(self.COSTS, chain, "--capacity", "2", "--undone", "50")
+                told = json.loads(output)
+                self.assertTrue(told.get("bound", 7) <= 7 <= told["total"], output)
+                seen.append((status, told["total"]))
+        self.assertEqual((seen[0][0], seen[-1]), (4, (0, 7)))
+        with mock.patch.object(branching, "MOST", 1):
+            self.assert_fault(self.planned(self.COSTS, chain, "--capacity", "2"), "table.csv: --apart: no plan was found by 1 assignment, and there may be one", "say --undone or --leave-free")
 
     def test_no_plan(self):
         """A ring of five, each apart from the next one, can't be parted between two persons; without the pairs that are in no

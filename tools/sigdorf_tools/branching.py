@@ -40,15 +40,20 @@ class Branching:
         if root.claim.kind == "infeasible":
             return root
         self.put(gone, root)
-        if self.left:
+        if not self.is_closed():
             self.repair(gone, root, True)
             self.repair(gone, root, False)
             self.improve(gone)
+        if not self.is_closed():
             self.plunge()
             self.improve(gone)
-        while self.left and not self.is_over() and (self.best is None or self.left[0][0] < self.best.claim.cost):
+        while not self.is_closed() and not self.is_over():
             self.branch(heapq.heappop(self.left))
         return self.told(root)
+
+    def is_closed(self):
+        """Whether no part is left that may have a better plan."""
+        return not self.left or self.best is not None and self.left[0][0] >= self.best.claim.cost
 
     def plunge(self):
         """Branches from the first part on, each time the one of the last two whose bound is less, down to a plan."""
@@ -141,7 +146,7 @@ class Branching:
         classes = self.classes()
         quiet = 0
         for some in itertools.cycle(classes):
-            if self.best is None or self.is_over() or quiet == len(classes):
+            if self.best is None or self.is_closed() or self.is_over() or quiet == len(classes):
                 return
             had = self.had(self.best)
             more = {pair for person, pairs in enumerate(self.network.pairs) for pair in self.kept_out(person, pairs, had.get(person, {}), some)}

@@ -1,0 +1,93 @@
+// The answer: a sentence, the plan as a list by persons or by objects, its picture; or who is in the way of a plan.
+import { button, element, find, listSentences } from "./dom.js";
+
+// So many rows are shown before somebody asks for all.
+const FIRST = 200;
+
+export class Answer {
+  // `show(person, thing)` brings a pair into the table, and `wish(pair, wish)` asks for one.
+  constructor(around) {
+    this.around = around;
+    this.isByObjects = false;
+    find("more").addEventListener("click", () => this.drawList(Infinity));
+    find("list").addEventListener("click", (event) => event.target.closest("th") && this.sort(event.target.closest("th")));
+  }
+
+  show(told, table) {
+    find("answer").hidden = !told;
+    this.told = told;
+    if (!told) return;
+    this.table = table;
+    const hasPlan = told.kind !== "infeasible";
+    find("answer").className = told.kind;
+    find("sentence").textContent = told.sentence;
+    find("summary").textContent = told.summary;
+    listSentences(find("plan-notes"), told.notes);
+    this.pairs = new Map(told.pairs.map((pair, place) => [told.rows[place + 1].slice(0, 2).join("\u0000"), pair]));
+    this.drawOrders(hasPlan);
+    if (hasPlan) this.drawList(FIRST);
+    else this.drawHall();
+    this.drawPicture();
+  }
+
+  drawPicture() {
+    const picture = find("picture");
+    picture.alt = `The picture of the answer. ${this.told.sentence}`;
+    picture.className = Math.max(this.table.persons, this.table.objects) <= 40 ? "drawing" : "";
+    picture.src = `/picture.svg?plan=${this.told.count}`;
+  }
+
+  drawOrders(hasPlan) {
+    const [person, thing] = this.table.titles;
+    const order = (text, isByObjects) => button(`By ${text}`, () => { this.isByObjects = isByObjects; this.drawOrders(true); this.drawList(FIRST); }, { "aria-pressed": this.isByObjects === isByObjects });
+    find("orders").replaceChildren(...(hasPlan ? [order(person, false), order(thing, true)] : []));
+  }
+
+  drawList(most) {
+    const [titles, ...rows] = this.isByObjects ? this.told.by_object : this.told.rows;
+    const shown = rows.filter((row) => row.length > 1);
+    const isTotal = (row) => row[0] === "total" && row[1] === "";
+    const last = shown.filter(isTotal), first = shown.filter((row) => !isTotal(row));
+    const head = element("tr", {}, ...titles.map((title, place) => element("th", { scope: "col", className: place === 2 ? "number" : "" }, button(title, () => {}))), element("th", { scope: "col" }));
+    const body = [...first.slice(0, most), ...last].map((row) => this.row(row, last.includes(row)));
+    find("list").replaceChildren(element("thead", {}, head), element("tbody", {}, ...body));
+    find("more").hidden = first.length <= most;
+  }
+
+  row(cells, isTotal) {
+    const [person, thing] = this.isByObjects ? [cells[1], cells[0]] : cells;
+    const pair = isTotal ? undefined : this.pairs.get([person, thing].join("\u0000"));
+    const texts = isTotal || pair ? cells : cells.map((text, place) => text || (place > 1 ? "" : place === (this.isByObjects ? 1 : 0) ? "nobody" : "stays free"));
+    const made = texts.map((text, place) => element("td", { className: place === 2 ? "number" : "" }, pair && place === 0 ? button(text, () => this.around.show(...pair), { className: "pair", title: "Show it in the table" }) : text));
+    const known = pair && [...pair, person, thing];
+    const wishes = known ? [["fix", "Fix"], ["forbid", "Forbid"]].map(([wish, text]) => button(text, () => this.around.wish(known, wish), { "aria-label": `${text} ${person} and ${thing}` })) : [];
+    return element("tr", { className: isTotal ? "total" : pair ? "" : "free" }, ...made, element("td", {}, ...wishes));
+  }
+
+  // Who blocks whom: each name leads to its place in the table.
+  drawHall() {
+    const { persons, objects } = this.told, [personTitle, thingTitle] = this.table.titles;
+    const first = persons[0]?.[0] ?? 0, thing = objects[0]?.[0] ?? 0;
+    const names = (list, go) => list.map(([number, name]) => element("li", {}, button(name, () => go(number), { title: "Show it in the table" })));
+    const part = (title, list, go) => [element("h3", { textContent: `${title} (${list.length})` }), element("ul", {}, ...names(list, go))];
+    const cell = element("td", {}, ...part(personTitle, persons, (number) => this.around.show(number, thing)), ...part(thingTitle, objects, (number) => this.around.show(first, number)));
+    find("list").replaceChildren(element("tbody", {}, element("tr", {}, cell)));
+    find("more").hidden = true;
+  }
+
+  // Sorts the list by a column, up and down in turn; the total stays below.
+  sort(title) {
+    if (find("more").hidden === false) this.drawList(Infinity);
+    const head = find("list").tHead.rows[0], body = find("list").tBodies[0], column = title.cellIndex;
+    const isUp = this.sorted !== column;
+    this.sorted = isUp ? column : undefined;
+    const key = (row) => row.cells[column]?.textContent ?? "";
+    const amount = (row) => (key(row).trim() === "" ? Infinity : Number(key(row).replace(/[^0-9-]/g, "")));
+    const compare = column === 2 ? (a, b) => (amount(a) > amount(b)) - (amount(a) < amount(b)) : (a, b) => key(a).localeCompare(key(b), undefined, { numeric: true });
+    const rows = [...body.rows], last = rows.filter((row) => row.className === "total");
+    const sorted = rows.filter((row) => row.className !== "total").sort(compare);
+    body.append(...(isUp ? sorted : sorted.reverse()), ...last);
+    for (const each of head.cells) each.removeAttribute("aria-sort");
+    head.cells[column].setAttribute("aria-sort", isUp ? "ascending" : "descending");
+  }
+}

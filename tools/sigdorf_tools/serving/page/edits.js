@@ -1,0 +1,50 @@
+// What was changed on the page since the last plan, pair by pair: these alone go to the program.
+
+export class Edits {
+  constructor() {
+    this.pairs = new Map();
+  }
+
+  // The edit of a pair, which is told by its numbers and names.
+  at([person, thing, personName, thingName]) {
+    const key = `${person},${thing}`;
+    if (!this.pairs.has(key)) this.pairs.set(key, { pair: [person, thing, personName, thingName] });
+    return this.pairs.get(key);
+  }
+
+  known(person, thing) {
+    return this.pairs.get(`${person},${thing}`) || {};
+  }
+
+  // A wish is `fix`, `forbid` or `free`.
+  wish(pair, wish) {
+    this.at(pair).wish = wish;
+  }
+
+  // A cost is a text, or null for the table's own.
+  cost(pair, cost) {
+    this.at(pair).cost = cost;
+  }
+
+  drop([person, thing]) {
+    this.pairs.delete(`${person},${thing}`);
+  }
+
+  get size() {
+    return this.pairs.size;
+  }
+
+  all() {
+    return [...this.pairs.values()];
+  }
+
+  told() {
+    const told = { fix: [], forbid: [], free: [], costs: [] };
+    for (const { pair, wish, cost } of this.pairs.values()) {
+      const numbers = pair.slice(0, 2);
+      if (wish) told[wish].push(numbers);
+      if (cost !== undefined) told.costs.push([...numbers, cost]);
+    }
+    return told;
+  }
+}

@@ -24,10 +24,10 @@ class Answer:
 class Served:
     """The command, which ends with the test; its temporary files have a folder of their own."""
 
-    def __init__(self, folder, *words, python=sys.executable):
+    def __init__(self, folder, *words, plan=(sys.executable, ROOT / "plan")):
         self.files = folder / "temporary"
         self.files.mkdir(exist_ok=True)
-        command = [python, str(ROOT / "plan"), "--serve", *map(str, words)]
+        command = [*map(str, plan), "--serve", *map(str, words)]
         self.running = subprocess.Popen(command, cwd=folder, env=os.environ | {"TMPDIR": str(self.files)}, stdin=subprocess.DEVNULL, stdout=subprocess.PIPE, stderr=subprocess.PIPE, text=True)
         self.address = self.running.stdout.readline().strip()
         url = urllib.parse.urlsplit(self.address)

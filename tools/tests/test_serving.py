@@ -185,7 +185,7 @@ class Limits(ServedTest):
     def test_what_is_no_request(self):
         page = self.serve()
         page.open()
-        for text in (b"\x16\x03\x01\x02\x00\x01\x00\r\n\r\n", b"GET\r\n\r\n", b"GET / HTTP/9.9\r\n\r\n", b"\r\n\r\n", b"GET /view HTTP/1.1\r\nno header\r\n\r\n"):
+        for text in (b"\x16\x03\x01\x02\x00\x01\x00\r\n\r\n", b"GET\r\n\r\n", b"GET / HTTP/9.9\r\n\r\n", b"\r\n\r\n", b"GET /view HTTP/1.1\r\nno header\r\n\r\n", f"GET http://[ HTTP/1.1\r\nHost: 127.0.0.1:{page.port}\r\n\r\n".encode()):
             with socket.create_connection((page.host, page.port)) as connection:
                 connection.sendall(text)
                 connection.shutdown(socket.SHUT_WR)
@@ -194,6 +194,8 @@ class Limits(ServedTest):
             page.take("t.csv", "a,x,1\n")
             answer = page.ask("/plan", "POST", body)
             self.assert_refused(answer, 400)
+        for path in ("/?" + "a=1&" * 20, "/find?" + "a=1&" * 20):
+            self.assert_refused(page.ask(path, Cookie=None if path.startswith("/?") else page.cookie), 400, "more than 10 fields")
         for path in ("/cells", "/cells?row=-1&column=0&rows=1&columns=1", "/cells?row=1e9&column=0&rows=1&columns=1"):
             self.assert_refused(page.ask(path), 400, "have to be numbers")
         self.assertEqual(page.ask("/cells?row=999999&column=0&rows=9&columns=9").told()["cells"], [])

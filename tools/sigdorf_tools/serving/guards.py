@@ -42,9 +42,9 @@ class Guard:
     def is_at(self, names, port):
         self.hosts, self.cookie = hosts_of(names, port), f"plan_{port}"
 
-    def look_at_host(self, host):
+    def look_at_host(self, hosts):
         """Another name would be that of another page which has led a browser here."""
-        if host is None or host.lower() not in self.hosts:
+        if len(hosts) != 1 or hosts[0].lower() not in self.hosts:
             raise Refusal(421, f"this page is at {' and '.join(sorted(self.hosts))}, and was asked for by another name; open it by that address")
 
     def look_at_origin(self, origin):

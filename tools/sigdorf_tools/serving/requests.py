@@ -16,7 +16,7 @@ from .refusals import Refusal
 from .streams import SECONDS_FOR_ANSWER, Received
 from .views import MOST_SIDE
 
-MOST_UPLOAD, MOST_BODY = 64 * 2**20, 2**20
+MOST_UPLOAD, MOST_BODY, MOST_FIELDS = 64 * 2**20, 2**20, 10
 HEADERS = {
     "Content-Security-Policy": "default-src 'none'; script-src 'self'; style-src 'self'; img-src 'self'; connect-src 'self'; form-action 'self'; base-uri 'none'; frame-ancestors 'none'",
     "Cross-Origin-Opener-Policy": "same-origin",
@@ -96,8 +96,8 @@ class Handler(http.server.BaseHTTPRequestHandler):
 
     def answer_by(self, method):
         try:
-            self.guard.look_at_host(self.headers.get("Host"))
-            self.url = urllib.parse.urlsplit(self.path)
+            self.guard.look_at_host(self.headers.get_all("Host", []))
+            self.url = self.url_told()
             routes = ROUTES.get(self.url.path)
             if routes is None:
                 raise Refusal(404, "there is nothing at this address; open the page itself")
@@ -115,6 +115,12 @@ class Handler(http.server.BaseHTTPRequestHandler):
         except Exception as error:
             traceback.print_exc(file=sys.stderr)
             raise Refusal(500, f"plan is at fault here ({type(error).__name__}); what it was stands in the terminal, and the page can go on") from None
+
+    def url_told(self):
+        try:
+            return urllib.parse.urlsplit(self.path)
+        except ValueError:
+            raise Refusal(400, "the address can't be read; open the page anew") from None
 
     @property
     def guard(self):
@@ -167,7 +173,7 @@ class Handler(http.server.BaseHTTPRequestHandler):
             raise Refusal(400, "what was sent is no JSON; load the page anew") from None
 
     def query(self):
-        return dict(urllib.parse.parse_qsl(self.url.query, max_num_fields=10))
+        return fields_told(self.url.query)
 
     def session(self):
         session = self.guard.session_of(self.headers.get("Cookie"))
@@ -187,7 +193,7 @@ class Handler(http.server.BaseHTTPRequestHandler):
             raise Refusal(403, NO_TOKEN)
 
     def sign_in(self):
-        told = dict(urllib.parse.parse_qsl(self.body(MOST_BODY, "a password is shorter").decode("utf-8", "replace"), max_num_fields=10))
+        told = fields_told(self.body(MOST_BODY, "a password is shorter").decode("utf-8", "replace"))
         self.guard.look_at_password(told.get("password", ""))
         self.send(b"", HTML, 303, Location="/", Set_Cookie=self.guard.new_session())
 
@@ -233,3 +239,11 @@ class Handler(http.server.BaseHTTPRequestHandler):
         if name.endswith(".xlsx") and importlib.util.find_spec("openpyxl") is None:
             raise Refusal(501, "to write a workbook Python needs openpyxl (python3-openpyxl of Debian, `pip install openpyxl` elsewhere); install it, or take the CSV")
         self.send(session.download(name), DOWNLOADS[self.url.path], Content_Disposition=f'attachment; filename="{name}"')
+
+
+def fields_told(text):
+    """What a query, or a form, tells by names."""
+    try:
+        return dict(urllib.parse.parse_qsl(text, max_num_fields=MOST_FIELDS))
+    except ValueError:
+        raise Refusal(400, f"more than {MOST_FIELDS} fields; open the page anew") from None

@@ -1,5 +1,6 @@
 """The server of the page: from the command to its end, after which nothing of it is on the disk."""
 import contextlib
+import gc
 import http.server
 import ipaddress
 import signal
@@ -21,6 +22,8 @@ from .words import password_of
 
 # How long a plan may take where nobody says it; and how many requests are answered at a time.
 SECONDS, MOST_REQUESTS = "60", 32
+# Python looks for cycles once so many things have been made: cells of a table make none, and there are millions of them.
+LOOK_FOR_CYCLES = 1_000_000
 # For so long the end of the page waits for a plan that was cut off.
 SECONDS_FOR_END = 3
 ENDING = (signal.SIGTERM, signal.SIGHUP)
@@ -81,6 +84,7 @@ def serve(words, parser, solver):
     page = Page(words, parser, solver.program)
     guard = Guard(password, page.new_session)
     solver.make_ready()
+    gc.set_threshold(LOOK_FOR_CYCLES)
     for number in ENDING:
         signal.signal(number, end)
     with folder_for_files(), server_of(words, guard) as server:

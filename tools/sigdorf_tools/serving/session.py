@@ -107,9 +107,10 @@ class Session:
             if edits.costs:
                 table = f"{outcome.names.table} with {counted(len(edits.costs), 'changed cost')}"
                 outcome = outcome._replace(names=outcome.names._replace(table=table))
-            self.edits, self.problem, self.outcome, self.picture, self.count = edits, problem, outcome, None, self.count + 1
             notes = [*said, *(f"note: {note}" for note in notes_of_plan(outcome.names, problem, outcome.answer.claim))]
-            self.answer = told_answer(outcome, notes, time.monotonic() - begin, self.count)
+            self.count += 1
+            answer = told_answer(outcome, notes, time.monotonic() - begin, self.count)
+            self.edits, self.problem, self.outcome, self.answer, self.picture = edits, problem, outcome, answer, None
         return self.view()
 
     def words_with(self, edits):

@@ -22,9 +22,14 @@ export class Answer {
     find("answer").className = told.kind;
     find("sentence").textContent = told.sentence;
     find("summary").textContent = told.summary;
+    find("wishes").textContent = `Asked for: ${told.wishes.join(", ")}`;
+    find("wishes").hidden = told.wishes.length === 0;
     listSentences(find("plan-notes"), told.notes);
     this.pairs = new Map(told.pairs.map((pair, place) => [told.rows[place + 1].slice(0, 2).join("\u0000"), pair]));
     this.drawOrders(hasPlan);
+    find("plan-list").hidden = find("downloads").hidden = !hasPlan;
+    find("hall").hidden = hasPlan;
+    find("more").hidden = true;
     if (hasPlan) this.drawList(FIRST);
     else this.drawHall();
     this.drawPicture();
@@ -45,23 +50,36 @@ export class Answer {
 
   drawList(most) {
     const [titles, ...rows] = this.isByObjects ? this.told.by_object : this.told.rows;
-    const shown = rows.filter((row) => row.length > 1);
-    const isTotal = (row) => row[0] === "total" && row[1] === "";
-    const last = shown.filter(isTotal), first = shown.filter((row) => !isTotal(row));
+    // The total is the last row, but for a sentence.
+    const first = rows.filter((row) => row.length > 1), total = first.pop();
     const head = element("tr", {}, ...titles.map((title, place) => element("th", { scope: "col", className: place === 2 ? "number" : "" }, button(title, () => {}))), element("th", { scope: "col" }));
-    const body = [...first.slice(0, most), ...last].map((row) => this.row(row, last.includes(row)));
-    find("list").replaceChildren(element("thead", {}, head), element("tbody", {}, ...body));
+    const body = first.slice(0, most).map((row) => this.row(row));
+    find("list").replaceChildren(element("thead", {}, head), element("tbody", {}, ...body, this.lastRow(total)));
     find("more").hidden = first.length <= most;
   }
 
-  row(cells, isTotal) {
-    const [person, thing] = this.isByObjects ? [cells[1], cells[0]] : cells;
-    const pair = isTotal ? undefined : this.pairs.get([person, thing].join("\u0000"));
-    const texts = isTotal || pair ? cells : cells.map((text, place) => text || (place > 1 ? "" : place === (this.isByObjects ? 1 : 0) ? "nobody" : "stays free"));
-    const made = texts.map((text, place) => element("td", { className: place === 2 ? "number" : "" }, pair && place === 0 ? button(text, () => this.around.show(...pair), { className: "pair", title: "Show it in the table" }) : text));
-    const known = pair && [...pair, person, thing];
-    const wishes = known ? [["fix", "Fix"], ["forbid", "Forbid"]].map(([wish, text]) => button(text, () => this.around.wish(known, wish), { "aria-label": `${text} ${person} and ${thing}` })) : [];
-    return element("tr", { className: isTotal ? "total" : pair ? "" : "free" }, ...made, element("td", {}, ...wishes));
+  // A pair, with what can be done with it; or who or what is left over.
+  row(cells) {
+    const [person, thing] = this.isByObjects ? [cells[1], cells[0]] : cells, pair = this.pairs.get([person, thing].join("\u0000"));
+    if (!pair) return this.rowOfFree(cells);
+    const [first, ...others] = cells;
+    const shows = button(first, () => this.around.show(...pair), { className: "pair", title: "Show it in the table" });
+    const wish = (wanted, text) => button(text, () => this.around.wish([...pair, person, thing], wanted), { "aria-label": `${text} ${person} and ${thing}` });
+    return element("tr", {}, element("td", {}, shows), ...this.cells(others, 1), element("td", {}, wish("fix", "Fix"), wish("forbid", "Forbid")));
+  }
+
+  rowOfFree(cells) {
+    const [nobody, free] = this.isByObjects ? [1, 0] : [0, 1];
+    const told = { [nobody]: "nobody", [free]: "stays free" };
+    return element("tr", { className: "free" }, ...this.cells(cells.map((text, place) => text || told[place] || "")), element("td"));
+  }
+
+  lastRow(total) {
+    return element("tr", { className: "total" }, ...this.cells(total), element("td"));
+  }
+
+  cells(texts, first = 0) {
+    return texts.map((text, place) => element("td", { className: first + place === 2 ? "number" : "", textContent: text }));
   }
 
   // Who blocks whom: each name leads to its place in the table.
@@ -70,9 +88,7 @@ export class Answer {
     const first = persons[0]?.[0] ?? 0, thing = objects[0]?.[0] ?? 0;
     const names = (list, go) => list.map(([number, name]) => element("li", {}, button(name, () => go(number), { title: "Show it in the table" })));
     const part = (title, list, go) => [element("h3", { textContent: `${title} (${list.length})` }), element("ul", {}, ...names(list, go))];
-    const cell = element("td", {}, ...part(personTitle, persons, (number) => this.around.show(number, thing)), ...part(thingTitle, objects, (number) => this.around.show(first, number)));
-    find("list").replaceChildren(element("tbody", {}, element("tr", {}, cell)));
-    find("more").hidden = true;
+    find("hall").replaceChildren(...part(personTitle, persons, (number) => this.around.show(number, thing)), ...part(thingTitle, objects, (number) => this.around.show(first, number)));
   }
 
   // Sorts the list by a column, up and down in turn; the total stays below.

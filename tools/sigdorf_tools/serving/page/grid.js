@@ -59,7 +59,8 @@ export class Grid {
     const part = (first, shown, all, title) => `${title} ${first + 1} to ${first + shown} of ${all}`;
     const { persons, objects } = this.told, { titles } = this.size;
     find("place").textContent = `${part(this.row, persons.length, this.size.persons, titles[0])}; ${part(this.column, objects.length, this.size.objects, titles[1])}`;
-    find("place").hidden = find("moves").hidden = this.isWhole;
+    find("place").hidden = find("moves").hidden = find("find").hidden = this.isWhole;
+    if (this.isWhole) find("found").hidden = true;
     const [up, down, left, right] = find("moves").children;
     up.disabled = this.row === 0;
     left.disabled = this.column === 0;

@@ -72,7 +72,9 @@ async function show(told, isSame = false) {
   marks.forbidden = places(table?.forbidden ?? []);
   marks.changed = new Map((table?.changed ?? []).map((cell) => [key(...cell), cell]));
   find("facts").textContent = table ? `${view.file}: ${table.persons} by ${table.objects}, ${table.pairs} pairs are allowed` : view.file ?? "";
+  document.title = view.file ? `${view.file}: plan` : "Plan";
   find("table").hidden = !table;
+  find("drop").classList.toggle("small", Boolean(table));
   find("columns").classList.toggle("both", Boolean(table && found));
   listSentences(find("notes"), view.notes);
   options.show(view.options);
@@ -129,11 +131,13 @@ function choosePair(pair) {
 function showPair() {
   const [person, thing, personName, thingName] = chosen, { cost, wish: now, isChanged } = standing(person, thing, grid.costOf(person, thing));
   const input = element("input", { id: "cost", value: cost, autocomplete: "off", "aria-label": `Cost of ${personName} and ${thingName}; nothing where the pair isn't allowed` });
-  const change = () => { edits.cost(chosen, input.value.trim()); afterEdit(); grid.choose(person, thing); };
+  const change = () => { changeCost(input.value.trim()); grid.choose(person, thing); };
+  input.addEventListener("change", () => changeCost(input.value.trim()));
   input.addEventListener("keydown", (event) => {
     if (event.key === "Enter") change();
-    if (event.key === "Escape") grid.choose(person, thing);
+    if (event.key === "Escape") { input.value = cost; grid.choose(person, thing); }
   });
+  const focused = find("pair").contains(document.activeElement) ? document.activeElement.id : null;
   const parts = [
     element("strong", { textContent: `${personName} and ${thingName}` }),
     button(now === "fix" ? "Fixed: let it go" : "Fix", () => wish(chosen, "fix"), { id: "fix", "aria-pressed": now === "fix" }),
@@ -144,6 +148,16 @@ function showPair() {
   if (isChanged) parts.push(button("As in the table", () => { edits.cost(chosen, null); afterEdit(); }, { id: "reset" }));
   find("pair").replaceChildren(...parts);
   find("pair").hidden = false;
+  if (focused) (find(focused) ?? grid.cellOf(person, thing))?.focus();
+}
+
+// The cost of the pair that is chosen. The pair isn't shown anew, since what is pressed next may be a button of it.
+function changeCost(text) {
+  const [person, thing] = chosen;
+  if (text === standing(person, thing, grid.costOf(person, thing)).cost) return;
+  edits.cost(chosen, text);
+  grid.mark();
+  tellChanges();
 }
 
 // What a key does on a cell of the table.
@@ -156,10 +170,11 @@ function press(pressed, pair) {
 // What was changed and asked: first what is planned already, then what waits for the next plan.
 function tellChanges() {
   const { fixed = [], forbidden = [], changed = [] } = view.table ?? {};
+  const { isWished, isCosted } = { isWished: ([person, thing]) => edits.known(person, thing).wish, isCosted: ([person, thing]) => edits.known(person, thing).cost !== undefined };
+  const wishes = [...fixed.map((pair) => [pair, "fixed"]), ...forbidden.map((pair) => [pair, "forbidden"])].filter(([pair]) => !isWished(pair));
   const planned = [
-    ...fixed.map((pair) => chip(pair, "fixed", false, () => edits.wish(pair, "free"))),
-    ...forbidden.map((pair) => chip(pair, "forbidden", false, () => edits.wish(pair, "free"))),
-    ...changed.map((pair) => chip(pair, pair[4] === "" ? "not allowed" : pair[4], false, () => edits.cost(pair, null))),
+    ...wishes.map(([pair, told]) => chip(pair, told, false, () => edits.wish(pair, "free"))),
+    ...changed.filter((pair) => !isCosted(pair)).map((pair) => chip(pair, pair[4] || "not allowed", false, () => edits.cost(pair, null))),
   ];
   const waiting = edits.all().map(({ pair, wish: wanted, cost }) => {
     const told = [wanted && WISHES[wanted], cost === null ? "as in the table" : cost === "" ? "not allowed" : cost].filter((text) => text !== undefined);
@@ -171,7 +186,7 @@ function tellChanges() {
 
 function chip([, , person, thing], told, isWaiting, takeBack) {
   const text = `${person} and ${thing}: ${told} `;
-  return element("li", { className: isWaiting ? "waiting" : "" }, text, button("\u00d7", () => { takeBack(); afterEdit(); }, { "aria-label": `Take back ${text}` }));
+  return element("li", { className: isWaiting ? "waiting" : "" }, text, button("\u00d7", () => { takeBack(); afterEdit(); find("plan").focus(); }, { "aria-label": `Take back ${text}` }));
 }
 
 async function findName() {

@@ -55,13 +55,23 @@ class Plans(BrowserTest):
         self.assert_planned()
         self.assertEqual(self.text("#facts"), "crew.csv: 4 by 4, 11 pairs are allowed")
         self.assertRegex(self.text("#summary"), r"^4 pairs, total 145, the least of all; checked by the proved checker and by a second one, [0-9]+\.[0-9] s$")
-        self.wait(lambda: self.browser.execute_script("const picture = document.getElementById('picture'); return picture.complete && picture.naturalWidth > 100"))
+        self.wait(lambda: self.width_of_picture() > 100)
         self.assertEqual([cell.text for cell in self.all("td.plan")], ["40", "20", "45", "40"])
         self.assertEqual(len(self.all("td.none")), 5)
         self.find("#orders button:nth-child(2)").click()
         _, output, _ = self.call("plan", CREW, "--quiet", "--by", "job")
         self.assertEqual(self.rows(), list(csv.reader(io.StringIO(output))))
         self.assertEqual(self.complaints(), [])
+
+    def test_picture_is_of_its_plan(self):
+        """A plan of another table has another picture, which comes anew."""
+        self.open(CREW)
+        first = self.width_of_picture()
+        self.drop("other.csv", "a,x,1\n")
+        self.wait(lambda: self.width_of_picture() not in (0, first))
+
+    def width_of_picture(self):
+        return self.browser.execute_script("const picture = document.getElementById('picture'); return picture.complete ? picture.naturalWidth : 0")
 
     def test_fix_and_forbid(self):
         self.open(CREW)

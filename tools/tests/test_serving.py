@@ -6,6 +6,7 @@ import os
 import signal
 import socket
 import stat
+import sys
 import threading
 import time
 import unittest
@@ -27,6 +28,12 @@ class ServedTest(ToolTest):
         self.page = Served(self.folder, *words, "--program", os.environ.get("AUCTION", program) if program == "/bin/true" else program)
         self.addCleanup(self.page.end)
         return self.page
+
+    def wait_for(self, holds):
+        until = time.monotonic() + 10
+        while not holds():
+            self.assertLess(time.monotonic(), until)
+            time.sleep(0.02)
 
     def assert_refused(self, answer, status, *parts):
         """One sentence that says what to do, as JSON or on a page."""
@@ -202,6 +209,59 @@ class Limits(ServedTest):
         self.assertEqual(page.end()[1].count("Traceback"), 0)
 
 
+    def test_two_plans_at_once(self):
+        """A session has one plan at a time, and another session has its own."""
+        program = self.write("slow", "#!/bin/sh\n[ $1 = --version ] || exec sleep 3\n")
+        program.chmod(0o755)
+        page = self.serve(program=program)
+        page.open()
+        page.take("t.csv", "a,x,1\n")
+        planning = threading.Thread(target=page.plan, daemon=True)
+        planning.start()
+        self.wait_for(lambda: any(path.is_file() for path in page.files.rglob("*.arcs")))
+        for answer in (page.plan(), page.take("other.csv", "b,y,1\n"), page.send("/options", {})):
+            self.assert_refused(answer, 409, "a plan of this table is being made, and there is one at a time; wait for it")
+        self.assertEqual(page.ask("/cells?row=0&column=0&rows=1&columns=1").told()["cells"], [["1"]], "it is shown all the same")
+        page.open()
+        self.assertEqual(page.take("other.csv", "b,y,1\n").status, 200)
+        planning.join(10)
+
+    def test_many_sessions(self):
+        """The one that was longest without a request makes room."""
+        page = self.serve()
+        cookies = []
+        for _ in range(9):
+            page.open()
+            cookies.append(page.cookie)
+            if len(cookies) > 1:
+                self.assertEqual(page.ask("/view", Cookie=cookies[0]).status, 200)
+        self.assertEqual([page.ask("/view", Cookie=cookie).status for cookie in cookies], [200, 403, *[200] * 7])
+
+    def test_before_there_is_a_plan(self):
+        page = self.serve()
+        page.open()
+        for path in ("/picture.svg", "/plan.csv", "/plan.html"):
+            self.assert_refused(page.ask(path), 409, "there is no plan yet; plan first")
+        for path in ("/cells?row=0&column=0&rows=1&columns=1", "/find?name=x"):
+            self.assert_refused(page.ask(path), 409, "there is no table yet; drop one")
+        self.assert_refused(page.plan(), 409, "there is no table yet; drop one")
+
+    def test_packages_that_are_missing(self):
+        """Without openpyxl there is a sentence in place of a workbook."""
+        page = self.page = Served(self.folder, "--program", "/bin/true", plan=[sys.executable, "-S", ROOT / "plan"])
+        self.addCleanup(page.end)
+        page.open()
+        self.assert_refused(page.ask("/plan.xlsx"), 501, "python3-openpyxl of Debian", "or take the CSV")
+        self.assert_refused(page.take("book.xlsx", a_workbook()), 422, "book.xlsx: to read .xlsx Python needs openpyxl")
+
+
+def a_workbook():
+    content = io.BytesIO()
+    with zipfile.ZipFile(content, "w") as archive:
+        archive.writestr("xl/workbook.xml", "")
+    return content.getvalue()
+
+
 class Words(ServedTest):
     def test_of_the_command(self):
         self.write("secret", "enough letters\n").chmod(0o600)
@@ -245,6 +305,11 @@ class Office(ServedTest):
         page = self.serve("--host", "127.0.0.2", "--password-file", "secret")
         self.assertEqual((page.host, page.query), ("127.0.0.2", ""))
         self.assert_refused(page.ask("/"), 403, 'type="password"')
+        first = threading.Thread(target=page.ask, args=("/sign-in", "POST", b"password=wrong"))
+        first.start()
+        time.sleep(0.3)
+        self.assert_refused(page.ask("/sign-in", "POST", b"password=enough+letters"), 429, "try again in a second")
+        first.join()
         self.assert_refused(page.ask("/?token=x"), 403, 'type="password"')
         self.assert_refused(page.ask("/view", Host=f"127.0.0.1:{page.port}"), 421)
         begin = time.monotonic()
@@ -286,12 +351,6 @@ class Ends(ServedTest):
         thread = threading.Thread(target=ended, daemon=True)
         thread.start()
         return thread
-
-    def wait_for(self, holds):
-        until = time.monotonic() + 10
-        while not holds():
-            self.assertLess(time.monotonic(), until)
-            time.sleep(0.02)
 
     def runs(self, text):
         """Whether a process has a text among its words."""

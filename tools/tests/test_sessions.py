@@ -161,6 +161,13 @@ class Sessions(SessionTest):
         self.assertEqual(answer["rows"][:2], [["fitter", "object", "cost", "before"], ["Ada", "pump", "40", "wiring"]])
         self.assertIn("total 149 with 2 changes at 2 each", answer["summary"])
 
+        self.view(self.page.send("/options", {}))
+        self.write("yesterday.csv", "Ada,wiring,30\n")
+        self.serve(EXAMPLES / "crew.csv", "--keep", "yesterday.csv", "--change-cost", "50")
+        view = self.view(self.page.send("/options", {"keep": True, "change_cost": "50"}))
+        self.assertTrue(view["options"]["keep"])
+        self.assertEqual(self.view(self.page.plan())["answer"]["rows"][1], ["Ada", "wiring", "30", ""])
+
     def test_names_of_files(self):
         self.serve()
         for name, told in [("../../etc/passwd", "passwd"), ("C:\\tables\\crew.csv", "crew.csv"), ("-", "table"), ("", "table"), ("a\nb.csv", "a b.csv"), ("crew.csv:x", "crew.csv:x")]:

@@ -8,8 +8,8 @@ from .refusals import Refusal
 
 READING = "form no_header columns ignore_column gap range sheet separator encoding decimals round decimal_mark".split()
 WISHES = "maximise capacity capacity_column leave_free leave_free_column need need_column need_row undone keep change_cost seconds".split()
-# The file of the plan that --keep names, which the page keeps itself.
-KEPT = "plan-before.json"
+# The file of the plan that --keep names, which the page keeps itself; no table that is dropped has a name with a folder.
+KEPT = "shown/before.json"
 KEPT_HELP = "keep the plan that is shown now, as far as it pays by --change-cost"
 
 
@@ -49,7 +49,7 @@ def words_told(parser, fields, told, before):
     """The words of a command with the values of the fields; all else is as it was before."""
     if not isinstance(told, dict) or not all(isinstance(value, str | bool) for value in told.values()):
         raise Refusal(400, "the options have to be texts by their names; load the page anew")
-    words = parser.parse_args([word for field in fields for word in words_of_field(field, told.get(field.name))])
+    words = parser.parse_args([word for field in fields for word in words_of_field(field, told.get(field.name), before)])
     known = {field.name for field in fields}
     for name, value in vars(before).items():
         if name not in known:
@@ -60,10 +60,10 @@ def words_told(parser, fields, told, before):
     return words
 
 
-def words_of_field(field, value):
+def words_of_field(field, value, before):
     option = f"--{field.name.replace('_', '-')}"
     if field.name == "keep":
-        return [f"{option}={KEPT}"] if value is True else []
+        return [f"{option}={before.keep or KEPT}"] if value is True else []
     if field.kind == "flag":
         return [option] if value is True else []
     texts = str(value or "").splitlines() if field.kind == "lines" else [str(value or "").strip()]

@@ -31,12 +31,13 @@ class Session:
     def __init__(self, words, files, page):
         """The words of the command, the files that they name, and the page, which has the parser, the fields and the solvers."""
         self.words, self.files, self.page = words, dict(files), page
-        self.work, self.used = threading.Lock(), time.monotonic()
+        # Plans are counted beyond a table, so that a browser takes no picture for another one.
+        self.work, self.used, self.count = threading.Lock(), time.monotonic(), 0
         self.forget_table()
 
     def forget_table(self):
         self.given = self.problem = self.outcome = self.answer = self.picture = None
-        self.edits, self.notes, self.count = Edits(), [], 0
+        self.edits, self.notes = Edits(), []
 
     @contextlib.contextmanager
     def working(self):

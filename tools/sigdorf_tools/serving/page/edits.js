@@ -38,6 +38,18 @@ export class Edits {
     return [...this.pairs.values()];
   }
 
+  // The edits as they are now, to be settled once they are planned; some may be changed once more meanwhile.
+  noted() {
+    return this.all().map((edit) => ({ ...edit }));
+  }
+
+  settle(noted) {
+    for (const { pair, wish, cost } of noted) {
+      const now = this.known(...pair);
+      if (now.wish === wish && now.cost === cost) this.drop(pair);
+    }
+  }
+
   told() {
     const told = { fix: [], forbid: [], free: [], costs: [] };
     for (const { pair, wish, cost } of this.pairs.values()) {

@@ -7,8 +7,8 @@ const STEPS = { ArrowUp: [-1, 0], ArrowDown: [1, 0], ArrowLeft: [0, -1], ArrowRi
 const MOVES = [["Up", -ROWS, 0], ["Down", ROWS, 0], ["Left", 0, -COLUMNS], ["Right", 0, COLUMNS]];
 
 export class Grid {
-  // What is around it: `standing(person, thing)` tells how a pair stands, `choose(pair, cost)` what to do where one is chosen, and `press(key)`
-  // what a key does.
+  // What is around it: `standing(person, thing, cost)` tells how a pair stands, `hall()` who is in the way of a plan, `choose(pair)` what to do
+  // where one is chosen, `press(key, pair)` what a key does, and `attempt(doing)` does what may be refused.
   constructor(around) {
     this.around = around;
     this.table = find("window").querySelector("table");
@@ -16,7 +16,7 @@ export class Grid {
     this.chosen = null;
     this.table.addEventListener("click", (event) => this.clicked(event));
     this.table.addEventListener("keydown", (event) => this.pressed(event));
-    find("moves").replaceChildren(...MOVES.map(([text, rows, columns]) => button(text, () => this.move(rows, columns))));
+    find("moves").replaceChildren(...MOVES.map(([text, rows, columns]) => button(text, () => around.attempt(() => this.move(rows, columns)))));
   }
 
   // Another table, which is shown from its first cell on.
@@ -135,7 +135,12 @@ export class Grid {
 
   clicked(event) {
     const cell = event.target.closest("td");
-    if (cell) this.choose(Number(cell.dataset.person), Number(cell.dataset.thing));
+    if (cell) this.go(Number(cell.dataset.person), Number(cell.dataset.thing));
+  }
+
+  go(person, thing) {
+    const within = (number, all) => Math.max(0, Math.min(number, all - 1));
+    this.around.attempt(() => this.choose(within(person, this.size.persons), within(thing, this.size.objects)));
   }
 
   pressed(event) {
@@ -143,12 +148,11 @@ export class Grid {
     if (!cell || event.ctrlKey || event.altKey || event.metaKey) return;
     const person = Number(cell.dataset.person), thing = Number(cell.dataset.thing), step = STEPS[event.key];
     if (step) {
-      const within = (number, all) => Math.max(0, Math.min(number, all - 1));
-      this.choose(within(person + step[0], this.size.persons), within(thing + step[1], this.size.objects));
+      this.go(person + step[0], thing + step[1]);
     } else if (event.key === "Home" || event.key === "End") {
-      this.choose(person, event.key === "Home" ? 0 : this.size.objects - 1);
+      this.go(person, event.key === "Home" ? 0 : Infinity);
     } else if (event.key === " ") {
-      this.choose(person, thing);
+      this.go(person, thing);
     } else if (!this.around.press(event.key, [person, thing, this.personName(person), this.thingName(thing)])) {
       return;
     }

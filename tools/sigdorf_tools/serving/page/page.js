@@ -12,11 +12,12 @@ const WISHES = { fix: "fixed", forbid: "forbidden", free: "no longer fixed or fo
 let view = { table: null, answer: null };
 let edits = new Edits();
 let chosen = null;
+let goesOn = "";
 let marks = { pairs: new Set(), fixed: new Set(), forbidden: new Set(), changed: new Map(), hall: { persons: new Set(), objects: new Set() } };
 
 const key = (person, thing) => `${person},${thing}`;
-const grid = new Grid({ standing, hall: () => marks.hall, choose: choosePair, press });
-const answer = new Answer({ show: (person, thing) => work("", () => grid.choose(person, thing)), wish });
+const grid = new Grid({ standing, hall: () => marks.hall, choose: choosePair, press, attempt });
+const answer = new Answer({ show: (person, thing) => attempt(() => grid.choose(person, thing)), wish });
 const options = new Options((told) => work("reading the table", async () => { await show(await send("/options", told)); await plan(); }));
 
 // How a pair stands: its cost, and what the plan, the wishes and the changes say of it.
@@ -38,33 +39,40 @@ function ownCost(person, thing, cost) {
   return own ? own[thing - grid.column] ?? "" : cost;
 }
 
-// Does some work, and tells meanwhile what goes on; a refusal is shown in its own words.
-async function work(told, doing) {
-  if (document.body.getAttribute("aria-busy") === "true") return;
-  const begin = performance.now(), busy = find("busy");
-  const tell = () => { busy.textContent = told && `${told}, ${Math.round((performance.now() - begin) / 1000)} s`; };
-  document.body.setAttribute("aria-busy", true);
+// Does what may be refused; a refusal is shown in its own words.
+async function attempt(doing) {
   find("fault").hidden = true;
-  const clock = setInterval(tell, 1000);
-  busy.textContent = told;
   try {
     await doing();
   } catch (error) {
     if (!(error instanceof Refused)) throw error;
     find("fault").textContent = error.message;
     find("fault").hidden = false;
-    if (!view.table && view.file) find("options").open = true;
+  }
+}
+
+// Does the one piece of work that goes on at a time, and tells meanwhile what it is.
+async function work(told, doing) {
+  if (document.body.getAttribute("aria-busy") === "true") return;
+  const begin = performance.now(), busy = find("busy");
+  const tell = () => { busy.textContent = goesOn && `${goesOn}, ${Math.round((performance.now() - begin) / 1000)} s`; };
+  document.body.setAttribute("aria-busy", true);
+  const clock = setInterval(tell, 1000);
+  goesOn = busy.textContent = told;
+  try {
+    await attempt(doing);
   } finally {
+    if (!view.table && view.file) find("options").open = true;
     clearInterval(clock);
     busy.textContent = "";
     document.body.setAttribute("aria-busy", false);
   }
 }
 
-// Shows what the program has told of the session.
+// Shows what the program has told of the session; what waits for a plan and what is chosen stays where the table is the same.
 async function show(told, isSame = false) {
   view = told;
-  edits = new Edits();
+  if (!isSame) edits = new Edits();
   const { table, answer: found } = view, places = (list) => new Set(list.map(([person, thing]) => key(person, thing)));
   marks.pairs = places(found?.pairs ?? []);
   marks.hall = { persons: new Set((found?.persons ?? []).map(([number]) => number)), objects: new Set((found?.objects ?? []).map(([number]) => number)) };
@@ -77,7 +85,7 @@ async function show(told, isSame = false) {
   find("drop").classList.toggle("small", Boolean(table));
   find("columns").classList.toggle("both", Boolean(table && found));
   listSentences(find("notes"), view.notes);
-  options.show(view.options);
+  if (!isSame) options.show(view.options);
   if (table && isSame) await grid.load();
   else if (table) { find("pair").hidden = true; chosen = null; await grid.begin(table); }
   answer.show(found, table);
@@ -85,8 +93,11 @@ async function show(told, isSame = false) {
 }
 
 async function plan() {
-  find("busy").textContent = "planning";
-  await show(await send("/plan", edits.told()), true);
+  const noted = edits.noted();
+  goesOn = find("busy").textContent = "planning";
+  const told = await send("/plan", edits.told());
+  edits.settle(noted);
+  await show(told, true);
   if (chosen) showPair();
 }
 
@@ -192,7 +203,7 @@ function chip([, , person, thing], told, isWaiting, takeBack) {
 async function findName() {
   const { persons, objects } = await ask(`/find?${new URLSearchParams({ name: find("name").value })}`), [person, thing] = grid.chosen ?? [0, 0];
   const found = [...persons.map(([number, name]) => [name, number, thing]), ...objects.map(([number, name]) => [name, person, number])];
-  const made = found.map(([name, ...pair]) => element("li", {}, button(name, () => work("", () => grid.choose(...pair)))));
+  const made = found.map(([name, ...pair]) => element("li", {}, button(name, () => attempt(() => grid.choose(...pair)))));
   find("found").replaceChildren(...(made.length ? made : [element("li", { textContent: "No name has this text." })]));
   find("found").hidden = false;
 }
@@ -210,7 +221,7 @@ async function begin() {
   history.replaceState(null, "", "/");
   listenForFiles();
   find("plan").addEventListener("click", planAgain);
-  find("find").addEventListener("submit", (event) => { event.preventDefault(); work("", findName); });
+  find("find").addEventListener("submit", (event) => { event.preventDefault(); attempt(findName); });
   await work("reading the table", async () => {
     await options.load();
     await show(await ask("/view"));

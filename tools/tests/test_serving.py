@@ -12,7 +12,7 @@ import time
 import unittest
 import zipfile
 
-from calls import ROOT, ToolTest, has_program
+from calls import ROOT, ToolTest
 from served import Served
 
 CREW = ROOT / "examples/crew.csv"
@@ -48,7 +48,6 @@ class Guards(ServedTest):
     def test_address(self):
         page = self.serve()
         self.assertRegex(page.address, r"^http://127\.0\.0\.1:[0-9]+/\?token=[\w-]{43}$")
-        self.assertNotIn(":0.0.0.0:", page.address)
 
     def test_token(self):
         page = self.serve()
@@ -94,7 +93,7 @@ class Guards(ServedTest):
         """What changes something comes from the page itself."""
         page = self.serve()
         page.open()
-        for origin in (None, "null", "http://evil.example", f"https://127.0.0.1:{page.port}", f"http://127.0.0.1:{page.port + 1}"):
+        for origin in (None, "null", "http://evil.example", f"127.0.0.1:{page.port}", f"https://127.0.0.1:{page.port}", f"http://127.0.0.1:{page.port + 1}"):
             for path in ("/table?name=t.csv", "/options", "/plan", "/sign-in"):
                 self.assert_refused(page.ask(path, "POST", b"{}", Origin=origin), 403, "send it from the page itself")
         self.assertEqual(page.ask("/view").told()["table"], None)

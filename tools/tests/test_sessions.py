@@ -138,6 +138,14 @@ class Sessions(SessionTest):
         view = self.view(self.page.take("other.csv", "a,x,1\n"))
         self.assertEqual((view["table"]["fixed"], view["table"]["changed"], view["answer"]), ([], [], None))
 
+    def test_wishes_of_the_command(self):
+        """They can be taken back on the page."""
+        self.serve(EXAMPLES / "crew.csv", "--fix", "Ada=wiring", "--forbid", "Dan=pump")
+        view = self.view(self.page.send("/options", {}))
+        self.assertEqual((view["table"]["fixed"], view["table"]["forbidden"]), ([[0, 2, "Ada", "wiring"]], [[3, 0, "Dan", "pump"]]))
+        self.assert_same(self.view(self.page.plan()), self.planned(EXAMPLES / "crew.csv", "--fix", "Ada=wiring", "--forbid", "Dan=pump"))
+        self.assert_same(self.view(self.page.plan(free=[[0, 2], [3, 0]])), self.planned(EXAMPLES / "crew.csv"))
+
     def test_files_of_the_machine(self):
         """No option of the page reaches one, but those that the command has named."""
         self.write("capacities.csv", "Ada,2\nBen,2\n")
@@ -157,6 +165,7 @@ class Sessions(SessionTest):
         self.view(self.page.plan(fix=[[0, 2]]))
         self.assertIn("--change-cost says what each change costs", self.page.send("/options", {"keep": True}).told()["fault"])
         self.view(self.page.send("/options", {"keep": True, "change_cost": "2"}))
+        self.assertEqual(self.page.send("/options", {"range": "Z9:Z10"}).status, 422)
         answer = self.view(self.page.plan(free=[[0, 2]]))["answer"]
         self.assertEqual(answer["rows"][:2], [["fitter", "object", "cost", "before"], ["Ada", "pump", "40", "wiring"]])
         self.assertIn("total 149 with 2 changes at 2 each", answer["summary"])

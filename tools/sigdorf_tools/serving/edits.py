@@ -5,6 +5,7 @@ from typing import NamedTuple
 from ..amounts import NotAnAmount, TooManyDecimals, units_of
 from ..faults import Fault, quoted
 from ..problems import Arcs
+from ..wishes import pair_of
 from .refusals import Refusal
 
 # So many pairs may be changed between two plans.
@@ -31,6 +32,12 @@ class Edits(NamedTuple):
             if text is not None:
                 costs[pair] = " ".join(text.split())
         return Edits(costs, (self.fixed | fix) - forbid - free, (self.forbidden | forbid) - fix - free)
+
+
+def edits_said(words, problem):
+    """What the words of the command say of pairs, which can be taken back on the page."""
+    fixed, forbidden = ([pair_of(f"--{option}", word, problem) for word in getattr(words, option)] for option in ("fix", "forbid"))
+    return Edits({}, *(frozenset((person, number - 1) for person, number in pairs) for pairs in (fixed, forbidden)))
 
 
 def list_told(told, name):

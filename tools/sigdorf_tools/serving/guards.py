@@ -1,13 +1,11 @@
 """Who may see the page: whoever has its address with the token, or in an office who knows the password; and no other page of a browser."""
 import hashlib
 import hmac
-import ipaddress
 import secrets
 import threading
 import time
 
 from .refusals import Refusal
-from .session import Session
 
 # So many browsers may have a session; the one that was longest without a request makes room.
 MOST_SESSIONS = 8
@@ -25,10 +23,6 @@ def hosts_of(names, port):
     """How a browser names a server in `Host`: by each of its names."""
     hosts = {f"[{name}]" if ":" in name else name.lower() for name in names}
     return {f"{host}:{port}" for host in hosts} | (hosts if port == 80 else set())
-
-
-def is_local(address):
-    return ipaddress.ip_address(address).is_loopback
 
 
 class Guard:
@@ -49,7 +43,7 @@ class Guard:
 
     def look_at_origin(self, origin):
         """What changes something comes from the page itself."""
-        if origin is None or origin.removeprefix("http://") not in self.hosts:
+        if origin not in {f"http://{host}" for host in self.hosts}:
             raise Refusal(403, "this was sent by another page, or by no page; send it from the page itself")
 
     def session_of(self, cookies):

@@ -66,7 +66,7 @@ class Handler(http.server.BaseHTTPRequestHandler):
             self.handle_one_request()
         except Refusal as refusal:
             self.refuse(refusal)
-        except OSError:
+        except ConnectionError:
             # Whoever asked has gone.
             return
         if self.is_answered:
@@ -106,12 +106,14 @@ class Handler(http.server.BaseHTTPRequestHandler):
             if method == "POST":
                 self.guard.look_at_origin(self.headers.get("Origin"))
             getattr(self, routes[method])()
-        except (Refusal, OSError):
+        except (Refusal, ConnectionError):
             raise
         except Fault as fault:
             raise Refusal(422, str(fault)) from None
         except MemoryError:
             raise Refusal(503, "there is too little memory for this problem; take a smaller table") from None
+        except OSError as error:
+            raise Refusal(507, f"{error.filename or 'the disk'}: it can't be written: {error.strerror}; make room there") from None
         except Exception as error:
             traceback.print_exc(file=sys.stderr)
             raise Refusal(500, f"plan is at fault here ({type(error).__name__}); what it was stands in the terminal, and the page can go on") from None
@@ -151,7 +153,7 @@ class Handler(http.server.BaseHTTPRequestHandler):
             self.is_answered = False
 
     def send_json(self, told):
-        self.send(json.dumps(told, ensure_ascii=False).encode(), JSON)
+        self.send(json.dumps(told).encode(), JSON)
 
     def body(self, most, way_out):
         """The body of a request, which has at most so many bytes; a sentence tells what to do where it has more."""

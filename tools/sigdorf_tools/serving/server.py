@@ -165,5 +165,5 @@ def end_work(page, guard):
         signal.signal(number, signal.SIG_IGN)
     page.processes.end()
     until = time.monotonic() + SECONDS_FOR_END
-    for session in guard.sessions.values():
+    for session in list(guard.sessions.values()):
         session.work.acquire(timeout=max(until - time.monotonic(), 0))

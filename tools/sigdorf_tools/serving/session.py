@@ -14,7 +14,7 @@ from ..outputs import json_of
 from ..planning import given_by, outcome_of, task_of, text_of
 from ..sheets import WORKBOOK
 from ..surroundings import Desk, at
-from .edits import Edits, with_costs
+from .edits import Edits, edits_said, with_costs
 from .fields import KEPT, values_of, words_told
 from .pictures import picture_of_outcome
 from .refusals import Refusal
@@ -69,30 +69,30 @@ class Session:
         """Reads the table anew by other options. What was changed and asked stays, where its names do."""
         with self.working() as said:
             words = words_told(self.page.parser, self.page.fields, told, self.words)
-            self.keep_plan(words)
+            kept = self.plan_to_keep(words)
             if words.file is not None:
                 self.read(words, said)
             self.words = words
+            self.files.pop(KEPT, None)
+            self.files.update({} if kept is None else {KEPT: kept})
         return self.view()
 
-    def keep_plan(self, words):
-        """Where the plan is to be kept, that is the one which is shown when this is said first."""
-        if words.keep is None:
-            self.files.pop(KEPT, None)
-        elif words.keep == KEPT and KEPT not in self.files:
-            if self.outcome is None or self.outcome.answer.claim.kind == "infeasible":
-                raise Fault("--keep: there is no plan yet that could be kept; plan first")
-            names, _, _, answer, asked, free = self.outcome
-            self.files[KEPT] = json_of(names, answer.claim, answer.judges, free, asked).encode()
+    def plan_to_keep(self, words):
+        """Where a plan is to be kept, that is the one which is shown when this is said first."""
+        if words.keep != KEPT or KEPT in self.files:
+            return self.files.get(KEPT) if words.keep == KEPT else None
+        if self.outcome is None or self.outcome.answer.claim.kind == "infeasible":
+            raise Fault("--keep: there is no plan yet that could be kept; plan first")
+        names, _, _, answer, asked, free = self.outcome
+        return json_of(names, answer.claim, answer.judges, free, asked).encode()
 
     def read(self, words, said):
-        begin = time.monotonic()
         given = given_by(words)
-        edits = self.edits if self.given and has_names(given.problem, self.given.problem) else Edits()
+        is_same = self.given and has_names(given.problem, self.given.problem)
+        edits = self.edits if is_same else edits_said(words, given.problem)
         problem = with_costs(given.problem, edits.costs, words.maximise)
         self.given, self.problem, self.edits, self.notes = given, problem, edits, list(said)
         self.outcome = self.answer = self.picture = None
-        self.reading_took = time.monotonic() - begin
 
     def plan(self, told):
         """Plans with what was changed since the last time."""
@@ -116,13 +116,13 @@ class Session:
 
     def words_with(self, edits):
         """The words of a command that asks for what the page does."""
-        problem, said = self.given.problem, vars(self.words)
+        problem = self.given.problem
         fix, forbid = ([f"{problem.persons[person]}={problem.objects[thing]}" for person, thing in sorted(pairs)] for pairs in (edits.fixed, edits.forbidden))
-        return argparse.Namespace(**said | {"fix": [*said["fix"], *fix], "forbid": [*said["forbid"], *forbid]})
+        return argparse.Namespace(**vars(self.words) | {"fix": fix, "forbid": forbid})
 
     def view(self):
         """All that the page shows but the cells of the table."""
-        table = told_table(self.given, self.problem, self.edits) if self.given else None
+        table = told_table(self.problem, self.edits) if self.problem else None
         return {"file": self.words.file, "options": values_of(self.page.fields, self.words), "notes": self.notes, "table": table, "answer": self.answer}
 
     def window(self, row, column, rows, columns):

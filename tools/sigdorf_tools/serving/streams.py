@@ -37,6 +37,9 @@ class Received(io.RawIOBase):
                 return count
             except TimeoutError:
                 pass
+        if self.left == MOST_HEAD:
+            # A connection by which nothing came: browsers open some to have them at hand.
+            return 0
         raise Refusal(408, "the request came too slowly; send it anew")
 
     def drop_rest(self):

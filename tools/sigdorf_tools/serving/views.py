@@ -8,7 +8,7 @@ from ..plans import blamed, by_objects, is_by_objects, sentence_of
 MOST_SIDE, MOST_FOUND = 60, 10
 
 
-def told_table(given, problem, edits):
+def told_table(problem, edits):
     return {
         "persons": len(problem.persons),
         "objects": len(problem.objects),

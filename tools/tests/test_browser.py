@@ -91,6 +91,42 @@ class Plans(BrowserTest):
         self.press("#plan")
         self.assert_planned()
 
+    def test_changes_that_are_none(self):
+        """What is taken back before it was planned leaves nothing to be planned."""
+        self.open(CREW)
+        self.choose(0, 0)
+        for selector in ("#fix", "#fix", "#forbid", "#fix", "#fix"):
+            self.find(selector).click()
+        for text in ("50", "", "40"):
+            self.change(text)
+        self.assertEqual((self.text("#plan"), self.text("#changes")), ("Plan again", ""))
+        self.change("50")
+        self.find("#reset").click()
+        self.assertEqual((self.text("#plan"), self.cell(0, 0).text), ("Plan again", "40"))
+
+    def test_parts_of_a_large_table(self):
+        """A window moves over the table by buttons, by names and by keys."""
+        self.open()
+        self.drop("large.csv", table_of(70, 65, scattered))
+        self.assertEqual(self.text("#place"), "who 1 to 30 of 70; object 1 to 30 of 65")
+        self.choose(0, 0)
+        self.find("#moves button:nth-child(2)").click()
+        self.wait(lambda: self.text("#place") == "who 31 to 60 of 70; object 1 to 30 of 65")
+        self.assertFalse(self.find("#pair").is_displayed())
+        self.find("#name").send_keys("JOB 64")
+        self.find("#find button").click()
+        self.wait(lambda: self.all("#found li"))
+        self.find("#found button").click()
+        self.wait(lambda: self.text("#place").endswith("object 61 to 65 of 65"))
+        self.keys("END", "PAGE_DOWN")
+        self.wait(lambda: self.text("#place").startswith("who 31 to 60"))
+        self.assertEqual(self.browser.switch_to.active_element.get_attribute("aria-label"), f"person 30, job 64: {scattered(30, 64)}")
+        self.find("#fix").click()
+        self.press("#plan")
+        self.assertIn("fixed", self.cell(30, 64).get_attribute("class"))
+        self.find("#list tr:nth-child(3) button").click()
+        self.wait(lambda: self.browser.switch_to.active_element.get_attribute("data-person") == "2")
+
     def test_change_a_cost(self):
         """Changed cells alone go to the program; the table's own cost can be taken back."""
         self.open(CREW)

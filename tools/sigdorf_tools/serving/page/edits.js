@@ -5,25 +5,16 @@ export class Edits {
     this.pairs = new Map();
   }
 
-  // The edit of a pair, which is told by its numbers and names.
-  at([person, thing, personName, thingName]) {
-    const key = `${person},${thing}`;
-    if (!this.pairs.has(key)) this.pairs.set(key, { pair: [person, thing, personName, thingName] });
-    return this.pairs.get(key);
-  }
-
   known(person, thing) {
     return this.pairs.get(`${person},${thing}`) || {};
   }
 
-  // A wish is `fix`, `forbid` or `free`.
-  wish(pair, wish) {
-    this.at(pair).wish = wish;
-  }
-
-  // A cost is a text, or null for the table's own.
-  cost(pair, cost) {
-    this.at(pair).cost = cost;
+  // Wants something of a pair, which is told by its numbers and names: a `wish` is fix, forbid or free, and a `cost` a text, or null for the
+  // table's own. What is undefined is wanted no more.
+  want(pair, name, value) {
+    const edit = { pair: pair.slice(0, 4), ...this.known(...pair), [name]: value };
+    if (edit.wish === undefined && edit.cost === undefined) this.drop(pair);
+    else this.pairs.set(pair.slice(0, 2).join(), edit);
   }
 
   drop([person, thing]) {

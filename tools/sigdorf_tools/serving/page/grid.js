@@ -8,7 +8,7 @@ const MOVES = [["Up", -ROWS, 0], ["Down", ROWS, 0], ["Left", 0, -COLUMNS], ["Rig
 
 export class Grid {
   // What is around it: `standing(person, thing, cost)` tells how a pair stands, `hall()` who is in the way of a plan, `choose(pair)` what to do
-  // where one is chosen, `press(key, pair)` what a key does, and `attempt(doing)` does what may be refused.
+  // where one is chosen, or none any more, `press(key, pair)` what a key does, and `attempt(doing)` does what may be refused.
   constructor(around) {
     this.around = around;
     this.table = find("window").querySelector("table");
@@ -110,7 +110,7 @@ export class Grid {
   }
 
   // Chooses a pair, and brings it into the window.
-  async choose(person, thing, hasFocus = true) {
+  async choose(person, thing) {
     if (!this.cellOf(person, thing)) {
       this.row = Math.floor(person / ROWS) * ROWS;
       this.column = Math.floor(thing / COLUMNS) * COLUMNS;
@@ -120,7 +120,7 @@ export class Grid {
     this.chosen = [person, thing];
     this.mark();
     const cell = this.cellOf(person, thing);
-    if (hasFocus) cell.focus();
+    cell.focus();
     cell.scrollIntoView({ block: "nearest", inline: "nearest" });
     this.around.choose([person, thing, this.personName(person), this.thingName(thing)]);
   }
@@ -129,6 +129,8 @@ export class Grid {
     const within = (place, all, step) => Math.max(0, Math.min(place, Math.floor((all - 1) / step) * step));
     this.row = within(this.row + rows, this.size.persons, ROWS);
     this.column = within(this.column + columns, this.size.objects, COLUMNS);
+    this.chosen = null;
+    this.around.choose(null);
     await this.load();
     find("window").scrollTo(0, 0);
   }

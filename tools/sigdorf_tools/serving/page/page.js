@@ -23,14 +23,19 @@ const options = new Options((told) => work("reading the table", async () => { aw
 // How a pair stands: its cost, and what the plan, the wishes and the changes say of it.
 function standing(person, thing, cost) {
   const edit = edits.known(person, thing), place = key(person, thing);
-  const before = marks.fixed.has(place) ? "fix" : marks.forbidden.has(place) ? "forbid" : "free";
   const isReset = edit.cost === null;
   return {
     cost: isReset ? ownCost(person, thing, cost) : edit.cost ?? cost,
     isPlanned: marks.pairs.has(place),
-    wish: edit.wish ?? before,
+    wish: edit.wish ?? wishPlanned(person, thing),
     isChanged: !isReset && (edit.cost !== undefined || marks.changed.has(place)),
   };
+}
+
+// What the last plan was asked of a pair.
+function wishPlanned(person, thing) {
+  const place = key(person, thing);
+  return marks.fixed.has(place) ? "fix" : marks.forbidden.has(place) ? "forbid" : "free";
 }
 
 // The cost that stands in the table itself.
@@ -87,7 +92,7 @@ async function show(told, isSame = false) {
   listSentences(find("notes"), view.notes);
   if (!isSame) options.show(view.options);
   if (table && isSame) await grid.load();
-  else if (table) { find("pair").hidden = true; chosen = null; await grid.begin(table); }
+  else if (table) { choosePair(null); await grid.begin(table); }
   answer.show(found, table);
   tellChanges();
 }
@@ -122,8 +127,8 @@ async function take(file) {
 
 // Asks for a pair, or takes that back where it is asked for already.
 function wish(pair, wanted) {
-  const { wish: before } = standing(pair[0], pair[1], "");
-  edits.wish(pair, before === wanted ? "free" : wanted);
+  const now = standing(...pair, "").wish, next = now === wanted ? "free" : wanted;
+  edits.want(pair, "wish", next === wishPlanned(...pair) ? undefined : next);
   afterEdit();
 }
 
@@ -135,7 +140,8 @@ function afterEdit() {
 
 function choosePair(pair) {
   chosen = pair;
-  showPair();
+  find("pair").hidden = !pair;
+  if (pair) showPair();
 }
 
 // The pair that is chosen, with all that can be done with it.
@@ -156,17 +162,16 @@ function showPair() {
     input,
     button("Change the cost", change, { id: "change" }),
   ];
-  if (isChanged) parts.push(button("As in the table", () => { edits.cost(chosen, null); afterEdit(); }, { id: "reset" }));
+  if (isChanged) parts.push(button("As in the table", () => { edits.want(chosen, "cost", marks.changed.has(key(person, thing)) ? null : undefined); afterEdit(); }, { id: "reset" }));
   find("pair").replaceChildren(...parts);
-  find("pair").hidden = false;
   if (focused) (find(focused) ?? grid.cellOf(person, thing))?.focus();
 }
 
 // The cost of the pair that is chosen. The pair isn't shown anew, since what is pressed next may be a button of it.
 function changeCost(text) {
-  const [person, thing] = chosen;
-  if (text === standing(person, thing, grid.costOf(person, thing)).cost) return;
-  edits.cost(chosen, text);
+  const [person, thing] = chosen, planned = grid.costOf(person, thing);
+  if (text === standing(person, thing, planned).cost) return;
+  edits.want(chosen, "cost", text === planned ? undefined : text);
   grid.mark();
   tellChanges();
 }
@@ -181,12 +186,10 @@ function press(pressed, pair) {
 // What was changed and asked: first what is planned already, then what waits for the next plan.
 function tellChanges() {
   const { fixed = [], forbidden = [], changed = [] } = view.table ?? {};
-  const { isWished, isCosted } = { isWished: ([person, thing]) => edits.known(person, thing).wish, isCosted: ([person, thing]) => edits.known(person, thing).cost !== undefined };
-  const wishes = [...fixed.map((pair) => [pair, "fixed"]), ...forbidden.map((pair) => [pair, "forbidden"])].filter(([pair]) => !isWished(pair));
-  const planned = [
-    ...wishes.map(([pair, told]) => chip(pair, told, false, () => edits.wish(pair, "free"))),
-    ...changed.filter((pair) => !isCosted(pair)).map((pair) => chip(pair, pair[4] || "not allowed", false, () => edits.cost(pair, null))),
-  ];
+  const stays = (name) => (pair) => edits.known(...pair)[name] === undefined;
+  const wishes = (pairs, told) => pairs.filter(stays("wish")).map((pair) => chip(pair, told, false, () => edits.want(pair, "wish", "free")));
+  const costs = changed.filter(stays("cost")).map((pair) => chip(pair, pair[4] || "not allowed", false, () => edits.want(pair, "cost", null)));
+  const planned = [...wishes(fixed, "fixed"), ...wishes(forbidden, "forbidden"), ...costs];
   const waiting = edits.all().map(({ pair, wish: wanted, cost }) => {
     const told = [wanted && WISHES[wanted], cost === null ? "as in the table" : cost === "" ? "not allowed" : cost].filter((text) => text !== undefined);
     return chip(pair, told.join(", "), true, () => edits.drop(pair));

@@ -2,6 +2,7 @@
 import functools
 import json
 import os
+import re
 import shutil
 import subprocess
 import unittest
@@ -20,7 +21,7 @@ except ImportError:
     webdriver = None
 
 CHROMIUM, DRIVER = shutil.which("chromium"), shutil.which("chromedriver")
-OPTIONS = ["--headless=new", "--no-sandbox", "--disable-gpu", "--disable-background-networking", "--disable-component-update", "--no-first-run", "--host-resolver-rules=MAP * ~NOTFOUND , EXCLUDE 127.0.0.1"]
+OPTIONS = ["--headless=new", "--no-sandbox", "--disable-gpu", "--disable-background-networking", "--disable-component-update", "--no-first-run", "--disable-dev-shm-usage", "--host-resolver-rules=MAP * ~NOTFOUND , EXCLUDE 127.0.0.1"]
 SECONDS = 60
 # Drops a file on the page as a hand does; its text or its size is told.
 DROP = """
@@ -48,8 +49,10 @@ def elsewhere(name, test):
     def run(self):
         case = f"{type(self).__module__}.{type(self).__name__}.{name}"
         paths = [str(ROOT / "tools/tests"), str(ROOT / "tools")]
-        done = subprocess.run([python_for_browsers(), "-B", "-m", "unittest", case], env=os.environ | {"PYTHONPATH": os.pathsep.join(paths)}, capture_output=True, text=True, timeout=600)
+        done = subprocess.run([python_for_browsers(), "-B", "-m", "unittest", "-v", case], env=os.environ | {"PYTHONPATH": os.pathsep.join(paths)}, capture_output=True, text=True, timeout=600)
         self.assertEqual(done.returncode, 0, done.stderr)
+        if why := re.search(r"\.\.\. skipped (['\"])(.*)\1$", done.stderr, re.MULTILINE):
+            self.skipTest(why[2])
     return run
 
 
@@ -120,6 +123,10 @@ class BrowserTest(ToolTest):
         for key in keys:
             webdriver.ActionChains(self.browser).send_keys(getattr(Keys, key) if key.isupper() and len(key) > 1 else key).perform()
         self.wait_until_done()
+
+    def step_back(self):
+        """To what has the focus before, by the keyboard."""
+        webdriver.ActionChains(self.browser).key_down(Keys.SHIFT).send_keys(Keys.TAB).key_up(Keys.SHIFT).perform()
 
     def rows(self):
         """The rows of the list as they are shown, without the words of buttons that act on them."""

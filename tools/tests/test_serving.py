@@ -143,7 +143,9 @@ class Limits(ServedTest):
                 member.write(bytes(2**20))
         page = self.serve()
         page.open()
+        self.assertEqual(page.take("t.csv", "a,x,1\n").status, 200)
         self.assert_refused(page.take("bomb.xlsx", content.getvalue()), 413, "600 MB once it is unpacked", "save the table as CSV")
+        self.assertEqual(page.ask("/view").told()["file"], "t.csv")
 
     def test_slow_client(self):
         """A request that comes byte by byte ends after its time, and others are answered meanwhile."""

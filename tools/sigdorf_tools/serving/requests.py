@@ -222,16 +222,14 @@ class Handler(http.server.BaseHTTPRequestHandler):
         self.send_json(self.session().find(self.query().get("name", "")))
 
     def table(self):
-        session = self.session()
-        self.send_json(session.take(self.query().get("name", ""), self.body(MOST_UPLOAD, "leave out what is no part of the table, or call plan with the file")))
+        way_out = "leave out what is no part of the table, or call plan with the file"
+        self.send_json(self.session().take(self.query().get("name", ""), lambda: self.body(MOST_UPLOAD, way_out)))
 
     def options(self):
-        session = self.session()
-        self.send_json(session.set_options(self.told()))
+        self.send_json(self.session().set_options(self.told()))
 
     def plan(self):
-        session = self.session()
-        self.send_json(session.plan(self.told()))
+        self.send_json(self.session().plan(self.told()))
 
     def picture(self):
         self.send(self.session().picture_of_plan().encode(), SVG)

@@ -52,9 +52,10 @@ class Session:
             self.work.release()
             self.used = time.monotonic()
 
-    def take(self, name, content):
-        """A new table, which is read as the options say."""
+    def take(self, name, receive):
+        """A new table, which is received by a call and read as the options say: so a session has one of them in memory on its way."""
         with self.working() as said:
+            content = receive()
             look_at_unpacked(content)
             name = plain_name(name)
             kept = {file: known for file, known in self.files.items() if file not in (self.words.file, KEPT)}

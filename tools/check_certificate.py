@@ -9,7 +9,7 @@ def must(holds, line, *numbers):  # where something doesn't hold, the reading en
         raise ValueError(line.format(*numbers))
 
 def number_at(place, tokens, wanted, line, arc=None):
-    """The number at a place of the problem: a token that spells one, in whatever way, and one of those wanted, or the line of its arc tells."""
+    """The number at a place of the problem: a token that spells one, in whatever way, and one of those wanted; a line tells of which arc it isn't."""
     must(place < len(tokens), "refused cut {}" if tokens else "refused empty", len(tokens))
     digits = tokens[place]
     if not digits.isdigit() or len(digits) > 30:

@@ -109,7 +109,7 @@ class Session:
             if edits.costs:
                 table = f"{outcome.names.table} with {counted(len(edits.costs), 'changed cost')}"
                 outcome = outcome._replace(names=outcome.names._replace(table=table))
-            notes = [*said, *(f"note: {note}" for note in notes_of_plan(outcome.names, problem, outcome.answer.claim))]
+            notes = [*said, *(f"note: {task.table.file}: {told}" for told in notes_of_plan(outcome.names, problem, outcome.answer.claim))]
             self.count += 1
             answer = told_answer(outcome, notes, time.monotonic() - begin, self.count)
             self.edits, self.problem, self.outcome, self.answer, self.picture = edits, problem, outcome, answer, None

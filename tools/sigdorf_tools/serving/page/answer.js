@@ -27,7 +27,7 @@ export class Answer {
     listSentences(find("plan-notes"), told.notes);
     this.pairs = new Map(told.pairs.map((pair, place) => [told.rows[place + 1].slice(0, 2).join("\u0000"), pair]));
     this.drawOrders(hasPlan);
-    find("plan-list").hidden = find("downloads").hidden = !hasPlan;
+    find("plan-list").hidden = !hasPlan;
     find("hall").hidden = hasPlan;
     find("more").hidden = true;
     if (hasPlan) this.drawList(FIRST);
@@ -50,6 +50,7 @@ export class Answer {
 
   drawList(most) {
     const [titles, ...rows] = this.isByObjects ? this.told.by_object : this.told.rows;
+    this.sorted = undefined;
     // The total is the last row, but for a sentence.
     const first = rows.filter((row) => row.length > 1), total = first.pop();
     const head = element("tr", {}, ...titles.map((title, place) => element("th", { scope: "col", className: place === 2 ? "number" : "" }, button(title, () => {}))), element("th", { scope: "col" }));
@@ -93,10 +94,10 @@ export class Answer {
 
   // Sorts the list by a column, up and down in turn; the total stays below.
   sort(title) {
-    if (find("more").hidden === false) this.drawList(Infinity);
-    const head = find("list").tHead.rows[0], body = find("list").tBodies[0], column = title.cellIndex;
-    const isUp = this.sorted !== column;
+    const column = title.cellIndex, isUp = this.sorted !== column;
+    if (!find("more").hidden) this.drawList(Infinity);
     this.sorted = isUp ? column : undefined;
+    const head = find("list").tHead.rows[0], body = find("list").tBodies[0];
     const key = (row) => row.cells[column]?.textContent ?? "";
     const amount = (row) => (key(row).trim() === "" ? Infinity : Number(key(row).replace(/[^0-9-]/g, "")));
     const compare = column === 2 ? (a, b) => (amount(a) > amount(b)) - (amount(a) < amount(b)) : (a, b) => key(a).localeCompare(key(b), undefined, { numeric: true });

@@ -178,8 +178,7 @@ class Limits(ServedTest):
         finally:
             for connection in idle:
                 connection.close()
-        time.sleep(0.5)
-        self.assertEqual(page.ask("/view").status, 200)
+        self.wait_for(lambda: page.ask("/view").status == 200)
 
     def test_less_than_was_said(self):
         page = self.serve()

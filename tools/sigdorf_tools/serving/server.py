@@ -18,9 +18,10 @@ from .guards import Guard
 from .processes import PageSolver, Processes
 from .requests import Handler
 from .session import Session
+from .streams import CHUNK, SECONDS_FOR_REST
 from .words import password_of
 
-# How long a plan may take where nobody says it; and how many requests are answered at a time.
+# How long a plan may take where nobody says it; and how many requests are answered at a time, and as many more refused.
 SECONDS, MOST_REQUESTS = "60", 32
 # Python looks for cycles once so many things have been made: cells of a table make none, and there are millions of them.
 LOOK_FOR_CYCLES = 1_000_000
@@ -52,7 +53,7 @@ class Server(socketserver.ThreadingMixIn, http.server.HTTPServer):
 
     def __init__(self, family, address, guard):
         self.address_family, self.guard = family, guard
-        self.places = threading.BoundedSemaphore(MOST_REQUESTS)
+        self.places, self.refusals = (threading.BoundedSemaphore(MOST_REQUESTS) for _ in range(2))
         super().__init__(address, Handler)
 
     def server_bind(self):
@@ -60,19 +61,29 @@ class Server(socketserver.ThreadingMixIn, http.server.HTTPServer):
         socketserver.TCPServer.server_bind(self)
 
     def process_request(self, request, client_address):
-        if not self.places.acquire(blocking=False):
-            request.setblocking(False)
-            with contextlib.suppress(OSError):
-                request.send(BUSY)
+        if self.places.acquire(blocking=False):
+            super().process_request(request, client_address)
+        elif self.refusals.acquire(blocking=False):
+            threading.Thread(target=self.refuse, args=(request,), daemon=True).start()
+        else:
             self.shutdown_request(request)
-            return
-        super().process_request(request, client_address)
 
     def process_request_thread(self, request, client_address):
         try:
             super().process_request_thread(request, client_address)
         finally:
             self.places.release()
+
+    def refuse(self, request):
+        """Tells one request too many so, once it has come: what isn't read would take the answer away with it."""
+        try:
+            with contextlib.suppress(OSError):
+                request.settimeout(SECONDS_FOR_REST)
+                request.recv(CHUNK)
+                request.sendall(BUSY)
+        finally:
+            self.shutdown_request(request)
+            self.refusals.release()
 
 
 def serve(words, parser, solver):

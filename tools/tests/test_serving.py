@@ -16,18 +16,29 @@ from calls import ROOT, ToolTest
 from served import Served
 
 CREW = ROOT / "examples/crew.csv"
-WITHOUT_PLAN = ROOT / "examples/crew_without_licences.csv"
-# A program that takes a minute for a solve, and what a page says of it.
-SLOW = "#!/bin/sh\n[ $1 = --version ] || exec sleep 60\n"
+
+
+def a_workbook():
+    """What begins as a workbook."""
+    content = io.BytesIO()
+    with zipfile.ZipFile(content, "w") as archive:
+        archive.writestr("xl/workbook.xml", "")
+    return content.getvalue()
 
 
 class ServedTest(ToolTest):
-    """A test of a page, which any program shows as long as nothing is planned."""
+    """A test of a page. No plan is made of what is tried here, so that any program does."""
 
     def serve(self, *words, program="/bin/true"):
-        self.page = Served(self.folder, *words, "--program", os.environ.get("AUCTION", program) if program == "/bin/true" else program)
+        self.page = Served(self.folder, *words, "--program", program)
         self.addCleanup(self.page.end)
         return self.page
+
+    def slow_program(self, seconds):
+        """A program that takes its time, and has no answer then."""
+        program = self.write("slow", f"#!/bin/sh\n[ $1 = --version ] || exec sleep {seconds}\n")
+        program.chmod(0o755)
+        return program
 
     def wait_for(self, holds):
         until = time.monotonic() + 10
@@ -211,9 +222,7 @@ class Limits(ServedTest):
 
     def test_two_plans_at_once(self):
         """A session has one plan at a time, and another session has its own."""
-        program = self.write("slow", "#!/bin/sh\n[ $1 = --version ] || exec sleep 3\n")
-        program.chmod(0o755)
-        page = self.serve(program=program)
+        page = self.serve(program=self.slow_program(3))
         page.open()
         page.take("t.csv", "a,x,1\n")
         planning = threading.Thread(target=page.plan, daemon=True)
@@ -253,13 +262,6 @@ class Limits(ServedTest):
         page.open()
         self.assert_refused(page.ask("/plan.xlsx"), 501, "python3-openpyxl of Debian", "or take the CSV")
         self.assert_refused(page.take("book.xlsx", a_workbook()), 422, "book.xlsx: to read .xlsx Python needs openpyxl")
-
-
-def a_workbook():
-    content = io.BytesIO()
-    with zipfile.ZipFile(content, "w") as archive:
-        archive.writestr("xl/workbook.xml", "")
-    return content.getvalue()
 
 
 class Words(ServedTest):
@@ -332,9 +334,7 @@ class Ends(ServedTest):
         """Nothing is left on the disk, nor runs on, also where a plan is cut off."""
         for number, status in ((signal.SIGINT, 130), (signal.SIGTERM, 143), (signal.SIGHUP, 129)):
             with self.subTest(number):
-                program = self.write("slow", SLOW)
-                program.chmod(0o755)
-                page = self.serve(program=program)
+                page = self.serve(program=self.slow_program(60))
                 page.open()
                 page.take("t.csv", "a,x,1\nb,y,1\n")
                 planning = self.in_background(page.plan)

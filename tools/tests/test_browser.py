@@ -10,8 +10,6 @@ from calls import ROOT
 
 CREW, WITHOUT_PLAN = ROOT / "examples/crew.csv", ROOT / "examples/crew_without_licences.csv"
 HOSTILE = "<img src=x onerror=window.hit=1>"
-
-
 # Has the program read its problem for longer than a second, which counts: so the time is up before the search is over.
 LATE = """[ $1 = solve ] || exec "$AUCTION" "$@"
 pipe=$(mktemp -u) problem=$2

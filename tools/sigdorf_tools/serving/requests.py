@@ -14,7 +14,6 @@ from .assets import ASSETS
 from .guards import NO_SESSION, NO_TOKEN
 from .refusals import Refusal
 from .streams import SECONDS_FOR_ANSWER, Received
-from .views import MOST_SIDE
 
 MOST_UPLOAD, MOST_BODY, MOST_FIELDS = 64 * 2**20, 2**20, 10
 HEADERS = {
@@ -216,7 +215,7 @@ class Handler(http.server.BaseHTTPRequestHandler):
         if not all(number.isdecimal() and len(number) < 7 for number in numbers):
             raise Refusal(400, "row, column, rows and columns have to be numbers; load the page anew")
         row, column, rows, columns = map(int, numbers)
-        self.send_json(self.session().window(row, column, min(rows, MOST_SIDE), min(columns, MOST_SIDE)))
+        self.send_json(self.session().window((row, column), (rows, columns)))
 
     def find(self):
         self.send_json(self.session().find(self.query().get("name", "")))

@@ -16,9 +16,8 @@ from ..sheets import WORKBOOK
 from ..surroundings import Desk, at
 from .edits import Edits, edits_said, with_costs
 from .fields import KEPT, values_of, words_told
-from .pictures import picture_of_outcome
 from .refusals import Refusal
-from .views import told_answer, told_found, told_table, told_window
+from .views import picture_of_outcome, told_answer, told_found, told_table, told_window
 
 # The name of a file is cut after so many letters, and a workbook may have so many bytes once it is unpacked.
 LONGEST_NAME, MOST_UNPACKED = 120, 512 * 2**20
@@ -126,10 +125,10 @@ class Session:
         table = told_table(self.problem, self.edits) if self.problem else None
         return {"file": self.words.file, "options": values_of(self.page.fields, self.words), "notes": self.notes, "table": table, "answer": self.answer}
 
-    def window(self, row, column, rows, columns):
+    def window(self, corner, size):
         if self.given is None:
             raise Refusal(409, "there is no table yet; drop one")
-        return told_window(self.given.problem, self.problem, self.words.maximise, range(row, row + rows), range(column, column + columns))
+        return told_window(self.given.problem, self.problem, self.words.maximise, corner, size)
 
     def find(self, text):
         if self.given is None:

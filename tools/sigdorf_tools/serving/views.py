@@ -1,8 +1,8 @@
 """What the page is told, as values of JSON: of a table, of a window of its cells, and of an answer. Persons and objects are told by their
-numbers, from 0 on, and all texts as they are: the page puts none of them into its own words as HTML."""
+numbers, from 0 on, and all texts as they are: the page puts none of them into its own words as HTML. A picture comes as it is drawn elsewhere."""
 from ..amounts import amount_of
-from ..pages import claim_of_owners, pairs_of
-from ..plans import blamed, by_objects, is_by_objects, sentence_of
+from ..pages import claim_of_owners, pairs_of, picture_of_plan, prices_of
+from ..plans import blamed, by_objects, sentence_of
 
 # So many cells a window may have to a side, and so many names of a kind are told of those that are looked for.
 MOST_SIDE, MOST_FOUND = 60, 10
@@ -29,12 +29,15 @@ def told_pair(problem, pair):
 def told_found(problem, text):
     """Persons and objects that have a text in their names, whatever its capitals."""
     text = text.casefold()
-    return {kind: [[number, name] for number, name in enumerate(names) if text in name.casefold()][:MOST_FOUND] for kind, names in (("persons", problem.persons), ("objects", problem.objects))}
+    kinds = ("persons", problem.persons), ("objects", problem.objects)
+    return {kind: [[number, name] for number, name in enumerate(names) if text in name.casefold()][:MOST_FOUND] for kind, names in kinds}
 
 
-def told_window(own, problem, maximise, rows, columns):
-    """The cells of some persons and objects, with the costs of the table and those that were changed; a pair that isn't allowed has none."""
-    persons, objects = (range(len(names))[slice(wanted.start, wanted.stop)][:MOST_SIDE] for names, wanted in ((problem.persons, rows), (problem.objects, columns)))
+def told_window(own, problem, maximise, corner, size):
+    """The cells of some persons and objects, from a corner on, with the costs as they were changed, and in changed rows those of the table
+    too; a pair that isn't allowed has none."""
+    wanted = zip((problem.persons, problem.objects), corner, size)
+    persons, objects = (range(len(names))[first : first + min(count, MOST_SIDE)] for names, first, count in wanted)
 
     def texts(arcs):
         costs = arcs.pairs()
@@ -76,5 +79,10 @@ def told_hall(outcome):
     return {
         "persons": [[number - 1, names.person(number)] for number in dict.fromkeys(persons)],
         "objects": [[number - 1, names.object(number)] for number in dict.fromkeys(objects) if names.object(number)],
-        "is_by_objects": is_by_objects(names, claim),
     }
+
+
+def picture_of_outcome(outcome):
+    names, problem, model, answer, asked, _ = outcome
+    prices = prices_of(names, model, answer.claim, asked)
+    return picture_of_plan(names, problem, model, answer.claim, prices, sentence_of(names, answer.claim, asked))

@@ -51,22 +51,23 @@ def number_of_decimals(word):
 
 
 class Extras(NamedTuple):
-    """Columns that say something of persons, by their titles; a column that does of objects; and the name of a row that does."""
+    """Options that name a column which says something of persons, by its title, or of objects; and those that name a row
+    of a matrix which does of objects, by its name."""
 
-    of_persons: tuple = ()
-    of_objects: tuple = ()
-    row: str | None = None
+    of_persons: dict = {}
+    of_objects: dict = {}
+    rows: dict = {}
 
 
 def read_problem(words, extras=Extras()):
-    """The table that the words name, or its text, its problem, and what columns of these titles say of each person, and of
-    each object; then the row. Decimals that nobody said are told on standard error, and what may not be meant."""
+    """The table that the words name, or its text, its problem, and what each of the extra columns and rows says, by its
+    option. Decimals that nobody said are told on standard error, and what may not be meant."""
     if words.round is not None and words.decimals is not None:
         raise Fault(f"--round {words.round}: --decimals {words.decimals} says how many decimals are kept; leave one of them out")
     source, has_header = read_source(words.file, reading_of(words)), not words.no_header
     said = has_header, words.decimals, words.maximise, MARKS.get(words.decimal_mark)
     is_whole = words.columns is None and extras == Extras() and not words.ignore_column
-    problem, told = None, []
+    problem, told = None, {}
     if is_whole and words.range is None and words.round is None and not words.gap:
         problem = problem_by_arrays(source, words.form, *said) or problem_of_pairs(source, words.form, *said)
     if problem is None:
@@ -83,16 +84,16 @@ def read_problem(words, extras=Extras()):
 
 
 def picked_extras(words, table, extras, has_header):
-    """The table with the columns that are its own, and what the others and the row say."""
+    """The table with the columns and rows that are its own, and what the others say."""
     titles = titles_said(words.columns) if words.columns is not None else []
-    all_extras = [*extras.of_persons, *extras.of_objects]
-    table, columns, places = picked(table, titles, [*all_extras, *words.ignore_column], has_header)
-    told = []
-    for number, (cells, place) in enumerate(zip(columns[: len(all_extras)], places)):
-        told.append(by_names(table, cells, place, 1 if has_header else 0, int(number >= len(extras.of_persons))))
-    if extras.row is not None:
-        table, cells = taken_row(table, extras.row)
-        told.append(cells)
+    said = [*extras.of_persons.values(), *extras.of_objects.values()]
+    table, columns, places = picked(table, titles, [*said, *words.ignore_column], has_header)
+    told = {}
+    for which, options in enumerate((extras.of_persons, extras.of_objects)):
+        for option in options:
+            told[option] = by_names(table, columns[len(told)], places[len(told)], 1 if has_header else 0, which)
+    for option, name in extras.rows.items():
+        table, told[option] = taken_row(table, option, name)
     return table, told
 
 

@@ -5,6 +5,7 @@ from typing import NamedTuple
 from .amounts import DELETE_THOUSANDS, MOST, THOUSANDS, NoNumber, NotAnAmount, TooManyDecimals, parts_of, parts_with, room_for_decimals, ungrouped, units_of, way_out
 from .clocks import MARK
 from .faults import Fault, quoted
+from .gap_words import way_out as way_out_of_word
 from .marks import OTHER, TO_SHAPE, Marks
 from .notations import made_plain
 from .rounding import note_of_rounded, rounded
@@ -167,7 +168,14 @@ def first_fault(table, groups, look):
             try:
                 look(cost)
             except NotAnAmount as why:
-                allowed = " or leave out the row of a pair that" if is_of_pairs else " or leave the cell empty where the pair"
-                way_out = f",{allowed} isn't allowed; --gap names what stands for that" if isinstance(why, NoNumber) else ""
-                return table.fault(row, column, f"{quoted(cost)} {why}{way_out}")
+                return table.fault(row, column, f"{quoted(cost)} {told(cost, why, is_of_pairs)}")
     raise AssertionError("one of the costs is at fault")
+
+
+def told(cost, why, is_of_pairs):
+    """Why a cell is no cost, and what to do."""
+    if not isinstance(why, NoNumber):
+        return why
+    allowed = "leave out the row of a pair that" if is_of_pairs else "leave the cell empty where the pair"
+    otherwise = f"write digits alone, or {allowed} isn't allowed"
+    return f"is no number; {way_out_of_word(cost, otherwise)}"

@@ -14,7 +14,7 @@ TITLE_SIZE, NAME_SIZE, PRICE_SIZE, COST_SIZE = 20, 15, 13, 12.5
 # Names are cut where they are longer than so many letters.
 LONGEST = 40
 MOST_LABELS = 80
-LEGEND = ["thick: the plan; thin: other arcs; numbers: costs", "bars: prices, in the unit of costs"]
+LEGEND = ["thick: the plan; thin: other pairs; numbers: costs", "bars: prices, in the unit of costs"]
 HALL_LEGEND = ["red: who is in the way of a plan, and all that they may take"]
 
 

@@ -2,6 +2,7 @@
 import re
 
 from .faults import quoted
+from .gap_words import gap_said, is_word
 
 # What no name is: a number in whatever notation, with a unit or without letters, and what stands for one that isn't there.
 EXPONENT = re.compile(r"(?<=[0-9.,])[eE](?=[+\-\u2212]?[0-9])")
@@ -57,9 +58,14 @@ def look_for_more_columns(table):
     """A column without a number, after the first one, is none of costs: so the table has more columns than a matrix,
     and which ones are to be taken has to be said."""
     rest = table.rows[1:]
-    for column, cell in enumerate(rest[0] if rest else [], 0):
-        if column and cell and cell not in table.not_possible and not is_number(cell) and not looks_like_number(cell) and not any(is_number(cells[column]) for cells in rest if column < len(cells)) and len(rest) > 1:
-            raise table.fault(1, column, f"{quoted(cell)} is no cost, nor is another cell of this column; say --columns with the titles of person, object and cost, or --ignore-column with the title of this one")
+    for column, cell in enumerate(rest[0] if len(rest) > 1 else [], 0):
+        if not column or not cell or cell in table.not_possible or is_number(cell) or looks_like_number(cell):
+            continue
+        cells = [cells[column] for cells in rest if column < len(cells)]
+        if not any(map(is_number, cells)):
+            gap = f", or {gap_said(cell)} if it stands for a pair that isn't allowed" if set(cells) == {cell} and is_word(cell) else ""
+            told = f"{quoted(cell)} is no cost, nor is another cell of this column"
+            raise table.fault(1, column, f"{told}; say --columns with the titles of person, object and cost, or --ignore-column with the title of this one{gap}")
 
 
 def look_for_header(table):

@@ -5,6 +5,7 @@ from .headers import from_header
 from .names_told import unknown
 from .notes import note
 from .reading import parted_from_sheet
+from .shifts import overlapping
 from .surroundings import exists
 from .tables import columns, read_table
 
@@ -51,36 +52,40 @@ def numbers_said(option, word, names, kind, told):
     return found
 
 
-def taken_row(table, name):
-    """The table without the row that has a name in front, and what its cells say of the objects above them, each with its
-    place."""
+def taken_row(table, option, name):
+    """The table without the row of a matrix that an option names, and what its cells say of the objects above them, each
+    with its place."""
     rows = [row for row, cells in enumerate(table.rows) if row and cells[0] == name]
     if len(rows) != 1:
         found = "there is no row" if not rows else f"there are {len(rows)} rows"
-        raise table.fault_of_row(0, f"--need-row {name}: {found} with this name in front; name one of those below the header")
+        raise table.fault_of_row(0, f"--{option.replace('_', '-')} {name}: {found} with this name in front; name one of those below the header")
     taken = rows[0]
-    cells = {thing: (table.place(taken, column), cell) for column, (thing, cell) in enumerate(zip(table.rows[0], table.rows[taken])) if column and cell}
+    cells = {thing: (table.place(taken, column), cell) for column, (thing, cell) in enumerate(zip(table.rows[0], table.rows[taken])) if column and cell and cell not in table.not_possible}
     return table.without_row(taken), cells
 
 
-def groups_said(word, objects):
-    """For each object the number of its group, of which a person may have one, as a list names them: in each row objects
-    that can't go together, or an object and what it shares with those that can't go with it, such as its day."""
+def apart_said(word, objects):
+    """For each object the number of its group, of which a person may have one, and pairs of objects that can't go together
+    though they are in no group, as a list names them: in each row objects that can't go together, or an object and what it
+    shares with those that can't go with it, such as its day, or an object and when it begins and ends."""
     numbers = {name: place for place, name in enumerate(objects)}
     if word is None:
-        return list(range(len(objects)))
+        return list(range(len(objects))), frozenset()
     table = table_of_list(word)
-    table = table if table.rows[0][0] in numbers or len(table.rows) == 1 else table.without_rows(1)
+    below = {cell for cells in table.rows[1:] for cell in cells if cell}
+    # A first row with an object, or with a cell that stands below too, has no titles.
+    table = table if not below or any(cell in numbers or cell in below for cell in table.rows[0]) else table.without_rows(1)
     for row, cells in enumerate(table.rows):
         if cells[0] not in numbers:
             raise table.fault(row, 0, unknown("object", cells[0], objects))
     others = [(row, column, cell) for row, cells in enumerate(table.rows) for column, cell in enumerate(cells) if column and cell]
     if not any(cell in numbers for _, _, cell in others):
-        return by_label(table, numbers)
+        has_times = any(sum(map(bool, cells)) > 2 for cells in table.rows)
+        return parted(overlapping(table, numbers)) if has_times else (by_label(table, numbers), frozenset())
     for row, column, cell in others:
         if cell not in numbers:
             raise table.fault(row, column, unknown("object", cell, objects))
-    return by_rows(table, numbers, objects)
+    return parted(by_rows(table, numbers))
 
 
 def by_label(table, numbers):
@@ -98,20 +103,23 @@ def by_label(table, numbers):
     return groups
 
 
-def by_rows(table, numbers, objects):
-    """The groups of objects that stand in a row together. Where two can't go with a third one, but may go together,
-    there are no groups, and the problem is no assignment problem any more."""
-    apart = [set() for _ in objects]
+def by_rows(table, numbers):
+    """For each object those that stand in a row with it."""
+    apart = [set() for _ in numbers]
     for cells in table.rows:
-        places = [numbers[cell] for cell in cells if cell]
+        places = {numbers[cell] for cell in cells if cell}
         for place in places:
-            apart[place].update(places)
-    groups = list(range(len(objects)))
+            apart[place] |= places - {place}
+    return apart
+
+
+def parted(apart):
+    """The groups of objects all of which are apart from one another, and pairs that are apart and in no group. Where two
+    can't go with a third one, but may go together, not all pairs are in groups."""
+    groups, members = [], {}
     for place, others in enumerate(apart):
-        for other in sorted(others):
-            if apart[other] != others:
-                third = min(apart[other] ^ others)
-                told = f"{quoted(objects[third])} may go with just one of {quoted(objects[place])} and {quoted(objects[other])}, which are apart"
-                raise Fault(f"{table.file}: {told}; nothing could be proved of such a plan: list all three as apart")
-            groups[other] = min(groups[other], groups[place])
-    return groups
+        before = sorted({groups[other] for other in others if other < place})
+        group = next((group for group in before if members[group] <= others), place)
+        members.setdefault(group, set()).add(place)
+        groups.append(group)
+    return groups, frozenset((place + 1, other + 1) for place, others in enumerate(apart) for other in others if place < other and groups[place] != groups[other])

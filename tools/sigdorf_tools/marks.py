@@ -44,17 +44,18 @@ def is_simple(cost):
 
 class Marks:
     """Finds the mark of a table from its costs, in their order. In a table with commas between its cells, or tabs, decimals stand behind a point, unless its thousands tell that
-    they stand behind a comma; in one with semicolons a point may be either. Where it is said how many decimals there are, a mark is before decimals."""
+    they stand behind a comma; between tabs a cost tells it too, as `3,5`, since nothing else may be meant by its comma. In a table with semicolons a point may be either. Where it is said how many
+    decimals there are, a mark is before decimals."""
 
     def __init__(self, separator, has_decimals):
-        self.usual = None if separator == ";" else "."
+        self.usual, self.is_free = None if separator == ";" else ".", separator == "\t"
         self.has_decimals = has_decimals
         self.open = None
 
     def look_at(self, cost):
         """The mark, where this cost tells it."""
         told = mark_told(cost)
-        if told and (self.usual in (None, told) or not is_simple(cost)):
+        if told and (self.usual in (None, told) or self.is_free or not is_simple(cost)):
             return told
         if told is None and has_two_meanings(cost):
             mark = next(character for character in cost if character in OTHER)

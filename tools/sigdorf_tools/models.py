@@ -7,6 +7,9 @@ from .arrays import ArrayArcs
 from .faults import Fault
 from .problems import MOST_ARCS, MOST_OBJECTS, MOST_PERSONS
 
+# At most so many copies and objects together are made a square problem.
+MOST_SQUARE = MOST_PERSONS
+
 
 class Model(NamedTuple):
     """For each person of the solver, who is a copy of one of the table's, the place of that one and the arcs; what it costs each copy to stay free,
@@ -18,7 +21,8 @@ class Model(NamedTuple):
     Where copies may stay free, each has an object of its own for that. These make the objects more than the persons, which the solver is slow with where
     costs are high; so the problem is made square. Persons for the objects alone could take whatever is left, but that is an arc for each of them and each
     object. It is enough that the one for an object takes that object, where nobody else does, or the own object of a copy that may take it: whoever takes an
-    object leaves his own one to its person. So there are twice the arcs of the table, and one for each copy and each object.
+    object leaves his own one to its person. So there are twice the arcs of the table, and one for each copy and each object. Where these persons would be too
+    many for the solver, they are left out.
     """
 
     owners: list
@@ -31,9 +35,13 @@ class Model(NamedTuple):
         """How many dummies there are."""
         return 0 if self.free else max(len(self.owners) - self.objects, 0)
 
+    def is_square(self):
+        """Whether copies may stay free, and there are persons for the objects."""
+        return bool(self.free) and len(self.owners) + self.objects <= MOST_SQUARE
+
     def persons(self):
         """How many persons the solver has."""
-        return len(self.owners) + (self.objects if self.free else 0)
+        return len(self.owners) + (self.objects if self.is_square() else 0)
 
     def all_objects(self):
         return len(self.owners) + self.objects if self.free else self.objects + self.dummies()
@@ -46,7 +54,7 @@ class Model(NamedTuple):
         """How many arcs there are."""
         total = sum(arcs.count() for arcs in self.arcs)
         if self.free:
-            return 2 * total + self.objects + sum(price is not None for price in self.free)
+            return total + (total + self.objects) * self.is_square() + sum(price is not None for price in self.free)
         return total + self.dummies() * (len(self.owners) - len(self.fixed))
 
     def lines(self):
@@ -62,12 +70,14 @@ class Model(NamedTuple):
 
     def lines_of_free(self):
         """The arcs to the own objects, and those of the persons for the objects."""
-        copies, count = len(self.owners), self.objects
+        copies, count, is_square = len(self.owners), self.objects, self.is_square()
         for copy, (arcs, price) in enumerate(zip(self.arcs, self.free), 1):
             if price is not None:
                 yield f"{copy} {count + copy} {price}\n"
-            yield "".join([f"{copies + thing} {count + copy} 0\n" for thing in arcs.objects])
-        yield "".join([f"{copies + thing} {thing} 0\n" for thing in range(1, count + 1)])
+            if is_square:
+                yield "".join([f"{copies + thing} {count + copy} 0\n" for thing in arcs.objects])
+        if is_square:
+            yield "".join([f"{copies + thing} {thing} 0\n" for thing in range(1, count + 1)])
 
     def rows(self):
         """For each person of the solver, in turn, the number, the objects and the costs."""
@@ -79,7 +89,7 @@ class Model(NamedTuple):
             elif dummies and copy - 1 not in self.fixed:
                 objects, costs = objects + dummies, costs + [0] * len(dummies)
             yield copy, objects, costs
-        if self.free:
+        if self.is_square():
             own = [[thing] for thing in range(1, count + 1)]
             for copy, arcs in enumerate(self.arcs, 1):
                 for thing in arcs.objects:
@@ -136,4 +146,4 @@ def look_at_size(file, model):
         if count > most:
             raise Fault(f"{file}: with copies and those that stay free the problem has {count:,} {word}, and may have {most:,}; ask for less capacity, or leave pairs out")
     if model.count() > MOST_ARCS:
-        raise Fault(f"{file}: the problem has {model.count():,} arcs with those of dummies, and may have {MOST_ARCS:,}; leave out pairs that won't be taken")
+        raise Fault(f"{file}: the problem has {model.count():,} pairs with those of dummies, and may have {MOST_ARCS:,}; leave out pairs that won't be taken")

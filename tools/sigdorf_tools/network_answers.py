@@ -1,24 +1,42 @@
 """Answers for networks, told of the table's persons and objects: who has what, or who is in the way of a plan."""
 from .claims import Claim
+from .faults import Fault
 
 
-def answer_of_network(solver, name, network):
-    """The answer of the solver, with its claim as it is told of the copies of persons and of the table's objects."""
-    answer = solver.answer(name, network.lines(), network.count(), network.objects_said())
+def answer_of_network(solver, name, network, looked=0):
+    """The answer of the solver, with its claim as it is told of the copies of persons and of the table's objects. So many
+    arcs were looked at before for the same answer."""
+    answer = solver.answer(name, network.lines(), looked + network.count(), network.objects_said())
     if answer.claim.kind == "infeasible" and network.free:
         return answer_of_bound(solver, name, network, answer)
     return answer._replace(claim=told(network, answer.claim))
 
 
 def answer_of_bound(solver, name, network, answer):
-    """The answer for those who mustn't stay free, with their numbers among all copies: they are in the way of a plan."""
+    """The answer for those who mustn't stay free, with their numbers among all copies; or where all of them can have
+    something, for the places that mustn't stay open. One of both is in the way of a plan: where there is a plan for the
+    ones and a plan for the others, there is one for both."""
     bound = [copy for copy, price in enumerate(network.free) if price is None]
     part = network.part_of(bound)
     if part.persons() > part.all_objects():
         things = sorted({thing for copy in bound for thing, _ in network.pairs_of_copy(copy)})
         return answer._replace(claim=infeasible([copy + 1 for copy in bound], things, False))
+    found = answer_of_network(solver, name, part) if bound else answer
+    if bound and found.claim.kind == "infeasible":
+        return found._replace(claim=found.claim._replace(persons=[bound[copy - 1] + 1 for copy in found.claim.persons]))
+    return answer_of_places(solver, name, network.part_of_places(), answer)
+
+
+def answer_of_places(solver, name, part, answer):
+    """The answer for places that have to be taken, apart from those of fixed pairs."""
+    if len(part.places) > len(part.owners):
+        things = [thing for thing in range(1, part.objects + 1) for _ in part.open_places[thing]]
+        takers = [copy + 1 for mine in part.copies for copy in mine if any(thing in things for thing, _ in part.pairs_of_copy(copy))]
+        return answer._replace(claim=infeasible(takers, things, True))
     found = answer_of_network(solver, name, part)
-    return found._replace(claim=found.claim._replace(persons=[bound[copy - 1] + 1 for copy in found.claim.persons]))
+    if found.claim.kind != "infeasible":
+        raise Fault(f"{name}: that there is no plan, as {solver.program} says, doesn't hold; install the program anew")
+    return found
 
 
 def told(network, claim):

@@ -15,12 +15,18 @@ from typing import NamedTuple
 
 
 class Demand(NamedTuple):
-    """For each object how many persons it wants, and the number of its group, of which a person may have one; and what a
-    place costs that stays open, or None where none may."""
+    """For each object how many persons it wants, and the number of its group, of which a person may have one; pairs of
+    objects, by their numbers, that can't go together though they are in no group; and what a place costs that stays open,
+    for each object, with None where none may, or nothing at all where nobody asked."""
 
     needs: list
     groups: list
-    undone: int | None = None
+    apart: frozenset = frozenset()
+    undone: list | None = None
+
+    def are_apart(self, one, other):
+        """Whether a person can't have two objects; nobody has the same one twice."""
+        return self.groups[one - 1] == self.groups[other - 1] or (min(one, other), max(one, other)) in self.apart
 
 
 class Network:
@@ -74,7 +80,24 @@ class Network:
 
     def helper_of(self, person, thing):
         """The number of the helper that stands between a person and an object, from 0 on, or None."""
-        return self.helped.get((person, self.demand.groups[thing - 1]))
+        return self.helped.get((person, self.demand.groups[thing - 1])) if self.helped else None
+
+    def without(self, pairs):
+        """The network in which persons don't have some objects, each pair by the place of the person and the number of the
+        object."""
+        gone = {}
+        for person, thing in pairs:
+            gone.setdefault(person, set()).add(thing)
+        arcs = [each.without(gone.get(person, ())) for person, each in enumerate(self.arcs)]
+        fixed = [(copy, thing) for copy, (_, thing) in self.fixed.items()]
+        return Network(arcs, self.owners, self.free, fixed, self.demand, self.is_swapped)
+
+    def part_of_places(self):
+        """The network in which just those places have to be taken that mustn't stay open, by whoever there is."""
+        fixed = [(copy, thing) for copy, (_, thing) in self.fixed.items()]
+        held = [sum(thing == other for _, other in fixed) for thing in range(1, self.objects + 1)]
+        needs = [need if self.price_of_open(thing) is None else held[thing - 1] for thing, need in enumerate(self.demand.needs, 1)]
+        return Network(self.arcs, self.owners, [], fixed, self.demand._replace(needs=needs), is_swapped=True)
 
     def part_of(self, copies):
         """The network of these copies alone, who mustn't stay free."""
@@ -113,7 +136,8 @@ class Network:
         for person, pairs in self.helpers:
             total += 1 + len(self.copies[person]) + sum(len(self.open_places[thing]) for thing, _ in pairs)
         if self.free:
-            total += sum(price is not None for price in self.free) + len(self.places) + len(self.fixed)
+            total += sum(price is not None for price in self.free) + len(self.fixed)
+            total += sum(self.price_of_open(thing) is not None for thing in self.places)
             total += sum(len(self.copies[person]) * len(self.open_places[thing]) for person, pairs in enumerate(self.pairs) for thing, _ in pairs)
         return total
 
@@ -177,6 +201,11 @@ class Network:
             for thing, _ in pairs:
                 takers[thing] += [(own + copy, 0) for copy in self.copies[person]]
         fixed = {place: copy for copy, (place, _) in self.fixed.items()}
-        price = self.demand.undone or 0
         for place, thing in enumerate(self.places, 1):
-            yield [(place, price), *([(own + fixed[place], 0)] if place in fixed else takers[thing])]
+            price = self.price_of_open(thing)
+            alone = [] if price is None else [(place, price)]
+            yield alone + ([(own + fixed[place], 0)] if place in fixed else takers[thing])
+
+    def price_of_open(self, thing):
+        """What a place of an object costs that stays open, or None where it mustn't."""
+        return 0 if self.demand.undone is None else self.demand.undone[thing - 1]

@@ -7,6 +7,7 @@ from typing import NamedTuple
 from .clocks import CLOCK_SHAPE, MARK, units_of_clock
 from .cost_cells import cells_of
 from .faults import quoted
+from .gap_words import way_out
 from .marks import TO_SHAPE
 
 PLAIN = frozenset("0.,+-\u2212 '\u2019")
@@ -61,7 +62,7 @@ def by_clock(table, groups):
             read = units_of_clock(cost)
             if not is_like_clock(cost):
                 other = first or next(text for some in groups for _, text in some.each() if is_like_clock(text))
-                raise table.fault(*place, f"{quoted(cost)} is no time, and other costs are, such as {quoted(other)}; write all of them alike, or say --gap where no pair is meant")
+                raise table.fault(*place, f"{quoted(cost)} is no time, and other costs are, such as {quoted(other)}; {way_out(cost, 'write all of them alike')}")
             if read is None:
                 raise table.fault(*place, f"{quoted(cost)} is no time, since minutes and seconds go from 00 to 59; write hours and minutes")
             if first and first.count(MARK) != read[1]:

@@ -10,6 +10,8 @@ SUMS = set(
     "total totals subtotal sum sums average mean need needed demand required"
     " summe summen gesamt gesamtsumme insgesamt durchschnitt mittelwert bedarf ben\u00f6tigt \u03c3 \u2211".split()
 ) | {"grand total"}
+# Titles of columns that say something of persons, and are no objects.
+BESIDE = set("team group crew department id nr no number capacity gruppe abteilung kapazit\u00e4t anzahl".split())
 # From how many times the next greatest one on a cost may stand for a pair that isn't allowed.
 FAR = 100
 # What tells one copy of an object from the other ones.
@@ -21,11 +23,15 @@ def note(sentence):
 
 
 def notes_of_names(problem):
-    """Sums that are taken for a person or an object, since they stand last in the table."""
+    """Sums that are taken for a person or an object, since they stand last in the table, and columns that may be of
+    persons."""
     for word, names in (("person", problem.persons), ("object", problem.objects)):
         if names and names[-1].rstrip(" :").casefold() in SUMS:
             told = f"{quoted(names[-1])}, the last {word} of the table"
             yield f"{told}, is planned like any other; leave it out if it is none"
+    for name in problem.objects:
+        if name.rstrip(" .:").casefold() in BESIDE:
+            yield f"{quoted(name)} is planned like any other object; say --ignore-column with its title if it is none"
 
 
 def notes_of_plan(names, problem, claim):

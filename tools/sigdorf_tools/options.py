@@ -3,12 +3,13 @@ fits what goes into it."""
 import importlib.util
 import os
 
+from .demands import OPTIONS
 from .faults import Fault
 
 # The least and the greatest number of each option, as the solver takes them.
 LIMITS = {"bids": (1, 10**12), "seconds": (1, 10**6), "workers": (0, 16)}
 # Wishes for a plan of which it can't be asked how it stands beside others.
-WITHOUT_QUESTIONS = "need", "need_column", "need_row", "apart", "undone", "keep"
+WITHOUT_QUESTIONS = *OPTIONS, "keep"
 # What is written by which option, under which endings of a file's name; and what isn't written at all.
 ENDINGS = {"--json": (".json",), "--html": (".html", ".htm")}
 BOOK, TABLES, UNWRITTEN = ".xlsx", (".csv", ".tsv"), (".xlsm", ".xls", ".ods", ".pdf")

@@ -22,13 +22,11 @@ from .wishes import Wishes, capacities_said, copies_of, model_of
 
 
 class Given(NamedTuple):
-    """A table, or its text, its problem, what columns of it tell of each person, and what it tells of how many persons each object
-    wants, if anything."""
+    """A table, or its text, its problem, and what columns and rows of it tell of persons and objects, by their options."""
 
     table: object
     problem: Problem
-    columns: list
-    needs: dict | None
+    told: dict
 
 
 class Task(NamedTuple):
@@ -59,45 +57,43 @@ class Outcome(NamedTuple):
 
 def given_by(words):
     """The table that the words name, as they say that it is to be read."""
-    for one, others in (("capacity", ["capacity_column"]), ("leave_free", ["leave_free_column"]), ("need", ["need_column", "need_row"])):
-        said = [option for option in (one, *others) if getattr(words, option) is not None]
+    for one, others in (("capacity", ["column"]), ("leave_free", ["column"]), *((one, ["column", "row"]) for one in ("need", "apart", "undone"))):
+        said = [option for option in (one, *(f"{one}_{other}" for other in others)) if getattr(words, option) is not None]
         if len(said) > 1:
             raise Fault(f"{' and '.join(f'--{option}'.replace('_', '-') for option in said)}: both say the same thing; leave one of them out")
-    of_persons, of_objects = ([title for title in titles if title is not None] for titles in ([words.capacity_column, words.leave_free_column], [words.need_column]))
-    table, problem, told = read_problem(words, Extras(tuple(of_persons), tuple(of_objects), words.need_row))
-    needs = told.pop() if len(told) > len(of_persons) else None
-    return Given(table, problem, told, needs)
+    options = ("capacity_column", "leave_free_column"), ("need_column", "apart_column", "undone_column"), ("need_row", "apart_row", "undone_row")
+    extras = ({option: getattr(words, option) for option in each if getattr(words, option) is not None} for each in options)
+    return Given(*read_problem(words, Extras(*extras)))
 
 
 def task_of(words, given):
     """The task of a table and all wishes for its plan."""
-    table, problem, columns, needs = given
+    table, problem, told = given
     changes = changes_of(words, problem)
-    model = model_asked(words, with_changes(problem, changes) if changes else problem, columns, needs)
+    model = model_asked(words, with_changes(problem, changes) if changes else problem, told)
     look_at_size(table.file, model)
     return Task(table, problem, model, changes)
 
 
-def model_asked(words, problem, columns, needs):
-    """The model of a problem with the wishes that the words and the columns tell, and what the table says of needs."""
-    wishes = wishes_of(words, columns, set(problem.persons))
+def model_asked(words, problem, told):
+    """The model of a problem with the wishes that the words tell, and columns and rows of the table by their options."""
+    wishes = wishes_of(words, told, set(problem.persons))
     copies = copies_of(problem, wishes, words.maximise)
     if is_asked(words):
-        network = network_of(problem, wishes, copies, demand_of(words, problem, needs))
-        if words.apart is not None and len(set(copies.owners)) == len(copies.owners):
+        network = network_of(problem, wishes, copies, demand_of(words, problem, told))
+        asks_apart = any(word is not None for word in (words.apart, words.apart_column, words.apart_row))
+        if asks_apart and len(set(copies.owners)) == len(copies.owners):
             note("--apart changes nothing, since nobody may take more than one object; say --capacity too")
         return network
     model = model_of(problem, wishes, copies)
     return network_of(problem, wishes, copies, demand_of(words, problem)) if is_wide(words, model) else model
 
 
-def wishes_of(words, columns, persons):
-    """The wishes that the words and the columns tell of these persons."""
-    columns = iter(columns)
-    capacities = next(columns) if words.capacity_column is not None else capacities_said(words.capacity, persons)
+def wishes_of(words, told, persons):
+    """The wishes that the words, and columns by their options, tell of these persons."""
     everybody = {} if words.leave_free is None else {None: (f"--leave-free {words.leave_free}", words.leave_free)}
-    prices = next(columns) if words.leave_free_column is not None else everybody
-    return Wishes(capacities, prices, words.fix, words.forbid)
+    capacities = told["capacity_column"] if "capacity_column" in told else capacities_said(words.capacity, persons)
+    return Wishes(capacities, told.get("leave_free_column", everybody), words.fix, words.forbid)
 
 
 def outcome_of(words, solver, task):
@@ -119,7 +115,7 @@ def answer_of(words, plans, model):
     if answer.claim.kind != "optimal" and (words.second or words.why):
         raise Fault(f"{plans.name}: {'--second' if words.second else '--why'} asks for a best plan, and there is none; plan without it to see why")
     if not words.second:
-        return answer, Asked("best", wishes), model
+        return answer, Asked("best", wishes, parts=answer.parts), model
     second, model = plans.second(model, answer)
     if second is None:
         raise Fault(f"{plans.name}: --second: there is no plan but the best one; allow more pairs")

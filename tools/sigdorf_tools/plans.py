@@ -5,7 +5,7 @@ import sys
 from typing import NamedTuple
 
 from .claims import read_arcs, read_claim, with_all_persons
-from .kinds import Asked, judged_by, rank_of, sentence_of_plan
+from .kinds import Asked, judged_by, rank_of, sentence_of_no_parts, sentence_of_plan
 from .names import counted
 
 # How many names a sentence holds.
@@ -14,12 +14,12 @@ MOST_LISTED = 5
 
 class Free(NamedTuple):
     """Who stays free beside those whom the solver left so: persons who may take nothing; whether staying free has a price, which is told then; for each object how many persons it wants, where it isn't
-    one; and what a place costs that stays open, if anything."""
+    one; and for each object what a place costs that stays open, if anything."""
 
     absent: list = []
     has_prices: bool = False
     needs: list | None = None
-    undone: int | None = None
+    undone: list | None = None
 
 
 def rows_of_plan(names, claim, free=Free(), asked=Asked()):
@@ -73,10 +73,9 @@ def rows_of_free(names, claim, free=Free()):
         if person not in busy:
             costs[person] = costs.get(person, 0) + cost
     persons = [[person, "", names.amount(cost) if free.has_prices else ""] for person, cost in costs.items()] + [[person, "", ""] for person in free.absent]
-    price = "" if free.undone is None else names.amount(free.undone)
-    needs = free.needs or [1] * len(names.objects)
-    left = ([name] * (need - taken[number]) for (number, name), need in zip(enumerate(names.objects, 1), needs))
-    return persons + [["", name, price] for places in left for name in places]
+    needs, prices = free.needs or [1] * len(names.objects), free.undone or [None] * len(names.objects)
+    left = [(name, price) for (number, name), need, price in zip(enumerate(names.objects, 1), needs, prices) for _ in range(need - taken[number])]
+    return persons + [["", name, "" if price is None else names.amount(price)] for name, price in left]
 
 
 def rows_of_hall_set(names, claim, asked=Asked()):
@@ -107,6 +106,8 @@ def sentence_of(names, claim, asked=Asked()):
     if claim.kind != "infeasible":
         return sentence_of_plan(names, claim, asked)
     (persons, objects), no_plan = blamed(names, claim), f"No plan{asked.within()} gives"
+    if not persons and not objects:
+        return sentence_of_no_parts(asked)
     told_persons = listed(with_times(map(names.person, persons)), "person")
     told_objects = listed(with_times(map(names.object, objects)), "object")
     if is_by_objects(names, claim):
@@ -157,11 +158,11 @@ def write_rows(names, rows, output=None):
 def summary_of(names, claim, judges, asked=Asked()):
     """What an answer says, and who checked it, in half a sentence."""
     if claim.kind == "infeasible":
-        return f"there is no plan{asked.within()}; {judged_by(judges)}"
+        return f"there is no plan{asked.within()}; {judged_by(judges, asked)}"
     rows = rows_of_pairs(names, claim)
     changed = ""
     if asked.changes:
         new, _ = asked.changes.of_plan(rows)
         each = names._replace(maximise=False).amount(asked.changes.cost)
         changed = f" with {counted(len(new), 'change')} at {each} each"
-    return f"{counted(len(rows), 'pair')}, total {names.amount(claim.cost)}{changed}, {rank_of(names, claim, asked)}; {judged_by(judges)}"
+    return f"{counted(len(rows), 'pair')}, total {names.amount(claim.cost)}{changed}, {rank_of(names, claim, asked)}; {judged_by(judges, asked)}"

@@ -21,7 +21,8 @@ class Reading(NamedTuple):
 def reading_of(words):
     """What the words of a command say."""
     area = None if words.range is None else area_said(words.range)
-    gaps = frozenset(" ".join(gap.split()) for gap in words.gap) - {""}
+    # Of `--gap=--` argparse makes an empty list.
+    gaps = frozenset(" ".join(("--" if gap == [] else gap).split()) for gap in words.gap) - {""}
     return Reading(SEPARATORS.get(words.separator), words.sheet, area, words.encoding, gaps)
 
 

@@ -2,6 +2,7 @@
 import bisect
 import heapq
 
+from .branching import Branching
 from .claims import Claim, with_all_persons
 from .faults import Fault
 from .network_answers import answer_of_network
@@ -18,7 +19,7 @@ class Plans:
     def answer(self, model, start=None):
         """The answer for a model. Where nobody can be found for all who mustn't stay free, it speaks of them alone."""
         if isinstance(model, Network):
-            return answer_of_network(self.solver, self.name, model)
+            return Branching(self.solver, self.name, model).answer() if model.demand.apart else answer_of_network(self.solver, self.name, model)
         start = None if model.objects_said() else start
         answer = self.solver.answer(self.name, model.lines(), model.count(), model.objects_said(), start)
         if answer.claim.kind == "infeasible" and model.free:

@@ -1,4 +1,5 @@
 """Solves problems by the program `auction`, and has its answers judged: by its proved checker always, and by the second checker where that takes no long time."""
+import copy
 import signal
 import subprocess
 import sys
@@ -19,12 +20,14 @@ PROVED, SECOND = "the proved checker", "the second checker"
 
 
 class Answer(NamedTuple):
-    """A claim that was judged, the certificate that has it, the status of the solve, and who judged it."""
+    """A claim that was judged, the certificate that has it, the status of the solve, and who judged it; and how many
+    answers the claim is put together from, where it isn't one."""
 
     claim: Claim
     certificate: bytes
     status: int
     judges: list
+    parts: int = 1
 
 
 class Solver:
@@ -32,10 +35,19 @@ class Solver:
 
     def __init__(self, program, bids=None, workers=None, has_second=False, seconds=None):
         self.program, self.has_second = program, has_second
-        self.limits = [f"--{name}={value}" for name, value in (("bids", bids), ("workers", workers), ("seconds", seconds)) if value is not None]
-        if workers is None:
-            self.limits.append("--direct")
+        self.bids, self.workers, self.seconds = bids, workers, seconds
         self.is_ready = False
+
+    def within(self, seconds):
+        """The same with another limit of time."""
+        other = copy.copy(self)
+        other.seconds = seconds
+        return other
+
+    def limits(self):
+        """What the program is told of its search."""
+        said = [f"--{name}={value}" for name, value in (("bids", self.bids), ("workers", self.workers), ("seconds", self.seconds)) if value is not None]
+        return [*said, *([] if self.workers is not None else ["--direct"])]
 
     def make_ready(self):
         """Runs the program once by itself: `auction` of a clone is built by that, before two of it work side by side."""
@@ -71,7 +83,7 @@ class Solver:
             # The checker reads the problem while it is solved, and waits for the answer.
             with self.started(["check", file.name, *more]) as checker:
                 try:
-                    certificate, status = self.solved(name, file.name, [*self.limits, *more, *([f"--from={old.name}"] if start else [])])
+                    certificate, status = self.solved(name, file.name, [*self.limits(), *more, *([f"--from={old.name}"] if start else [])])
                 except BaseException:
                     checker.kill()
                     raise

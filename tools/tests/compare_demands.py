@@ -20,20 +20,22 @@ from typing import NamedTuple
 
 sys.dont_write_bytecode = True
 sys.path.append(str(pathlib.Path(__file__).resolve().parents[1]))
-from calls import called, told  # noqa: E402
+from calls import called, told as ended  # noqa: E402
 
 
 class Case(NamedTuple):
     """Costs by person and object; for each person how many objects he may take, for each object how many persons it
-    wants, and its day; the prices of staying free and of staying undone, or None; pairs that are fixed, forbidden, or of
-    an old plan, and what each other pair costs more; and whether the greatest total is wanted."""
+    wants; its day, or pairs of objects that can't go together; for each person the price of staying free, and for each
+    object that of staying undone, with None for those who mustn't, or None where nobody asked; pairs that are fixed, forbidden, or of an old plan, and what each other
+    pair costs more; and whether the greatest total is wanted."""
 
     costs: dict
     capacities: list
     needs: list
     days: list
-    free: int | None
-    undone: int | None
+    apart: frozenset
+    free: list | None
+    undone: list | None
     fixed: frozenset
     forbidden: frozenset
     kept: frozenset
@@ -53,7 +55,9 @@ def object_of(number):
 
 
 def drawn(draw):
-    persons, objects = draw.randrange(1, 5), draw.randrange(1, 4)
+    persons = draw.randrange(1, 5)
+    has_apart = draw.random() < 0.25
+    objects = draw.randrange(3 if has_apart else 1, 5 if persons < 4 else 4)
     most = draw.choice([4, 30])
     costs = {pair: draw.randrange(-3, most) for pair in itertools.product(range(persons), range(objects)) if draw.random() < draw.choice([0.6, 0.9, 1])}
     pairs = sorted(costs)
@@ -61,19 +65,31 @@ def drawn(draw):
 
     def some(share, most):
         return frozenset(pairs[: draw.randrange(1, most)]) if draw.random() < share else frozenset()
-    capacities = [draw.choice([0, 1, 1, 2, 3]) for _ in range(persons)] if draw.random() < 0.6 else [1] * persons
+    most_places = [1, 2, 2, 3] if has_apart else [0, 1, 1, 2, 3]
+    capacities = [draw.choice(most_places) for _ in range(persons)] if has_apart or draw.random() < 0.6 else [1] * persons
     capacities[0] = capacities[0] or 1
     needs = [draw.choice([0, 1, 1, 2, 3]) for _ in range(objects)] if draw.random() < 0.7 else [1] * objects
     needs[0] = needs[0] or 2
-    days = [draw.randrange(2) for _ in range(objects)] if draw.random() < 0.4 else list(range(objects))
-    free, undone = (draw.randrange(0, most) if draw.random() < 0.4 else None for _ in range(2))
+    days = [draw.randrange(2) for _ in range(objects)] if draw.random() < 0.4 and not has_apart else list(range(objects))
+    apart = frozenset(pair for pair in itertools.combinations(range(objects), 2) if draw.random() < 0.5) if has_apart else frozenset()
     maximise = draw.random() < 0.3
-    free = 0 if free and maximise and max(capacities) > 1 else free
+    free, undone = prices(draw, persons, most), prices(draw, objects, most)
+    # Who may take more than one object isn't paid for staying free.
+    free = [price and 0 for price in free] if free and maximise and max(capacities) > 1 else free
     kept = some(0.4, 5)
-    case = Case(costs, capacities, needs, days, free, undone, some(0.3, 3), frozenset(), kept, draw.randrange(5) if kept else None, maximise)
+    case = Case(costs, capacities, needs, days, apart, free, undone, some(0.3, 3), frozenset(), kept, draw.randrange(5) if kept else None, maximise)
     draw.shuffle(pairs)
     case = case._replace(forbidden=some(0.3, 4) - case.fixed)
     return case if can_fix(case) else case._replace(fixed=frozenset())
+
+
+def prices(draw, count, most):
+    """A price for all, one for each with none for some, or nothing."""
+    if draw.random() < 0.6:
+        return None
+    one = draw.randrange(most)
+    found = [one] * count if draw.random() < 0.5 else [draw.choice([one, draw.randrange(most), None]) for _ in range(count)]
+    return found if any(price is not None for price in found) else None
 
 
 def can_fix(case):
@@ -86,9 +102,9 @@ def is_within(case, pairs, most, which):
 
 
 def are_apart(case, pairs):
-    """Whether nobody has two objects of one day."""
+    """Whether nobody has two objects of one day, or two that can't go together."""
     days = [(person, case.days[thing]) for person, thing in pairs]
-    return len(set(days)) == len(days)
+    return len(set(days)) == len(days) and not any((person, one) in pairs and (person, other) in pairs for person, _ in pairs for one, other in case.apart)
 
 
 def plans_of(case):
@@ -103,30 +119,49 @@ def plans_of(case):
             continue
         if case.free is None and case.undone is None and len(pairs) < min(places, wanted):
             continue
-        idle = sum(count > 0 and all(person != number for person, _ in pairs) for number, count in enumerate(case.capacities))
-        prices = (case.free or 0) * idle + (case.undone or 0) * (wanted - len(pairs))
+        open_places = [need - sum(other == thing for _, other in pairs) for thing, need in enumerate(case.needs)]
+        if case.undone and any(count and price is None for count, price in zip(open_places, case.undone)):
+            continue
+        idle = [number for number, count in enumerate(case.capacities) if count and all(person != number for person, _ in pairs)]
+        if case.free and any(case.free[person] is None for person in idle):
+            continue
+        costs = [case.costs[pair] for pair in pairs] + [case.free[person] for person in idle if case.free]
+        costs += [count * (price or 0) for count, price in zip(open_places, case.undone or ())]
         changes = sum(pair not in case.kept for pair in pairs) * case.change if case.kept else 0
-        yield pairs, case.sign() * (sum(case.costs[pair] for pair in pairs) + prices) + changes
+        yield pairs, case.sign() * sum(costs) + changes
 
 
 def words_of(case, folder):
     """The table in a file, and the words that ask for what the case asks."""
     persons, objects = len(case.capacities), len(case.needs)
-    rows = [["who", *map(object_of, range(objects))]]
-    rows += [[person_of(person), *(str(case.costs.get((person, thing), "")) for thing in range(objects))] for person in range(persons)]
-    words = [written(folder, "table.csv", rows), "--matrix"]
+    has_column, has_row = (prices is not None and len(set(prices)) > 1 for prices in (case.free, case.undone))
+    free = [[told(price)] for price in case.free] if has_column else [[]] * persons
+    rows = [["who", *map(object_of, range(objects)), *["free"] * has_column]]
+    rows += [[person_of(person), *(told(case.costs.get((person, thing))) for thing in range(objects)), *free[person]] for person in range(persons)]
+    rows += [["undone", *map(told, case.undone), *[""] * has_column]] if has_row else []
+    # By a row of the table, or by a list.
+    has_days, is_listed = len(set(case.days)) < objects, len(case.costs) % 2
+    rows += [["day", *(f"day {day}" for day in case.days), *[""] * has_column]] if has_days and not is_listed else []
+    words = [written(folder, "table.csv", rows), "--matrix", *(["--apart-row", "day"] if has_days and not is_listed else [])]
+    words += [*(["--leave-free-column", "free"] if has_column else []), *(["--undone-row", "undone"] if has_row else [])]
     if set(case.capacities) != {1}:
         words += ["--capacity", written(folder, "capacities.csv", [[person_of(number), str(count)] for number, count in enumerate(case.capacities)])]
     if set(case.needs) != {1}:
         words += ["--need", written(folder, "needs.csv", [[object_of(number), str(count)] for number, count in enumerate(case.needs)])]
-    if len(set(case.days)) < objects:
+    if has_days and is_listed:
         words += ["--apart", written(folder, "days.csv", [[object_of(number), f"day {day}"] for number, day in enumerate(case.days)])]
-    words += [f"--{option}={value}" for option, value in (("leave-free", case.free), ("undone", case.undone)) if value is not None]
+    if case.apart:
+        words += ["--apart", written(folder, "apart.csv", [[object_of(one), object_of(other)] for one, other in sorted(case.apart)])]
+    words += [f"--{option}={prices[0]}" for option, prices, is_told in (("leave-free", case.free, has_column), ("undone", case.undone, has_row)) if prices and not is_told]
     words += [f"--{option}={person_of(person)}={object_of(thing)}" for option, pairs in (("fix", case.fixed), ("forbid", case.forbidden)) for person, thing in sorted(pairs)]
     if case.kept:
         old = [["who", "object", "cost"], *([person_of(person), object_of(thing), "7"] for person, thing in sorted(case.kept)), ["total", "", "7"]]
         words += ["--keep", written(folder, "old.csv", old), f"--change-cost={case.change}"]
     return words + ["--maximise"] * case.maximise
+
+
+def told(price):
+    return "" if price is None else str(price)
 
 
 def written(folder, name, rows):
@@ -216,7 +251,7 @@ def main():
     words = words.parse_args()
     os.environ["AUCTION"] = os.path.abspath(words.program)
     faults = faults_of_run(words.seed, words.count)
-    return told(faults, words.count)
+    return ended(faults, words.count)
 
 
 if __name__ == "__main__":

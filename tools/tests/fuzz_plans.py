@@ -30,6 +30,7 @@ WORDS = [
     (6, ["--columns=Ada,x,1"]), (4, ["--columns=1,2,3"]), (6, ["--ignore-column=x"]), (3, ["--sheet=Plan"]), (10, ["--maximise"]), (10, ["--capacity=2"]), (4, ["--capacity-column=x"]),
     (10, ["--leave-free=7.5"]), (4, ["--leave-free-column=roof"]), (6, ["--fix=Ada=roof"]), (6, ["--forbid=Ada=roof"]), (6, ["--forbid=a=b=x"]), (5, ["--bids=1"]),
     (5, ["--gap=x"]), (5, ["--round=1"]), (4, ["--range=A1:C3"]), (3, ["--encoding=cp1252"]), (8, ["--need=2"]), (6, ["--undone=3"]), (3, ["--by=job"]),
+    (3, ["--undone-row=Ben"]), (3, ["--need-row=Ben"]), (2, ["--undone-column=x"]), (2, ["--gap=--"]),
 ]
 QUESTIONS = [[], [], [], [], ["--second"], ["--fair"], ["--why=Ada"]]
 FORMS = [[], [], [], ["--json"], ["--html"]]

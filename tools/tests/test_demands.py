@@ -1,11 +1,14 @@
 """Jobs that want several persons, can't go together, or may be left undone at a price; and many more persons than jobs."""
+import itertools
 import json
 import os
 import random
 import unittest
+from unittest import mock
 
 import compare_demands
-from calls import ToolTest, has_program
+from calls import ToolTest, called, has_program
+from sigdorf_tools import branching
 from sigdorf_tools.networks import Demand, Network
 from sigdorf_tools.problems import Arcs
 
@@ -80,8 +83,26 @@ class Demands(ToolTest):
         for rows in ("shift,day\nMon early,Mon\nMon late,Mon\nTue early,Tue\n", "Mon early,Mon late\n"):
             self.write("days.csv", rows)
             self.assertEqual(self.planned("--capacity", "3", "--apart", "days.csv", table=table), best)
+        self.assertEqual(self.planned("--capacity", "3", "--apart-row", "day", table=f"{table}day,Mon,Mon,\n"), best)
+        rows = [row.split(",") for row in table.splitlines()]
+        pairs = "".join(f"{who},{shift},{cost},{shift[:3]}\n" for who, *costs in rows[1:] for shift, cost in zip(rows[0][1:], costs))
+        self.assertEqual(self.planned("--capacity", "3", "--apart-column", "day", table=f"who,shift,min,day\n{pairs}"), best)
+        self.write("table.csv", table)
         said = self.call("plan", "table.csv", "--apart", "days.csv", "--quiet")[2]
         self.assertEqual(said, "plan: note: --apart changes nothing, since nobody may take more than one object; say --capacity too\n")
+
+    def test_undone_in_the_table(self):
+        """As a row of a matrix and as a column of a list of pairs; an object without a price has to be done."""
+        best = ["Ada,pump,40", "Ben,wiring,20", ",roof,50", "total,,110"]
+        self.assertEqual(self.planned("--undone-row", "undone", table="who,pump,roof,wiring\nAda,40,65,30\nBen,35,90,20\nundone,100,50,\n"), best)
+        pairs = "who,what,min,undone\nAda,pump,40,100\nAda,roof,65,50\nAda,wiring,30,\nBen,pump,35,100\nBen,roof,90,50\nBen,wiring,20,\n"
+        self.assertEqual(self.planned("--undone-column", "undone", table=pairs), best)
+        table = "who,x,y,z\nAda,4,,\nBen,5,,\nundone,7,7,\n"
+        lines = self.planned("--undone-row", "undone", table=table, status=3)
+        self.assertEqual(lines, ["No plan within the wishes gives every object to somebody: z can go to no person.", "object,z"])
+        self.assert_fault(self.call("plan", "table.csv", "--undone-row", "undone", "--undone", "3"), "--undone and --undone-row", "leave one of them out")
+        self.write("table.csv", table.replace("undone,7,7", "undone,7,few"))
+        self.assert_fault(self.call("plan", "table.csv", "--undone-row", "undone"), "table.csv, line 4, column 3", "`few`")
 
     def test_undone(self):
         self.assertEqual(self.planned("--undone", "2"), ["Ada,early,1", "Ben,late,1", "Dan,night,1", "Cleo,,", "total,,3"])
@@ -122,6 +143,10 @@ class Demands(ToolTest):
         self.write("few.csv", "early,few\n")
         self.write("days.csv", "early,late\nlate,night\n")
         self.write("mixed.csv", "early,late\nlate,Mon\n")
+        self.write("hours.csv", "early,6:00,14:00\nlate,12:00,2pm\n")
+        self.write("back.csv", "early,2026-11-28 14:00,2026-11-28 06:00\n")
+        self.write("half.csv", "early,28.11.2026 14:00,6:00\n")
+        self.write("late.csv", "lat,Mon\nearly,Mon\n")
         self.write("twice.csv", "early,Mon\nearly,Tue\n")
         for words, *parts in [
             (["--need", "unknown.csv"], "unknown.csv, line 2, column 1", "no object `lat`", "`late`"),
@@ -132,7 +157,11 @@ class Demands(ToolTest):
             (["--need", "2", "--second"], "--second", "leave one of them out"),
             (["--undone", "1", "--fair"], "--fair", "--undone"),
             (["--undone", "x"], "--undone x", "no number"),
-            (["--apart", "days.csv"], "days.csv", "`night`", "nothing could be proved"),
+            (["--apart", "hours.csv"], "hours.csv, line 2, column 3", "`2pm` is no time", "14:30"),
+            (["--apart", "back.csv"], "back.csv, line 1, column 3", "`2026-11-28 06:00` is no later than the begin"),
+            (["--apart", "half.csv"], "half.csv, line 1, column 3", "`6:00` has no day, and the begin has one"),
+            (["--apart", "late.csv"], "late.csv, line 1, column 1", "no object `lat`", "`late`"),
+            (["--apart", "days.csv", "--capacity", "2", "--fix", "Ada=early", "--fix", "Ada=late"], "--fix Ada=late", "can't go with that of --fix Ada=early"),
             (["--apart", "twice.csv"], "twice.csv, line 2, column 1", "`early` stands there twice"),
             (["--apart", "mixed.csv"], "mixed.csv, line 2, column 2", "no object `Mon`"),
             (["--fix", "Ada=early", "--fix", "Ben=early", "--need", "1"], "--fix Ben=early", "wants 1"),
@@ -140,6 +169,112 @@ class Demands(ToolTest):
         ]:
             with self.subTest(words=words):
                 self.assert_fault(self.call("plan", "table.csv", *words), *parts)
+
+
+@has_program()
+class Apart(ToolTest):
+    """Objects that are apart in no groups, as shifts that overlap: the least plan by a look at all of them, and what is said of it."""
+
+    def planned(self, costs, apart, *words):
+        """The answer as JSON for a table of costs, by persons and objects, and rows of objects that are apart."""
+        rows = [["who", *(f"x{thing}" for thing in range(len(costs[0])))], *([f"p{person}", *map(str, row)] for person, row in enumerate(costs))]
+        self.write("table.csv", "".join(",".join(row) + "\n" for row in rows))
+        self.write("apart.csv", "".join(",".join(row) + "\n" for row in apart))
+        return called("plan", [self.folder / "table.csv", "--apart", self.folder / "apart.csv", "--json", *words])
+
+    def least(self, costs, clashes, capacity, undone):
+        """The least total of all plans, or None."""
+        takers = [*range(len(costs)), *([] if undone is None else [None])]
+        totals = []
+        for taken in itertools.product(takers, repeat=len(costs[0])):
+            mine = [{thing for thing, person in enumerate(taken) if person == other} for other in range(len(costs))]
+            if all(len(things) <= capacity for things in mine) and not any(clash <= things for clash in clashes for things in mine):
+                totals.append(sum(undone if person is None else costs[person][thing] for thing, person in enumerate(taken)))
+        return min(totals, default=None)
+
+    def test_all_plans(self):
+        draw, parts = random.Random(4), []
+        for number in range(24):
+            persons, objects = 3, 5
+            costs = [[draw.randrange(30) for _ in range(objects)] for _ in range(persons)]
+            begins = [draw.randrange(24) for _ in range(objects)]
+            spans = [(begin, begin + draw.randrange(3, 9)) for begin in begins]
+            clashes = [{one, other} for one, other in itertools.combinations(range(objects), 2) if spans[one][0] < spans[other][1] and spans[other][0] < spans[one][1]]
+            undone = draw.choice([None, 12])
+            rows = [[f"x{thing}", f"{begin}:00", f"{end}:00"] for thing, (begin, end) in enumerate(spans)]
+            status, output, said = self.planned(costs, rows, "--capacity", "3", *([] if undone is None else ["--undone", str(undone)]))
+            least = self.least(costs, clashes, 3, undone)
+            with self.subTest(number, costs=costs, spans=spans):
+                self.assertEqual(status, 3 if least is None else 0, said)
+                told = json.loads(output)
+                self.assertEqual(told.get("total"), least)
+                parts.append(told.get("assignments", 1))
+        self.assertGreaterEqual(sum(count > 1 for count in parts), 3)
+
+    def test_roster(self):
+        """A week of shifts with rest between them: the plan keeps to all wishes, whether the gap is closed or not, and with a limit of time."""
+        draw = random.Random(7)
+        costs, apart = [[draw.randrange(60) for _ in range(12)] for _ in range(9)], []
+        for day in range(4):
+            early, late, night = (3 * day + shift for shift in range(3))
+            apart += [(early, late, night), *([(late, early + 3), (night, early + 3), (night, late + 3)] if day < 3 else [])]
+        clashes = [set(pair) for row in apart for pair in itertools.combinations(row, 2)]
+        rows = [[f"x{thing}" for thing in row] for row in apart]
+        for words in ([], ["--seconds", "1"], ["--undone", "25", "--leave-free", "40"]):
+            status, output, said = self.planned(costs, rows, "--capacity", "3", "--need", "2", *words)
+            told = json.loads(output)
+            self.assertIn(status, (0, 4), said)
+            self.assertLessEqual(told.get("bound", told["total"]), told["total"])
+            mine = {}
+            for pair in told["pairs"]:
+                mine.setdefault(pair["person"], []).append(int(pair["object"][1:]))
+            self.assertTrue(all(len(things) <= 3 and not any(clash <= set(things) for clash in clashes) for things in mine.values()), output)
+            counts = [sum(thing in things for things in mine.values()) for thing in range(12)]
+            self.assertTrue(all(count == 2 for count in counts) if "--undone" not in words else max(counts) <= 2, counts)
+            paid = sum(costs[int(pair["person"][1:])][int(pair["object"][1:])] for pair in told["pairs"])
+            paid += 25 * sum(2 - count for count in counts) + 40 * (9 - len(mine)) if "--undone" in words else 0
+            self.assertEqual(told["total"], paid)
+
+    COSTS = [[1, 1, 1], [4, 5, 9]]
+
+    def test_what_is_proved(self):
+        """Who has the middle one has no other: 5 + 1 + 1 or 1 + 4 + 9. Without the pairs that are in no group the least is 6 or less."""
+        status, output, said = self.planned(self.COSTS, [["x0", "x1"], ["x1", "x2"]], "--capacity", "2")
+        told = json.loads(output)
+        self.assertEqual((status, told["answer"], told["total"]), (0, "best", 7))
+        self.assertGreater(told["assignments"], 1)
+        proved = f" {told['assignments']} assignments show it: each of them is proved, and that they leave no plan out is not."
+        self.assertEqual(told["sentence"], f"A best plan within the wishes: the least total that they allow is 7.{proved}")
+        self.assertIn(f"the least within the wishes as {told['assignments']} assignments show; each one checked by the proved checker", said)
+        # Groups are an assignment problem, and its answer is proved whole.
+        told = json.loads(self.planned(self.COSTS, [["x0", "x1", "x2"]], "--capacity", "2", "--undone", "20")[1])
+        self.assertNotIn("assignments", told)
+
+    def test_search_that_is_stopped(self):
+        """The bound stays below the least, and the plan above; where no place may stay open, there may be no plan yet."""
+        chain, seen = [["x0", "x1"], ["x1", "x2"]], []
+        for most in (1, 2, 3, 4, 9):
+            with mock.patch.object(branching, "MOST", most):
+                status, output, _ = self.planned(self.COSTS, chain, "--capacity", "2", "--undone", "50")
+                told = json.loads(output)
+                self.assertTrue(told.get("bound", 7) <= 7 <= told["total"], output)
+                seen.append((status, told["total"]))
+        self.assertEqual((seen[0][0], seen[-1]), (4, (0, 7)))
+        with mock.patch.object(branching, "MOST", 1):
+            self.assert_fault(self.planned(self.COSTS, chain, "--capacity", "2"), "table.csv: --apart: no plan was found by 1 assignment, and there may be one", "say --undone or --leave-free")
+
+    def test_no_plan(self):
+        """A ring of five, each apart from the next one, can't be parted between two persons; without the pairs that are in no
+        group it could."""
+        ring = [[f"x{thing}", f"x{(thing + 1) % 5}"] for thing in range(5)]
+        status, output, _ = self.planned([[1] * 5, [2] * 5], ring, "--capacity", "3")
+        told = json.loads(output)
+        self.assertEqual((status, told["answer"], told["persons"], told["objects"]), (3, "no plan", [], []))
+        self.assertIn("No plan within the wishes keeps all objects apart that can't go together: with --undone or --leave-free something may stay open.", told["sentence"])
+        self.assertRegex(told["sentence"], "[0-9]+ problems without a plan show it: each of them is proved, and that they leave no plan out is not.$")
+        status, output, _ = self.planned([[1] * 5, [2] * 5], ring, "--capacity", "3", "--undone", "7")
+        # Two of the first and two of the second person, and one stays open.
+        self.assertEqual((status, json.loads(output)["total"]), (0, 2 * 1 + 2 * 2 + 7))
 
 
 @has_program()

@@ -211,7 +211,7 @@ class Faults(ToolTest):
         "exponent": ("a,x,1e\nb,y,2\n", [], "line 1, column 3", "no number"),
         "infinity": (",x,y\na,1,inf\n", [], "line 2, column 3", "no number"),
         "too many decimals": ("a,x,1\nb,y,2.125\n", ["--decimals", "2"], "line 2, column 3", "--decimals 3"),
-        "comma in a table with tabs": ("a\tx\t1,5\nb\ty\t2\n", ["--decimals", "1"], "line 1, column 3", "comma"),
+        "two marks in a table with tabs": ("a\tx\t1,5\nb\ty\t2.5\n", [], "line 2, column 3", "point"),
         "two marks": ("a;x;1,5\nb;y;2.5\n", ["--decimals", "1"], "line 2, column 3", "point"),
         "huge": ("a,x,1\nb,y,1000000001\n", [], "line 2, column 3", "out of range"),
         "huge with decimals": ("a,x,1\nb,y,10000000.01\n", ["--decimals", "2"], "line 2, column 3", "10000000.00"),
@@ -229,7 +229,7 @@ class Faults(ToolTest):
         "too many columns of costs": (",".join(["1"] * 20_001), ["--no-header"], "20,001 columns", "20,000"),
         "too many persons": ("".join(f"a{n},x,{n}\n" for n in range(10_001)), [], "line 10001, column 1", "10,000"),
         "too many objects": ("".join(f"a,x{n},{n}\n" for n in range(20_001)), [], "line 20001, column 2", "20,000"),
-        "too many dummies": ("".join(f"a{n},x,{n}\n" for n in range(9_000)), [], "arcs"),
+        "too many dummies": ("".join(f"a{n},x,{n}\n" for n in range(9_000)), [], "pairs"),
     }
 
     def test_faults(self):

@@ -1,4 +1,7 @@
 """margins: worked rows, what they are measured in, and what has none."""
+import os
+import subprocess
+
 from calls import ROOT, ToolTest, has_program
 
 EXAMPLES = ROOT / "examples"
@@ -86,9 +89,13 @@ class Margins(ToolTest):
         self.assertEqual(len(self.rows("table.arcs", "certificate", "--names", "table.names")), 4)
 
     @has_program()
-    def test_true_limit_in_the_page(self):
-        """What docs/PLANNING.md says was found by planning again: up to 16.85 the same plan is a best one."""
+    def test_true_limit(self):
+        """A margin is what the prices prove, and no more: up to 16.85 the same plan is a best one, and they prove it up to 11.88."""
         table = (EXAMPLES / "tracks.csv").read_text(encoding="utf-8")
+        self.convert(table, "--decimals", "2")
+        solve = [os.environ["AUCTION"], "solve", "table.arcs", "--objects", "9"]
+        self.write("certificate", subprocess.run(solve, cwd=self.folder, capture_output=True).stdout)
+        self.assertIn("track 1,spot 1,7.28,plan,4.60,11.88", self.rows("table.arcs", "certificate", "--names", "table.names"))
         for distance, total in [("16.85", "74.28"), ("16.86", "74.28")]:
             self.write("table.csv", table.replace("track 1,spot 1,7.28", f"track 1,spot 1,{distance}"))
             self.assertIn(f"total,,{total}\n", self.call("plan", "table.csv", "--decimals", "2")[1])

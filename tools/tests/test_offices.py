@@ -1,72 +1,67 @@
-"""Forty tables as they lie in offices, with letters, titles, gaps, times and signs of their own: each one is planned, or refused in one
-sentence that names the cell and a way out. Ada and Ben, pump and roof: 40 and 20 are the least each time, or what stands for them."""
-from calls import ToolTest, has_program
+"""Tables as they lie in offices, in the folder `tables`: each one gives the plan that tables.toml tells, or the sentence that names the
+cell and the way out."""
+import concurrent.futures
+import functools
+import pathlib
+import shutil
+import subprocess
+import tempfile
+import tomllib
 
-# The table, what is said of it, and the row of the total; or the parts of the sentence.
-GERMAN = "Monteur;Pumpe;Dach\r\nAda;40,5;65,25\r\nBen;35;20,25\r\n"
-PLAIN = "fitter,pump,roof\nAda,40,65\nBen,35,20\n"
-PLANNED = {
-    "German Excel with a mark": ("\ufeff" + GERMAN, ["--matrix"], "total;;60,75"),
-    "the same in Windows-1252": (GERMAN.replace("Ada", "J\u00fcrgen").encode("cp1252"), ["--matrix"], "total;;60,75"),
-    "Unicode text of Excel": (PLAIN.replace(",", "\t").encode("utf-16"), ["--matrix"], "total\t\t60"),
-    "UTF-16 without a mark": (PLAIN.replace(",", "\t").encode("utf-16-le"), ["--matrix"], "total\t\t60"),
-    "x for a gap": (PLAIN.replace("65", "x"), ["--matrix", "--gap", "x"], "total,,60"),
-    "a dash for a gap": (PLAIN.replace("65", "-"), ["--matrix", "--gap", "-"], "total,,60"),
-    "n/a and #N/A for gaps": (PLAIN.replace("65", "n/a").replace("35", "#N/A"), ["--matrix", "--gap", "n/a", "--gap", "#N/A"], "total,,60"),
-    "a huge number for a gap": (PLAIN.replace("65", "999999"), ["--matrix", "--gap", "999999"], "total,,60"),
-    "times": (PLAIN.replace("40", "0:40").replace("65", "1:05").replace("35", "0:35").replace("20", "0:20"), ["--matrix"], "total,,1:00"),
-    "times with seconds": ("a,x,0:01:30\nb,y,1:00:00\n", [], "total,,1:01:30"),
-    "euros in front": (PLAIN.replace("40", "\u20ac 40").replace("65", "\u20ac 65"), ["--matrix"], "total,,60"),
-    "dollars and thousands": ('a,x,"$1,250.50"\nb,y,$900\n', [], "total,,2150.5"),
-    "euros behind": ("a;x;1.250,50 \u20ac\nb;y;900 \u20ac\n", [], "total;;2150,5"),
-    "per cent": ("a,x,95%\na,y,80%\nb,x,70%\nb,y,60%\n", ["--maximise"], "total,,155"),
-    "an exponent": ("a,x,1e3\nb,y,2.5E+01\n", [], "total,,1025"),
-    "Swiss thousands": ("a;x;1'250.50\nb;y;1\n", [], "total;;1251.5"),
-    "blanks between thousands": ("a,x,1 250\nb,y,1\n", [], "total,,1251"),
-    "thousands and decimals": ("a;x;1.250,50\nb;y;1\n", [], "total;;1251,5"),
-    "a third of Excel": ("a,x,0.333333333333333\nb,y,1\n", ["--round", "2"], "total,,1.33"),
-    "binary digits": ("a,x,0.30000000000000004\nb,y,1\n", ["--round", "1"], "total,,1.3"),
-    "a title above": (f"Week 48,,\n{PLAIN}", ["--matrix"], "total,,60"),
-    "a title and an empty line": (f"Week 48,,\n,,\n{PLAIN}", ["--matrix"], "total,,60"),
-    "an empty column in front": (PLAIN.replace("\n", "\n,").removesuffix(",").replace("fitter", ",fitter"), ["--matrix"], "total,,60"),
-    "a part of a sheet": (f"x,1,2,3\n{PLAIN}sum,75,85\n", ["--matrix", "--range", "A2:C4"], "total,,60"),
-    "two levels": (",Mon,,Tue,\n,am,pm,am,pm\nAda,40,65,70,70\nBen,35,20,70,70\n", [], "total,,60"),
-    "dates as a header": ("who,2026-11-28,2026-11-29\nAda,40,65\nBen,35,20\n", ["--matrix"], "total,,60"),
-    "pairs without a cost": ("Ada,pump,40\nAda,roof,\nBen,pump,35\nBen,roof,20\n", [], "total,,60"),
-    "more columns": ("day,who,what,min\n1.12.,Ada,pump,40\n2.12.,Ben,roof,20\n", ["--columns", "who,what,min"], "total,,60"),
-    "records in lines": ('{"who": "Ada", "what": "pump", "min": 40}\n{"who": "Ben", "what": "roof", "min": 20}\n', [], "total,,60"),
-    "a row of needs": (f"{PLAIN}needed,1,1\n", ["--matrix", "--need-row", "needed"], "total,,60"),
-    "a row of sums": (f"{PLAIN}Total,75,85\n", ["--matrix"], "total,,60"),
-    "more persons than jobs": (f"{PLAIN}Cleo,90,90\n", ["--matrix"], "total,,60"),
-}
-REFUSED = {
-    "a unit": (PLAIN.replace("65", "65 min"), ["--matrix"], "line 2, column 3: `65 min` is no number; write digits alone"),
-    "a word for a gap": (PLAIN.replace("65", "nein"), ["--matrix"], "line 2, column 3: `nein` is no number", "--gap"),
-    "brackets of accountants": (PLAIN.replace("65", "(5)"), ["--matrix"], "line 2, column 3: `(5)` is no number"),
-    "one point and no more": ("a;x;1.250\nb;y;900\n", [], "line 1, column 3: `1.250` may have three decimals", "--decimal-mark"),
-    "more decimals than are kept": ("a,x,0.333333333333333\nb,y,1\n", [], "line 1, column 3", "--round 9"),
-    "two jobs": (PLAIN, [], "line 1: the table has three columns", "--pairs or --matrix"),
-    "a name twice": (f"{PLAIN}Ada,1,2\n", ["--matrix"], "line 4, column 1: the name `Ada` stands there twice"),
-    "times and numbers": (PLAIN.replace("65", "1:05"), ["--matrix"], "line 2, column 2: `40` is no time", "write all of them alike"),
-    "another column": (PLAIN.replace("\n", ",ill\n").replace("roof,ill", "roof,team"), [], "line 2, column 4: `ill` is no cost", "--ignore-column"),
-}
+from calls import ToolTest, has_program, python_with
+
+TABLES = pathlib.Path(__file__).resolve().parent / "tables"
+BOOKS = (".xlsx", ".ods")
+
+
+@functools.cache
+def folder_of(python):
+    """A folder with all tables, the workbooks among them, which are made once, where the libraries are installed."""
+    folder = tempfile.TemporaryDirectory()
+    shutil.copytree(TABLES, folder.name, dirs_exist_ok=True)
+    if python:
+        subprocess.run([python, TABLES / "books.py"], cwd=folder.name, check=True)
+    return folder
 
 
 class Offices(ToolTest):
-    def planned(self, table, words):
-        name = "table.jsonl" if table[:1] == "{" else "table.csv"
-        self.write(name, table)
-        return self.call("plan", name, "--quiet", *words)
+    def setUp(self):
+        super().setUp()
+        self.python = python_with("openpyxl", "odf")
+        self.folder = pathlib.Path(folder_of(self.python).name)
+        self.calls = [(file, call) for file, calls in tomllib.loads((TABLES / "tables.toml").read_text(encoding="utf-8")).items() for call in calls]
+
+    def planned(self, file, call):
+        """The answer of a table to a call."""
+        words = call.get("words", [])
+        table = [] if words and words[0].startswith(file) else [file]
+        return self.call("plan", *table, *words, "--quiet", python=self.python if file.endswith(BOOKS) else None)
+
+    def look(self, call, answer):
+        """The answer of a table is what it has to be, and each line on standard error is told."""
+        status, output, said = answer
+        self.assertEqual((status, output), (call.get("status", 0), call.get("plan", "").removeprefix("\n")), said)
+        lines = said.splitlines()
+        self.assertEqual(len(lines), len(call.get("says", [])), said)
+        for line, part in zip(lines, call.get("says", [])):
+            self.assertIn(part, line)
 
     @has_program()
-    def test_planned(self):
-        self.assertGreaterEqual(len(PLANNED) + len(REFUSED), 40)
-        for what, (table, words, total) in PLANNED.items():
-            with self.subTest(what):
-                status, output, said = self.planned(table, words)
-                self.assertEqual((status, output.splitlines()[-1:]), (0, [total]), said)
+    def test_tables(self):
+        """Workbooks are skipped where the libraries aren't installed, and named."""
+        tried = [(file, call) for file, call in self.calls if self.python or not file.endswith(BOOKS)]
+        with concurrent.futures.ThreadPoolExecutor() as threads:
+            answers = list(threads.map(lambda each: self.planned(*each), tried))
+        for (file, call), answer in zip(tried, answers):
+            with self.subTest(file, words=call.get("words", [])):
+                self.look(call, answer)
+        self.assertGreaterEqual(len({file for file, _ in tried}), 40)
+        if len(tried) < len(self.calls):
+            self.skipTest("workbooks need openpyxl and odfpy")
 
-    def test_refused(self):
-        for what, (table, words, *parts) in REFUSED.items():
-            with self.subTest(what):
-                self.assert_fault(self.planned(table, words), "table.csv, ", *parts)
+    def test_all_are_tried(self):
+        """Each file of the folder stands in the list, or is named by a call; and each call has a plan or a sentence."""
+        named = {file for file, _ in self.calls} | {word for _, call in self.calls for word in call.get("words", [])}
+        files = {path.name for path in TABLES.iterdir() if path.suffix not in (".toml", ".py")}
+        self.assertEqual(files - named, set())
+        self.assertTrue(all("plan" in call or call.get("says") for _, call in self.calls))

@@ -1,6 +1,9 @@
 """What a plan is written as: a workbook that openpyxl opens, and tables by jobs."""
 import json
+import re
+import shutil
 import subprocess
+import zipfile
 
 from calls import ROOT, ToolTest, has_program, python_with
 
@@ -63,6 +66,24 @@ class Books(ToolTest):
         self.assertNotIn("Why", book)
         book, _ = self.book(CREW, "--second")
         self.assertEqual((book["Plan"][-1], "Why" in book), (["total", None, 150], False))
+
+    def test_in_libreoffice(self):
+        """LibreOffice shows each sheet as it was written: numbers, times, and names that are no formulas."""
+        if not shutil.which("soffice"):
+            self.skipTest("it needs LibreOffice")
+        self.write("table.csv", "who,2026-11-28,=1+1\nAda,0:40,26:15\nBen,1:05,0:20\n")
+        self.book("table.csv", "--matrix")
+        # All sheets, as they are shown, each in a file of its own; settings of a user are left alone.
+        form = "csv:Text - txt - csv (StarCalc):44,34,76,1,,0,false,true,false,false,false,-1"
+        command = ["soffice", f"-env:UserInstallation=file://{self.folder}/office", "--headless", "--convert-to"]
+        subprocess.run([*command, form, "plan.xlsx"], cwd=self.folder, check=True, capture_output=True, timeout=120)
+        files = sorted(path.name for path in self.folder.glob("plan-*.csv"))
+        self.assertEqual(files, [f"plan-{sheet}.csv" for sheet in ("Asked", "By job", "By person", "Plan", "Why")])
+        self.assertEqual(self.read("plan-By person.csv").splitlines()[0], "who,number,cost,object")
+        subprocess.run([*command, "ods", "plan.xlsx"], cwd=self.folder, check=True, capture_output=True, timeout=120)
+        with zipfile.ZipFile(self.folder / "plan.ods") as archive:
+            shown = re.findall("<text:p>([^<]*)</text:p>", archive.read("content.xml").decode())
+        self.assertEqual(shown[:11], ["who", "object", "cost", "Ada", "2026-11-28", "0:40", "Ben", "=1+1", "0:20", "total", "1:00"])
 
     def test_plan_of_yesterday(self):
         """A plan in a workbook is read again by the name of its sheet."""

@@ -198,6 +198,12 @@ class Sessions(SessionTest):
         self.assertEqual((answer["kind"], answer["status"]), ("bracket", 4))
         self.assertIn("The search was stopped early: this plan is at most", answer["sentence"])
 
+    def test_gap_of_two_hyphens(self):
+        self.serve()
+        self.view(self.page.send("/options", {"gap": "--\nn/a"}))
+        view = self.view(self.page.take("t.csv", "who,x,y,z\na,1,n/a,--\nb,2,3,1\n"))
+        self.assertEqual((view["options"]["gap"], view["table"]["pairs"]), ("--\nn/a", 4))
+
     def test_find(self):
         self.serve()
         self.view(self.page.take("t.csv", "".join(f"Person {number},Job {number},1\n" for number in range(30))))

@@ -78,6 +78,8 @@ class TextTables(TableTest):
             ("a;x;1.234\na;y;2\n", ["--decimals", "3"], [1234, 2000]),
             ("a,x,1.234\na,y,2\n", [], [1234, 2000]),
             ("a\tx\t1.234,5\na\ty\t2\n", [], [12345, 20]),
+            ("a\tx\t3,5\na\ty\t1.234\n", [], [35, 12340]),
+            ("a\tx\t1.234\na\ty\t2\n", [], [1234, 2000]),
             ('a,x,"1,5"\na,y,2\n', ["--decimal-mark", "comma"], [15, 20]),
         ]:
             with self.subTest(table=table, words=words):

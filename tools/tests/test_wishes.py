@@ -4,9 +4,11 @@ import json
 import os
 import random
 import unittest
+from unittest import mock
 
 import compare_plans
 from calls import ToolTest, has_program
+from sigdorf_tools import models
 from sigdorf_tools.models import Model
 from sigdorf_tools.problems import Arcs
 from sigdorf_tools.searches import Plans
@@ -79,6 +81,12 @@ class Tables(unittest.TestCase):
     def test_against_all_plans(self):
         """A short run of compare_plans.py, which takes more by hand: wishes and questions as they are said."""
         self.assertEqual(compare_plans.faults_of_run(seed=2, count=15), [])
+
+    def test_without_persons_for_objects(self):
+        """The same where these would be too many for the solver."""
+        kinds = ["leave-free", "leave-free-column", "second", "fair", "why"]
+        with mock.patch.object(models, "MOST_SQUARE", 0):
+            self.assertEqual(compare_plans.faults_of_run(seed=2, count=8, kinds=kinds), [])
 
 
 @has_program()

@@ -12,18 +12,18 @@ use Rattle.auc_book.specs.declared.line.TrailLine.{TrailLine}
 use Rattle.auc_book.specs.Trail.{lines_of, events_of, IsOwn}
 use Rattle.auc_book.specs.Seat.{Account}
 use Rattle.auc_book.specs.Seats.{TakesSeat}
-use Rattle.auc_book.specs.Settling.{Agrees, Differ, EachSeated, IsSettled, IsUnseated, TellsSent, TellsHanded}
+use Rattle.auc_book.specs.Settling.{Agrees, Differ, EachSeated, IsSettled, IsTrueOf, IsTurnedByFull, IsUnseated, TellsSent, TellsHanded}
 use Rattle.auc_book.proofs.Noting.{empty_is}
 use Rattle.auc_book.proofs.Telling.{tells_sent, tells_handed}
 use Rattle.auc_book.proofs.Seats.{taken_sum, taken_all, taken_here, taken_left}
 
 -- The seats of the workers below i were taken out, and the rest is left: what is known of all seats by then. Same says whether those
 -- agreed.
-pub record Settles {T : Type 0} (trail : List (TrailLine T)) (seats rest : List (Account T)) (i : ℕ) (same : Bool) : Type 0 where
+pub record Settles {T : Type 0} (room : ℕ) (trail : List (TrailLine T)) (seats rest : List (Account T)) (i : ℕ) (same : Bool) : Type 0 where
   pub counted : same ≡ true → sum_by (λ a. a.count) seats ≡ sum_by (λ a. a.count) rest + count_by (λ l. nat_lt l.worker i) trail
-  pub agree : same ≡ true → All (Agrees trail) rest → All (Agrees trail) seats
-  pub differs : same ≡ false → All (Agrees trail) seats → ⊥
-  pub left_agree : All (Agrees trail) seats → All (Agrees trail) rest
+  pub agree : same ≡ true → All (IsTrueOf room trail) rest → All (IsTrueOf room trail) seats
+  pub differs : same ≡ false → All (IsTrueOf room trail) seats → ⊥
+  pub left_agree : All (IsTrueOf room trail) seats → All (IsTrueOf room trail) rest
   pub many : length seats ≡ length rest + i
   pub seated : EachSeated i seats
   pub more : (k : ℕ) → i ≤ k → IsUnseated rest k → IsUnseated seats k
@@ -74,8 +74,8 @@ count_all {T} (l ∷ ls) n all =
       count_all ls n (All-tail (λ (l : TrailLine T). l.worker < n) l ls all),
     )
 
-pub settles_none : {T : Type 0} (trail : List (TrailLine T)) (seats : List (Account T)) → Settles trail seats seats 0 true
-settles_none trail seats = record {
+pub settles_none : {T : Type 0} (room : ℕ) (trail : List (TrailLine T)) (seats : List (Account T)) → Settles room trail seats seats 0 true
+settles_none room trail seats = record {
   counted = λ same. omega (arith, count_none trail);
   agree = λ same all. all;
   differs = λ e all. absurd (let true_is_false : true ≡ false = e in cc);
@@ -87,24 +87,23 @@ settles_none trail seats = record {
 }
 
 -- one worker more
-pub settles_more : {T : Type 0} (trail : List (TrailLine T)) (seats rest left : List (Account T)) (i : ℕ) (same now : Bool) (a : Account T)
-    → Settles trail seats rest i same → TakesSeat i rest a left → a.count ≡ length a.lines
-    → (now ≡ true → (same ≡ true) × (lines_of i trail ≡ a.lines)) → (now ≡ false → (same ≡ false) ⊎ (lines_of i trail ≢ a.lines))
-    → Settles trail seats left (i + 1) now
-settles_more {T} trail seats rest left i same now a so t long yes_both no_either = record {
+pub settles_more : {T : Type 0} (room : ℕ) (trail : List (TrailLine T)) (seats rest left : List (Account T)) (i : ℕ) (same now : Bool) (a : Account T)
+    → Settles room trail seats rest i same → TakesSeat i rest a left → a.count ≡ length a.lines
+    → (now ≡ true → (same ≡ true) × IsTrueOf room trail a) → (now ≡ false → (same ≡ false) ⊎ (¬ (IsTrueOf room trail a)))
+    → Settles room trail seats left (i + 1) now
+settles_more {T} room trail seats rest left i same now a so t long yes_both no_either = record {
   counted = λ yes.
       let p = yes_both yes in
-      omega (arith, so.counted p.0, taken_sum i rest a left t, count_more trail i, ap length p.1, long);
+      omega (arith, so.counted p.0, taken_sum i rest a left t, count_more trail i, ap length (ap (λ (k : ℕ). lines_of k trail) (sym t.whose) ∙ p.1.0), long);
   agree = λ yes all.
       let p = yes_both yes in
-      so.agree p.0 (taken_all i rest a left t (Agrees trail) (ap (λ (k : ℕ). lines_of k trail) t.whose ∙ p.1) all);
+      so.agree p.0 (taken_all i rest a left t (IsTrueOf room trail) p.1 all);
   differs = λ no all.
       ⊎_elim
       (λ (before : same ≡ false). so.differs before all)
-      (λ (here : lines_of i trail ≢ a.lines).
-      here (ap (λ (k : ℕ). lines_of k trail) (sym t.whose) ∙ taken_here i rest a left t (Agrees trail) (so.left_agree all)))
+      (λ (here : ¬ (IsTrueOf room trail a)). here (taken_here i rest a left t (IsTrueOf room trail) (so.left_agree all)))
       (no_either no);
-  left_agree = λ all. taken_left i rest a left t (Agrees trail) (so.left_agree all);
+  left_agree = λ all. taken_left i rest a left t (IsTrueOf room trail) (so.left_agree all);
   many = omega (arith, so.many, ap length t.before, ap length t.after, length-append t.front (a ∷ t.back), length-append t.front t.back);
   seated = λ k lt none.
       ⊎_elim
@@ -116,20 +115,21 @@ settles_more {T} trail seats rest left i same now a so t long yes_both no_either
 }
 
 -- all workers were looked at, and some didn't agree or a seat is left
-pub differ : {T : Type 0} (workers : ℕ) (trail : List (TrailLine T)) (seats rest : List (Account T)) (i : ℕ) (same : Bool)
-    → Settles trail seats rest i same → i ≡ workers → (same ≡ false) ⊎ (0 < length rest) → Differ workers seats trail
-differ workers trail seats rest i same so end cause =
+pub differ : {T : Type 0} (workers room : ℕ) (trail : List (TrailLine T)) (seats rest : List (Account T)) (i : ℕ) (same : Bool)
+    → Settles room trail seats rest i same → i ≡ workers → (same ≡ false) ⊎ (0 < length rest) → Differ workers room seats trail
+differ workers room trail seats rest i same so end cause =
     ⊎_elim (λ (no : same ≡ false). inl (so.differs no)) (λ (some : 0 < length rest). inr (omega (arith, so.many, some, end))) cause
 
 -- all workers were looked at, and all agreed
 pub settled : {T : Type 0} (boxes workers nodes most room : ℕ) (trail : List (TrailLine T)) (seats rest : List (Account T)) (i : ℕ) (same : Bool)
-    → 0 < room → Settles trail seats rest i same → same ≡ true → rest ≡ [] → i ≡ workers
+    → 0 < room → Settles room trail seats rest i same → same ≡ true → rest ≡ [] → i ≡ workers
     → All (λ l. (l.worker < workers) × IsOwn l.worker l.call) trail → (last : Mail T) × Run (empty_mail boxes workers nodes most) (events_of trail) last
     → IsSettled boxes workers nodes most room seats trail
 settled {T} boxes workers nodes most room trail seats rest i same some so agreed none end own run =
     let below : All (λ l. l.worker < workers) trail = All-weaker (λ (l : TrailLine T). (l.worker < workers) × IsOwn l.worker l.call) (λ l. l.worker < workers) (λ l p. p.0) trail own in
     let counts : count_by (λ l. nat_lt l.worker i) trail ≡ length trail = ap (λ (n : ℕ). count_by (λ l. nat_lt l.worker n) trail) end ∙ count_all trail workers below in
-    let agree : All (Agrees trail) seats = so.agree agreed (subst (λ (w : List (Account T)). All (Agrees trail) w) (sym none) (All-nil (Agrees trail))) in
+    let truth : All (IsTrueOf room trail) seats = so.agree agreed (subst (λ (w : List (Account T)). All (IsTrueOf room trail) w) (sym none) (All-nil (IsTrueOf room trail))) in
+    let agree : All (Agrees trail) seats = All-weaker (IsTrueOf room trail) (Agrees trail) (λ a p. p.0) seats truth in
     let start : Mail T = empty_mail boxes workers nodes most in
     let empty = empty_is {T = T} boxes workers nodes most in
     record {
@@ -142,6 +142,7 @@ settled {T} boxes workers nodes most room trail seats rest i same some so agreed
       counted = omega (arith, so.counted agreed, ap (sum_by (λ (p : Account T). p.count)) none, counts);
       seated = λ k lt. so.seated k (omega (arith, end));
       agree = agree;
+      full = All-weaker (IsTrueOf room trail) (IsTurnedByFull room trail) (λ a p. p.1) seats truth;
       own = own;
       sent_told = All-weaker (Agrees trail) (TellsSent trail) (tells_sent workers trail own) seats agree;
       handed_told = All-weaker (Agrees trail) (TellsHanded trail) (tells_handed trail) seats agree;

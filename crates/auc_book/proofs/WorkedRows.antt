@@ -39,10 +39,10 @@ abbrev state_after : Mail ℕ → ℕ → List (TrailLine ℕ) → State ℕ
 state_after mail count lines = record { mail = mail; count = count; room = 3; trail = lines }
 
 abbrev first : Account ℕ
-first = record { worker = 0; count = 2; lines = post_line 0 5 ∷ take_line ∷ [] }
+first = record { worker = 0; count = 2; turned_away = 0; lines = post_line 0 5 ∷ take_line ∷ [] }
 
 abbrev second : Account ℕ
-second = record { worker = 1; count = 1; lines = post_line 1 6 ∷ [] }
+second = record { worker = 1; count = 1; turned_away = 0; lines = post_line 1 6 ∷ [] }
 
 -- each call is a call of its worker
 pub posts : Calls (new_state 1 2 4 9 3) 0 (Post 0 0 5 0) (Some (Posted 1)) (state_after (two_lanes (lane 0 (5 ∷ [])) (lane 0 [])) 1 (post_line 0 5 ∷ []))
@@ -87,9 +87,9 @@ counted_together = refl
 pub one_missing : IsUnsettled 2 3 (first ∷ []) Missing
 one_missing = (omega arith, (1, omega arith, All-cons (λ (a : Account ℕ). a.worker ≢ 1) first [] (λ e. absurd (omega (arith, e))) (All-nil (λ (a : Account ℕ). a.worker ≢ 1))))
 
--- a refused post is noted in the seat with its refusal, and not where no place is left
-pub refusals_noted : SeatCalls 3 second (Post 1 0 7 4) (post_reply (Err refused.Full)) (record { worker = 1; count = 2; lines = post_line 1 6 ∷ (record { worker = 1; call = Post 1 0 7 4; reply = Refused Full }) ∷ [] })
-refusals_noted = (refl, refl, refl)
+-- a refused post is noted in the seat with its refusal; where no place is left, it is counted apart
+pub refusals_noted : SeatCalls 3 second (Post 1 0 7 4) (post_reply (Err refused.Full)) (record { worker = 1; count = 2; turned_away = 0; lines = post_line 1 6 ∷ (record { worker = 1; call = Post 1 0 7 4; reply = Refused Full }) ∷ [] })
+refusals_noted = (refl, refl, refl, refl)
 
-pub no_place_not_noted : SeatCalls 3 second (Post 1 0 7 0) (post_reply (Err refused.TrailFull)) second
+pub no_place_not_noted : SeatCalls 3 second (Post 1 0 7 0) (post_reply (Err refused.TrailFull)) (record { worker = 1; count = 1; turned_away = 1; lines = post_line 1 6 ∷ [] })
 no_place_not_noted = refl

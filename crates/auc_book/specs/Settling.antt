@@ -1,5 +1,5 @@
 -- What it means that the seats settle with the trail, and when they don't.
-use Rattle.std.specs.Prelude.{◌≡◌, ◌≢◌, ℕ, ◌<◌, ◌⊎◌, List, length, All}
+use Rattle.std.specs.Prelude.{◌≡◌, ◌≢◌, ℕ, ◌<◌, ◌≤◌, ◌⊎◌, List, length, All}
 use Rattle.std.specs.List.{sum_by}
 use Rattle.auc_mail.specs.Mail.{Mail, empty_mail}
 use Rattle.auc_mail.specs.Run.{Run}
@@ -22,13 +22,22 @@ EachSeated workers seats = (k : ℕ) → k < workers → ¬ (IsUnseated seats k)
 abbrev pub Agrees : {T : Type 0} → List (TrailLine T) → Account T → Type 0
 Agrees trail a = lines_of a.worker trail ≡ a.lines
 
+-- calls of the worker's were turned away only where the trail has no place left
+abbrev pub IsTurnedByFull : {T : Type 0} → ℕ → List (TrailLine T) → Account T → Type 0
+IsTurnedByFull room trail a = 0 < a.turned_away → room ≤ length trail
+
+-- the seat tells the truth of the trail
+abbrev pub IsTrueOf : {T : Type 0} → ℕ → List (TrailLine T) → Account T → Type 0
+IsTrueOf room trail a = Agrees trail a × IsTurnedByFull room trail a
+
 -- what was sent in the worker's name, to any box, is what the seat's own lines tell
 abbrev pub TellsSent : {T : Type 0} → List (TrailLine T) → Account T → Type 0
 TellsSent trail a = (b : ℕ) → sent b a.worker (events_of trail) ≡ sent b a.worker (events_of a.lines)
 
 -- what a box handed out is what the seat's own lines tell, where its worker alone takes from the box
 abbrev pub TellsHanded : {T : Type 0} → List (TrailLine T) → Account T → Type 0
-TellsHanded trail a = (b k : ℕ) → All (λ l. IsTakeAt b l.call → l.worker ≡ a.worker) trail → handed b k (events_of trail) ≡ handed b k (events_of a.lines)
+TellsHanded trail a = (b k : ℕ) → All (λ l. IsTakeAt b l.call → l.worker ≡ a.worker) trail → handed b k (events_of trail)
+    ≡ handed b k (events_of a.lines)
 
 -- The trail is a run from the empty mail of these numbers, as long as the seats counted together, and each seat's lines are those of its worker.
 pub record IsSettled {T : Type 0} (boxes workers nodes most room : ℕ) (seats : List (Account T)) (trail : List (TrailLine T)) : Type 0 where
@@ -43,14 +52,16 @@ pub record IsSettled {T : Type 0} (boxes workers nodes most room : ℕ) (seats :
   pub counted : length trail ≡ sum_by (λ a. a.count) seats
   pub seated : EachSeated workers seats
   pub agree : All (Agrees trail) seats
+  -- and no other call was turned away where it has a place left
+  pub full : All (IsTurnedByFull room trail) seats
   pub own : All (λ l. (l.worker < workers) × IsOwn l.worker l.call) trail
   -- and the seats tell what was sent and handed out
   pub sent_told : All (TellsSent trail) seats
   pub handed_told : All (TellsHanded trail) seats
 
--- The seats and the trail differ: some seat does not agree with it, or there are more seats than workers.
-abbrev pub Differ : {T : Type 0} → ℕ → List (Account T) → List (TrailLine T) → Type 0
-Differ workers seats trail = (¬ (All (Agrees trail) seats)) ⊎ (workers < length seats)
+-- The seats and the trail differ: some seat isn't true of it, or there are more seats than workers.
+abbrev pub Differ : {T : Type 0} → ℕ → ℕ → List (Account T) → List (TrailLine T) → Type 0
+Differ workers room seats trail = (¬ (All (IsTrueOf room trail) seats)) ⊎ (workers < length seats)
 
 -- When each error stands: no trail and a missing seat exactly at their causes, and a difference only where neither is.
 abbrev pub IsUnsettled : {T : Type 0} → ℕ → ℕ → List (Account T) → SettleError → Type 0

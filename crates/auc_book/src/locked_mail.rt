@@ -55,7 +55,8 @@ impl<T: Copy, N: MailBrand> LockedMail<T, N> {
         &self.state
     }
 
-    // Makes the call of the seat's worker, and notes it here and there. None where no more can be noted.
+    // Makes the call of the seat's worker, and notes it here and there. None where no more can be noted: then the seat counts that it was
+    // turned away.
     #[tactic(auto, using(crate::proofs::LockedMailLaws::place_left))]
     fn note(&mut self, seat: &mut Seat<T, N>, call: Call<T>) -> Option<Reply<T>>
         requires fits { FitsIn N.workers N.boxes call }
@@ -66,7 +67,10 @@ impl<T: Copy, N: MailBrand> LockedMail<T, N> {
         // The law that says the trail is as long as the count, so that the seat has a place where the trail has one.
         self.state.every_state_is_noted();
         let worker = seat.worker();
-        let reply = self.state.note(worker, call)?;
+        let Some(reply) = self.state.note(worker, call) else {
+            seat.turn_away(call);
+            return None;
+        };
         seat.note(
             &mut self.total,
             TrailLine {

@@ -1,16 +1,18 @@
 //! The seat of a worker at a shared mail.
 
-ghost use Rattle.std.specs.Prelude.{◌≡◌, ◌+◌, ◌<◌, length, IfOk, Some};
+ghost use Rattle.std.specs.Prelude.{◌≡◌, ◌+◌, ◌<◌, length, IfOk, None, Some};
 ghost use Rattle.auc_book.specs.declared.limits.TheConstants.{MOST_CALLS};
 ghost use Rattle.auc_book.specs.Seat.{new_account, SeatCalls};
 
 use crate::brand::MailBrand;
 use crate::line::TrailLine;
+use auc_mail::Call;
 use std::alloc::{AllocError, Global};
 use std::marker::Model;
 use std::sync::ledger::{Book, Share};
 
-/// A worker's seat at a shared mail: it counts his calls, and notes them where the mail keeps a trail.
+/// A worker's seat at a shared mail: it counts his calls, and notes them where the mail keeps a trail. Calls that are turned away are
+/// counted apart.
 ///
 /// Its count is his share of the ledger of all calls, whose total lies under the mail's lock. So it rises only where a call was made there.
 ///
@@ -19,6 +21,7 @@ use std::sync::ledger::{Book, Share};
 pub struct Seat<T: Copy, N: MailBrand> {
     own: Vec<TrailLine<T>>,
     calls: u64,
+    turned: u64,
     number: u32,
     places: u32,
     share: Share<N>,
@@ -30,9 +33,11 @@ impl<T: Copy, N: MailBrand> Model for Seat<T, N> {
 
     ghost Value = { Account T };
 
-    ghost view = { λ s. record { worker = s.number; count = s.calls; lines = s.own.items } };
+    ghost view = { λ s. record { worker = s.number; count = s.calls; turned_away = s.turned; lines = s.own.items } };
 
-    ghost invariant = { λ s. IsSeated N.workers N.room (record { worker = s.number; count = s.calls; lines = s.own.items }) s.places (vec_capacity s.own) s.share.parts s.share.amount };
+    ghost invariant = { λ s. IsSeated N.workers N.room (record
+        { worker = s.number; count = s.calls; turned_away = s.turned; lines = s.own.items }) s.places (vec_capacity s.own) s.share.parts
+        s.share.amount };
 }
 
 impl<T: Copy, N: MailBrand> Seat<T, N> {
@@ -51,6 +56,7 @@ impl<T: Copy, N: MailBrand> Seat<T, N> {
         Ok(Seat {
             own: Vec::with_capacity(alloc, room as usize)?,
             calls: 0,
+            turned: 0,
             number: worker,
             places: room,
             share,
@@ -72,12 +78,33 @@ impl<T: Copy, N: MailBrand> Seat<T, N> {
         self.calls
     }
 
+    /// How many of his calls were turned away, since no more could be noted. It stops at its last value. Takes O(1) time.
+    pub fn turned_away(&self) -> u64
+        ensures { result ≡ self.now.turned_away }
+    {
+        self.turned
+    }
+
+    // How many lines the trail has room for.
+    pub(crate) fn room(&self) -> u32
+        ensures { result ≡ N.room }
+    {
+        self.places
+    }
+
     /// The lines of his calls, the first one first; none where the mail keeps no trail. Takes O(1) time.
     pub fn lines(&self) -> &[TrailLine<T>]
         ensures lines { result.now ≡ self.now.lines }
         ensures counted { 0 < N.room → self.now.count ≡ length self.now.lines }
     {
         self.own.as_slice()
+    }
+
+    // Counts a call that was turned away.
+    pub(crate) fn turn_away(&mut self, call: Call<T>)
+        ensures { SeatCalls N.room self.old call None self.new }
+    {
+        self.turned = self.turned.saturating_add(1);
     }
 
     // Counts a call, here and in the total, and notes its line where there is room for lines.

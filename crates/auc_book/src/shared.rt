@@ -135,7 +135,8 @@ impl<T: Copy, N: MailBrand> SharedMail<T, N> {
     /// Posts `item` to the box `to` in the name of the seat's worker, and answers the letter's number in its lane, from 1. Wakes who waits at this
     /// box, and all who wait at this mail where the trail has no place left for more calls.
     ///
-    /// Refused as by `MailState::post`; after `TrailFull` the seat is unchanged. Takes O(1) time under the lock, and no memory.
+    /// Refused as by `MailState::post`; after `TrailFull` the seat counts one call more that was turned away. Takes O(1) time under the
+    /// lock, and no memory.
     pub fn post<R: Wait>(
         &self,
         rt: &R,
@@ -155,7 +156,7 @@ impl<T: Copy, N: MailBrand> SharedMail<T, N> {
 
     /// Takes the first waiting letter of one of the box's lanes; where none has one, says whether one may still come.
     ///
-    /// Refused where no more calls can be noted: the seat is unchanged, and all who wait at this mail are woken. Takes the time of
+    /// Refused where no more calls can be noted: the seat counts that, and all who wait at this mail are woken. Takes the time of
     /// `MailPool::take` under the lock, and no memory.
     pub fn try_take<R: Wait>(
         &self,
@@ -174,7 +175,7 @@ impl<T: Copy, N: MailBrand> SharedMail<T, N> {
 
     /// Takes the first waiting letter of one of the box's lanes, and waits until there is one or the box is closed. To wait is no call.
     ///
-    /// Refused where no more calls can be noted, which it looks for each time it has the lock: the seat is unchanged, and all who wait at this
+    /// Refused where no more calls can be noted, which it looks for each time it has the lock: the seat counts that, and all who wait at this
     /// mail are woken. It looks for a while before it sleeps. Takes the time of `MailPool::take` each time it has the
     /// lock, and no memory.
     pub fn take<R: Wait>(
@@ -195,7 +196,7 @@ impl<T: Copy, N: MailBrand> SharedMail<T, N> {
 
     /// Closes the box, and answers whether it was still open. Its waiting letters stay. Wakes who waits at it.
     ///
-    /// Refused where no more calls can be noted: the seat is unchanged, and all who wait at this mail are woken. Takes O(1) time under the lock, and no memory.
+    /// Refused where no more calls can be noted: the seat counts that, and all who wait at this mail are woken. Takes O(1) time under the lock, and no memory.
     pub fn close<R: Wait>(&self, rt: &R, seat: &mut Seat<T, N>, at: u32) -> Result<bool, TrailFull>
         requires { at < N.boxes }
         ensures { SeatCalls N.room seat.old (Call.Close at) (close_reply result) seat.new }
@@ -216,7 +217,7 @@ impl<T: Copy, N: MailBrand> SharedMail<T, N> {
     }
 
     /// Ends the mail: the trail, where each worker's seat is among these and its lines are the trail's lines of that worker, in order and with
-    /// the same answers.
+    /// the same answers, and it counts calls that were turned away only where the trail has no place left.
     ///
     /// Errors are looked at in this order: `NoTrail` where the mail was made with no room for one; `Missing` where a worker's seat
     /// isn't among these; `Differs`. The mail and the seats are used up in every case.

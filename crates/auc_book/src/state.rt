@@ -39,7 +39,8 @@ impl<T: Copy> Model for MailState<T> {
 
     ghost view = { λ s. record { mail = s.pool; count = s.calls; room = s.places; trail = s.lines.items } };
 
-    ghost invariant = { λ s. IsNoted (record { mail = s.pool; count = s.calls; room = s.places; trail = s.lines.items }) × (s.places ≤ vec_capacity s.lines) };
+    ghost invariant = { λ s. IsNoted (record { mail = s.pool; count = s.calls; room = s.places; trail = s.lines.items })
+        × (s.places ≤ vec_capacity s.lines) };
 }
 
 impl<T: Copy> MailState<T> {

@@ -1,8 +1,8 @@
 -- What a status says of a solve.
-use Rattle.std.proofs.Common.{◌≡◌, ◌≢◌, ℕ, List, Option, Some, None, refl, sym, ap, subst, arith}
+use Rattle.std.proofs.Common.{◌≡◌, ◌≢◌, ℕ, List, Option, Some, None, refl, sym, ap, subst, arith, drop}
 use Rattle.std.specs.Prelude.{ℤ, pos, unsigned_abs, Result, Ok, Err, Contains}
 use Rattle.auc_graph.specs.declared.list_faults.ListFault.{ListFault}
-use Rattle.auc_graph.specs.Problem.{Problem}
+use Rattle.auc_graph.specs.Problem.{IsProblem, Problem}
 use Rattle.auc_graph.specs.InMemory.{problem_fault}
 use Rattle.auc_call.specs.declared.driver.Driver.{Driver}
 use Rattle.auc_call.specs.declared.found.Found.{Found}
@@ -17,7 +17,7 @@ use Rattle.auc_call.specs.Start.{start_fault_by}
 use Rattle.auc_call.specs.Codes.{list_kind, list_place, start_kind, start_place, IsListFault, IsStartFault}
 use Rattle.auc_call.specs.Solving.{Solves}
 use Rattle.auc_call.specs.Answers.{IsBracketTold}
-use Rattle.auc_call.specs.Telling.{solve_status, solve_found, solve_statuses, KeepsFound, KeepsMemory}
+use Rattle.auc_call.specs.Telling.{failed_found, solve_status, solve_found, solve_statuses, KeepsFound, KeepsMemory}
 
 pub apart : (m n : ℕ) → pos m ≡ pos n → m ≡ n
 apart m n e = ap unsigned_abs e
@@ -73,13 +73,13 @@ told_refused d p start before after (Err (Fault fault)) old h e = list_fault_is 
 told_refused d p start before after (Err (Start fault)) old h e = absurd (omega (arith, apart 7 5 e))
 told_refused d p start before after (Err NoMemory) old h e = absurd (omega (arith, apart 6 5 e))
 
-pub told_start : (d : Driver) (p : Problem) (start : List ℤ) (before after : Memory) (r : Result Solved Failed) (old : Found) → Solves d p start before after r → solve_status r ≡ pos 7 → IsStartFault (start_fault_by d p start) (solve_found r old).kind (solve_found r old).place
+pub told_start : (d : Driver) (p : Problem) (start : List ℤ) (before after : Memory) (r : Result Solved Failed) (old : Found) → Solves d p start before after r → solve_status r ≡ pos 7 → IsProblem p × IsStartFault (start_fault_by d p start) (solve_found r old).kind (solve_found r old).place
 told_start d p start before after (Ok (Optimal cost)) old h e = absurd (omega (arith, apart 0 7 e))
 told_start d p start before after (Ok (Infeasible persons objects)) old h e = absurd (omega (arith, apart 3 7 e))
 told_start d p start before after (Ok (Bracket reason lower cost)) old h e = absurd (omega (arith, apart 4 7 e))
 told_start d p start before after (Err Sizes) old h e = absurd (omega (arith, apart 2 7 e))
 told_start d p start before after (Err (Fault fault)) old h e = absurd (omega (arith, apart 5 7 e))
-told_start d p start before after (Err (Start fault)) old h e = start_fault_is (start_fault_by d p start) fault h.0.2
+told_start d p start before after (Err (Start fault)) old h e = (h.0.1, start_fault_is (start_fault_by d p start) fault h.0.2)
 told_start d p start before after (Err NoMemory) old h e = absurd (omega (arith, apart 6 7 e))
 
 pub told_sizes : (d : Driver) (p : Problem) (start : List ℤ) (before after : Memory) (r : Result Solved Failed) → Solves d p start before after r → solve_status r ≡ pos 2 → AreSizes p before → ⊥
@@ -105,11 +105,11 @@ told_started d p start before after (Err (Fault fault)) h two five six seven = a
 told_started d p start before after (Err (Start fault)) h two five six seven = absurd (seven refl)
 told_started d p start before after (Err NoMemory) h two five six seven = absurd (six refl)
 
-pub told_same : (d : Driver) (p : Problem) (start : List ℤ) (before after : Memory) (r : Result Solved Failed) → Solves d p start before after r → KeepsMemory (solve_status r) before after
-told_same d p start before after (Ok (Optimal cost)) h = record { choice = λ a b c. absurd (a refl); prices = λ a b. absurd (a refl); set = λ a. h.2.1 }
-told_same d p start before after (Ok (Infeasible persons objects)) h = record { choice = λ a b c. absurd (b refl); prices = λ a b. h.2.1; set = λ a. absurd (a refl) }
-told_same d p start before after (Ok (Bracket reason lower cost)) h = record { choice = λ a b c. absurd (c refl); prices = λ a b. absurd (b refl); set = λ a. h.2.1 }
-told_same d p start before after (Err failed) h = record { choice = λ a b c. ap (λ (m : Memory). m.choice) h.1; prices = λ a b. ap (λ (m : Memory). m.prices) h.1; set = λ a. ap (λ (m : Memory). m.set) h.1 }
+pub told_same : (d : Driver) (p : Problem) (start : List ℤ) (before after : Memory) (r : Result Solved Failed) (old : Found) → Solves d p start before after r → KeepsMemory (solve_status r) (solve_found r old).persons (solve_found r old).objects before after
+told_same d p start before after (Ok (Optimal cost)) old h = record { choice = λ a b c. absurd (a refl); prices = λ a b. absurd (a refl); set = λ a. h.2.1; after_persons = λ e. absurd (omega (arith, apart 0 3 e)); after_objects = λ e. absurd (omega (arith, apart 0 3 e)) }
+told_same d p start before after (Ok (Infeasible persons objects)) old h = record { choice = λ a b c. absurd (b refl); prices = λ a b. h.2.1; set = λ a. absurd (a refl); after_persons = λ e. h.2.2; after_objects = λ e. h.2.3 }
+told_same d p start before after (Ok (Bracket reason lower cost)) old h = record { choice = λ a b c. absurd (c refl); prices = λ a b. absurd (b refl); set = λ a. h.2.1; after_persons = λ e. absurd (omega (arith, apart 4 3 e)); after_objects = λ e. absurd (omega (arith, apart 4 3 e)) }
+told_same d p start before after (Err failed) old h = record { choice = λ a b c. ap (λ (m : Memory). m.choice) h.1; prices = λ a b. ap (λ (m : Memory). m.prices) h.1; set = λ a. ap (λ (m : Memory). m.set) h.1; after_persons = λ e. ap (λ (m : Memory). drop (failed_found failed old).persons m.choice) h.1; after_objects = λ e. ap (λ (m : Memory). drop (failed_found failed old).objects m.set) h.1 }
 
 pub told_found : (r : Result Solved Failed) (old : Found) → KeepsFound (solve_status r) old (solve_found r old)
 told_found (Ok (Optimal cost)) old = record { cost = λ a b. absurd (a refl); lower = λ a. refl; persons = λ a. refl; objects = λ a. refl; kind = λ a b c. refl; place = λ a b. refl }

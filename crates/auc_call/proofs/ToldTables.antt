@@ -1,7 +1,7 @@
 -- What a status says of a solve of a table.
-use Rattle.std.proofs.Common.{◌≡◌, ◌≢◌, ℕ, List, None, refl, ap, arith}
+use Rattle.std.proofs.Common.{◌≡◌, ◌≢◌, ℕ, List, None, refl, ap, arith, drop}
 use Rattle.std.specs.Prelude.{ℤ, pos, Result, Ok, Err}
-use Rattle.auc_graph.specs.Problem.{Problem}
+use Rattle.auc_graph.specs.Problem.{IsProblem, Problem}
 use Rattle.auc_call.specs.declared.found.Found.{Found}
 use Rattle.auc_call.specs.declared.solved.Solved.{Solved}
 use Rattle.auc_call.specs.declared.solved.Solved.TheVariants.{Optimal, Infeasible, Bracket}
@@ -16,7 +16,7 @@ use Rattle.auc_call.specs.Shown.{IsLeastAt, IsHallAt}
 use Rattle.auc_call.specs.Start.{start_fault}
 use Rattle.auc_call.specs.Table.{table_fault}
 use Rattle.auc_call.specs.TableSolving.{AreTableSizes, SolvesTable}
-use Rattle.auc_call.specs.Telling.{solve_status, solve_found, KeepsMemory}
+use Rattle.auc_call.specs.Telling.{failed_found, solve_status, solve_found, KeepsMemory}
 use Rattle.auc_call.proofs.ToldLaws.{apart, list_fault_is, start_fault_is}
 
 pub table_optimal : (p : Problem) (stride entries : ℕ) (start : List ℤ) (bids : ℕ) (before after : Memory) (r : Result Solved Failed) (old : Found) → SolvesTable p stride entries start bids before after r → solve_status r ≡ pos 0 → ByObjects p.arcs after.choice (λ places. IsLeastAt p places after.prices (solve_found r old).cost)
@@ -64,13 +64,13 @@ table_refused p stride entries start bids before after (Err (Fault fault)) old h
 table_refused p stride entries start bids before after (Err (Start fault)) old h e = absurd (omega (arith, apart 7 5 e))
 table_refused p stride entries start bids before after (Err NoMemory) old h e = absurd (omega (arith, apart 6 5 e))
 
-pub table_start : (p : Problem) (stride entries : ℕ) (start : List ℤ) (bids : ℕ) (before after : Memory) (r : Result Solved Failed) (old : Found) → SolvesTable p stride entries start bids before after r → solve_status r ≡ pos 7 → IsStartFault (start_fault p start) (solve_found r old).kind (solve_found r old).place
+pub table_start : (p : Problem) (stride entries : ℕ) (start : List ℤ) (bids : ℕ) (before after : Memory) (r : Result Solved Failed) (old : Found) → SolvesTable p stride entries start bids before after r → solve_status r ≡ pos 7 → IsProblem p × IsStartFault (start_fault p start) (solve_found r old).kind (solve_found r old).place
 table_start p stride entries start bids before after (Ok (Optimal cost)) old h e = absurd (omega (arith, apart 0 7 e))
 table_start p stride entries start bids before after (Ok (Infeasible persons objects)) old h e = absurd (omega (arith, apart 3 7 e))
 table_start p stride entries start bids before after (Ok (Bracket reason lower cost)) old h e = absurd (omega (arith, apart 4 7 e))
 table_start p stride entries start bids before after (Err Sizes) old h e = absurd (omega (arith, apart 2 7 e))
 table_start p stride entries start bids before after (Err (Fault fault)) old h e = absurd (omega (arith, apart 5 7 e))
-table_start p stride entries start bids before after (Err (Start fault)) old h e = start_fault_is (start_fault p start) fault h.0.1
+table_start p stride entries start bids before after (Err (Start fault)) old h e = (h.0.1, start_fault_is (start_fault p start) fault h.0.2)
 table_start p stride entries start bids before after (Err NoMemory) old h e = absurd (omega (arith, apart 6 7 e))
 
 pub table_sizes : (p : Problem) (stride entries : ℕ) (start : List ℤ) (bids : ℕ) (before after : Memory) (r : Result Solved Failed) → SolvesTable p stride entries start bids before after r → solve_status r ≡ pos 2 → AreTableSizes p stride entries before → ⊥
@@ -96,8 +96,8 @@ table_started p stride entries start bids before after (Err (Fault fault)) h two
 table_started p stride entries start bids before after (Err (Start fault)) h two five six seven = absurd (seven refl)
 table_started p stride entries start bids before after (Err NoMemory) h two five six seven = absurd (six refl)
 
-pub table_same : (p : Problem) (stride entries : ℕ) (start : List ℤ) (bids : ℕ) (before after : Memory) (r : Result Solved Failed) → SolvesTable p stride entries start bids before after r → KeepsMemory (solve_status r) before after
-table_same p stride entries start bids before after (Ok (Optimal cost)) h = record { choice = λ a b c. absurd (a refl); prices = λ a b. absurd (a refl); set = λ a. h.2.1 }
-table_same p stride entries start bids before after (Ok (Infeasible persons objects)) h = record { choice = λ a b c. absurd (b refl); prices = λ a b. h.2.1; set = λ a. absurd (a refl) }
-table_same p stride entries start bids before after (Ok (Bracket reason lower cost)) h = record { choice = λ a b c. absurd (c refl); prices = λ a b. absurd (b refl); set = λ a. h.2.1 }
-table_same p stride entries start bids before after (Err failed) h = record { choice = λ a b c. ap (λ (m : Memory). m.choice) h.1; prices = λ a b. ap (λ (m : Memory). m.prices) h.1; set = λ a. ap (λ (m : Memory). m.set) h.1 }
+pub table_same : (p : Problem) (stride entries : ℕ) (start : List ℤ) (bids : ℕ) (before after : Memory) (r : Result Solved Failed) (old : Found) → SolvesTable p stride entries start bids before after r → KeepsMemory (solve_status r) (solve_found r old).persons (solve_found r old).objects before after
+table_same p stride entries start bids before after (Ok (Optimal cost)) old h = record { choice = λ a b c. absurd (a refl); prices = λ a b. absurd (a refl); set = λ a. h.2.1; after_persons = λ e. absurd (omega (arith, apart 0 3 e)); after_objects = λ e. absurd (omega (arith, apart 0 3 e)) }
+table_same p stride entries start bids before after (Ok (Infeasible persons objects)) old h = record { choice = λ a b c. absurd (b refl); prices = λ a b. h.2.1; set = λ a. absurd (a refl); after_persons = λ e. h.2.2; after_objects = λ e. h.2.3 }
+table_same p stride entries start bids before after (Ok (Bracket reason lower cost)) old h = record { choice = λ a b c. absurd (c refl); prices = λ a b. absurd (b refl); set = λ a. h.2.1; after_persons = λ e. absurd (omega (arith, apart 4 3 e)); after_objects = λ e. absurd (omega (arith, apart 4 3 e)) }
+table_same p stride entries start bids before after (Err failed) old h = record { choice = λ a b c. ap (λ (m : Memory). m.choice) h.1; prices = λ a b. ap (λ (m : Memory). m.prices) h.1; set = λ a. ap (λ (m : Memory). m.set) h.1; after_persons = λ e. ap (λ (m : Memory). drop (failed_found failed old).persons m.choice) h.1; after_objects = λ e. ap (λ (m : Memory). drop (failed_found failed old).objects m.set) h.1 }

@@ -1,5 +1,5 @@
 -- What stands in the caller's memory.
-use Rattle.std.specs.Prelude.{◌≡◌, ℕ, ℤ, List, length, map, slice_get, Some}
+use Rattle.std.specs.Prelude.{◌≡◌, ℕ, ℤ, List, length, drop, map, slice_get, Some}
 use Rattle.auc_graph.specs.declared.arc.Arc.{Arc}
 use Rattle.auc_graph.specs.Problem.{Problem}
 
@@ -11,6 +11,10 @@ pub record Memory : Type 0 where
 
 abbrev pub memory : List ℕ → List ℤ → List ℕ → Memory
 memory choice prices set = record { choice = choice; prices = prices; set = set }
+
+-- what stands after the first n numbers has stayed
+abbrev pub StaysAfter : ℕ → List ℕ → List ℕ → Type 0
+StaysAfter n old new = drop n new ≡ drop n old
 
 -- a place for each person, a price for each object, and room for as many objects as persons
 pub record AreSizes (p : Problem) (m : Memory) : Type 0 where

@@ -1,13 +1,13 @@
 -- What a solve of a table comes to.
 use Rattle.std.specs.Prelude.{◌≡◌, ℕ, ◌<◌, ℤ, List, length, All, Some, None, Result, Ok, Err, ⊤}
 use Rattle.auc_graph.specs.declared.arc.Arc.{Arc}
-use Rattle.auc_graph.specs.Problem.{Problem}
+use Rattle.auc_graph.specs.Problem.{IsProblem, Problem}
 use Rattle.auc_call.specs.declared.solved.Solved.{Solved}
 use Rattle.auc_call.specs.declared.solved.Solved.TheVariants.{Optimal, Infeasible, Bracket}
 use Rattle.auc_call.specs.declared.solved.Failed.{Failed}
 use Rattle.auc_call.specs.declared.solved.Failed.TheVariants.{Sizes, Fault, Start, NoMemory}
 use Rattle.auc_call.specs.Limited.{IsLimitAt}
-use Rattle.auc_call.specs.Memory.{Memory, AreSizes}
+use Rattle.auc_call.specs.Memory.{Memory, AreSizes, StaysAfter}
 use Rattle.auc_call.specs.Naming.{ByObjects, objects_at}
 use Rattle.auc_call.specs.declared.driver.Driver.TheVariants.{Direct}
 use Rattle.auc_call.specs.Shown.{IsLeastAt, IsBracketAt, IsHallAt}
@@ -35,7 +35,7 @@ named arcs (Bracket reason lower cost) choice = objects_at arcs choice
 -- What was found is right for the problem and for what was written, and what isn't named stays as it was.
 abbrev pub IsTableSolved : Problem → List ℤ → ℕ → Memory → Memory → Solved → Type 0
 IsTableSolved p start bids before after (Optimal cost) = ByObjects p.arcs after.choice (λ places. IsLeastAt p places after.prices cost) × (after.set ≡ before.set)
-IsTableSolved p start bids before after (Infeasible persons objects) = IsHallAt p after.choice after.set persons objects × (after.prices ≡ before.prices)
+IsTableSolved p start bids before after (Infeasible persons objects) = IsHallAt p after.choice after.set persons objects × (after.prices ≡ before.prices) × StaysAfter persons before.choice after.choice × StaysAfter objects before.set after.set
 IsTableSolved p start bids before after (Bracket reason lower cost) = ByObjects p.arcs after.choice (λ places. IsBracketAt p places after.prices reason lower cost × IsLimitAt p start bids places after.prices reason lower cost) × (after.set ≡ before.set)
 
 -- why a table's problem isn't built
@@ -54,7 +54,7 @@ SolvesArcs p start bids before after (Err failed) = IsStop Direct p start failed
 abbrev pub IsTableCause : Problem → ℕ → ℕ → List ℤ → Memory → Failed → Type 0
 IsTableCause p stride entries start before Sizes = AreTableSizes p stride entries before → ⊥
 IsTableCause p stride entries start before (Fault fault) = AreTableSizes p stride entries before × (table_fault p ≡ Some fault)
-IsTableCause p stride entries start before (Start fault) = AreTableSizes p stride entries before × (start_fault p start ≡ Some fault)
+IsTableCause p stride entries start before (Start fault) = AreTableSizes p stride entries before × IsProblem p × (start_fault p start ≡ Some fault)
 IsTableCause p stride entries start before NoMemory = AreTableSizes p stride entries before
 
 -- what a solve came to is right; where it is refused, nothing is written

@@ -1,5 +1,5 @@
 -- What a call tells: a status, and a few fields.
-use Rattle.std.specs.Prelude.{◌≡◌, ◌≢◌, ℤ, pos, List, [], ◌∷◌, Result, Ok, Err}
+use Rattle.std.specs.Prelude.{◌≡◌, ◌≢◌, ℕ, ℤ, pos, List, [], ◌∷◌, Result, Ok, Err}
 use Rattle.auc_call.specs.declared.found.Found.{Found}
 use Rattle.auc_call.specs.declared.solved.Solved.{Solved}
 use Rattle.auc_call.specs.declared.solved.Solved.TheVariants.{Optimal, Infeasible, Bracket}
@@ -8,7 +8,7 @@ use Rattle.auc_call.specs.declared.solved.Failed.TheVariants.{Sizes, Fault, Star
 use Rattle.auc_call.specs.declared.checked.Checked.{Checked}
 use Rattle.auc_call.specs.declared.checked.Checked.TheVariants.{Valid, Invalid}
 use Rattle.auc_call.specs.Codes.{list_kind, list_place, start_kind, start_place, limit_kind, claim_kind, claim_place}
-use Rattle.auc_call.specs.Memory.{Memory}
+use Rattle.auc_call.specs.Memory.{Memory, StaysAfter}
 
 -- every status of a solve
 abbrev pub solve_statuses : List ℤ
@@ -61,11 +61,13 @@ pub record KeepsFound (status : ℤ) (old new : Found) : Type 0 where
   pub kind : status ≢ pos 4 → status ≢ pos 5 → status ≢ pos 7 → new.kind ≡ old.kind
   pub place : status ≢ pos 5 → status ≢ pos 7 → new.place ≡ old.place
 
--- and so is what a solve writes
-pub record KeepsMemory (status : ℤ) (old new : Memory) : Type 0 where
+-- and so is what a solve writes; after a Hall set of so many persons and objects only these are new
+pub record KeepsMemory (status : ℤ) (persons objects : ℕ) (old new : Memory) : Type 0 where
   pub choice : status ≢ pos 0 → status ≢ pos 3 → status ≢ pos 4 → new.choice ≡ old.choice
   pub prices : status ≢ pos 0 → status ≢ pos 4 → new.prices ≡ old.prices
   pub set : status ≢ pos 3 → new.set ≡ old.set
+  pub after_persons : status ≡ pos 3 → StaysAfter persons old.choice new.choice
+  pub after_objects : status ≡ pos 3 → StaysAfter objects old.set new.set
 
 -- a check writes the kind and the place of a fault alone
 pub record KeepsChecked (status : ℤ) (old new : Found) : Type 0 where

@@ -43,10 +43,10 @@ fn solve_by(
     ensures infeasible { result ≡ pos 3 → IsHallAt (problem_from persons objects arcs.now) choice.new hall_objects.new found.new.persons found.new.objects }
     ensures bracket { result ≡ pos 4 → IsBracketTold (problem_from persons objects arcs.now) choice.new prices.new found.new.kind found.new.lower found.new.cost }
     ensures refused { result ≡ pos 5 → IsListFault (list_fault persons objects arcs.now) found.new.kind found.new.place }
-    ensures start { result ≡ pos 7 → IsStartFault (start_fault_by driver (problem_from persons objects arcs.now) start.now) found.new.kind found.new.place }
+    ensures start { result ≡ pos 7 → IsProblem (problem_from persons objects arcs.now) × IsStartFault (start_fault_by driver (problem_from persons objects arcs.now) start.now) found.new.kind found.new.place }
     ensures started { result ≢ pos 2 → result ≢ pos 5 → result ≢ pos 6 → result ≢ pos 7 → start_fault_by driver (problem_from persons objects arcs.now) start.now ≡ None }
     ensures run { IsToldBy driver (problem_from persons objects arcs.now) start.now bids (memory choice.new prices.new hall_objects.new) result found.old found.new }
-    ensures same { KeepsMemory result (memory choice.old prices.old hall_objects.old) (memory choice.new prices.new hall_objects.new) }
+    ensures same { KeepsMemory result found.new.persons found.new.objects (memory choice.old prices.old hall_objects.old) (memory choice.new prices.new hall_objects.new) }
     ensures same_found { KeepsFound result found.old found.new }
 {
     let solved = solve_into(
@@ -96,10 +96,10 @@ pub fn solve_call(
     ensures infeasible { result ≡ pos 3 → IsHallAt (problem_from persons objects arcs.now) choice.new hall_objects.new found.new.persons found.new.objects }
     ensures bracket { result ≡ pos 4 → IsBracketTold (problem_from persons objects arcs.now) choice.new prices.new found.new.kind found.new.lower found.new.cost }
     ensures refused { result ≡ pos 5 → IsListFault (list_fault persons objects arcs.now) found.new.kind found.new.place }
-    ensures start { result ≡ pos 7 → IsStartFault (start_fault (problem_from persons objects arcs.now) start.now) found.new.kind found.new.place }
+    ensures start { result ≡ pos 7 → IsProblem (problem_from persons objects arcs.now) × IsStartFault (start_fault (problem_from persons objects arcs.now) start.now) found.new.kind found.new.place }
     ensures started { result ≢ pos 2 → result ≢ pos 5 → result ≢ pos 6 → result ≢ pos 7 → start_fault (problem_from persons objects arcs.now) start.now ≡ None }
     ensures limit { result ≡ pos 4 → IsLimitTold (problem_from persons objects arcs.now) start.now bids choice.new prices.new found.new.kind found.new.lower found.new.cost }
-    ensures same { KeepsMemory result (memory choice.old prices.old hall_objects.old) (memory choice.new prices.new hall_objects.new) }
+    ensures same { KeepsMemory result found.new.persons found.new.objects (memory choice.old prices.old hall_objects.old) (memory choice.new prices.new hall_objects.new) }
     ensures same_found { KeepsFound result found.old found.new }
 {
     solve_by(
@@ -140,10 +140,10 @@ pub fn solve_by_messages_call(
     ensures infeasible { result ≡ pos 3 → IsHallAt (problem_from persons objects arcs.now) choice.new hall_objects.new found.new.persons found.new.objects }
     ensures bracket { result ≡ pos 4 → IsBracketTold (problem_from persons objects arcs.now) choice.new prices.new found.new.kind found.new.lower found.new.cost }
     ensures refused { result ≡ pos 5 → IsListFault (list_fault persons objects arcs.now) found.new.kind found.new.place }
-    ensures start { result ≡ pos 7 → IsStartFault (start_fault_by_messages (problem_from persons objects arcs.now) start.now) found.new.kind found.new.place }
+    ensures start { result ≡ pos 7 → IsProblem (problem_from persons objects arcs.now) × IsStartFault (start_fault_by_messages (problem_from persons objects arcs.now) start.now) found.new.kind found.new.place }
     ensures started { result ≢ pos 2 → result ≢ pos 5 → result ≢ pos 6 → result ≢ pos 7 → start_fault_by_messages (problem_from persons objects arcs.now) start.now ≡ None }
     ensures run { result ≢ pos 2 → result ≢ pos 5 → result ≢ pos 6 → result ≢ pos 7 → IsRunTold (problem_from persons objects arcs.now) start.now bids (memory choice.new prices.new hall_objects.new) result found.old found.new }
-    ensures same { KeepsMemory result (memory choice.old prices.old hall_objects.old) (memory choice.new prices.new hall_objects.new) }
+    ensures same { KeepsMemory result found.new.persons found.new.objects (memory choice.old prices.old hall_objects.old) (memory choice.new prices.new hall_objects.new) }
     ensures same_found { KeepsFound result found.old found.new }
 {
     solve_by(

@@ -1,6 +1,6 @@
 //! A certificate, written into the caller's memory.
 
-ghost use Rattle.std.specs.Prelude.{◌≡◌, ◌≤◌, length, take, List, ℕ};
+ghost use Rattle.std.specs.Prelude.{◌≡◌, ◌≤◌, length, drop, take, List, ℕ};
 ghost use Rattle.auc_answers.specs.Answers.{IsBracketCertificate, IsHallCertificate, IsLeastCertificate};
 ghost use Rattle.auc_call.specs.Memory.{memory};
 ghost use Rattle.auc_call.specs.Running.{IsWritten};
@@ -14,7 +14,8 @@ use auc_graph::ArcList;
 /// Writes numbers to the front.
 fn put_front(numbers: &[u32], target: &mut [u32])
     requires { length numbers.now ≤ length target.old }
-    ensures { take (length numbers.now) target.new ≡ numbers.now }
+    ensures front { take (length numbers.now) target.new ≡ numbers.now }
+    ensures after { drop (length numbers.now) target.new ≡ drop (length numbers.now) target.old }
 {
     target[..numbers.len()].copy_from_slice(numbers);
 }

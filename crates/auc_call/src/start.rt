@@ -6,10 +6,8 @@ ghost use Rattle.auc_direct.specs.Starts.{AreStartPrices};
 ghost use Rattle.auc_call.specs.Start.{CanStart, is_outside, outside, prices_fault, square_fault, start_fault_by};
 
 use crate::driver::Driver;
+use auc_cert::HIGHEST_START;
 use auc_graph::ArcList;
-
-/// The highest price that a run may start from, 2^60, on the scale of costs times persons + 1.
-const HIGHEST_START: i64 = 1_152_921_504_606_846_976;
 
 /// Why no run can start from the prices.
 #[derive(Clone, Copy, Debug, PartialEq, Eq)]

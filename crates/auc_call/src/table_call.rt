@@ -1,6 +1,7 @@
 //! The call over a table, with one promise a status.
 
 ghost use Rattle.std.specs.Prelude.{◌≡◌, ◌≢◌, ◌↔◌, Contains, None, length, pos};
+ghost use Rattle.auc_graph.specs.Problem.{IsProblem};
 ghost use Rattle.auc_call.specs.Memory.{memory};
 ghost use Rattle.auc_call.specs.Shown.{IsLeastAt, IsHallAt};
 ghost use Rattle.auc_call.specs.Start.{start_fault};
@@ -51,10 +52,10 @@ pub fn solve_table_call(
     ensures infeasible { result ≡ pos 3 → IsHallAt (table_problem persons objects costs.now stride none) choice.new hall_objects.new found.new.persons found.new.objects }
     ensures bracket { result ≡ pos 4 → ByObjects (table_problem persons objects costs.now stride none).arcs choice.new (λ places. IsBracketTold (table_problem persons objects costs.now stride none) places prices.new found.new.kind found.new.lower found.new.cost) }
     ensures refused { result ≡ pos 5 → IsListFault (table_fault (table_problem persons objects costs.now stride none)) found.new.kind found.new.place }
-    ensures start { result ≡ pos 7 → IsStartFault (start_fault (table_problem persons objects costs.now stride none) start.now) found.new.kind found.new.place }
+    ensures start { result ≡ pos 7 → IsProblem (table_problem persons objects costs.now stride none) × IsStartFault (start_fault (table_problem persons objects costs.now stride none) start.now) found.new.kind found.new.place }
     ensures started { result ≢ pos 2 → result ≢ pos 5 → result ≢ pos 6 → result ≢ pos 7 → start_fault (table_problem persons objects costs.now stride none) start.now ≡ None }
     ensures limit { result ≡ pos 4 → ByObjects (table_problem persons objects costs.now stride none).arcs choice.new (λ places. IsLimitTold (table_problem persons objects costs.now stride none) start.now bids places prices.new found.new.kind found.new.lower found.new.cost) }
-    ensures same { KeepsMemory result (memory choice.old prices.old hall_objects.old) (memory choice.new prices.new hall_objects.new) }
+    ensures same { KeepsMemory result found.new.persons found.new.objects (memory choice.old prices.old hall_objects.old) (memory choice.new prices.new hall_objects.new) }
     ensures same_found { KeepsFound result found.old found.new }
 {
     let solved = solve_table_into(

@@ -29,8 +29,8 @@ use Rattle.auc_answers.proofs.BracketLaws.{bound_fits, holders_price_few}
 use Rattle.auc_rows.specs.declared.arc.ShortArc.{ShortArc}
 use Rattle.auc_rows.specs.Rows.{AreRowsOf, AreSameRows, EachHasArc, FlatTable, IsFlatTable, flat_row_of, short, short_row}
 use Rattle.auc_direct.specs.declared.ending.Ending.{Ending}
-use Rattle.auc_direct.specs.Endings.{AreFirst, AreOfRun, HasReason, IsClaimOfFirst, IsClaimOfRun, IsLeft, IsLimit, IsLimited, IsLimitedBy, IsLimitedFrom, IsLimitedUnless, IsOfFirstPhases, IsOfPhases, IsOfPhasesFrom, IsStart, IsStopTold, IsToldOr}
-use Rattle.auc_direct.specs.Phases.{HasRun}
+use Rattle.auc_direct.specs.Endings.{AreAdopted, AreFirst, AreOfRun, HasReason, IsClaimOfFirst, IsClaimOfRun, IsLeft, IsLimit, IsLimited, IsLimitedBy, IsLimitedFrom, IsLimitedUnless, IsOfFirstPhases, IsOfPhases, IsOfPhasesFrom, IsStart, IsStopTold, IsToldOr}
+use Rattle.auc_direct.specs.Phases.{HasRun, IsAdopted, IsRun}
 use Rattle.auc_direct.specs.Held.{AreHeld, AreHolders, AreListed, arc_by}
 use Rattle.auc_direct.specs.Market.{EachHasRow, HaveObjects, Stands, holder_at, own_at}
 use Rattle.auc_direct.specs.Starts.{AreOpened}
@@ -257,15 +257,20 @@ stop_told p r rows prices holders owns held is sound are eps stands (Answer.Brok
 
 -- ---- phases have led to an answer
 
-module _ (p : Problem) (r : FlatTable) (rows : AreRowsOf p r) (bids : ℕ) (begun : List ℤ) (held : List (Option Held)) (prices : List ℤ) (run : HasRun r bids begun prices) where
-  of_run : AreOfRun p bids begun prices
-  of_run = (r, run.0, rows, run.1, run.2)
+module _ (p : Problem) (r : FlatTable) (rows : AreRowsOf p r) (bids : ℕ) (begun : List ℤ) (held : List (Option Held)) (prices : List ℤ) (run : HasRun r bids begun Ending.Sold prices) where
+  either : IsRun r bids begun run.0 ⊎ IsAdopted r run.0 → AreOfRun p bids begun prices ⊎ AreAdopted p prices
+  either (inl by) = inl (r, run.0, rows, run.1, by)
+  either (inr is) = inr (r, run.0, rows, run.1, is)
 
   pub sold_of_run : (answer : Answer) → IsOptimalAnswer p held prices answer → IsOfPhases p bids begun answer
-  sold_of_run (Answer.Optimal cert) h = subst (IsClaimOfRun p bids begun) (sym h.2) of_run
+  sold_of_run (Answer.Optimal cert) h = subst (IsClaimOfRun p bids begun) (sym h.2) (either run.2)
   sold_of_run (Answer.Infeasible cert) h = tt
   sold_of_run (Answer.Bracket cert) h = absurd h
   sold_of_run (Answer.Broken guard) h = tt
+
+module _ (p : Problem) (r : FlatTable) (rows : AreRowsOf p r) (bids : ℕ) (begun : List ℤ) (held : List (Option Held)) (prices : List ℤ) (run : HasRun r bids begun (Ending.Stopped Reason.Bids) prices) where
+  of_run : AreOfRun p bids begun prices
+  of_run = (r, run.0, rows, run.1, run.2)
 
   pub stopped_of_run : (reason : Reason) (answer : Answer) → IsInfeasibleAnswer p answer ⊎ (HasAssignment p × IsBracketAnswer p reason held prices answer) → IsOfPhases p bids begun answer
   stopped_of_run reason (Answer.Optimal cert) (inl h) = absurd h
@@ -294,7 +299,8 @@ none_of_first p bids (Answer.Bracket cert) h = absurd h
 none_of_first p bids (Answer.Broken guard) h = tt
 
 first_claim : (p : Problem) (bids : ℕ) (begun : List ℤ) (cert : CertParts) → AreFirst p begun → IsClaimOfRun p bids begun cert → IsClaimOfFirst p bids cert
-first_claim p bids begun (CertParts.Optimal cost choice prices) first run = (begun, first, run)
+first_claim p bids begun (CertParts.Optimal cost choice prices) first (inl run) = inl (begun, first, run)
+first_claim p bids begun (CertParts.Optimal cost choice prices) first (inr is) = inr is
 first_claim p bids begun (CertParts.Infeasible persons objects) first run = tt
 first_claim p bids begun (CertParts.Bracket reason lower cost choice prices) first run = (begun, first, run)
 

@@ -12,8 +12,7 @@ use Rattle.auc_direct.specs.Bids.{AreCounted, HaveRunOut, IsBidMade, IsPathMade,
 use Rattle.auc_direct.specs.Bids.AreMade.{bids, goes, opens}
 use Rattle.auc_direct.specs.Eps.{IsEpsOf}
 use Rattle.auc_direct.specs.Market.{Stands}
-use Rattle.auc_direct.proofs.MarketLaws.{total_set}
-use Rattle.auc_direct.proofs.Walks.{total_rises}
+use Rattle.auc_direct.proofs.MarketLaws.{total_rises, total_set}
 
 -- none so far
 pub made_none : (r : FlatTable) (eps : ℤ) (left : ℕ) (s : State) → AreSpent r eps left left s s

@@ -15,14 +15,7 @@ mod EndingLaws
 mod HeldLaws
 mod Choices
 mod Answering
-mod Seats
-mod Hops
-mod Labels
-mod Moves
-mod Slackness
 mod Serving
-mod Walks
-mod PathLaws
 mod Ways
 mod Refinement
 mod AdoptLaws

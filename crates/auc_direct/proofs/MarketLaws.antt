@@ -13,6 +13,7 @@ use Rattle.auc_rows.specs.declared.arc.ShortArc.{ShortArc}
 use Rattle.auc_rows.specs.Rows.{FlatTable, IsFlatTable, IsShort, flat_row_of, scale_in}
 use Rattle.auc_direct.specs.declared.holdings.TheConstants.{NOBODY}
 use Rattle.auc_direct.specs.Bid.{IsRaise}
+use Rattle.auc_direct.specs.Way.{IsWay}
 use Rattle.auc_direct.specs.Market.{AreSpare, HaveAllBut, IsAwarded, IsSlack, Stands, holder_at, no_own, own_at}
 use Rattle.auc_direct.proofs.BidLaws.{risen}
 
@@ -22,6 +23,12 @@ pub total_set : (prices : List ℤ) (j : ℕ) (amount : ℤ) → j < length pric
 total_set [] j amount lt = absurd (omega (arith, lt))
 total_set (z ∷ zs) zero amount lt = omega (arith, ints)
 total_set (z ∷ zs) (suc j) amount lt = let e = total_set zs j amount (omega (arith, lt)) in omega (arith, ints, e)
+
+pub total_rises : (old new : List ℤ) → length new ≡ length old → ((k : ℕ) → price_at old k ≤ℤ price_at new k) → total old ≤ℤ total new
+total_rises [] [] e rise = omega (arith, ints)
+total_rises [] (y ∷ ys) e rise = absurd (omega (arith, e))
+total_rises (x ∷ xs) [] e rise = absurd (omega (arith, e))
+total_rises (x ∷ xs) (y ∷ ys) e rise = let first = rise 0 in let r = total_rises xs ys (omega (arith, e)) (λ k. rise (suc k)) in omega (arith, ints, first, r)
 
 pub total_low : (prices : List ℤ) → All IsPrice prices → pos 0 ≤ℤ total prices
 total_low [] all = omega (arith, ints)
@@ -248,6 +255,19 @@ stands_by r eps prices these holders they owns those e f g h =
     (subst (λ (hs : List ℕ). Stands r eps prices hs those) (sym f)
     (subst (λ (os : List ShortArc). Stands r eps prices holders os) (sym g) h))
 
+-- an object is taken at a price that is no lower, by which its taker is within eps of his best
+pub way_taken : (r : FlatTable) (eps : ℤ) (person : ℕ) (prices new : List ℤ) (holders sold : List ℕ) (owns left : List ShortArc) (d : ℕ) (s : ShortArc) (amount : ℤ) → IsFlatTable r → Stands r eps prices holders owns → person < length r.rows → (own_at owns person).object ≡ NOBODY
+    → price_at prices s.object ≤ℤ amount → amount ≤ℤ pos (2 ^ 61) → IsSlack r eps (set prices s.object amount) person s → new ≡ set prices s.object amount → sold ≡ set holders s.object person → left ≡ set (set owns person s) (holder_at holders s.object) no_own → d ≡ holder_at holders s.object
+    → IsWay r eps person prices new sold owns left d
+way_taken r eps person prices new holders sold owns left d s amount sound stands known none up high fits e f g h =
+    record {
+      stands = stands_by r eps (set prices s.object amount) new (set holders s.object person) sold (set (set owns person s) (holder_at holders s.object) no_own) left e f g (stands_after r eps prices holders owns person s amount sound stands known none up fits high);
+      none = subst (λ (os : List ShortArc). (own_at os d).object ≡ NOBODY) (sym g) (subst (λ (m : ℕ). (own_at (set (set owns person s) (holder_at holders s.object) no_own) m).object ≡ NOBODY) (sym h) (gone r eps prices holders owns person s amount sound stands known none up fits));
+      but = λ n other b. subst (λ (os : List ShortArc). HaveAllBut n os d other) (sym g) (subst (λ (m : ℕ). HaveAllBut n (set (set owns person s) (holder_at holders s.object) no_own) m other) (sym h) (all_but r eps prices holders owns person s amount sound stands known none up fits n other b));
+      below = λ some. (let l = displaced_below r eps prices holders owns person s amount sound stands known none up fits (λ z. some (h ∙ z)) in omega (arith, l, h));
+      higher = λ k. (let up_k = rise r eps prices holders owns person s amount sound stands known none up fits k in rw e up_k);
+    }
+
 pub awarded : (r : FlatTable) (eps : ℤ) (person : ℕ) (prices new : List ℤ) (holders sold : List ℕ) (owns left : List ShortArc) (d : ℕ) (s : ShortArc) (amount : ℤ) → IsFlatTable r → IsEps eps → Stands r eps prices holders owns → person < length r.rows → (own_at owns person).object ≡ NOBODY
     → IsRaise (scale_in r) eps prices (flat_row_of r person) s amount → amount ≤ℤ pos (2 ^ 61) → new ≡ set prices s.object amount → sold ≡ set holders s.object person → left ≡ set (set owns person s) (holder_at holders s.object) no_own → d ≡ holder_at holders s.object
     → IsAwarded r eps person prices new sold owns left d
@@ -256,11 +276,12 @@ awarded r eps person prices new holders sold owns left d s amount sound is_eps s
     let e0 = is_eps.low in
     let up : price_at prices s.object ≤ℤ amount = omega (arith, ints, m, e0) in
     let fits : IsSlack r eps (set prices s.object amount) person s = record { listed = raise.listed; least = raise.slack } in
+    let way = way_taken r eps person prices new holders sold owns left d s amount sound stands known none up high fits e f g h in
     record {
-      stands = stands_by r eps (set prices s.object amount) new (set holders s.object person) sold (set (set owns person s) (holder_at holders s.object) no_own) left e f g (stands_after r eps prices holders owns person s amount sound stands known none up fits high);
+      stands = way.stands;
       more = rw e (let t = total_with r eps prices holders owns person s amount sound stands known none up fits in omega (arith, ints, t, m, e0));
-      none = subst (λ (os : List ShortArc). (own_at os d).object ≡ NOBODY) (sym g) (subst (λ (m : ℕ). (own_at (set (set owns person s) (holder_at holders s.object) no_own) m).object ≡ NOBODY) (sym h) (gone r eps prices holders owns person s amount sound stands known none up fits));
-      but = λ n other b. subst (λ (os : List ShortArc). HaveAllBut n os d other) (sym g) (subst (λ (m : ℕ). HaveAllBut n (set (set owns person s) (holder_at holders s.object) no_own) m other) (sym h) (all_but r eps prices holders owns person s amount sound stands known none up fits n other b));
-      below = λ some. (let l = displaced_below r eps prices holders owns person s amount sound stands known none up fits (λ z. some (h ∙ z)) in omega (arith, l, h));
-      higher = λ k. (let up_k = rise r eps prices holders owns person s amount sound stands known none up fits k in rw e up_k);
+      none = way.none;
+      but = way.but;
+      below = way.below;
+      higher = way.higher;
     }

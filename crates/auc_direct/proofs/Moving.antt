@@ -8,11 +8,11 @@ use Rattle.auc_letters.specs.Price.{IsEps}
 use Rattle.auc_rows.specs.declared.arc.ShortArc.{ShortArc}
 use Rattle.auc_rows.specs.Rows.{FlatTable, IsFlatTable, scale_in}
 use Rattle.auc_direct.specs.declared.ending.Ending.{Ending}
-use Rattle.auc_direct.specs.Bids.{AreCounted, AreSpent, IsBidMade}
+use Rattle.auc_direct.specs.Bids.{AreCounted, AreSpent, IsBidMade, State}
 use Rattle.auc_direct.specs.Endings.{IsEnding, IsLeft, IsOutcome, IsSold, IsStopped, IsToldOr}
 use Rattle.auc_direct.specs.Eps.{IsEpsOf}
 use Rattle.auc_direct.specs.Market.{HaveObjects, IsAbove, Stands}
-use Rattle.auc_direct.specs.Phases.{ArePhases, IsOpened, IsPhase}
+use Rattle.auc_direct.specs.Phases.{ArePhases, HasRun, IsOpened, IsPhase, IsRun}
 use Rattle.auc_direct.specs.Phases.ArePhases.{begins, opens, refines}
 use Rattle.auc_direct.specs.Position.{AreHandedOn, IsBegun, IsBid, IsMove, IsPlayed, IsPlayedAt, IsRefinedWhole, IsRefinement, IsRunOut, IsSlice, IsTried, Law, Plays, Position, Spends, state_at}
 use Rattle.auc_direct.specs.Way.{IsWay}
@@ -224,6 +224,11 @@ handed_left : (ending : Ending) (r : FlatTable) (b : Position) (prices : List �
 handed_left Ending.Sold r b prices holders owns table left h = rw (h.0, h.1, h.2) left
 handed_left (Ending.Stopped reason) r b prices holders owns table left h = (h.1.0, rw table at h.1.1, left.2)
 
+-- phases, however the last one has ended
+run_ended : (r : FlatTable) (bids : ℕ) (begun : List ℤ) (ending : Ending) (last : State) (prices : List ℤ) → last.prices ≡ prices → IsRun r bids begun last → HasRun r bids begun ending prices
+run_ended r bids begun Ending.Sold last prices same run = (last, same, inl run)
+run_ended r bids begun (Ending.Stopped reason) last prices same run = (last, same, run)
+
 -- what a run comes to that began with these prices
 pub outcome_of : (r : FlatTable) (bids : ℕ) (before after : Bool) (ending : Ending) (begun : List ℤ) (a b : Position) (prices : List ℤ) (holders : List ℕ) (owns : List ShortArc) → a.table ≡ r → a.prices ≡ begun → IsRunOut bids before after ending a b → AreHandedOn ending b prices holders owns → IsOutcome r bids begun before after ending prices holders owns
 outcome_of r bids before after ending begun a b prices holders owns table first is h =
@@ -231,5 +236,5 @@ outcome_of r bids before after ending begun a b prices holders owns table first 
     record {
       left = handed_left ending r b prices holders owns (is.table ∙ table) (rw table at is.left) h;
       stopped = rw same (rw (table, first) at is.stopped);
-      run = (state_at b, sym same, record { first = state_at a; begun_are = first; phases = rw table at is.phases });
+      run = run_ended r bids begun ending (state_at b) prices (sym same) (record { first = state_at a; begun_are = first; phases = rw table at is.phases });
     }

@@ -10,14 +10,13 @@ use Rattle.auc_direct.specs.Bids.AreMade.{opens as begins_at}
 use Rattle.auc_direct.specs.Eps.{IsEpsOf}
 use Rattle.auc_direct.specs.Market.{Stands, no_own, own_at}
 use Rattle.auc_direct.specs.Phases.{ArePhases, IsOpened, IsPhase, IsRefined}
-use Rattle.auc_direct.specs.Phases.ArePhases.{adopts, begins, opens, plays, refines}
+use Rattle.auc_direct.specs.Phases.ArePhases.{begins, opens, plays, refines}
 use Rattle.auc_direct.proofs.BidsLaws.{makes_on}
 
 pub phases_on : (r : FlatTable) (bids : ℕ) (s t u : State) → ArePhases r bids s t → ArePhases r bids t u → ArePhases r bids s u
 phases_on r bids s t u first (begins v same) = subst (ArePhases r bids s) (sym same) first
 phases_on r bids s t u first (plays v w run phase) = plays v w (phases_on r bids s t v first run) phase
 phases_on r bids s t u first (opens v w run opened) = opens v w (phases_on r bids s t v first run) opened
-phases_on r bids s t u first (adopts v w run is) = adopts v w (phases_on r bids s t v first run) is
 phases_on r bids s t u first (refines v w run refined) = refines v w (phases_on r bids s t v first run) refined
 
 -- however a phase ends, it has made no more bids than it may

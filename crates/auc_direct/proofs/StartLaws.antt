@@ -1,21 +1,19 @@
 -- What a run from start prices begins with.
 use Rattle.std.proofs.Common.{ℕ, ℤ, pos, ◌+◌, ◌<◌, ◌≡◌, ◌≢◌, arith, Contains, List, length, get_or, replicate, set, inl, inr, ap, sym, subst, ◌∙◌}
-use Rattle.std.specs.Prelude.{All, ◌⊎◌, ◌+ℤ◌, ◌≤ℤ◌}
+use Rattle.std.specs.Prelude.{All, ◌⊎◌, ◌≤ℤ◌}
 use Rattle.std.proofs.lemmas.Bool.{cases_eq}
 use Rattle.std.proofs.lemmas.Int.{ints}
-use Rattle.std.proofs.lemmas.List.{get_or_default, get_or-set_same, get_or-set_other, length-set, set-get_or}
+use Rattle.std.proofs.lemmas.List.{get_or-set_same, get_or-set_other, length-set, set-get_or}
 use Rattle.std.proofs.lemmas.List.Elements.{All-contains, All-get_or, All-set}
 use Rattle.auc_answers.proofs.NewShards.{replicate_default}
 use Rattle.auc_graph.specs.Dual.{price_at}
 use Rattle.auc_graph.specs.Price.{IsPrice}
 use Rattle.auc_rows.specs.declared.arc.ShortArc.{ShortArc}
-use Rattle.auc_rows.specs.Rows.{FlatTable, IsFlatTable, IsShort, flat_row_of, scale_in}
+use Rattle.auc_rows.specs.Rows.{FlatTable, IsFlatTable, IsShort, flat_row_of}
 use Rattle.auc_direct.specs.declared.holdings.TheConstants.{NOBODY}
 use Rattle.auc_direct.specs.Endings.{IsStart}
 use Rattle.auc_direct.specs.Market.{AreSpare, IsSlack, Stands, holder_at, no_own, own_at}
-use Rattle.auc_direct.specs.declared.scan.Found.{Found}
-use Rattle.auc_direct.specs.Scan.{IsFound, no_arc, short_value}
-use Rattle.auc_direct.specs.Starts.{AreKept, AreOpened, ArePricesOf, AreSeated, IsFreeWithin, any_eps}
+use Rattle.auc_direct.specs.Starts.{AreKept, AreOpened, ArePricesOf, AreSeated, any_eps}
 use Rattle.auc_direct.proofs.Bounds.{value_in}
 use Rattle.auc_direct.proofs.MarketLaws as market
 use Rattle.auc_direct.proofs.Opening.{stands_opened}
@@ -33,23 +31,6 @@ any_slack r prices i s sound within many listed = record {
       omega (arith, ints, h, l)
       );
 }
-
--- no arc of a row is worth less than the one that was found
-found_least : (val : ShortArc → ℤ) (row : List ShortArc) (found : Found) → IsFound val row (length row) found → All (λ b. found.value ≤ℤ val b) row
-found_least val row found f k d lt = subst (λ (b : ShortArc). found.value ≤ℤ val b) (get_or_default row k no_arc d lt) (elim (cases_eq k found.place) [
-  | inl same ↦ (let e = ap (λ (m : ℕ). val (get_or row m no_arc)) same in let v = f.is in omega (arith, ints, e, v))
-  | inr other ↦ (let o = f.others k lt other in let l = f.least in omega (arith, ints, o, l))
-])
-
--- an arc of a person that is worth no more than that and eps
-pub within_found : (r : FlatTable) (eps : ℤ) (prices : List ℤ) (i : ℕ) (row : List ShortArc) (s : ShortArc) (scale value : ℤ) (found : Found) → row ≡ flat_row_of r i → scale ≡ scale_in r → IsFound (short_value scale prices) row (length row) found → Contains row s → value ≡ short_value scale prices s → value ≤ℤ (found.value +ℤ eps) → IsSlack r eps prices i s
-within_found r eps prices i row s scale value found e f is listed worth le =
-    let all = found_least (short_value scale prices) row found is in
-    let slack : All (λ b. short_value scale prices s ≤ℤ (short_value scale prices b +ℤ eps)) row = λ k d lt. (let l = all k d lt in omega (arith, ints, l, worth, le)) in
-    record {
-      listed = subst (λ (xs : List ShortArc). Contains xs s) e listed;
-      least = subst (λ (xs : List ShortArc). All (λ b. short_value (scale_in r) prices s ≤ℤ (short_value (scale_in r) prices b +ℤ eps)) xs) e (subst (λ (z : ℤ). All (λ b. short_value z prices s ≤ℤ (short_value z prices b +ℤ eps)) row) f slack);
-    }
 
 -- ---- prices that stay, or are 0
 
@@ -69,10 +50,9 @@ kept_on a b c first second j = by (first j) (second j)
 
 -- ---- before anybody keeps anything
 
-pub seated_none : (r : FlatTable) (eps : ℤ) (start prices : List ℤ) (holders : List ℕ) (owns : List ShortArc) (n m : ℕ) → IsStart r (pos 1) prices → AreKept start prices → (r.objects ≡ length r.rows → prices ≡ start) → n ≡ r.objects → m ≡ length r.rows → holders ≡ replicate n NOBODY → owns ≡ replicate m no_own → AreSeated r eps start prices holders owns
-seated_none r eps start prices holders owns n m is kept same objects persons nobody none = record {
+pub seated_none : (r : FlatTable) (start prices : List ℤ) (holders : List ℕ) (owns : List ShortArc) (n m : ℕ) → IsStart r (pos 1) prices → AreKept start prices → (r.objects ≡ length r.rows → prices ≡ start) → n ≡ r.objects → m ≡ length r.rows → holders ≡ replicate n NOBODY → owns ≡ replicate m no_own → AreSeated r start prices holders owns
+seated_none r start prices holders owns n m is kept same objects persons nobody none = record {
   stands = stands_opened r (pos 1) any_eps prices holders owns n m is objects persons nobody none;
-  within = λ i some. absurd (some (ap (λ (os : List ShortArc). (own_at os i).object) none ∙ ap (λ (s : ShortArc). s.object) (replicate_default m i no_own)));
   kept = kept;
   same = same;
 }
@@ -82,7 +62,7 @@ nothing_owned owns m e i = ap (λ (os : List ShortArc). (own_at os i).object) e 
 
 -- ---- a person takes an object at its start price
 
-module _ (r : FlatTable) (eps : ℤ) (start prices : List ℤ) (holders : List ℕ) (owns : List ShortArc) (i : ℕ) (s : ShortArc) (sound : IsFlatTable r) (priced : ArePricesOf r start) (seated : AreSeated r eps start prices holders owns) (known : i < length r.rows) (none : (own_at owns i).object ≡ NOBODY) (is : IsFreeWithin r eps start holders i s) where
+module _ (r : FlatTable) (start prices : List ℤ) (holders : List ℕ) (owns : List ShortArc) (i : ℕ) (s : ShortArc) (sound : IsFlatTable r) (priced : ArePricesOf r start) (seated : AreSeated r start prices holders owns) (known : i < length r.rows) (none : (own_at owns i).object ≡ NOBODY) (listed : Contains (flat_row_of r i) s) where
   abbrev amount : ℤ
   amount = price_at start s.object
 
@@ -96,7 +76,7 @@ module _ (r : FlatTable) (eps : ℤ) (start prices : List ℤ) (holders : List �
   left = set (set owns i s) (holder_at holders s.object) no_own
 
   pub object_in : s.object < r.objects
-  object_in = (All-contains (IsShort r.objects) (flat_row_of r i) s (sound.each i) is.slack.listed).object
+  object_in = (All-contains (IsShort r.objects) (flat_row_of r i) s (sound.each i) listed).object
 
   price : IsPrice amount
   price = All-get_or IsPrice start s.object (pos 0) (let o = object_in in let e = priced.each in omega (arith, o, e)) priced.within
@@ -109,14 +89,7 @@ module _ (r : FlatTable) (eps : ℤ) (start prices : List ℤ) (holders : List �
       by (inr z) = let l = price.low in omega (arith, ints, z, l)
 
   fits : IsSlack r any_eps new i s
-  fits = any_slack r new i s sound (All-set IsPrice prices s.object amount price seated.stands.within) (length-set prices s.object amount ∙ seated.stands.prices_are) is.slack.listed
-
-  within_after : (k : ℕ) → (own_at left k).object ≢ NOBODY → IsSlack r eps start k (own_at left k)
-  within_after k some =
-      elim (cases_eq k i) [
-        | inl e ↦ subst (λ (m : ℕ). IsSlack r eps start m (own_at left m)) (sym e) (subst (IsSlack r eps start i) (sym (market.own_new r any_eps prices holders owns i s amount sound seated.stands known none up fits)) is.slack)
-        | inr ne ↦ (let b = market.had_before r any_eps prices holders owns i s amount sound seated.stands known none up fits k ne some in subst (IsSlack r eps start k) (sym b.0) (seated.within k b.1))
-      ]
+  fits = any_slack r new i s sound (All-set IsPrice prices s.object amount price seated.stands.within) (length-set prices s.object amount ∙ seated.stands.prices_are) listed
 
   kept_after : AreKept start new
   kept_after k =
@@ -132,10 +105,9 @@ module _ (r : FlatTable) (eps : ℤ) (start prices : List ℤ) (holders : List �
   same_after : r.objects ≡ length r.rows → new ≡ start
   same_after square = let e = seated.same square in ap (λ (ps : List ℤ). set ps s.object amount) e ∙ set-get_or start s.object (pos 0)
 
-  pub seated_after : AreSeated r eps start new sold left
+  pub seated_after : AreSeated r start new sold left
   seated_after = record {
     stands = market.stands_after r any_eps prices holders owns i s amount sound seated.stands known none up fits price.high;
-    within = within_after;
     kept = kept_after;
     same = same_after;
   }
@@ -261,15 +233,6 @@ within_next r eps prices owns n below here i lt =
       | inl e ↦ subst (λ (m : ℕ). (own_at owns m).object ≢ NOBODY → IsSlack r eps prices m (own_at owns m)) (sym e) here
       | inr ne ↦ below i (grind (arith, lt, ne))
     ]
-
--- once the prices are those of the start
-pub stands_paid : (r : FlatTable) (eps : ℤ) (start prices : List ℤ) (holders : List ℕ) (owns : List ShortArc) → IsFlatTable r → AreSeated r eps start prices holders owns → prices ≡ start → Stands r eps prices holders owns
-stands_paid r eps start prices holders owns sound seated same =
-    stands_within r eps prices holders owns sound seated.stands (λ i lt some. subst (λ (ps : List ℤ). IsSlack r eps ps i (own_at owns i)) (sym same) (seated.within i some))
-
-pub stands_seated : (r : FlatTable) (eps : ℤ) (start prices : List ℤ) (holders : List ℕ) (owns : List ShortArc) → IsFlatTable r → AreSeated r eps start prices holders owns → r.objects ≡ length r.rows → Stands r eps prices holders owns
-stands_seated r eps start prices holders owns sound seated square =
-    stands_paid r eps start prices holders owns sound seated (seated.same square)
 
 pub opened_same : (r : FlatTable) (start prices : List ℤ) → r.objects ≡ length r.rows → prices ≡ start → AreOpened r.objects (length r.rows) start prices
 opened_same r start prices square e = record { each = ap length e; same = λ s. e; kept = kept_all start prices e }

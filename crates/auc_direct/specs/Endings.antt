@@ -1,5 +1,5 @@
 -- What a chain of bids, a phase and a run come to.
-use Rattle.std.specs.Prelude.{Bool, true, ℕ, ℤ, pos, ◌≡◌, ◌≢◌, ◌⊎◌, ◌+ℤ◌, ◌≤ℤ◌, List, length, All}
+use Rattle.std.specs.Prelude.{Bool, true, ℕ, ℤ, pos, ◌≡◌, ◌⊎◌, ◌+ℤ◌, ◌≤ℤ◌, List, length, All}
 use Rattle.auc_cert.specs.declared.cert.CertParts.{CertParts}
 use Rattle.auc_cert.specs.declared.reason.Reason.{Reason}
 use Rattle.auc_graph.specs.Assignment.{total}
@@ -11,12 +11,10 @@ use Rattle.auc_answers.specs.declared.answer.Answer.{Answer}
 use Rattle.auc_rows.specs.declared.arc.ShortArc.{ShortArc}
 use Rattle.auc_rows.specs.Rows.{AreRowsOf, AreSameRows, FlatTable}
 use Rattle.auc_direct.specs.declared.ending.Ending.{Ending}
-use Rattle.auc_direct.specs.declared.ending.PathStep.{PathStep}
-use Rattle.auc_direct.specs.declared.holdings.TheConstants.{NOBODY}
 use Rattle.auc_direct.specs.Bids.{HaveRunOut, State}
 use Rattle.auc_direct.specs.Eps.{IsEpsOf}
-use Rattle.auc_direct.specs.Phases.{HasRun, IsRun}
-use Rattle.auc_direct.specs.Market.{AreHigher, HaveObjects, IsAbove, Stands, own_at}
+use Rattle.auc_direct.specs.Phases.{HasRun, IsAdopted, IsRun}
+use Rattle.auc_direct.specs.Market.{HaveObjects, IsAbove, Stands}
 use Rattle.auc_direct.specs.Starts.{AreOpened}
 
 -- Why a phase may be stopped: it has made as many bids as it may, and the prices add up to more than those that the run began with, by no less than the bids that a phase may
@@ -70,7 +68,7 @@ IsToldOr before after ending Holds = ((after ≡ true) × (ending ≡ Ending.Sto
 pub record IsOutcome (r : FlatTable) (bids : ℕ) (begun : List ℤ) (before after : Bool) (ending : Ending) (prices : List ℤ) (holders : List ℕ) (owns : List ShortArc) : Type 0 where
   pub left : IsLeft r ending prices holders owns
   pub stopped : IsToldOr before after ending (IsStopped r bids (total begun) ending prices)
-  pub run : HasRun r bids begun prices
+  pub run : HasRun r bids begun ending prices
 
 abbrev pub IsLimitedBy : Problem → ℕ → ℤ → CertParts → Type 0
 IsLimitedBy p bids begun (CertParts.Optimal cost choice prices) = Unit {0}
@@ -110,12 +108,16 @@ IsLimitedUnless before after answer Holds = ((after ≡ true) × IsStopTold answ
 abbrev pub AreOfRun : Problem → ℕ → List ℤ → List ℤ → Type 0
 AreOfRun p bids begun prices = (r : FlatTable) × (last : State) × AreRowsOf p r × (last.prices ≡ prices) × IsRun r bids begun last
 
+-- prices that a search over a full table has proposed, at which each person has an object within 1 of his best
+abbrev pub AreAdopted : Problem → List ℤ → Type 0
+AreAdopted p prices = (r : FlatTable) × (last : State) × AreRowsOf p r × (last.prices ≡ prices) × IsAdopted r last
+
 abbrev pub IsClaimOfRun : Problem → ℕ → List ℤ → CertParts → Type 0
-IsClaimOfRun p bids begun (CertParts.Optimal cost choice prices) = AreOfRun p bids begun prices
+IsClaimOfRun p bids begun (CertParts.Optimal cost choice prices) = AreOfRun p bids begun prices ⊎ AreAdopted p prices
 IsClaimOfRun p bids begun (CertParts.Infeasible persons objects) = Unit {0}
 IsClaimOfRun p bids begun (CertParts.Bracket reason lower cost choice prices) = AreOfRun p bids begun prices
 
--- No phase of the run that an answer comes from has made more bids than it may: the answer's prices are what such phases come to. Where there is no assignment nothing is said of phases.
+-- No phase of the run that an answer comes from has made more bids than it may: the answer's prices are what such phases come to, or those of a full table that was searched as one. Where there is no assignment nothing is said of phases.
 abbrev pub IsOfPhases : Problem → ℕ → List ℤ → Answer → Type 0
 IsOfPhases p bids begun (Answer.Optimal cert) = IsClaimOfRun p bids begun cert
 IsOfPhases p bids begun (Answer.Infeasible cert) = Unit {0}
@@ -129,7 +131,7 @@ pub record AreFirst (p : Problem) (prices : List ℤ) : Type 0 where
   pub spare : (p.objects ≡ p.persons) ⊎ ((j : ℕ) → price_at prices j ≡ pos 0)
 
 abbrev pub IsClaimOfFirst : Problem → ℕ → CertParts → Type 0
-IsClaimOfFirst p bids (CertParts.Optimal cost choice prices) = (begun : List ℤ) × AreFirst p begun × AreOfRun p bids begun prices
+IsClaimOfFirst p bids (CertParts.Optimal cost choice prices) = ((begun : List ℤ) × AreFirst p begun × AreOfRun p bids begun prices) ⊎ AreAdopted p prices
 IsClaimOfFirst p bids (CertParts.Infeasible persons objects) = Unit {0}
 IsClaimOfFirst p bids (CertParts.Bracket reason lower cost choice prices) = (begun : List ℤ) × AreFirst p begun × AreOfRun p bids begun prices
 
@@ -145,9 +147,3 @@ pub record IsOfPhasesFrom (p : Problem) (bids : ℕ) (start : List ℤ) (answer 
   pub begun : List ℤ
   pub opened : AreOpened p.objects p.persons start begun
   pub run : IsOfPhases p bids begun answer
-
--- A path leaves what stands between two bids, the person has an object, nobody else has got or lost one, and no price has fallen; or nothing has changed.
-abbrev pub IsPathStep : FlatTable → ℤ → ℕ → PathStep → List ℤ → List ℕ → List ShortArc → List ℤ → List ℕ → List ShortArc → Type 0
-IsPathStep r eps start PathStep.Placed prices holders owns new sold left = Stands r eps new sold left × (total prices ≤ℤ total new) × ((own_at left start).object ≢ NOBODY) × ((i : ℕ) → (own_at owns i).object ≢ NOBODY → (own_at left i).object ≢ NOBODY) × AreHigher prices new × ((i : ℕ) → i ≢ start → (own_at owns i).object ≡ NOBODY → (own_at left i).object ≡ NOBODY)
-IsPathStep r eps start PathStep.Stayed prices holders owns new sold left = (new ≡ prices) × (sold ≡ holders) × (left ≡ owns)
-IsPathStep r eps start PathStep.Closed prices holders owns new sold left = (new ≡ prices) × (sold ≡ holders) × (left ≡ owns)

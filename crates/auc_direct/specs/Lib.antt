@@ -13,7 +13,5 @@ pub mod Incumbent
 pub mod Position
 pub mod Held
 pub mod Path
-pub mod Refine
 pub mod Hall
 pub mod Halts
-pub mod Labelled

@@ -1,7 +1,8 @@
 -- The phases of a run, one after another, and what is done between them.
-use Rattle.std.specs.Prelude.{ℕ, ℤ, pos, ◌≡◌, ◌≤ℤ◌, List, length}
+use Rattle.std.specs.Prelude.{ℕ, ℤ, pos, ◌≡◌, ◌⊎◌, ◌≤ℤ◌, List, length}
 use Rattle.auc_graph.specs.Assignment.{total}
 use Rattle.auc_rows.specs.Rows.{FlatTable}
+use Rattle.auc_direct.specs.declared.ending.Ending.{Ending}
 use Rattle.auc_direct.specs.declared.holdings.TheConstants.{NOBODY}
 use Rattle.auc_direct.specs.Adopted.{IsFullTable}
 use Rattle.auc_direct.specs.Bids.{AreMadeWithin, State}
@@ -36,7 +37,6 @@ pub data ArePhases (r : FlatTable) (bids : ℕ) (s : State) : State → Type 0 w
   begins : (t : State) → t ≡ s → ArePhases r bids s t
   plays : (t u : State) → ArePhases r bids s t → IsPhase r bids t u → ArePhases r bids s u
   opens : (t u : State) → ArePhases r bids s t → IsOpened t u → ArePhases r bids s u
-  adopts : (t u : State) → ArePhases r bids s t → IsAdopted r u → ArePhases r bids s u
   refines : (t u : State) → ArePhases r bids s t → IsRefined t u → ArePhases r bids s u
 
 -- such phases lead from these prices to a state
@@ -45,6 +45,7 @@ pub record IsRun (r : FlatTable) (bids : ℕ) (begun : List ℤ) (last : State) 
   pub begun_are : first.prices ≡ begun
   pub phases : ArePhases r bids first last
 
--- and from these prices to those
-abbrev pub HasRun : FlatTable → ℕ → List ℤ → List ℤ → Type 0
-HasRun r bids begun prices = (last : State) × (last.prices ≡ prices) × IsRun r bids begun last
+-- How a run from these prices comes to those: by such phases; or, where all is sold, a search over a full table has proposed them.
+abbrev pub HasRun : FlatTable → ℕ → List ℤ → Ending → List ℤ → Type 0
+HasRun r bids begun Ending.Sold prices = (last : State) × (last.prices ≡ prices) × (IsRun r bids begun last ⊎ IsAdopted r last)
+HasRun r bids begun (Ending.Stopped reason) prices = (last : State) × (last.prices ≡ prices) × IsRun r bids begun last

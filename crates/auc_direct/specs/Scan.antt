@@ -1,8 +1,10 @@
 -- One pass over a row.
-use Rattle.std.specs.Prelude.{ℕ, ℤ, pos, neg_ℤ, ◌≡◌, ◌≢◌, ◌⊎◌, ◌+◌, ◌-◌, ◌<◌, ◌^◌, ◌≤ℤ◌, ◌<ℤ◌, List, slice_index_or}
+use Rattle.std.specs.Prelude.{ℕ, ℤ, pos, neg_ℤ, ◌≡◌, ◌≢◌, ◌⊎◌, ◌+◌, ◌-◌, ◌<◌, ◌^◌, ◌≤ℤ◌, ◌<ℤ◌, List, length, All, slice_index_or}
 use Rattle.auc_graph.specs.Dual.{price_at}
+use Rattle.auc_graph.specs.Price.{IsPrice}
 use Rattle.auc_graph.specs.Value.{value_at}
 use Rattle.auc_rows.specs.declared.arc.ShortArc.{ShortArc}
+use Rattle.auc_rows.specs.Rows.{IsShort}
 use Rattle.auc_direct.specs.declared.scan.Found.{Found}
 
 -- what an arc is worth at prices
@@ -17,6 +19,17 @@ endless = pos (2 ^ 63 - 1)
 pub record IsValue (v : ℤ) : Type 0 where
   pub low : neg_ℤ (pos (2 ^ 44)) ≤ℤ v
   pub high : v ≤ℤ pos (2 ^ 61 + 2 ^ 44)
+
+-- by what costs are scaled: one more than there are persons
+pub record IsScale (scale : ℤ) : Type 0 where
+  pub low : pos 1 ≤ℤ scale
+  pub high : scale ≤ℤ pos 10001
+
+-- arcs to objects that have these prices
+pub record IsPricedRow (scale : ℤ) (prices : List ℤ) (row : List ShortArc) : Type 0 where
+  pub scale_is : IsScale scale
+  pub arcs : All (IsShort (length prices)) row
+  pub within : All IsPrice prices
 
 -- what is read past the end of a row
 abbrev pub no_arc : ShortArc

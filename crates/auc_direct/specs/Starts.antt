@@ -1,13 +1,12 @@
 -- What a run may start from, and what its opening leaves.
-use Rattle.std.specs.Prelude.{ℕ, ℤ, pos, ◌≡◌, ◌≢◌, ◌⊎◌, ◌^◌, List, length, All}
+use Rattle.std.specs.Prelude.{ℕ, ℤ, pos, ◌≡◌, ◌⊎◌, ◌^◌, List, length, All}
 use Rattle.auc_cert.specs.Start.{IsStartPrice}
 use Rattle.auc_graph.specs.Dual.{price_at}
 use Rattle.auc_graph.specs.Problem.{Problem}
 use Rattle.auc_graph.specs.Price.{IsPrice}
 use Rattle.auc_rows.specs.declared.arc.ShortArc.{ShortArc}
 use Rattle.auc_rows.specs.Rows.{FlatTable}
-use Rattle.auc_direct.specs.declared.holdings.TheConstants.{NOBODY}
-use Rattle.auc_direct.specs.Market.{IsSlack, Stands, holder_at, own_at}
+use Rattle.auc_direct.specs.Market.{Stands}
 
 -- for each object a price from which a run may start, from 0 to 2^60
 pub record AreStartPrices (p : Problem) (start : List ℤ) : Type 0 where
@@ -33,15 +32,8 @@ pub record AreOpened (objects persons : ℕ) (start begun : List ℤ) : Type 0 w
 abbrev pub any_eps : ℤ
 any_eps = pos (2 ^ 62)
 
--- While persons take objects at start prices: each who has one is within eps of his best at those prices, and only what is held has a
--- price of them where there are more objects than persons.
-pub record AreSeated (r : FlatTable) (eps : ℤ) (start prices : List ℤ) (holders : List ℕ) (owns : List ShortArc) : Type 0 where
+-- While persons take objects at start prices: each price is the start's, or 0, and with as many objects as persons the former; of slackness nothing is known.
+pub record AreSeated (r : FlatTable) (start prices : List ℤ) (holders : List ℕ) (owns : List ShortArc) : Type 0 where
   pub stands : Stands r any_eps prices holders owns
-  pub within : (i : ℕ) → (own_at owns i).object ≢ NOBODY → IsSlack r eps start i (own_at owns i)
   pub kept : AreKept start prices
   pub same : r.objects ≡ length r.rows → prices ≡ start
-
--- an arc to an object that nobody holds, within eps of the person's best
-pub record IsFreeWithin (r : FlatTable) (eps : ℤ) (start : List ℤ) (holders : List ℕ) (i : ℕ) (s : ShortArc) : Type 0 where
-  pub free : holder_at holders s.object ≡ NOBODY
-  pub slack : IsSlack r eps start i s

@@ -1,17 +1,13 @@
 //! A full table, solved by a search over its costs of which nothing is proved: persons try what it proposes before they take it.
 
-ghost use Rattle.std.specs.Prelude.{ℕ, ◌≡◌, ◌≢◌, ◌<◌, pos, length, IfOk, IfSome};
-ghost use Rattle.auc_rows.specs.Rows.{IsFlatTable};
-ghost use Rattle.auc_direct.specs.declared.holdings.TheConstants.{NOBODY};
+ghost use Rattle.std.specs.Prelude.{pos, length, IfOk, IfSome};
 ghost use Rattle.auc_direct.specs.Adopted.{IsFullTable};
-ghost use Rattle.auc_direct.specs.Market.{HaveObjects, Stands, own_at};
-ghost use Rattle.auc_direct.specs.Starts.{ArePricesOf, AreSeated};
+ghost use Rattle.auc_direct.specs.Market.{HaveObjects, Stands};
+ghost use Rattle.auc_direct.specs.Starts.{ArePricesOf};
 
-use crate::bid::Bid;
 use crate::eps::LAST_EPS;
 use crate::from_start::prices_before;
-use crate::holdings::{Holdings, NOBODY};
-use crate::slack::is_slack;
+use crate::holdings::Holdings;
 use auc_rows::FlatRows;
 use auc_table::{Proposal, Table, propose};
 use std::alloc::{AllocError, Global};
@@ -59,34 +55,7 @@ fn scaled_prices(rows: &FlatRows, mut prices: Vec<i64>) -> Option<Vec<i64>>
     Some(prices)
 }
 
-impl Holdings {
-    /// A person takes the object that is proposed for him, at the price that is. Not where somebody has it, or where another one is better for him by more than the last eps.
-    fn take(&mut self, rows: &FlatRows, start: &[i64], person: u32, object: u32)
-        requires person { person < length rows.now.rows }
-        requires sound { IsFlatTable rows.now }
-        requires start { ArePricesOf rows.now start.now }
-        requires seated { AreSeated rows.now (pos 1) start.now self.old.prices.items self.old.holders.items self.old.owns.items }
-        requires none { (own_at self.old.owns.items person).object ≡ NOBODY }
-        ensures seated { AreSeated rows.now (pos 1) start.now self.new.prices.items self.new.holders.items self.new.owns.items }
-        ensures none { (i : ℕ) → i ≢ person → (own_at self.old.owns.items i).object ≡ NOBODY → (own_at self.new.owns.items i).object ≡ NOBODY }
-    {
-        let row = rows.row(person);
-        if object as usize >= row.len() {
-            return;
-        }
-        let arc = row[object as usize];
-        if self.holders[arc.object as usize] != NOBODY {
-            return;
-        }
-        if !is_slack(rows, LAST_EPS, start, person, arc) {
-            return;
-        }
-        let amount = start[arc.object as usize];
-        self.award(person, Bid { amount, arc });
-    }
-}
-
-/// The holdings of a proposal, where each person takes his object at its prices, and nobody is left out. What nobody takes must have no price where there are more objects than persons.
+/// The holdings of a proposal, where each person takes his object at its price, nobody is left out, and each is within the last eps of his best. What nobody takes has no price where there are more objects than persons.
 fn tried(alloc: Global, rows: &FlatRows, proposal: Proposal) -> Result<Option<Holdings>, AllocError>
     ensures stands { IfOk result (λ o. IfSome o (λ m. Stands rows.now (pos 1) m.prices.items m.holders.items m.owns.items)) }
     ensures have { IfOk result (λ o. IfSome o (λ m. HaveObjects (length rows.now.rows) m.owns.items)) }
@@ -106,13 +75,12 @@ fn tried(alloc: Global, rows: &FlatRows, proposal: Proposal) -> Result<Option<Ho
     let before = prices_before(alloc, rows, start.as_slice())?;
     let mut holdings = Holdings::new(alloc, persons, before)?;
     for person in 0..persons {
-        holdings.take(rows, start.as_slice(), person, objects[person as usize]);
+        holdings.seat(rows, start.as_slice(), person, objects[person as usize]);
     }
     if !holdings.all_have() {
         return Ok(None);
     }
-    // Prices that nobody has paid stayed at 0 where there are more objects than persons.
-    if holdings.prices.as_slice() != start.as_slice() {
+    if !holdings.all_within(rows, LAST_EPS) {
         return Ok(None);
     }
     Ok(Some(holdings))

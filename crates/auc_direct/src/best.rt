@@ -3,7 +3,7 @@
 ghost use Rattle.std.specs.Prelude.{◌<◌, pos, ◌≤ℤ◌, All, length};
 ghost use Rattle.auc_graph.specs.Price.{IsPrice};
 ghost use Rattle.auc_rows.specs.Rows.{IsShort};
-ghost use Rattle.auc_direct.specs.Scan.{short_value};
+ghost use Rattle.auc_direct.specs.Scan.{IsPricedRow, short_value};
 ghost use Rattle.auc_direct.specs.Shortlist.{IsBest};
 
 use crate::scan::scan;
@@ -20,11 +20,8 @@ pub(crate) struct Best {
 /// The best arc of a row, by a pass over all of it.
 #[inline(always)]
 pub(crate) fn best_of(scale: i64, row: &[ShortArc], prices: &[i64]) -> Best
-    requires scale_low { pos 1 ≤ℤ scale }
-    requires scale_high { scale ≤ℤ pos 10001 }
+    requires priced { IsPricedRow scale prices.now row.now }
     requires some { 0 < length row.now }
-    requires row { All (IsShort (length prices.now)) row.now }
-    requires prices { All IsPrice prices.now }
     ensures { IsBest (short_value scale prices.now) row.now result }
 {
     let found = scan(scale, row, prices);

@@ -21,14 +21,3 @@ pub(crate) enum Ending {
     /// A limit has stopped it.
     Stopped(Reason),
 }
-
-/// What became of a search for a path.
-#[derive(Clone, Copy, Debug, PartialEq, Eq)]
-pub(crate) enum PathStep {
-    /// The free person has an object, and nobody else is free for it.
-    Placed,
-    /// A price would pass the greatest, so nothing has changed.
-    Stayed,
-    /// No object that nobody holds is in reach, so nothing has changed.
-    Closed,
-}

@@ -1,12 +1,10 @@
 //! Eps by phases, in scaled costs.
 
-ghost use Rattle.std.specs.Prelude.{◌≡◌, pos, ◌<ℤ◌, ◌≤ℤ◌, length, All, IfSome, IfNone};
-ghost use Rattle.auc_graph.specs.Price.{IsPrice};
-ghost use Rattle.auc_rows.specs.Rows.{IsShort};
+ghost use Rattle.std.specs.Prelude.{◌≡◌, pos, ◌<ℤ◌, ◌≤ℤ◌, IfSome, IfNone};
 ghost use Rattle.auc_direct.specs.Eps.{IsEpsOf};
 
 use crate::bid::scaled_spread;
-use crate::scan::value_of;
+use crate::scan::worth;
 use crate::tuning::{SAMPLE, STEP};
 use auc_rows::{FlatRows, ShortArc};
 
@@ -17,27 +15,22 @@ pub(crate) const LAST_EPS: i64 = 1;
 const MOST_PARTS: usize = 20_000;
 
 /// By how much the values of a row differ at most, at these prices.
-fn row_spread(scale: i64, row: &[ShortArc], prices: &[i64]) -> i64
-    requires scale_low { pos 1 ≤ℤ scale }
-    requires scale_high { scale ≤ℤ pos 10001 }
-    requires row { All (IsShort (length prices.now)) row.now }
-    requires prices { All IsPrice prices.now }
-{
+fn row_spread(scale: i64, row: &[ShortArc], prices: &[i64]) -> i64 {
     let mut low = i64::MAX;
     let mut high = i64::MIN;
     for arc in row {
-        let value = value_of(scale, *arc, prices);
-        low = low.min(value);
-        high = high.max(value);
+        let object = arc.object as usize;
+        if object < prices.len() {
+            let value = worth(scale, arc.cost, prices[object]);
+            low = low.min(value);
+            high = high.max(value);
+        }
     }
     high.saturating_sub(low).max(0)
 }
 
 /// The mean of that over a sample of the persons, one in so many: at least [`SAMPLE`] of them, or all.
-fn mean_spread(rows: &FlatRows, prices: &[i64]) -> i64
-    requires many { length prices.now ≡ rows.now.objects }
-    requires prices { All IsPrice prices.now }
-{
+fn mean_spread(rows: &FlatRows, prices: &[i64]) -> i64 {
     let scale = rows.scale();
     let apart = (rows.persons() / SAMPLE).max(1);
     let mut sum = 0i64;
@@ -94,8 +87,6 @@ pub(crate) fn coarse_eps(rows: &FlatRows, spread: i64) -> i64
 
 /// The mean spread of a row at these prices: at least 1, and no more than the scaled spread of all costs.
 pub(crate) fn spread_of(rows: &FlatRows, prices: &[i64]) -> i64
-    requires many { length prices.now ≡ rows.now.objects }
-    requires prices { All IsPrice prices.now }
     ensures { IsEpsOf rows.now result }
 {
     let most = scaled_spread(rows);

@@ -4,6 +4,7 @@ ghost use Rattle.std.specs.Prelude.{◌≡◌, ◌≢◌, ◌<◌, ◌≤◌, �
 ghost use Rattle.auc_direct.specs.Market.{holder_at, no_own, own_at};
 
 use crate::bid::Bid;
+use crate::scan::worth;
 use auc_rows::ShortArc;
 use std::alloc::{AllocError, Global};
 
@@ -15,6 +16,9 @@ pub(crate) const NO_OWN: ShortArc = ShortArc {
     object: NOBODY,
     cost: 0,
 };
+
+/// Stands for what a person pays who holds nothing: no arc is worth less.
+const NOTHING: i64 = -17_592_186_044_416;
 
 /// Prices in scaled costs and holders, both indexed by object, and the arcs by which persons hold, indexed by person.
 #[derive(Drop)]
@@ -127,6 +131,41 @@ impl Holdings {
             }
         }
         until
+    }
+
+    /// Who holds an object; NOBODY where nobody does.
+    #[inline]
+    pub(crate) fn holder_of(&self, object: u32) -> u32
+        ensures { result ≡ holder_at self.now.holders.items object }
+    {
+        if (object as usize) < self.holders.len() {
+            self.holders[object as usize]
+        } else {
+            NOBODY
+        }
+    }
+
+    /// The price of an object.
+    #[inline]
+    pub(crate) fn price_of(&self, object: u32) -> i64 {
+        if (object as usize) < self.prices.len() {
+            self.prices[object as usize]
+        } else {
+            0
+        }
+    }
+
+    /// What a person pays for what he holds, by sums that wrap.
+    #[inline]
+    pub(crate) fn own_worth(&self, scale: i64, person: u32) -> i64 {
+        if person as usize >= self.owns.len() {
+            return NOTHING;
+        }
+        let own = self.owns[person as usize];
+        if own.object == NOBODY {
+            return NOTHING;
+        }
+        worth(scale, own.cost, self.price_of(own.object))
     }
 
     /// How many persons have an object.

@@ -19,14 +19,11 @@ mod gathering;
 mod hall;
 mod halt;
 mod holdings;
-mod hop;
 mod incumbent;
-mod label;
 mod lists;
 mod market;
 mod pace;
 mod path;
-mod paths;
 mod phase;
 mod queue;
 mod reduce;
@@ -42,10 +39,8 @@ mod starts;
 mod step;
 mod tuning;
 mod turns;
-mod walk;
 mod watch;
 mod way;
-mod wipe;
 
 pub use solving::{
     DirectLimits, solve_direct, solve_direct_from, solve_direct_watched, solve_direct_watched_from,

@@ -27,7 +27,7 @@ use crate::halt::Halt;
 use crate::holdings::{Holdings, NOBODY};
 use crate::incumbent::Incumbent;
 use crate::lists::Lists;
-use crate::paths::Paths;
+use crate::search::Search;
 use crate::way::Way;
 use auc_rows::FlatRows;
 use std::alloc::{AllocError, Global};
@@ -41,7 +41,7 @@ pub(crate) struct Market<'a> {
     eps: i64,
     holdings: Holdings,
     lists: Lists,
-    paths: Paths,
+    search: Search,
     incumbent: Incumbent,
 }
 
@@ -74,7 +74,7 @@ impl<'a> Market<'a> {
             eps: LAST_EPS,
             holdings,
             lists,
-            paths: Paths::new(alloc),
+            search: Search::new(alloc),
             incumbent,
         })
     }
@@ -153,9 +153,9 @@ impl<'a> Market<'a> {
         ensures halt { IfErr result (IsHalt self.old.table) }
     {
         let rows = self.rows;
-        let paths = &mut self.paths;
+        let search = &mut self.search;
         self.holdings
-            .find_way(self.alloc, rows, self.eps, person, paths)
+            .find_way(self.alloc, rows, self.eps, person, search)
     }
 
     /// Raises prices, with so many looks at persons, until each is within 1 of his best: then nothing costs less than what persons hold, and eps is the last one. Gives whether that came to its end; where it

@@ -3,6 +3,7 @@
 ghost use Rattle.std.specs.Prelude.{ℤ, ◌≡◌, ◌⊎◌, pos, ◌≤ℤ◌, length, All, IfOk};
 ghost use Rattle.auc_graph.specs.Price.{IsPrice};
 ghost use Rattle.auc_direct.specs.Endings.{IsStart};
+ghost use Rattle.auc_direct.specs.Scan.{IsScale};
 
 use auc_rows::FlatRows;
 use std::alloc::{AllocError, Global};
@@ -20,8 +21,7 @@ fn greatest_of(rows: &FlatRows) -> i32 {
 
 /// The price at which an arc of one cost is worth as much as one of another at price 0; and 0 where that one costs less.
 fn price_between(scale: i64, cost: i32, greatest: i32) -> i64
-    requires scale_low { pos 1 ≤ℤ scale }
-    requires scale_high { scale ≤ℤ pos 10001 }
+    requires { IsScale scale }
     ensures { IsPrice result }
 {
     let more = i64::from(greatest) - i64::from(cost);

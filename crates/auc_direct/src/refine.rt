@@ -3,37 +3,25 @@
 //!
 //! A person who would do better with another object, by more than 1, raises its price until he wouldn't, and then whoever holds it is looked at again. Where what they hold costs more than need be, that
 //! goes round in circles, so it is given up after some time. It is a step between two phases of Goldberg and Kennedy (1995), by labels that are corrected first come, first served (Bellman, 1958; Moore, 1959).
+//!
+//! Of who waits nothing is proved: prices rise and stay within range, and at the end each person is looked at once more.
 
-ghost use Rattle.std.specs.Prelude.{true, ℕ, ℤ, ◌≡◌, ◌≢◌, ◌+◌, ◌<◌, ◌^◌, pos, neg_ℤ, ◌+ℤ◌, ◌-ℤ◌, ◌≤ℤ◌, ◌<ℤ◌, length, set, IfOk, OnErr, OnOk};
+ghost use Rattle.std.specs.Prelude.{true, ◌≡◌, ◌<◌, pos, ◌≤ℤ◌, All, IsTrue, length, IfOk, OnErr, OnOk};
 ghost use Rattle.auc_graph.specs.Assignment.{total};
 ghost use Rattle.auc_graph.specs.Price.{IsPrice};
-ghost use Rattle.auc_rows.specs.Rows.{EachHasArc, IsFlatTable, flat_row_of, scale_in};
-ghost use Rattle.auc_direct.specs.Market.{AreHigher, HaveObjects, IsSlack, Stands, holder_at, own_at};
-ghost use Rattle.auc_direct.specs.Refine.{AreRefined, IsQueue, next_at};
-ghost use Rattle.auc_direct.specs.Scan.{short_value};
-ghost use Rattle.auc_direct.specs.Shortlist.{IsBest, Kept};
-ghost use Rattle.auc_direct.specs.Starts.{any_eps};
+ghost use Rattle.auc_letters.specs.Price.{IsEps};
+ghost use Rattle.auc_rows.specs.Rows.{EachHasArc, scale_in};
+ghost use Rattle.auc_direct.specs.Market.{HaveObjects, IsLifted, Stands};
+ghost use Rattle.auc_direct.specs.Shortlist.{Kept};
+ghost use Rattle.auc_direct.specs.Starts.{ArePricesOf, any_eps};
 
-use crate::best::Best;
+use crate::eps::LAST_EPS;
 use crate::holdings::{Holdings, NOBODY};
 use crate::lists::Lists;
 use crate::queue::Queue;
-use crate::scan::value_of;
 use auc_graph::MOST_PRICE;
 use auc_rows::FlatRows;
 use std::alloc::{AllocError, Global};
-
-/// The price at which what was worth so much is worth `least`.
-#[inline(always)]
-fn price_for(price: i64, value: i64, least: i64) -> i64
-    requires price { IsPrice price }
-    requires low { neg_ℤ (pos (2 ^ 45)) ≤ℤ value }
-    requires less { value <ℤ least }
-    requires high { least ≤ℤ pos (2 ^ 61 + 2 ^ 45) }
-    ensures { result ≡ price +ℤ (least -ℤ value) }
-{
-    price + (least - value)
-}
 
 impl Holdings {
     /// Whether each person has an object.
@@ -48,115 +36,93 @@ impl Holdings {
         true
     }
 
-    /// An object has this price, and whoever holds it waits.
-    #[inline(always)]
-    fn raise(&mut self, object: u32, amount: i64, queue: &mut Queue)
-        requires price { object < length self.old.prices.items }
-        requires object { object < length self.old.holders.items }
-        requires queue { IsQueue (length queue.old.next.items) queue.old }
-        requires few { length queue.old.next.items < NOBODY }
-        requires holder { holder_at self.old.holders.items object ≢ NOBODY → holder_at self.old.holders.items object < length queue.old.next.items }
-        ensures prices { self.new.prices.items ≡ set self.old.prices.items object amount }
-        ensures holders { self.new.holders.items ≡ self.old.holders.items }
-        ensures owns { self.new.owns.items ≡ self.old.owns.items }
-        ensures queue { IsQueue (length queue.old.next.items) queue.new }
-        ensures waits { (i : ℕ) → next_at queue.new.next.items i ≡ NOBODY → next_at queue.old.next.items i ≡ NOBODY }
-        ensures holder { holder_at self.old.holders.items object ≢ NOBODY → next_at queue.new.next.items (holder_at self.old.holders.items object) ≢ NOBODY }
-        ensures first { queue.old.first ≢ NOBODY → queue.new.first ≡ queue.old.first }
-    {
-        self.prices[object as usize] = amount;
-        let holder = self.holders[object as usize];
-        if holder != NOBODY {
-            queue.push(holder);
-        }
-    }
-
-    /// What a person's own object is worth to him, less 1: as long as no object is worth less, he is within 1 of his best.
-    #[inline(always)]
-    fn least_for(&self, rows: &FlatRows, scale: i64, person: u32) -> i64
-        requires person { person < length rows.now.rows }
-        requires sound { IsFlatTable rows.now }
-        requires scale { scale ≡ scale_in rows.now }
-        requires have { HaveObjects (length rows.now.rows) self.now.owns.items }
+    /// Whether each person who has an object is within eps of his best. O(arcs).
+    pub(crate) fn all_within(&self, rows: &FlatRows, eps: i64) -> bool
+        requires eps { IsEps eps }
         requires stands { Stands rows.now any_eps self.now.prices.items self.now.holders.items self.now.owns.items }
-        ensures is { (result +ℤ pos 1) ≡ short_value scale self.now.prices.items (own_at self.now.owns.items person) }
-        ensures low { neg_ℤ (pos (2 ^ 45)) ≤ℤ result }
-        ensures high { result ≤ℤ pos (2 ^ 61 + 2 ^ 45) }
+        ensures { IsTrue result → Stands rows.now eps self.now.prices.items self.now.holders.items self.now.owns.items }
     {
-        let own = self.owns[person as usize];
-        value_of(scale, own, self.prices.as_slice()) - 1
-    }
-
-    /// Where a person's best is worth less than this to him, its price rises until it isn't, and whoever holds it waits. Gives whether that can be: not where the price would be above the greatest one,
-    /// or is that of his own object, which another arc of his leads to for less.
-    #[inline(always)]
-    fn lift(
-        &mut self,
-        rows: &FlatRows,
-        person: u32,
-        best: Best,
-        least: i64,
-        queue: &mut Queue,
-    ) -> bool
-        requires person { person < length rows.now.rows }
-        requires sound { IsFlatTable rows.now }
-        requires square { rows.now.objects ≡ length rows.now.rows }
-        requires queue { IsQueue (length rows.now.rows) queue.old }
-        requires have { HaveObjects (length rows.now.rows) self.old.owns.items }
-        requires refined { AreRefined rows.now self.old.prices.items self.old.holders.items self.old.owns.items queue.old.next.items }
-        requires best { IsBest (short_value (scale_in rows.now) self.old.prices.items) (flat_row_of rows.now person) best }
-        requires least { (least +ℤ pos 1) ≡ short_value (scale_in rows.now) self.old.prices.items (own_at self.old.owns.items person) }
-        requires low { neg_ℤ (pos (2 ^ 45)) ≤ℤ least }
-        requires high { least ≤ℤ pos (2 ^ 61 + 2 ^ 45) }
-        ensures owns { self.new.owns.items ≡ self.old.owns.items }
-        ensures queue { IsQueue (length rows.now.rows) queue.new }
-        ensures first { queue.old.first ≢ NOBODY → queue.new.first ≡ queue.old.first }
-        ensures refined { AreRefined rows.now self.new.prices.items self.new.holders.items self.new.owns.items queue.new.next.items }
-        ensures higher { AreHigher self.old.prices.items self.new.prices.items }
-        ensures risen { total self.old.prices.items ≤ℤ total self.new.prices.items }
-        ensures slack { result ≡ true → least ≤ℤ best.second → IsSlack rows.now (pos 1) self.new.prices.items person (own_at self.new.owns.items person) }
-    {
-        if least <= best.value {
-            return true;
+        for person in 0..rows.persons() {
+            if !self.is_within(rows, eps, person) {
+                return false;
+            }
         }
-        let object = best.arc.object;
-        let amount = price_for(self.prices[object as usize], best.value, least);
-        if amount > MOST_PRICE || object == self.owns[person as usize].object {
-            return false;
-        }
-        self.raise(object, amount, queue);
         true
     }
 
-    /// Looks at the first person who waits; gives whether it goes on.
+    /// The price of an object that a person would rather have rises by so much, and whoever holds it waits. Gives whether that can be: not where he holds it himself, by another arc, nor where the price would pass the
+    /// greatest.
     #[inline(always)]
-    fn look(&mut self, rows: &FlatRows, scale: i64, lists: &mut Lists, queue: &mut Queue) -> bool
-        requires first { queue.old.first < length rows.now.rows }
+    fn lift(&mut self, person: u32, object: u32, more: i64, queue: &mut Queue) -> bool
+        requires { All IsPrice self.old.prices.items }
+        ensures { IsLifted self.old.prices.items self.new.prices.items self.old.holders.items self.new.holders.items self.old.owns.items self.new.owns.items }
+    {
+        let holder = self.holder_of(object);
+        if holder == person || object as usize >= self.prices.len() {
+            return false;
+        }
+        let price = self.prices[object as usize];
+        let amount = price.saturating_add(more);
+        if amount < price || MOST_PRICE < amount {
+            return false;
+        }
+        queue.push(holder);
+        self.prices[object as usize] = amount;
+        true
+    }
+
+    /// Looks at the person who waits first. Where his best arc is worth less to him than his own one less 1, the price of its object rises until it isn't. Gives whether it goes on.
+    #[inline(always)]
+    fn look(&mut self, rows: &FlatRows, person: u32, lists: &mut Lists, queue: &mut Queue) -> bool
+        requires person { person < length rows.now.rows }
         requires arcs { EachHasArc rows.now }
-        requires square { rows.now.objects ≡ length rows.now.rows }
-        requires scale { scale ≡ scale_in rows.now }
-        requires queue { IsQueue (length rows.now.rows) queue.old }
-        requires have { HaveObjects (length rows.now.rows) self.old.owns.items }
-        requires refined { AreRefined rows.now self.old.prices.items self.old.holders.items self.old.owns.items queue.old.next.items }
+        requires priced { ArePricesOf rows.now self.old.prices.items }
         requires kept { Kept rows.now self.old.prices.items lists.old.lists.items }
-        ensures owns { self.new.owns.items ≡ self.old.owns.items }
-        ensures queue { IsQueue (length rows.now.rows) queue.new }
-        ensures refined { AreRefined rows.now self.new.prices.items self.new.holders.items self.new.owns.items queue.new.next.items }
-        ensures risen { total self.old.prices.items ≤ℤ total self.new.prices.items }
+        ensures lifted { IsLifted self.old.prices.items self.new.prices.items self.old.holders.items self.new.holders.items self.old.owns.items self.new.owns.items }
         ensures kept { Kept rows.now self.new.prices.items lists.new.lists.items }
     {
-        let person = queue.first;
-        // Read here, so that the proof knows what all rows keep.
-        let _ = rows.persons();
+        let scale = rows.scale();
         let best = lists.best(rows, scale, person, self.prices.as_slice());
-        let least = self.least_for(rows, scale, person);
-        if !self.lift(rows, person, best, least, queue) {
+        let least = self.own_worth(scale, person).saturating_sub(1);
+        if least <= best.value {
+            queue.pop();
+            return true;
+        }
+        let more = least.saturating_sub(best.value);
+        if !self.lift(person, best.arc.object, more, queue) {
             return false;
         }
         if least <= best.second {
             queue.pop();
         }
         true
+    }
+
+    /// Raises prices, with so many looks at persons, until nobody waits; gives whether that came to its end.
+    fn lift_all(
+        &mut self,
+        rows: &FlatRows,
+        looks: u64,
+        lists: &mut Lists,
+        queue: &mut Queue,
+    ) -> bool
+        requires arcs { EachHasArc rows.now }
+        requires priced { ArePricesOf rows.now self.old.prices.items }
+        requires kept { Kept rows.now self.old.prices.items lists.old.lists.items }
+        ensures lifted { IsLifted self.old.prices.items self.new.prices.items self.old.holders.items self.new.holders.items self.old.owns.items self.new.owns.items }
+        ensures kept { Kept rows.now self.new.prices.items lists.new.lists.items }
+    {
+        let persons = rows.persons();
+        for _ in 0..looks {
+            let person = queue.first;
+            if person >= persons {
+                break;
+            }
+            if !self.look(rows, person, lists, queue) {
+                return false;
+            }
+        }
+        queue.first == NOBODY
     }
 
     /// Raises prices, with so many looks at persons, until each is within 1 of his best; gives whether that came to its end, and each has an object.
@@ -168,6 +134,7 @@ impl Holdings {
         lists: &mut Lists,
     ) -> Result<bool, AllocError>
         requires arcs { EachHasArc rows.now }
+        requires square { rows.now.objects ≡ length rows.now.rows }
         requires stands { Stands rows.now any_eps self.old.prices.items self.old.holders.items self.old.owns.items }
         requires kept { Kept rows.now self.old.prices.items lists.old.lists.items }
         ensures stands { OnOk result (Stands rows.now any_eps self.new.prices.items self.new.holders.items self.new.owns.items) }
@@ -178,19 +145,13 @@ impl Holdings {
         ensures kept { Kept rows.now self.new.prices.items lists.new.lists.items }
         ensures stays { OnErr result (self.new ≡ self.old) }
     {
-        let scale = rows.scale();
-        let persons = rows.persons();
-        if persons == 0 || persons != rows.objects() || !self.all_have() {
+        if !self.all_have() {
             return Ok(false);
         }
-        let mut queue = Queue::of_all(alloc, persons)?;
-        let mut left = looks;
-        while left > 0 && queue.first != NOBODY {
-            left -= 1;
-            if !self.look(rows, scale, lists, &mut queue) {
-                return Ok(false);
-            }
+        let mut queue = Queue::of_all(alloc, rows.persons())?;
+        if !self.lift_all(rows, looks, lists, &mut queue) {
+            return Ok(false);
         }
-        Ok(queue.is_empty())
+        Ok(self.all_within(rows, LAST_EPS))
     }
 }

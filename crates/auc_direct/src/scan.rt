@@ -3,7 +3,7 @@
 ghost use Rattle.std.specs.Prelude.{◌≡◌, ◌<◌, ◌+◌, ◌^◌, pos, neg_ℤ, ◌+ℤ◌, ◌*ℤ◌, ◌≤ℤ◌, All, length};
 ghost use Rattle.auc_graph.specs.Price.{IsPrice};
 ghost use Rattle.auc_rows.specs.Rows.{IsShort};
-ghost use Rattle.auc_direct.specs.Scan.{IsFound, IsValue, Lowered, LoweredTwice, short_value};
+ghost use Rattle.auc_direct.specs.Scan.{IsFound, IsPricedRow, IsScale, IsValue, Lowered, LoweredTwice, short_value};
 
 use auc_rows::ShortArc;
 
@@ -64,42 +64,40 @@ impl Found {
     }
 }
 
-/// The value of a cost at a price.
+/// What an arc of this cost is worth at this price, by sums that wrap: for searches, whose finds are tried.
 #[inline(always)]
-fn value_at(scale: i64, cost: i32, price: i64) -> i64
-    requires scale_low { pos 1 ≤ℤ scale }
-    requires scale_high { scale ≤ℤ pos 10001 }
-    requires cost_low { neg_ℤ (pos (10 ^ 9)) ≤ℤ cost }
-    requires cost_high { cost ≤ℤ pos (10 ^ 9) }
-    requires price { IsPrice price }
-    ensures is { result ≡ (scale *ℤ cost) +ℤ price }
-    ensures low { neg_ℤ (pos (2 ^ 44)) ≤ℤ result }
-    ensures high { result ≤ℤ pos (2 ^ 61 + 2 ^ 44) }
-{
-    scale * i64::from(cost) + price
+pub(crate) fn worth(scale: i64, cost: i32, price: i64) -> i64 {
+    scale.wrapping_mul(i64::from(cost)).wrapping_add(price)
+}
+
+/// The same of an arc; the greatest number where its object has no price.
+#[inline(always)]
+pub(crate) fn worth_of(scale: i64, arc: ShortArc, prices: &[i64]) -> i64 {
+    if (arc.object as usize) < prices.len() {
+        worth(scale, arc.cost, prices[arc.object as usize])
+    } else {
+        i64::MAX
+    }
 }
 
 /// What an arc is worth at these prices: its scaled cost and the price of its object.
 #[inline(always)]
 pub(crate) fn value_of(scale: i64, arc: ShortArc, prices: &[i64]) -> i64
-    requires scale_low { pos 1 ≤ℤ scale }
-    requires scale_high { scale ≤ℤ pos 10001 }
+    requires scale { IsScale scale }
     requires arc { IsShort (length prices.now) arc }
     requires prices { All IsPrice prices.now }
     ensures is { result ≡ short_value scale prices.now arc }
     ensures range { IsValue result }
 {
-    value_at(scale, arc.cost, prices[arc.object as usize])
+    let price = prices[arc.object as usize];
+    scale * i64::from(arc.cost) + price
 }
 
 /// The best arc of a row. Two arcs to one object count as any two do.
 #[inline(always)]
 pub(crate) fn scan(scale: i64, row: &[ShortArc], prices: &[i64]) -> Found
-    requires scale_low { pos 1 ≤ℤ scale }
-    requires scale_high { scale ≤ℤ pos 10001 }
+    requires priced { IsPricedRow scale prices.now row.now }
     requires some { 0 < length row.now }
-    requires row { All (IsShort (length prices.now)) row.now }
-    requires prices { All IsPrice prices.now }
     ensures { IsFound (short_value scale prices.now) row.now (length row.now) result }
 {
     let mut found = Found {

@@ -1,29 +1,74 @@
-//! The search for a cheapest path from a free person to an object that nobody holds: Dijkstra's, over the rows of those who are reached.
+//! The search for a shortest augmenting path, from a free person to an object that nobody holds: Dijkstra's, over the rows of those who are reached. A hop is as long as the reduced cost of its arc.
+//!
+//! Nothing is proved of what it finds, but that it ends: the market tries it before it goes by it (`path.rt`). So sums may wrap here.
 
-ghost use Rattle.std.specs.Prelude.{◌≡◌, ◌<◌, ◌+◌, ◌++◌, ◌∷◌, [], ℕ, All, length, true, IfOk, IfSome, OnOk};
-ghost use Rattle.std.specs.BinaryHeap.{heap_items};
-ghost use Rattle.auc_graph.specs.Price.{IsPrice};
-ghost use Rattle.auc_direct.specs.Path.{AreHolders, AreLabels, AreLeft, AreOwns, Grows, IsClean, IsEnd, IsFrom, Reaches, seats, settled_at};
-
-use crate::holdings::NOBODY;
-use crate::hop::{reach, value_of_own};
-use crate::label::Label;
-use crate::wipe::wipe;
-use auc_letters::Held;
-use auc_rows::{FlatRows, ShortArc};
+use crate::holdings::{Holdings, NOBODY};
+use crate::scan::worth;
+use auc_rows::FlatRows;
 use std::alloc::{AllocError, Global};
 use std::collections::BinaryHeap;
 
-/// How near a free person is to himself, 2^62: a path that is longer is not followed.
-const FAR: u64 = 4_611_686_018_427_387_904;
+/// How near the free person is to himself. How near an object is, is this less the length of the path to it.
+const NEAREST: u64 = 4_611_686_018_427_387_904;
 
-/// The labels of all objects; the settled ones in order; and the labelled ones, each at how near it was when it got the label, the nearest
-/// first out.
+/// What the search of this number knows of an object: how near it is; by which arc of his row its taker would take it; and the object that he would leave for it, NOBODY where he is the free person.
+#[derive(Clone, Copy)]
+struct Label {
+    near: u64,
+    search: u32,
+    place: u32,
+    before: u32,
+}
+
+/// Of an object that no search has come to.
+const BLANK: Label = Label {
+    near: 0,
+    search: 0,
+    place: 0,
+    before: NOBODY,
+};
+
+/// An object, and how near it is.
+#[derive(Clone, Copy)]
+pub(crate) struct Settled {
+    pub(crate) object: u32,
+    near: u64,
+}
+
+/// Stands for the nearest object that nobody holds, where none has a label.
+const NOWHERE: Settled = Settled {
+    object: NOBODY,
+    near: 0,
+};
+
+/// A price that is to rise to an amount, and what it was before.
+#[derive(Clone, Copy)]
+pub(crate) struct Rise {
+    pub(crate) object: u32,
+    pub(crate) amount: i64,
+    pub(crate) before: i64,
+}
+
+/// A person at this distance, who leaves an object for another one.
+#[derive(Clone, Copy)]
+struct Taker {
+    person: u32,
+    near: u64,
+    before: u32,
+}
+
+/// Room for searches: labels of all objects, with the number of the search at hand; the held objects that wait, the nearest first out; the nearest object that nobody holds; those that are settled, in order; how
+/// many arcs were looked at. And what it proposes: prices that rise, and by which arcs objects are taken, each by its place in the row of its taker.
 #[derive(Drop)]
 pub(crate) struct Search {
-    pub(crate) labels: Vec<Label>,
-    pub(crate) line: Vec<u32>,
-    pub(crate) heap: BinaryHeap<(u64, u32)>,
+    labels: Vec<Label>,
+    number: u32,
+    heap: BinaryHeap<(u64, u32)>,
+    end: Settled,
+    pub(crate) settled: Vec<Settled>,
+    pub(crate) looked: u64,
+    pub(crate) rises: Vec<Rise>,
+    pub(crate) route: Vec<u32>,
 }
 
 impl Search {
@@ -31,139 +76,165 @@ impl Search {
     pub(crate) fn new(alloc: Global) -> Search {
         Search {
             labels: Vec::new(alloc),
-            line: Vec::new(alloc),
+            number: 0,
             heap: BinaryHeap::new(alloc),
+            end: NOWHERE,
+            settled: Vec::new(alloc),
+            looked: 0,
+            rises: Vec::new(alloc),
+            route: Vec::new(alloc),
         }
     }
 
-    /// Labels the objects of a person's row. He is at `near`, which is no nearer than all that are settled.
+    /// Nothing is reached.
+    fn begin(&mut self, objects: usize) -> Result<(), AllocError> {
+        if self.labels.len() != objects {
+            self.labels.clear();
+            self.labels.resize(objects, BLANK)?;
+        }
+        self.number = self.number.wrapping_add(1);
+        self.heap.clear();
+        self.settled.clear();
+        self.rises.clear();
+        self.route.clear();
+        self.end = NOWHERE;
+        self.looked = 0;
+        Ok(())
+    }
+
+    /// Labels the objects of a taker's row that are nearer by him than before. None that is no nearer than the nearest object that nobody holds: no path goes by it.
     fn relax(
         &mut self,
         rows: &FlatRows,
-        owns: &[ShortArc],
-        prices: &[i64],
-        _holders: &[u32],
-        _start: u32,
-        person: u32,
-        near: u64,
-        before: Option<u32>,
-    ) -> Result<(), AllocError>
-        requires person { person < length rows.now.rows }
-        requires many { length prices.now ≡ rows.now.objects }
-        requires prices { All IsPrice prices.now }
-        requires owns { AreOwns rows.now owns.now }
-        requires from { IsFrom (seats _holders.now) _start self.old.labels.items before person near }
-        requires labels { AreLabels rows.now owns.now prices.now (seats _holders.now) _start self.old.labels.items self.old.line.items (heap_items self.old.heap) near }
-        ensures labels { OnOk result (AreLabels rows.now owns.now prices.now (seats _holders.now) _start self.new.labels.items self.new.line.items (heap_items self.new.heap) near) }
-        ensures grows { OnOk result (Grows self.old.labels.items self.new.labels.items) }
-        ensures reaches { OnOk result (Reaches rows.now owns.now prices.now self.new.labels.items person near) }
-    {
+        holdings: &Holdings,
+        taker: Taker,
+    ) -> Result<(), AllocError> {
+        if taker.person >= rows.persons() {
+            return Ok(());
+        }
         let scale = rows.scale();
-        let own = value_of_own(rows, owns, prices, person);
-        let row = rows.row(person);
+        let row = rows.row(taker.person);
+        let own = holdings.own_worth(scale, taker.person);
+        let many = self
+            .labels
+            .len()
+            .min(holdings.prices.len())
+            .min(holdings.holders.len());
+        self.looked = self.looked.saturating_add(row.len() as u64);
         for place in 0..row.len() {
             let arc = row[place];
             let object = arc.object as usize;
-            let reached = reach(scale, own, near, arc, prices);
-            if reached > self.labels[object].near {
-                self.labels[object] = Label {
-                    near: reached,
-                    held: Held {
-                        person,
-                        arc: place as u32,
-                    },
-                    before,
-                    place: 0,
+            if object >= many {
+                continue;
+            }
+            let more = worth(scale, arc.cost, holdings.prices[object])
+                .wrapping_sub(own)
+                .max(0);
+            let near = taker.near.saturating_sub(more.unsigned_abs());
+            if near <= self.end.near {
+                continue;
+            }
+            let label = self.labels[object];
+            if label.search == self.number && near <= label.near {
+                continue;
+            }
+            self.labels[object] = Label {
+                near,
+                search: self.number,
+                place: u32::try_from(place).unwrap_or(NOBODY),
+                before: taker.before,
+            };
+            if holdings.holders[object] == NOBODY {
+                self.end = Settled {
+                    object: arc.object,
+                    near,
                 };
-                self.heap.push((reached, arc.object))?;
+            } else {
+                self.heap.push((near, arc.object))?;
             }
         }
         Ok(())
     }
 
-    /// An object is settled, after all others.
-    #[inline]
-    fn settle(&mut self, object: u32) -> Result<(), AllocError>
-        requires { object < length self.old.labels.items }
-        ensures labels { OnOk result (self.new.labels.items ≡ settled_at self.old.labels.items object (length self.old.line.items + 1)) }
-        ensures line { OnOk result (self.new.line.items ≡ self.old.line.items ++ object ∷ []) }
-        ensures heap { heap_items self.new.heap ≡ heap_items self.old.heap }
-    {
-        self.line.push(object)?;
-        let label = self.labels[object as usize];
-        self.labels[object as usize] = Label {
-            near: label.near,
-            held: label.held,
-            before: label.before,
-            place: self.line.len(),
-        };
-        Ok(())
-    }
-
-    /// Searches from a free person on, the nearest object first, up to the first one that nobody holds. None where there is none in reach.
+    /// Searches from a free person on, the nearest object first, up to the nearest one that nobody holds. Gives whether there is one in reach: what is to be done then say `rises` and `route`.
     pub(crate) fn find(
         &mut self,
         rows: &FlatRows,
-        owns: &[ShortArc],
-        prices: &[i64],
-        holders: &[u32],
+        holdings: &Holdings,
         start: u32,
-    ) -> Result<Option<u32>, AllocError>
-        requires owns { AreOwns rows.now owns.now }
-        requires many { length prices.now ≡ rows.now.objects }
-        requires prices { All IsPrice prices.now }
-        requires holders { AreHolders rows.now (seats holders.now) }
-        requires start { start < length rows.now.rows }
-        requires clean { IsClean rows.now.objects self.old.labels.items self.old.line.items (heap_items self.old.heap) }
-        ensures labels { OnOk result ((now : ℕ) × AreLabels rows.now owns.now prices.now (seats holders.now) start self.new.labels.items self.new.line.items (heap_items self.new.heap) now) }
-        ensures end { IfOk result (λ r. IfSome r (IsEnd rows.now owns.now prices.now (seats holders.now) start self.new.labels.items self.new.line.items (heap_items self.new.heap))) }
-    {
-        self.relax(rows, owns, prices, holders, start, start, FAR, None)?;
+    ) -> Result<bool, AllocError> {
+        self.begin(rows.objects() as usize)?;
+        let mut taker = Taker {
+            person: start,
+            near: NEAREST,
+            before: NOBODY,
+        };
         for _ in 0..u64::MAX {
-            let Some((near, object)) = self.heap.pop() else {
-                return Ok(None);
+            self.relax(rows, holdings, taker)?;
+            let Some(next) = self.next() else {
+                break;
             };
-            let label = self.labels[object as usize];
-            if label.place > 0 {
-                continue;
-            }
-            if label.near != near {
-                continue;
-            }
-            let person = holders[object as usize];
-            if person == NOBODY {
-                self.heap.push((near, object))?;
-                return Ok(Some(object));
-            }
-            self.settle(object)?;
-            self.relax(
-                rows,
-                owns,
-                prices,
-                holders,
-                start,
-                person,
-                near,
-                Some(object),
-            )?;
+            self.settled.push(next)?;
+            taker = Taker {
+                person: holdings.holder_of(next.object),
+                near: next.near,
+                before: next.object,
+            };
         }
-        Ok(None)
+        if self.end.near == 0 {
+            return Ok(false);
+        }
+        self.propose(holdings)?;
+        self.trace()?;
+        Ok(true)
     }
 
-    /// Makes room for so many objects, with nothing labelled: in the time that it took to make the labels where it is sure that line and heap name them, else in that of all objects.
-    pub(crate) fn clear(&mut self, objects: usize, is_whole: bool) -> Result<(), AllocError>
-        requires { is_whole ≡ true → AreLeft self.old.labels.items self.old.line.items 0 (heap_items self.old.heap) 0 }
-        ensures { OnOk result (IsClean objects self.new.labels.items self.new.line.items (heap_items self.new.heap)) }
-    {
-        wipe(
-            &mut self.labels,
-            objects,
-            self.line.as_slice(),
-            self.heap.as_slice(),
-            is_whole,
-        )?;
-        self.line.clear();
-        self.heap.clear();
+    /// The nearest object that waits; none where no one does that is nearer than the nearest one that nobody holds.
+    fn next(&mut self) -> Option<Settled> {
+        for _ in 0..u64::MAX {
+            let (near, object) = self.heap.pop()?;
+            if near <= self.end.near {
+                return None;
+            }
+            // One that came nearer since then has an entry before this one.
+            let place = object as usize;
+            if place < self.labels.len() && self.labels[place].near == near {
+                return Some(Settled { object, near });
+            }
+        }
+        None
+    }
+
+    /// The price of each settled object is to rise by as much as it is nearer than the end.
+    fn propose(&mut self, holdings: &Holdings) -> Result<(), AllocError> {
+        for settled in &self.settled {
+            let place = settled.object as usize;
+            if place >= holdings.prices.len() {
+                continue;
+            }
+            let before = holdings.prices[place];
+            let rise = i64::try_from(settled.near.saturating_sub(self.end.near)).unwrap_or(0);
+            self.rises.push(Rise {
+                object: settled.object,
+                amount: before.wrapping_add(rise),
+                before,
+            })?;
+        }
+        Ok(())
+    }
+
+    /// The route, by the labels from the end back to the free person.
+    fn trace(&mut self) -> Result<(), AllocError> {
+        let mut object = self.end.object;
+        for _ in 0..=self.settled.len() {
+            if object as usize >= self.labels.len() {
+                break;
+            }
+            let label = self.labels[object as usize];
+            self.route.push(label.place)?;
+            object = label.before;
+        }
+        self.route.reverse();
         Ok(())
     }
 }

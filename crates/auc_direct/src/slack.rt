@@ -6,7 +6,7 @@ ghost use Rattle.auc_letters.specs.Price.{IsEps};
 ghost use Rattle.auc_rows.specs.declared.arc.ShortArc.{ShortArc};
 ghost use Rattle.auc_rows.specs.Rows.{IsShort, flat_row_of};
 ghost use Rattle.auc_direct.specs.Market.{IsSlack};
-ghost use Rattle.auc_direct.specs.Scan.{short_value};
+ghost use Rattle.auc_direct.specs.Scan.{IsPricedRow, short_value};
 
 use crate::scan::value_of;
 use auc_rows::{FlatRows, ShortArc};
@@ -14,10 +14,7 @@ use auc_rows::{FlatRows, ShortArc};
 /// Whether no arc of a row is worth less than this.
 #[inline(never)]
 fn none_below(scale: i64, row: &[ShortArc], prices: &[i64], least: i64) -> bool
-    requires scale_low { pos 1 ≤ℤ scale }
-    requires scale_high { scale ≤ℤ pos 10001 }
-    requires row { All (IsShort (length prices.now)) row.now }
-    requires prices { All IsPrice prices.now }
+    requires { IsPricedRow scale prices.now row.now }
     ensures { IsTrue result → All (λ b. least ≤ℤ short_value scale prices.now b) row.now }
 {
     for arc in row {

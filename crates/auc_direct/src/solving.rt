@@ -85,7 +85,7 @@ fn answer_of(
     ensures is { IfOk result (IsAnswer problem.now) }
     ensures limit { (bids : ℕ) (begun : ℤ) → IsStopped flat bids begun outcome.ending outcome.holdings.prices.items → IfOk result (IsLimited problem.now bids begun) }
     ensures told { outcome.ending ≡ Ending.Stopped Reason.Bids → IfOk result IsStopTold }
-    ensures run { (bids : ℕ) (begun : List ℤ) → HasRun flat bids begun outcome.holdings.prices.items → IfOk result (IsOfPhases problem.now bids begun) }
+    ensures run { (bids : ℕ) (begun : List ℤ) → HasRun flat bids begun outcome.ending outcome.holdings.prices.items → IfOk result (IsOfPhases problem.now bids begun) }
 {
     // Read here, so that the proof knows what every problem keeps.
     let _ = problem.arcs();

@@ -1,19 +1,18 @@
 //! What a run from start prices begins with: who keeps an object at them, and which prices stay.
 
-ghost use Rattle.std.specs.Prelude.{ℕ, ◌≡◌, ◌≢◌, ◌<◌, ◌↔◌, length, false, IsTrue, IfSome};
+ghost use Rattle.std.specs.Prelude.{ℕ, ◌≡◌, ◌≢◌, ◌<◌, ◌↔◌, length, false, IsTrue};
 ghost use Rattle.auc_letters.specs.Price.{IsEps};
-ghost use Rattle.auc_rows.specs.Rows.{EachHasArc, IsFlatTable};
+ghost use Rattle.auc_rows.specs.Rows.{EachHasArc};
 ghost use Rattle.auc_direct.specs.declared.holdings.TheConstants.{NOBODY};
 ghost use Rattle.auc_direct.specs.Market.{Stands, own_at};
-ghost use Rattle.auc_direct.specs.Starts.{AreKept, AreOpened, ArePricesOf, AreSeated, AreStartPrices, IsFreeWithin, any_eps};
+ghost use Rattle.auc_direct.specs.Starts.{AreKept, AreOpened, ArePricesOf, AreSeated, AreStartPrices, any_eps};
 
 use crate::bid::Bid;
 use crate::holdings::{Holdings, NOBODY};
-use crate::scan::{scan, value_of};
-use crate::slack::is_slack;
+use crate::scan::worth_of;
 use auc_cert::HIGHEST_START;
 use auc_graph::ArcList;
-use auc_rows::{FlatRows, ShortArc};
+use auc_rows::FlatRows;
 
 /// How often all persons are passed over before the start prices are given up.
 const PASSES: u32 = 8;
@@ -29,59 +28,57 @@ pub fn may_start(problem: &ArcList, start: &[i64]) -> bool
 }
 
 impl Holdings {
-    /// The first arc of a person to an object that nobody holds, and that is within eps of his best at the start prices.
-    fn free_within(&self, rows: &FlatRows, eps: i64, start: &[i64], person: u32) -> Option<ShortArc>
-        requires person { person < length rows.now.rows }
-        requires arcs { EachHasArc rows.now }
-        requires eps { IsEps eps }
-        requires start { ArePricesOf rows.now start.now }
-        requires holders { length self.now.holders.items ≡ rows.now.objects }
-        ensures { IfSome result (IsFreeWithin rows.now eps start.now self.now.holders.items person) }
+    /// At which place of a person's row the first arc stands that leads to an object that nobody holds, and is within eps of his best at the start prices; past the row where there is none. Nothing is proved of it.
+    fn free_within(&self, rows: &FlatRows, eps: i64, start: &[i64], person: u32) -> u32
+        requires { person < length rows.now.rows }
     {
         let scale = rows.scale();
-        let row = rows.row(person);
-        let most = scan(scale, row, start).value + eps;
-        for arc in row {
-            if self.holders[arc.object as usize] != NOBODY {
-                continue;
-            }
-            if value_of(scale, *arc, start) <= most {
-                return Some(*arc);
-            }
+        let mut least = i64::MAX;
+        for arc in rows.row(person) {
+            least = least.min(worth_of(scale, *arc, start));
         }
-        None
+        let most = least.saturating_add(eps);
+        let mut place: u32 = 0;
+        for arc in rows.row(person) {
+            if self.holder_of(arc.object) == NOBODY && worth_of(scale, *arc, start) <= most {
+                break;
+            }
+            place = place.saturating_add(1);
+        }
+        place
     }
 
-    /// A person takes such an object, which has its start price then.
-    fn seat(&mut self, rows: &FlatRows, eps: i64, start: &[i64], person: u32)
+    /// A person takes the object of the arc that stands here in his row, which has its start price then. Not where somebody holds it, nor past the row.
+    pub(crate) fn seat(&mut self, rows: &FlatRows, start: &[i64], person: u32, place: u32)
         requires person { person < length rows.now.rows }
-        requires arcs { EachHasArc rows.now }
-        requires eps { IsEps eps }
-        requires sound { IsFlatTable rows.now }
         requires start { ArePricesOf rows.now start.now }
-        requires seated { AreSeated rows.now eps start.now self.old.prices.items self.old.holders.items self.old.owns.items }
+        requires seated { AreSeated rows.now start.now self.old.prices.items self.old.holders.items self.old.owns.items }
         requires none { (own_at self.old.owns.items person).object ≡ NOBODY }
-        ensures seated { AreSeated rows.now eps start.now self.new.prices.items self.new.holders.items self.new.owns.items }
+        ensures seated { AreSeated rows.now start.now self.new.prices.items self.new.holders.items self.new.owns.items }
         ensures none { (i : ℕ) → i ≢ person → (own_at self.old.owns.items i).object ≡ NOBODY → (own_at self.new.owns.items i).object ≡ NOBODY }
     {
-        let Some(arc) = self.free_within(rows, eps, start, person) else {
+        let row = rows.row(person);
+        if place as usize >= row.len() {
             return;
-        };
+        }
+        let arc = row[place as usize];
+        if self.holder_of(arc.object) != NOBODY {
+            return;
+        }
         let amount = start[arc.object as usize];
         self.award(person, Bid { amount, arc });
     }
 
-    /// Each person in order does.
+    /// Each person in order does, where there is such an arc.
     fn seat_all(&mut self, rows: &FlatRows, eps: i64, start: &[i64])
-        requires arcs { EachHasArc rows.now }
-        requires eps { IsEps eps }
         requires start { ArePricesOf rows.now start.now }
-        requires seated { AreSeated rows.now eps start.now self.old.prices.items self.old.holders.items self.old.owns.items }
+        requires seated { AreSeated rows.now start.now self.old.prices.items self.old.holders.items self.old.owns.items }
         requires none { (i : ℕ) → (own_at self.old.owns.items i).object ≡ NOBODY }
-        ensures { AreSeated rows.now eps start.now self.new.prices.items self.new.holders.items self.new.owns.items }
+        ensures { AreSeated rows.now start.now self.new.prices.items self.new.holders.items self.new.owns.items }
     {
         for person in 0..rows.persons() {
-            self.seat(rows, eps, start, person);
+            let place = self.free_within(rows, eps, start, person);
+            self.seat(rows, start, person, place);
         }
     }
 
@@ -96,11 +93,7 @@ impl Holdings {
     {
         let mut released = false;
         for person in 0..rows.persons() {
-            let own = self.owns[person as usize];
-            if own.object == NOBODY {
-                continue;
-            }
-            if is_slack(rows, eps, self.prices.as_slice(), person, own) {
+            if self.is_within(rows, eps, person) {
                 continue;
             }
             self.leave(person);
@@ -131,15 +124,19 @@ impl Holdings {
         requires arcs { EachHasArc rows.now }
         requires eps { IsEps eps }
         requires start { ArePricesOf rows.now start.now }
-        requires seated { AreSeated rows.now eps start.now self.old.prices.items self.old.holders.items self.old.owns.items }
+        requires seated { AreSeated rows.now start.now self.old.prices.items self.old.holders.items self.old.owns.items }
         requires none { (i : ℕ) → (own_at self.old.owns.items i).object ≡ NOBODY }
         ensures stands { Stands rows.now eps self.new.prices.items self.new.holders.items self.new.owns.items }
         ensures opened { AreOpened rows.now.objects (length rows.now.rows) start.now self.new.prices.items }
     {
         self.seat_all(rows, eps, start);
-        if rows.persons() == rows.objects() {
+        if rows.persons() != rows.objects() {
+            self.settle(rows, eps);
             return;
         }
-        self.settle(rows, eps);
+        if self.all_within(rows, eps) {
+            return;
+        }
+        self.open();
     }
 }

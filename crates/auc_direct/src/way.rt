@@ -2,16 +2,16 @@
 
 ghost use Rattle.std.specs.Prelude.{◌≡◌, ◌<◌, length, IfErr, IfOk, IfSome};
 ghost use Rattle.auc_letters.specs.Price.{IsEps};
+ghost use Rattle.auc_direct.specs.declared.holdings.TheConstants.{NOBODY};
 ghost use Rattle.auc_direct.specs.Hall.{IsShortHallSet};
 ghost use Rattle.auc_direct.specs.Halts.{IsHalt};
 ghost use Rattle.auc_direct.specs.Market.{AreHigher, Stands, own_at};
 ghost use Rattle.auc_direct.specs.Way.{IsWay};
 
-use crate::ending::PathStep;
 use crate::hall::{HallSet, hall_set_of};
 use crate::halt::Halt;
-use crate::holdings::{Holdings, NOBODY};
-use crate::paths::Paths;
+use crate::holdings::Holdings;
+use crate::search::Search;
 use auc_rows::FlatRows;
 use std::alloc::{AllocError, Global};
 
@@ -22,40 +22,30 @@ pub(crate) struct Way {
     pub(crate) looked: u64,
 }
 
-impl Holdings {
-    /// How many arcs a search has looked at that settled these objects and began from this person.
-    fn looked_at(&self, rows: &FlatRows, start: u32, line: &[u32]) -> u64
-        requires { start < length rows.now.rows }
-    {
-        let mut looked = rows.row(start).len() as u64;
-        for object in line {
-            let place = *object as usize;
-            if place < self.holders.len() && self.holders[place] < rows.persons() {
-                looked = looked.saturating_add(rows.row(self.holders[place]).len() as u64);
-            }
-        }
-        looked
+/// Sets the flag of a person, if he is one.
+fn mark(is_in: &mut [bool], person: u32)
+    ensures { length is_in.new ≡ length is_in.old }
+{
+    if (person as usize) < is_in.len() {
+        is_in[person as usize] = true;
     }
+}
 
+impl Holdings {
     /// The Hall set that a search has reached which found no free object: the person from whom it began, and who hold what it has settled. None where they know no fewer objects than they are.
     fn reached(
         &self,
         alloc: Global,
         rows: &FlatRows,
         start: u32,
-        line: &[u32],
+        search: &Search,
     ) -> Result<Option<HallSet>, AllocError>
         ensures { IfOk result (λ o. IfSome o (λ h. IsShortHallSet rows.now h.persons.items h.objects.items)) }
     {
         let mut is_in = vec![in alloc; false; rows.persons() as usize]?;
-        if (start as usize) < is_in.len() {
-            is_in[start as usize] = true;
-        }
-        for object in line {
-            let place = *object as usize;
-            if place < self.holders.len() && (self.holders[place] as usize) < is_in.len() {
-                is_in[self.holders[place] as usize] = true;
-            }
+        mark(is_in.as_mut_slice(), start);
+        for settled in &search.settled {
+            mark(is_in.as_mut_slice(), self.holder_of(settled.object));
         }
         hall_set_of(alloc, rows, is_in.as_slice())
     }
@@ -71,7 +61,7 @@ impl Holdings {
         rows: &FlatRows,
         eps: i64,
         person: u32,
-        paths: &mut Paths,
+        search: &mut Search,
     ) -> Result<Way, Halt>
         requires person { person < length rows.now.rows }
         requires eps { IsEps eps }
@@ -84,26 +74,19 @@ impl Holdings {
     {
         // Read here, so that the proof knows what all rows keep.
         let _ = rows.persons();
-        let step = self.path(rows, eps, person, paths)?;
-        let looked = self.looked_at(rows, person, paths.line());
-        match step {
-            PathStep::Placed => Ok(Way {
-                free: NOBODY,
-                looked,
-            }),
-            PathStep::Stayed => Ok(Way {
+        let is_found = search.find(rows, self, person)?;
+        let looked = search.looked;
+        if is_found {
+            let rises = search.rises.as_mut_slice();
+            let free = self.go(rows, eps, person, rises, search.route.as_slice());
+            return Ok(Way { free, looked });
+        }
+        match self.reached(alloc, rows, person, search)? {
+            Some(hall) => Err(Halt::Closed(hall)),
+            None => Ok(Way {
                 free: person,
                 looked,
             }),
-            PathStep::Closed => {
-                match self.reached(alloc, rows, person, paths.line())? {
-                    Some(hall) => Err(Halt::Closed(hall)),
-                    None => Ok(Way {
-                        free: person,
-                        looked,
-                    }),
-                }
-            }
         }
     }
 }

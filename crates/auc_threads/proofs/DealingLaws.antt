@@ -1,6 +1,6 @@
 -- What a worker of the objects makes of letters, and says of them, one after another.
 use Rattle.std.proofs.Common.{◌≡◌, ℕ, ◌+◌, ◌<◌, ◌%◌, ◌==◌, not, Bool, true, false, cond, List, [], ◌∷◌, ◌++◌, filter, map, length, Some, None, refl, ap, sym, ◌∙◌, subst, arith, append_assoc, All}
-use Rattle.std.specs.Prelude.{Option, ℤ}
+use Rattle.std.specs.Prelude.{Option, ℤ, Ok}
 use Rattle.std.specs.List.{range_with_len}
 use Rattle.std.proofs.lemmas.List.{append-nil, map-append, map-id}
 use Rattle.std.proofs.lemmas.List.FromFn.{get_or-range_with_len, length-range_with_len, map-range_with_len_more}
@@ -16,12 +16,15 @@ use Rattle.auc_objects.specs.Objects.{IsBidIn, Objects, Owns, SameShape, after_b
 use Rattle.auc_objects.proofs.Sales.{shape_same, shape_sold}
 use Rattle.auc_answers.specs.Boxes.{Reaches}
 use Rattle.auc_answers.proofs.ShardLaws.{answers_reach}
-use Rattle.auc_book.specs.Seat.{Account}
+use Rattle.auc_mail.specs.declared.call.Call.{Call}
+use Rattle.auc_mail.specs.declared.call.Taken.{Taken}
+use Rattle.auc_book.specs.Replies.{take_reply}
+use Rattle.auc_book.specs.Seat.{Account, SeatCalls}
 use Rattle.auc_threads.specs.declared.calls.Step.{Step}
-use Rattle.auc_threads.specs.Taking.{TookMore}
-use Rattle.auc_threads.specs.Posting.{IsOver, Says, first_step}
+use Rattle.auc_threads.specs.Taking.{AfterTake, AfterTakes, Answer, Takes, letter_of}
+use Rattle.auc_threads.specs.Posting.{Says, first_step}
 use Rattle.auc_threads.specs.Dealing.{AfterLetters, Deals, DealsWith, Fits, Serves, after_bids, others, prices_told, says, says_all}
-use Rattle.auc_threads.proofs.TakingLaws.{took_nil, took_then}
+use Rattle.auc_threads.proofs.TakingLaws.{after_one, after_then, took_nil, took_take, took_then}
 use Rattle.auc_threads.proofs.PostingLaws.{says_none, says_then}
 
 -- ---- prices to all but one
@@ -171,17 +174,33 @@ with_shape eps s t letters said step f = subst (λ (z : Objects). SameShape s z)
 
 -- ---- with what the seat tells
 
-pub takes_none : (eps : ℤ) (room : ℕ) (s : Objects) (a : Account Letter) (said : List Out) → said ≡ [] → Deals eps room s a said s a Step.On
-takes_none eps room s a said none = record { letters = []; took = took_nil room a; dealt = subst (λ w. DealsWith eps s [] w s Step.On) (sym none) (deals_none eps s [] Step.On refl refl); over = λ e. absurd cc }
-
-pub takes_more : (eps : ℤ) (room : ℕ) (s t u : Objects) (a b c : Account Letter) (said new more : List Out) (letters : List Letter) (step : Step)
-    → Deals eps room s a said t b Step.On → TookMore room b letters c → new ≡ said ++ more → DealsWith eps t letters more u step → (step ≡ Step.Over → 0 < room → IsOver c.lines) → Deals eps room s a new u c step
-takes_more eps room s t u a b c said new more letters step f took e g over = record {
-  letters = f.letters ++ letters;
-  took = took_then room a b c f.letters letters f.took took;
-  dealt = subst (λ w. DealsWith eps s (f.letters ++ letters) w u step) (sym e) (deals_then eps s t u f.letters letters said more step f.dealt g);
-  over = over;
+pub takes_none : (eps : ℤ) (room at : ℕ) (s : Objects) (a : Account Letter) (said : List Out) → said ≡ [] → Deals eps room at s a said s a Step.On
+takes_none eps room at s a said none = record {
+  letters = [];
+  took = took_nil room at a;
+  dealt = subst (λ w. DealsWith eps s [] w s Step.On) (sym none) (deals_none eps s [] Step.On refl refl);
+  taken = ((λ e. cc), (λ e. cc));
 }
+
+pub deals_more : (eps : ℤ) (room at : ℕ) (s t u : Objects) (a b c : Account Letter) (said new more : List Out) (letters : List Letter) (step : Step)
+    → Deals eps room at s a said t b Step.On → (took : Takes room at b letters c) → new ≡ said ++ more → DealsWith eps t letters more u step → AfterTakes took.answers step → Deals eps room at s a new u c step
+deals_more eps room at s t u a b c said new more letters step f took e g after = record {
+  letters = f.letters ++ letters;
+  took = took_then room at a b c f.letters letters f.took took;
+  dealt = subst (λ w. DealsWith eps s (f.letters ++ letters) w u step) (sym e) (deals_then eps s t u f.letters letters said more step f.dealt g);
+  taken = after_then f.took.answers took.answers step f.taken after;
+}
+
+pub takes_more : (eps : ℤ) (room at : ℕ) (s t u : Objects) (a b c : Account Letter) (said new more : List Out) (r : Answer) (step : Step)
+    → Deals eps room at s a said t b Step.On → SeatCalls room b (Call.Take at) (take_reply r) c → new ≡ said ++ more → DealsWith eps t (letter_of r) more u step → AfterTake r step → Deals eps room at s a new u c step
+takes_more eps room at s t u a b c said new more r step f call e g after = deals_more eps room at s t u a b c said new more (letter_of r) step f (took_take room at b c r call) e g (after_one r step after)
+
+pub takes_empty : (eps : ℤ) (room at : ℕ) (s t : Objects) (a b c : Account Letter) (said : List Out) (r : Answer)
+    → Deals eps room at s a said t b Step.On → SeatCalls room b (Call.Take at) (take_reply r) c → r ≡ Ok Taken.Empty → Deals eps room at s a said t c Step.On
+takes_empty eps room at s t a b c said r f call e =
+    takes_more eps room at s t t a b c said said [] r Step.On f call (sym (append-nil said))
+    (subst (λ (q : Answer). DealsWith eps t (letter_of q) [] t Step.On) (sym e) (deals_none eps t [] Step.On refl refl))
+    (subst (λ (q : Answer). AfterTake q Step.On) (sym e) refl)
 
 -- ---- what is said goes to boxes that are there
 
@@ -206,16 +225,16 @@ pub all_reach : (n : ℕ) (eps : ℤ) (s : Objects) (bids : List Bid) → s.pers
 all_reach n eps s [] e some = All-nil (Reaches n)
 all_reach n eps s (b ∷ bs) e some = All-append (Reaches n) (says eps s b) (says_all eps (after_bid s eps b) bs) (says_reach n eps s b e some) (all_reach n eps (after_bid s eps b) bs e some)
 
-pub deals_reach : (n : ℕ) (eps : ℤ) (room : ℕ) (s t : Objects) (a b : Account Letter) (said : List Out) (step : Step) → s.person_shards ≡ n → 0 < n → Deals eps room s a said t b step → All (Reaches n) said
-deals_reach n eps room s t a b said step e some f = subst (λ w. All (Reaches n) w) (sym f.dealt.said_are) (all_reach n eps s f.dealt.bids e some)
+pub deals_reach : (n : ℕ) (eps : ℤ) (room at : ℕ) (s t : Objects) (a b : Account Letter) (said : List Out) (step : Step) → s.person_shards ≡ n → 0 < n → Deals eps room at s a said t b step → All (Reaches n) said
+deals_reach n eps room at s t a b said step e some f = subst (λ w. All (Reaches n) w) (sym f.dealt.said_are) (all_reach n eps s f.dealt.bids e some)
 
-pub deals_shape : (eps : ℤ) (room : ℕ) (s t : Objects) (a b : Account Letter) (said : List Out) (step : Step) → Deals eps room s a said t b step → SameShape s t
-deals_shape eps room s t a b said step f = subst (λ (z : Objects). SameShape s z) (sym f.dealt.left) (shape_after eps s f.dealt.bids)
+pub deals_shape : (eps : ℤ) (room at : ℕ) (s t : Objects) (a b : Account Letter) (said : List Out) (step : Step) → Deals eps room at s a said t b step → SameShape s t
+deals_shape eps room at s t a b said step f = subst (λ (z : Objects). SameShape s z) (sym f.dealt.left) (shape_after eps s f.dealt.bids)
 
 -- ---- and posted
 
-pub serves_none : (eps : ℤ) (ro rp rh : ℕ) (s : Objects) (a p h : Account Letter) → Serves eps ro rp rh s a p h s a p h Step.On
-serves_none eps ro rp rh s a p h = record { said = []; took_step = Step.On; said_step = Step.On; deals = takes_none eps ro s a [] refl; tells = says_none rp rh p h; is = refl }
+pub serves_none : (eps : ℤ) (ro rp rh at : ℕ) (s : Objects) (a p h : Account Letter) → Serves eps ro rp rh at s a p h s a p h Step.On
+serves_none eps ro rp rh at s a p h = record { said = []; took_step = Step.On; said_step = Step.On; deals = takes_none eps ro at s a [] refl; tells = says_none rp rh p h; is = refl }
 
 -- where the worker goes on, both steps do
 on_first : (x y : Step) → Step.On ≡ first_step x y → (x ≡ Step.On) × (y ≡ Step.On)
@@ -223,16 +242,16 @@ on_first Step.On y e = (refl, sym e)
 on_first Step.Over y e = absurd cc
 on_first (Step.Stop why) y e = absurd cc
 
-pub serves_then : (eps : ℤ) (ro rp rh : ℕ) (s t u : Objects) (a b c p q r h i j : Account Letter) (step : Step) → Serves eps ro rp rh s a p h t b q i Step.On → Serves eps ro rp rh t b q i u c r j step → Serves eps ro rp rh s a p h u c r j step
-serves_then eps ro rp rh s t u a b c p q r h i j step f g =
+pub serves_then : (eps : ℤ) (ro rp rh at : ℕ) (s t u : Objects) (a b c p q r h i j : Account Letter) (step : Step) → Serves eps ro rp rh at s a p h t b q i Step.On → Serves eps ro rp rh at t b q i u c r j step → Serves eps ro rp rh at s a p h u c r j step
+serves_then eps ro rp rh at s t u a b c p q r h i j step f g =
     let on = on_first f.said_step f.took_step f.is in
-    let deals : Deals eps ro s a f.said t b Step.On = subst (λ (x : Step). Deals eps ro s a f.said t b x) on.1 f.deals in
+    let deals : Deals eps ro at s a f.said t b Step.On = subst (λ (x : Step). Deals eps ro at s a f.said t b x) on.1 f.deals in
     let tells : Says rp rh p h f.said q i Step.On = subst (λ (x : Step). Says rp rh p h f.said q i x) on.0 f.tells in
     record {
       said = f.said ++ g.said;
       took_step = g.took_step;
       said_step = g.said_step;
-      deals = takes_more eps ro s t u a b c f.said (f.said ++ g.said) g.said g.deals.letters g.took_step deals g.deals.took refl g.deals.dealt g.deals.over;
+      deals = deals_more eps ro at s t u a b c f.said (f.said ++ g.said) g.said g.deals.letters g.took_step deals g.deals.took refl g.deals.dealt g.deals.taken;
       tells = says_then rp rh p h q i r j f.said g.said g.said_step tells g.tells;
       is = g.is;
     }

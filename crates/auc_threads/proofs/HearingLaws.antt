@@ -12,9 +12,9 @@ use Rattle.auc_persons.specs.Persons.{OnLetter, Persons, NeverFall, copy_of}
 use Rattle.auc_persons.proofs.Rise.{rises_same}
 use Rattle.auc_book.specs.Seat.{Account}
 use Rattle.auc_answers.specs.Reasons.{reason_for}
-use Rattle.auc_threads.specs.Taking.{TookMore}
+use Rattle.auc_threads.specs.Taking.{Takes}
 use Rattle.auc_threads.specs.Hearing.{Falls, Hears, HearsOf, IsTold, Tells}
-use Rattle.auc_threads.proofs.TakingLaws.{took_end, took_then}
+use Rattle.auc_threads.proofs.TakingLaws.{took_then}
 
 rises_equal : (q r : List ℤ) → r ≡ q → NeverFall q r
 rises_equal q r e = subst (λ xs. NeverFall q xs) (sym e) (rises_same q)
@@ -68,22 +68,22 @@ hears_of_then s t u xs ys first fell f g = record {
   falls = λ x. falls_later s t xs ys f.heard (g.falls x);
 }
 
-pub hears_then : (room : ℕ) (s t u : Persons) (a b c : Account Letter) (first fell : Type 0) → Hears room s a t b first → Hears room t b u c fell → Hears room s a u c fell
-hears_then room s t u a b c first fell f g = record {
+pub hears_then : (room at : ℕ) (s t u : Persons) (a b c : Account Letter) (first fell : Type 0) → Hears room at s a t b first → Hears room at t b u c fell → Hears room at s a u c fell
+hears_then room at s t u a b c first fell f g = record {
   letters = f.letters ++ g.letters;
-  took = took_then room a b c f.letters g.letters f.took g.took;
+  took = took_then room at a b c f.letters g.letters f.took g.took;
   hears = hears_of_then s t u f.letters g.letters first fell f.hears g.hears;
 }
 
-pub hears_nothing : (room : ℕ) (s t : Persons) (a b : Account Letter) (fell : Type 0) → TookMore room a [] b → t.copies ≡ s.copies → (fell → ⊥) → Hears room s a t b fell
-hears_nothing room s t a b fell took e never = record { letters = []; took = took; hears = hears_none s t fell e never }
+pub hears_nothing : (room at : ℕ) (s t : Persons) (a b : Account Letter) (fell : Type 0) → Takes room at a [] b → t.copies ≡ s.copies → (fell → ⊥) → Hears room at s a t b fell
+hears_nothing room at s t a b fell took e never = record { letters = []; took = took; hears = hears_none s t fell e never }
 
-pub hears_taken : (room : ℕ) (s t : Persons) (a b : Account Letter) (letters : List Letter) (fell : Type 0) → TookMore room a letters b → HearsOf s letters t fell → Hears room s a t b fell
-hears_taken room s t a b letters fell took heard = record { letters = letters; took = took; hears = heard }
+pub hears_taken : (room at : ℕ) (s t : Persons) (a b : Account Letter) (letters : List Letter) (fell : Type 0) → Takes room at a letters b → HearsOf s letters t fell → Hears room at s a t b fell
+hears_taken room at s t a b letters fell took heard = record { letters = letters; took = took; hears = heard }
 
 -- where it went on, what comes of it is told by what follows
-pub hears_first : (room : ℕ) (s t : Persons) (a b : Account Letter) (first fell : Type 0) → (fell → first) → Hears room s a t b first → Hears room s a t b fell
-hears_first room s t a b first fell f h = record { letters = h.letters; took = h.took; hears = record { heard = h.hears.heard; rise = h.hears.rise; falls = λ x. h.hears.falls (f x) } }
+pub hears_first : (room at : ℕ) (s t : Persons) (a b : Account Letter) (first fell : Type 0) → (fell → first) → Hears room at s a t b first → Hears room at s a t b fell
+hears_first room at s t a b first fell f h = record { letters = h.letters; took = h.took; hears = record { heard = h.hears.heard; rise = h.hears.rise; falls = λ x. h.hears.falls (f x) } }
 
 -- the one letter that was taken tells a fall
 fell_of : (s t : Persons) (x : Letter) (j : ℕ) (p : ℤ) (fell : Type 0) → t ≡ s → Tells j p x → p <ℤ copy_of s j → HearsOf s (x ∷ []) t fell
@@ -121,10 +121,6 @@ hears_fault s t x PersonFault.Stray why fell h e is = hears_stray s t x fell h (
   where
     stray_stays : Why.Stray ≡ Why.Fell → ⊥
     stray_stays e = cc
-
--- the last calls take nothing
-pub hears_end : (room : ℕ) (s t : Persons) (a b c : Account Letter) (fell : Type 0) → Hears room s a t b fell → TookMore room b [] c → Hears room s a t c fell
-hears_end room s t a b c fell h took = record { letters = h.letters; took = took_end room a b c h.letters h.took took; hears = h.hears }
 
 -- the one letter that was taken sets a copy
 set_of : (s t : Persons) (x : Letter) (j : ℕ) (p : ℤ) (fell : Type 0) → t.copies ≡ set s.copies j p → j < length s.copies → Tells j p x → NeverFall s.copies t.copies → (fell → ⊥) → HearsOf s (x ∷ []) t fell

@@ -1,3 +1,4 @@
+pub mod CallingLaws
 pub mod TakingLaws
 pub mod PostingLaws
 pub mod StepLaws
@@ -10,6 +11,7 @@ pub mod HearingLaws
 pub mod AskingLaws
 pub mod StartsLaws
 pub mod WorkedLaws
+pub mod SenderLaws
 pub mod PhaseLaws
 pub mod SolvedLaws
 mod WorkedPosts

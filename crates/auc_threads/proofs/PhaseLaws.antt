@@ -8,23 +8,24 @@ use Rattle.auc_threads.specs.Hearing.{Falls, SomebodyStuck}
 use Rattle.std.proofs.lemmas.List.{length-map}
 use Rattle.auc_threads.specs.Counting.{Closes, Counts, firsts_in}
 use Rattle.auc_threads.specs.Worked.{AreWorked, IsHub, end_by, first_some}
-use Rattle.auc_threads.proofs.BuyingLaws.{bids_few, bids_spent}
+use Rattle.auc_threads.proofs.BuyingLaws.{bids_few, bids_made, bids_spent}
 use Rattle.auc_threads.proofs.StepLaws.{why_stop}
-use Rattle.auc_threads.proofs.WorkedLaws.{buyer_told, first_whose, seller_told, stopped_for, value_at}
+use Rattle.auc_threads.proofs.WorkedLaws.{buyer_told, first_whose, is_told, seller_told, stopped_for, value_at}
 use Rattle.auc_letters.specs.declared.letter.Letter.{Letter}
 use Rattle.auc_letters.specs.declared.letter.Why.{Why}
 use Rattle.auc_letters.specs.declared.state.Held.{Held}
 use Rattle.auc_objects.specs.Objects.{Objects, Owns, holder_of, price_of, sale_of}
 use Rattle.auc_book.specs.declared.line.TrailLine.{TrailLine}
 use Rattle.auc_book.specs.Seat.{Account, new_account}
-use Rattle.auc_book.specs.Settling.{Agrees, IsSettled}
-use Rattle.auc_book.specs.Trail.{lines_of}
+use Rattle.auc_book.specs.Settling.{Agrees, IsSettled, IsTrueOf, IsTurnedByFull}
+use Rattle.auc_book.specs.Trail.{IsOwn, lines_of}
+use Rattle.auc_threads.proofs.SenderLaws.{persons_post}
 use Rattle.auc_answers.specs.Shards.{new_objects}
 use Rattle.auc_answers.specs.declared.limits.Limits.{Limits}
 use Rattle.auc_answers.proofs.NewShards.{replicate_default}
 use Rattle.auc_threads.specs.Placed.{Placed}
 use Rattle.auc_threads.specs.Gathering.{Gathers, IsOwnShard}
-use Rattle.auc_threads.specs.Phase.{AreCounted, IsRun, IsToldBy, price_in, taken_by, unsold}
+use Rattle.auc_threads.specs.Phase.{AreCounted, HasPlayed, IsToldBy, IsTrail, price_in, taken_by, unsold}
 use Rattle.auc_threads.specs.Naming.{IsNamed, hub_nodes, objects_nodes, persons_nodes, workers_of}
 use Rattle.auc_threads.specs.declared.phase.PhaseEnd.{PhaseEnd}
 use Rattle.auc_threads.specs.declared.task.Task.{Task}
@@ -32,7 +33,9 @@ use Rattle.auc_threads.specs.declared.settling.Trails.{Trails}
 use Rattle.auc_model.specs.declared.turn.End.{End}
 use Rattle.auc_letters.specs.Award.{Sale, award_all, bids_on}
 use Rattle.auc_threads.specs.Starts.{IsObjectResult, IsPersonResult}
-use Rattle.auc_threads.specs.Taking.{letters_in}
+use Rattle.auc_threads.specs.Taking.{letters_in, letters_taken}
+use Rattle.auc_threads.proofs.TakingLaws.{lines_tell, took_told}
+use Rattle.auc_threads.proofs.CountingLaws.{closed_told}
 use Rattle.auc_threads.proofs.PlacedLaws.{placed_at, placed_some, placed_weaker}
 
 All-front : {X : Type 0} (P : X → Type 0) (xs ys : List X) → All P (xs ++ ys) → All P xs
@@ -88,7 +91,7 @@ module _ {X : Type 0} (f : X → Objects) (a p h : X → Account Letter) (y : X 
       let g : Gathers (f x) j price holder = subst (λ w. Gathers (f w) j price holder) (at.2 x) (got x) in
       let owns : Owns (new_objects task.limits.now.shards (length task.rows.now.rows) task.prices.now q) j = record { known = low; own = refl } in
       let start : sale_of (new_objects task.limits.now.shards (length task.rows.now.rows) task.prices.now q) j ≡ unsold task.prices.now j = ap (λ (o : Option Held). record { price = price_in task.prices.now j; holder = o }) (replicate_default (length task.prices.now) j None) in
-      let told : letters_in (a x).lines ≡ r.sells.letters = r.sells.took.told room in
+      let told : letters_in (a x).lines ≡ r.sells.letters = took_told r₁ _ _ (a x) r.sells.letters r.sells.took room in
       let lines : lines_of (task.limits.now.shards + q) trail ≡ (a x).lines = ap (λ (m : ℕ). lines_of m trail) (sym r.seat) ∙ subst (λ w. Agrees trail (a w)) (at.2 x) (agree q x known) in
       ap (λ (z : ℤ). record { price = z; holder = holder }) g.price_is
       ∙ (ap (λ (o : Option Held). record { price = price_of (f x) j; holder = o }) g.holder_is
@@ -110,7 +113,7 @@ module _ {X : Type 0} (f : X → Persons) (a p h : X → Account Letter) (y : X 
       let at = placed_some (λ k w. IsPersonResult task r₁ r₂ r₃ k (f w) (a w) (p w) (h w) (y w)) 0 xs s.0 results s.1 in
       let x = at.0 in
       let r : IsPersonResult task r₁ r₂ r₃ s.0 (f x) (a x) (p x) (h x) (y x) = subst (λ (m : ℕ). IsPersonResult task r₁ r₂ r₃ m (f x) (a x) (p x) (h x) (y x)) (omega arith) at.1 in
-      let told : letters_in (p x).lines ≡ r.work.hears.letters = r.work.hears.took.told room in
+      let told : letters_in (p x).lines ≡ r.work.hears.letters = took_told r₂ _ _ (p x) r.work.hears.letters r.work.hears.took room in
       let lines : lines_of s.0 trail ≡ (p x).lines = ap (λ (m : ℕ). lines_of m trail) (sym r.seat) ∙ subst (λ w. Agrees trail (p w)) (at.2 x) (agree s.0 x s.1) in
       let falls : Falls (price_in task.prices.now) r.work.hears.letters = r.work.hears.hears.falls (ap y (sym (at.2 x)) ∙ s.2 x) in
       (s.0, omega (arith, s.1, many), subst (λ ls. Falls (price_in task.prices.now) ls) (sym told ∙ ap letters_in (sym lines)) falls)
@@ -130,7 +133,7 @@ module _ {X : Type 0} (f : X → Persons) (a p h : X → Account Letter) (y : X 
             let x = at.0 in
             let r = at.1 in
             let stop = why_stop r.work.step (y x) Why.Bids r.work.why_is (ap y (sym (at.2 x)) ∙ s.2 x) in
-            let all : (a x).count ≡ task.limits.now.bids = bids_spent _ _ _ _ _ _ _ _ _ _ _ r.work.buys refl stop in
+            let all : (a x).count ≡ task.limits.now.bids = bids_spent _ _ _ _ _ _ _ _ _ _ _ _ r.work.buys refl stop in
             (s.0, omega (arith, known, many), ap (λ ns. get_or ns s.0 0) is ∙ (sym (value_at count 0 xs s.0 x known at.2) ∙ all)));
       }
     where
@@ -140,14 +143,29 @@ module _ {X : Type 0} (f : X → Persons) (a p h : X → Account Letter) (y : X 
           let at = placed_some (λ k w. IsPersonResult task r₁ r₂ r₃ k (f w) (a w) (p w) (h w) (y w)) 0 xs k results known in
           let x = at.0 in
           let r = at.1 in
-          let one : (a x).count ≤ task.limits.now.bids = bids_few _ _ _ _ _ _ _ _ _ _ _ r.work.buys refl in
+          let one : (a x).count ≤ task.limits.now.bids = bids_few _ _ _ _ _ _ _ _ _ _ _ _ r.work.buys refl in
           subst (λ (n : ℕ). n ≤ task.limits.now.bids) (value_at (λ w. (a w).count) d xs k x known at.2) one
+
+  -- what each of them did
+  pub played_told : (bids : List ℕ) → bids ≡ map (λ w. (a w).count) xs → length xs ≡ task.limits.now.shards → (k : ℕ) → k < task.limits.now.shards
+      → HasPlayed task.rows.now task.limits.now task.eps task.prices.now k (get_or bids k 0)
+  played_told bids is many k low =
+      let known : k < length xs = omega (arith, low, many) in
+      let at = placed_some (λ k w. IsPersonResult task r₁ r₂ r₃ k (f w) (a w) (p w) (h w) (y w)) 0 xs k results known in
+      let x = at.0 in
+      let r : IsPersonResult task r₁ r₂ r₃ k (f x) (a x) (p x) (h x) (y x) = subst (λ (m : ℕ). IsPersonResult task r₁ r₂ r₃ m (f x) (a x) (p x) (h x) (y x)) (omega arith) at.1 in
+      let count : (a x).count ≡ get_or bids k 0 = value_at (λ w. (a w).count) 0 xs k x known at.2 ∙ ap (λ ns. get_or ns k 0) (sym is) in
+      let made = bids_made _ _ _ _ _ _ _ _ _ _ _ _ r.work.buys refl in
+      record { acts = r.work.buys.acts; left = f x; plays = r.work.buys.plays; posted = omega (arith, count, made); rise = r.work.hears.hears.rise }
 
 -- the hub's
 pub all_told : (room persons w : ℕ) (is_all : Bool) (why : Option Why) (b : Account Letter) (trail : List (TrailLine Letter)) → 0 < room → Counts room persons (new_account w) is_all why b → Agrees trail b
     → IsTrue is_all ↔ (firsts_in (taken_by w trail) ≡ persons)
 all_told room persons w is_all why b trail some c agrees =
-    let told : letters_in (lines_of w trail) ≡ c.letters ++ c.last = ap (λ (m : ℕ). letters_in (lines_of m trail)) (sym c.took.worker) ∙ (ap letters_in agrees ∙ c.took.told some) in
+    let answers = c.heard ++ c.last ∷ [] in
+    let worker : b.worker ≡ w = c.closes.makes.worker ∙ c.takes.worker in
+    let took : letters_in c.before.lines ≡ letters_taken answers = ap letters_in (c.takes.told some) ∙ lines_tell w 0 answers in
+    let told : letters_in (lines_of w trail) ≡ letters_taken answers = ap (λ (m : ℕ). letters_in (lines_of m trail)) (sym worker) ∙ (ap letters_in agrees ∙ (closed_told room 1 c.before b c.closes some ∙ took)) in
     ((λ e. ap firsts_in told ∙ c.all.0 e), (λ e. c.all.1 (sym (ap firsts_in told) ∙ e)))
 
 -- of all seats together: those of the persons, of the objects, of the hub
@@ -202,11 +220,12 @@ gathers_more f shards n xs ps qs hs gs p h x ep eh lp lh known is price holder e
           (subst (λ w. Gathers (f w) n (get_or qs n (pos 0)) (get_or gs n None)) (sym here) now))
     ]
 
--- the trail of a mail that settled is a run of it
-run_of : (b w n m r b' n' : ℕ) (limits : Limits) (s : List (Account Letter)) (ls : List (TrailLine Letter)) → IsNamed b w n m r b' n' limits → IsSettled b w n m r s ls → IsRun b' (workers_of limits.shards) n' limits.posts ls
-run_of b w n m r b' n' limits s ls named set =
-    subst (λ (x : ℕ). IsRun b' (workers_of limits.shards) n' x ls) named.most_is
-    (subst (λ (x : ℕ). IsRun b' (workers_of limits.shards) x m ls) named.nodes_are (subst (λ (x : ℕ). IsRun b' x n m ls) named.workers_are (subst (λ (x : ℕ). IsRun x w n m ls) named.boxes_are (set.last, set.run))))
+-- the trail of a mail that settled is one of it
+trail_of : (b w n m r b' n' : ℕ) (limits : Limits) (s : List (Account Letter)) (ls : List (TrailLine Letter)) → IsNamed b w n m r b' n' limits → IsSettled b w n m r s ls → IsTrail b' (workers_of limits.shards) n' limits.posts ls
+trail_of b w n m r b' n' limits s ls named set =
+    subst (λ (x : ℕ). IsTrail b' (workers_of limits.shards) n' x ls) named.most_is
+    (subst (λ (x : ℕ). IsTrail b' (workers_of limits.shards) x m ls) named.nodes_are
+    (subst (λ (x : ℕ). IsTrail b' x n m ls) named.workers_are (subst (λ (x : ℕ). IsTrail x w n m ls) named.boxes_are (record { run = (set.last, set.run); own = set.own }))))
 
 -- What the trails tell, of all that came back.
 module _ {X Z : Type 0} (f : X → Persons) (a p h : X → Account Letter) (y : X → Option Why) (g : Z → Objects) (b q i : Z → Account Letter) (z : Z → Option Why)
@@ -225,7 +244,7 @@ module _ {X Z : Type 0} (f : X → Persons) (a p h : X → Account Letter) (y : 
     (closed_o : Closes ro bo (new_account (2 * task.limits.now.shards)) hub_objects) (closed_p : Closes rp bp (new_account (2 * task.limits.now.shards)) hub_persons)
     (end_is : e.end ≡ end_by is_all (first_some ((map y xs ++ map z zs) ++ hub_why ∷ [])))
     (counted : e.bids.items ≡ map (λ w. (a w).count) xs) (trails : Trails) where
-  hub_is : Agrees trails.objects hub_objects → Agrees trails.persons hub_persons → Agrees trails.hub hub → IsHub task.rows.now task.limits.now trails is_all hub_why
+  hub_is : IsTrueOf task.limits.now.audit trails.objects hub_objects → IsTrueOf task.limits.now.audit trails.persons hub_persons → IsTrueOf task.limits.now.audit trails.hub hub → IsHub task.rows.now task.limits.now trails is_all hub_why
   hub_is agree_o agree_p agree_h =
       let w : Account Letter = new_account (2 * task.limits.now.shards) in
       record {
@@ -236,14 +255,14 @@ module _ {X Z : Type 0} (f : X → Persons) (a p h : X → Account Letter) (y : 
         objects_closed = subst (λ (n : ℕ). Closes task.limits.now.audit n w hub_objects) named_o.boxes_are (subst (λ (n : ℕ). Closes n bo w hub_objects) named_o.room_is closed_o);
         persons_closed = subst (λ (n : ℕ). Closes task.limits.now.audit n w hub_persons) named_p.boxes_are (subst (λ (n : ℕ). Closes n bp w hub_persons) named_p.room_is closed_p);
         told = record {
-          objects_worker = closed_o.adds.worker;
-          persons_worker = closed_p.adds.worker;
-          hub_worker = counts.took.worker;
-          objects_lines = agree_o;
-          persons_lines = agree_p;
-          hub_lines = agree_h;
+          at_objects = is_told _ _ trails.objects hub_objects closed_o.makes.worker agree_o;
+          at_persons = is_told _ _ trails.persons hub_persons closed_p.makes.worker agree_p;
+          at_hub = is_told _ _ trails.hub hub (counts.closes.makes.worker ∙ counts.takes.worker) agree_h;
         };
       }
+
+  truth : (r : ℕ) (s : List (Account Letter)) (trail : List (TrailLine Letter)) → r ≡ task.limits.now.audit → All (Agrees trail) s → All (IsTurnedByFull r trail) s → All (IsTrueOf task.limits.now.audit trail) s
+  truth r s trail e agree full k d low = (agree k d low, λ some. omega (arith, e, full k d low some))
 
   worked : IsSettled bo wo no mo ro so trails.objects → IsSettled bp wp np mp rp sp trails.persons → IsSettled bh wh nh mh rh sh trails.hub → AreWorked task.rows.now task.limits.now task.eps task.prices.now trails e.bids.items e.end
   worked o u v = record {
@@ -253,11 +272,11 @@ module _ {X Z : Type 0} (f : X → Persons) (a p h : X → Account Letter) (y : 
     is_all = is_all;
     buyers =
         buyer_told f a p h y task ro rp rh xs bought o.kept named_o.room_is named_p.room_is named_h.room_is trails
-        (all_first (Agrees trails.objects) a b xs zs hub_objects so eo o.agree) (all_first (Agrees trails.persons) p q xs zs hub_persons sp ep u.agree) (all_first (Agrees trails.hub) h i xs zs hub sh eh v.agree) persons_many e.bids.items counted;
+        (all_first (IsTrueOf task.limits.now.audit trails.objects) a b xs zs hub_objects so eo (truth ro so trails.objects named_o.room_is o.agree o.full)) (all_first (IsTrueOf task.limits.now.audit trails.persons) p q xs zs hub_persons sp ep (truth rp sp trails.persons named_p.room_is u.agree u.full)) (all_first (IsTrueOf task.limits.now.audit trails.hub) h i xs zs hub sh eh (truth rh sh trails.hub named_h.room_is v.agree v.full)) persons_many e.bids.items counted;
     sellers =
         seller_told g b q i z task ro rp rh zs sold named_o.room_is named_p.room_is named_h.room_is trails
-        (all_second (Agrees trails.objects) a b xs zs hub_objects so eo o.agree) (all_second (Agrees trails.persons) p q xs zs hub_persons sp ep u.agree) (all_second (Agrees trails.hub) h i xs zs hub sh eh v.agree) objects_many;
-    hub = hub_is (all_last (Agrees trails.objects) a b xs zs hub_objects so eo o.agree) (all_last (Agrees trails.persons) p q xs zs hub_persons sp ep u.agree) (all_last (Agrees trails.hub) h i xs zs hub sh eh v.agree);
+        (all_second (IsTrueOf task.limits.now.audit trails.objects) a b xs zs hub_objects so eo (truth ro so trails.objects named_o.room_is o.agree o.full)) (all_second (IsTrueOf task.limits.now.audit trails.persons) p q xs zs hub_persons sp ep (truth rp sp trails.persons named_p.room_is u.agree u.full)) (all_second (IsTrueOf task.limits.now.audit trails.hub) h i xs zs hub sh eh (truth rh sh trails.hub named_h.room_is v.agree v.full)) objects_many;
+    hub = hub_is (all_last (IsTrueOf task.limits.now.audit trails.objects) a b xs zs hub_objects so eo (truth ro so trails.objects named_o.room_is o.agree o.full)) (all_last (IsTrueOf task.limits.now.audit trails.persons) p q xs zs hub_persons sp ep (truth rp sp trails.persons named_p.room_is u.agree u.full)) (all_last (IsTrueOf task.limits.now.audit trails.hub) h i xs zs hub sh eh (truth rh sh trails.hub named_h.room_is v.agree v.full));
     person_many = length-map xs y ∙ persons_many;
     object_many = length-map zs z ∙ objects_many;
     end_is = end_is;
@@ -266,11 +285,14 @@ module _ {X Z : Type 0} (f : X → Persons) (a p h : X → Account Letter) (y : 
   pub told_phase : IsSettled bo wo no mo ro so trails.objects → IsSettled bp wp np mp rp sp trails.persons → IsSettled bh wh nh mh rh sh trails.hub → IsToldBy task.rows.now task.limits.now task.eps task.prices.now e trails
   told_phase o u v =
       let hub_told = all_told rh (length task.rows.now.rows) (2 * task.limits.now.shards) is_all hub_why hub trails.hub v.kept counts (all_last (Agrees trails.hub) h i xs zs hub sh eh v.agree) in
+      let kept : 0 < task.limits.now.audit = subst (λ (x : ℕ). 0 < x) named_o.room_is o.kept in
+      let own = subst (λ (n : ℕ). All (λ l. (l.worker < n) × IsOwn l.worker l.call) trails.objects) named_o.workers_are o.own in
       record {
-        kept = subst (λ (x : ℕ). 0 < x) named_o.room_is o.kept;
-        objects_run = run_of bo wo no mo ro task.limits.now.shards (objects_nodes task.limits.now (length task.rows.now.rows)) task.limits.now so trails.objects named_o o;
-        persons_run = run_of bp wp np mp rp task.limits.now.shards (persons_nodes task.limits.now (length task.rows.now.rows)) task.limits.now sp trails.persons named_p u;
-        hub_run = run_of bh wh nh mh rh 1 (hub_nodes task.limits.now (length task.rows.now.rows)) task.limits.now sh trails.hub named_h v;
+        kept = kept;
+        objects_trail = trail_of bo wo no mo ro task.limits.now.shards (objects_nodes task.limits.now (length task.rows.now.rows)) task.limits.now so trails.objects named_o o;
+        persons_trail = trail_of bp wp np mp rp task.limits.now.shards (persons_nodes task.limits.now (length task.rows.now.rows)) task.limits.now sp trails.persons named_p u;
+        hub_trail = trail_of bh wh nh mh rh 1 (hub_nodes task.limits.now (length task.rows.now.rows)) task.limits.now sh trails.hub named_h v;
+        bids_of_persons = persons_post task.rows.now task.limits.now task.eps task.prices.now trails e.bids.items e.end kept (worked o u v) own;
         sold = λ j low.
             sold_told g b q i z task ro rp rh zs sold trails.objects j (price_in e.gathered.prices.items j) (get_or e.gathered.holders.items j None) o.kept (all_second (Agrees trails.objects) a b xs zs hub_objects so eo o.agree) objects_many some (omega (arith, low, each)) (λ d. gathers j d low);
         all = ((λ x. hub_told.0 (ends.0 x)), (λ x. ends.1 (hub_told.1 x)));
@@ -281,3 +303,18 @@ module _ {X Z : Type 0} (f : X → Persons) (a p h : X → Account Letter) (y : 
 pub told_map : {T : Type 0} (o : Option T) (P Q R S : T → Type 0) → IfSome o P → IfSome o Q → IfSome o R → ((t : T) → P t → Q t → R t → S t) → IfSome o S
 told_map (Some t) P Q R S p q r f = f t p q r
 told_map None P Q R S p q r f = tt
+
+-- ---- the end as it is told
+
+pub told_some : (told end : Option End) (x : End) → IfSome told (λ e. end ≡ Some e) → told ≡ Some x → end ≡ Some x
+told_some (Some e) end x h is = h ∙ is
+told_some None end x h is = absurd cc
+
+pub told_all : (told end : Option End) (all : Type 0) → IfSome told (λ e. end ≡ Some e) → (end ≢ Some (End.Stopped Why.Trail) → told ≡ end) → (end ≡ Some End.All) ↔ all → (told ≡ Some End.All) ↔ all
+told_all told end all h others is = (
+  (λ e. is.0 (told_some told end End.All h e)),
+  (λ a. let e = is.1 a in others (λ f. (let g = sym e ∙ f in cc)) ∙ e),
+)
+
+pub told_counted : (limits : Limits) (bids : List ℕ) (told end : Option End) → IfSome told (λ e. end ≡ Some e) → AreCounted limits bids end → AreCounted limits bids told
+told_counted limits bids told end h c = record { many = c.many; few = c.few; spent = λ e. c.spent (told_some told end (End.Stopped Why.Bids) h e) }

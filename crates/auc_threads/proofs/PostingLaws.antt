@@ -1,8 +1,6 @@
 -- What a worker posts, one letter after another.
-use Rattle.std.proofs.Common.{◌≡◌, ◌≢◌, ◌⊎◌, ℕ, ◌<◌, ◌==◌, not, Bool, true, false, cond, List, [], ◌∷◌, ◌++◌, length, length-append, ◌≤◌, Some, None, refl, ap, sym, ◌∙◌, subst, inl, inr, arith, append_assoc, All, get_or}
+use Rattle.std.proofs.Common.{◌≡◌, ◌≢◌, ◌⊎◌, ℕ, ◌<◌, not, Bool, true, false, cond, List, [], ◌∷◌, ◌++◌, length, length-append, ◌≤◌, Some, None, refl, ap, sym, ◌∙◌, subst, inl, inr, arith, All, get_or}
 use Rattle.std.specs.Prelude.{Option, Result, Ok, Err, is_err}
-use Rattle.std.proofs.lemmas.Bool.{ne_eqb}
-use Rattle.std.proofs.lemmas.List.{append-nil}
 use Rattle.std.proofs.lemmas.List.Elements.{All-head, All-tail, filter-append}
 use Rattle.auc_letters.specs.declared.letter.Letter.{Letter}
 use Rattle.auc_letters.specs.declared.letter.Why.{Why}
@@ -11,55 +9,28 @@ use Rattle.auc_letters.specs.declared.out.To.{To}
 use Rattle.auc_letters.specs.Routing.{to_hub}
 use Rattle.auc_mail.specs.declared.call.Call.{Call}
 use Rattle.auc_mail.specs.declared.call.Reply.{Reply}
-use Rattle.auc_mail.specs.declared.call.Taken.{Taken}
 use Rattle.auc_book.specs.declared.error.CallRefused.{CallRefused}
 use Rattle.auc_book.specs.declared.error.CallRefused.TheVariants as refused
 use Rattle.auc_book.specs.declared.error.TrailFull.{TrailFull}
-use Rattle.auc_book.specs.declared.line.TrailLine.{TrailLine}
-use Rattle.auc_book.specs.Replies.{close_reply, post_reply, take_reply}
+use Rattle.auc_book.specs.Replies.{close_reply, post_reply}
 use Rattle.auc_book.specs.Seat.{Account, SeatCalls}
 use Rattle.auc_model.specs.Mails.{box_of}
 use Rattle.auc_answers.specs.Boxes.{Reaches, boxes_in, name_of}
 use Rattle.auc_threads.specs.declared.calls.Step.{Step}
 use Rattle.auc_threads.specs.Taking.{GoesWithin}
-use Rattle.auc_threads.specs.Posting.{Ends, IsOver, AddsLines, Posts, PostsAt, Says, Sent, is_to_hub, lines_by, lines_sent, lines_stopped, post_of, step_after, step_of, to_shards, to_the_hub}
+use Rattle.auc_threads.proofs.CallingLaws.{makes_as, makes_call, makes_none, makes_then}
+use Rattle.auc_threads.specs.Calling.{Makes, lines_by, lines_made}
+use Rattle.auc_threads.specs.Posting.{Ends, Posts, PostsAt, Says, Sent, calls_sent, calls_stopped, is_to_hub, post_of, step_after, step_of, to_shards, to_the_hub}
 
--- ---- lines
-
-pub adds_none : (room : ℕ) (a : Account Letter) → AddsLines room a [] a
-adds_none room a = record { worker = refl; counted = omega arith; told = λ some. sym (append-nil a.lines) }
-
-pub adds_call : (room : ℕ) (a b : Account Letter) (c : Call Letter) (r : Option (Reply Letter)) → SeatCalls room a c r b → AddsLines room a (lines_by a.worker c r) b
-adds_call room a b c None h = record { worker = ap (λ (x : Account Letter). x.worker) h; counted = omega (arith, ap (λ (x : Account Letter). x.count) h); told = λ some. ap (λ (x : Account Letter). x.lines) h ∙ sym (append-nil a.lines) }
-adds_call room a b c (Some r) h =
-    let line : TrailLine Letter = record { worker = a.worker; call = c; reply = r } in
-    record {
-      worker = h.0;
-      counted = h.1;
-      told = λ some.
-          let test : (room == 0) ≡ false = ne_eqb room 0 (λ e. absurd (omega (arith, e, some))) in
-          h.2 ∙ ap (λ q. cond q a.lines (a.lines ++ line ∷ [])) test;
-    }
-
-pub adds_then : (room : ℕ) (a b c : Account Letter) (xs ys : List (TrailLine Letter)) → AddsLines room a xs b → AddsLines room b ys c → AddsLines room a (xs ++ ys) c
-adds_then room a b c xs ys f g = record {
-  worker = g.worker ∙ f.worker;
-  counted = omega (arith, f.counted, g.counted, length-append xs ys);
-  told = λ some. g.told some ∙ (ap (λ w. w ++ ys) (f.told some) ∙ append_assoc a.lines xs ys);
-}
-
-pub adds_as : (room : ℕ) (a b : Account Letter) (xs ys : List (TrailLine Letter)) → xs ≡ ys → AddsLines room a xs b → AddsLines room a ys b
-adds_as room a b xs ys e f = subst (λ ls. AddsLines room a ls b) e f
-
-pub sent_append : (k : ℕ) (xs ys : List Sent) → lines_sent k (xs ++ ys) ≡ lines_sent k xs ++ lines_sent k ys
+pub sent_append : (k : ℕ) (xs ys : List Sent) → calls_sent k (xs ++ ys) ≡ calls_sent k xs ++ calls_sent k ys
 sent_append k [] ys = refl
-sent_append k (x ∷ xs) ys = ap (λ w. lines_by k (post_of k x.out) (post_reply x.answer) ++ w) (sent_append k xs ys) ∙ sym (append_assoc (lines_by k (post_of k x.out) (post_reply x.answer)) (lines_sent k xs) (lines_sent k ys))
+sent_append k (x ∷ xs) ys = ap (λ w. record { call = post_of k x.out; reply = post_reply x.answer } ∷ w) (sent_append k xs ys)
 
 -- posts of the same worker, one after another
-pub adds_sent : (room : ℕ) (a b c : Account Letter) (xs ys : List Sent) → AddsLines room a (lines_sent a.worker xs) b → AddsLines room b (lines_sent b.worker ys) c → AddsLines room a (lines_sent a.worker (xs ++ ys)) c
-adds_sent room a b c xs ys f g =
-    let more : AddsLines room b (lines_sent a.worker ys) c = subst (λ (k : ℕ). AddsLines room b (lines_sent k ys) c) f.worker g in
-    adds_as room a c (lines_sent a.worker xs ++ lines_sent a.worker ys) (lines_sent a.worker (xs ++ ys)) (sym (sent_append a.worker xs ys)) (adds_then room a b c (lines_sent a.worker xs) (lines_sent a.worker ys) f more)
+pub makes_sent : (room : ℕ) (a b c : Account Letter) (xs ys : List Sent) → Makes room a (calls_sent a.worker xs) b → Makes room b (calls_sent b.worker ys) c → Makes room a (calls_sent a.worker (xs ++ ys)) c
+makes_sent room a b c xs ys f g =
+    let more : Makes room b (calls_sent a.worker ys) c = subst (λ (k : ℕ). Makes room b (calls_sent k ys) c) f.worker g in
+    makes_as room a c _ _ (sym (sent_append a.worker xs ys)) (makes_then room a b c (calls_sent a.worker xs) (calls_sent a.worker ys) f more)
 
 -- ---- posts
 
@@ -117,11 +88,11 @@ line_few : (k : ℕ) (c : Call Letter) (r : Option (Reply Letter)) → length (l
 line_few k c None = omega arith
 line_few k c (Some r) = omega arith
 
-pub sent_long : (k : ℕ) (xs : List Sent) → length (lines_sent k xs) ≤ length xs
+pub sent_long : (k : ℕ) (xs : List Sent) → length (lines_made k (calls_sent k xs)) ≤ length xs
 sent_long k [] = omega arith
 sent_long k (x ∷ xs) =
     let h = sent_long k xs in
-    omega (arith, h, line_few k (post_of k x.out) (post_reply x.answer), length-append (lines_by k (post_of k x.out) (post_reply x.answer)) (lines_sent k xs))
+    omega (arith, h, line_few k (post_of k x.out) (post_reply x.answer), length-append (lines_by k (post_of k x.out) (post_reply x.answer)) (lines_made k (calls_sent k xs)))
 
 one_line : (k : ℕ) (c : Call Letter) (x : Letter) (r : Result ℕ CallRefused) → step_after x r ≡ Step.On → length (lines_by k c (post_reply r)) ≡ 1
 one_line k c x (Ok n) e = refl
@@ -131,41 +102,40 @@ one_line k c x (Err refused.Spent) e = refl
 one_line k c x (Err refused.Full) e = refl
 
 -- where the worker goes on, each post has its line
-pub sent_full : (k : ℕ) (os : List Out) (xs : List Sent) → Posts os xs Step.On → length (lines_sent k xs) ≡ length os
+pub sent_full : (k : ℕ) (os : List Out) (xs : List Sent) → Posts os xs Step.On → length (lines_made k (calls_sent k xs)) ≡ length os
 sent_full k [] [] f = refl
 sent_full k [] (x ∷ xs) f = absurd f
 sent_full k (o ∷ os) [] f = absurd f
 sent_full k (o ∷ os) (x ∷ xs) f = elim f.1 [
   | inl on ↦ (
       let h = sent_full k os xs on.1 in
-      omega (arith, h, one_line k (post_of k x.out) x.out.letter x.answer on.0, length-append (lines_by k (post_of k x.out) (post_reply x.answer)) (lines_sent k xs)))
+      omega (arith, h, one_line k (post_of k x.out) x.out.letter x.answer on.0, length-append (lines_by k (post_of k x.out) (post_reply x.answer)) (lines_made k (calls_sent k xs))))
   | inr end ↦ absurd (end.0 (sym end.2))
 ]
 
 -- ---- at one mail
 
 pub at_none : (room : ℕ) (a : Account Letter) → PostsAt room a [] a Step.On
-at_none room a = record { posts = []; posted = refl; adds = adds_none room a }
+at_none room a = record { posts = []; posted = refl; makes = makes_none room a }
 
 pub at_one : (room : ℕ) (a b : Account Letter) (o : Out) (answer : Result ℕ CallRefused) (step : Step) → SeatCalls room a (post_of a.worker o) (post_reply answer) b → step ≡ step_after o.letter answer → PostsAt room a (o ∷ []) b step
 at_one room a b o answer step h is =
     let x : Sent = record { out = o; answer = answer } in
-    let call = adds_call room a b (post_of a.worker o) (post_reply answer) h in
     record {
       posts = x ∷ [];
       posted = posts_one o x step refl is;
-      adds = adds_as room a b (lines_by a.worker (post_of a.worker o) (post_reply answer)) (lines_sent a.worker (x ∷ [])) (sym (append-nil (lines_by a.worker (post_of a.worker o) (post_reply answer)))) call;
+      makes = makes_call room a b (post_of a.worker o) (post_reply answer) h;
     }
 
 pub at_then : (room : ℕ) (a b c : Account Letter) (os ps : List Out) (step : Step) → PostsAt room a os b Step.On → PostsAt room b ps c step → PostsAt room a (os ++ ps) c step
 at_then room a b c os ps step f g = record {
   posts = f.posts ++ g.posts;
   posted = posts_then os ps f.posts g.posts step f.posted g.posted;
-  adds = adds_sent room a b c f.posts g.posts f.adds g.adds;
+  makes = makes_sent room a b c f.posts g.posts f.makes g.makes;
 }
 
 pub at_ended : (room : ℕ) (a b : Account Letter) (os ps : List Out) (step : Step) → step ≢ Step.On → PostsAt room a os b step → PostsAt room a (os ++ ps) b step
-at_ended room a b os ps step ne f = record { posts = f.posts; posted = posts_ended os ps f.posts step ne f.posted; adds = f.adds }
+at_ended room a b os ps step ne f = record { posts = f.posts; posted = posts_ended os ps f.posts step ne f.posted; makes = f.makes }
 
 pub at_as : (room : ℕ) (a b : Account Letter) (os ps : List Out) (step : Step) → os ≡ ps → PostsAt room a os b step → PostsAt room a ps b step
 at_as room a b os ps step e f = subst (λ ws. PostsAt room a ws b step) e f
@@ -173,7 +143,7 @@ at_as room a b os ps step e f = subst (λ ws. PostsAt room a ws b step) e f
 -- ---- at the persons' mail and the hub's
 
 pub says_none : (rp rh : ℕ) (p h : Account Letter) → Says rp rh p h [] p h Step.On
-says_none rp rh p h = record { posts = []; posted = refl; persons = adds_none rp p; hub = adds_none rh h }
+says_none rp rh p h = record { posts = []; posted = refl; persons = makes_none rp p; hub = makes_none rh h }
 
 one_post : (o : Out) (xs : List Sent) (step : Step) → Posts (o ∷ []) xs step → (x : Sent) × (xs ≡ x ∷ []) × (x.out ≡ o)
 one_post o [] step f = absurd f
@@ -192,8 +162,8 @@ says_persons rp rh p h p' o step other f =
     record {
       posts = f.posts;
       posted = f.posted;
-      persons = adds_as rp p p' (lines_sent p.worker f.posts) (lines_sent p.worker (to_shards f.posts)) (ap (lines_sent p.worker) (sym kept)) f.adds;
-      hub = adds_as rh h h [] (lines_sent h.worker (to_the_hub f.posts)) (ap (lines_sent h.worker) (sym gone)) (adds_none rh h);
+      persons = makes_as rp p p' (calls_sent p.worker f.posts) (calls_sent p.worker (to_shards f.posts)) (ap (calls_sent p.worker) (sym kept)) f.makes;
+      hub = makes_as rh h h [] (calls_sent h.worker (to_the_hub f.posts)) (ap (calls_sent h.worker) (sym gone)) (makes_none rh h);
     }
 
 pub says_hub : (rp rh : ℕ) (p h h' : Account Letter) (o : Out) (step : Step) → is_to_hub o.to ≡ true → PostsAt rh h (o ∷ []) h' step → Says rp rh p h (o ∷ []) p h' step
@@ -205,8 +175,8 @@ says_hub rp rh p h h' o step hub f =
     record {
       posts = f.posts;
       posted = f.posted;
-      persons = adds_as rp p p [] (lines_sent p.worker (to_shards f.posts)) (ap (lines_sent p.worker) (sym gone)) (adds_none rp p);
-      hub = adds_as rh h h' (lines_sent h.worker f.posts) (lines_sent h.worker (to_the_hub f.posts)) (ap (lines_sent h.worker) (sym kept)) f.adds;
+      persons = makes_as rp p p [] (calls_sent p.worker (to_shards f.posts)) (ap (calls_sent p.worker) (sym gone)) (makes_none rp p);
+      hub = makes_as rh h h' (calls_sent h.worker f.posts) (calls_sent h.worker (to_the_hub f.posts)) (ap (calls_sent h.worker) (sym kept)) f.makes;
     }
 
 -- letters of which none goes to the hub
@@ -231,8 +201,8 @@ says_shards rp rh p h p' os step others f =
     record {
       posts = f.posts;
       posted = f.posted;
-      persons = adds_as rp p p' (lines_sent p.worker f.posts) (lines_sent p.worker (to_shards f.posts)) (ap (lines_sent p.worker) (sym only.0)) f.adds;
-      hub = adds_as rh h h [] (lines_sent h.worker (to_the_hub f.posts)) (ap (lines_sent h.worker) (sym only.1)) (adds_none rh h);
+      persons = makes_as rp p p' (calls_sent p.worker f.posts) (calls_sent p.worker (to_shards f.posts)) (ap (calls_sent p.worker) (sym only.0)) f.makes;
+      hub = makes_as rh h h [] (calls_sent h.worker (to_the_hub f.posts)) (ap (calls_sent h.worker) (sym only.1)) (makes_none rh h);
     }
 
 within_to : (shards : ℕ) (to : To) → is_to_hub to ≡ false → box_of to < boxes_in shards (name_of to) → box_of to < shards
@@ -250,8 +220,8 @@ says_then rp rh p h q i r j os ps step f g =
     record {
       posts = f.posts ++ g.posts;
       posted = posts_then os ps f.posts g.posts step f.posted g.posted;
-      persons = adds_as rp p r (lines_sent p.worker (to_shards f.posts ++ to_shards g.posts)) (lines_sent p.worker (to_shards (f.posts ++ g.posts))) (ap (lines_sent p.worker) (sym shards)) (adds_sent rp p q r (to_shards f.posts) (to_shards g.posts) f.persons g.persons);
-      hub = adds_as rh h j (lines_sent h.worker (to_the_hub f.posts ++ to_the_hub g.posts)) (lines_sent h.worker (to_the_hub (f.posts ++ g.posts))) (ap (lines_sent h.worker) (sym hubs)) (adds_sent rh h i j (to_the_hub f.posts) (to_the_hub g.posts) f.hub g.hub);
+      persons = makes_as rp p r (calls_sent p.worker (to_shards f.posts ++ to_shards g.posts)) (calls_sent p.worker (to_shards (f.posts ++ g.posts))) (ap (calls_sent p.worker) (sym shards)) (makes_sent rp p q r (to_shards f.posts) (to_shards g.posts) f.persons g.persons);
+      hub = makes_as rh h j (calls_sent h.worker (to_the_hub f.posts ++ to_the_hub g.posts)) (calls_sent h.worker (to_the_hub (f.posts ++ g.posts))) (ap (calls_sent h.worker) (sym hubs)) (makes_sent rh h i j (to_the_hub f.posts) (to_the_hub g.posts) f.hub g.hub);
     }
 
 pub says_ended : (rp rh : ℕ) (p h q i : Account Letter) (os ps : List Out) (step : Step) → step ≢ Step.On → Says rp rh p h os q i step → Says rp rh p h (os ++ ps) q i step
@@ -264,28 +234,20 @@ says_as rp rh p h q i os ps step e f = subst (λ ws. Says rp rh p h ws q i step)
 
 pub ends_told : (room : ℕ) (a b : Account Letter) (why : Why) (n : ℕ) → SeatCalls room a (post_of a.worker (to_hub (Letter.Stop why))) (post_reply (Ok n)) b → Ends room a (Step.Stop why) b
 ends_told room a b why n h = record {
-  lines = lines_stopped a.worker why (Ok n) (Ok false);
-  adds = adds_call room a b (post_of a.worker (to_hub (Letter.Stop why))) (post_reply (Ok n)) h;
+  calls = calls_stopped a.worker why (Ok n) (Ok false);
+  makes = makes_call room a b (post_of a.worker (to_hub (Letter.Stop why))) (post_reply (Ok n)) h;
   are = (Ok n, Ok false, refl);
 }
 
 pub ends_closed : (room : ℕ) (a b c : Account Letter) (why : Why) (e : CallRefused) (closed : Result Bool TrailFull) → SeatCalls room a (post_of a.worker (to_hub (Letter.Stop why))) (post_reply (Err e)) b → SeatCalls room b (Call.Close 0) (close_reply closed) c → Ends room a (Step.Stop why) c
 ends_closed room a b c why e closed f g =
-    let posted = adds_call room a b (post_of a.worker (to_hub (Letter.Stop why))) (post_reply (Err e)) f in
-    let shut = adds_call room b c (Call.Close 0) (close_reply closed) g in
-    let lines : List (TrailLine Letter) = lines_by a.worker (post_of a.worker (to_hub (Letter.Stop why))) (post_reply (Err e)) in
+    let posted = makes_call room a b (post_of a.worker (to_hub (Letter.Stop why))) (post_reply (Err e)) f in
+    let shut = makes_call room b c (Call.Close 0) (close_reply closed) g in
     record {
-      lines = lines_stopped a.worker why (Err e) closed;
-      adds = adds_then room a b c lines (lines_by a.worker (Call.Close 0) (close_reply closed)) posted (subst (λ (k : ℕ). AddsLines room b (lines_by k (Call.Close 0) (close_reply closed)) c) posted.worker shut);
+      calls = calls_stopped a.worker why (Err e) closed;
+      makes = makes_then room a b c _ _ posted shut;
       are = (Err e, closed, refl);
     }
-
--- ---- a take that says that no letter will come
-
-pub over_taken : (room : ℕ) (a b : Account Letter) (at : ℕ) (r : Result (Taken Letter) TrailFull) → SeatCalls room a (Call.Take at) (take_reply r) b → r ≡ Ok Taken.Over → 0 < room → IsOver b.lines
-over_taken room a b at r h over some =
-    let call : SeatCalls room a (Call.Take at) (Some (Reply.Took Taken.Over)) b = subst (λ (t : Result (Taken Letter) TrailFull). SeatCalls room a (Call.Take at) (take_reply t) b) over h in
-    (a.lines, a.worker, at, (adds_call room a b (Call.Take at) (Some (Reply.Took Taken.Over)) call).told some)
 
 -- ---- whether the post of a Stop was refused
 

@@ -70,9 +70,9 @@ no_bids t stray (Step.Stop Why.Posts) j after own = absurd after
 no_bids t stray (Step.Stop Why.Mail) j after own = absurd after
 no_bids t stray (Step.Stop Why.Fell) j after own = absurd after
 
-pub sells_of : (eps : ℤ) (room : ℕ) (s t : Objects) (a b : Account Letter) (said : List Out) (step : Step) → length s.holders ≡ length s.prices → Deals eps room s a said t b step → Sells eps room s a t b
+pub sells_of : (eps : ℤ) (room : ℕ) (s t : Objects) (a b : Account Letter) (said : List Out) (step : Step) → length s.holders ≡ length s.prices → Deals eps room s.shard s a said t b step → Sells eps room s a t b
 sells_of eps room s t a b said step each f =
-    let shape : SameShape s t = deals_shape eps room s t a b said step f in
+    let shape : SameShape s t = deals_shape eps room s.shard s t a b said step f in
     let d = f.dealt in
     record {
       shape = shape;

@@ -56,9 +56,9 @@ object_result task r₁ r₂ r₃ k eps s a p h t a' p' h' why promise work =
     let serves = done.serves in
     let free : GuardFree done.step = subst GuardFree (sym serves.is) (free_first serves.said_step serves.took_step (free_posts serves.said serves.tells.posts serves.said_step serves.tells.posted) (free_letters t serves.deals.dealt.stray serves.took_step serves.deals.dealt.after)) in
     record {
-      seat = serves.deals.took.worker;
+      seat = serves.deals.took.makes.worker;
       persons_seat = serves.tells.persons.worker;
-      hub_seat = done.ends.adds.worker ∙ serves.tells.hub.worker;
+      hub_seat = done.ends.makes.worker ∙ serves.tells.hub.worker;
       sells = sells_of task.eps r₁ begun t seat a' serves.said serves.took_step (length-replicate (length task.prices.now) None) serves.deals;
       no_guard = free_why done.step why free done.why_is;
       no_bids = free_bids done.step why free done.why_is;
@@ -86,8 +86,8 @@ person_result task r₁ r₂ r₃ k eps t s a p h n a' p' h' why promise work =
     (subst (λ (x : Account Letter). IsPersonWork t eps r₁ r₂ r₃ begun x p h n a' p' h' why) seats.objects_seat
     (subst (λ (x : Persons). IsPersonWork t eps r₁ r₂ r₃ x a p h n a' p' h' why) promise.begins.shard work))))) in
     record {
-      seat = done.buys.took.worker;
-      objects_seat = done.buys.posts.adds.worker;
-      hub_seat = done.ends.adds.worker;
+      seat = done.buys.took.makes.worker;
+      objects_seat = done.buys.posts.makes.worker;
+      hub_seat = done.ends.makes.worker;
       work = done;
     }

@@ -1,9 +1,11 @@
 -- How a worker goes on, and with which reason.
-use Rattle.std.proofs.Common.{◌≡◌, ◌≢◌, ℕ, List, [], ◌∷◌, Some, refl, sym, ◌∙◌, subst, inl, inr}
+use Rattle.std.proofs.Common.{◌≡◌, ◌≢◌, ℕ, Bool, true, false, cond, List, [], ◌∷◌, Some, refl, sym, ◌∙◌, subst, inl, inr}
 use Rattle.std.specs.Prelude.{Option, Result, Ok, Err}
 use Rattle.auc_letters.specs.declared.letter.Letter.{Letter}
 use Rattle.auc_letters.specs.declared.letter.Why.{Why}
 use Rattle.auc_letters.specs.declared.out.Out.{Out}
+use Rattle.auc_mail.specs.declared.call.PostRefused.{PostRefused}
+use Rattle.auc_model.specs.Posting.{is_price, reason}
 use Rattle.auc_book.specs.declared.error.CallRefused.{CallRefused}
 use Rattle.auc_book.specs.declared.error.CallRefused.TheVariants as refused
 use Rattle.auc_book.specs.Seat.{Account}
@@ -23,21 +25,19 @@ GuardFree (Step.Stop Why.Mail) = Unit {0}
 GuardFree (Step.Stop Why.Fell) = ⊥
 GuardFree (Step.Stop Why.Stray) = Unit {0}
 
-free_without : (x : Letter) (why : Why) → GuardFree (Step.Stop why) → GuardFree (step_without x why)
-free_without (Letter.Price j p) why h = tt
-free_without (Letter.Bid i a j p) why h = h
-free_without (Letter.Award i j p) why h = h
-free_without (Letter.Refused i j p) why h = h
-free_without (Letter.Outbid i j p) why h = h
-free_without (Letter.First j) why h = h
-free_without (Letter.Stop y) why h = h
+free_without : (x : Letter) (r : PostRefused) → GuardFree (Step.Stop (reason r)) → GuardFree (step_without x r)
+free_without x r h = by (is_price x)
+  where
+    by : (b : Bool) → GuardFree (cond b Step.On (Step.Stop (reason r)))
+    by true = tt
+    by false = h
 
 free_after : (x : Letter) (r : Result ℕ CallRefused) → GuardFree (step_after x r)
 free_after x (Ok n) = tt
 free_after x (Err refused.TrailFull) = tt
 free_after x (Err refused.Closed) = tt
-free_after x (Err refused.Spent) = free_without x Why.Posts tt
-free_after x (Err refused.Full) = free_without x Why.Mail tt
+free_after x (Err refused.Spent) = free_without x PostRefused.Spent tt
+free_after x (Err refused.Full) = free_without x PostRefused.Full tt
 
 pub free_posts : (os : List Out) (xs : List Sent) (step : Step) → Posts os xs step → GuardFree step
 free_posts [] [] step f = subst GuardFree (sym f) tt

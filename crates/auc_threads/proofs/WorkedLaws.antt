@@ -8,14 +8,15 @@ use Rattle.auc_letters.specs.declared.letter.Why.{Why}
 use Rattle.auc_objects.specs.Objects.{Objects}
 use Rattle.auc_persons.specs.Persons.{Persons}
 use Rattle.auc_book.specs.Seat.{Account, new_account}
-use Rattle.auc_book.specs.Settling.{Agrees}
+use Rattle.auc_book.specs.declared.line.TrailLine.{TrailLine}
+use Rattle.auc_book.specs.Settling.{IsTrueOf}
 use Rattle.auc_model.specs.declared.turn.End.{End}
 use Rattle.auc_answers.specs.Shards.{new_objects, new_persons}
 use Rattle.auc_threads.specs.declared.settling.Trails.{Trails}
 use Rattle.auc_threads.specs.declared.task.Task.{Task}
 use Rattle.auc_threads.specs.Placed.{Placed}
 use Rattle.auc_threads.specs.Starts.{IsObjectResult, IsObjectWork, IsPersonResult, IsPersonWork}
-use Rattle.auc_threads.specs.Worked.{IsBuyer, IsSeller, end_by, first_some}
+use Rattle.auc_threads.specs.Worked.{IsBuyer, IsSeller, IsTold, end_by, first_some}
 use Rattle.auc_threads.proofs.BuyingLaws.{bids_few, bids_noted, bids_spent}
 use Rattle.auc_threads.proofs.PlacedLaws.{placed_some}
 use Rattle.auc_threads.proofs.StepLaws.{why_stop}
@@ -96,10 +97,14 @@ stopped_for false (Some w) end why is e = let f = sym is ∙ e in cc
 pub value_at : {X Y : Type 0} (y : X → Y) (none : Y) (xs : List X) (k : ℕ) (x : X) → k < length xs → ((d : X) → get_or xs k d ≡ x) → y x ≡ get_or (map y xs) k none
 value_at y none xs k x known at = sym (get_or-map y xs k x none known ∙ ap y (at x))
 
+-- the seat of a worker, as the trail has it
+pub is_told : (room w : ℕ) (trail : List (TrailLine Letter)) (a : Account Letter) → a.worker ≡ w → IsTrueOf room trail a → IsTold room w trail a
+is_told room w trail a worker truth = record { worker = worker; lines = truth.0; full = truth.1 }
+
 module _ {X : Type 0} (f : X → Objects) (a p h : X → Account Letter) (y : X → Option Why) (task : Task) (r₁ r₂ r₃ : ℕ) (xs : List X)
     (results : Placed (λ k w. IsObjectResult task r₁ r₂ r₃ k (f w) (a w) (p w) (h w) (y w)) 0 xs)
     (e₁ : r₁ ≡ task.limits.now.audit) (e₂ : r₂ ≡ task.limits.now.audit) (e₃ : r₃ ≡ task.limits.now.audit) (trails : Trails)
-    (objects : All (λ w. Agrees trails.objects (a w)) xs) (persons : All (λ w. Agrees trails.persons (p w)) xs) (hub : All (λ w. Agrees trails.hub (h w)) xs)
+    (objects : All (λ w. IsTrueOf task.limits.now.audit trails.objects (a w)) xs) (persons : All (λ w. IsTrueOf task.limits.now.audit trails.persons (p w)) xs) (hub : All (λ w. IsTrueOf task.limits.now.audit trails.hub (h w)) xs)
     (many : length xs ≡ task.limits.now.shards) where
   pub seller_told : (k : ℕ) → k < task.limits.now.shards → IsSeller task.rows.now task.limits.now task.eps task.prices.now trails k (get_or (map y xs) k None)
   seller_told k low =
@@ -121,19 +126,16 @@ module _ {X : Type 0} (f : X → Objects) (a p h : X → Account Letter) (y : X 
             (subst (λ (m : ℕ). IsObjectWork task.eps n m r₃ begun seat seat seat (f x) (a x) (p x) (h x) (y x)) e₂
             (subst (λ (m : ℕ). IsObjectWork task.eps m r₂ r₃ begun seat seat seat (f x) (a x) (p x) (h x) (y x)) e₁ r.work)));
         told = record {
-          objects_worker = r.seat;
-          persons_worker = r.persons_seat;
-          hub_worker = r.hub_seat;
-          objects_lines = subst (λ w. Agrees trails.objects (a w)) (at.2 x) (objects k x known);
-          persons_lines = subst (λ w. Agrees trails.persons (p w)) (at.2 x) (persons k x known);
-          hub_lines = subst (λ w. Agrees trails.hub (h w)) (at.2 x) (hub k x known);
+          at_objects = is_told n _ trails.objects (a x) r.seat (subst (λ w. IsTrueOf n trails.objects (a w)) (at.2 x) (objects k x known));
+          at_persons = is_told n _ trails.persons (p x) r.persons_seat (subst (λ w. IsTrueOf n trails.persons (p w)) (at.2 x) (persons k x known));
+          at_hub = is_told n _ trails.hub (h x) r.hub_seat (subst (λ w. IsTrueOf n trails.hub (h w)) (at.2 x) (hub k x known));
         };
       }
 
 module _ {X : Type 0} (f : X → Persons) (a p h : X → Account Letter) (y : X → Option Why) (task : Task) (r₁ r₂ r₃ : ℕ) (xs : List X)
     (results : Placed (λ k w. IsPersonResult task r₁ r₂ r₃ k (f w) (a w) (p w) (h w) (y w)) 0 xs) (some : 0 < r₁)
     (e₁ : r₁ ≡ task.limits.now.audit) (e₂ : r₂ ≡ task.limits.now.audit) (e₃ : r₃ ≡ task.limits.now.audit) (trails : Trails)
-    (objects : All (λ w. Agrees trails.objects (a w)) xs) (persons : All (λ w. Agrees trails.persons (p w)) xs) (hub : All (λ w. Agrees trails.hub (h w)) xs)
+    (objects : All (λ w. IsTrueOf task.limits.now.audit trails.objects (a w)) xs) (persons : All (λ w. IsTrueOf task.limits.now.audit trails.persons (p w)) xs) (hub : All (λ w. IsTrueOf task.limits.now.audit trails.hub (h w)) xs)
     (many : length xs ≡ task.limits.now.shards) (bids : List ℕ) (counted : bids ≡ map (λ w. (a w).count) xs) where
   pub buyer_told : (k : ℕ) → k < task.limits.now.shards → IsBuyer task.rows.now task.limits.now task.eps task.prices.now trails (get_or bids k 0) k (get_or (map y xs) k None)
   buyer_told k low =
@@ -145,8 +147,8 @@ module _ {X : Type 0} (f : X → Persons) (a p h : X → Account Letter) (y : X 
       let begun : Persons = new_persons task.limits.now.shards (length task.rows.now.rows) task.limits.now.bids task.prices.now k in
       let n = task.limits.now.audit in
       let is = value_at y None xs k x known at.2 in
-      let few : (a x).count ≤ task.limits.now.bids = bids_few task.rows.now task.eps r₁ r₂ begun (f x) seat (a x) seat (p x) r.work.step r.work.buys refl in
-      let adds : length (a x).lines ≡ (a x).count = bids_noted task.rows.now task.eps r₁ r₂ begun (f x) seat (a x) seat (p x) r.work.step r.work.buys some refl refl in
+      let few : (a x).count ≤ task.limits.now.bids = bids_few task.rows.now task.eps r₁ r₂ k begun (f x) seat (a x) seat (p x) r.work.step r.work.buys refl in
+      let adds : length (a x).lines ≡ (a x).count = bids_noted task.rows.now task.eps r₁ r₂ k begun (f x) seat (a x) seat (p x) r.work.step r.work.buys some refl refl in
       record {
         left = f x;
         objects = a x;
@@ -158,14 +160,11 @@ module _ {X : Type 0} (f : X → Persons) (a p h : X → Account Letter) (y : X 
             (subst (λ (m : ℕ). IsPersonWork task.rows.now task.eps n m r₃ begun seat seat seat (f x) (a x) (p x) (h x) (y x)) e₂
             (subst (λ (m : ℕ). IsPersonWork task.rows.now task.eps m r₂ r₃ begun seat seat seat (f x) (a x) (p x) (h x) (y x)) e₁ r.work)));
         told = record {
-          objects_worker = r.objects_seat;
-          persons_worker = r.seat;
-          hub_worker = r.hub_seat;
-          objects_lines = subst (λ w. Agrees trails.objects (a w)) (at.2 x) (objects k x known);
-          persons_lines = subst (λ w. Agrees trails.persons (p w)) (at.2 x) (persons k x known);
-          hub_lines = subst (λ w. Agrees trails.hub (h w)) (at.2 x) (hub k x known);
+          at_objects = is_told n _ trails.objects (a x) r.objects_seat (subst (λ w. IsTrueOf n trails.objects (a w)) (at.2 x) (objects k x known));
+          at_persons = is_told n _ trails.persons (p x) r.seat (subst (λ w. IsTrueOf n trails.persons (p w)) (at.2 x) (persons k x known));
+          at_hub = is_told n _ trails.hub (h x) r.hub_seat (subst (λ w. IsTrueOf n trails.hub (h w)) (at.2 x) (hub k x known));
         };
         counted = adds ∙ (value_at (λ w. (a w).count) 0 xs k x known at.2 ∙ ap (λ ns. get_or ns k 0) (sym counted));
         few = omega (arith, adds, few);
-        spent = λ e. adds ∙ bids_spent task.rows.now task.eps r₁ r₂ begun (f x) seat (a x) seat (p x) r.work.step r.work.buys refl (why_stop r.work.step (y x) Why.Bids r.work.why_is (is ∙ e));
+        spent = λ e. adds ∙ bids_spent task.rows.now task.eps r₁ r₂ k begun (f x) seat (a x) seat (p x) r.work.step r.work.buys refl (why_stop r.work.step (y x) Why.Bids r.work.why_is (is ∙ e));
       }

@@ -1,5 +1,5 @@
 -- What a worker of the persons does: it hears letters, and bids at the copies of prices that they have made.
-use Rattle.std.specs.Prelude.{◌≡◌, ◌≢◌, ◌⊎◌, ℕ, ◌<◌, ℤ, List, [], ◌∷◌, ◌++◌, Ok, Err}
+use Rattle.std.specs.Prelude.{◌≡◌, ◌≢◌, ◌⊎◌, ℕ, ℤ, List, [], ◌∷◌, ◌++◌, Ok, Err}
 use Rattle.auc_graph.specs.Table.{Table}
 use Rattle.auc_letters.specs.declared.letter.Letter.{Letter}
 use Rattle.auc_letters.specs.declared.letter.Why.{Why}
@@ -10,8 +10,8 @@ use Rattle.auc_persons.specs.Persons.{NextBid, OnLetter, Persons, Stops, first_i
 use Rattle.auc_book.specs.Seat.{Account}
 use Rattle.auc_answers.specs.Reasons.{reason_for}
 use Rattle.auc_threads.specs.declared.calls.Step.{Step}
-use Rattle.auc_threads.specs.Taking.{TookMore}
-use Rattle.auc_threads.specs.Posting.{IsOver, PostsAt, first_step}
+use Rattle.auc_threads.specs.Taking.{AfterTakes, Takes}
+use Rattle.auc_threads.specs.Posting.{PostsAt, first_step}
 
 -- what a shard of the persons does: it hears a letter, or makes a bid
 pub data Act : Type 0 where
@@ -70,23 +70,25 @@ pub record ListensTo (t : Table) (eps : ℤ) (s : Persons) (letters : List Lette
   pub letters_are : letters ≡ heard_in acts ++ fault
   pub after : AfterActs t eps n fault step
 
--- and the worker took them
-pub record Listens (t : Table) (eps : ℤ) (room : ℕ) (s : Persons) (a : Account Letter) (n : Persons) (b : Account Letter) (step : Step) : Type 0 where
+-- and the worker took them from its box
+pub record Listens (t : Table) (eps : ℤ) (room at : ℕ) (s : Persons) (a : Account Letter) (n : Persons) (b : Account Letter)
+    (step : Step) : Type 0 where
   pub letters : List Letter
-  pub took : TookMore room a letters b
+  pub took : Takes room at a letters b
   pub listens : ListensTo t eps s letters n step
-  pub over : step ≡ Step.Over → 0 < room → IsOver b.lines
+  pub taken : AfterTakes took.answers step
 
--- It bid and heard: it took just these letters, and posted the bids in order, up to the first post that ends it.
-pub record Buys (t : Table) (eps : ℤ) (objects_room persons_room : ℕ) (s : Persons) (a p : Account Letter) (n : Persons) (a' p' : Account Letter) (step : Step) : Type 0 where
+-- It bid and heard: it took just these letters from its box, and posted the bids in order, up to the first post that ends it.
+pub record Buys (t : Table) (eps : ℤ) (objects_room persons_room at : ℕ) (s : Persons) (a p : Account Letter) (n : Persons)
+    (a' p' : Account Letter) (step : Step) : Type 0 where
   pub acts : List Act
   pub fault : List Letter
   pub posts_step : Step
   pub acts_step : Step
   pub plays : Plays t eps s acts n
   pub posts : PostsAt objects_room a (made_in acts) a' posts_step
-  pub took : TookMore persons_room p (heard_in acts ++ fault) p'
+  pub took : Takes persons_room at p (heard_in acts ++ fault) p'
   pub after : AfterActs t eps n fault acts_step
-  pub over : acts_step ≡ Step.Over → 0 < persons_room → IsOver p'.lines
+  pub taken : AfterTakes took.answers acts_step
   -- a post that ends the worker comes before what it asked for or took later
   pub is : step ≡ first_step posts_step acts_step

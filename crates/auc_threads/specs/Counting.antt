@@ -1,16 +1,16 @@
 -- What the hub counts, and how it ends a phase.
-use Rattle.std.specs.Prelude.{ℕ, ◌+◌, ◌≡◌, ◌<◌, ◌↔◌, ◌⊎◌, Bool, true, false, IsTrue, List, [], ◌∷◌, ◌++◌, length, Option, None, Some, Result, count_by}
+use Rattle.std.specs.Prelude.{ℕ, ◌+◌, ◌≡◌, ◌<◌, ◌↔◌, ◌⊎◌, Bool, true, false, IsTrue, List, [], ◌∷◌, ◌++◌, length, Option, None, Some, Result, Ok, Err, All, count_by}
 use Rattle.auc_letters.specs.declared.letter.Letter.{Letter}
 use Rattle.auc_letters.specs.declared.letter.Why.{Why}
 use Rattle.auc_mail.specs.declared.call.Call.{Call}
+use Rattle.auc_mail.specs.declared.call.Taken.{Taken}
 use Rattle.auc_book.specs.declared.error.TrailFull.{TrailFull}
-use Rattle.auc_book.specs.declared.line.TrailLine.{TrailLine}
 use Rattle.auc_book.specs.Replies.{close_reply}
 use Rattle.auc_book.specs.Seat.{Account}
 use Rattle.auc_answers.specs.Hub.{Counting}
 use Rattle.auc_threads.specs.declared.hub.Heard.{Heard}
-use Rattle.auc_threads.specs.Taking.{TookMore}
-use Rattle.auc_threads.specs.Posting.{IsOver, AddsLines, lines_by}
+use Rattle.auc_threads.specs.Calling.{Called, Makes}
+use Rattle.auc_threads.specs.Taking.{Answer, calls_taken, letters_taken}
 
 abbrev pub is_first : Letter → Bool
 is_first (Letter.First j) = true
@@ -34,48 +34,60 @@ is_stop (Letter.Price j p) = false
 abbrev pub firsts_in : List Letter → ℕ
 firsts_in letters = count_by is_first letters
 
--- the letters that the hub took last, and its own reason to end the phase: a shard had stopped, or no letter will come any more, and it has none; or no
--- call could be noted; or a letter came that isn't the hub's
-abbrev pub EndsBy : List Letter → Option Why → Type 0
-EndsBy letters why =
-    ((why ≡ None) × ((letters ≡ []) ⊎ ((x : Letter) × (letters ≡ x ∷ []) × (is_stop x ≡ true))))
-    ⊎ (((why ≡ Some Why.Trail) × (letters ≡ []))
-    ⊎ ((why ≡ Some Why.Stray) × ((x : Letter) × (letters ≡ x ∷ []) × (is_first x ≡ false) × (is_stop x ≡ false))))
+-- the answer gave a First
+abbrev pub GaveFirst : Answer → Type 0
+GaveFirst (Ok (Taken.Letter s n x)) = is_first x ≡ true
+GaveFirst (Ok Taken.Empty) = ⊥
+GaveFirst (Ok Taken.Over) = ⊥
+GaveFirst (Err e) = ⊥
 
--- The hub of so many persons has heard these letters, and so goes on, or has counted them all, or ends the phase.
-abbrev pub Counted : ℕ → Counting → List Letter → Heard → Counting → Type 0
-Counted persons h letters Heard.On n = (firsts_in letters ≡ 1) × (n.count ≡ h.count + 1) × (n.count < persons) × (n.end ≡ None)
-Counted persons h letters Heard.All n = (firsts_in letters ≡ 1) × (h.count + 1 ≡ persons)
-Counted persons h letters (Heard.End why) n = (firsts_in letters ≡ 0) × EndsBy letters why
+-- How the hub ends a phase by a letter that is no First, and its own reason: a shard has stopped, and then it has none; or the letter
+-- isn't the hub's.
+abbrev pub EndsFor : Letter → Option Why → Type 0
+EndsFor x why = (is_first x ≡ false) × (((is_stop x ≡ true) × (why ≡ None)) ⊎ ((is_stop x ≡ false) × (why ≡ Some Why.Stray)))
 
--- the lines of closes of boxes from this one on, that were answered so
-abbrev pub lines_closed : ℕ → ℕ → List (Result Bool TrailFull) → List (TrailLine Letter)
-lines_closed k b [] = []
-lines_closed k b (r ∷ rs) = lines_by k (Call.Close b) (close_reply r) ++ lines_closed k (b + 1) rs
+-- by the last answer: or no letter will come any more, and it has none; or it was turned away
+abbrev pub EndsBy : Answer → Option Why → Type 0
+EndsBy (Ok (Taken.Letter s n x)) why = EndsFor x why
+EndsBy (Ok Taken.Empty) why = ⊥
+EndsBy (Ok Taken.Over) why = why ≡ None
+EndsBy (Err e) why = why ≡ Some Why.Trail
+
+-- The hub of so many persons has heard this answer, and so goes on, or has counted them all, or ends the phase.
+abbrev pub Counted : ℕ → Counting → Answer → Heard → Counting → Type 0
+Counted persons h last Heard.On n = GaveFirst last × (n.count ≡ h.count + 1) × (n.count < persons) × (n.end ≡ None)
+Counted persons h last Heard.All n = GaveFirst last × (h.count + 1 ≡ persons)
+Counted persons h last (Heard.End why) n = EndsBy last why
+
+-- closes of boxes from this one on, answered so
+abbrev pub calls_closed : ℕ → List (Result Bool TrailFull) → List Called
+calls_closed b [] = []
+calls_closed b (r ∷ rs) = record { call = Call.Close b; reply = close_reply r } ∷ calls_closed (b + 1) rs
 
 -- the worker closed the first n boxes of a mail, in order
 pub record Closes (room n : ℕ) (a b : Account Letter) : Type 0 where
   pub answers : List (Result Bool TrailFull)
   pub each : length answers ≡ n
-  pub adds : AddsLines room a (lines_closed a.worker 0 answers) b
+  pub makes : Makes room a (calls_closed 0 answers) b
 
--- The hub took letters, the last ones after all others, and says whether it took one First for each person; then it closed its box. Where it didn't, its
--- reason is that of the last ones, or it has none since none will come any more.
+-- The hub took one First after another from its box, and then the last answer, and went on after no other. It says whether it took one
+-- First for each person; then it closed its box. Where it didn't, the last answer has ended the phase.
 pub record Counts (room persons : ℕ) (a : Account Letter) (is_all : Bool) (why : Option Why) (b : Account Letter) : Type 0 where
-  pub letters : List Letter
-  pub last : List Letter
-  pub took : TookMore room a (letters ++ last) b
-  pub all : IsTrue is_all ↔ (firsts_in (letters ++ last) ≡ persons)
+  pub heard : List Answer
+  pub last : Answer
+  pub firsts : All GaveFirst heard
   pub before : Account Letter
+  pub takes : Makes room a (calls_taken 0 (heard ++ last ∷ [])) before
   pub closes : Closes room 1 before b
-  pub quiet : is_all ≡ true → why ≡ None
+  pub all : IsTrue is_all ↔ (firsts_in (letters_taken (heard ++ last ∷ [])) ≡ persons)
+  pub done : is_all ≡ true → GaveFirst last × (why ≡ None)
   pub ends : is_all ≡ false → EndsBy last why
-  pub over : is_all ≡ false → why ≡ None → last ≡ [] → 0 < room → IsOver before.lines
 
 -- so far it took fewer, and has counted each of them
 pub record CountsOn (room persons : ℕ) (h : Counting) (a b : Account Letter) : Type 0 where
-  pub letters : List Letter
-  pub took : TookMore room a letters b
-  pub counted : firsts_in letters ≡ h.count
+  pub heard : List Answer
+  pub firsts : All GaveFirst heard
+  pub takes : Makes room a (calls_taken 0 heard) b
+  pub counted : firsts_in (letters_taken heard) ≡ h.count
   pub fewer : h.count < persons
   pub going : h.end ≡ None

@@ -1,5 +1,5 @@
 -- What a worker of the objects makes of the letters that it takes, and what it has to say of them.
-use Rattle.std.specs.Prelude.{◌≡◌, ◌==◌, ℕ, ◌<◌, ◌%◌, ℤ, not, List, [], ◌∷◌, ◌++◌, map, filter, All, if◌then◌else◌}
+use Rattle.std.specs.Prelude.{◌≡◌, ◌==◌, ℕ, ◌%◌, ℤ, not, List, [], ◌∷◌, ◌++◌, map, filter, All, if◌then◌else◌}
 use Rattle.std.specs.List.{range_with_len}
 use Rattle.auc_letters.specs.declared.letter.Letter.{Letter}
 use Rattle.auc_letters.specs.declared.letter.Bid.{Bid}
@@ -11,8 +11,8 @@ use Rattle.auc_letters.specs.Routing.{price_told}
 use Rattle.auc_objects.specs.Objects.{IsBidIn, Objects, Owns, after_bid, price_of, sale_of}
 use Rattle.auc_book.specs.Seat.{Account}
 use Rattle.auc_threads.specs.declared.calls.Step.{Step}
-use Rattle.auc_threads.specs.Taking.{TookMore}
-use Rattle.auc_threads.specs.Posting.{IsOver, Says, first_step}
+use Rattle.auc_threads.specs.Taking.{AfterTakes, Takes}
+use Rattle.auc_threads.specs.Posting.{Says, first_step}
 
 -- the shards below n but one, in rising order
 abbrev pub others : ℕ → ℕ → List ℕ
@@ -26,7 +26,8 @@ prices_told s n one object = map (λ q. price_told s.persons q object (price_of 
 abbrev pub says : ℤ → Objects → Bid → List Out
 says eps s bid =
     answers s.person_shards eps (sale_of s bid.object) bid
-    ++ (if is_accepted eps (sale_of s bid.object) bid then prices_told (after_bid s eps bid) s.person_shards (bid.person % s.person_shards) bid.object else [])
+    ++ (if is_accepted eps (sale_of s bid.object) bid then prices_told (after_bid s eps bid) s.person_shards (bid.person % s.person_shards)
+    bid.object else [])
 
 -- the shard when bids were dealt with, one after another, and what it says of them
 abbrev pub after_bids : ℤ → Objects → List Bid → Objects
@@ -66,19 +67,21 @@ pub record DealsWith (eps : ℤ) (s : Objects) (letters : List Letter) (said : L
   pub said_are : said ≡ says_all eps s bids
   pub after : AfterLetters t stray step
 
--- and the worker took them
-pub record Deals (eps : ℤ) (room : ℕ) (s : Objects) (a : Account Letter) (said : List Out) (t : Objects) (b : Account Letter) (step : Step) : Type 0 where
+-- and the worker took them from its box
+pub record Deals (eps : ℤ) (room at : ℕ) (s : Objects) (a : Account Letter) (said : List Out) (t : Objects) (b : Account Letter)
+    (step : Step) : Type 0 where
   pub letters : List Letter
-  pub took : TookMore room a letters b
+  pub took : Takes room at a letters b
   pub dealt : DealsWith eps s letters said t step
-  pub over : step ≡ Step.Over → 0 < room → IsOver b.lines
+  pub taken : AfterTakes took.answers step
 
 -- It dealt with letters, and posted what it had to say of them.
-pub record Serves (eps : ℤ) (objects_room persons_room hub_room : ℕ) (s : Objects) (a p h : Account Letter) (t : Objects) (a' p' h' : Account Letter) (step : Step) : Type 0 where
+pub record Serves (eps : ℤ) (objects_room persons_room hub_room at : ℕ) (s : Objects) (a p h : Account Letter) (t : Objects)
+    (a' p' h' : Account Letter) (step : Step) : Type 0 where
   pub said : List Out
   pub took_step : Step
   pub said_step : Step
-  pub deals : Deals eps objects_room s a said t a' took_step
+  pub deals : Deals eps objects_room at s a said t a' took_step
   pub tells : Says persons_room hub_room p h said p' h' said_step
   -- a post that ends the worker comes before what it took later
   pub is : step ≡ first_step said_step took_step

@@ -4,7 +4,7 @@ use Rattle.auc_letters.specs.declared.letter.Letter.{Letter}
 use Rattle.auc_graph.specs.Table.{Table, row_of}
 use Rattle.auc_persons.specs.Persons.{Persons, NeverFall, copy_of}
 use Rattle.auc_book.specs.Seat.{Account}
-use Rattle.auc_threads.specs.Taking.{TookMore}
+use Rattle.auc_threads.specs.Taking.{Takes}
 
 -- the letter tells this price of the object
 abbrev pub Tells : ℕ → ℤ → Letter → Type 0
@@ -38,10 +38,10 @@ pub record HearsOf (s : Persons) (letters : List Letter) (t : Persons) (fell : T
   pub rise : NeverFall s.copies t.copies
   pub falls : fell → Falls (copy_of s) letters
 
--- and took them by its seat
-pub record Hears (room : ℕ) (s : Persons) (a : Account Letter) (t : Persons) (b : Account Letter) (fell : Type 0) : Type 0 where
+-- and took them from its box
+pub record Hears (room at : ℕ) (s : Persons) (a : Account Letter) (t : Persons) (b : Account Letter) (fell : Type 0) : Type 0 where
   pub letters : List Letter
-  pub took : TookMore room a letters b
+  pub took : Takes room at a letters b
   pub hears : HearsOf s letters t fell
 
 -- some person has no arc

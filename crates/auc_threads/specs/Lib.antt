@@ -1,3 +1,4 @@
+pub mod Calling
 pub mod Taking
 pub mod Posting
 pub mod Dealing

@@ -4,12 +4,12 @@ use Rattle.auc_letters.specs.declared.letter.Letter.{Letter}
 use Rattle.auc_letters.specs.Award.{award_all, bids_on}
 use Rattle.auc_objects.specs.Objects.{Objects, Owns, SameShape, sale_of}
 use Rattle.auc_book.specs.Seat.{Account}
-use Rattle.auc_threads.specs.Taking.{TookMore}
+use Rattle.auc_threads.specs.Taking.{Takes}
 
--- A shard of the objects took letters, and dealt with the bids among them: each of its objects is what the award rule makes of it by the bids
+-- A shard of the objects took letters from its box, and dealt with the bids among them: each of its objects is what the award rule makes of it by the bids
 -- on it, in order.
 pub record Sells (eps : ℤ) (room : ℕ) (s : Objects) (a : Account Letter) (t : Objects) (b : Account Letter) : Type 0 where
   pub shape : SameShape s t
   pub letters : List Letter
-  pub took : TookMore room a letters b
+  pub took : Takes room s.shard a letters b
   pub sold : (j : ℕ) → Owns s j → sale_of t j ≡ award_all eps (sale_of s j) (bids_on j letters)

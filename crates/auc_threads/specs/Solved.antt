@@ -30,12 +30,16 @@ IsInfeasible (Answer.Broken guard) = ⊥
 -- person, and is not at the last eps: it begins with the prices that were left, at the next eps. The last one decides.
 abbrev pub Runs : Problem → Table → Limits → ℤ → List ℤ → List PhaseEnd → Answer → Type 0
 Runs p t limits eps prices [] answer = ⊥
-Runs p t limits eps prices (e ∷ []) answer = IsPhase t limits eps prices e × (verdict_of limits e ≡ Verdict.Sold → next_eps eps ≡ None) × Decides p e.gathered (verdict_of limits e) answer
+Runs p t limits eps prices (e ∷ []) answer = IsPhase t limits eps prices e × (verdict_of limits e ≡ Verdict.Sold → next_eps eps ≡ None)
+    × Decides p e.gathered (verdict_of limits e) answer
 Runs p t limits eps prices (e ∷ f ∷ rest) answer =
-    IsPhase t limits eps prices e × (verdict_of limits e ≡ Verdict.Sold) × ((next : ℤ) × (next_eps eps ≡ Some next) × Runs p t limits next e.gathered.prices.items (f ∷ rest) answer)
+    IsPhase t limits eps prices e × (verdict_of limits e ≡ Verdict.Sold)
+    × ((next : ℤ) × (next_eps eps ≡ Some next) × Runs p t limits next e.gathered.prices.items (f ∷ rest) answer)
 
 -- There is no phase where some persons know too few objects. Else there is an assignment, and the first phase begins as from nothing, at the first
 -- eps and prices of 0, or from start prices, at eps 1.
 abbrev pub IsSolvedBy : Problem → Limits → Option (List ℤ) → List PhaseEnd → Answer → Type 0
 IsSolvedBy p limits start [] answer = IsInfeasibleAnswer p answer
-IsSolvedBy p limits start (e ∷ rest) answer = HasAssignment p × ((t : Table) × IsTableOf p t × ((eps : ℤ) × (prices : List ℤ) × Begins t start eps prices × Runs p t limits eps prices (e ∷ rest) answer))
+IsSolvedBy p limits start (e ∷ rest) answer = HasAssignment p
+    × ((t : Table) × IsTableOf p t × ((eps : ℤ) × (prices : List ℤ) × Begins t start eps prices
+    × Runs p t limits eps prices (e ∷ rest) answer))

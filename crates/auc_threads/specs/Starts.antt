@@ -27,11 +27,13 @@ pub record IsObjectStart (task : Task) (k : ℕ) (s : Objects) (a p h : Account 
   pub shard : s ≡ new_objects task.limits.now.shards (length task.rows.now.rows) task.prices.now k
   pub seats : AreNewSeats (task.limits.now.shards + k) a p h
 
--- What comes of a worker of the objects: it dealt with bids and said what it had to, and at its end tells the hub why.
-pub record IsObjectWork (eps : ℤ) (objects_room persons_room hub_room : ℕ) (s : Objects) (a p h : Account Letter) (t : Objects) (a' p' h' : Account Letter) (why : Option Why) : Type 0 where
+-- What comes of a worker of the objects: it dealt with bids from the box of its shard's number and said what it had to, and at its end
+-- tells the hub why.
+pub record IsObjectWork (eps : ℤ) (objects_room persons_room hub_room : ℕ) (s : Objects) (a p h : Account Letter) (t : Objects)
+    (a' p' h' : Account Letter) (why : Option Why) : Type 0 where
   pub step : Step
   pub before : Account Letter
-  pub serves : Serves eps objects_room persons_room hub_room s a p h t a' p' before step
+  pub serves : Serves eps objects_room persons_room hub_room s.shard s a p h t a' p' before step
   pub ended : step ≢ Step.On
   pub ends : Ends hub_room before step h'
   pub why_is : why ≡ why_of step
@@ -42,14 +44,18 @@ pub record IsObjectPromise (task : Task) (k : ℕ) (eps : ℤ) (s : Objects) (a 
   pub begins : IsObjectStart task k s a p h
 
 -- what the thread number k of the objects gives back
-pub record IsObjectResult (task : Task) (objects_room persons_room hub_room : ℕ) (k : ℕ) (t : Objects) (a p h : Account Letter) (why : Option Why) : Type 0 where
+pub record IsObjectResult (task : Task) (objects_room persons_room hub_room : ℕ) (k : ℕ) (t : Objects) (a p h : Account Letter)
+    (why : Option Why) : Type 0 where
   pub seat : a.worker ≡ task.limits.now.shards + k
   pub persons_seat : p.worker ≡ task.limits.now.shards + k
   pub hub_seat : h.worker ≡ task.limits.now.shards + k
-  pub sells : Sells task.eps objects_room (new_objects task.limits.now.shards (length task.rows.now.rows) task.prices.now k) (new_account (task.limits.now.shards + k)) t a
+  pub sells : Sells task.eps objects_room (new_objects task.limits.now.shards (length task.rows.now.rows) task.prices.now k)
+      (new_account (task.limits.now.shards + k)) t a
   pub no_guard : (why ≢ Some Why.Stuck) × (why ≢ Some Why.Fell)
   pub no_bids : why ≢ Some Why.Bids
-  pub work : IsObjectWork task.eps objects_room persons_room hub_room (new_objects task.limits.now.shards (length task.rows.now.rows) task.prices.now k) (new_account (task.limits.now.shards + k)) (new_account (task.limits.now.shards + k)) (new_account (task.limits.now.shards + k)) t a p h why
+  pub work : IsObjectWork task.eps objects_room persons_room hub_room
+      (new_objects task.limits.now.shards (length task.rows.now.rows) task.prices.now k) (new_account (task.limits.now.shards + k))
+      (new_account (task.limits.now.shards + k)) (new_account (task.limits.now.shards + k)) t a p h why
 
 -- the same of the persons
 pub record IsPersonStart (task : Task) (k : ℕ) (s : Persons) (a p h : Account Letter) : Type 0 where
@@ -61,14 +67,15 @@ pub record IsBuyerStart (task : Task) (k : ℕ) (s : Persons) (lists : List List
   pub begins : IsPersonStart task k s a p h
   pub kept : (copies : List ℤ) → Kept task.rows.now copies lists
 
--- What comes of a worker of the persons: it bid and heard, and at its end tells the hub why.
-pub record IsPersonWork (t : Table) (eps : ℤ) (objects_room persons_room hub_room : ℕ) (s : Persons) (a p h : Account Letter) (n : Persons) (a' p' h' : Account Letter) (why : Option Why) : Type 0 where
+-- What comes of a worker of the persons: it bid and heard, by the box of its shard's number, and at its end tells the hub why.
+pub record IsPersonWork (t : Table) (eps : ℤ) (objects_room persons_room hub_room : ℕ) (s : Persons) (a p h : Account Letter) (n : Persons)
+    (a' p' h' : Account Letter) (why : Option Why) : Type 0 where
   pub step : Step
-  pub buys : Buys t eps objects_room persons_room s a p n a' p' step
+  pub buys : Buys t eps objects_room persons_room s.shard s a p n a' p' step
   pub ended : step ≢ Step.On
   pub ends : Ends hub_room h step h'
   pub why_is : why ≡ why_of step
-  pub hears : Hears persons_room s p n p' (why ≡ Some Why.Fell)
+  pub hears : Hears persons_room s.shard s p n p' (why ≡ Some Why.Fell)
   pub stuck : why ≡ Some Why.Stuck → SomebodyStuck t
 
 pub record IsPersonPromise (task : Task) (k : ℕ) (eps : ℤ) (t : Table) (s : Persons) (a p h : Account Letter) : Type 0 where
@@ -76,8 +83,11 @@ pub record IsPersonPromise (task : Task) (k : ℕ) (eps : ℤ) (t : Table) (s : 
   pub same_table : t ≡ task.rows.now
   pub begins : IsPersonStart task k s a p h
 
-pub record IsPersonResult (task : Task) (objects_room persons_room hub_room : ℕ) (k : ℕ) (n : Persons) (a p h : Account Letter) (why : Option Why) : Type 0 where
+pub record IsPersonResult (task : Task) (objects_room persons_room hub_room : ℕ) (k : ℕ) (n : Persons) (a p h : Account Letter)
+    (why : Option Why) : Type 0 where
   pub seat : p.worker ≡ k
   pub objects_seat : a.worker ≡ k
   pub hub_seat : h.worker ≡ k
-  pub work : IsPersonWork task.rows.now task.eps objects_room persons_room hub_room (new_persons task.limits.now.shards (length task.rows.now.rows) task.limits.now.bids task.prices.now k) (new_account k) (new_account k) (new_account k) n a p h why
+  pub work : IsPersonWork task.rows.now task.eps objects_room persons_room hub_room
+      (new_persons task.limits.now.shards (length task.rows.now.rows) task.limits.now.bids task.prices.now k) (new_account k)
+      (new_account k) (new_account k) n a p h why

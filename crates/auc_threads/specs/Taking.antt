@@ -1,5 +1,7 @@
--- What a worker took, as its seat tells it.
-use Rattle.std.specs.Prelude.{◌≡◌, ℕ, ◌<◌, List, [], ◌∷◌, ◌++◌, Result, Ok, Err}
+-- What a worker took, and how it may go on.
+use Rattle.std.specs.Prelude.{◌≡◌, ◌≢◌, ◌⊎◌, ℕ, ◌<◌, List, [], ◌∷◌, ◌++◌, Result, Ok, Err}
+use Rattle.auc_letters.specs.declared.letter.Letter.{Letter}
+use Rattle.auc_letters.specs.declared.letter.Why.{Why}
 use Rattle.auc_mail.specs.declared.call.Taken.{Taken}
 use Rattle.auc_mail.specs.declared.call.Call.{Call}
 use Rattle.auc_mail.specs.declared.call.Call.TheVariants.{Take}
@@ -7,9 +9,12 @@ use Rattle.auc_mail.specs.declared.call.Reply.{Reply}
 use Rattle.auc_mail.specs.declared.call.Reply.TheVariants.{Took}
 use Rattle.auc_book.specs.declared.error.TrailFull.{TrailFull}
 use Rattle.auc_book.specs.declared.line.TrailLine.{TrailLine}
+use Rattle.auc_book.specs.Replies.{take_reply}
 use Rattle.auc_book.specs.Seat.{Account}
 use Rattle.auc_letters.specs.declared.out.Out.{Out}
 use Rattle.auc_model.specs.Mails.{box_of}
+use Rattle.auc_threads.specs.declared.calls.Step.{Step}
+use Rattle.auc_threads.specs.Calling.{Called, Makes}
 
 -- the letter of a call that took one
 abbrev pub letter_by : {T : Type 0} → Call T → Reply T → List T
@@ -21,17 +26,43 @@ abbrev pub letters_in : {T : Type 0} → List (TrailLine T) → List T
 letters_in [] = []
 letters_in (l ∷ ls) = letter_by l.call l.reply ++ letters_in ls
 
--- the letter of an answer
-abbrev pub letter_of : {T : Type 0} → Result (Taken T) TrailFull → List T
+-- the answer of a take
+abbrev pub Answer : Type 0
+Answer = Result (Taken Letter) TrailFull
+
+-- the letter of an answer, and those of several
+abbrev pub letter_of : Answer → List Letter
 letter_of (Ok (Taken.Letter s n x)) = x ∷ []
 letter_of (Ok Taken.Empty) = []
 letter_of (Ok Taken.Over) = []
 letter_of (Err e) = []
 
--- the worker stays, and where there is room for lines, they tell of these letters more
-pub record TookMore {T : Type 0} (room : ℕ) (a : Account T) (letters : List T) (b : Account T) : Type 0 where
-  pub worker : b.worker ≡ a.worker
-  pub told : 0 < room → letters_in b.lines ≡ letters_in a.lines ++ letters
+abbrev pub letters_taken : List Answer → List Letter
+letters_taken [] = []
+letters_taken (r ∷ rs) = letter_of r ++ letters_taken rs
+
+-- takes from one box, answered so
+abbrev pub calls_taken : ℕ → List Answer → List Called
+calls_taken at [] = []
+calls_taken at (r ∷ rs) = record { call = Take at; reply = take_reply r } ∷ calls_taken at rs
+
+-- The worker took these letters from the box, and did nothing else at its mail.
+pub record Takes (room at : ℕ) (a : Account Letter) (letters : List Letter) (b : Account Letter) : Type 0 where
+  pub answers : List Answer
+  pub letters_are : letters ≡ letters_taken answers
+  pub makes : Makes room a (calls_taken at answers) b
+
+-- How a worker may go on after a take: over just where no letter will come any more, and stopped for the trail just where it was turned away.
+abbrev pub AfterTake : Answer → Step → Type 0
+AfterTake (Ok (Taken.Letter s n x)) step = (step ≢ Step.Over) × (step ≢ Step.Stop Why.Trail)
+AfterTake (Ok Taken.Empty) step = step ≡ Step.On
+AfterTake (Ok Taken.Over) step = step ≡ Step.Over
+AfterTake (Err e) step = step ≡ Step.Stop Why.Trail
+
+-- It went on after each of several takes but the last one, and after that so. Where it took nothing, no take has ended it.
+abbrev pub AfterTakes : List Answer → Step → Type 0
+AfterTakes [] step = (step ≢ Step.Over) × (step ≢ Step.Stop Why.Trail)
+AfterTakes (r ∷ rs) step = ((rs ≡ []) × AfterTake r step) ⊎ (AfterTake r Step.On × AfterTakes rs step)
 
 -- the letter goes to one of the first so many boxes of its mail
 abbrev pub GoesWithin : ℕ → Out → Type 0

@@ -6,7 +6,8 @@ use Rattle.auc_letters.specs.declared.letter.Why.{Why}
 use Rattle.auc_objects.specs.Objects.{Objects}
 use Rattle.auc_persons.specs.Persons.{Persons}
 use Rattle.auc_book.specs.Seat.{Account, new_account}
-use Rattle.auc_book.specs.Settling.{Agrees}
+use Rattle.auc_book.specs.declared.line.TrailLine.{TrailLine}
+use Rattle.auc_book.specs.Settling.{Agrees, IsTurnedByFull}
 use Rattle.auc_model.specs.declared.turn.End.{End}
 use Rattle.auc_answers.specs.Shards.{new_objects, new_persons}
 use Rattle.auc_answers.specs.declared.limits.Limits.{Limits}
@@ -14,14 +15,17 @@ use Rattle.auc_threads.specs.declared.settling.Trails.{Trails}
 use Rattle.auc_threads.specs.Counting.{Closes, Counts}
 use Rattle.auc_threads.specs.Starts.{IsObjectWork, IsPersonWork}
 
--- What a worker's seats tell at the three mails, and the trails have just its lines.
-pub record AreTold (trails : Trails) (w : ℕ) (objects persons hub : Account Letter) : Type 0 where
-  pub objects_worker : objects.worker ≡ w
-  pub persons_worker : persons.worker ≡ w
-  pub hub_worker : hub.worker ≡ w
-  pub objects_lines : Agrees trails.objects objects
-  pub persons_lines : Agrees trails.persons persons
-  pub hub_lines : Agrees trails.hub hub
+-- What the worker's seat at a mail tells: the trail has just its lines, and no other call was turned away, unless the trail is full.
+pub record IsTold (room w : ℕ) (trail : List (TrailLine Letter)) (a : Account Letter) : Type 0 where
+  pub worker : a.worker ≡ w
+  pub lines : Agrees trail a
+  pub full : IsTurnedByFull room trail a
+
+-- at the three mails
+pub record AreTold (room w : ℕ) (trails : Trails) (objects persons hub : Account Letter) : Type 0 where
+  pub at_objects : IsTold room w trails.objects objects
+  pub at_persons : IsTold room w trails.persons persons
+  pub at_hub : IsTold room w trails.hub hub
 
 -- The worker of the shard number k of the persons began with nothing, and this is its work. It posted so many bids, and no more than the limit.
 pub record IsBuyer (t : Table) (limits : Limits) (eps : ℤ) (start : List ℤ) (trails : Trails) (bids k : ℕ) (why : Option Why) : Type 0 where
@@ -29,8 +33,9 @@ pub record IsBuyer (t : Table) (limits : Limits) (eps : ℤ) (start : List ℤ) 
   pub objects : Account Letter
   pub persons : Account Letter
   pub hub : Account Letter
-  pub work : IsPersonWork t eps limits.audit limits.audit limits.audit (new_persons limits.shards (length t.rows) limits.bids start k) (new_account k) (new_account k) (new_account k) left objects persons hub why
-  pub told : AreTold trails k objects persons hub
+  pub work : IsPersonWork t eps limits.audit limits.audit limits.audit (new_persons limits.shards (length t.rows) limits.bids start k)
+      (new_account k) (new_account k) (new_account k) left objects persons hub why
+  pub told : AreTold limits.audit k trails objects persons hub
   pub counted : length objects.lines ≡ bids
   pub few : length objects.lines ≤ limits.bids
   pub spent : why ≡ Some Why.Bids → length objects.lines ≡ limits.bids
@@ -41,8 +46,9 @@ pub record IsSeller (t : Table) (limits : Limits) (eps : ℤ) (start : List ℤ)
   pub objects : Account Letter
   pub persons : Account Letter
   pub hub : Account Letter
-  pub work : IsObjectWork eps limits.audit limits.audit limits.audit (new_objects limits.shards (length t.rows) start k) (new_account (limits.shards + k)) (new_account (limits.shards + k)) (new_account (limits.shards + k)) left objects persons hub why
-  pub told : AreTold trails (limits.shards + k) objects persons hub
+  pub work : IsObjectWork eps limits.audit limits.audit limits.audit (new_objects limits.shards (length t.rows) start k)
+      (new_account (limits.shards + k)) (new_account (limits.shards + k)) (new_account (limits.shards + k)) left objects persons hub why
+  pub told : AreTold limits.audit (limits.shards + k) trails objects persons hub
 
 -- The hub, which has counted a First for each person or not. It closed all boxes.
 pub record IsHub (t : Table) (limits : Limits) (trails : Trails) (is_all : Bool) (why : Option Why) : Type 0 where
@@ -52,7 +58,7 @@ pub record IsHub (t : Table) (limits : Limits) (trails : Trails) (is_all : Bool)
   pub counts : Counts limits.audit (length t.rows) (new_account (2 * limits.shards)) is_all why hub
   pub objects_closed : Closes limits.audit limits.shards (new_account (2 * limits.shards)) objects
   pub persons_closed : Closes limits.audit limits.shards (new_account (2 * limits.shards)) persons
-  pub told : AreTold trails (2 * limits.shards) objects persons hub
+  pub told : AreTold limits.audit (2 * limits.shards) trails objects persons hub
 
 -- the first reason
 abbrev pub first_some : List (Option Why) → Option Why
@@ -67,14 +73,16 @@ end_by false None = None
 end_by false (Some why) = Some (End.Stopped why)
 
 -- What the trails tell of the workers, each with its reason to stop, if it has one; the first of these counts, of the persons, the objects and the hub.
-pub record AreWorked (t : Table) (limits : Limits) (eps : ℤ) (start : List ℤ) (trails : Trails) (bids : List ℕ) (end : Option End) : Type 0 where
-  pub person_reasons : List (Option Why)
-  pub object_reasons : List (Option Why)
-  pub hub_reason : Option Why
-  pub is_all : Bool
-  pub buyers : (k : ℕ) → k < limits.shards → IsBuyer t limits eps start trails (slice_index_or bids k 0) k (slice_index_or person_reasons k None)
-  pub sellers : (k : ℕ) → k < limits.shards → IsSeller t limits eps start trails k (slice_index_or object_reasons k None)
-  pub hub : IsHub t limits trails is_all hub_reason
-  pub person_many : length person_reasons ≡ limits.shards
-  pub object_many : length object_reasons ≡ limits.shards
-  pub end_is : end ≡ end_by is_all (first_some ((person_reasons ++ object_reasons) ++ hub_reason ∷ []))
+pub record AreWorked (t : Table) (limits : Limits) (eps : ℤ) (start : List ℤ) (trails : Trails) (bids : List ℕ) (end : Option End) : Type 0
+  where
+    pub person_reasons : List (Option Why)
+    pub object_reasons : List (Option Why)
+    pub hub_reason : Option Why
+    pub is_all : Bool
+    pub buyers : (k : ℕ) → k < limits.shards → IsBuyer t limits eps start trails (slice_index_or bids k 0) k
+        (slice_index_or person_reasons k None)
+    pub sellers : (k : ℕ) → k < limits.shards → IsSeller t limits eps start trails k (slice_index_or object_reasons k None)
+    pub hub : IsHub t limits trails is_all hub_reason
+    pub person_many : length person_reasons ≡ limits.shards
+    pub object_many : length object_reasons ≡ limits.shards
+    pub end_is : end ≡ end_by is_all (first_some ((person_reasons ++ object_reasons) ++ hub_reason ∷ []))

@@ -1,16 +1,17 @@
 //! A worker's calls of one mail, under one lock.
 
-ghost use Rattle.std.specs.Prelude.{◌≡◌, ◌<◌, [], ◌∷◌, All, Ok};
+ghost use Rattle.std.specs.Prelude.{◌≡◌, ◌≢◌, ◌<◌, [], ◌∷◌, All};
+ghost use Rattle.auc_mail.specs.declared.call.PostRefused.{PostRefused as ARefusal};
 ghost use Rattle.auc_book.specs.LockedMail.{IsWaiting};
 ghost use Rattle.auc_model.specs.Mails.{box_of};
-ghost use Rattle.auc_threads.specs.Taking.{GoesWithin, TookMore, letter_of};
-ghost use Rattle.auc_threads.specs.Posting.{IsOver, PostsAt, step_after, step_without};
-ghost use Rattle.auc_mail.specs.declared.call.Taken.{Taken};
+ghost use Rattle.auc_threads.specs.Taking.{GoesWithin};
+ghost use Rattle.auc_threads.specs.Posting.{PostsAt, step_after, step_without};
 
 use crate::gate::Gate;
-use auc_book::{CallRefused, HeldMail, MailBrand, Seat, SharedMail, TrailFull};
+use auc_answers::reason_to_stop;
+use auc_book::{CallRefused, HeldMail, MailBrand, Seat, SharedMail};
 use auc_letters::{Letter, Out, To, Why};
-use auc_mail::Taken;
+use auc_mail::PostRefused;
 use std::sync::Wait;
 
 /// How many bids are posted, or taken, under one lock, at most. With more of them the bids would be made at older prices.
@@ -27,18 +28,14 @@ pub(crate) enum Step {
     Stop { why: Why },
 }
 
-/// How a worker goes on where a letter isn't accepted: a price may be dropped, and for any other one it stops.
-fn step_without(letter: Letter, why: Why) -> Step
-    ensures { result ≡ step_without letter why }
+/// How a worker goes on where an open box doesn't accept a letter: as the world does, by the same reasons.
+fn step_without(letter: Letter, refused: PostRefused) -> Step
+    requires { refused ≢ ARefusal.Closed }
+    ensures { result ≡ step_without letter refused }
 {
-    match letter {
-        Letter::Price { .. } => Step::On,
-        Letter::Bid { .. }
-        | Letter::Award { .. }
-        | Letter::Refused { .. }
-        | Letter::Outbid { .. }
-        | Letter::First { .. }
-        | Letter::Stop { .. } => Step::Stop { why },
+    match reason_to_stop(refused, letter) {
+        Some(why) => Step::Stop { why },
+        None => Step::On,
     }
 }
 
@@ -50,8 +47,8 @@ fn step_after(letter: Letter, posted: Result<u64, CallRefused>) -> Step
         Ok(_) => Step::On,
         Err(CallRefused::TrailFull) => Step::Stop { why: Why::Trail },
         Err(CallRefused::Closed) => Step::Over,
-        Err(CallRefused::Spent) => step_without(letter, Why::Posts),
-        Err(CallRefused::Full) => step_without(letter, Why::Mail),
+        Err(CallRefused::Spent) => step_without(letter, PostRefused::Spent),
+        Err(CallRefused::Full) => step_without(letter, PostRefused::Full),
     }
 }
 
@@ -90,19 +87,6 @@ pub(crate) fn hold_for<'b, N: MailBrand, R: Wait, G: Gate>(
 {
     gate.pass(worker);
     mail.hold_for(rt, at)
-}
-
-/// Takes a letter, if one waits.
-pub(crate) fn take<N: MailBrand>(
-    held: &mut HeldMail<'_, Letter, N>,
-    seat: &mut Seat<Letter, N>,
-    at: u32,
-) -> Result<Taken<Letter>, TrailFull>
-    requires { at < N.boxes }
-    ensures took { TookMore N.room seat.old (letter_of result) seat.new }
-    ensures over { result ≡ Ok Taken.Over → 0 < N.room → IsOver seat.new.lines }
-{
-    held.take(seat, at)
 }
 
 /// Posts a letter to where it goes.

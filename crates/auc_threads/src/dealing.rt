@@ -4,13 +4,14 @@ ghost use Rattle.std.specs.Prelude.{◌≡◌, ◌≢◌, ◌≤◌, ◌<◌, �
 ghost use Rattle.arrayvec.specs.ArrayVec.{array_vec_len};
 ghost use Rattle.auc_objects.specs.Objects.{Owns};
 ghost use Rattle.auc_objects.specs.Answers.{letters_of};
+ghost use Rattle.auc_letters.specs.declared.letter.Why.{Why as AWhy};
 ghost use Rattle.auc_letters.specs.declared.out.Out.{Out as AnOut};
 ghost use Rattle.auc_mail.specs.declared.call.Taken.{Taken as ATaken};
-ghost use Rattle.auc_threads.specs.Taking.{letter_of};
+ghost use Rattle.auc_threads.specs.Taking.{AfterTake, letter_of};
 ghost use Rattle.auc_threads.specs.Dealing.{Deals, DealsWith, prices_told};
 ghost use Rattle.auc_threads.specs.declared.calls.Step.{Step as AStep};
 
-use crate::calls::{BATCH, Step, hold_for, take};
+use crate::calls::{BATCH, Step, hold_for};
 use crate::gate::Gate;
 use crate::object_worker::ObjectWorker;
 use crate::task::{PhaseRun, Task};
@@ -81,8 +82,9 @@ fn deal_letter(
 ) -> Step
     requires shards { shard.old.person_shards ≡ task.now.limits.now.shards }
     requires room { array_vec_len said.old + MOST_SAID ≤ ROOM }
-    ensures deals { (more : List AnOut) × (said.new.items ≡ said.old.items ++ more) × DealsWith task.now.eps shard.old (letter ∷ []) more shard.new result }
-    ensures goes { result ≢ AStep.Over }
+    ensures deals { (more : List AnOut) × (said.new.items ≡ said.old.items ++ more)
+        × DealsWith task.now.eps shard.old (letter ∷ []) more shard.new result }
+    ensures goes { (result ≢ AStep.Over) × (result ≢ AStep.Stop AWhy.Trail) }
 {
     let Some(bid) = shard.bid_in(letter) else {
         return Step::Stop { why: Why::Stray };
@@ -107,8 +109,9 @@ fn deal(
     requires shards { shard.old.person_shards ≡ task.now.limits.now.shards }
     requires room { array_vec_len said.old + MOST_SAID ≤ ROOM }
     requires some { taken ≢ Ok ATaken.Empty }
-    ensures deals { (more : List AnOut) × (said.new.items ≡ said.old.items ++ more) × DealsWith task.now.eps shard.old (letter_of taken) more shard.new result }
-    ensures over { result ≡ AStep.Over → taken ≡ Ok ATaken.Over }
+    ensures deals { (more : List AnOut) × (said.new.items ≡ said.old.items ++ more)
+        × DealsWith task.now.eps shard.old (letter_of taken) more shard.new result }
+    ensures after { AfterTake taken result }
 {
     match taken {
         Ok(Taken::Letter { item, .. }) => deal_letter(task, shard, said, item),
@@ -129,13 +132,13 @@ fn deal_each<N: MailBrand>(
     requires shards { shard.old.person_shards ≡ task.now.limits.now.shards }
     requires known { number < N.boxes }
     requires none { said.old.items ≡ [] }
-    ensures { Deals task.now.eps N.room shard.old seat.old said.new.items shard.new seat.new result }
+    ensures { Deals task.now.eps N.room number shard.old seat.old said.new.items shard.new seat.new result }
 {
     for _ in 0..BATCH {
         if said.remaining_capacity() < MOST_SAID {
             return Step::On;
         }
-        let taken = take(held, seat, number);
+        let taken = held.take(seat, number);
         if matches!(&taken, Ok(Taken::Empty)) {
             return Step::On;
         }
@@ -159,7 +162,8 @@ pub(crate) fn deal_next<O: MailBrand, P: MailBrand, H: MailBrand, R: Wait, G: Ga
     requires shards { worker.old.shard.person_shards ≡ run.now.task.limits.now.shards }
     requires known { number < run.now.task.limits.now.shards }
     requires none { said.old.items ≡ [] }
-    ensures deals { Deals run.now.task.eps O.room worker.old.shard worker.old.seats.objects said.new.items worker.new.shard worker.new.seats.objects result }
+    ensures deals { Deals run.now.task.eps O.room number worker.old.shard worker.old.seats.objects said.new.items worker.new.shard
+        worker.new.seats.objects result }
     ensures persons { worker.new.seats.persons ≡ worker.old.seats.persons }
     ensures hub { worker.new.seats.hub ≡ worker.old.seats.hub }
 {

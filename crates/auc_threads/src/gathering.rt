@@ -30,7 +30,9 @@ pub(crate) fn gather<O: MailBrand, P: MailBrand, H: MailBrand>(
     ensures holders { IfOk result (λ g. length g.holders.items ≡ objects) }
     ensures prices { IfOk result (λ g. length g.prices.items ≡ objects) }
     ensures range { IfOk result (λ g. All IsPrice g.prices.items) }
-    ensures each { IfOk result (λ g. (j : ℕ) (d : _) → j < objects → Gathers (slice_index_or works.now (j % shards) d).shard j (slice_index_or g.prices.items j (pos 0)) (slice_index_or g.holders.items j None)) }
+    ensures each { IfOk result (λ g. (j : ℕ) (d : _) → j < objects
+        → Gathers (slice_index_or works.now (j % shards) d).shard j (slice_index_or g.prices.items j (pos 0))
+        (slice_index_or g.holders.items j None)) }
 {
     let mut holders = Vec::with_capacity(alloc, objects as usize)?;
     let mut prices = Vec::with_capacity(alloc, objects as usize)?;
@@ -91,9 +93,12 @@ fn objects_reason<O: MailBrand, P: MailBrand, H: MailBrand>(
 fn reason<O: MailBrand, P: MailBrand, H: MailBrand>(works: &Works<O, P, H>) -> Option<Why>
     requires objects { All (λ w. (w.why ≢ Some Why.Stuck) × (w.why ≢ Some Why.Fell)) works.now.objects.items }
     requires hub { (works.now.hub.why ≢ Some Why.Stuck) × (works.now.hub.why ≢ Some Why.Fell) }
-    ensures first { result ≡ first_some ((map (λ w. w.why) works.now.persons.items ++ map (λ w. w.why) works.now.objects.items) ++ works.now.hub.why ∷ []) }
-    ensures stuck { result ≡ Some Why.Stuck → (k : ℕ) × (k < length works.now.persons.items) × ((d : _) → (slice_index_or works.now.persons.items k d).why ≡ Some Why.Stuck) }
-    ensures fell { result ≡ Some Why.Fell → (k : ℕ) × (k < length works.now.persons.items) × ((d : _) → (slice_index_or works.now.persons.items k d).why ≡ Some Why.Fell) }
+    ensures first { result ≡ first_some ((map (λ w. w.why) works.now.persons.items ++ map (λ w. w.why) works.now.objects.items)
+        ++ works.now.hub.why ∷ []) }
+    ensures stuck { result ≡ Some Why.Stuck → (k : ℕ) × (k < length works.now.persons.items)
+        × ((d : _) → (slice_index_or works.now.persons.items k d).why ≡ Some Why.Stuck) }
+    ensures fell { result ≡ Some Why.Fell → (k : ℕ) × (k < length works.now.persons.items)
+        × ((d : _) → (slice_index_or works.now.persons.items k d).why ≡ Some Why.Fell) }
 {
     if let Some(why) = persons_reason(works.persons.as_slice()) {
         return Some(why);
@@ -110,10 +115,13 @@ pub(crate) fn end_of<O: MailBrand, P: MailBrand, H: MailBrand>(
 ) -> Option<End>
     requires objects { All (λ w. (w.why ≢ Some Why.Stuck) × (w.why ≢ Some Why.Fell)) works.now.objects.items }
     requires hub { (works.now.hub.why ≢ Some Why.Stuck) × (works.now.hub.why ≢ Some Why.Fell) }
-    ensures is { result ≡ end_by works.now.hub.is_all (first_some ((map (λ w. w.why) works.now.persons.items ++ map (λ w. w.why) works.now.objects.items) ++ works.now.hub.why ∷ [])) }
+    ensures is { result ≡ end_by works.now.hub.is_all (first_some
+        ((map (λ w. w.why) works.now.persons.items ++ map (λ w. w.why) works.now.objects.items) ++ works.now.hub.why ∷ [])) }
     ensures all { result ≡ Some End.All ↔ IsTrue works.now.hub.is_all }
-    ensures stuck { result ≡ Some (End.Stopped Why.Stuck) → (k : ℕ) × (k < length works.now.persons.items) × ((d : _) → (slice_index_or works.now.persons.items k d).why ≡ Some Why.Stuck) }
-    ensures fell { result ≡ Some (End.Stopped Why.Fell) → (k : ℕ) × (k < length works.now.persons.items) × ((d : _) → (slice_index_or works.now.persons.items k d).why ≡ Some Why.Fell) }
+    ensures stuck { result ≡ Some (End.Stopped Why.Stuck) → (k : ℕ) × (k < length works.now.persons.items)
+        × ((d : _) → (slice_index_or works.now.persons.items k d).why ≡ Some Why.Stuck) }
+    ensures fell { result ≡ Some (End.Stopped Why.Fell) → (k : ℕ) × (k < length works.now.persons.items)
+        × ((d : _) → (slice_index_or works.now.persons.items k d).why ≡ Some Why.Fell) }
 {
     if works.hub.is_all {
         return Some(End::All);
@@ -121,5 +129,22 @@ pub(crate) fn end_of<O: MailBrand, P: MailBrand, H: MailBrand>(
     match reason(works) {
         Some(why) => Some(End::Stopped { why }),
         None => None,
+    }
+}
+
+/// The end as it is told. Where no trail is kept none is full: of a worker that was turned away since a mail had counted all calls that it
+/// can, nothing is said.
+pub(crate) fn told_end(end: Option<End>, audit: u32) -> Option<End>
+    ensures kept { 0 < audit → result ≡ end }
+    ensures some { IfSome result (λ e. end ≡ Some e) }
+    ensures others { end ≢ Some (End.Stopped Why.Trail) → result ≡ end }
+    ensures trail { result ≡ Some (End.Stopped Why.Trail) → 0 < audit }
+{
+    if audit > 0 {
+        return end;
+    }
+    match end {
+        Some(End::Stopped { why: Why::Trail }) => None,
+        _ => end,
     }
 }

@@ -4,11 +4,11 @@ ghost use Rattle.std.specs.Prelude.{◌≡◌, ◌≢◌, ◌<◌, [], ◌∷◌
 ghost use Rattle.auc_letters.specs.declared.letter.Why.{Why};
 ghost use Rattle.auc_mail.specs.declared.call.Taken.{Taken as ATaken};
 ghost use Rattle.auc_answers.specs.Shards.{IsPersonShard};
-ghost use Rattle.auc_threads.specs.Taking.{letter_of};
+ghost use Rattle.auc_threads.specs.Taking.{AfterTake, letter_of};
 ghost use Rattle.auc_threads.specs.Buying.{Listens, ListensTo};
 ghost use Rattle.auc_threads.specs.Hearing.{Hears, HearsOf};
 
-use crate::calls::{Step, hold, hold_for, take};
+use crate::calls::{Step, hold, hold_for};
 use crate::gate::Gate;
 use crate::task::{PhaseRun, Task};
 use auc_answers::reason_for;
@@ -24,7 +24,8 @@ fn hear_letter(task: &Task, number: u32, shard: &mut PersonShard, letter: Letter
     ensures is { IsPersonShard task.now.rows.now task.now.limits.now.shards number shard.new }
     ensures hears { HearsOf shard.old (letter ∷ []) shard.new (result ≡ Step.Stop Why.Fell) }
     ensures listens { ListensTo task.now.rows.now task.now.eps shard.old (letter ∷ []) shard.new result }
-    ensures why { (result ≢ Step.Stop Why.Stuck) × (result ≢ Step.Over) }
+    ensures goes { (result ≢ Step.Over) × (result ≢ Step.Stop Why.Trail) }
+    ensures why { result ≢ Step.Stop Why.Stuck }
 {
     match shard.on_letter(letter) {
         Ok(()) => Step::On,
@@ -46,7 +47,7 @@ fn hear(
     ensures is { IsPersonShard task.now.rows.now task.now.limits.now.shards number shard.new }
     ensures hears { HearsOf shard.old (letter_of taken) shard.new (result ≡ Step.Stop Why.Fell) }
     ensures listens { ListensTo task.now.rows.now task.now.eps shard.old (letter_of taken) shard.new result }
-    ensures over { result ≡ Step.Over → taken ≡ Ok ATaken.Over }
+    ensures after { AfterTake taken result }
     ensures why { result ≢ Step.Stop Why.Stuck }
 {
     match taken {
@@ -67,12 +68,12 @@ fn hear_each<N: MailBrand>(
     requires shard { IsPersonShard task.now.rows.now task.now.limits.now.shards number shard.old }
     requires known { number < N.boxes }
     ensures is { IsPersonShard task.now.rows.now task.now.limits.now.shards number shard.new }
-    ensures hears { Hears N.room shard.old seat.old shard.new seat.new (result ≡ Step.Stop Why.Fell) }
-    ensures listens { Listens task.now.rows.now task.now.eps N.room shard.old seat.old shard.new seat.new result }
+    ensures hears { Hears N.room number shard.old seat.old shard.new seat.new (result ≡ Step.Stop Why.Fell) }
+    ensures listens { Listens task.now.rows.now task.now.eps N.room number shard.old seat.old shard.new seat.new result }
     ensures why { result ≢ Step.Stop Why.Stuck }
 {
     for _ in 0..2 * task.rows.persons() {
-        let taken = take(held, seat, number);
+        let taken = held.take(seat, number);
         if matches!(&taken, Ok(Taken::Empty)) {
             return Step::On;
         }
@@ -97,8 +98,8 @@ pub(crate) fn hear_next<O: MailBrand, P: MailBrand, H: MailBrand, R: Wait, G: Ga
     requires shard { IsPersonShard run.now.task.rows.now run.now.task.limits.now.shards number shard.old }
     requires known { number < run.now.task.limits.now.shards }
     ensures is { IsPersonShard run.now.task.rows.now run.now.task.limits.now.shards number shard.new }
-    ensures hears { Hears P.room shard.old seat.old shard.new seat.new (result ≡ Step.Stop Why.Fell) }
-    ensures listens { Listens run.now.task.rows.now run.now.task.eps P.room shard.old seat.old shard.new seat.new result }
+    ensures hears { Hears P.room number shard.old seat.old shard.new seat.new (result ≡ Step.Stop Why.Fell) }
+    ensures listens { Listens run.now.task.rows.now run.now.task.eps P.room number shard.old seat.old shard.new seat.new result }
     ensures why { result ≢ Step.Stop Why.Stuck }
 {
     let mail = &run.mails.persons;

@@ -1,10 +1,8 @@
 //! The hub: it counts the objects that have their first holder, and ends the phase.
 
-ghost use Rattle.std.specs.Prelude.{◌≡◌, ◌≢◌, ◌<◌, [], ◌∷◌, None, Ok};
+ghost use Rattle.std.specs.Prelude.{ℕ, ◌≡◌, ◌≢◌, ◌<◌, None, Ok};
 ghost use Rattle.auc_mail.specs.declared.call.Taken.{Taken as ATaken};
-ghost use Rattle.auc_threads.specs.declared.hub.Heard.{Heard as AHeard};
 ghost use Rattle.auc_threads.specs.Counting.{Closes, Counted, Counts};
-ghost use Rattle.auc_threads.specs.Taking.{letter_of};
 
 use crate::mails::{Mails, WorkerSeats};
 use auc_answers::Hub;
@@ -37,7 +35,7 @@ pub(crate) struct HubWork<O: MailBrand, P: MailBrand, H: MailBrand> {
 fn hear_letter(hub: &mut Hub, persons: u32, letter: Letter) -> Heard
     requires going { hub.old.end ≡ None }
     requires fewer { hub.old.count < persons }
-    ensures { Counted persons hub.old (letter ∷ []) result hub.new }
+    ensures { (from number : ℕ) → Counted persons hub.old (Ok (ATaken.Letter from number letter)) result hub.new }
 {
     hub.hear(letter, persons);
     match letter {
@@ -61,8 +59,7 @@ fn hear(hub: &mut Hub, persons: u32, taken: Result<Taken<Letter>, TrailFull>) ->
     requires going { hub.old.end ≡ None }
     requires fewer { hub.old.count < persons }
     requires some { taken ≢ Ok ATaken.Empty }
-    ensures counted { Counted persons hub.old (letter_of taken) result hub.new }
-    ensures over { result ≡ AHeard.End None → letter_of taken ≡ [] → taken ≡ Ok ATaken.Over }
+    ensures { Counted persons hub.old taken result hub.new }
 {
     match taken {
         Ok(Taken::Letter { item, .. }) => hear_letter(hub, persons, item),

@@ -132,8 +132,10 @@ impl<O: MailBrand, P: MailBrand, H: MailBrand> Mails<O, P, H> {
         requires objects_ledger { IsUnopened ledgers.objects.name O.name ledgers.objects.parts O.parts (workers_of limits.now.shards) }
         requires persons_ledger { IsUnopened ledgers.persons.name P.name ledgers.persons.parts P.parts (workers_of limits.now.shards) }
         requires hub_ledger { IsUnopened ledgers.hub.name H.name ledgers.hub.parts H.parts (workers_of limits.now.shards) }
-        requires objects_name { IsNamed O.boxes O.workers O.nodes O.most O.room limits.now.shards (objects_nodes limits.now persons) limits.now }
-        requires persons_name { IsNamed P.boxes P.workers P.nodes P.most P.room limits.now.shards (persons_nodes limits.now persons) limits.now }
+        requires objects_name { IsNamed O.boxes O.workers O.nodes O.most O.room limits.now.shards (objects_nodes limits.now persons)
+            limits.now }
+        requires persons_name { IsNamed P.boxes P.workers P.nodes P.most P.room limits.now.shards (persons_nodes limits.now persons)
+            limits.now }
         requires hub_name { IsNamed H.boxes H.workers H.nodes H.most H.room 1 (hub_nodes limits.now persons) limits.now }
         ensures shards { IfOk result (λ r. r.0.shards ≡ limits.now.shards) }
         ensures seats { IfOk result (λ r. Placed (λ k w. AreNewSeats k w.objects w.persons w.hub) 0 r.1.items) }

@@ -22,7 +22,8 @@ pub(crate) struct Sold<O: MailBrand, P: MailBrand, H: MailBrand> {
 impl<O: MailBrand, P: MailBrand, H: MailBrand> Promise<ObjectWork<O, P, H>> for Sold<O, P, H> {
     ghost use Rattle.auc_threads.specs.Starts.{IsObjectWork};
 
-    ghost kept_by = { λ p r. IsObjectWork p.eps O.room P.room H.room p.start.value.shard p.start.value.seats.objects p.start.value.seats.persons p.start.value.seats.hub r.shard r.seats.objects r.seats.persons r.seats.hub r.why };
+    ghost kept_by = { λ p r. IsObjectWork p.eps O.room P.room H.room p.start.value.shard p.start.value.seats.objects
+        p.start.value.seats.persons p.start.value.seats.hub r.shard r.seats.objects r.seats.persons r.seats.hub r.why };
 }
 
 /// Starts a thread for each shard of the objects. False where one couldn't be started; then no more are.
@@ -46,7 +47,8 @@ pub(crate) fn start_objects<
     requires starts { Placed (λ k x. IsObjectStart run.now.task k x.shard x.seats.objects x.seats.persons x.seats.hub) 0 starts.items }
     requires none { handles.old.items ≡ [] }
     requires room { vec_len starts ≤ vec_capacity handles.old }
-    ensures promised { Placed (λ k h. IsObjectPromise run.now.task k h.promise.eps h.promise.start.value.shard h.promise.start.value.seats.objects h.promise.start.value.seats.persons h.promise.start.value.seats.hub) 0 handles.new.items }
+    ensures promised { Placed (λ k h. IsObjectPromise run.now.task k h.promise.eps h.promise.start.value.shard
+        h.promise.start.value.seats.objects h.promise.start.value.seats.persons h.promise.start.value.seats.hub) 0 handles.new.items }
     ensures few { vec_len handles.new ≤ run.now.task.limits.now.shards }
     ensures all { IsTrue result → vec_len handles.new ≡ run.now.task.limits.now.shards }
 {
@@ -57,7 +59,8 @@ pub(crate) fn start_objects<
             start: Snapshot::of(&start),
         };
         let work = move || -> ObjectWork<O, P, H>
-            requires { (start.shard.person_shards ≡ run.now.task.limits.now.shards) × (number < run.now.task.limits.now.shards) }
+            requires { (start.shard.shard ≡ number) × (start.shard.person_shards ≡ run.now.task.limits.now.shards)
+                × (number < run.now.task.limits.now.shards) }
         { sell(rt, gate, run, number, start) };
         let Ok(handle) = scope.spawn_with(promise, work) else {
             return false;
@@ -80,11 +83,13 @@ pub(crate) fn join_objects<
     handles: Vec<PromisedHandle<ObjectWork<O, P, H>, Sold<O, P, H>>>,
     works: &mut Vec<ObjectWork<O, P, H>>,
 )
-    requires promised { Placed (λ k h. IsObjectPromise task.now k h.promise.eps h.promise.start.value.shard h.promise.start.value.seats.objects h.promise.start.value.seats.persons h.promise.start.value.seats.hub) 0 handles.items }
+    requires promised { Placed (λ k h. IsObjectPromise task.now k h.promise.eps h.promise.start.value.shard
+        h.promise.start.value.seats.objects h.promise.start.value.seats.persons h.promise.start.value.seats.hub) 0 handles.items }
     requires none { works.old.items ≡ [] }
     requires room { vec_len handles ≤ vec_capacity works.old }
     ensures many { vec_len works.new ≡ vec_len handles }
-    ensures works { Placed (λ k r. IsObjectResult task.now O.room P.room H.room k r.shard r.seats.objects r.seats.persons r.seats.hub r.why) 0 works.new.items }
+    ensures works { Placed (λ k r. IsObjectResult task.now O.room P.room H.room k r.shard r.seats.objects r.seats.persons r.seats.hub r.why)
+        0 works.new.items }
 {
     for handle in handles {
         works.push_reserved(handle.join(rt));

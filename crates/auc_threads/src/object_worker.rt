@@ -45,7 +45,8 @@ fn serve<O: MailBrand, P: MailBrand, H: MailBrand, R: Wait, G: Gate>(
 ) -> Step
     requires shards { worker.old.shard.person_shards ≡ run.now.task.limits.now.shards }
     requires known { number < run.now.task.limits.now.shards }
-    ensures serves { Serves run.now.task.eps O.room P.room H.room worker.old.shard worker.old.seats.objects worker.old.seats.persons worker.old.seats.hub worker.new.shard worker.new.seats.objects worker.new.seats.persons worker.new.seats.hub result }
+    ensures serves { Serves run.now.task.eps O.room P.room H.room number worker.old.shard worker.old.seats.objects worker.old.seats.persons
+        worker.old.seats.hub worker.new.shard worker.new.seats.objects worker.new.seats.persons worker.new.seats.hub result }
     ensures shape { SameShape worker.old.shard worker.new.shard }
 {
     said.clear();
@@ -65,9 +66,11 @@ pub(crate) fn sell<O: MailBrand, P: MailBrand, H: MailBrand, R: Wait, G: Gate>(
     number: u32,
     worker: ObjectWorker<O, P, H>,
 ) -> ObjectWork<O, P, H>
+    requires own { worker.shard.shard ≡ number }
     requires shards { worker.shard.person_shards ≡ run.now.task.limits.now.shards }
     requires known { number < run.now.task.limits.now.shards }
-    ensures { IsObjectWork run.now.task.eps O.room P.room H.room worker.shard worker.seats.objects worker.seats.persons worker.seats.hub result.shard result.seats.objects result.seats.persons result.seats.hub result.why }
+    ensures { IsObjectWork run.now.task.eps O.room P.room H.room worker.shard worker.seats.objects worker.seats.persons worker.seats.hub
+        result.shard result.seats.objects result.seats.persons result.seats.hub result.why }
 {
     let mut worker = worker;
     let mut said = ArrayVec::new();

@@ -51,8 +51,10 @@ fn serve<O: MailBrand, P: MailBrand, H: MailBrand, R: Wait, G: Gate>(
     requires known { number < run.now.task.limits.now.shards }
     ensures is { IsPersonShard run.now.task.rows.now run.now.task.limits.now.shards number worker.new.buyer.shard }
     ensures kept { Kept run.now.task.rows.now worker.new.buyer.shard.copies worker.new.buyer.lists }
-    ensures hears { Hears P.room worker.old.buyer.shard worker.old.seats.persons worker.new.buyer.shard worker.new.seats.persons (result ≡ Step.Stop Why.Fell) }
-    ensures buys { Buys run.now.task.rows.now run.now.task.eps O.room P.room worker.old.buyer.shard worker.old.seats.objects worker.old.seats.persons worker.new.buyer.shard worker.new.seats.objects worker.new.seats.persons result }
+    ensures hears { Hears P.room number worker.old.buyer.shard worker.old.seats.persons worker.new.buyer.shard worker.new.seats.persons
+        (result ≡ Step.Stop Why.Fell) }
+    ensures buys { Buys run.now.task.rows.now run.now.task.eps O.room P.room number worker.old.buyer.shard worker.old.seats.objects
+        worker.old.seats.persons worker.new.buyer.shard worker.new.seats.objects worker.new.seats.persons result }
     ensures hub { worker.new.seats.hub ≡ worker.old.seats.hub }
     ensures stuck { result ≡ Step.Stop Why.Stuck → SomebodyStuck run.now.task.rows.now }
 {
@@ -82,7 +84,8 @@ pub(crate) fn buy<O: MailBrand, P: MailBrand, H: MailBrand, R: Wait, G: Gate>(
     requires shard { IsPersonShard run.now.task.rows.now run.now.task.limits.now.shards number worker.buyer.shard }
     requires kept { Kept run.now.task.rows.now worker.buyer.shard.copies worker.buyer.lists }
     requires known { number < run.now.task.limits.now.shards }
-    ensures { IsPersonWork run.now.task.rows.now run.now.task.eps O.room P.room H.room worker.buyer.shard worker.seats.objects worker.seats.persons worker.seats.hub result.shard result.seats.objects result.seats.persons result.seats.hub result.why }
+    ensures { IsPersonWork run.now.task.rows.now run.now.task.eps O.room P.room H.room worker.buyer.shard worker.seats.objects
+        worker.seats.persons worker.seats.hub result.shard result.seats.objects result.seats.persons result.seats.hub result.why }
 {
     let mut worker = worker;
     let mut bids = ArrayVec::new();

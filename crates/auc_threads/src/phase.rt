@@ -12,7 +12,7 @@ ghost use Rattle.auc_threads.specs.Starts.{IsObjectResult, IsPersonResult};
 
 use crate::error::RunError;
 use crate::gate::Gate;
-use crate::gathering::{bids_of, end_of, gather};
+use crate::gathering::{bids_of, end_of, gather, told_end};
 use crate::mails::{Ledgers, Mails};
 use crate::running::{Works, run_in_scope, starts_of};
 use crate::settling::{Trails, seats_of, settle_all};
@@ -47,22 +47,29 @@ fn finish<O: MailBrand, P: MailBrand, H: MailBrand>(
     mails: Mails<O, P, H>,
     works: Works<O, P, H>,
 ) -> Result<PhaseEnd, RunError>
-    requires persons { Placed (λ k w. IsPersonResult task.now O.room P.room H.room k w.shard w.seats.objects w.seats.persons w.seats.hub w.why) 0 works.persons.items }
+    requires persons { Placed (λ k w. IsPersonResult task.now O.room P.room H.room k w.shard w.seats.objects w.seats.persons w.seats.hub
+        w.why) 0 works.persons.items }
     requires persons_many { vec_len works.persons ≡ task.now.limits.now.shards }
-    requires objects { Placed (λ k w. IsObjectResult task.now O.room P.room H.room k w.shard w.seats.objects w.seats.persons w.seats.hub w.why) 0 works.objects.items }
+    requires objects { Placed (λ k w. IsObjectResult task.now O.room P.room H.room k w.shard w.seats.objects w.seats.persons w.seats.hub
+        w.why) 0 works.objects.items }
     requires objects_many { vec_len works.objects ≡ task.now.limits.now.shards }
-    requires counts { Counts H.room (length task.now.rows.now.rows) (new_account (2 * task.now.limits.now.shards)) works.hub.is_all works.hub.why works.hub.seats.hub }
+    requires counts { Counts H.room (length task.now.rows.now.rows) (new_account (2 * task.now.limits.now.shards)) works.hub.is_all
+        works.hub.why works.hub.seats.hub }
     requires hub_objects { Closes O.room O.boxes (new_account (2 * task.now.limits.now.shards)) works.hub.seats.objects }
     requires hub_persons { Closes P.room P.boxes (new_account (2 * task.now.limits.now.shards)) works.hub.seats.persons }
-    requires objects_name { IsNamed O.boxes O.workers O.nodes O.most O.room task.now.limits.now.shards (objects_nodes task.now.limits.now (length task.now.rows.now.rows)) task.now.limits.now }
-    requires persons_name { IsNamed P.boxes P.workers P.nodes P.most P.room task.now.limits.now.shards (persons_nodes task.now.limits.now (length task.now.rows.now.rows)) task.now.limits.now }
-    requires hub_name { IsNamed H.boxes H.workers H.nodes H.most H.room 1 (hub_nodes task.now.limits.now (length task.now.rows.now.rows)) task.now.limits.now }
+    requires objects_name { IsNamed O.boxes O.workers O.nodes O.most O.room task.now.limits.now.shards
+        (objects_nodes task.now.limits.now (length task.now.rows.now.rows)) task.now.limits.now }
+    requires persons_name { IsNamed P.boxes P.workers P.nodes P.most P.room task.now.limits.now.shards
+        (persons_nodes task.now.limits.now (length task.now.rows.now.rows)) task.now.limits.now }
+    requires hub_name { IsNamed H.boxes H.workers H.nodes H.most H.room 1 (hub_nodes task.now.limits.now (length task.now.rows.now.rows))
+        task.now.limits.now }
     ensures { IfOk result (IsPhase task.now.rows.now task.now.limits.now task.now.eps task.now.prices.now) }
 {
     let shards = task.limits.shards;
     let gathered = gather(alloc, task.rows.objects(), shards, works.objects.as_slice())?;
     let bids = bids_of(alloc, works.persons.as_slice())?;
-    let end = end_of(&works);
+    let ended = end_of(&works);
+    let end = told_end(ended, task.limits.audit);
     let all = seats_of(alloc, works)?;
     let trails = settle_all(mails, all);
     Ok(PhaseEnd {
@@ -84,9 +91,12 @@ fn named_phase<
     requires objects_ledger { IsUnopened ledgers.objects.name O.name ledgers.objects.parts O.parts (workers_of task.now.limits.now.shards) }
     requires persons_ledger { IsUnopened ledgers.persons.name P.name ledgers.persons.parts P.parts (workers_of task.now.limits.now.shards) }
     requires hub_ledger { IsUnopened ledgers.hub.name H.name ledgers.hub.parts H.parts (workers_of task.now.limits.now.shards) }
-    requires objects_name { IsNamed O.boxes O.workers O.nodes O.most O.room task.now.limits.now.shards (objects_nodes task.now.limits.now (length task.now.rows.now.rows)) task.now.limits.now }
-    requires persons_name { IsNamed P.boxes P.workers P.nodes P.most P.room task.now.limits.now.shards (persons_nodes task.now.limits.now (length task.now.rows.now.rows)) task.now.limits.now }
-    requires hub_name { IsNamed H.boxes H.workers H.nodes H.most H.room 1 (hub_nodes task.now.limits.now (length task.now.rows.now.rows)) task.now.limits.now }
+    requires objects_name { IsNamed O.boxes O.workers O.nodes O.most O.room task.now.limits.now.shards
+        (objects_nodes task.now.limits.now (length task.now.rows.now.rows)) task.now.limits.now }
+    requires persons_name { IsNamed P.boxes P.workers P.nodes P.most P.room task.now.limits.now.shards
+        (persons_nodes task.now.limits.now (length task.now.rows.now.rows)) task.now.limits.now }
+    requires hub_name { IsNamed H.boxes H.workers H.nodes H.most H.room 1 (hub_nodes task.now.limits.now (length task.now.rows.now.rows))
+        task.now.limits.now }
     ensures { IfOk result (IsPhase task.now.rows.now task.now.limits.now task.now.eps task.now.prices.now) }
 {
     let (mails, seats) = Mails::<O, P, H>::make(alloc, task.rows.persons(), task.limits, ledgers)?;

@@ -1,19 +1,19 @@
 //! One phase in threads: a thread for each shard, and the hub on the caller's.
 
-ghost use Rattle.std.specs.Prelude.{◌≡◌, ◌<◌, ◌*◌, length, IfOk, IsTrue, vec_len};
+ghost use Rattle.std.specs.Prelude.{◌≡◌, ◌<◌, ◌≤◌, ◌*◌, [], length, IfOk, IsTrue, vec_capacity, vec_len};
 ghost use Rattle.auc_threads.specs.Naming.{workers_of};
 ghost use Rattle.auc_threads.specs.Counting.{Closes, Counts};
 ghost use Rattle.auc_threads.specs.Placed.{Placed};
-ghost use Rattle.auc_threads.specs.Starts.{AreNewSeats, IsBuyerStart, IsObjectResult, IsObjectStart, IsPersonResult};
+ghost use Rattle.auc_threads.specs.Starts.{AreNewSeats, IsBuyerStart, IsObjectPromise, IsObjectResult, IsObjectStart, IsPersonPromise, IsPersonResult};
 
 use crate::bidding::Buyer;
 use crate::error::RunError;
 use crate::gate::Gate;
 use crate::hub::{HubWork, close_all, count};
 use crate::mails::{Mails, WorkerSeats};
-use crate::object_threads::{join_objects, start_objects};
+use crate::object_threads::{Sold, join_objects, start_objects};
 use crate::object_worker::{ObjectWork, ObjectWorker};
-use crate::person_threads::{join_persons, start_persons};
+use crate::person_threads::{Bought, join_persons, start_persons};
 use crate::person_worker::{PersonWork, PersonWorker};
 use crate::task::{PhaseRun, Task};
 use auc_book::MailBrand;
@@ -22,7 +22,7 @@ use auc_persons::{Bidder, PersonShard};
 use std::alloc::{AllocError, Global};
 use std::sync::Wait;
 use std::thread;
-use std::thread::{Scope, Threads};
+use std::thread::{PromisedHandle, Scope, Threads};
 
 /// What the workers of a phase begin with.
 #[derive(Drop)]
@@ -48,7 +48,8 @@ fn person_starts<O: MailBrand, P: MailBrand, H: MailBrand>(
 ) -> Result<Vec<PersonWorker<O, P, H>>, AllocError>
     requires seats { Placed (λ k w. AreNewSeats k w.objects w.persons w.hub) 0 seats.items }
     requires many { vec_len seats ≡ task.now.limits.now.shards }
-    ensures starts { IfOk result (λ v. Placed (λ k x. IsBuyerStart task.now k x.buyer.shard x.buyer.lists x.seats.objects x.seats.persons x.seats.hub) 0 v.items) }
+    ensures starts { IfOk result (λ v. Placed (λ k x. IsBuyerStart task.now k x.buyer.shard x.buyer.lists x.seats.objects x.seats.persons
+        x.seats.hub) 0 v.items) }
     ensures many { IfOk result (λ v. vec_len v ≡ task.now.limits.now.shards) }
 {
     let shards = task.limits.shards;
@@ -74,7 +75,8 @@ fn object_starts<O: MailBrand, P: MailBrand, H: MailBrand>(
 ) -> Result<Vec<ObjectWorker<O, P, H>>, AllocError>
     requires seats { Placed (λ k w. AreNewSeats k w.objects w.persons w.hub) task.now.limits.now.shards seats.items }
     requires many { vec_len seats ≡ task.now.limits.now.shards }
-    ensures starts { IfOk result (λ v. Placed (λ k x. IsObjectStart task.now k x.shard x.seats.objects x.seats.persons x.seats.hub) 0 v.items) }
+    ensures starts { IfOk result (λ v. Placed (λ k x. IsObjectStart task.now k x.shard x.seats.objects x.seats.persons x.seats.hub) 0
+        v.items) }
     ensures many { IfOk result (λ v. vec_len v ≡ task.now.limits.now.shards) }
 {
     let shards = task.limits.shards;
@@ -97,9 +99,11 @@ pub(crate) fn starts_of<O: MailBrand, P: MailBrand, H: MailBrand>(
 ) -> Result<Starts<O, P, H>, AllocError>
     requires seats { Placed (λ k w. AreNewSeats k w.objects w.persons w.hub) 0 seats.items }
     requires many { vec_len seats ≡ workers_of task.now.limits.now.shards }
-    ensures persons { IfOk result (λ r. Placed (λ k x. IsBuyerStart task.now k x.buyer.shard x.buyer.lists x.seats.objects x.seats.persons x.seats.hub) 0 r.persons.items) }
+    ensures persons { IfOk result (λ r. Placed (λ k x. IsBuyerStart task.now k x.buyer.shard x.buyer.lists x.seats.objects x.seats.persons
+        x.seats.hub) 0 r.persons.items) }
     ensures persons_many { IfOk result (λ r. vec_len r.persons ≡ task.now.limits.now.shards) }
-    ensures objects { IfOk result (λ r. Placed (λ k x. IsObjectStart task.now k x.shard x.seats.objects x.seats.persons x.seats.hub) 0 r.objects.items) }
+    ensures objects { IfOk result (λ r. Placed (λ k x. IsObjectStart task.now k x.shard x.seats.objects x.seats.persons x.seats.hub) 0
+        r.objects.items) }
     ensures objects_many { IfOk result (λ r. vec_len r.objects ≡ task.now.limits.now.shards) }
     ensures hub { IfOk result (λ r. AreNewSeats (2 * task.now.limits.now.shards) r.hub.objects r.hub.persons r.hub.hub) }
 {
@@ -142,6 +146,52 @@ fn hub_work<O: MailBrand, P: MailBrand, H: MailBrand, R: Wait>(
     }
 }
 
+/// Starts a thread for each shard, those of the persons first. False where one couldn't be started; then no more are, of either kind.
+fn start_all<
+    's,
+    'e: 's,
+    O: MailBrand + Send + Sync,
+    P: MailBrand + Send + Sync,
+    H: MailBrand + Send + Sync,
+    R: Threads + Wait + Sync,
+    G: Gate + Sync,
+>(
+    scope: &'s Scope<'s, &'e ()>,
+    rt: &'e R,
+    gate: &'e G,
+    run: &'e PhaseRun<'e, O, P, H>,
+    persons: Vec<PersonWorker<O, P, H>>,
+    objects: Vec<ObjectWorker<O, P, H>>,
+    person_handles: &mut Vec<PromisedHandle<PersonWork<O, P, H>, Bought<O, P, H>>>,
+    object_handles: &mut Vec<PromisedHandle<ObjectWork<O, P, H>, Sold<O, P, H>>>,
+) -> bool
+    requires persons { Placed (λ k x. IsBuyerStart run.now.task k x.buyer.shard x.buyer.lists x.seats.objects x.seats.persons x.seats.hub) 0
+        persons.items }
+    requires persons_many { vec_len persons ≡ run.now.task.limits.now.shards }
+    requires persons_none { person_handles.old.items ≡ [] }
+    requires persons_room { vec_len persons ≤ vec_capacity person_handles.old }
+    requires objects { Placed (λ k x. IsObjectStart run.now.task k x.shard x.seats.objects x.seats.persons x.seats.hub) 0 objects.items }
+    requires objects_many { vec_len objects ≡ run.now.task.limits.now.shards }
+    requires objects_none { object_handles.old.items ≡ [] }
+    requires objects_room { vec_len objects ≤ vec_capacity object_handles.old }
+    ensures persons { Placed (λ k h. IsPersonPromise run.now.task k h.promise.eps h.promise.rows.value h.promise.start.value.buyer.shard
+        h.promise.start.value.seats.objects h.promise.start.value.seats.persons h.promise.start.value.seats.hub) 0
+        person_handles.new.items }
+    ensures persons_few { vec_len person_handles.new ≤ run.now.task.limits.now.shards }
+    ensures objects { Placed (λ k h. IsObjectPromise run.now.task k h.promise.eps h.promise.start.value.shard
+        h.promise.start.value.seats.objects h.promise.start.value.seats.persons h.promise.start.value.seats.hub) 0
+        object_handles.new.items }
+    ensures objects_few { vec_len object_handles.new ≤ run.now.task.limits.now.shards }
+    ensures persons_all { IsTrue result → vec_len person_handles.new ≡ run.now.task.limits.now.shards }
+    ensures objects_all { IsTrue result → vec_len object_handles.new ≡ run.now.task.limits.now.shards }
+    ensures refused { vec_len person_handles.new < run.now.task.limits.now.shards → object_handles.new.items ≡ [] }
+{
+    if !start_persons(scope, rt, gate, run, persons, person_handles) {
+        return false;
+    }
+    start_objects(scope, rt, gate, run, objects, object_handles)
+}
+
 /// Starts all threads, counts, and waits for them.
 fn run_all<
     's,
@@ -159,15 +209,20 @@ fn run_all<
     run: &'e PhaseRun<'e, O, P, H>,
     starts: Starts<O, P, H>,
 ) -> Result<Works<O, P, H>, RunError>
-    requires persons { Placed (λ k x. IsBuyerStart run.now.task k x.buyer.shard x.buyer.lists x.seats.objects x.seats.persons x.seats.hub) 0 starts.persons.items }
+    requires persons { Placed (λ k x. IsBuyerStart run.now.task k x.buyer.shard x.buyer.lists x.seats.objects x.seats.persons x.seats.hub) 0
+        starts.persons.items }
     requires persons_many { vec_len starts.persons ≡ run.now.task.limits.now.shards }
-    requires objects { Placed (λ k x. IsObjectStart run.now.task k x.shard x.seats.objects x.seats.persons x.seats.hub) 0 starts.objects.items }
+    requires objects { Placed (λ k x. IsObjectStart run.now.task k x.shard x.seats.objects x.seats.persons x.seats.hub) 0
+        starts.objects.items }
     requires objects_many { vec_len starts.objects ≡ run.now.task.limits.now.shards }
-    ensures persons { IfOk result (λ r. Placed (λ k w. IsPersonResult run.now.task O.room P.room H.room k w.shard w.seats.objects w.seats.persons w.seats.hub w.why) 0 r.persons.items) }
+    ensures persons { IfOk result (λ r. Placed (λ k w. IsPersonResult run.now.task O.room P.room H.room k w.shard w.seats.objects
+        w.seats.persons w.seats.hub w.why) 0 r.persons.items) }
     ensures persons_many { IfOk result (λ r. vec_len r.persons ≡ run.now.task.limits.now.shards) }
-    ensures objects { IfOk result (λ r. Placed (λ k w. IsObjectResult run.now.task O.room P.room H.room k w.shard w.seats.objects w.seats.persons w.seats.hub w.why) 0 r.objects.items) }
+    ensures objects { IfOk result (λ r. Placed (λ k w. IsObjectResult run.now.task O.room P.room H.room k w.shard w.seats.objects
+        w.seats.persons w.seats.hub w.why) 0 r.objects.items) }
     ensures objects_many { IfOk result (λ r. vec_len r.objects ≡ run.now.task.limits.now.shards) }
-    ensures counts { IfOk result (λ r. Counts H.room (length run.now.task.rows.now.rows) starts.hub.hub r.hub.is_all r.hub.why r.hub.seats.hub) }
+    ensures counts { IfOk result (λ r. Counts H.room (length run.now.task.rows.now.rows) starts.hub.hub r.hub.is_all r.hub.why
+        r.hub.seats.hub) }
     ensures hub_objects { IfOk result (λ r. Closes O.room O.boxes starts.hub.objects r.hub.seats.objects) }
     ensures hub_persons { IfOk result (λ r. Closes P.room P.boxes starts.hub.persons r.hub.seats.persons) }
 {
@@ -182,9 +237,16 @@ fn run_all<
     let mut object_handles = Vec::with_capacity(alloc, shards)?;
     let mut persons = Vec::with_capacity(alloc, shards)?;
     let mut objects = Vec::with_capacity(alloc, shards)?;
-    let has_persons = start_persons(scope, rt, gate, run, person_starts, &mut person_handles);
-    let has_objects = start_objects(scope, rt, gate, run, object_starts, &mut object_handles);
-    let is_whole = has_persons && has_objects;
+    let is_whole = start_all(
+        scope,
+        rt,
+        gate,
+        run,
+        person_starts,
+        object_starts,
+        &mut person_handles,
+        &mut object_handles,
+    );
     let hub = hub_work(rt, run.mails, persons_count, seats, is_whole);
     join_persons(rt, &run.task, person_handles, &mut persons);
     join_objects(rt, &run.task, object_handles, &mut objects);
@@ -212,15 +274,20 @@ pub(crate) fn run_in_scope<
     run: &PhaseRun<'_, O, P, H>,
     starts: Starts<O, P, H>,
 ) -> Result<Works<O, P, H>, RunError>
-    requires persons { Placed (λ k x. IsBuyerStart run.now.task k x.buyer.shard x.buyer.lists x.seats.objects x.seats.persons x.seats.hub) 0 starts.persons.items }
+    requires persons { Placed (λ k x. IsBuyerStart run.now.task k x.buyer.shard x.buyer.lists x.seats.objects x.seats.persons x.seats.hub) 0
+        starts.persons.items }
     requires persons_many { vec_len starts.persons ≡ run.now.task.limits.now.shards }
-    requires objects { Placed (λ k x. IsObjectStart run.now.task k x.shard x.seats.objects x.seats.persons x.seats.hub) 0 starts.objects.items }
+    requires objects { Placed (λ k x. IsObjectStart run.now.task k x.shard x.seats.objects x.seats.persons x.seats.hub) 0
+        starts.objects.items }
     requires objects_many { vec_len starts.objects ≡ run.now.task.limits.now.shards }
-    ensures persons { IfOk result (λ r. Placed (λ k w. IsPersonResult run.now.task O.room P.room H.room k w.shard w.seats.objects w.seats.persons w.seats.hub w.why) 0 r.persons.items) }
+    ensures persons { IfOk result (λ r. Placed (λ k w. IsPersonResult run.now.task O.room P.room H.room k w.shard w.seats.objects
+        w.seats.persons w.seats.hub w.why) 0 r.persons.items) }
     ensures persons_many { IfOk result (λ r. vec_len r.persons ≡ run.now.task.limits.now.shards) }
-    ensures objects { IfOk result (λ r. Placed (λ k w. IsObjectResult run.now.task O.room P.room H.room k w.shard w.seats.objects w.seats.persons w.seats.hub w.why) 0 r.objects.items) }
+    ensures objects { IfOk result (λ r. Placed (λ k w. IsObjectResult run.now.task O.room P.room H.room k w.shard w.seats.objects
+        w.seats.persons w.seats.hub w.why) 0 r.objects.items) }
     ensures objects_many { IfOk result (λ r. vec_len r.objects ≡ run.now.task.limits.now.shards) }
-    ensures counts { IfOk result (λ r. Counts H.room (length run.now.task.rows.now.rows) starts.hub.hub r.hub.is_all r.hub.why r.hub.seats.hub) }
+    ensures counts { IfOk result (λ r. Counts H.room (length run.now.task.rows.now.rows) starts.hub.hub r.hub.is_all r.hub.why
+        r.hub.seats.hub) }
     ensures hub_objects { IfOk result (λ r. Closes O.room O.boxes starts.hub.objects r.hub.seats.objects) }
     ensures hub_persons { IfOk result (λ r. Closes P.room P.boxes starts.hub.persons r.hub.seats.persons) }
 {
@@ -228,15 +295,20 @@ pub(crate) fn run_in_scope<
         thread::scope_env(),
         rt,
         |scope| -> Result<Works<O, P, H>, RunError>
-            requires persons { Placed (λ k x. IsBuyerStart run.now.task k x.buyer.shard x.buyer.lists x.seats.objects x.seats.persons x.seats.hub) 0 starts.persons.items }
+            requires persons { Placed (λ k x. IsBuyerStart run.now.task k x.buyer.shard x.buyer.lists x.seats.objects x.seats.persons
+                x.seats.hub) 0 starts.persons.items }
             requires persons_many { vec_len starts.persons ≡ run.now.task.limits.now.shards }
-            requires objects { Placed (λ k x. IsObjectStart run.now.task k x.shard x.seats.objects x.seats.persons x.seats.hub) 0 starts.objects.items }
+            requires objects { Placed (λ k x. IsObjectStart run.now.task k x.shard x.seats.objects x.seats.persons x.seats.hub) 0
+                starts.objects.items }
             requires objects_many { vec_len starts.objects ≡ run.now.task.limits.now.shards }
-            ensures persons { IfOk result (λ r. Placed (λ k w. IsPersonResult run.entry.now.task O.room P.room H.room k w.shard w.seats.objects w.seats.persons w.seats.hub w.why) 0 r.persons.items) }
+            ensures persons { IfOk result (λ r. Placed (λ k w. IsPersonResult run.entry.now.task O.room P.room H.room k w.shard
+                w.seats.objects w.seats.persons w.seats.hub w.why) 0 r.persons.items) }
             ensures persons_many { IfOk result (λ r. vec_len r.persons ≡ run.entry.now.task.limits.now.shards) }
-            ensures objects { IfOk result (λ r. Placed (λ k w. IsObjectResult run.entry.now.task O.room P.room H.room k w.shard w.seats.objects w.seats.persons w.seats.hub w.why) 0 r.objects.items) }
+            ensures objects { IfOk result (λ r. Placed (λ k w. IsObjectResult run.entry.now.task O.room P.room H.room k w.shard
+                w.seats.objects w.seats.persons w.seats.hub w.why) 0 r.objects.items) }
             ensures objects_many { IfOk result (λ r. vec_len r.objects ≡ run.entry.now.task.limits.now.shards) }
-            ensures counts { IfOk result (λ r. Counts H.room (length run.entry.now.task.rows.now.rows) starts.hub.hub r.hub.is_all r.hub.why r.hub.seats.hub) }
+            ensures counts { IfOk result (λ r. Counts H.room (length run.entry.now.task.rows.now.rows) starts.hub.hub r.hub.is_all r.hub.why
+                r.hub.seats.hub) }
             ensures hub_objects { IfOk result (λ r. Closes O.room O.boxes starts.hub.objects r.hub.seats.objects) }
             ensures hub_persons { IfOk result (λ r. Closes P.room P.boxes starts.hub.persons r.hub.seats.persons) }
         { run_all(scope, alloc, rt, gate, run, starts) },

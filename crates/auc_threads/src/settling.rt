@@ -53,9 +53,12 @@ pub(crate) fn seats_of<O: MailBrand, P: MailBrand, H: MailBrand>(
     alloc: Global,
     works: Works<O, P, H>,
 ) -> Result<AllSeats<O, P, H>, AllocError>
-    ensures objects { IfOk result (λ a. a.objects.items ≡ (map (λ w. w.seats.objects) works.persons.items ++ map (λ w. w.seats.objects) works.objects.items) ++ works.hub.seats.objects ∷ []) }
-    ensures persons { IfOk result (λ a. a.persons.items ≡ (map (λ w. w.seats.persons) works.persons.items ++ map (λ w. w.seats.persons) works.objects.items) ++ works.hub.seats.persons ∷ []) }
-    ensures hub { IfOk result (λ a. a.hub.items ≡ (map (λ w. w.seats.hub) works.persons.items ++ map (λ w. w.seats.hub) works.objects.items) ++ works.hub.seats.hub ∷ []) }
+    ensures objects { IfOk result (λ a. a.objects.items ≡ (map (λ w. w.seats.objects) works.persons.items ++ map
+        (λ w. w.seats.objects) works.objects.items) ++ works.hub.seats.objects ∷ []) }
+    ensures persons { IfOk result (λ a. a.persons.items ≡ (map (λ w. w.seats.persons) works.persons.items ++ map
+        (λ w. w.seats.persons) works.objects.items) ++ works.hub.seats.persons ∷ []) }
+    ensures hub { IfOk result (λ a. a.hub.items ≡ (map (λ w. w.seats.hub) works.persons.items ++ map (λ w. w.seats.hub) works.objects.items)
+        ++ works.hub.seats.hub ∷ []) }
 {
     let Works {
         persons,

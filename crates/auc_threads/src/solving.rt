@@ -69,7 +69,8 @@ fn solve_rows<R: Threads + Wait + Sync, G: Gate + Sync>(
     requires assignment { HasAssignment problem.now }
     requires eps { IsEps eps }
     requires prices { ArePrices rows.now prices.items }
-    ensures run { (start : Option (List ℤ)) → Begins rows.now start eps prices.items → IfOk result (λ s. IsSolvedBy problem.now limits.now start s.phases.items s.answer) }
+    ensures run { (start : Option (List ℤ)) → Begins rows.now start eps prices.items → IfOk result
+        (λ s. IsSolvedBy problem.now limits.now start s.phases.items s.answer) }
     ensures answer { IfOk result (λ s. IsThreadAnswer problem.now s.answer) }
     ensures infeasible { IfOk result (λ s. (s.phases.items ≡ []) ↔ IsInfeasible s.answer) }
 {

@@ -148,7 +148,7 @@ fn fill<N: MailBrand + Send + Sync, R: Wait + Threads + Abort + Sync>(
         { takes_all(rt, &mail, second) },
     );
     assert_same(rt, refused, Err(TrailFull));
-    assert_same(rt, (first.count(), second.count()), (2, 0));
+    assert_same(rt, (first.count(), first.turned_away(), second.count()), (2, 1, 0));
     seats.push(first)?;
     seats.push(second)?;
     let trail = mail.settle(seats)?;

@@ -6,6 +6,7 @@
 #![tactic(auto)]
 
 ghost use Rattle.std.specs.Prelude.{◌≡◌, ◌≢◌, ◌↔◌, Contains, None, length, pos};
+ghost use Rattle.auc_graph.specs.Problem.{IsProblem};
 ghost use Rattle.auc_graph.specs.HallSet.{IsHallSet};
 ghost use Rattle.auc_graph.specs.InMemory.{problem_from, list_fault};
 ghost use Rattle.auc_call.specs.Memory.{AreSizes, memory};
@@ -48,10 +49,10 @@ pub extern "C" fn sigdorf_solve(
     ensures infeasible { result ≡ pos 3 → IsHallAt (problem_from persons objects arcs.now) choice.new hall_objects.new found.new.persons found.new.objects }
     ensures bracket { result ≡ pos 4 → IsBracketTold (problem_from persons objects arcs.now) choice.new prices.new found.new.kind found.new.lower found.new.cost }
     ensures refused { result ≡ pos 5 → IsListFault (list_fault persons objects arcs.now) found.new.kind found.new.place }
-    ensures start { result ≡ pos 7 → IsStartFault (start_fault (problem_from persons objects arcs.now) start.now) found.new.kind found.new.place }
+    ensures start { result ≡ pos 7 → IsProblem (problem_from persons objects arcs.now) × IsStartFault (start_fault (problem_from persons objects arcs.now) start.now) found.new.kind found.new.place }
     ensures started { result ≢ pos 2 → result ≢ pos 5 → result ≢ pos 6 → result ≢ pos 7 → start_fault (problem_from persons objects arcs.now) start.now ≡ None }
     ensures limit { result ≡ pos 4 → IsLimitTold (problem_from persons objects arcs.now) start.now bids choice.new prices.new found.new.kind found.new.lower found.new.cost }
-    ensures same { KeepsMemory result (memory choice.old prices.old hall_objects.old) (memory choice.new prices.new hall_objects.new) }
+    ensures same { KeepsMemory result found.new.persons found.new.objects (memory choice.old prices.old hall_objects.old) (memory choice.new prices.new hall_objects.new) }
     ensures same_found { KeepsFound result found.old found.new }
 {
     solve_call(
@@ -91,10 +92,10 @@ pub extern "C" fn sigdorf_solve_dense(
     ensures infeasible { result ≡ pos 3 → IsHallAt (table_problem persons objects costs.now stride none) choice.new hall_objects.new found.new.persons found.new.objects }
     ensures bracket { result ≡ pos 4 → ByObjects (table_problem persons objects costs.now stride none).arcs choice.new (λ places. IsBracketTold (table_problem persons objects costs.now stride none) places prices.new found.new.kind found.new.lower found.new.cost) }
     ensures refused { result ≡ pos 5 → IsListFault (table_fault (table_problem persons objects costs.now stride none)) found.new.kind found.new.place }
-    ensures start { result ≡ pos 7 → IsStartFault (start_fault (table_problem persons objects costs.now stride none) start.now) found.new.kind found.new.place }
+    ensures start { result ≡ pos 7 → IsProblem (table_problem persons objects costs.now stride none) × IsStartFault (start_fault (table_problem persons objects costs.now stride none) start.now) found.new.kind found.new.place }
     ensures started { result ≢ pos 2 → result ≢ pos 5 → result ≢ pos 6 → result ≢ pos 7 → start_fault (table_problem persons objects costs.now stride none) start.now ≡ None }
     ensures limit { result ≡ pos 4 → ByObjects (table_problem persons objects costs.now stride none).arcs choice.new (λ places. IsLimitTold (table_problem persons objects costs.now stride none) start.now bids places prices.new found.new.kind found.new.lower found.new.cost) }
-    ensures same { KeepsMemory result (memory choice.old prices.old hall_objects.old) (memory choice.new prices.new hall_objects.new) }
+    ensures same { KeepsMemory result found.new.persons found.new.objects (memory choice.old prices.old hall_objects.old) (memory choice.new prices.new hall_objects.new) }
     ensures same_found { KeepsFound result found.old found.new }
 {
     solve_table_call(
@@ -133,10 +134,10 @@ pub extern "C" fn sigdorf_solve_by_messages(
     ensures infeasible { result ≡ pos 3 → IsHallAt (problem_from persons objects arcs.now) choice.new hall_objects.new found.new.persons found.new.objects }
     ensures bracket { result ≡ pos 4 → IsBracketTold (problem_from persons objects arcs.now) choice.new prices.new found.new.kind found.new.lower found.new.cost }
     ensures refused { result ≡ pos 5 → IsListFault (list_fault persons objects arcs.now) found.new.kind found.new.place }
-    ensures start { result ≡ pos 7 → IsStartFault (start_fault_by_messages (problem_from persons objects arcs.now) start.now) found.new.kind found.new.place }
+    ensures start { result ≡ pos 7 → IsProblem (problem_from persons objects arcs.now) × IsStartFault (start_fault_by_messages (problem_from persons objects arcs.now) start.now) found.new.kind found.new.place }
     ensures started { result ≢ pos 2 → result ≢ pos 5 → result ≢ pos 6 → result ≢ pos 7 → start_fault_by_messages (problem_from persons objects arcs.now) start.now ≡ None }
     ensures run { result ≢ pos 2 → result ≢ pos 5 → result ≢ pos 6 → result ≢ pos 7 → IsRunTold (problem_from persons objects arcs.now) start.now bids (memory choice.new prices.new hall_objects.new) result found.old found.new }
-    ensures same { KeepsMemory result (memory choice.old prices.old hall_objects.old) (memory choice.new prices.new hall_objects.new) }
+    ensures same { KeepsMemory result found.new.persons found.new.objects (memory choice.old prices.old hall_objects.old) (memory choice.new prices.new hall_objects.new) }
     ensures same_found { KeepsFound result found.old found.new }
 {
     solve_by_messages_call(

@@ -7,7 +7,8 @@ from ..options import look_at_options
 from .refusals import Refusal
 
 READING = "form no_header columns ignore_column gap range sheet separator encoding decimals round decimal_mark".split()
-WISHES = "maximise capacity capacity_column leave_free leave_free_column need need_column need_row undone keep change_cost seconds".split()
+WISHES = "maximise capacity capacity_column leave_free leave_free_column need need_column need_row apart_column apart_row".split()
+WISHES += "undone undone_column undone_row keep change_cost seconds".split()
 # The file of the plan that --keep names, which the page keeps itself; no table that is dropped has a name with a folder.
 KEPT = "shown/before.json"
 KEPT_HELP = "keep the plan that is shown now, as far as it pays by --change-cost"
@@ -38,11 +39,16 @@ def field_of(parser, action, group):
 
 def values_of(fields, words):
     """What the fields show for the words of a command."""
-    told = {}
-    for field in fields:
-        value = getattr(words, field.name)
-        told[field.name] = bool(value) if field.kind == "flag" else "\n".join(value) if field.kind == "lines" else "" if value is None else str(value)
-    return told
+    return {field.name: value_shown(field, getattr(words, field.name)) for field in fields}
+
+
+def value_shown(field, value):
+    if field.kind == "flag":
+        return bool(value)
+    if field.kind == "lines":
+        # Of `--gap=--` argparse makes an empty list.
+        return "\n".join(each or "--" for each in value)
+    return "" if value is None else str(value)
 
 
 def words_told(parser, fields, told, before):

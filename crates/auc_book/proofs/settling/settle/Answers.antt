@@ -1,7 +1,6 @@
-use Rattle.std.proofs.Common.{◌⊎◌, inl, inr, false, [], vec_len, ◌≡◌, ◌<◌, ◌∙◌, length, ap, sym, subst, arith}
+use Rattle.std.proofs.Common.{◌⊎◌, inl, inr, false, [], vec_len, ◌≡◌, ◌<◌, ◌∙◌, length, sym, subst, arith}
 use Rattle.std.proofs.lemmas.List.{nil_from_length}
-use Rattle.auc_book.specs.Settling.{Differ}
-use Rattle.auc_book.specs.Trail.{lines_of}
+use Rattle.auc_book.specs.Settling.{Differ, IsTrueOf}
 use Rattle.auc_book.specs.Seat.{Account}
 use Rattle.auc_book.proofs.Lines.{is_none, is_some, not_true}
 use Rattle.auc_book.proofs.Settled.{differ, settles_none, settles_more, settled}
@@ -9,7 +8,7 @@ use Rattle.auc_book.proofs.settling.settle.Goals as goal
 use Rattle.auc_book.proofs.settling.settle.Goals.{then-same, else-same, then-not-same-via-then-not-same, then-not-same-via-else-not-same+then-not-is_empty}
 
 pub loop-worker-init : goal.loop-worker-init
-loop-worker-init g c = settles_none c.into_lines-lines.result.items c.args.seats.items
+loop-worker-init g c = settles_none g.N.MailBrand.room c.into_lines-lines.result.items c.args.seats.items
 
 pub returns-in_default-clause-unsettled : goal.returns-in_default-clause-unsettled
 returns-in_default-clause-unsettled g c =
@@ -21,24 +20,20 @@ returns-in_default-clause-unsettled g c =
 pub loop-worker-preserved : goal.loop-worker-preserved
 loop-worker-preserved g c =
     let seat = c.in-Some.seat in
-    let room : 0 < g.N.MailBrand.room = omega (arith, c.if-room-eq0.false, c.room.ensures) in
+    let lines = c.into_lines-lines.result.items in
+    let n = g.N.MailBrand.room in
+    let room : 0 < n = omega (arith, c.if-room-eq0.false, c.room.ensures) in
     let long : seat.count ≡ length seat.lines = subst (λ (p : Account _). p.count ≡ length p.lines) c.seat-in-loop-worker.view_is (c.seat-in-loop-worker.invariant.noted_all room) in
-    settles_more c.into_lines-lines.result.items c.args.seats.items c.loop-worker.seats.items c.take_seat.new.seats.items c.loop-worker.worker c.loop-worker.same c.if-same.same seat
+    settles_more n lines c.args.seats.items c.loop-worker.seats.items c.take_seat.new.seats.items c.loop-worker.worker c.loop-worker.same c.if-same.same seat
     c.loop-worker.invariant c.in-Some.ensures long
     (λ yes.
     elim c.if-same.branch [
-      | then-same w ↦
-          let found : lines_of c.loop-worker.worker w.as_slice.result.now ≡ w.lines.result.now = w.same_lines-same.ensures.0 (sym w.same-is ∙ yes) in
-          (w.if-same.true, ap (λ ls. lines_of c.loop-worker.worker ls) (sym w.as_slice.ensures.value) ∙ (found ∙ w.lines.ensures.lines))
+      | then-same w ↦ (w.if-same.true, subst (λ ls. IsTrueOf n ls seat) w.as_slice.ensures.value (w.is_true_of-same.ensures.0 (sym w.same-is ∙ yes)))
       | else-same w ↦ absurd (not_true (sym w.if-same.false ∙ (sym w.same-is ∙ yes)))
     ])
     (λ no.
     elim c.if-same.branch [
-      | then-same w ↦
-          inr (λ found.
-          let same : lines_of c.loop-worker.worker w.as_slice.result.now ≡ w.lines.result.now =
-          ap (λ ls. lines_of c.loop-worker.worker ls) w.as_slice.ensures.value ∙ (found ∙ sym w.lines.ensures.lines) in
-          not_true (sym no ∙ (w.same-is ∙ w.same_lines-same.ensures.1 same)))
+      | then-same w ↦ inr (λ true_of. not_true (sym no ∙ (w.same-is ∙ w.is_true_of-same.ensures.1 (subst (λ ls. IsTrueOf n ls seat) (sym w.as_slice.ensures.value) true_of))))
       | else-same w ↦ inl w.if-same.false
     ])
 
@@ -62,8 +57,8 @@ returns-then-not-same-clause-differs g c = λ e.
     let trail = c.into_lines-lines.result.items in
     let left = c.loop-worker.seats in
     let ended : c.loop-worker.worker ≡ g.N.MailBrand.workers = omega (arith, c.loop-worker-test.false, c.requires.workers, c.loop-worker.auto.worker-end) in
-    let differs : (c.loop-worker.same ≡ false) ⊎ (0 < length left.items) → Differ g.N.MailBrand.workers c.args.seats.items trail =
-    differ g.N.MailBrand.workers trail c.args.seats.items left.items c.loop-worker.worker c.loop-worker.same c.loop-worker.invariant ended in
+    let differs : (c.loop-worker.same ≡ false) ⊎ (0 < length left.items) → Differ g.N.MailBrand.workers g.N.MailBrand.room c.args.seats.items trail =
+    differ g.N.MailBrand.workers g.N.MailBrand.room trail c.args.seats.items left.items c.loop-worker.worker c.loop-worker.same c.loop-worker.invariant ended in
     rw (← c.into_lines-lines.ensures.lines)
     (elim c.then-not-same.branch [
       | then-not-same-via-then-not-same w ↦ differs (inl w.if-not-same.true)

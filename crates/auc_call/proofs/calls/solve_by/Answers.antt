@@ -60,7 +60,8 @@ returns-clause-run c =
 pub returns-clause-same : goal.returns-clause-same
 returns-clause-same c =
     let fits : FitsSigned w32 c.tell_solved.result = search rules in
-    simp to_z-of_z (subst (λ (z : ℤ). KeepsMemory z (memory c.args.choice.now c.args.prices.now c.args.hall_objects.now) (memory c.solve_into-solved.new.choice c.solve_into-solved.new.prices c.solve_into-solved.new.set)) (sym c.tell_solved.ensures.status) (told_same c.args.driver (problem_from c.args.persons c.args.objects c.args.arcs.now) c.args.start.now (memory c.args.choice.now c.args.prices.now c.args.hall_objects.now) (memory c.solve_into-solved.new.choice c.solve_into-solved.new.prices c.solve_into-solved.new.set) c.solve_into-solved.result c.solve_into-solved.ensures.solves))
+    let kept = told_same c.args.driver (problem_from c.args.persons c.args.objects c.args.arcs.now) c.args.start.now (memory c.args.choice.now c.args.prices.now c.args.hall_objects.now) (memory c.solve_into-solved.new.choice c.solve_into-solved.new.prices c.solve_into-solved.new.set) c.solve_into-solved.result c.args.found.now c.solve_into-solved.ensures.solves in
+    simp to_z-of_z (subst (λ (z : ℤ). KeepsMemory z c.tell_solved.new.found.persons c.tell_solved.new.found.objects (memory c.args.choice.now c.args.prices.now c.args.hall_objects.now) (memory c.solve_into-solved.new.choice c.solve_into-solved.new.prices c.solve_into-solved.new.set)) (sym c.tell_solved.ensures.status) (subst (λ (f : Found). KeepsMemory (solve_status c.solve_into-solved.result) f.persons f.objects (memory c.args.choice.now c.args.prices.now c.args.hall_objects.now) (memory c.solve_into-solved.new.choice c.solve_into-solved.new.prices c.solve_into-solved.new.set)) (sym c.tell_solved.ensures.found) kept))
 
 pub returns-clause-same_found : goal.returns-clause-same_found
 returns-clause-same_found c =

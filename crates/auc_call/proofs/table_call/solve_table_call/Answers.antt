@@ -70,7 +70,8 @@ pub returns-clause-same : goal.returns-clause-same
 returns-clause-same c =
     let none_fits : FitsSigned w64 c.args.none = c.ranges.none in
     let fits : FitsSigned w32 c.tell_solved.result = search rules in
-    simp to_z-of_z (subst (λ (z : ℤ). KeepsMemory z (memory c.args.choice.now c.args.prices.now c.args.hall_objects.now) (memory c.solve_table_into-solved.new.choice c.solve_table_into-solved.new.prices c.solve_table_into-solved.new.set)) (sym c.tell_solved.ensures.status) (table_same (table_problem c.args.persons c.args.objects c.args.costs.now c.args.stride c.args.none) c.args.stride (length c.args.costs.now) c.args.start.now c.args.bids (memory c.args.choice.now c.args.prices.now c.args.hall_objects.now) (memory c.solve_table_into-solved.new.choice c.solve_table_into-solved.new.prices c.solve_table_into-solved.new.set) c.solve_table_into-solved.result (simp to_z-of_z at c.solve_table_into-solved.ensures)))
+    let kept = table_same (table_problem c.args.persons c.args.objects c.args.costs.now c.args.stride c.args.none) c.args.stride (length c.args.costs.now) c.args.start.now c.args.bids (memory c.args.choice.now c.args.prices.now c.args.hall_objects.now) (memory c.solve_table_into-solved.new.choice c.solve_table_into-solved.new.prices c.solve_table_into-solved.new.set) c.solve_table_into-solved.result c.args.found.now (simp to_z-of_z at c.solve_table_into-solved.ensures) in
+    simp to_z-of_z (subst (λ (z : ℤ). KeepsMemory z c.tell_solved.new.found.persons c.tell_solved.new.found.objects (memory c.args.choice.now c.args.prices.now c.args.hall_objects.now) (memory c.solve_table_into-solved.new.choice c.solve_table_into-solved.new.prices c.solve_table_into-solved.new.set)) (sym c.tell_solved.ensures.status) (subst (λ (f : Found). KeepsMemory (solve_status c.solve_table_into-solved.result) f.persons f.objects (memory c.args.choice.now c.args.prices.now c.args.hall_objects.now) (memory c.solve_table_into-solved.new.choice c.solve_table_into-solved.new.prices c.solve_table_into-solved.new.set)) (sym c.tell_solved.ensures.found) kept))
 
 pub returns-clause-same_found : goal.returns-clause-same_found
 returns-clause-same_found c =

@@ -1,4 +1,4 @@
-use Rattle.std.proofs.Common.{ℕ, ◌≤◌, ◌≡◌, pos}
+use Rattle.std.proofs.Common.{ℕ, ◌≤◌, ◌≡◌}
 use Rattle.auc_direct.specs.declared.holdings.TheConstants.{NOBODY}
 use Rattle.auc_direct.specs.Market.{own_at}
 use Rattle.auc_direct.specs.Starts.{AreSeated}
@@ -6,6 +6,6 @@ use Rattle.auc_direct.proofs.adopt.tried.Given as goal
 
 abbrev pub invariant-loop-person : goal.invariant-loop-person
 invariant-loop-person l = record {
-  seated : AreSeated l.rows (pos 1) l.start.items l.holdings.prices.items l.holdings.holders.items l.holdings.owns.items;
+  seated : AreSeated l.rows l.start.items l.holdings.prices.items l.holdings.holders.items l.holdings.owns.items;
   none : (i : ℕ) → l.person ≤ i → (own_at l.holdings.owns.items i).object ≡ NOBODY;
 }

@@ -1,4 +1,4 @@
-use Rattle.std.proofs.Common.{length, pos}
+use Rattle.std.proofs.Common.{length}
 use Rattle.auc_direct.proofs.StartLaws.{nothing_owned, seated_none}
 use Rattle.auc_direct.proofs.from_start.market_from.Goals as goal
 
@@ -7,7 +7,7 @@ open_at-requires-clause-seated c =
     let first = c.in_ok-prices.ensures in
     let empty = c.in_ok-holdings.ensures in
     let prices = c.in_ok-prices.prices.items in
-    rw empty.prices (seated_none c.args.rows.now (pos 1) c.args.start.now prices c.in_ok-holdings.holdings.holders.items c.in_ok-holdings.holdings.owns.items (length prices) c.persons.result first.start first.kept first.same first.start.each c.persons.ensures.persons empty.holders empty.owns)
+    rw empty.prices (seated_none c.args.rows.now c.args.start.now prices c.in_ok-holdings.holdings.holders.items c.in_ok-holdings.holdings.owns.items (length prices) c.persons.result first.start first.kept first.same first.start.each c.persons.ensures.persons empty.holders empty.owns)
 
 pub open_at-requires-clause-none : goal.open_at-requires-clause-none
 open_at-requires-clause-none c = nothing_owned c.in_ok-holdings.holdings.owns.items c.persons.result c.in_ok-holdings.ensures.owns

@@ -1,8 +1,7 @@
 use Rattle.std.proofs.Common.{ap, inr, refl, ◌∙◌}
 use Rattle.auc_direct.specs.Bids.{state_of}
 use Rattle.auc_direct.specs.Phases.{IsAdopted}
-use Rattle.auc_direct.specs.Phases.ArePhases.{adopts}
-use Rattle.auc_direct.specs.Position.{Position, state_at}
+use Rattle.auc_direct.specs.Position.{Position}
 use Rattle.auc_direct.proofs.Moving.{outcome_of, over_at, over_before, played_at, plays_none, plays_tried}
 use Rattle.auc_direct.proofs.run.run.Goals as goal
 
@@ -22,19 +21,14 @@ returns-in-Some-clause-outcome g c =
 -- a full table was adopted after it
 pub returns-in-Some-2-clause-outcome : goal.returns-in-Some-2-clause-outcome
 returns-in-Some-2-clause-outcome g c =
-    let a = c.in_ok-market.market in
-    let b = c.try_phase.new.self in
-    let e = c.in_ok-market.ensures in
     let found = c.in_ok-holdings.ensures in
     let stands = rw c.in-Some-2.is at found.stands in
     let have = rw c.in-Some-2.is at found.have in
     let is : IsAdopted c.args.rows.now (state_of c.in-Some-2.holdings) = record { full = rw c.in-Some-2.is at found.full; stands = stands; have = have } in
-    let tried = rw c.in_default.is at c.in_ok-ending.ensures.tried in
-    let phases = rw (ap (λ (p : Position). p.table) e) at (plays_tried c.args.bids a b tried).phases in
     record {
       left = (stands, have);
       stopped = inr (rw c.in_default.is at c.in_ok-ending.ensures.going, tt);
-      run = (state_of c.in-Some-2.holdings, refl, record { first = state_at a; begun_are = ap (λ (p : Position). p.prices) e; phases = adopts (state_at b) (state_of c.in-Some-2.holdings) phases is });
+      run = (state_of c.in-Some-2.holdings, refl, inr is);
     }
 
 -- one phase after it

@@ -99,7 +99,8 @@ returns-then-each_has_one-clause-told c = λ bids. (
     )
 
 pub returns-then-each_has_one-clause-run : goal.returns-then-each_has_one-clause-run
-returns-then-each_has_one-clause-run c = λ bids begun run. (
+returns-then-each_has_one-clause-run c = λ bids begun ended. (
+    let run = rw c.in-Stopped.is at ended in
     let p = c.args.problem.now in
     let left = c.in_ok-gathered.gathered in
     of_answers (IsBracketOf p c.in-Stopped.reason left.prices.items) (IsOfPhases p bids begun) c.proved_bracket.result
@@ -142,7 +143,8 @@ returns-else-each_has_one-clause-told c = λ bids. (
     )
 
 pub returns-in-Sold-clause-run : goal.returns-in-Sold-clause-run
-returns-in-Sold-clause-run c = λ bids begun run. (
+returns-in-Sold-clause-run c = λ bids begun ended. (
+    let run = rw c.in-Sold.is at ended in
     let m = c.args.outcome.holdings in
     let left = c.in_ok-gathered.gathered in
     let g = c.in_ok-gathered.ensures in
@@ -151,7 +153,8 @@ returns-in-Sold-clause-run c = λ bids begun run. (
     )
 
 pub returns-else-each_has_one-clause-run : goal.returns-else-each_has_one-clause-run
-returns-else-each_has_one-clause-run c = λ bids begun run. (
+returns-else-each_has_one-clause-run c = λ bids begun ended. (
+    let run = rw c.in-Stopped.is at ended in
     let p = c.args.problem.now in
     let m = c.args.outcome.holdings in
     let left = c.in_ok-gathered.gathered in

@@ -1,12 +1,22 @@
 use Rattle.std.proofs.Common.{◌≡◌, ◌∙◌, rules}
+use Rattle.std.specs.Prelude.{Ok}
+use Rattle.auc_mail.specs.declared.call.Taken.{Taken}
 use Rattle.auc_threads.specs.declared.calls.Step.{Step}
-use Rattle.auc_threads.proofs.DealingLaws.{takes_more, with_shape}
+use Rattle.auc_threads.proofs.DealingLaws.{takes_empty, takes_more, takes_none, with_shape}
 use Rattle.auc_threads.proofs.dealing.deal_each.Goals as goal
+
+pub loop-init : goal.loop-init
+loop-init g c = record { shards = c.requires.shards; deals = takes_none _ _ _ _ _ _ c.requires.none }
+
+pub returns-then-matches : goal.returns-then-matches
+returns-then-matches g c =
+    let empty : c.take-taken.result ≡ Ok Taken.Empty = search rules in
+    takes_empty _ _ _ _ _ _ _ _ _ _ c.loop.invariant.deals c.take-taken.ensures.seat empty
 
 pub returns-then-ne : goal.returns-then-ne
 returns-then-ne g c =
     let deals = c.deal-step.ensures.deals in
-    takes_more _ _ _ _ _ _ _ _ _ _ deals.0 _ _ c.loop.invariant.deals c.take-taken.ensures.took deals.1 deals.2 (λ e. c.take-taken.ensures.over (c.deal-step.ensures.over e))
+    takes_more _ _ _ _ _ _ _ _ _ _ _ deals.0 _ _ c.loop.invariant.deals c.take-taken.ensures.seat deals.1 deals.2 c.deal-step.ensures.after
 
 pub loop-preserved : goal.loop-preserved
 loop-preserved g c =
@@ -15,5 +25,5 @@ loop-preserved g c =
     let deals = rw on at c.deal-step.ensures.deals in
     record {
       shards = (with_shape _ _ _ _ _ _ deals.2).person_shards ∙ inv.shards;
-      deals = takes_more _ _ _ _ _ _ _ _ _ _ deals.0 _ _ inv.deals c.take-taken.ensures.took deals.1 deals.2 (λ e. absurd cc);
+      deals = takes_more _ _ _ _ _ _ _ _ _ _ _ deals.0 _ _ inv.deals c.take-taken.ensures.seat deals.1 deals.2 (rw on at c.deal-step.ensures.after);
     }

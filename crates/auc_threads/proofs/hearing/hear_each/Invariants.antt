@@ -7,6 +7,6 @@ use Rattle.auc_threads.proofs.hearing.hear_each.Given as goal
 abbrev pub invariant-loop : goal.invariant-loop
 invariant-loop g l = record {
   is : IsPersonShard l.task.rows.now l.task.limits.now.shards l.number l.shard;
-  hears : Hears g.N.MailBrand.room l.fn.shard l.fn.seat l.shard l.seat ⊥;
-  listens : Listens l.task.rows.now l.task.eps g.N.MailBrand.room l.fn.shard l.fn.seat l.shard l.seat Step.On;
+  hears : Hears g.N.MailBrand.room l.number l.fn.shard l.fn.seat l.shard l.seat ⊥;
+  listens : Listens l.task.rows.now l.task.eps g.N.MailBrand.room l.number l.fn.shard l.fn.seat l.shard l.seat Step.On;
 }

@@ -1,20 +1,18 @@
 use Rattle.auc_threads.proofs.CountingLaws.{counts_all, counts_end, counts_more}
-use Rattle.auc_threads.proofs.PostingLaws.{over_taken}
-use Rattle.auc_threads.proofs.TakingLaws.{took_take}
 use Rattle.auc_threads.proofs.hub.count.Goals as goal
 
 pub loop-preserved : goal.loop-preserved
 loop-preserved g c =
     let inv = c.loop.invariant in
-    let heard = rw c.in-On.is at c.hear.ensures.counted in
-    record { counted = counts_more _ _ _ _ _ _ _ _ inv.counted (took_take _ _ _ _ _ c.take-taken.ensures.seat) heard; objects = inv.objects; persons = inv.persons }
+    let heard = rw c.in-On.is at c.hear.ensures in
+    record { counted = counts_more _ _ _ _ _ _ _ _ inv.counted c.take-taken.ensures.seat heard; objects = inv.objects; persons = inv.persons }
 
 pub returns-in-All-clause-counts : goal.returns-in-All-clause-counts
 returns-in-All-clause-counts g c =
-    let heard = rw c.in-All.is at c.hear.ensures.counted in
-    counts_all _ _ _ c.hear.new.hub _ _ _ _ c.loop.invariant.counted (took_take _ _ _ _ _ c.take-taken.ensures.seat) _ heard c.close_all.ensures.hub
+    let heard = rw c.in-All.is at c.hear.ensures in
+    counts_all _ _ _ c.hear.new.hub _ _ _ _ c.loop.invariant.counted c.take-taken.ensures.seat _ heard c.close_all.ensures.hub
 
 pub returns-in-End-clause-counts : goal.returns-in-End-clause-counts
 returns-in-End-clause-counts g c =
-    let heard = rw c.in-End.is at c.hear.ensures.counted in
-    counts_end _ _ _ c.hear.new.hub _ _ _ _ c.loop.invariant.counted (took_take _ _ _ _ _ c.take-taken.ensures.seat) _ c.in-End.why heard (λ none nil some. over_taken _ _ _ _ _ c.take-taken.ensures.seat (c.hear.ensures.over (rw none at c.in-End.is) nil) some) c.close_all-in-End.ensures.hub
+    let heard = rw c.in-End.is at c.hear.ensures in
+    counts_end _ _ _ c.hear.new.hub _ _ _ _ c.loop.invariant.counted c.take-taken.ensures.seat _ c.in-End.why heard c.close_all-in-End.ensures.hub

@@ -6,5 +6,5 @@ use Rattle.auc_threads.proofs.object_worker.sell.Given as goal
 abbrev pub invariant-loop : goal.invariant-loop
 invariant-loop g l = record {
   shards : l.worker.shard.person_shards ≡ l.run.task.limits.now.shards;
-  serves : Serves l.run.task.eps g.O.MailBrand.room g.P.MailBrand.room g.H.MailBrand.room l.fn.worker.shard l.fn.worker.seats.objects l.fn.worker.seats.persons l.fn.worker.seats.hub l.worker.shard l.worker.seats.objects l.worker.seats.persons l.worker.seats.hub Step.On;
+  serves : Serves l.run.task.eps g.O.MailBrand.room g.P.MailBrand.room g.H.MailBrand.room l.number l.fn.worker.shard l.fn.worker.seats.objects l.fn.worker.seats.persons l.fn.worker.seats.hub l.worker.shard l.worker.seats.objects l.worker.seats.persons l.worker.seats.hub Step.On;
 }

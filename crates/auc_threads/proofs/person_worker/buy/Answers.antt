@@ -14,8 +14,8 @@ pub loop-init : goal.loop-init
 loop-init g c = record {
   is = c.requires.shard;
   kept = c.requires.kept;
-  hears = hears_nothing _ _ _ _ _ _ (took_nil _ _) refl (λ f. f);
-  buys = buys_none _ _ _ _ _ _ _;
+  hears = hears_nothing _ _ _ _ _ _ _ (took_nil _ _ _) refl (λ f. f);
+  buys = buys_none _ _ _ _ _ _ _ _;
   hub = refl;
 }
 
@@ -26,8 +26,8 @@ loop-preserved g c =
     record {
       is = c.serve-step.ensures.is;
       kept = c.serve-step.ensures.kept;
-      hears = hears_then _ _ _ _ _ _ _ _ _ inv.hears (hears_first _ _ _ _ _ _ _ (λ f. absurd f) c.serve-step.ensures.hears);
-      buys = buys_then _ _ _ _ _ _ _ _ _ _ _ _ _ _ inv.buys (rw on at c.serve-step.ensures.buys);
+      hears = hears_then _ _ _ _ _ _ _ _ _ _ inv.hears (hears_first _ _ _ _ _ _ _ _ (λ f. absurd f) c.serve-step.ensures.hears);
+      buys = buys_then _ _ _ _ _ _ _ _ _ _ _ _ _ _ _ inv.buys (rw on at c.serve-step.ensures.buys);
       hub = c.serve-step.ensures.hub ∙ inv.hub;
     }
 
@@ -37,10 +37,10 @@ returns-then-ne g c =
     let inv = c.loop.invariant in
     record {
       step = c.serve-step.result;
-      buys = buys_then _ _ _ _ _ _ _ _ _ _ _ _ _ _ inv.buys c.serve-step.ensures.buys;
+      buys = rw (← c.requires.shard.number) at (buys_then _ _ _ _ _ _ _ _ _ _ _ _ _ _ _ inv.buys c.serve-step.ensures.buys);
       ended = ne;
       ends = subst (λ (x : Account Letter). Ends g.H.MailBrand.room x c.serve-step.result c.end-why.new.seat) (c.serve-step.ensures.hub ∙ inv.hub) c.end-why.ensures.ends;
       why_is = c.end-why.ensures.why;
-      hears = hears_then _ _ _ _ _ _ _ _ _ inv.hears (hears_first _ _ _ _ _ _ _ (λ e. why_stop c.serve-step.result c.end-why.result Why.Fell c.end-why.ensures.why e) c.serve-step.ensures.hears);
+      hears = rw (← c.requires.shard.number) at (hears_then _ _ _ _ _ _ _ _ _ _ inv.hears (hears_first _ _ _ _ _ _ _ _ (λ e. why_stop c.serve-step.result c.end-why.result Why.Fell c.end-why.ensures.why e) c.serve-step.ensures.hears));
       stuck = λ e. c.serve-step.ensures.stuck (why_stop c.serve-step.result c.end-why.result Why.Stuck c.end-why.ensures.why e);
     }

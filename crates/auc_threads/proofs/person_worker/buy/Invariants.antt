@@ -10,7 +10,7 @@ abbrev pub invariant-loop : goal.invariant-loop
 invariant-loop g l = record {
   is : IsPersonShard l.run.task.rows.now l.run.task.limits.now.shards l.number l.worker.buyer.shard;
   kept : Kept l.run.task.rows.now l.worker.buyer.shard.copies l.worker.buyer.lists;
-  hears : Hears g.P.MailBrand.room l.fn.worker.buyer.shard l.fn.worker.seats.persons l.worker.buyer.shard l.worker.seats.persons ⊥;
-  buys : Buys l.run.task.rows.now l.run.task.eps g.O.MailBrand.room g.P.MailBrand.room l.fn.worker.buyer.shard l.fn.worker.seats.objects l.fn.worker.seats.persons l.worker.buyer.shard l.worker.seats.objects l.worker.seats.persons Step.On;
+  hears : Hears g.P.MailBrand.room l.number l.fn.worker.buyer.shard l.fn.worker.seats.persons l.worker.buyer.shard l.worker.seats.persons ⊥;
+  buys : Buys l.run.task.rows.now l.run.task.eps g.O.MailBrand.room g.P.MailBrand.room l.number l.fn.worker.buyer.shard l.fn.worker.seats.objects l.fn.worker.seats.persons l.worker.buyer.shard l.worker.seats.objects l.worker.seats.persons Step.On;
   hub : l.worker.seats.hub ≡ l.fn.worker.seats.hub;
 }

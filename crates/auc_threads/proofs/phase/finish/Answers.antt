@@ -1,7 +1,7 @@
-use Rattle.std.proofs.Common.{rules, arith, sym, ◌∙◌, ◌≡◌, ◌<◌, length, map}
+use Rattle.std.proofs.Common.{rules, arith, sym, subst, ℕ, ◌∙◌, ◌≡◌, ◌<◌, length, map}
 use Rattle.auc_letters.specs.declared.letter.Why.{Why}
 use Rattle.auc_threads.proofs.CountingLaws.{hub_bids, hub_guard}
-use Rattle.auc_threads.proofs.PhaseLaws.{counted_told, no_bids, no_guards, own_of, stuck_told, told_map, told_phase}
+use Rattle.auc_threads.proofs.PhaseLaws.{counted_told, no_bids, no_guards, own_of, played_told, stuck_told, told_all, told_counted, told_map, told_phase, told_some}
 use Rattle.auc_threads.proofs.WorkedLaws.{first_never}
 use Rattle.auc_threads.proofs.phase.finish.Goals as goal
 
@@ -9,8 +9,8 @@ pub gather-requires-clause-works : goal.gather-requires-clause-works
 gather-requires-clause-works g c =
     rw c.as_slice.ensures.value (own_of (λ w. w.shard) (λ w. w.seats.objects) (λ w. w.seats.persons) (λ w. w.seats.hub) (λ w. w.why) _ _ _ _ _ c.requires.objects c.objects.result (c.args.task.now.prices_are.each ∙ sym c.objects.ensures.objects))
 
-pub end_of-end-requires-clause-objects : goal.end_of-end-requires-clause-objects
-end_of-end-requires-clause-objects g c = no_guards (λ w. w.shard) (λ w. w.seats.objects) (λ w. w.seats.persons) (λ w. w.seats.hub) (λ w. w.why) _ _ _ _ _ c.requires.objects
+pub end_of-ended-requires-clause-objects : goal.end_of-ended-requires-clause-objects
+end_of-ended-requires-clause-objects g c = no_guards (λ w. w.shard) (λ w. w.seats.objects) (λ w. w.seats.persons) (λ w. w.seats.hub) (λ w. w.why) _ _ _ _ _ c.requires.objects
 
 pub returns : goal.returns
 returns g c =
@@ -22,19 +22,23 @@ returns g c =
     let settled = c.settle_all-trails.ensures in
     let all = c.in_ok-all.ensures in
     let counted : c.in_ok-bids.bids.items ≡ map (λ w. w.seats.objects.count) c.args.works.persons.items = search rules in
+    let same = c.told_end-end.ensures.some in
     record {
       holders = got.holders ∙ c.objects.ensures.objects;
       prices = record { each = got.prices ∙ c.objects.ensures.objects; within = got.range };
-      stuck = λ e. stuck_told (λ w. w.shard) (λ w. w.seats.objects) (λ w. w.seats.persons) (λ w. w.seats.hub) (λ w. w.why) _ _ _ _ _ c.requires.persons (c.end_of-end.ensures.stuck e);
+      stuck = λ e. stuck_told (λ w. w.shard) (λ w. w.seats.objects) (λ w. w.seats.persons) (λ w. w.seats.hub) (λ w. w.why) _ _ _ _ _ c.requires.persons (c.end_of-ended.ensures.stuck (told_some _ _ _ same e));
+      trail = c.told_end-end.ensures.trail;
       counted =
-          counted_told (λ w. w.shard) (λ w. w.seats.objects) (λ w. w.seats.persons) (λ w. w.seats.hub) (λ w. w.why) _ _ _ _ _ c.requires.persons _ _ _ _ _ counted persons c.end_of-end.ensures.is
-          (first_never (λ w. w.why) _ Why.Bids (no_bids (λ w. w.shard) (λ w. w.seats.objects) (λ w. w.seats.persons) (λ w. w.seats.hub) (λ w. w.why) _ _ _ _ _ c.requires.objects)) (hub_bids _ _ _ _ _ _ c.requires.counts);
+          told_counted _ _ _ _ same
+          (counted_told (λ w. w.shard) (λ w. w.seats.objects) (λ w. w.seats.persons) (λ w. w.seats.hub) (λ w. w.why) _ _ _ _ _ c.requires.persons _ _ _ _ _ counted persons c.end_of-ended.ensures.is
+          (first_never (λ w. w.why) _ Why.Bids (no_bids (λ w. w.shard) (λ w. w.seats.objects) (λ w. w.seats.persons) (λ w. w.seats.hub) (λ w. w.why) _ _ _ _ _ c.requires.objects)) (hub_bids _ _ _ _ _ _ c.requires.counts));
+      played = played_told (λ w. w.shard) (λ w. w.seats.objects) (λ w. w.seats.persons) (λ w. w.seats.hub) (λ w. w.why) _ _ _ _ _ c.requires.persons _ counted persons;
       told =
           told_map _ _ _ _ _ settled.objects settled.persons settled.hub
           (λ t o u v.
           told_phase (λ w. w.shard) (λ w. w.seats.objects) (λ w. w.seats.persons) (λ w. w.seats.hub) (λ w. w.why) (λ w. w.shard) (λ w. w.seats.objects) (λ w. w.seats.persons) (λ w. w.seats.hub) (λ w. w.why) _ _ _ _ _ _ c.requires.persons c.requires.objects persons objects some c.args.task.now.prices_are.each _ _ _ _ _ c.requires.counts
-          _ each c.end_of-end.ensures.all c.end_of-end.ensures.fell _ _ _ _ _ _ _ _ _ _ _ _ c.requires.objects_name c.requires.persons_name c.requires.hub_name _ _ _ all.objects all.persons all.hub c.requires.hub_objects c.requires.hub_persons c.end_of-end.ensures.is counted t o u v);
+          _ each (told_all _ _ _ same c.told_end-end.ensures.others c.end_of-ended.ensures.all) (λ e. c.end_of-ended.ensures.fell (told_some _ _ _ same e)) _ _ _ _ _ _ _ _ _ _ _ _ c.requires.objects_name c.requires.persons_name c.requires.hub_name _ _ _ all.objects all.persons all.hub c.requires.hub_objects c.requires.hub_persons (c.told_end-end.ensures.kept (subst (λ (n : ℕ). 0 < n) c.requires.objects_name.room_is o.kept) ∙ c.end_of-ended.ensures.is) counted t o u v);
     }
 
-pub end_of-end-requires-clause-hub : goal.end_of-end-requires-clause-hub
-end_of-end-requires-clause-hub g c = hub_guard _ _ _ _ _ _ c.requires.counts
+pub end_of-ended-requires-clause-hub : goal.end_of-ended-requires-clause-hub
+end_of-ended-requires-clause-hub g c = hub_guard _ _ _ _ _ _ c.requires.counts

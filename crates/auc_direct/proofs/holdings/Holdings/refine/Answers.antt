@@ -1,10 +1,18 @@
-use Rattle.std.proofs.Common.{arith, pos}
-use Rattle.auc_direct.proofs.StartLaws.{stands_within}
+use Rattle.auc_direct.proofs.MarketLaws.{total_rises}
+use Rattle.auc_direct.proofs.Refinement.{stands_priced}
 use Rattle.auc_direct.proofs.holdings.Holdings.refine.Goals as goal
 
-pub returns-clause-slack : goal.returns-clause-slack
-returns-clause-slack c = λ e. (
-    let inv = c.loop-left.invariant in
-    let each = inv.queue.each in
-    stands_within c.args.rows.now (pos 1) c.loop-left.self.prices.items c.loop-left.self.holders.items c.loop-left.self.owns.items c.persons-persons.ensures.sound inv.refined.stands (λ i lt some. inv.refined.slack i lt (c.is_empty.ensures e i (omega (arith, lt, each))))
-    )
+pub returns-then-not-lift_all-clause-stands : goal.returns-then-not-lift_all-clause-stands
+returns-then-not-lift_all-clause-stands c = stands_priced c.args.rows.now c.args.self.now.prices.items c.lift_all.new.self.prices.items c.args.self.now.holders.items c.lift_all.new.self.holders.items c.args.self.now.owns.items c.lift_all.new.self.owns.items c.persons.ensures.sound c.requires.square c.requires.stands c.lift_all.ensures.lifted
+
+pub returns-then-not-lift_all-clause-risen : goal.returns-then-not-lift_all-clause-risen
+returns-then-not-lift_all-clause-risen c = total_rises c.args.self.now.prices.items c.lift_all.new.self.prices.items c.lift_all.ensures.lifted.many c.lift_all.ensures.lifted.higher
+
+pub all_within-requires-clause-stands : goal.all_within-requires-clause-stands
+all_within-requires-clause-stands c = stands_priced c.args.rows.now c.args.self.now.prices.items c.lift_all.new.self.prices.items c.args.self.now.holders.items c.lift_all.new.self.holders.items c.args.self.now.owns.items c.lift_all.new.self.owns.items c.persons.ensures.sound c.requires.square c.requires.stands c.lift_all.ensures.lifted
+
+pub returns-clause-stands : goal.returns-clause-stands
+returns-clause-stands c = stands_priced c.args.rows.now c.args.self.now.prices.items c.lift_all.new.self.prices.items c.args.self.now.holders.items c.lift_all.new.self.holders.items c.args.self.now.owns.items c.lift_all.new.self.owns.items c.persons.ensures.sound c.requires.square c.requires.stands c.lift_all.ensures.lifted
+
+pub returns-clause-risen : goal.returns-clause-risen
+returns-clause-risen c = total_rises c.args.self.now.prices.items c.lift_all.new.self.prices.items c.lift_all.ensures.lifted.many c.lift_all.ensures.lifted.higher

@@ -6,6 +6,6 @@ use Rattle.auc_direct.proofs.holdings.Holdings.seat_all.Given as goal
 
 abbrev pub invariant-loop-person : goal.invariant-loop-person
 invariant-loop-person l = record {
-  seated : AreSeated l.rows l.eps l.start l.self.prices.items l.self.holders.items l.self.owns.items;
+  seated : AreSeated l.rows l.start l.self.prices.items l.self.holders.items l.self.owns.items;
   none : (i : ℕ) → l.person ≤ i → (own_at l.self.owns.items i).object ≡ NOBODY;
 }

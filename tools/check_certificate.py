@@ -4,29 +4,33 @@ import argparse, itertools, os, re, signal, sys
 PERSONS, OBJECTS, MOST_ARCS, REASONS = range(1, 10_001), range(1, 20_001), 33_554_432, "(?:bids|ceiling|posts|trail|mail)"
 COSTS, PRICES, TOTALS = range(-(10**9), 10**9 + 1), range(0, 2**61 + 1), range(-(2**63), 2**63)
 
-def must(holds, line):  # where something doesn't hold, the reading ends with the line that tells this fault
+def must(holds, line, *numbers):  # where something doesn't hold, the reading ends with the line that tells this fault
     if not holds:
-        raise ValueError(line)
+        raise ValueError(line.format(*numbers))
 
-def number_at(place, tokens, wanted, name):
-    """The number at a place of the problem: a token that spells one, in whatever way, and one of those wanted."""
-    must(place < len(tokens), f"refused cut {len(tokens)}" if tokens else "refused empty")
-    must(found := re.fullmatch(rb"([+-]?)0*([0-9]+?)(\.0*)?", tokens[place]), f"refused number {place + 1}")
-    value = int(found[1] + found[2][:30])  # a longer number is out of every range, and so are its first thirty digits
-    must(value in wanted, f"refused {name}")
+def number_at(place, tokens, wanted, line, arc=None):
+    """The number at a place of the problem: a token that spells one, in whatever way, and one of those wanted; a line tells of which arc it isn't."""
+    must(place < len(tokens), "refused cut {}" if tokens else "refused empty", len(tokens))
+    digits = tokens[place]
+    if not digits.isdigit() or len(digits) > 30:
+        must(found := re.fullmatch(rb"([+-]?)0*([0-9]+?)(\.0*)?", digits), "refused number {}", place + 1)
+        digits = found[1] + found[2][:30]  # a longer number is out of every range, and so are its first thirty digits
+    value = int(digits)
+    must(value in wanted, line, arc)
     return value
 
 def read_problem(text, objects=None):
     """The arcs of each person, as pairs of an object and a cost, and the number of objects: where none is given, as many as persons."""
     tokens = text.replace(b"\x1a", b" ").split()
-    persons = number_at(0, tokens, PERSONS, "count")
+    persons = number_at(0, tokens, PERSONS, "refused count")
     must(persons <= (objects := objects or persons), "refused objects")
-    arcs = {person: set() for person in range(1, persons + 1)}
+    all_persons, all_objects = range(1, persons + 1), range(1, objects + 1)
+    arcs = {person: set() for person in all_persons}
     for arc, place in enumerate(range(1, len(tokens), 3), 1):
         must(arc <= MOST_ARCS, "refused arcs")
-        person = number_at(place, tokens, range(1, persons + 1), f"person {arc}")
-        thing = number_at(place + 1, tokens, range(1, objects + 1), f"object {arc}")
-        arcs[person].add((thing, number_at(place + 2, tokens, COSTS, f"cost {arc}")))
+        person = number_at(place, tokens, all_persons, "refused person {}", arc)
+        thing = number_at(place + 1, tokens, all_objects, "refused object {}", arc)
+        arcs[person].add((thing, number_at(place + 2, tokens, COSTS, "refused cost {}", arc)))
     return arcs, objects
 
 def read_claim(text):

@@ -22,10 +22,10 @@ from .text_tables import SEPARATORS
 from .wishes import by_names
 
 
-def add_options(words):
-    """The words that say how a table is to be read."""
+def add_options(words, is_left_out=False):
+    """The words that say how a table is to be read; the table itself may be left out, where that is said."""
     table = "a table with names: person, object and cost in three columns, or a row for each person and a column for each object"
-    words.add_argument("file", metavar="FILE", help=f"{table}; CSV, .xlsx, .ods or .json; FILE:SHEET names a sheet of a workbook; `-` is standard input")
+    words.add_argument("file", metavar="FILE", nargs="?" if is_left_out else None, help=f"{table}; CSV, .xlsx, .ods or .json; FILE:SHEET names a sheet of a workbook; `-` is standard input")
     words.add_argument("--decimals", type=number_of_decimals, metavar="D", help="how many decimals of the costs are kept, 0 to 9; left out, as many as the table has")
     words.add_argument("--round", type=number_of_decimals, metavar="N", help="round costs that have more than N decimals, 0 to 9")
     words.add_argument("--decimal-mark", choices=list(MARKS), help="what stands before decimals, where it isn't to be found out")

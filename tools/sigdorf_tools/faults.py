@@ -3,6 +3,8 @@ import os
 import signal
 import sys
 
+from .surroundings import content_of, is_heard
+
 STATUS = 2
 # As of a command that a signal ends: Ctrl-C, or a reader that goes away.
 STOPPED, READER_GONE = 128 + signal.SIGINT, 128 + signal.SIGPIPE
@@ -68,6 +70,8 @@ def tell(sentence):
 def say(sentence):
     """One sentence on standard error, after the name of the tool. On a terminal a line that tells what goes on may
     stand there, and is taken away."""
+    if is_heard(sentence):
+        return
     before = TAKE_AWAY if sys.stderr.isatty() else ""
     print(f"{before}{os.path.basename(sys.argv[0])}: {sentence}", file=sys.stderr)
 
@@ -75,8 +79,7 @@ def say(sentence):
 def read_bytes(file):
     """All bytes of a file; the fault of one that can't be read names it."""
     try:
-        with open(file, "rb") as opened:
-            return opened.read()
+        return content_of(file)
     except IsADirectoryError:
         raise Fault(f"{file}: a file is wanted, and this is a folder") from None
     except FileNotFoundError:

@@ -1,6 +1,4 @@
 """Lists beside a table: a number for each person or object, and objects that can't go together."""
-import os
-
 from .faults import Fault, quoted
 from .forms import is_title
 from .headers import from_header
@@ -8,6 +6,7 @@ from .names_told import unknown
 from .notes import note
 from .reading import parted_from_sheet
 from .shifts import overlapping
+from .surroundings import exists
 from .tables import columns, read_table
 
 MOST = 10_000
@@ -36,7 +35,7 @@ def numbers_said(option, word, names, kind, told):
         return {}
     if word.isdecimal():
         return {None: (f"{option} {word}", word)}
-    if word != "-" and not os.path.exists(parted_from_sheet(word)[0]):
+    if word != "-" and not exists(parted_from_sheet(word)[0]):
         wanted = f"a whole number from 0 to {MOST:,} is wanted, or a file of {kind}s and numbers"
         raise Fault(f"{option} {word}: {wanted}, and there is no such file")
     table, found = table_of_list(word), {}

@@ -39,12 +39,7 @@ document.addEventListener("click", (event) => {
 
 def page_of(names, problem, model, claim, free, asked, summary, time):
     """The text of the page; the time is that of the plan, as a text."""
-    title = sentence_of(names, claim, asked)
-    single = names._replace(persons=problem.persons)
-    pairs = {(model.owners[copy] + 1, thing) for copy, (thing, _) in enumerate(claim.picks[: len(model.owners)]) if thing <= model.objects}
-    # Prices are told where the solver has one for each object, by the costs of the table.
-    has_prices = isinstance(model, Model) and not asked.changes
-    prices = told_prices(model.rows(), claim, model.persons())[: len(names.objects)] if has_prices else []
+    title, prices = sentence_of(names, claim, asked), prices_of(names, model, claim, asked)
     is_hall = claim.kind == "infeasible"
     parts = [
         "<!DOCTYPE html>",
@@ -55,11 +50,29 @@ def page_of(names, problem, model, claim, free, asked, summary, time):
         *list_of_wishes(asked),
         *(tables_of_hall(names, claim) if is_hall else tables_of_plan(names, claim, free, asked)),
         "<h2>Picture</h2>",
-        picture_of(single, rows_of(problem), pairs, claim_of_owners(model, claim), prices, title, False),
+        picture_of_plan(names, problem, model, claim, prices, title),
         *(table_of_prices(names, claim, asked, prices) if prices and not is_hall else []),
         f"<script>{SORT}</script></body></html>",
     ]
     return "\n".join(parts) + "\n"
+
+
+def prices_of(names, model, claim, asked):
+    """Prices are told where the solver has one for each object, by the costs of the table."""
+    has_prices = isinstance(model, Model) and not asked.changes
+    return told_prices(model.rows(), claim, model.persons())[: len(names.objects)] if has_prices else []
+
+
+def picture_of_plan(names, problem, model, claim, prices, title):
+    """The picture of the table's persons and objects, without a title that is shown."""
+    single = names._replace(persons=problem.persons)
+    return picture_of(single, rows_of(problem), pairs_of(model, claim), claim_of_owners(model, claim), prices, title, False)
+
+
+def pairs_of(model, claim):
+    """The pairs of a plan by the numbers of the table's persons and objects."""
+    picks = enumerate(claim.picks[: len(model.owners)])
+    return {(model.owners[copy] + 1, thing) for copy, (thing, _) in picks if thing <= model.objects}
 
 
 def claim_of_owners(model, claim):

@@ -1,9 +1,9 @@
 """What is said of how a file is to be read, and the parts of its name."""
-import os
 from typing import NamedTuple
 
 from .areas import Area, area_said
 from .faults import Fault
+from .surroundings import exists
 from .text_tables import SEPARATORS
 
 
@@ -29,7 +29,7 @@ def reading_of(words):
 def parted_from_sheet(file):
     """The file and the sheet that `book.xlsx:Costs` names, where no file is called so."""
     path, mark, sheet = file.rpartition(":")
-    if not mark or not path or not sheet or os.path.exists(file) or not os.path.exists(path):
+    if not mark or not path or not sheet or exists(file) or not exists(path):
         return file, None
     return path, sheet
 

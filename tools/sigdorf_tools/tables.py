@@ -8,6 +8,7 @@ from .faults import Fault, quoted, read_bytes
 from .json_tables import LINES, is_json, read_json
 from .reading import Reading, parted_from_sheet, sheet_said
 from .sheets import WORKBOOK, read_workbook
+from .surroundings import is_at_desk
 from .text_tables import Text, parted, read_text
 
 # What an old workbook of Excel begins with.
@@ -76,7 +77,7 @@ def read_source(file, reading=Reading()):
     """What a file holds: of a text its `Text`, whose cells aren't parted yet, and of others the table. Its name may end in that of a sheet."""
     path, sheet = parted_from_sheet(file)
     reading = reading._replace(sheet=sheet_said(file, sheet, reading.sheet))
-    content, file = sys.stdin.buffer.read() if path == "-" else read_bytes(path), name_of(file)
+    content, file = sys.stdin.buffer.read() if path == "-" and not is_at_desk() else read_bytes(path), name_of(file)
     if content.startswith(OLD_WORKBOOK):
         raise Fault(f"{file}: it is a workbook of an old Excel (.xls); save it as .xlsx, or as CSV in UTF-8")
     if content.startswith(WORKBOOK):

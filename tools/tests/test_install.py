@@ -1,8 +1,10 @@
 """install: what is put in place works from there, and what can't be put there is told in a sentence."""
 import os
+import re
 import subprocess
 
 from calls import ROOT, ToolTest, has_program
+from served import Served
 
 
 class Installed(ToolTest):
@@ -31,6 +33,18 @@ class Installed(ToolTest):
             self.assertIn(part, output)
         self.assertTrue((prefix / "share/man/man1/auction.1").is_file())
         self.assert_fault(self.run_in_folder("a place/bin/auction-plan", "nosuch"), "auction-plan: nosuch")
+
+    @has_program()
+    def test_page_from_there(self):
+        """The page has all its files where it is installed."""
+        self.run_in_folder(ROOT / "install", self.folder / "place")
+        page = Served(self.folder, ROOT / "examples/crew.csv", plan=[self.folder / "place/bin/auction-plan"])
+        self.addCleanup(page.end)
+        for name in re.findall(r'(?:src|href)="(/assets/[^"]+)"', page.open().body.decode()):
+            self.assertEqual(page.ask(name).status, 200, name)
+        self.assertEqual(page.send("/options", {}).status, 200)
+        self.assertEqual(page.plan().told()["answer"]["sentence"], "A best plan: the least total is 145.")
+        self.assertTrue(page.end()[1].startswith("auction-plan: open this address"))
 
     def assert_refused(self, answer, wanted, *parts):
         status, output, said = answer

@@ -5,7 +5,7 @@ import re
 
 FILE = pathlib.Path(__file__).resolve().parent / "page_counts.txt"
 MOST_WORDS_OF_SENTENCE, MOST_CHARACTERS = 30, 120
-# Words of our own, for which the field has others: Gauss-Seidel, the best arc, is or holds, says, and what a rule is about.
+# Words of our own, for which the field has others: Gauss-Seidel or direct, the best arc, is, says or reports, sees.
 HOUSE_WORDS = re.compile(r"\b(?:in one hand|worth (?:the )?least|stands?|tells?|told|knows?)\b", re.IGNORECASE)
 # The page that explains such words.
 GLOSSARY = "docs/GLOSSARY.md"
@@ -41,12 +41,13 @@ def sums(counts):
 
 
 def reached():
-    rows = [line.split() for line in FILE.read_text(encoding="ascii").splitlines() if line and not line.startswith("#")]
-    return {name: int(number) for name, number in rows}
+    lines = FILE.read_text(encoding="ascii").splitlines()
+    return {line.split()[0]: int(line.split()[1]) for line in lines if line and not line.startswith("#")}
 
 
 def faults_of_counts(found):
-    return [f"docs/{FILE.name}: {name} are {found[name]}, and may be {most}" for name, most in reached().items() if found[name] > most]
+    above = [(name, most) for name, most in reached().items() if found[name] > most]
+    return [f"docs/{FILE.name}: {name} are {found[name]}, and may be {most}" for name, most in above]
 
 
 def lower(found):

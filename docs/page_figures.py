@@ -9,7 +9,7 @@ sys.path.insert(0, str(ROOT / "tools"))
 from building.table import read_table  # noqa: E402
 
 # What tells of the past, and what isn't about this build.
-PAST = ("CHANGELOG.md", "docs/DECISIONS.md")
+PAST = ("CHANGELOG.md", "docs/notes/", "bench/")
 ABOUT = re.compile(r"first build|proves and builds|first one takes|builds the (?:program|solver|library)", re.IGNORECASE)
 # A time of a minute and more, or what it takes on a disk; seconds and gigabytes of memory are other figures.
 FIGURE = re.compile(r"[\d.,]+ (?:processor )?(?:minutes|hours)|(?:an|half an|quarters of an) hour|[\d.,]+ GB of disk")
@@ -44,7 +44,7 @@ def sentences(lines):
 
 def faults_of_figures(name, lines):
     """Figures of the first build that differ from those that were measured."""
-    if name in PAST or name.startswith("bench/"):
+    if name.startswith(PAST):
         return []
     right = told()
     found = [(number, figure) for number, text in sentences(lines) if ABOUT.search(text) for figure in FIGURE.findall(text)]

@@ -8,7 +8,7 @@ import subprocess
 
 ROOT = pathlib.Path(__file__).resolve().parent.parent
 # What pages tell of as gone, or as another's: a diary of what changed and of what was tried.
-PAST = ("CHANGELOG.md", "bench/TRIED.md", "bench/FIGURES.md")
+PAST = ("CHANGELOG.md", "docs/notes/")
 SUFFIXES = {".rt", ".antt", ".py", ".c", ".h", ".cpp", ".rs", ".toml", ".edit", ".in", ".cmake", ".map", ".txt", ".names", ".bash", ".zsh", ".fish", ".1"}
 SKIPPED = {"out", "dist", ".git", "__pycache__"}
 # A name of code: words joined by underscores or colons, or a word with a capital inside.
@@ -89,7 +89,7 @@ def names_in(line):
 
 def faults_of_names(page, lines):
     """The names that a page shows and that exist nowhere. Lines are the numbered ones of its prose."""
-    if str(page.relative_to(ROOT)) in PAST:
+    if str(page.relative_to(ROOT)).startswith(PAST):
         return []
     shown = [(number, name) for number, line in lines if not line.startswith("    ") for name in names_in(line)]
     return [f"{page.relative_to(ROOT)}, line {number}: `{name}` exists nowhere" for number, name in shown if not is_name(name)]

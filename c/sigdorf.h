@@ -1,4 +1,4 @@
-/* Sigdorf as a C library: least-cost assignments of sparse problems, and their checks. docs/LIBRARY.md shows its use.
+/* Sigdorf as a C library: least-cost assignments of sparse problems, and their checks. docs/C.md shows its use.
  *
  * What is proved holds of a call that keeps the duties below, and of no other. Nothing on this side of the border is seen by the
  * prover: this file is written by hand, and `c/test` tries its numbers against the library.

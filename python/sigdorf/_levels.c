@@ -1,4 +1,4 @@
-/* From costs in whole units to costs as they stand: docs/EXACT.md has the argument, and refinement.py and near.py do the same. */
+/* From costs in whole units to costs as they stand: docs/notes/exact.md has the argument, and refinement.py and near.py do the same. */
 #include <math.h>
 #include <stdlib.h>
 #include <string.h>

@@ -47,7 +47,7 @@ def solve(
     bids: how many bids a phase may take, from 0 to 2^64 - 1.
     seconds: a limit of time, from 0. Behind it comes what was found by then: no fault, but a solution whose `is_optimal` is False. The search is
         made in slices, each from the beginning again with more bids than the one before. The first answer takes as long as it takes to read
-        the entries and to find any assignment, whatever the limit. docs/LIBRARY.md says how late it may be.
+        the entries and to find any assignment, whatever the limit. docs/PYTHON.md says how late it may be.
     progress: is called after each slice with the bound and the cost of the best so far, as the solution will have them.
 
     In place of the lists there may be one table: a matrix, dense (what is infinite is no entry) or sparse (what isn't stored is none), or a

@@ -1,4 +1,4 @@
-"""Costs as they stand, by rounds of whole costs: docs/EXACT.md has the argument.
+"""Costs as they stand, by rounds of whole costs: docs/notes/exact.md has the argument.
 
 At a level with the unit 2^-unit each cost is worth - price + slack + tail in this unit: a worth of its person, a whole price of its object, a
 whole slack from 0, and a tail of a half at most. The choice of each person has no slack. Where there are more objects than persons no price

@@ -10,7 +10,7 @@ import unittest
 
 from limited import Limited
 
-PAGE = pathlib.Path(__file__).resolve().parents[2] / "docs" / "LIBRARY.md"
+PAGE = pathlib.Path(__file__).resolve().parents[2] / "docs" / "PYTHON.md"
 
 # What a program of the page is put into: problems before it, and behind it a look at its solutions.
 PROGRAM = """

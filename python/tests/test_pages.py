@@ -38,8 +38,8 @@ class Pages(Limited):
         self.assert_right("TRACKING.md")
 
     @unittest.skipUnless(pandas, "pandas is not there")
-    def test_library(self):
-        self.assert_right("LIBRARY.md")
+    def test_python(self):
+        self.assert_right("PYTHON.md")
 
     def test_tracker(self):
         done = subprocess.run([sys.executable, "-B", ROOT / "examples" / "tracker.py"], capture_output=True, text=True)

@@ -14,13 +14,13 @@ use Rattle.auc_graph.specs.Price.{IsPrice}
 use Rattle.auc_graph.specs.Problem.{IsProblem, IsSquare, IsWithin, Problem}
 use Rattle.auc_graph.proofs.DualLaws.{as_many, square_are_few}
 use Rattle.std.proofs.lemmas.Grind.{common_steps}
-use Rattle.auc_cert.specs.declared.cert.CertParts.{CertParts}
-use Rattle.auc_cert.specs.declared.reason.Reason.{Reason}
-use Rattle.auc_cert.specs.declared.lists.Pick.{Pick}
-use Rattle.auc_cert.specs.Claim.{chosen, pick_of}
-use Rattle.auc_cert.proofs.Converse.{assignment_spelled, bracket_faultless, bracket_spelled}
-use Rattle.auc_cert.proofs.ClaimLaws.{faultless_is_allowed}
-use Rattle.auc_cert.specs.Spelled.{IsSpelled}
+use Rattle.auc_claim.specs.declared.cert.CertParts.{CertParts}
+use Rattle.auc_claim.specs.declared.reason.Reason.{Reason}
+use Rattle.auc_claim.specs.declared.lists.Pick.{Pick}
+use Rattle.auc_claim.specs.Claim.{chosen, pick_of}
+use Rattle.auc_claim.proofs.Converse.{assignment_spelled, bracket_faultless, bracket_spelled}
+use Rattle.auc_claim.proofs.ClaimLaws.{faultless_is_allowed}
+use Rattle.auc_claim.specs.Spelled.{IsSpelled}
 use Rattle.auc_answers.specs.Answers.{HasAssignment, IsCertified}
 use Rattle.auc_answers.specs.Claims.{ArePlaceable, BoundFits, HasNoPriceUnheld, IsBracketBy, holder_at}
 use Rattle.auc_answers.proofs.FoundLaws.{length_chosen, pick_back}

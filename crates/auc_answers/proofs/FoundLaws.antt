@@ -12,10 +12,10 @@ use Rattle.auc_graph.specs.declared.arc.Arc.{Arc}
 use Rattle.auc_graph.specs.Assignment.{person_of, total_cost}
 use Rattle.auc_graph.specs.Problem.{Problem}
 use Rattle.auc_letters.specs.declared.state.Held.{Held}
-use Rattle.auc_cert.specs.declared.lists.Pick.{Pick}
-use Rattle.auc_cert.specs.declared.cert.CertParts.{CertParts}
-use Rattle.auc_cert.specs.Claim.{arc_of, chosen, pick_of}
-use Rattle.auc_cert.proofs.ClaimLaws.{persons_are}
+use Rattle.auc_claim.specs.declared.lists.Pick.{Pick}
+use Rattle.auc_claim.specs.declared.cert.CertParts.{CertParts}
+use Rattle.auc_claim.specs.Claim.{arc_of, chosen, pick_of}
+use Rattle.auc_claim.proofs.ClaimLaws.{persons_are}
 use Rattle.auc_answers.specs.Answers.{IsCertified}
 use Rattle.auc_answers.specs.Claims.{HoldsBy, IsChoiceOf, IsClaimOf, IsHoldersArc, claim_of, holder_at}
 

@@ -7,11 +7,11 @@ use Rattle.auc_hall.specs.Matching.{IsMatching}
 use Rattle.auc_hall.specs.declared.matching.Matching.{Matching}
 use Rattle.auc_hall.specs.declared.matching.Matching.TheVariants.{Hall}
 use Rattle.auc_hall.proofs.ProblemLaws.{matching_of}
-use Rattle.auc_cert.specs.declared.cert.CertParts.{CertParts}
-use Rattle.auc_cert.specs.declared.cert.CertParts.TheVariants.{Infeasible}
-use Rattle.auc_cert.specs.Spelled.{AreNamed}
-use Rattle.auc_cert.proofs.HallLaws.{hall_set_named}
-use Rattle.auc_cert.proofs.ClaimLaws.{hall_sets_faultless}
+use Rattle.auc_claim.specs.declared.cert.CertParts.{CertParts}
+use Rattle.auc_claim.specs.declared.cert.CertParts.TheVariants.{Infeasible}
+use Rattle.auc_claim.specs.Spelled.{AreNamed}
+use Rattle.auc_claim.proofs.HallLaws.{hall_set_named}
+use Rattle.auc_claim.proofs.ClaimLaws.{hall_sets_faultless}
 use Rattle.auc_answers.specs.Answers.{IsCertified, IsHallCertificate}
 
 pub hall_is : (p : Problem) (t : Table) (m : Matching) (persons objects : List ℕ) → IsTableOf p t → IsMatching t m → m ≡ Hall persons objects → IsHallSetOf p persons objects

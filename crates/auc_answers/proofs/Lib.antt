@@ -1,7 +1,5 @@
--- How shards begin and stay, Hall sets' certificates, and what choices and brackets are to a problem are for the crates above too; the rest is this crate's own.
-mod WorkedEps
-pub mod NewShards
-pub mod ShardLaws
+-- Hall sets' certificates, and what choices and brackets are to a problem, are for the crates above too; the rest is this crate's own.
+pub mod Replicated
 pub mod HallCertificates
 pub mod FoundLaws
 mod MatchingPicks

@@ -9,8 +9,8 @@ use Rattle.auc_graph.specs.declared.arc.Arc.{Arc}
 use Rattle.auc_graph.specs.Problem.{Problem}
 use Rattle.auc_graph.specs.Assignment.{IsAssignment, person_of}
 use Rattle.auc_hall.specs.OfProblem.{IsFullOf}
-use Rattle.auc_cert.specs.declared.lists.Pick.{Pick}
-use Rattle.auc_cert.specs.Claim.{chosen}
+use Rattle.auc_claim.specs.declared.lists.Pick.{Pick}
+use Rattle.auc_claim.specs.Claim.{chosen}
 use Rattle.auc_answers.specs.Claims.{pick_at}
 
 -- ---- a full assignment

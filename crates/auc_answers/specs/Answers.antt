@@ -6,11 +6,11 @@ use Rattle.auc_graph.specs.Problem.{Problem}
 use Rattle.auc_letters.specs.declared.letter.Why.{Why}
 use Rattle.auc_letters.specs.declared.state.Held.{Held}
 use Rattle.auc_hall.specs.OfProblem.{IsHallSetOf}
-use Rattle.auc_cert.specs.declared.lists.Pick.{Pick}
-use Rattle.auc_cert.specs.declared.reason.Reason.{Reason}
-use Rattle.auc_cert.specs.declared.cert.CertParts.{CertParts}
-use Rattle.auc_cert.specs.Claim.{IsAllowed, fault_of}
-use Rattle.auc_cert.specs.Spelled.{IsSpelled}
+use Rattle.auc_claim.specs.declared.lists.Pick.{Pick}
+use Rattle.auc_claim.specs.declared.reason.Reason.{Reason}
+use Rattle.auc_claim.specs.declared.cert.CertParts.{CertParts}
+use Rattle.auc_claim.specs.Claim.{IsAllowed, fault_of}
+use Rattle.auc_claim.specs.Spelled.{IsSpelled}
 use Rattle.auc_answers.specs.declared.answer.Answer.{Answer}
 use Rattle.auc_answers.specs.declared.answer.Guard.{Guard}
 use Rattle.auc_answers.specs.Claims.{ArePlaceable, BoundFits, GrowsFrom, IsBracketBy, IsChoiceOf, claim_of, picks_of}

@@ -11,10 +11,10 @@ use Rattle.auc_graph.specs.Table.{IsTableOf, Table}
 use Rattle.auc_hall.specs.Completion.{IsGrownTo}
 use Rattle.auc_hall.specs.Partial.{pick}
 use Rattle.auc_letters.specs.declared.state.Held.{Held}
-use Rattle.auc_cert.specs.declared.reason.Reason.{Reason}
-use Rattle.auc_cert.specs.declared.cert.CertParts.{CertParts}
-use Rattle.auc_cert.specs.declared.lists.Pick.{Pick}
-use Rattle.auc_cert.specs.Claim.{pick_of}
+use Rattle.auc_claim.specs.declared.reason.Reason.{Reason}
+use Rattle.auc_claim.specs.declared.cert.CertParts.{CertParts}
+use Rattle.auc_claim.specs.declared.lists.Pick.{Pick}
+use Rattle.auc_claim.specs.Claim.{pick_of}
 
 -- who holds an object, if anybody does
 abbrev pub holder_at : List (Option Held) → ℕ → Option Held

@@ -1,10 +1,3 @@
-pub mod Eps
-pub mod Limits
-pub mod Begins
-pub mod Shards
-pub mod Boxes
-pub mod Hub
-pub mod Reasons
 pub mod Claims
 pub mod Answers
 pub mod Prepared

@@ -1,6 +1,6 @@
 //! What the solver answers.
 
-use auc_cert::Cert;
+use auc_claim::Cert;
 
 /// A guard of the solver: what ends a run with no answer.
 #[derive(Clone, Copy, Debug, PartialEq, Eq)]

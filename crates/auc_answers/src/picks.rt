@@ -4,11 +4,11 @@ ghost use Rattle.std.specs.Prelude.{◌≡◌, ◌<◌, List, length, map, Conta
 ghost use Rattle.auc_graph.specs.declared.arc.Arc.{Arc};
 ghost use Rattle.auc_graph.specs.Assignment.{IsAssignment};
 ghost use Rattle.auc_graph.specs.Problem.{IsProblem};
-ghost use Rattle.auc_cert.specs.Claim.{chosen};
+ghost use Rattle.auc_claim.specs.Claim.{chosen};
 ghost use Rattle.auc_hall.specs.OfProblem.{IsFullOf};
 ghost use Rattle.auc_answers.specs.Claims.{IsChoiceOf, pick_at};
 
-use auc_cert::Pick;
+use auc_claim::Pick;
 use auc_graph::{Arc, ArcList, Indices};
 use auc_letters::Held;
 use std::alloc::{AllocError, Global};

@@ -2,10 +2,10 @@
 use Rattle.std.proofs.Common.{◌≡◌, ℕ, List, None, refl, ap, subst, ◌∙◌}
 use Rattle.std.specs.Prelude.{ℤ, Result, Ok, Err}
 use Rattle.auc_graph.specs.Problem.{Problem, IsProblem}
-use Rattle.auc_cert.specs.declared.lists.Pick.{Pick}
-use Rattle.auc_cert.specs.declared.cert.CertParts.{CertParts}
-use Rattle.auc_cert.specs.Claim.{IsAllowed, chosen, fault_of}
-use Rattle.auc_cert.specs.Spelled.{IsSpelled}
+use Rattle.auc_claim.specs.declared.lists.Pick.{Pick}
+use Rattle.auc_claim.specs.declared.cert.CertParts.{CertParts}
+use Rattle.auc_claim.specs.Claim.{IsAllowed, chosen, fault_of}
+use Rattle.auc_claim.specs.Spelled.{IsSpelled}
 use Rattle.auc_call.specs.declared.checked.Checked.{Checked}
 use Rattle.auc_call.specs.declared.checked.Checked.TheVariants.{Valid, Invalid}
 use Rattle.auc_call.specs.declared.checked.ClaimFault.TheVariants.{Misplaced, Unspelled, Refused}

@@ -4,11 +4,11 @@ use Rattle.std.specs.Prelude.{ℤ}
 use Rattle.auc_graph.specs.declared.arc.Arc.{Arc}
 use Rattle.auc_graph.specs.Problem.{Problem, IsProblem}
 use Rattle.auc_hall.specs.OfProblem.{IsHallSetOf}
-use Rattle.auc_cert.specs.declared.lists.Pick.{Pick}
-use Rattle.auc_cert.specs.declared.reason.Reason.{Reason}
-use Rattle.auc_cert.specs.declared.cert.CertParts.{CertParts}
-use Rattle.auc_cert.specs.Claim.{IsAllowed, chosen, fault_of}
-use Rattle.auc_cert.specs.Spelled.{IsSpelled, most_persons}
+use Rattle.auc_claim.specs.declared.lists.Pick.{Pick}
+use Rattle.auc_claim.specs.declared.reason.Reason.{Reason}
+use Rattle.auc_claim.specs.declared.cert.CertParts.{CertParts}
+use Rattle.auc_claim.specs.Claim.{IsAllowed, chosen, fault_of}
+use Rattle.auc_claim.specs.Spelled.{IsSpelled, most_persons}
 use Rattle.auc_answers.specs.Answers.{IsCertified, IsHallCertificate}
 use Rattle.auc_call.specs.Shown.{IsHallAt}
 use Rattle.auc_call.proofs.PlaceLaws.{few}

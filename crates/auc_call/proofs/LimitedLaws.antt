@@ -2,8 +2,8 @@
 use Rattle.std.proofs.Common.{◌≡◌, ◌≢◌, ℕ, List, [], ◌∷◌, refl, sym, subst, ◌∙◌, arith}
 use Rattle.std.specs.Prelude.{ℤ, pos, Result, Ok, Err, IfOk}
 use Rattle.auc_graph.specs.Problem.{Problem}
-use Rattle.auc_cert.specs.declared.reason.Reason.{Reason}
-use Rattle.auc_cert.specs.declared.cert.CertParts.{CertParts}
+use Rattle.auc_claim.specs.declared.reason.Reason.{Reason}
+use Rattle.auc_claim.specs.declared.cert.CertParts.{CertParts}
 use Rattle.auc_answers.specs.declared.answer.Answer.{Answer}
 use Rattle.auc_answers.specs.Answers.{IsAnswer}
 use Rattle.auc_direct.specs.Endings.{IsLimitedFrom}

@@ -4,8 +4,8 @@ use Rattle.std.specs.Prelude.{slice_get}
 use Rattle.std.proofs.lemmas.List.{map-append, take_more, take_all, get_or-map, get_or-take, length-map, length-take-le}
 use Rattle.std.proofs.lemmas.Option.{slice_get-get_or, slice_get_within, get_or_from_slice_get}
 use Rattle.auc_graph.specs.declared.arc.Arc.{Arc}
-use Rattle.auc_cert.specs.declared.lists.Pick.{Pick}
-use Rattle.auc_cert.specs.Claim.{arc_of, chosen, pick_of}
+use Rattle.auc_claim.specs.declared.lists.Pick.{Pick}
+use Rattle.auc_claim.specs.Claim.{arc_of, chosen, pick_of}
 use Rattle.auc_call.specs.Memory.{AreAt}
 use Rattle.auc_call.specs.Naming.{no_arc}
 use Rattle.auc_call.specs.Checking.{IsMisplaced}

@@ -19,11 +19,11 @@ use Rattle.auc_graph.specs.Price.{IsPrice}
 use Rattle.auc_graph.specs.Problem.{Problem, IsProblem}
 use Rattle.auc_graph.specs.Reading.{problem}
 use Rattle.auc_graph.proofs.Scale.{scale-add, scale-mono}
-use Rattle.auc_cert.specs.declared.lists.Pick.{Pick}
-use Rattle.auc_cert.specs.declared.cert.CertParts.{CertParts}
-use Rattle.auc_cert.specs.Claim.{arc_of, chosen, pick_of}
-use Rattle.auc_cert.proofs.ClaimLaws.{faultless_is_allowed, objects_are, persons_are}
-use Rattle.auc_cert.proofs.Converse.{assignment_spelled, back, slack_right_faultless}
+use Rattle.auc_claim.specs.declared.lists.Pick.{Pick}
+use Rattle.auc_claim.specs.declared.cert.CertParts.{CertParts}
+use Rattle.auc_claim.specs.Claim.{arc_of, chosen, pick_of}
+use Rattle.auc_claim.proofs.ClaimLaws.{faultless_is_allowed, objects_are, persons_are}
+use Rattle.auc_claim.proofs.Converse.{assignment_spelled, back, slack_right_faultless}
 use Rattle.auc_call.specs.Memory.{AreAt}
 use Rattle.auc_call.specs.Naming.{ByObjects, no_arc, objects_at}
 use Rattle.auc_call.specs.Shown.{IsLeastAt}

@@ -2,8 +2,8 @@
 use Rattle.std.proofs.Common.{◌≡◌, List, Bool, true, false, not, ◌||◌, None, All, T, get_or, refl, sym, subst}
 use Rattle.std.specs.Prelude.{ℤ, pos, int_lt}
 use Rattle.std.specs.Int.Signed.{lt_z_no}
-use Rattle.auc_cert.specs.Start.{IsStartPrice, highest_start}
-use Rattle.auc_cert.proofs.ClaimLaws.{all_fail}
+use Rattle.auc_claim.specs.Start.{IsStartPrice, highest_start}
+use Rattle.auc_claim.proofs.ClaimLaws.{all_fail}
 use Rattle.auc_call.specs.Start.{is_outside, outside}
 
 both_false : (a b : Bool) → (a || b) ≡ false → (a ≡ false) × (b ≡ false)

@@ -5,12 +5,12 @@ use Rattle.auc_graph.specs.declared.arc.Arc.{Arc}
 use Rattle.auc_graph.specs.Problem.{Problem}
 use Rattle.auc_graph.specs.HallSet.{IsHallSet}
 use Rattle.auc_graph.specs.InMemory.{problem_fault}
-use Rattle.auc_cert.specs.declared.lists.Pick.{Pick}
-use Rattle.auc_cert.specs.declared.cert.CertParts.{CertParts}
-use Rattle.auc_cert.specs.declared.refused.CertRefused.{CertRefused}
-use Rattle.auc_cert.specs.Claim.{arc_of, chosen, pick_of, choice_faults, first_of, slack_fault, left_over_fault, fault_of}
-use Rattle.auc_cert.specs.Spelled.{IsSpelled}
-use Rattle.auc_cert.proofs.ClaimLaws.{is_faultless}
+use Rattle.auc_claim.specs.declared.lists.Pick.{Pick}
+use Rattle.auc_claim.specs.declared.cert.CertParts.{CertParts}
+use Rattle.auc_claim.specs.declared.refused.CertRefused.{CertRefused}
+use Rattle.auc_claim.specs.Claim.{arc_of, chosen, pick_of, choice_faults, first_of, slack_fault, left_over_fault, fault_of}
+use Rattle.auc_claim.specs.Spelled.{IsSpelled}
+use Rattle.auc_claim.proofs.ClaimLaws.{is_faultless}
 use Rattle.auc_call.specs.declared.found.Found.{Found}
 use Rattle.auc_call.specs.declared.checked.Checked.{Checked}
 use Rattle.auc_call.specs.declared.checked.Checked.TheVariants.{Valid, Invalid}

@@ -1,10 +1,10 @@
 -- What the fields say under a status.
 use Rattle.std.specs.Prelude.{◌≡◌, ℕ, ℤ, List, None}
 use Rattle.auc_graph.specs.Problem.{Problem, IsProblem}
-use Rattle.auc_cert.specs.declared.reason.Reason.{Reason}
-use Rattle.auc_cert.specs.declared.cert.CertParts.{CertParts}
-use Rattle.auc_cert.specs.Claim.{fault_of}
-use Rattle.auc_cert.specs.Spelled.{IsSpelled}
+use Rattle.auc_claim.specs.declared.reason.Reason.{Reason}
+use Rattle.auc_claim.specs.declared.cert.CertParts.{CertParts}
+use Rattle.auc_claim.specs.Claim.{fault_of}
+use Rattle.auc_claim.specs.Spelled.{IsSpelled}
 use Rattle.auc_call.specs.declared.checked.ClaimFault.{ClaimFault}
 use Rattle.auc_call.specs.Shown.{IsBracketAt}
 use Rattle.auc_call.specs.Checking.{IsClaimFault, IsHallFault}

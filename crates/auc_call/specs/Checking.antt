@@ -4,11 +4,11 @@ use Rattle.auc_graph.specs.declared.arc.Arc.{Arc}
 use Rattle.auc_graph.specs.Problem.{Problem, IsProblem}
 use Rattle.auc_graph.specs.HallSet.{IsHallSet}
 use Rattle.auc_graph.specs.InMemory.{problem_fault}
-use Rattle.auc_cert.specs.declared.lists.Pick.{Pick}
-use Rattle.auc_cert.specs.declared.cert.CertParts.{CertParts}
-use Rattle.auc_cert.specs.declared.refused.CertRefused.{CertRefused}
-use Rattle.auc_cert.specs.Claim.{chosen, fault_of}
-use Rattle.auc_cert.specs.Spelled.{IsSpelled}
+use Rattle.auc_claim.specs.declared.lists.Pick.{Pick}
+use Rattle.auc_claim.specs.declared.cert.CertParts.{CertParts}
+use Rattle.auc_claim.specs.declared.refused.CertRefused.{CertRefused}
+use Rattle.auc_claim.specs.Claim.{chosen, fault_of}
+use Rattle.auc_claim.specs.Spelled.{IsSpelled}
 use Rattle.auc_call.specs.declared.checked.Checked.{Checked}
 use Rattle.auc_call.specs.declared.checked.Checked.TheVariants.{Valid, Invalid}
 use Rattle.auc_call.specs.declared.checked.ClaimFault.{ClaimFault}

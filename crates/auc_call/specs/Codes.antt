@@ -2,10 +2,10 @@
 use Rattle.std.specs.Prelude.{◌≡◌, ℕ, Option, Some, None}
 use Rattle.auc_graph.specs.declared.list_faults.ListFault.{ListFault}
 use Rattle.auc_graph.specs.declared.list_faults.ListFault.TheVariants.{Persons, Objects, TooManyArcs, Person, Object, Cost}
-use Rattle.auc_cert.specs.declared.reason.Reason.{Reason}
-use Rattle.auc_cert.specs.declared.reason.Reason.TheVariants.{Bids, Ceiling, Posts, Trail, Mail}
-use Rattle.auc_cert.specs.declared.refused.CertRefused.{CertRefused}
-use Rattle.auc_cert.specs.declared.refused.CertRefused.TheVariants.{WrongSize, NoSuchArc, ObjectTwice, WrongCost, Slack, LeftOver, NotHall, WrongBound, NoMemory}
+use Rattle.auc_claim.specs.declared.reason.Reason.{Reason}
+use Rattle.auc_claim.specs.declared.reason.Reason.TheVariants.{Bids, Ceiling, Posts, Trail, Mail}
+use Rattle.auc_claim.specs.declared.refused.CertRefused.{CertRefused}
+use Rattle.auc_claim.specs.declared.refused.CertRefused.TheVariants.{WrongSize, NoSuchArc, ObjectTwice, WrongCost, Slack, LeftOver, NotHall, WrongBound, NoMemory}
 use Rattle.auc_call.specs.declared.start.StartFault.{StartFault}
 use Rattle.auc_call.specs.declared.start.StartFault.TheVariants.{NotSquare, OtherSize, Price}
 use Rattle.auc_call.specs.declared.checked.ClaimFault.{ClaimFault}

@@ -1,10 +1,10 @@
 -- A run in one hand leaves a bracket only where one of its limits has stopped it.
 use Rattle.std.specs.Prelude.{◌≡◌, ℕ, ℤ, pos, List, [], ◌∷◌}
 use Rattle.auc_graph.specs.Problem.{Problem}
-use Rattle.auc_cert.specs.declared.lists.Pick.{Pick}
-use Rattle.auc_cert.specs.declared.reason.Reason.{Reason}
-use Rattle.auc_cert.specs.declared.cert.CertParts.{CertParts}
-use Rattle.auc_cert.specs.Claim.{chosen}
+use Rattle.auc_claim.specs.declared.lists.Pick.{Pick}
+use Rattle.auc_claim.specs.declared.reason.Reason.{Reason}
+use Rattle.auc_claim.specs.declared.cert.CertParts.{CertParts}
+use Rattle.auc_claim.specs.Claim.{chosen}
 use Rattle.auc_answers.specs.declared.answer.Answer.{Answer}
 use Rattle.auc_direct.specs.Endings.{IsLimited, IsLimitedFrom}
 use Rattle.auc_call.specs.Codes.{limit_kind}

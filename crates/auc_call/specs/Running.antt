@@ -1,9 +1,9 @@
 -- The run that an answer is of: by so many bids, from these prices or from nothing.
 use Rattle.std.specs.Prelude.{◌≡◌, ℕ, ℤ, List, [], ◌∷◌, take, Option, Some, None, Ok}
 use Rattle.auc_graph.specs.Problem.{Problem}
-use Rattle.auc_cert.specs.declared.cert.CertParts.{CertParts}
-use Rattle.auc_cert.specs.Claim.{chosen}
-use Rattle.auc_answers.specs.declared.limits.Limits.{Limits}
+use Rattle.auc_claim.specs.declared.cert.CertParts.{CertParts}
+use Rattle.auc_claim.specs.Claim.{chosen}
+use Rattle.auc_phases.specs.declared.limits.Limits.{Limits}
 use Rattle.auc_answers.specs.declared.answer.Answer.{Answer}
 use Rattle.auc_world.specs.Chain.{IsOfRun}
 use Rattle.auc_call.specs.declared.found.Found.{Found}

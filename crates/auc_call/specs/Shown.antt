@@ -3,11 +3,11 @@ use Rattle.std.specs.Prelude.{◌≡◌, ℕ, ◌≤◌, ℤ, List, length, take
 use Rattle.auc_graph.specs.Problem.{Problem, IsProblem}
 use Rattle.auc_graph.specs.Assignment.{IsLeast, total_cost}
 use Rattle.auc_hall.specs.OfProblem.{IsHallSetOf}
-use Rattle.auc_cert.specs.declared.lists.Pick.{Pick}
-use Rattle.auc_cert.specs.declared.reason.Reason.{Reason}
-use Rattle.auc_cert.specs.declared.cert.CertParts.{CertParts}
-use Rattle.auc_cert.specs.Claim.{IsBracket, chosen, fault_of}
-use Rattle.auc_cert.specs.Spelled.{IsSpelled}
+use Rattle.auc_claim.specs.declared.lists.Pick.{Pick}
+use Rattle.auc_claim.specs.declared.reason.Reason.{Reason}
+use Rattle.auc_claim.specs.declared.cert.CertParts.{CertParts}
+use Rattle.auc_claim.specs.Claim.{IsBracket, chosen, fault_of}
+use Rattle.auc_claim.specs.Spelled.{IsSpelled}
 use Rattle.auc_call.specs.Memory.{AreAt}
 
 -- the arcs at these places are an assignment of this cost, and no assignment costs less; by these prices the checker sees it

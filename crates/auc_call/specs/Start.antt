@@ -3,7 +3,7 @@ use Rattle.std.specs.Prelude.{ℕ, ◌==◌, not, Bool, ◌||◌, List, [], ◌�
 use Rattle.std.specs.Option.{option_map}
 use Rattle.std.specs.List.{position}
 use Rattle.auc_graph.specs.Problem.{Problem}
-use Rattle.auc_cert.specs.Start.{AreStart, highest_start}
+use Rattle.auc_claim.specs.Start.{AreStart, highest_start}
 use Rattle.auc_direct.specs.Starts.{AreStartPrices}
 use Rattle.auc_call.specs.declared.driver.Driver.{Driver}
 use Rattle.auc_call.specs.declared.driver.Driver.TheVariants.{Direct, Messages}

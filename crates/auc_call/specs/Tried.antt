@@ -1,6 +1,6 @@
 -- What shows that an assignment of a table costs least: at the prices no entry is better for a person than his own, and an object that nobody has is free.
 use Rattle.std.specs.Prelude.{◌≡◌, ◌≢◌, ℕ, ◌*◌, ◌<◌, ◌^◌, get_or, List, length, All, ℤ, pos, ◌+ℤ◌, ◌*ℤ◌, ◌≤ℤ◌}
-use Rattle.auc_cert.specs.declared.lists.Pick.{Pick}
+use Rattle.auc_claim.specs.declared.lists.Pick.{Pick}
 use Rattle.auc_call.specs.Table.{row_of}
 
 abbrev pub no_pick : Pick

@@ -1,6 +1,6 @@
 //! What a check comes to.
 
-use auc_cert::CertRefused;
+use auc_claim::CertRefused;
 
 /// What a check comes to.
 #[derive(Clone, Copy, Debug, PartialEq, Eq)]

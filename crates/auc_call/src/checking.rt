@@ -2,14 +2,14 @@
 
 ghost use Rattle.std.specs.Prelude.{◌≡◌, Ok};
 ghost use Rattle.auc_graph.specs.InMemory.{problem_from};
-ghost use Rattle.auc_cert.specs.Claim.{IsAllowed, fault_of};
+ghost use Rattle.auc_claim.specs.Claim.{IsAllowed, fault_of};
 ghost use Rattle.auc_call.specs.Checking.{Checks, ChecksHall, Told};
 ghost use Rattle.auc_call.specs.declared.checked.Checked.{Checked};
 
 use crate::checked::{Checked, ClaimFault};
 use crate::picking::picks_at;
 use crate::solved::Failed;
-use auc_cert::{Cert, CertParts, CertRefused, Picks, Prices, check};
+use auc_claim::{Cert, CertParts, CertRefused, Picks, Prices, check};
 use auc_graph::{Arc, ArcList, Indices, objects_or};
 use std::alloc::Global;
 

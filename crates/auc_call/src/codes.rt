@@ -5,7 +5,7 @@ ghost use Rattle.auc_call.specs.Codes.{list_kind, list_place, start_kind, start_
 
 use crate::checked::ClaimFault;
 use crate::start::StartFault;
-use auc_cert::{CertRefused, Reason};
+use auc_claim::{CertRefused, Reason};
 use auc_graph::ListFault;
 
 /// The kind of a fault of a list.

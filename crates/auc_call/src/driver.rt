@@ -1,7 +1,7 @@
 //! Which solver answers a call, and what it answers.
 
 ghost use Rattle.std.specs.Prelude.{◌≡◌, ◌≢◌, [], IfOk};
-ghost use Rattle.auc_cert.specs.Start.{AreStart};
+ghost use Rattle.auc_claim.specs.Start.{AreStart};
 ghost use Rattle.auc_answers.specs.Answers.{IsAnswer};
 ghost use Rattle.auc_direct.specs.Starts.{AreStartPrices};
 ghost use Rattle.auc_world.specs.Chain.{IsOfRun};

@@ -8,7 +8,7 @@ ghost use Rattle.auc_call.specs.Solving.{IsSolved};
 
 use crate::places::set_places;
 use crate::solved::Solved;
-use auc_cert::{Cert, CertParts};
+use auc_claim::{Cert, CertParts};
 use auc_graph::ArcList;
 
 /// Writes numbers to the front.

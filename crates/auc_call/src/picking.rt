@@ -1,11 +1,11 @@
 //! The picks that places of arcs stand for.
 
 ghost use Rattle.std.specs.Prelude.{◌≡◌, ◌<◌, ◌^◌, length, IfOk, IfErr};
-ghost use Rattle.auc_cert.specs.Claim.{chosen, pick_of};
+ghost use Rattle.auc_claim.specs.Claim.{chosen, pick_of};
 ghost use Rattle.auc_call.specs.Memory.{AreAt};
 ghost use Rattle.auc_call.specs.Checking.{IsMisplaced};
 
-use auc_cert::Pick;
+use auc_claim::Pick;
 use auc_graph::Arc;
 use std::alloc::{AllocError, Global};
 

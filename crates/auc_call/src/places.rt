@@ -1,10 +1,10 @@
 //! The places of the arcs that picks name.
 
 ghost use Rattle.std.specs.Prelude.{◌≡◌, ◌≤◌, ◌<◌, true, length, All, Contains};
-ghost use Rattle.auc_cert.specs.Claim.{chosen};
+ghost use Rattle.auc_claim.specs.Claim.{chosen};
 ghost use Rattle.auc_call.specs.Memory.{AreAt};
 
-use auc_cert::Pick;
+use auc_claim::Pick;
 use auc_graph::Arc;
 
 /// Whether at these places of the list the arcs stand that picks name, person by person.

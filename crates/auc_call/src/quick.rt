@@ -9,7 +9,7 @@ ghost use Rattle.auc_call.specs.Table.{IsTable, table_arcs};
 ghost use Rattle.auc_call.specs.Tried.{IsPlainPrice, scaled};
 
 use crate::trying::try_out;
-use auc_cert::{Pick, cost_of};
+use auc_claim::{Pick, cost_of};
 use auc_table::{Table, propose};
 use std::alloc::{AllocError, Global};
 

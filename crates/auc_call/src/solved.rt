@@ -4,7 +4,7 @@ ghost use Rattle.std.specs.Prelude.{◌≡◌};
 ghost use Rattle.auc_call.specs.declared.solved.Failed.TheVariants.{NoMemory, Fault};
 
 use crate::start::StartFault;
-use auc_cert::Reason;
+use auc_claim::Reason;
 use auc_graph::ListFault;
 use std::alloc::AllocError;
 

@@ -1,12 +1,12 @@
 //! The prices from which a caller wants a run to start.
 
 ghost use Rattle.std.specs.Prelude.{◌≡◌, ◌≢◌, ◌<◌, ◌^◌, None, [], length};
-ghost use Rattle.auc_cert.specs.Start.{AreStart};
+ghost use Rattle.auc_claim.specs.Start.{AreStart};
 ghost use Rattle.auc_direct.specs.Starts.{AreStartPrices};
 ghost use Rattle.auc_call.specs.Start.{CanStart, is_outside, outside, prices_fault, square_fault, start_fault_by};
 
 use crate::driver::Driver;
-use auc_cert::HIGHEST_START;
+use auc_claim::HIGHEST_START;
 use auc_graph::ArcList;
 
 /// Why no run can start from the prices.

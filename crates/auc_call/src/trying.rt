@@ -6,7 +6,7 @@ ghost use Rattle.auc_call.specs.Table.{IsTable};
 ghost use Rattle.auc_call.specs.Tried.{AreBest, AreHeldApart, AreOthersFree, IsBestIn, IsNoneBelow, IsPlainPrice, ShowLeast};
 
 use crate::table::row_of;
-use auc_cert::Pick;
+use auc_claim::Pick;
 use auc_graph::MOST_COST;
 use auc_table::Proposal;
 use std::alloc::{AllocError, Global};

@@ -5,15 +5,15 @@ use Rattle.std.proofs.lemmas.Int.{ints}
 use Rattle.std.proofs.lemmas.List.{append-nil, length-append, length-replicate}
 use Rattle.std.proofs.lemmas.List.Elements.{All-append, All-replicate}
 use Rattle.std.proofs.lemmas.List.Concat.{flat_map-append}
-use Rattle.auc_cert.specs.declared.lists.Pick.{Pick}
+use Rattle.auc_claim.specs.declared.lists.Pick.{Pick}
 use Rattle.auc_graph.specs.Price.{IsPrice}
-use Rattle.auc_cert.specs.Spelled.{most_in, version_of_sizes, IsPick, IsChoice}
+use Rattle.auc_claim.specs.Spelled.{most_in, version_of_sizes, IsPick, IsChoice}
 use Rattle.auc_cert.specs.Text.{assign_line, price_line, numbered, joined, choice_lines}
 use Rattle.auc_cert.specs.CertReading.{IsFirstBadOf, ChoiceLines}
 use Rattle.auc_cert.specs.Runs.{IsRun, BreaksOff, From}
 use Rattle.auc_cert.specs.SecondLine.{AreCounted}
 use Rattle.auc_cert.proofs.RunLaws.{picks_apart, prices_apart, same_run, same_rest, next_of, numbered_append}
-use Rattle.auc_cert.proofs.VersionLaws.{most_is_few, most_is_some}
+use Rattle.auc_claim.proofs.VersionLaws.{most_is_few, most_is_some}
 use Rattle.auc_cert.proofs.TextLines.{AreLines, GoesOn, bad_of, picks_lines, prices_lines, lines_append}
 
 -- ---- picks and prices that complete those that were read

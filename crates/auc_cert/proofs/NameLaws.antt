@@ -3,15 +3,17 @@ use Rattle.std.proofs.Common.{◌≡◌, ℕ, ◌+◌, ◌-◌, ◌<◌, ◌≤�
 use Rattle.std.specs.Prelude.{codes, All}
 use Rattle.std.proofs.lemmas.List.{append-nil, length-append}
 use Rattle.auc_graph.specs.Rising.{Rises}
-use Rattle.auc_cert.specs.declared.version.Version.{Version}
-use Rattle.auc_cert.specs.Spelled.{most_in, least_behind, names_version, AreNamed}
+use Rattle.auc_claim.specs.declared.version.Version.{Version}
+use Rattle.auc_claim.specs.Spelled.{most_in, least_behind, names_version, AreNamed}
 use Rattle.auc_cert.specs.Text.{person_line, object_line, numbered, joined, name_lines}
 use Rattle.auc_cert.specs.CertReading.{IsFirstBadOf, NameLines}
 use Rattle.auc_cert.specs.SecondLine.{AreCounts, least_named, least_last}
-use Rattle.auc_cert.specs.Runs.{IsBelow, IsRisingRun, BreaksRising, From}
+use Rattle.auc_cert.specs.Runs.{IsRisingRun, BreaksRising, From}
+use Rattle.auc_claim.specs.Spelled.{IsBelow}
 use Rattle.auc_cert.proofs.RunLaws.{numbers_apart, same_run, same_rest, goes_beyond, numbered_append}
-use Rattle.auc_cert.proofs.RisingLaws.{rises_append, rises_from_lower, rises_below_higher, next_rises, rises_room, behind_top, behind_push, counted, counted_rises, length_counted, are_indices}
-use Rattle.auc_cert.proofs.VersionLaws.{most_is_few, most_above, last_is_in, rises_in, last_in, named_as, named_from}
+use Rattle.auc_claim.proofs.RisingLaws.{rises_append, rises_from_lower, rises_below_higher, next_rises, rises_room, behind_top, behind_push, counted, counted_rises, length_counted, are_indices}
+use Rattle.auc_claim.proofs.VersionLaws.{most_is_few, most_above}
+use Rattle.auc_cert.proofs.SizeLaws.{last_is_in, rises_in, last_in, named_as, named_from}
 use Rattle.auc_cert.proofs.TextLines.{AreLines, GoesOn, bad_of, numbers_lines, lines_append}
 use Rattle.auc_cert.proofs.ChoiceLaws.{length_numbered, joined_append}
 

@@ -2,11 +2,12 @@
 use Rattle.std.proofs.Common.{◌≡◌, ℕ, ◌+◌, ◌-◌, ◌<◌, ◌≤◌, List, [], ◌∷◌, ◌++◌, Some, None, refl, sym, ap, subst, ◌∙◌, arith}
 use Rattle.auc_cert.specs.Text.{number_line}
 use Rattle.auc_cert.specs.Fields.{number_at}
-use Rattle.auc_cert.specs.Spelled.{least_behind}
-use Rattle.auc_cert.specs.Runs.{IsBelow, IsRisingRun, BreaksRising}
+use Rattle.auc_claim.specs.Spelled.{least_behind}
+use Rattle.auc_cert.specs.Runs.{IsRisingRun, BreaksRising}
+use Rattle.auc_claim.specs.Spelled.{IsBelow}
 use Rattle.auc_cert.proofs.LineLaws.{number_again, number_takes}
 use Rattle.auc_cert.proofs.RunLaws.{none_some, run_begins, run_more}
-use Rattle.auc_cert.proofs.RisingLaws.{rises_push, behind_push}
+use Rattle.auc_claim.proofs.RisingLaws.{rises_push, behind_push}
 
 -- what the reader of such lines keeps: the numbers that were read rise, those to come have room below `most`, and the last one is `last` or above
 pub record HasRead (front : List ℕ) (most last n done : ℕ) (bytes numbers rest : List ℕ) (least : ℕ) : Type 0 where

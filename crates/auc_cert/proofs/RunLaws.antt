@@ -4,12 +4,13 @@ use Rattle.std.specs.Prelude.{ℤ}
 use Rattle.std.proofs.lemmas.List.{append-nil, length-append}
 use Rattle.std.proofs.lemmas.List.Concat.{flat_map-append}
 use Rattle.std.proofs.lemmas.List.Elements.{All-nil, All-push, All-head, All-tail}
-use Rattle.auc_cert.specs.declared.lists.Pick.{Pick}
+use Rattle.auc_claim.specs.declared.lists.Pick.{Pick}
 use Rattle.auc_graph.specs.Price.{IsPrice}
-use Rattle.auc_cert.specs.Spelled.{IsPick}
+use Rattle.auc_claim.specs.Spelled.{IsPick}
 use Rattle.auc_cert.specs.Text.{numbered, joined, assign_line, price_line, number_line}
 use Rattle.auc_cert.specs.Fields.{pick_line_at, price_line_at, number_at}
-use Rattle.auc_cert.specs.Runs.{IsRun, BreaksOff, IsBelow}
+use Rattle.auc_cert.specs.Runs.{IsRun, BreaksOff}
+use Rattle.auc_claim.specs.Spelled.{IsBelow}
 use Rattle.auc_cert.proofs.WriteLaws.{numbered_push}
 use Rattle.auc_cert.proofs.WordLaws.{some_is}
 use Rattle.auc_cert.proofs.LineLaws.{pick_again, pick_takes, price_again, price_takes, number_again}

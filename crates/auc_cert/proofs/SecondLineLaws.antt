@@ -7,10 +7,10 @@ use Rattle.std.specs.List.{find}
 use Rattle.std.specs.Option.{option_or}
 use Rattle.std.proofs.lemmas.Bool.{cases_Bool, and_parts}
 use Rattle.std.proofs.lemmas.Int.{ints}
-use Rattle.auc_cert.specs.declared.version.Version.{Version}
-use Rattle.auc_cert.specs.declared.version.Version.TheVariants.{First, Second}
-use Rattle.auc_cert.specs.declared.reason.Reason.{Reason}
-use Rattle.auc_cert.specs.declared.reason.Reason.TheVariants.{Bids, Ceiling, Posts, Trail, Mail}
+use Rattle.auc_claim.specs.declared.version.Version.{Version}
+use Rattle.auc_claim.specs.declared.version.Version.TheVariants.{First, Second}
+use Rattle.auc_claim.specs.declared.reason.Reason.{Reason}
+use Rattle.auc_claim.specs.declared.reason.Reason.TheVariants.{Bids, Ceiling, Posts, Trail, Mail}
 use Rattle.auc_cert.specs.declared.second_line.SecondLine.{SecondLine}
 use Rattle.auc_cert.specs.declared.second_line.SecondLine.TheVariants.{Optimal, Infeasible, Bracket}
 use Rattle.auc_cert.specs.Text.{optimal_line, infeasible_line, reason_word, bracket_line}

@@ -7,13 +7,13 @@ use Rattle.std.proofs.lemmas.Int.{ints}
 use Rattle.std.proofs.lemmas.Bool.{and_parts, not-true, eqb-false, eqb-true, ne_eqb}
 use Rattle.std.proofs.Math.Seq.{take-append_seam}
 use Rattle.std.proofs.lemmas.List.Elements.{All-nil, All-cons, All-append, All-head, All-tail}
-use Rattle.auc_cert.specs.declared.lists.Pick.{Pick}
-use Rattle.auc_cert.specs.declared.version.Version.{Version}
-use Rattle.auc_cert.specs.declared.version.Version.TheVariants.{First, Second}
+use Rattle.auc_claim.specs.declared.lists.Pick.{Pick}
+use Rattle.auc_claim.specs.declared.version.Version.{Version}
+use Rattle.auc_claim.specs.declared.version.Version.TheVariants.{First, Second}
 use Rattle.auc_graph.specs.Price.{IsPrice}
-use Rattle.auc_cert.specs.Spelled.{IsPick}
+use Rattle.auc_claim.specs.Spelled.{IsPick}
 use Rattle.auc_cert.specs.Text.{head_line, assign_line, price_line, number_line, numbered, joined}
-use Rattle.auc_cert.specs.Runs.{IsBelow}
+use Rattle.auc_claim.specs.Spelled.{IsBelow}
 use Rattle.auc_cert.specs.CertReading.{lines_in, IsFirstBadOf}
 use Rattle.auc_cert.proofs.NumberWords.{number_goes_on}
 

@@ -4,13 +4,13 @@ use Rattle.std.specs.Prelude.{◌^◌, codes, pos, neg_ℤ, ℤ}
 use Rattle.std.specs.Fmt.{digits}
 use Rattle.auc_graph.specs.declared.arc.Arc.{Arc}
 use Rattle.auc_graph.specs.Problem.{Problem}
-use Rattle.auc_cert.specs.declared.lists.Pick.{Pick}
-use Rattle.auc_cert.specs.declared.cert.CertParts.{CertParts}
-use Rattle.auc_cert.specs.declared.cert.CertParts.TheVariants.{Optimal, Infeasible, Bracket}
-use Rattle.auc_cert.specs.declared.reason.Reason.TheVariants.{Bids, Mail}
-use Rattle.auc_cert.specs.declared.refused.CertRefused.TheVariants.{WrongSize, NoSuchArc, ObjectTwice, WrongCost, Slack, LeftOver, NotHall, WrongBound}
+use Rattle.auc_claim.specs.declared.lists.Pick.{Pick}
+use Rattle.auc_claim.specs.declared.cert.CertParts.{CertParts}
+use Rattle.auc_claim.specs.declared.cert.CertParts.TheVariants.{Optimal, Infeasible, Bracket}
+use Rattle.auc_claim.specs.declared.reason.Reason.TheVariants.{Bids, Mail}
+use Rattle.auc_claim.specs.declared.refused.CertRefused.TheVariants.{WrongSize, NoSuchArc, ObjectTwice, WrongCost, Slack, LeftOver, NotHall, WrongBound}
 use Rattle.auc_cert.specs.Text.{text}
-use Rattle.auc_cert.specs.Claim.{fault_of}
+use Rattle.auc_claim.specs.Claim.{fault_of}
 
 abbrev arc : ℕ → ℕ → ℤ → Arc
 arc person object cost = record { person = person; object = object; cost = cost }

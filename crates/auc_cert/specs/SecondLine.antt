@@ -1,11 +1,11 @@
 -- The second line of a certificate: it tells the kind of the claim, and how many lines of which shape follow.
 use Rattle.std.specs.Prelude.{◌≡◌, ℕ, ◌≤◌, ◌<◌, List, FitsSigned}
 use Rattle.std.specs.Int.{w64}
-use Rattle.auc_cert.specs.declared.version.Version.{Version}
-use Rattle.auc_cert.specs.declared.version.Version.TheVariants.{First, Second}
+use Rattle.auc_claim.specs.declared.version.Version.{Version}
+use Rattle.auc_claim.specs.declared.version.Version.TheVariants.{First, Second}
 use Rattle.auc_cert.specs.declared.second_line.SecondLine.{SecondLine}
 use Rattle.auc_cert.specs.declared.second_line.SecondLine.TheVariants.{Optimal, Infeasible, Bracket}
-use Rattle.auc_cert.specs.Spelled.{most_persons, most_objects, most_in, most_named}
+use Rattle.auc_claim.specs.Spelled.{most_persons, most_objects, most_in, most_named}
 use Rattle.auc_cert.specs.Text.{optimal_line, infeasible_line, bracket_line}
 use Rattle.auc_cert.specs.CertReading.{ChoiceLines, NameLines}
 

@@ -26,3 +26,7 @@ spelled (Number z) = signed_decimal z
 -- the parts, one after another
 abbrev pub line_of : List Part → List ℕ
 line_of parts = fold (λ t part. t ++ spelled part) [] parts
+
+-- words, a number and the line end
+abbrev pub counted : List ℕ → ℕ → List ℕ
+counted words n = words ++ decimal n ++ codes "\n"

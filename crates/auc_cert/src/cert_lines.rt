@@ -4,9 +4,8 @@ ghost use Rattle.std.specs.Prelude.{◌≡◌, ◌<◌, ◌≤◌, IfSome};
 ghost use Rattle.auc_cert.specs.Fields.{viewed, after, head_at, pick_line_at, price_line_at, number_at};
 
 use crate::fields::{field_of, index_of};
-use crate::limits::{MOST_COST, MOST_PRICE};
-use crate::lists::Pick;
-use crate::version::Version;
+use auc_claim::{Pick, Version};
+use auc_graph::{MOST_COST, MOST_PRICE};
 
 /// The pick on the line of a person at the front, of one of `most` objects, and what stands after the line.
 #[tactic(auto, unfolding(crate::specs::Fields::pick_line_at))]

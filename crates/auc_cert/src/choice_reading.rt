@@ -4,15 +4,14 @@ ghost use Rattle.std.specs.Prelude.{◌≡◌, ◌≤◌, ◌+◌, length, IfOk,
 ghost use Rattle.auc_graph.specs.Memory.{AnswersUnless};
 ghost use Rattle.auc_cert.specs.Runs.{IsRun, BreaksOff, NamesLine, From};
 ghost use Rattle.auc_graph.specs.Price.{IsPrice};
-ghost use Rattle.auc_cert.specs.Spelled.{IsPick, IsChoice};
+ghost use Rattle.auc_claim.specs.Spelled.{IsPick, IsChoice};
 ghost use Rattle.auc_cert.specs.Text.{assign_line, price_line, joined, choice_lines};
 ghost use Rattle.auc_cert.specs.CertReading.{IsFirstBadOf, ChoiceLines};
 ghost use Rattle.auc_cert.specs.SecondLine.{AreCounted};
 
 use crate::cert_lines::{pick_of, price_of};
-use crate::lists::{Pick, Picks, Prices};
 use crate::text_error::CertTextError;
-use crate::version::Version;
+use auc_claim::{Pick, Picks, Prices, Version};
 use std::alloc::Global;
 
 /// The picks of so many persons, each on his line and of one of `most` objects, and what stands after them.

@@ -1,47 +1,11 @@
-//! The laws that the checker and the reader rest on, as contracts of functions without a body.
+//! The law that the reader rests on, as the contract of a function without a body.
 
-ghost use Rattle.std.specs.Prelude.{◌≡◌, ◌++◌, ◌<◌, [], ℕ, List, ℤ, pos, None, map, length, All, Contains};
-ghost use Rattle.auc_graph.specs.declared.arc.Arc.{Arc};
-ghost use Rattle.auc_graph.specs.Problem.{Problem, IsProblem};
-ghost use Rattle.auc_graph.specs.Assignment.{IsAssignment, total_cost};
-ghost use Rattle.auc_graph.specs.Dual.{AreFewPriced, IsLower, IsNoPriceLeft, IsSlackRight, dual, scale_of};
-ghost use Rattle.auc_graph.specs.HallSet.{IsHallSet};
-ghost use Rattle.auc_graph.specs.Rising.{IsRising};
-ghost use Rattle.auc_cert.specs.declared.cert.CertParts.{CertParts};
-ghost use Rattle.auc_cert.specs.declared.cert.CertParts.TheVariants.{Bracket, Infeasible, Optimal};
-ghost use Rattle.auc_graph.specs.Price.{IsPrice};
-ghost use Rattle.auc_cert.specs.declared.reason.Reason.{Reason};
-ghost use Rattle.auc_cert.specs.Spelled.{IsSpelled};
+ghost use Rattle.std.specs.Prelude.{◌≡◌, ◌++◌, [], ℕ, List};
+ghost use Rattle.auc_claim.specs.declared.cert.CertParts.{CertParts};
+ghost use Rattle.auc_claim.specs.Spelled.{IsSpelled};
 ghost use Rattle.auc_cert.specs.Text.{text};
-ghost use Rattle.auc_cert.specs.Claim.{fault_of, pick_of, IsAllowed};
-
-/// A claim in which the checker finds no fault is true of the problem: what it says of all assignments names no price.
-pub fn faultless_claims_are_allowed()
-    ensures { (p : Problem) (c : CertParts) → IsProblem p → IsSpelled c → fault_of p c ≡ None → IsAllowed p c }
-{}
 
 /// Each certificate has one spelling, and no spelling begins another one.
 pub fn no_spelling_begins_another()
     ensures { (c d : CertParts) (more : List ℕ) → IsSpelled c → IsSpelled d → text c ++ more ≡ text d → (c ≡ d) × (more ≡ []) }
-{}
-
-/// Persons who together know too few objects have a certificate, if both are named in rising order, and the checker finds no
-/// fault in it.
-pub fn hall_sets_pass()
-    ensures spelled { (p : Problem) (persons objects : List ℕ) → IsProblem p → IsHallSet p persons objects → IsRising persons → IsRising objects → ((j : ℕ) → Contains objects j → j < p.objects) → IsSpelled (Infeasible persons objects) }
-    ensures faultless { (p : Problem) (persons objects : List ℕ) → IsHallSet p persons objects → ((j : ℕ) → Contains objects j → j < p.objects) → fault_of p (Infeasible persons objects) ≡ None }
-{}
-
-/// An assignment has an optimal certificate with each list of prices in range, one for each object; and the checker finds no fault in it
-/// where no arc of a person is better at these prices than his chosen one by more than 1, and no object that nobody takes has a price.
-pub fn assignments_pass()
-    ensures spelled { (p : Problem) (choice : List Arc) (prices : List ℤ) → IsProblem p → IsAssignment p choice → length prices ≡ p.objects → All IsPrice prices → IsSpelled (Optimal (total_cost choice) (map pick_of choice) prices) }
-    ensures faultless { (p : Problem) (choice : List Arc) (prices : List ℤ) → IsAssignment p choice → length prices ≡ p.objects → All (IsSlackRight (pos 1) (scale_of p) prices p.arcs) choice → IsNoPriceLeft prices choice → fault_of p (Optimal (total_cost choice) (map pick_of choice) prices) ≡ None }
-{}
-
-/// An assignment has a bracket, whichever limit ended the run, with each list of prices in range, one for each object and no more than
-/// persons above 0, and the least cost that their dual bound allows; and the checker finds no fault in it.
-pub fn brackets_pass()
-    ensures spelled { (p : Problem) (choice : List Arc) (prices : List ℤ) (lower : ℤ) (reason : Reason) → IsProblem p → IsAssignment p choice → length prices ≡ p.objects → All IsPrice prices → AreFewPriced p prices → IsLower (scale_of p) (dual p prices) lower → IsSpelled (Bracket reason lower (total_cost choice) (map pick_of choice) prices) }
-    ensures faultless { (p : Problem) (choice : List Arc) (prices : List ℤ) (lower : ℤ) (reason : Reason) → IsAssignment p choice → length prices ≡ p.objects → IsLower (scale_of p) (dual p prices) lower → fault_of p (Bracket reason lower (total_cost choice) (map pick_of choice) prices) ≡ None }
 {}

@@ -3,15 +3,15 @@
 ghost use Rattle.std.specs.Prelude.{◌≡◌, ◌≤◌, ◌<◌, ◌+◌, ℕ, length, IfOk, IfErr};
 ghost use Rattle.auc_graph.specs.Memory.{AnswersUnless};
 ghost use Rattle.auc_cert.specs.Runs.{IsRisingRun, BreaksRising, NamesLine, From};
-ghost use Rattle.auc_cert.specs.Spelled.{least_behind, names_version, AreNamed};
+ghost use Rattle.auc_claim.specs.Spelled.{least_behind, names_version, AreNamed};
 ghost use Rattle.auc_cert.specs.SecondLine.{AreCounts, least_last};
 ghost use Rattle.auc_cert.specs.Text.{joined, name_lines};
 ghost use Rattle.auc_cert.specs.CertReading.{IsFirstBadOf, NameLines};
 
 use crate::cert_lines::number_of;
-use crate::limits::{MOST_OBJECTS_IN_FIRST, MOST_PERSONS};
 use crate::text_error::CertTextError;
-use crate::version::Version;
+use auc_claim::{MOST_OBJECTS_IN_FIRST, Version};
+use auc_graph::MOST_PERSONS;
 use auc_graph::Indices;
 use std::alloc::Global;
 

@@ -1,7 +1,7 @@
 //! Bytes and numbers, written: what every text is written by.
 
 ghost use Rattle.std.specs.Prelude.{◌≡◌, ◌<◌, Ok, Err, IfOk, IsErr};
-ghost use Rattle.auc_cert.specs.Writing.{Writes, line_of, spelled};
+ghost use Rattle.auc_cert.specs.Writing.{Writes, counted, line_of, spelled};
 
 use itoa::Buffer;
 use std::io;
@@ -92,4 +92,20 @@ pub fn write_parts<W: Write>(writer: &mut W, parts: &[Part]) -> Result<(), Write
         write_part(writer, *part)?;
     }
     Ok(())
+}
+
+/// Writes words, a number and the line end. Takes no memory.
+///
+/// # Errors
+///
+/// As [`write_whole`], of the whole line.
+pub fn write_counted<W: Write>(
+    writer: &mut W,
+    words: &[u8],
+    number: u64,
+) -> Result<(), WriteFault>
+    ensures { Writes result (W.contents writer.old) (W.contents writer.new) (counted words.now number) }
+{
+    let parts = [Part::Words(words), Part::Count(number), Part::LineEnd];
+    write_parts(writer, &parts)
 }

@@ -5,9 +5,9 @@ ghost use Rattle.auc_cert.specs.Fields.{viewed, after, objects_at, optimal_at, i
 ghost use Rattle.auc_cert.specs.SecondLine.{least_named};
 
 use crate::fields::{field_of, word_before};
-use crate::limits::{MOST_NAMED, MOST_OBJECTS, MOST_PERSONS};
-use crate::reason::Reason;
-use crate::version::Version;
+use crate::words::reason_of_word;
+use auc_claim::{MOST_NAMED, Reason, Version};
+use auc_graph::{MOST_OBJECTS, MOST_PERSONS};
 
 /// What a second line says.
 pub(crate) enum SecondLine {
@@ -93,7 +93,7 @@ fn bracket_of(bytes: &[u8], version: Version) -> Option<(SecondLine, &[u8])>
 {
     let rest = bytes.strip_prefix(b"bracket ")?;
     let (word, rest) = word_before(rest, b' ')?;
-    let reason = Reason::of_word(word)?;
+    let reason = reason_of_word(word)?;
     let (persons, rest) = field_of(rest, b"", 1, MOST_PERSONS as i64, b' ')?;
     let persons = persons as u32;
     let (objects, rest) = objects_of(rest, version, persons)?;

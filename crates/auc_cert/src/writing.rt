@@ -4,12 +4,10 @@ ghost use Rattle.std.specs.Prelude.{◌++◌, ◌<◌, ◌≤◌, ◌^◌, lengt
 ghost use Rattle.auc_cert.specs.Writing.{Writes};
 ghost use Rattle.auc_cert.specs.Text.{text, head_line, assign_line, price_line, optimal_line, infeasible_line, bracket_line, number_line, numbered, joined, choice_lines};
 
-use crate::cert::{Cert, CertParts};
 use crate::line::Line;
-use crate::lists::Pick;
 use crate::output::{Part, WriteFault, write_parts, write_whole};
-use crate::reason::Reason;
-use crate::version::{Version, names_version};
+use crate::words::{head_line, reason_word};
+use auc_claim::{Cert, CertParts, Pick, Reason, Version, names_version};
 use std::io::Write;
 
 /// Writes the first two lines of an optimal certificate.
@@ -58,7 +56,7 @@ fn write_infeasible_head<W: Write>(
     ensures { Writes result (W.contents writer.old) (W.contents writer.new) (head_line version ++ infeasible_line persons objects) }
 {
     let parts = [
-        Part::Words(version.head()),
+        Part::Words(head_line(version)),
         Part::Words(b"infeasible "),
         Part::Count(persons),
         Part::Space,
@@ -84,7 +82,7 @@ fn write_bracket_head<W: Write>(
         Version::First => {
             let parts = [
                 Part::Words(b"auction 1\nbracket "),
-                Part::Words(reason.word()),
+                Part::Words(reason_word(reason)),
                 Part::Space,
                 Part::Count(persons),
                 Part::Space,
@@ -98,7 +96,7 @@ fn write_bracket_head<W: Write>(
         Version::Second => {
             let parts = [
                 Part::Words(b"auction 2\nbracket "),
-                Part::Words(reason.word()),
+                Part::Words(reason_word(reason)),
                 Part::Space,
                 Part::Count(persons),
                 Part::Space,

@@ -6,11 +6,11 @@ use Rattle.std.proofs.lemmas.Bool.{cases_lt, false≢true}
 use Rattle.std.proofs.lemmas.List.{get_or-map, length-map}
 use Rattle.std.proofs.lemmas.List.Elements.{Contains-get_or}
 use Rattle.std.proofs.lemmas.Option.{slice_get-get_or}
-use Rattle.auc_cert.specs.declared.cert.CertParts.{CertParts}
-use Rattle.auc_cert.specs.declared.reason.Reason.{Reason}
-use Rattle.auc_cert.specs.Claim.{pick_of}
-use Rattle.auc_cert.proofs.ClaimLaws.{faultless_is_allowed}
-use Rattle.auc_cert.proofs.Converse.{assignment_spelled, slack_right_faultless}
+use Rattle.auc_claim.specs.declared.cert.CertParts.{CertParts}
+use Rattle.auc_claim.specs.declared.reason.Reason.{Reason}
+use Rattle.auc_claim.specs.Claim.{pick_of}
+use Rattle.auc_claim.proofs.ClaimLaws.{faultless_is_allowed}
+use Rattle.auc_claim.proofs.Converse.{assignment_spelled, slack_right_faultless}
 use Rattle.auc_graph.specs.Assignment.{IsAssignment, total, total_cost}
 use Rattle.auc_graph.specs.declared.arc.Arc.{Arc}
 use Rattle.auc_graph.specs.Problem.{IsProblem, Problem}

@@ -2,11 +2,11 @@
 use Rattle.std.proofs.Common.{Bool, Err, Ok, Result, inl, inr, ℕ, ℤ, pos, ◌≡◌, ◌∙◌, refl, arith, List, subst}
 use Rattle.std.specs.Prelude.{IfErr, IfOk, ◌≤ℤ◌}
 use Rattle.std.proofs.lemmas.Int.{ints}
-use Rattle.auc_cert.specs.declared.reason.Reason.{Reason}
+use Rattle.auc_claim.specs.declared.reason.Reason.{Reason}
 use Rattle.auc_rows.specs.declared.arc.ShortArc.{ShortArc}
 use Rattle.auc_rows.specs.Rows.{FlatTable}
 use Rattle.auc_direct.specs.declared.ending.Ending.{Ending}
-use Rattle.auc_cert.specs.declared.cert.CertParts.{CertParts}
+use Rattle.auc_claim.specs.declared.cert.CertParts.{CertParts}
 use Rattle.auc_graph.specs.Problem.{Problem}
 use Rattle.auc_answers.specs.declared.answer.Answer.{Answer}
 use Rattle.auc_direct.specs.Endings.{IsEnding, IsLeft, IsLimit, IsLimited, IsLimitedBy, IsLimitedUnless, IsSold, IsStopped, IsToldOr}

@@ -4,13 +4,13 @@ use Rattle.std.specs.Prelude.{All, FitsSigned, ◌⊎◌, ◌*◌, ◌^◌, ◌*
 use Rattle.std.proofs.lemmas.Int.{ints}
 use Rattle.std.proofs.lemmas.List.{get_or-replicate, get_or_default, length-replicate, same_lists}
 use Rattle.std.proofs.lemmas.List.Elements.{All-replicate, All-weaker}
-use Rattle.auc_cert.specs.Start.{IsStartPrice}
+use Rattle.auc_claim.specs.Start.{IsStartPrice}
 use Rattle.auc_graph.specs.Assignment.{total}
 use Rattle.auc_graph.specs.Dual.{price_at}
 use Rattle.auc_graph.specs.Problem.{Problem}
 use Rattle.auc_graph.specs.Table.{IsTableOf, Table}
 use Rattle.auc_graph.specs.Price.{IsPrice}
-use Rattle.auc_answers.proofs.NewShards.{replicate_default}
+use Rattle.auc_answers.proofs.Replicated.{replicate_default}
 use Rattle.auc_rows.specs.declared.arc.ShortArc.{ShortArc}
 use Rattle.auc_rows.specs.Rows.{AreSameRows, FlatTable}
 use Rattle.auc_direct.specs.declared.holdings.TheConstants.{NOBODY}

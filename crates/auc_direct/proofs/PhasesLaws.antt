@@ -1,7 +1,7 @@
 -- Phases one after another are phases.
 use Rattle.std.proofs.Common.{◌≡◌, ◌∙◌, ℕ, ℤ, ◌+◌, ◌≤◌, List, ap, arith, refl, replicate, subst, sym}
-use Rattle.auc_cert.specs.declared.reason.Reason.{Reason}
-use Rattle.auc_answers.proofs.NewShards.{replicate_default}
+use Rattle.auc_claim.specs.declared.reason.Reason.{Reason}
+use Rattle.auc_answers.proofs.Replicated.{replicate_default}
 use Rattle.auc_rows.specs.declared.arc.ShortArc.{ShortArc}
 use Rattle.auc_rows.specs.Rows.{FlatTable}
 use Rattle.auc_direct.specs.declared.ending.Ending.{Ending}

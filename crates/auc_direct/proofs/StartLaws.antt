@@ -5,7 +5,7 @@ use Rattle.std.proofs.lemmas.Bool.{cases_eq}
 use Rattle.std.proofs.lemmas.Int.{ints}
 use Rattle.std.proofs.lemmas.List.{get_or-set_same, get_or-set_other, length-set, set-get_or}
 use Rattle.std.proofs.lemmas.List.Elements.{All-contains, All-get_or, All-set}
-use Rattle.auc_answers.proofs.NewShards.{replicate_default}
+use Rattle.auc_answers.proofs.Replicated.{replicate_default}
 use Rattle.auc_graph.specs.Dual.{price_at}
 use Rattle.auc_graph.specs.Price.{IsPrice}
 use Rattle.auc_rows.specs.declared.arc.ShortArc.{ShortArc}

@@ -1,6 +1,6 @@
 //! How a chain of bids, and a phase, have ended.
 
-use auc_cert::Reason;
+use auc_claim::Reason;
 
 /// How a chain of bids has ended, each after the first by the person whom the one before has displaced; or two such chains that take turns.
 #[derive(Clone, Copy, Debug, PartialEq, Eq)]

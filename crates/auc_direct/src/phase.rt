@@ -1,7 +1,7 @@
 //! A phase: the persons who have no object begin in order, and bid, two in turn, until each has one. It goes in slices, before each of which somebody is asked whether it goes on.
 
 ghost use Rattle.std.specs.Prelude.{Bool, ℕ, ℤ, List, true, false, ◌≡◌, ◌-◌, ◌<◌, ◌^◌, IfErr, IfOk, IfNone, IfSome, OnOk};
-ghost use Rattle.auc_cert.specs.declared.reason.Reason.{Reason};
+ghost use Rattle.auc_claim.specs.declared.reason.Reason.{Reason};
 ghost use Rattle.auc_rows.specs.declared.arc.ShortArc.{ShortArc};
 ghost use Rattle.auc_rows.specs.Rows.{FlatTable};
 ghost use Rattle.auc_direct.specs.declared.ending.Ending.{Ending};
@@ -14,7 +14,7 @@ use crate::halt::Halt;
 use crate::market::Market;
 use crate::pace::Pace;
 use crate::watch::{Progress, Watch, may_go_on};
-use auc_cert::Reason;
+use auc_claim::Reason;
 
 /// Whether bids have run out. Any other ending of a slice is one of its phase.
 fn ran_out(ending: Ending) -> bool

@@ -10,7 +10,7 @@ ghost use Rattle.auc_direct.specs.Starts.{AreKept, AreOpened, ArePricesOf, AreSe
 use crate::bid::Bid;
 use crate::holdings::{Holdings, NOBODY};
 use crate::scan::worth_of;
-use auc_cert::HIGHEST_START;
+use auc_claim::HIGHEST_START;
 use auc_graph::ArcList;
 use auc_rows::FlatRows;
 

@@ -5,7 +5,8 @@ ghost use Rattle.std.specs.Prelude.{◌≡◌, IsTrue};
 ghost use Rattle.auc_messages.specs.Phrases.{out_of_memory, phrase_of_certificate, phrase_of_claim, phrase_of_end, phrase_of_input, phrase_of_problem, phrase_of_reason, phrase_of_refusal, phrase_of_script, phrase_of_start, phrase_of_status, read_failed, too_many_reads};
 ghost use Rattle.auc_messages.specs.Sentences.{is_phrase};
 
-use auc_cert::{CertRefused, CertTextError, Reason, StartError};
+use auc_cert::CertTextError;
+use auc_claim::{CertRefused, Reason, StartError};
 use auc_graph::ReadError;
 use auc_run::status::{BRACKET, BROKEN, INFEASIBLE, NO_MEMORY, REFUSED, UNWRITTEN, USAGE};
 use auc_run::{ReadFault, Refusal, ScriptError};

@@ -10,7 +10,7 @@ ghost use Rattle.auc_messages.specs.Sentences.{is_phrase};
 use crate::forms::{form_told, of_form};
 use crate::phrases::{of_end, of_refusal};
 use crate::spot::{Spot, Subject, spot_of, subject_of};
-use auc_cert::Reason;
+use auc_claim::Reason;
 use auc_place::Place;
 use auc_run::status::{BRACKET, INFEASIBLE, OPTIMAL, UNWRITTEN};
 use auc_run::{Ending, Job, Refusal};

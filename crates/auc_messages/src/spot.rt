@@ -3,7 +3,8 @@
 ghost use Rattle.std.specs.Prelude.{◌≡◌};
 ghost use Rattle.auc_messages.specs.Spots.{last_of, spot_in_claim, spot_in_problem, spot_in_script, spot_of, subject_of, token_of_arc};
 
-use auc_cert::{CertRefused, CertTextError, StartError};
+use auc_cert::CertTextError;
+use auc_claim::{CertRefused, StartError};
 use auc_graph::{MOST_ARCS, ReadError};
 use auc_run::{Job, Refusal, ScriptError};
 

@@ -1,7 +1,6 @@
 -- All of this is the crate's own.
 mod ProblemLaws
 mod VerdictLaws
-mod ScriptLaws
 mod ReplyLaws
 mod CompletionLaws
 mod PriceLaws

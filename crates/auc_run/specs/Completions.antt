@@ -4,12 +4,12 @@ use Rattle.auc_graph.specs.declared.limits.TheConstants.{MOST_PERSONS}
 use Rattle.auc_graph.specs.Problem.{Problem}
 use Rattle.auc_graph.specs.Assignment.{IsAssignment}
 use Rattle.auc_cert.specs.Text.{text, assign_line, numbered, joined}
-use Rattle.auc_cert.specs.Claim.{chosen}
+use Rattle.auc_claim.specs.Claim.{chosen}
 use Rattle.auc_answers.specs.Answers.{IsHallCertificate}
 use Rattle.auc_run.specs.declared.found.Found.{Found}
 use Rattle.auc_run.specs.declared.found.Found.TheVariants.{Full, Hall}
 use Rattle.auc_run.specs.declared.refusal.Refusal.{Refusal}
-use Rattle.auc_run.specs.Lines.{counted}
+use Rattle.auc_cert.specs.Writing.{counted}
 use Rattle.auc_run.specs.Problems.{AreKnown, BearOutRefusal, IsProblemOf}
 
 abbrev pub IsFound : Problem → Found → Type 0

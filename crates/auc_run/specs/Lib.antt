@@ -11,6 +11,4 @@ pub mod Reports
 pub mod Jobs
 pub mod Said
 pub mod Watched
-pub mod Script
-pub mod ScriptLimits
 pub mod Replies

@@ -1,44 +1,12 @@
--- The replies of a mail's calls: which are right for a script, and the lines that the program writes for them.
-use Rattle.std.specs.Prelude.{◌≡◌, ℕ, ◌+◌, true, false, List, ◌++◌, length, codes, Option, Result, Ok, Err, ℤ}
-use Rattle.std.specs.List.{flat_map, zip}
-use Rattle.std.specs.Fmt.{decimal, signed_decimal}
-use Rattle.auc_mail.specs.Mail.{Mail, empty_mail}
-use Rattle.auc_mail.specs.Run.{Run}
-use Rattle.auc_mail.specs.Letters.{HandsOutInOrder, NothingBehindClose}
-use Rattle.auc_mail.specs.declared.call.PostRefused.TheVariants.{Closed, Spent, Full}
-use Rattle.auc_mail.specs.declared.call.Taken.TheVariants.{Letter, Empty, Over}
+-- The replies that a job tells: what the bytes of a script bear out.
+use Rattle.std.specs.Prelude.{ℕ, List, Option, Result, Ok, Err, ℤ}
 use Rattle.auc_mail.specs.declared.call.Reply.{Reply}
-use Rattle.auc_mail.specs.declared.call.Reply.TheVariants.{Posted, Refused, Took, WasOpen}
 use Rattle.auc_run.specs.declared.refusal.Refusal.{Refusal}
 use Rattle.auc_run.specs.declared.refusal.Refusal.TheVariants.{NotRead, NoProblem, NoCertificate, Invalid, NoStart, NoScript, NoMemory as NoMemoryForJob, NoThreads}
-use Rattle.auc_run.specs.declared.script.Script.{Script}
-use Rattle.auc_run.specs.Lines.{counted}
-use Rattle.auc_run.specs.Script.{ReadsAsScript}
+use Rattle.auc_script.specs.declared.script.Script.{Script}
+use Rattle.auc_script.specs.Script.{ReadsAsScript}
+use Rattle.auc_script.specs.Replies.{AreRepliesTo}
 use Rattle.auc_run.specs.Problems.{AreKnown, BearOutInput}
-
--- senders are written from 1 on
-abbrev pub reply_line : Reply ℤ → List ℕ
-reply_line (Posted n) = counted (codes "ok ") n
-reply_line (Refused Closed) = codes "closed\n"
-reply_line (Refused Spent) = codes "spent\n"
-reply_line (Refused Full) = codes "full\n"
-reply_line (Took (Letter s n x)) = codes "letter " ++ decimal (s + 1) ++ codes " " ++ decimal n ++ codes " " ++ signed_decimal x ++ codes "\n"
-reply_line (Took Empty) = codes "empty\n"
-reply_line (Took Over) = codes "over\n"
-reply_line (WasOpen true) = codes "was open\n"
-reply_line (WasOpen false) = codes "was closed\n"
-
-abbrev pub reply_lines : List (Reply ℤ) → List ℕ
-reply_lines replies = flat_map reply_line replies
-
--- The mail of a script may give these replies to its calls: there is one for each, and they are a run from the empty mail. So
--- each box hands out of a sender's items a prefix of what he sent there, and accepts nothing after a close.
-pub record AreRepliesTo (s : Script) (replies : List (Reply ℤ)) : Type 0 where
-  pub one_each : length replies ≡ length s.calls
-  pub last : Mail ℤ
-  pub run : Run (empty_mail s.boxes s.senders s.nodes s.most) (zip s.calls replies) last
-  pub in_order : HandsOutInOrder (zip s.calls replies)
-  pub closed : NothingBehindClose (zip s.calls replies)
 
 -- The bytes of a script bear the replies out, or the refusal. Of a read that failed and of want of memory nothing is known.
 abbrev pub BearOutReplies : List ℕ → Result (List (Reply ℤ)) Refusal → Type 0

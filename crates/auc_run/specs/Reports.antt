@@ -1,8 +1,8 @@
 -- What a job has to tell, or why it was refused: the text that tells it, its status, and the limit that it names.
 use Rattle.std.specs.Prelude.{ℕ, List, Option, Some, None, Result, Ok, Err, ⊤}
-use Rattle.auc_cert.specs.declared.cert.CertParts.{CertParts}
-use Rattle.auc_cert.specs.declared.cert.CertParts.TheVariants.{Optimal, Infeasible, Bracket}
-use Rattle.auc_cert.specs.declared.reason.Reason.{Reason}
+use Rattle.auc_claim.specs.declared.cert.CertParts.{CertParts}
+use Rattle.auc_claim.specs.declared.cert.CertParts.TheVariants.{Optimal, Infeasible, Bracket}
+use Rattle.auc_claim.specs.declared.reason.Reason.{Reason}
 use Rattle.auc_answers.specs.declared.answer.Answer.{Answer}
 use Rattle.auc_run.specs.declared.refusal.Refusal.{Refusal}
 use Rattle.auc_run.specs.declared.report.Report.{Report}
@@ -11,7 +11,7 @@ use Rattle.auc_run.specs.Lines.{refusal_line, valid_line}
 use Rattle.auc_run.specs.Statuses.{refusal_status}
 use Rattle.auc_run.specs.Solutions.{answer_text, answer_status}
 use Rattle.auc_run.specs.Completions.{IsSmall, found_text, found_status}
-use Rattle.auc_run.specs.Replies.{reply_lines}
+use Rattle.auc_script.specs.Replies.{reply_lines}
 
 abbrev pub report_text : Report → List ℕ
 report_text (Solved answer) = answer_text answer

@@ -6,7 +6,7 @@ use Rattle.auc_answers.specs.declared.answer.Answer.{Answer}
 use Rattle.auc_answers.specs.declared.answer.Answer.TheVariants.{Bracket, Broken, Infeasible, Optimal}
 use Rattle.auc_answers.specs.declared.answer.Guard.{Guard}
 use Rattle.auc_answers.specs.declared.answer.Guard.TheVariants.{Check, Fell, Settle, Stall, Stray, Stuck}
-use Rattle.auc_answers.specs.declared.limits.Limits.{Limits}
+use Rattle.auc_phases.specs.declared.limits.Limits.{Limits}
 use Rattle.auc_answers.specs.Answers.{IsAnswer}
 use Rattle.auc_world.specs.Chain.{IsOfRun}
 use Rattle.auc_direct.specs.Endings.{IsLimited}

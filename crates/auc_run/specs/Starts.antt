@@ -1,13 +1,13 @@
 -- A solve that starts from the prices of an old certificate, and which answers are right for the bytes of a problem and of the certificate.
 use Rattle.std.specs.Prelude.{◌≡◌, ◌==◌, ℕ, zero, suc, Bool, true, false, List, length, ℤ, Option, Some, Result, Ok, Err, ⊤, if◌then◌else◌}
 use Rattle.auc_graph.specs.Problem.{Problem}
-use Rattle.auc_cert.specs.declared.cert.CertParts.{CertParts}
-use Rattle.auc_cert.specs.declared.cert.CertParts.TheVariants.{Optimal, Infeasible, Bracket}
-use Rattle.auc_cert.specs.declared.start_error.StartError.{StartError}
-use Rattle.auc_cert.specs.declared.start_error.StartError.TheVariants.{NotSquare, NoPrices, OtherSize, TooHigh, NoMemory as NoMemoryToStart}
+use Rattle.auc_claim.specs.declared.cert.CertParts.{CertParts}
+use Rattle.auc_claim.specs.declared.cert.CertParts.TheVariants.{Optimal, Infeasible, Bracket}
+use Rattle.auc_claim.specs.declared.start_error.StartError.{StartError}
+use Rattle.auc_claim.specs.declared.start_error.StartError.TheVariants.{NotSquare, NoPrices, OtherSize, TooHigh, NoMemory as NoMemoryToStart}
 use Rattle.auc_cert.specs.declared.text_error.CertTextError.TheVariants.{Line, NoMemory as NoMemoryForText}
 use Rattle.auc_cert.specs.CertReading.{IsFirstBadLine}
-use Rattle.auc_cert.specs.Start.{high_price, start_of, start_unless}
+use Rattle.auc_claim.specs.Start.{high_price, start_of, start_unless}
 use Rattle.auc_answers.specs.declared.answer.Answer.{Answer}
 use Rattle.auc_answers.specs.Answers.{IsAnswer}
 use Rattle.auc_world.specs.Chain.{IsOfRun}

@@ -2,15 +2,15 @@
 use Rattle.std.specs.Prelude.{◌≡◌, ℕ, List, length, Option, Result, Ok, Err, ⊤}
 use Rattle.auc_graph.specs.Problem.{Problem}
 use Rattle.auc_graph.specs.Memory.{AnswersUnless}
-use Rattle.auc_cert.specs.declared.cert.CertParts.{CertParts}
-use Rattle.auc_cert.specs.declared.cert.CertParts.TheVariants.{Optimal, Bracket, Infeasible}
-use Rattle.auc_cert.specs.declared.refused.CertRefused.{CertRefused}
-use Rattle.auc_cert.specs.declared.refused.CertRefused.TheVariants.{NoMemory as NoMemoryToCheck}
+use Rattle.auc_claim.specs.declared.cert.CertParts.{CertParts}
+use Rattle.auc_claim.specs.declared.cert.CertParts.TheVariants.{Optimal, Bracket, Infeasible}
+use Rattle.auc_claim.specs.declared.refused.CertRefused.{CertRefused}
+use Rattle.auc_claim.specs.declared.refused.CertRefused.TheVariants.{NoMemory as NoMemoryToCheck}
 use Rattle.auc_cert.specs.declared.text_error.CertTextError.TheVariants.{Line, NoMemory as NoMemoryForText}
-use Rattle.auc_cert.specs.Spelled.{IsSpelled}
+use Rattle.auc_claim.specs.Spelled.{IsSpelled}
 use Rattle.auc_cert.specs.Text.{text}
 use Rattle.auc_cert.specs.CertReading.{IsFirstBadLine}
-use Rattle.auc_cert.specs.Claim.{fault_of, IsAllowed, IsVerdict as IsVerdictOn}
+use Rattle.auc_claim.specs.Claim.{fault_of, IsAllowed, IsVerdict as IsVerdictOn}
 use Rattle.auc_run.specs.declared.refusal.Refusal.{Refusal}
 use Rattle.auc_run.specs.declared.refusal.Refusal.TheVariants.{NotRead, NoProblem, NoCertificate, Invalid, NoStart, NoScript, NoMemory as NoMemoryForJob, NoThreads}
 use Rattle.auc_run.specs.declared.valid.Valid.{Valid}

@@ -2,7 +2,7 @@
 
 ghost use Rattle.std.specs.Prelude.{◌≡◌, ◌≢◌, ◌≤◌, false, IfOk, IfSome, IsErr};
 ghost use Rattle.auc_graph.specs.Reading.{reading};
-ghost use Rattle.auc_cert.specs.Spelled.{IsSpelled};
+ghost use Rattle.auc_claim.specs.Spelled.{IsSpelled};
 ghost use Rattle.auc_run.specs.Verdicts.{Judges, IsVerdict, said_by};
 ghost use Rattle.auc_run.specs.Jobs.{IsInRange, IsPlain, has_second, objects_of, solve_by};
 ghost use Rattle.auc_run.specs.Reports.{IsWritable};
@@ -19,7 +19,8 @@ use crate::refusal::Refusal;
 use crate::report::{Report, tell};
 use crate::solve::answer_in_threads;
 use crate::valid::Valid;
-use auc_cert::{Cert, CertParts, check, read_cert};
+use auc_cert::read_cert;
+use auc_claim::{Cert, CertParts, check};
 use auc_direct::{Onward, Watch};
 use auc_graph::{ArcList, MOST_ARCS, MOST_READS};
 use auc_threads::Gate;
@@ -46,7 +47,7 @@ pub enum Job {
         audit: u32,
         /// How many objects the problem has: to 20,000, and 0 for as many as persons.
         objects: u32,
-        /// Whether it starts from the prices of an old certificate, which the second reader has: see [`auc_cert::start_prices`]; in one hand any
+        /// Whether it starts from the prices of an old certificate, which the second reader has: see [`auc_claim::start_prices`]; in one hand any
         /// prices will do, one for each object, from 0 to 2^60.
         from: bool,
         /// Whether it is solved in one hand, by [`auc_direct::solve_direct`], in place of by messages: then there are no workers and no trail.

@@ -1,7 +1,7 @@
 //! How a job ended.
 
 use crate::refusal::Refusal;
-use auc_cert::Reason;
+use auc_claim::Reason;
 
 /// How a job ended, beside what it wrote.
 #[derive(Clone, Copy, Debug, PartialEq, Eq)]

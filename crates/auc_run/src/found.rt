@@ -1,6 +1,6 @@
 //! What a search for a full assignment finds.
 
-use auc_cert::{Cert, Picks};
+use auc_claim::{Cert, Picks};
 
 /// An arc for each person, or the certificate that there is no assignment.
 #[derive(Debug, Drop)]

@@ -1,7 +1,7 @@
 //! The job of a hall: a problem is read, and each person gets an arc, or persons are named who know too few objects.
 
 ghost use Rattle.std.specs.Prelude.{◌≡◌, ◌≤◌, IfOk};
-ghost use Rattle.auc_cert.specs.Spelled.{AreNamed};
+ghost use Rattle.auc_claim.specs.Spelled.{AreNamed};
 ghost use Rattle.auc_cert.specs.Writing.{Writes};
 ghost use Rattle.auc_run.specs.Completions.{IsFound, IsFoundIn, IsSmall, found_text};
 
@@ -9,7 +9,8 @@ use crate::found::Found;
 use crate::lines::write_counted;
 use crate::problem::problem_of;
 use crate::refusal::Refusal;
-use auc_cert::{Cert, CertParts, Picks, WriteFault, write_cert, write_picks};
+use auc_cert::{WriteFault, write_cert, write_picks};
+use auc_claim::{Cert, CertParts, Picks};
 use auc_graph::{ArcList, Indices, Rows};
 use auc_hall::{Matching, Partial, complete};
 use auc_world::picks_of_matching;

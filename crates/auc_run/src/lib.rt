@@ -6,7 +6,6 @@
 #![tactic(auto)]
 
 mod command;
-mod command_word;
 mod direct;
 mod ending;
 mod found;
@@ -17,17 +16,17 @@ mod lines;
 mod mail;
 mod problem;
 mod refusal;
-mod replies;
 mod report;
-mod script;
-mod script_error;
-mod script_reading;
 mod solve;
 mod start;
 pub mod status;
 mod valid;
 
 pub use auc_direct::{Onward, Progress, Watch};
+pub use auc_script::{
+    Calls, MOST_CALLS, MOST_ITEM, MOST_SCRIPT_BOXES, MOST_SCRIPT_NODES, MOST_SCRIPT_POSTS, Replies,
+    Script, ScriptError, read_script,
+};
 pub use auc_threads::{
     FreeGate, Gate, Ledgers, Mails, PhaseEnd, RunError, Solved, Trails, WorkerSeats, phase_threads,
     solve_threads, solve_threads_from,
@@ -39,11 +38,5 @@ pub use found::Found;
 pub use input::{ReadFault, read_all};
 pub use laws::limits_are;
 pub use refusal::Refusal;
-pub use replies::Replies;
 pub use report::Report;
-pub use script::{
-    Calls, MOST_CALLS, MOST_ITEM, MOST_SCRIPT_BOXES, MOST_SCRIPT_NODES, MOST_SCRIPT_POSTS, Script,
-};
-pub use script_error::ScriptError;
-pub use script_reading::read_script;
 pub use valid::Valid;

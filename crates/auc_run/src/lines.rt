@@ -1,31 +1,18 @@
 //! The line that tells what a claim says, or a refusal.
 
 ghost use Rattle.std.specs.Prelude.{◌+◌};
-ghost use Rattle.auc_cert.specs.Writing.{Writes};
+ghost use Rattle.auc_cert.specs.Writing.{Writes, counted};
 ghost use Rattle.auc_run.specs.declared.valid.Valid.TheVariants.{Optimal, Bracket, Infeasible};
-ghost use Rattle.auc_run.specs.Lines.{counted, input_line, problem_line, certificate_line, claim_line, start_line, script_line, refusal_line, valid_line};
+ghost use Rattle.auc_run.specs.Lines.{input_line, problem_line, certificate_line, claim_line, start_line, script_line, refusal_line, valid_line};
 
 use crate::input::ReadFault;
 use crate::refusal::Refusal;
-use crate::script_error::ScriptError;
 use crate::valid::Valid;
-use auc_cert::{
-    CertRefused, CertTextError, Part, StartError, WriteFault, write_parts, write_whole,
-};
+use auc_cert::{CertTextError, Part, WriteFault, write_counted, write_parts, write_whole};
+use auc_script::ScriptError;
+use auc_claim::{CertRefused, StartError};
 use auc_graph::ReadError;
 use std::io::Write;
-
-/// Writes words, a number and the line end.
-pub(crate) fn write_counted<W: Write>(
-    writer: &mut W,
-    words: &[u8],
-    number: u64,
-) -> Result<(), WriteFault>
-    ensures { Writes result (W.contents writer.old) (W.contents writer.new) (counted words.now number) }
-{
-    let parts = [Part::Words(words), Part::Count(number), Part::LineEnd];
-    write_parts(writer, &parts)
-}
 
 /// Writes the number from 1 on of what is numbered from 0.
 fn write_place<W: Write>(writer: &mut W, words: &[u8], place: u64) -> Result<(), WriteFault>

@@ -5,9 +5,10 @@ ghost use Rattle.auc_run.specs.declared.refusal.Refusal.TheVariants.{NotRead, No
 ghost use Rattle.auc_run.specs.Refusals.{refusal_of_run};
 
 use crate::input::ReadFault;
-use crate::script_error::ScriptError;
-use auc_cert::{CertRefused, CertTextError, StartError};
+use auc_cert::CertTextError;
+use auc_claim::{CertRefused, StartError};
 use auc_graph::ReadError;
+use auc_script::ScriptError;
 use auc_threads::RunError;
 use std::alloc::AllocError;
 

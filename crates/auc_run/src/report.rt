@@ -12,16 +12,16 @@ use crate::hall::write_found;
 use crate::input::ReadFault;
 use crate::lines::{write_refusal, write_valid};
 use crate::refusal::Refusal;
-use crate::replies::{Replies, write_replies};
-use crate::script_error::ScriptError;
 use crate::solve::write_answer;
 use crate::status::{
     BRACKET, BROKEN, FULL, INFEASIBLE, INVALID, NO_MEMORY, OPTIMAL, REFUSED, REPLIED, UNWRITTEN,
     VALID,
 };
 use crate::valid::Valid;
-use auc_cert::{Cert, CertParts, CertRefused, CertTextError, Reason, StartError, WriteFault};
+use auc_cert::{CertTextError, WriteFault};
+use auc_claim::{Cert, CertParts, CertRefused, Reason, StartError};
 use auc_graph::ReadError;
+use auc_script::{Replies, ScriptError, write_replies};
 use auc_world::Answer;
 use std::io::Write;
 

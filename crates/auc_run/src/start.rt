@@ -1,8 +1,8 @@
 //! What a solve starts from: a problem is read, then an old certificate, and of this one the prices.
 
 ghost use Rattle.std.specs.Prelude.{◌≡◌, ◌≤◌, false, length, All, IfOk, IfSome, IsErr};
-ghost use Rattle.auc_cert.specs.declared.start_error.StartError.{StartError};
-ghost use Rattle.auc_cert.specs.Start.{AreStart, IsStartPrice};
+ghost use Rattle.auc_claim.specs.declared.start_error.StartError.{StartError};
+ghost use Rattle.auc_claim.specs.Start.{AreStart, IsStartPrice};
 ghost use Rattle.auc_graph.specs.Memory.{AnswersUnless};
 ghost use Rattle.auc_graph.specs.Price.{IsPrice};
 ghost use Rattle.auc_graph.specs.Reading.{reading};
@@ -12,7 +12,8 @@ ghost use Rattle.auc_run.specs.Starts.{IsStartIn, direct_start_of, each_price, s
 use crate::input::read_all;
 use crate::problem::problem_of;
 use crate::refusal::Refusal;
-use auc_cert::{Cert, CertParts, StartError, high_price, read_cert, start_prices};
+use auc_cert::read_cert;
+use auc_claim::{Cert, CertParts, StartError, high_price, start_prices};
 use auc_graph::{ArcList, MOST_ARCS, MOST_READS};
 use std::alloc::Global;
 use std::io::Read;

@@ -6,8 +6,8 @@ use Rattle.auc_letters.specs.declared.out.Out.{Out}
 use Rattle.auc_letters.specs.Award.{bid_of, bid_out}
 use Rattle.auc_persons.specs.declared.bidding.Bidding.{Bidding}
 use Rattle.auc_persons.specs.Persons.{NextBid, Persons, SameShape, first_idle}
-use Rattle.auc_answers.specs.Shards.{IsPersonShard}
-use Rattle.auc_answers.proofs.ShardLaws.{next_bid_own, persons_shape}
+use Rattle.auc_phases.specs.Shards.{IsPersonShard}
+use Rattle.auc_phases.proofs.ShardLaws.{next_bid_own, persons_shape}
 use Rattle.auc_threads.specs.Taking.{GoesWithin}
 
 pub asked_is : (t : Table) (eps : ℤ) (shards number : ℕ) (s n : Persons) (r : Bidding) → IsPersonShard t shards number s → NextBid t eps s r n → SameShape s n → IsPersonShard t shards number n

@@ -13,7 +13,7 @@ use Rattle.auc_mail.specs.declared.call.Call.{Call}
 use Rattle.auc_mail.specs.declared.call.Taken.{Taken}
 use Rattle.auc_book.specs.Replies.{take_reply}
 use Rattle.auc_book.specs.Seat.{Account, SeatCalls}
-use Rattle.auc_answers.specs.Reasons.{reason_for}
+use Rattle.auc_phases.specs.Reasons.{reason_for}
 use Rattle.auc_threads.specs.declared.calls.Step.{Step}
 use Rattle.auc_threads.specs.Calling.{lines_made}
 use Rattle.auc_threads.specs.Taking.{AfterTake, AfterTakes, Answer, Takes, letter_of}

@@ -11,7 +11,7 @@ use Rattle.auc_mail.specs.declared.call.Taken.{Taken}
 use Rattle.auc_book.specs.declared.error.TrailFull.{TrailFull}
 use Rattle.auc_book.specs.Replies.{close_reply, take_reply}
 use Rattle.auc_book.specs.Seat.{Account, SeatCalls}
-use Rattle.auc_answers.specs.Hub.{Counting}
+use Rattle.auc_phases.specs.Hub.{Counting}
 use Rattle.auc_threads.specs.declared.hub.Heard.{Heard}
 use Rattle.auc_threads.specs.Calling.{Makes, lines_by, lines_made}
 use Rattle.auc_threads.specs.Taking.{Answer, calls_taken, letter_of, letters_in, letters_taken}

@@ -14,8 +14,8 @@ use Rattle.auc_letters.specs.Award.{Sale, answers, awards, bid_letter, is_accept
 use Rattle.auc_letters.specs.Routing.{price_told}
 use Rattle.auc_objects.specs.Objects.{IsBidIn, Objects, Owns, SameShape, after_bid, price_of, sale_of}
 use Rattle.auc_objects.proofs.Sales.{shape_same, shape_sold}
-use Rattle.auc_answers.specs.Boxes.{Reaches}
-use Rattle.auc_answers.proofs.ShardLaws.{answers_reach}
+use Rattle.auc_phases.specs.Boxes.{Reaches}
+use Rattle.auc_phases.proofs.ShardLaws.{answers_reach}
 use Rattle.auc_mail.specs.declared.call.Call.{Call}
 use Rattle.auc_mail.specs.declared.call.Taken.{Taken}
 use Rattle.auc_book.specs.Replies.{take_reply}

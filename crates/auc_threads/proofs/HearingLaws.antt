@@ -11,7 +11,7 @@ use Rattle.auc_persons.specs.declared.bidding.PersonFault.{PersonFault}
 use Rattle.auc_persons.specs.Persons.{OnLetter, Persons, NeverFall, copy_of}
 use Rattle.auc_persons.proofs.Rise.{rises_same}
 use Rattle.auc_book.specs.Seat.{Account}
-use Rattle.auc_answers.specs.Reasons.{reason_for}
+use Rattle.auc_phases.specs.Reasons.{reason_for}
 use Rattle.auc_threads.specs.Taking.{Takes}
 use Rattle.auc_threads.specs.Hearing.{Falls, Hears, HearsOf, IsTold, Tells}
 use Rattle.auc_threads.proofs.TakingLaws.{took_then}

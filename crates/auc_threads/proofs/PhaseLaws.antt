@@ -20,9 +20,9 @@ use Rattle.auc_book.specs.Seat.{Account, new_account}
 use Rattle.auc_book.specs.Settling.{Agrees, IsSettled, IsTrueOf, IsTurnedByFull}
 use Rattle.auc_book.specs.Trail.{IsOwn, lines_of}
 use Rattle.auc_threads.proofs.SenderLaws.{persons_post}
-use Rattle.auc_answers.specs.Shards.{new_objects}
-use Rattle.auc_answers.specs.declared.limits.Limits.{Limits}
-use Rattle.auc_answers.proofs.NewShards.{replicate_default}
+use Rattle.auc_phases.specs.Shards.{new_objects}
+use Rattle.auc_phases.specs.declared.limits.Limits.{Limits}
+use Rattle.auc_answers.proofs.Replicated.{replicate_default}
 use Rattle.auc_threads.specs.Placed.{Placed}
 use Rattle.auc_threads.specs.Gathering.{Gathers, IsOwnShard}
 use Rattle.auc_threads.specs.Phase.{AreCounted, HasPlayed, IsToldBy, IsTrail, price_in, taken_by, unsold}

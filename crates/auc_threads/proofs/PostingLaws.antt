@@ -15,7 +15,7 @@ use Rattle.auc_book.specs.declared.error.TrailFull.{TrailFull}
 use Rattle.auc_book.specs.Replies.{close_reply, post_reply}
 use Rattle.auc_book.specs.Seat.{Account, SeatCalls}
 use Rattle.auc_model.specs.Mails.{box_of}
-use Rattle.auc_answers.specs.Boxes.{Reaches, boxes_in, name_of}
+use Rattle.auc_phases.specs.Boxes.{Reaches, boxes_in, name_of}
 use Rattle.auc_threads.specs.declared.calls.Step.{Step}
 use Rattle.auc_threads.specs.Taking.{GoesWithin}
 use Rattle.auc_threads.proofs.CallingLaws.{makes_as, makes_call, makes_none, makes_then}

@@ -12,7 +12,7 @@ use Rattle.auc_book.specs.declared.line.TrailLine.{TrailLine}
 use Rattle.auc_book.specs.Replies.{close_reply, take_reply}
 use Rattle.auc_book.specs.Trail.{IsOwn, lines_of}
 use Rattle.auc_model.specs.declared.turn.End.{End}
-use Rattle.auc_answers.specs.declared.limits.Limits.{Limits}
+use Rattle.auc_phases.specs.declared.limits.Limits.{Limits}
 use Rattle.auc_threads.specs.declared.settling.Trails.{Trails}
 use Rattle.auc_threads.specs.Calling.{lines_by, lines_made}
 use Rattle.auc_threads.specs.Taking.{Answer, calls_taken}

@@ -6,17 +6,17 @@ use Rattle.auc_graph.specs.Assignment.{IsAssignment, total_cost}
 use Rattle.auc_graph.specs.HallSet.{IsHallSet}
 use Rattle.auc_graph.specs.Problem.{Problem}
 use Rattle.auc_graph.specs.Table.{IsTableOf, Table}
-use Rattle.auc_cert.specs.Claim.{pick_of}
-use Rattle.auc_cert.specs.declared.cert.CertParts.{CertParts}
+use Rattle.auc_claim.specs.Claim.{pick_of}
+use Rattle.auc_claim.specs.declared.cert.CertParts.{CertParts}
 use Rattle.auc_letters.specs.declared.letter.Why.{Why}
 use Rattle.auc_model.specs.declared.turn.End.{End}
 use Rattle.auc_answers.specs.declared.answer.Answer.{Answer}
 use Rattle.auc_answers.specs.declared.answer.Guard.{Guard}
 use Rattle.auc_answers.specs.declared.gathered.Gathered.{Gathered}
-use Rattle.auc_answers.specs.declared.limits.Limits.{Limits}
+use Rattle.auc_phases.specs.declared.limits.Limits.{Limits}
 use Rattle.auc_answers.specs.Answers.{HasAssignment, IsHallCertificate, IsInfeasibleAnswer}
-use Rattle.auc_answers.specs.Begins.{ArePrices, Begins}
-use Rattle.auc_answers.specs.Eps.{next_eps}
+use Rattle.auc_phases.specs.Begins.{ArePrices, Begins}
+use Rattle.auc_phases.specs.Eps.{next_eps}
 use Rattle.auc_answers.specs.Prepared.{NobodyStuck}
 use Rattle.auc_threads.specs.declared.phase.PhaseEnd.{PhaseEnd}
 use Rattle.auc_threads.specs.declared.verdict.Verdict.{Verdict}

@@ -12,8 +12,8 @@ use Rattle.auc_objects.specs.Objects.{Objects}
 use Rattle.auc_book.specs.Seat.{Account, new_account}
 use Rattle.auc_graph.specs.Table.{Table}
 use Rattle.auc_persons.specs.Persons.{Persons}
-use Rattle.auc_answers.specs.Shards.{IsPersonShard, new_objects, new_persons}
-use Rattle.auc_answers.proofs.NewShards.{new_persons_are}
+use Rattle.auc_phases.specs.Shards.{IsPersonShard, new_objects, new_persons}
+use Rattle.auc_phases.proofs.NewShards.{new_persons_are}
 use Rattle.auc_threads.specs.declared.task.Task.{Task}
 use Rattle.auc_threads.specs.Starts.{IsObjectPromise, IsObjectResult, IsObjectStart, IsObjectWork, IsPersonPromise, IsPersonResult, IsPersonStart, IsPersonWork}
 

@@ -11,7 +11,7 @@ use Rattle.auc_book.specs.Seat.{Account, new_account}
 use Rattle.auc_book.specs.declared.line.TrailLine.{TrailLine}
 use Rattle.auc_book.specs.Settling.{IsTrueOf}
 use Rattle.auc_model.specs.declared.turn.End.{End}
-use Rattle.auc_answers.specs.Shards.{new_objects, new_persons}
+use Rattle.auc_phases.specs.Shards.{new_objects, new_persons}
 use Rattle.auc_threads.specs.declared.settling.Trails.{Trails}
 use Rattle.auc_threads.specs.declared.task.Task.{Task}
 use Rattle.auc_threads.specs.Placed.{Placed}

@@ -9,7 +9,7 @@ use Rattle.auc_letters.specs.Routing.{price_told, to_hub, to_person}
 use Rattle.auc_objects.specs.Objects.{Objects, after_bid}
 use Rattle.auc_book.specs.declared.error.CallRefused.{CallRefused}
 use Rattle.auc_book.specs.declared.error.CallRefused.TheVariants as refused
-use Rattle.auc_answers.specs.Shards.{new_objects}
+use Rattle.auc_phases.specs.Shards.{new_objects}
 use Rattle.auc_threads.specs.declared.calls.Step.{Step}
 use Rattle.auc_threads.specs.Posting.{Posts, Sent}
 use Rattle.auc_threads.specs.Dealing.{says}

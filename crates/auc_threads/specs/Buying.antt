@@ -8,7 +8,7 @@ use Rattle.auc_persons.specs.declared.bidding.Bidding.{Bidding}
 use Rattle.auc_persons.specs.declared.bidding.PersonFault.{PersonFault}
 use Rattle.auc_persons.specs.Persons.{NextBid, OnLetter, Persons, Stops, first_idle}
 use Rattle.auc_book.specs.Seat.{Account}
-use Rattle.auc_answers.specs.Reasons.{reason_for}
+use Rattle.auc_phases.specs.Reasons.{reason_for}
 use Rattle.auc_threads.specs.declared.calls.Step.{Step}
 use Rattle.auc_threads.specs.Taking.{AfterTakes, Takes}
 use Rattle.auc_threads.specs.Posting.{PostsAt, first_step}

@@ -7,7 +7,7 @@ use Rattle.auc_mail.specs.declared.call.Taken.{Taken}
 use Rattle.auc_book.specs.declared.error.TrailFull.{TrailFull}
 use Rattle.auc_book.specs.Replies.{close_reply}
 use Rattle.auc_book.specs.Seat.{Account}
-use Rattle.auc_answers.specs.Hub.{Counting}
+use Rattle.auc_phases.specs.Hub.{Counting}
 use Rattle.auc_threads.specs.declared.hub.Heard.{Heard}
 use Rattle.auc_threads.specs.Calling.{Called, Makes}
 use Rattle.auc_threads.specs.Taking.{Answer, calls_taken, letters_taken}

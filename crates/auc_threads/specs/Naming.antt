@@ -1,7 +1,7 @@
 -- The numbers of the three mails of a phase, and the limits that they come from.
 use Rattle.std.specs.Prelude.{◌≡◌, ◌≤◌, ◌+◌, ◌*◌, ℕ}
-use Rattle.auc_answers.specs.Limits.{AreLimits, nodes_or}
-use Rattle.auc_answers.specs.declared.limits.Limits.{Limits}
+use Rattle.auc_phases.specs.Limits.{AreLimits, nodes_or}
+use Rattle.auc_phases.specs.declared.limits.Limits.{Limits}
 use Rattle.auc_book.specs.declared.limits.TheConstants.{MOST_ROOM}
 
 -- how many boxes each mail has, where there are so many shards of each kind

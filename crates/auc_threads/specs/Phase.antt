@@ -11,11 +11,11 @@ use Rattle.auc_book.specs.declared.line.TrailLine.{TrailLine}
 use Rattle.auc_book.specs.Trail.{IsOwn, events_of, lines_of}
 use Rattle.auc_model.specs.declared.turn.End.{End}
 use Rattle.auc_answers.specs.declared.gathered.Gathered.{Gathered}
-use Rattle.auc_answers.specs.declared.limits.Limits.{Limits}
-use Rattle.auc_answers.specs.Begins.{ArePrices}
+use Rattle.auc_phases.specs.declared.limits.Limits.{Limits}
+use Rattle.auc_phases.specs.Begins.{ArePrices}
 use Rattle.auc_threads.specs.declared.phase.PhaseEnd.{PhaseEnd}
 use Rattle.auc_threads.specs.declared.settling.Trails.{Trails}
-use Rattle.auc_answers.specs.Shards.{new_persons}
+use Rattle.auc_phases.specs.Shards.{new_persons}
 use Rattle.auc_persons.specs.Persons.{NeverFall, Persons}
 use Rattle.auc_threads.specs.Buying.{Act, Plays, made_in}
 use Rattle.auc_threads.specs.Taking.{letters_in}

@@ -4,10 +4,10 @@ use Rattle.auc_graph.specs.Problem.{Problem}
 use Rattle.auc_graph.specs.Table.{IsTableOf, Table}
 use Rattle.auc_answers.specs.declared.answer.Answer.{Answer}
 use Rattle.auc_answers.specs.declared.answer.Guard.{Guard}
-use Rattle.auc_answers.specs.declared.limits.Limits.{Limits}
+use Rattle.auc_phases.specs.declared.limits.Limits.{Limits}
 use Rattle.auc_answers.specs.Answers.{HasAssignment, IsBracketCertificate, IsHallCertificate, IsInfeasibleAnswer, IsLeastCertificate}
-use Rattle.auc_answers.specs.Begins.{Begins}
-use Rattle.auc_answers.specs.Eps.{next_eps}
+use Rattle.auc_phases.specs.Begins.{Begins}
+use Rattle.auc_phases.specs.Eps.{next_eps}
 use Rattle.auc_threads.specs.declared.phase.PhaseEnd.{PhaseEnd}
 use Rattle.auc_threads.specs.declared.verdict.Verdict.{Verdict}
 use Rattle.auc_threads.specs.Phase.{IsPhase}

@@ -7,7 +7,7 @@ use Rattle.auc_book.specs.Seat.{Account, new_account}
 use Rattle.auc_graph.specs.Table.{Table}
 use Rattle.auc_persons.specs.Candidates.{Kept, Listed}
 use Rattle.auc_persons.specs.Persons.{Persons}
-use Rattle.auc_answers.specs.Shards.{new_objects, new_persons}
+use Rattle.auc_phases.specs.Shards.{new_objects, new_persons}
 use Rattle.auc_threads.specs.declared.task.Task.{Task}
 use Rattle.auc_threads.specs.Hearing.{Hears, SomebodyStuck}
 use Rattle.auc_threads.specs.declared.calls.Step.{Step}

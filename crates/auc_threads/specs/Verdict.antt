@@ -1,12 +1,12 @@
 -- What a phase comes to for the run, and the answer that the last phase decides.
 use Rattle.std.specs.Prelude.{◌==◌, ◌||◌, ◌≡◌, Bool, true, false, Option, None, Some, Result, Ok, Err}
-use Rattle.auc_cert.specs.declared.reason.Reason.{Reason}
+use Rattle.auc_claim.specs.declared.reason.Reason.{Reason}
 use Rattle.auc_graph.specs.Problem.{Problem}
 use Rattle.auc_model.specs.declared.turn.End.{End}
 use Rattle.auc_answers.specs.declared.answer.Answer.{Answer}
 use Rattle.auc_answers.specs.declared.answer.Guard.{Guard}
 use Rattle.auc_answers.specs.declared.gathered.Gathered.{Gathered}
-use Rattle.auc_answers.specs.declared.limits.Limits.{Limits}
+use Rattle.auc_phases.specs.declared.limits.Limits.{Limits}
 use Rattle.auc_answers.specs.Answers.{IsBracketAnswer, IsOptimalAnswer, stop_of}
 use Rattle.auc_threads.specs.declared.phase.PhaseEnd.{PhaseEnd}
 use Rattle.auc_threads.specs.declared.settling.Trails.{Trails}

@@ -9,8 +9,8 @@ use Rattle.auc_book.specs.Seat.{Account, new_account}
 use Rattle.auc_book.specs.declared.line.TrailLine.{TrailLine}
 use Rattle.auc_book.specs.Settling.{Agrees, IsTurnedByFull}
 use Rattle.auc_model.specs.declared.turn.End.{End}
-use Rattle.auc_answers.specs.Shards.{new_objects, new_persons}
-use Rattle.auc_answers.specs.declared.limits.Limits.{Limits}
+use Rattle.auc_phases.specs.Shards.{new_objects, new_persons}
+use Rattle.auc_phases.specs.declared.limits.Limits.{Limits}
 use Rattle.auc_threads.specs.declared.settling.Trails.{Trails}
 use Rattle.auc_threads.specs.Counting.{Closes, Counts}
 use Rattle.auc_threads.specs.Starts.{IsObjectWork, IsPersonWork}

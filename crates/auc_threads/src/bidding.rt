@@ -4,7 +4,7 @@ ghost use Rattle.std.specs.Prelude.{◌≡◌, ◌≢◌, ◌<◌, All};
 ghost use Rattle.auc_letters.specs.declared.letter.Why.{Why};
 ghost use Rattle.auc_persons.specs.Candidates.{Kept};
 ghost use Rattle.auc_persons.specs.Persons.{NextBid};
-ghost use Rattle.auc_answers.specs.Shards.{IsPersonShard};
+ghost use Rattle.auc_phases.specs.Shards.{IsPersonShard};
 ghost use Rattle.auc_threads.specs.Taking.{GoesWithin};
 ghost use Rattle.auc_threads.specs.Buying.{Asks};
 ghost use Rattle.auc_threads.specs.Hearing.{SomebodyStuck};

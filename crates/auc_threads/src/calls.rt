@@ -8,7 +8,7 @@ ghost use Rattle.auc_threads.specs.Taking.{GoesWithin};
 ghost use Rattle.auc_threads.specs.Posting.{PostsAt, step_after, step_without};
 
 use crate::gate::Gate;
-use auc_answers::reason_to_stop;
+use auc_phases::reason_to_stop;
 use auc_book::{CallRefused, HeldMail, MailBrand, Seat, SharedMail};
 use auc_letters::{Letter, Out, To, Why};
 use auc_mail::PostRefused;

@@ -3,7 +3,7 @@
 ghost use Rattle.std.specs.Prelude.{◌≡◌, ◌≢◌, ◌<◌, [], ◌∷◌, Ok};
 ghost use Rattle.auc_letters.specs.declared.letter.Why.{Why};
 ghost use Rattle.auc_mail.specs.declared.call.Taken.{Taken as ATaken};
-ghost use Rattle.auc_answers.specs.Shards.{IsPersonShard};
+ghost use Rattle.auc_phases.specs.Shards.{IsPersonShard};
 ghost use Rattle.auc_threads.specs.Taking.{AfterTake, letter_of};
 ghost use Rattle.auc_threads.specs.Buying.{Listens, ListensTo};
 ghost use Rattle.auc_threads.specs.Hearing.{Hears, HearsOf};
@@ -11,7 +11,7 @@ ghost use Rattle.auc_threads.specs.Hearing.{Hears, HearsOf};
 use crate::calls::{Step, hold, hold_for};
 use crate::gate::Gate;
 use crate::task::{PhaseRun, Task};
-use auc_answers::reason_for;
+use auc_phases::reason_for;
 use auc_book::{HeldMail, MailBrand, Seat, TrailFull};
 use auc_letters::{Letter, Why};
 use auc_mail::Taken;

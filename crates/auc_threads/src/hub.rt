@@ -5,7 +5,7 @@ ghost use Rattle.auc_mail.specs.declared.call.Taken.{Taken as ATaken};
 ghost use Rattle.auc_threads.specs.Counting.{Closes, Counted, Counts};
 
 use crate::mails::{Mails, WorkerSeats};
-use auc_answers::Hub;
+use auc_phases::Hub;
 use auc_book::{MailBrand, TrailFull};
 use auc_letters::{Letter, Why};
 use auc_mail::Taken;

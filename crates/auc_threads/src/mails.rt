@@ -11,7 +11,7 @@ ghost use Rattle.auc_threads.specs.Placed.{Placed};
 ghost use Rattle.auc_threads.specs.Starts.{AreNewSeats};
 
 use crate::error::RunError;
-use auc_answers::{Limits, nodes_or};
+use auc_phases::{Limits, nodes_or};
 use auc_book::{MailBrand, Seat, SharedMail};
 use auc_letters::Letter;
 use auc_mail::MailError;

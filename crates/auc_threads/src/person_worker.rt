@@ -3,7 +3,7 @@
 ghost use Rattle.std.specs.Prelude.{◌≡◌, ◌<◌};
 ghost use Rattle.auc_letters.specs.declared.letter.Why.{Why};
 ghost use Rattle.auc_persons.specs.Candidates.{Kept};
-ghost use Rattle.auc_answers.specs.Shards.{IsPersonShard};
+ghost use Rattle.auc_phases.specs.Shards.{IsPersonShard};
 ghost use Rattle.auc_threads.specs.Buying.{Buys};
 ghost use Rattle.auc_threads.specs.Hearing.{Hears, SomebodyStuck};
 ghost use Rattle.auc_threads.specs.Starts.{IsPersonWork};

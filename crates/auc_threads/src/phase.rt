@@ -3,7 +3,7 @@
 ghost use Rattle.std.specs.Prelude.{ℕ, ◌≡◌, ◌*◌, length, IfOk, vec_len};
 ghost use Rattle.auc_letters.specs.Price.{IsEps};
 ghost use Rattle.auc_book.specs.Seat.{new_account};
-ghost use Rattle.auc_answers.specs.Begins.{ArePrices};
+ghost use Rattle.auc_phases.specs.Begins.{ArePrices};
 ghost use Rattle.auc_threads.specs.Counting.{Closes, Counts};
 ghost use Rattle.auc_threads.specs.Naming.{AreThreadLimits, IsNamed, IsUnopened, hub_nodes, objects_nodes, persons_nodes, workers_of};
 ghost use Rattle.auc_threads.specs.Phase.{IsPhase};
@@ -17,7 +17,8 @@ use crate::mails::{Ledgers, Mails};
 use crate::running::{Works, run_in_scope, starts_of};
 use crate::settling::{Trails, seats_of, settle_all};
 use crate::task::{PhaseRun, Task};
-use auc_answers::{Gathered, Limits};
+use auc_answers::Gathered;
+use auc_phases::Limits;
 use auc_book::MailBrand;
 use auc_graph::Rows;
 use auc_model::End;

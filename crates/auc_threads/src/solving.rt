@@ -2,11 +2,11 @@
 
 ghost use Rattle.std.specs.Prelude.{◌≡◌, ◌<ℤ◌, ◌↔◌, [], ◌∷◌, ◌++◌, IfOk, OnOk, IfSome, IfNone, Some, None, Option, List, ℤ};
 ghost use Rattle.auc_graph.specs.Table.{IsTableOf};
-ghost use Rattle.auc_cert.specs.Start.{AreStart};
+ghost use Rattle.auc_claim.specs.Start.{AreStart};
 ghost use Rattle.auc_letters.specs.Price.{IsEps};
 ghost use Rattle.auc_answers.specs.Answers.{HasAssignment};
-ghost use Rattle.auc_answers.specs.Begins.{ArePrices, Begins};
-ghost use Rattle.auc_answers.specs.Eps.{next_eps};
+ghost use Rattle.auc_phases.specs.Begins.{ArePrices, Begins};
+ghost use Rattle.auc_phases.specs.Eps.{next_eps};
 ghost use Rattle.auc_answers.specs.Prepared.{NobodyStuck};
 ghost use Rattle.auc_threads.specs.Naming.{AreThreadLimits};
 ghost use Rattle.auc_threads.specs.Solved.{IsInfeasible, IsSolvedBy, IsThreadAnswer};
@@ -15,7 +15,8 @@ use crate::error::RunError;
 use crate::gate::Gate;
 use crate::phase::{PhaseEnd, phase_threads};
 use crate::verdict::{Verdict, decide, verdict_of};
-use auc_answers::{Answer, LAST_EPS, Limits, Prepared, first_eps, next_eps, prepare};
+use auc_answers::{Answer, Prepared, prepare};
+use auc_phases::{LAST_EPS, Limits, first_eps, next_eps};
 use auc_graph::{ArcList, Rows};
 use auc_hall::hall_sets_leave_no_assignment;
 use std::alloc::{AllocError, Global};
@@ -142,7 +143,7 @@ pub fn solve_threads<R: Threads + Wait + Sync, G: Gate + Sync>(
 }
 
 /// Solves a problem as [`solve_threads`] does, but from start prices, in one phase at the last eps: see [`auc_world::solve_serial_from`],
-/// and [`auc_cert::start_prices`] for those of an old certificate. They are scaled costs, indexed by object, from 0 to 2^60, and as many as the
+/// and [`auc_claim::start_prices`] for those of an old certificate. They are scaled costs, indexed by object, from 0 to 2^60, and as many as the
 /// persons.
 ///
 /// # Errors

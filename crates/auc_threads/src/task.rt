@@ -1,11 +1,11 @@
 //! What a phase is run on, and where it runs: one of the two is passed by reference to each function of a phase.
 
 ghost use Rattle.auc_letters.specs.Price.{IsEps};
-ghost use Rattle.auc_answers.specs.Begins.{ArePrices};
+ghost use Rattle.auc_phases.specs.Begins.{ArePrices};
 ghost use Rattle.auc_threads.specs.Naming.{AreBoxes, AreThreadLimits};
 
 use crate::mails::Mails;
-use auc_answers::Limits;
+use auc_phases::Limits;
 use auc_book::MailBrand;
 use auc_graph::Rows;
 

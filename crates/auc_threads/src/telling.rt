@@ -1,7 +1,7 @@
 //! What a worker of the objects says of the bids that it has dealt with.
 
 ghost use Rattle.std.specs.Prelude.{◌≡◌, ◌<◌, [], ◌∷◌, false, All};
-ghost use Rattle.auc_answers.specs.Boxes.{Reaches};
+ghost use Rattle.auc_phases.specs.Boxes.{Reaches};
 ghost use Rattle.auc_threads.specs.Posting.{Says, is_to_hub};
 
 use crate::calls::{Step, hold, post, send};

@@ -3,13 +3,14 @@
 ghost use Rattle.std.specs.Prelude.{◌≡◌, ◌≢◌, length, All, IfOk, Some};
 ghost use Rattle.auc_graph.specs.Table.{IsTableOf};
 ghost use Rattle.auc_graph.specs.Price.{IsPrice};
-ghost use Rattle.auc_answers.specs.Begins.{ArePrices};
+ghost use Rattle.auc_phases.specs.Begins.{ArePrices};
 ghost use Rattle.auc_threads.specs.Verdict.{Decides, verdict_of};
 
 use crate::phase::PhaseEnd;
 use auc_answers::finish::{bracket, optimal, stop_of};
-use auc_answers::{Answer, Gathered, Guard, Limits};
-use auc_cert::Reason;
+use auc_answers::{Answer, Gathered, Guard};
+use auc_phases::Limits;
+use auc_claim::Reason;
 use auc_graph::{ArcList, Rows};
 use auc_model::End;
 use std::alloc::{AllocError, Global};

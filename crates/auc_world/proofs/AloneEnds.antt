@@ -4,7 +4,7 @@ use Rattle.std.specs.Prelude.{ℤ, pos, ◌≤ℤ◌, All, replicate}
 use Rattle.std.proofs.lemmas.Bool.{eq-eqb, ne_eqb}
 use Rattle.std.proofs.lemmas.List.{get_or-set_same, length-replicate, length-set}
 use Rattle.std.proofs.lemmas.List.Elements.{All-from_get_or}
-use Rattle.auc_cert.specs.declared.reason.Reason.{Reason}
+use Rattle.auc_claim.specs.declared.reason.Reason.{Reason}
 use Rattle.auc_letters.specs.declared.letter.Letter.{Letter}
 use Rattle.auc_letters.specs.declared.state.Held.{Held}
 use Rattle.auc_letters.specs.Persons.{persons_of}
@@ -20,9 +20,9 @@ use Rattle.auc_persons.specs.Candidates.{Kept, Listed}
 use Rattle.auc_persons.proofs.Shortlists.{kept_rises}
 use Rattle.auc_answers.specs.declared.gathered.Gathered.{Gathered}
 use Rattle.auc_answers.specs.Answers.{why_of}
-use Rattle.auc_answers.specs.Limits.{nodes_or}
-use Rattle.auc_answers.specs.Shards.{new_objects, new_persons, no_objects, no_persons}
-use Rattle.auc_answers.proofs.NewShards.{replicate_default}
+use Rattle.auc_phases.specs.Limits.{nodes_or}
+use Rattle.auc_phases.specs.Shards.{new_objects, new_persons, no_objects, no_persons}
+use Rattle.auc_answers.proofs.Replicated.{replicate_default}
 use Rattle.auc_world.specs.declared.solving.Outcome.{Outcome}
 use Rattle.auc_world.specs.Alone.{Alone, MailsTell, lane, one_box}
 use Rattle.auc_world.specs.AlonePhase.{Given, IsGiven, IsGoing, IsStopped, begun}

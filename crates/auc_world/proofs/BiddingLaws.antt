@@ -15,8 +15,8 @@ use Rattle.auc_model.specs.Mails.{PersonShard, with_outbox}
 use Rattle.auc_model.specs.World.{World}
 use Rattle.auc_model.specs.declared.turn.TurnReply.{TurnReply}
 use Rattle.auc_model.proofs.Tables.{first_and_rest}
-use Rattle.auc_answers.specs.Shards.{IsPersonShard, no_persons}
-use Rattle.auc_answers.specs.Boxes.{Reaches}
+use Rattle.auc_phases.specs.Shards.{IsPersonShard, no_persons}
+use Rattle.auc_phases.specs.Boxes.{Reaches}
 use Rattle.auc_world.specs.Parts.{AreParts, MayAskForBid, Parts, persons_at, phase, world_of}
 use Rattle.auc_world.proofs.WorldOf.{outbox_seen, seen_bid, seen_stop}
 

@@ -1,10 +1,10 @@
 -- From the holders of a counted world to a certificate that passes the checker.
 use Rattle.std.proofs.Common.{ℕ, ℤ, pos, ◌+◌, ◌<◌, ◌≡◌, ◌⊎◌, inl, inr, arith, List, length, get_or, Option, Some, None, Contains, refl, sym, subst, ◌∙◌}
 use Rattle.std.specs.Prelude.{All, map}
-use Rattle.auc_cert.specs.declared.cert.CertParts.TheVariants.{Optimal}
-use Rattle.auc_cert.specs.Claim.{pick_of}
-use Rattle.auc_cert.proofs.ClaimLaws.{faultless_is_allowed}
-use Rattle.auc_cert.proofs.Converse.{assignment_spelled, slack_right_faultless}
+use Rattle.auc_claim.specs.declared.cert.CertParts.TheVariants.{Optimal}
+use Rattle.auc_claim.specs.Claim.{pick_of}
+use Rattle.auc_claim.proofs.ClaimLaws.{faultless_is_allowed}
+use Rattle.auc_claim.proofs.Converse.{assignment_spelled, slack_right_faultless}
 use Rattle.auc_graph.specs.declared.arc.Arc.{Arc}
 use Rattle.auc_graph.specs.Assignment.{IsAssignment, object_of, total_cost}
 use Rattle.auc_graph.specs.Dual.{IsNoPriceLeft, IsSlackRight, scale_of}

@@ -15,15 +15,15 @@ use Rattle.std.proofs.lemmas.Bool.{cases_lt}
 use Rattle.std.proofs.lemmas.Bool.Decides.{nat_tests}
 use Rattle.auc_model.proofs.Unheld.{unheld_schedule}
 use Rattle.auc_objects.specs.Objects.{Objects, price_of}
-use Rattle.auc_answers.specs.Limits.{AreLimits}
-use Rattle.auc_answers.proofs.NewShards.{replicate_default}
+use Rattle.auc_phases.specs.Limits.{AreLimits}
+use Rattle.auc_answers.proofs.Replicated.{replicate_default}
 use Rattle.auc_answers.specs.declared.answer.Answer.{Answer}
 use Rattle.auc_answers.specs.declared.gathered.Gathered.{Gathered}
-use Rattle.auc_answers.specs.declared.limits.Limits.{Limits}
+use Rattle.auc_phases.specs.declared.limits.Limits.{Limits}
 use Rattle.auc_answers.specs.Answers.{HasAssignment, IsAnswer, IsBracketAnswer, IsCertified, IsOptimalAnswer, why_of}
-use Rattle.auc_answers.specs.Begins.{Begins}
+use Rattle.auc_phases.specs.Begins.{Begins}
 use Rattle.auc_answers.specs.Claims.{ArePlaceable, BoundFits, HasNoPriceUnheld, HoldsAt, IsChoiceOf, NobodyHoldsTwo, claim_of, holder_at}
-use Rattle.auc_answers.specs.Eps.{first_eps, next_eps}
+use Rattle.auc_phases.specs.Eps.{first_eps, next_eps}
 use Rattle.auc_answers.proofs.BracketLaws.{bound_fits, holders_price_few}
 use Rattle.auc_answers.proofs.FoundLaws.{one_choice, person_at}
 use Rattle.auc_world.specs.Making.{IsMade}
@@ -44,9 +44,9 @@ use Rattle.auc_world.specs.Phases.{IsPlayed, Leaves, Stage}
 use Rattle.auc_hall.proofs.ProblemLaws.{length-rows, row_is, stands_for}
 use Rattle.auc_graph.specs.Row.{row}
 use Rattle.auc_graph.specs.declared.rows.RowArc.{RowArc}
-use Rattle.auc_cert.specs.declared.reason.Reason.{Reason}
+use Rattle.auc_claim.specs.declared.reason.Reason.{Reason}
 use Rattle.auc_world.proofs.Bridge.{counted_are_certified}
-use Rattle.auc_cert.specs.Claim.{pick_of}
+use Rattle.auc_claim.specs.Claim.{pick_of}
 use Rattle.std.specs.List.{slice_get}
 
 -- ---- one phase more

@@ -3,7 +3,7 @@ use Rattle.std.proofs.Common.{ℕ, ℤ, pos, ◌+◌, ◌%◌, ◌<◌, ◌≤�
 use Rattle.std.proofs.lemmas.Bool.{cases_lt}
 use Rattle.std.proofs.lemmas.List.{get_or_append_left, get_or_past, get_or_push, length-append}
 use Rattle.auc_letters.specs.declared.state.Held.{Held}
-use Rattle.auc_answers.specs.Shards.{no_objects}
+use Rattle.auc_phases.specs.Shards.{no_objects}
 use Rattle.auc_world.specs.Gathering.{AreSales}
 use Rattle.auc_world.specs.Parts.{AreParts, Parts, world_of}
 

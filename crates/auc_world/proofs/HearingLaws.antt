@@ -11,9 +11,9 @@ use Rattle.auc_model.specs.Hearing.{Falls, FitsAnswer, FitsLetter, PersonTakeTur
 use Rattle.auc_model.specs.World.{ended}
 use Rattle.auc_model.specs.declared.turn.End.{End}
 use Rattle.auc_model.specs.declared.turn.TurnReply.{TurnReply}
-use Rattle.auc_answers.specs.Reasons.{reason_for}
-use Rattle.auc_answers.specs.Hub.{ending}
-use Rattle.auc_answers.specs.Shards.{IsPersonShard, no_persons}
+use Rattle.auc_phases.specs.Reasons.{reason_for}
+use Rattle.auc_phases.specs.Hub.{ending}
+use Rattle.auc_phases.specs.Shards.{IsPersonShard, no_persons}
 use Rattle.auc_world.specs.Mails.{Letters, TakesOne}
 use Rattle.auc_world.specs.Parts.{AreParts, Parts, persons_at, phase, world_of}
 use Rattle.auc_world.proofs.BiddingLaws.{same_persons}

@@ -8,7 +8,7 @@ use Rattle.auc_mail.specs.declared.call.Reply.{Reply}
 use Rattle.auc_model.specs.Hub.{HubCloseTurn, HubTakeTurn, closes, counted, hub_after, takes}
 use Rattle.auc_model.specs.declared.turn.MailName.{MailName}
 use Rattle.auc_model.specs.declared.turn.TurnReply.{TurnReply}
-use Rattle.auc_answers.specs.Hub.{Counting, counting, hearing}
+use Rattle.auc_phases.specs.Hub.{Counting, counting, hearing}
 use Rattle.auc_world.specs.Mails.{Letters, TakesOne, named, with_named}
 use Rattle.auc_world.specs.Parts.{IsOpenBox, Parts, phase, world_of}
 use Rattle.auc_world.proofs.WorldOf.{letters_of, with_letters}

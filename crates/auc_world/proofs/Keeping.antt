@@ -17,9 +17,9 @@ use Rattle.auc_persons.specs.declared.bidding.Bidding.{Bidding}
 use Rattle.auc_persons.specs.declared.bidding.PersonFault.{PersonFault}
 use Rattle.auc_persons.specs.Persons.{Persons, SameShape as SamePersons, NextBid, OnLetter}
 use Rattle.auc_model.specs.declared.turn.MailName.{MailName}
-use Rattle.auc_answers.specs.Boxes.{Reaches, boxes_in}
-use Rattle.auc_answers.specs.Shards.{IsObjectShard, IsPersonShard, no_objects, no_persons}
-use Rattle.auc_answers.proofs.ShardLaws.{answers_reach, hears_own, next_bid_own, objects_shape, persons_shape}
+use Rattle.auc_phases.specs.Boxes.{Reaches, boxes_in}
+use Rattle.auc_phases.specs.Shards.{IsObjectShard, IsPersonShard, no_objects, no_persons}
+use Rattle.auc_phases.proofs.ShardLaws.{answers_reach, hears_own, next_bid_own, objects_shape, persons_shape}
 use Rattle.auc_world.specs.Mails.{Mails, named, with_named}
 use Rattle.auc_world.specs.Parts.{AreMails, AreParts, IsMail, Parts, objects_at, persons_at}
 

@@ -12,8 +12,8 @@ use Rattle.auc_model.proofs.Theorems.{of_every_schedule}
 use Rattle.auc_persons.specs.Candidates.{KeepsListed, Kept, Listed}
 use Rattle.auc_persons.specs.Persons.{Persons, NeverFall}
 use Rattle.auc_persons.proofs.Shortlists.{kept_rises}
-use Rattle.auc_answers.specs.declared.limits.Limits.{Limits}
-use Rattle.auc_answers.specs.Shards.{no_persons}
+use Rattle.auc_phases.specs.declared.limits.Limits.{Limits}
+use Rattle.auc_phases.specs.Shards.{no_persons}
 use Rattle.auc_world.specs.Gathering.{IsGathered}
 use Rattle.auc_world.specs.Lists.{AreKept, MayKeep}
 use Rattle.auc_world.specs.Making.{IsMade}

@@ -17,12 +17,13 @@ use Rattle.auc_persons.specs.Persons.{Persons, copy_of, state_of}
 use Rattle.auc_model.specs.Start.{Lawful, Starts, UsualNodes, free_in, occurs}
 use Rattle.auc_model.specs.World.{phase_of}
 use Rattle.auc_model.proofs.Tables.{occurs_persons, table_lawful}
-use Rattle.auc_answers.specs.declared.limits.Limits.{Limits}
-use Rattle.auc_answers.specs.Limits.{AreLimits, nodes_or}
-use Rattle.auc_answers.specs.Begins.{ArePrices}
-use Rattle.auc_answers.specs.Shards.{IsObjectShard, IsPersonShard, no_objects, no_persons}
-use Rattle.auc_answers.specs.Boxes.{Reaches}
-use Rattle.auc_answers.proofs.NewShards.{new_persons_are, replicate_default}
+use Rattle.auc_phases.specs.declared.limits.Limits.{Limits}
+use Rattle.auc_phases.specs.Limits.{AreLimits, nodes_or}
+use Rattle.auc_phases.specs.Begins.{ArePrices}
+use Rattle.auc_phases.specs.Shards.{IsObjectShard, IsPersonShard, no_objects, no_persons}
+use Rattle.auc_phases.specs.Boxes.{Reaches}
+use Rattle.auc_answers.proofs.Replicated.{replicate_default}
+use Rattle.auc_phases.proofs.NewShards.{new_persons_are}
 use Rattle.auc_world.specs.Making.{IsMade}
 use Rattle.auc_world.specs.Parts.{AreParts, IsMail, Parts, phase, world_of}
 

@@ -1,6 +1,6 @@
 -- What a phase comes to: of all stops only those by a limit, and never a stall.
 use Rattle.std.proofs.Common.{ℕ, ℤ, pos, ◌<◌, ◌≡◌, List, Option, Some, None, sym, subst, ap, ◌∙◌, arith}
-use Rattle.auc_cert.specs.declared.reason.Reason.{Reason}
+use Rattle.auc_claim.specs.declared.reason.Reason.{Reason}
 use Rattle.std.specs.Prelude.{Ok, Err, All, ◌<ℤ◌, replicate, unsigned_abs}
 use Rattle.std.proofs.lemmas.Int.{ints}
 use Rattle.std.proofs.lemmas.List.{get_or-replicate, length-replicate}
@@ -19,9 +19,9 @@ use Rattle.auc_graph.specs.Price.{IsPrice}
 use Rattle.auc_letters.specs.Price.{IsEps}
 use Rattle.auc_answers.specs.declared.answer.Guard.{Guard}
 use Rattle.auc_answers.specs.declared.gathered.Gathered.{Gathered}
-use Rattle.auc_answers.specs.declared.limits.Limits.{Limits}
+use Rattle.auc_phases.specs.declared.limits.Limits.{Limits}
 use Rattle.auc_answers.specs.Answers.{stop_of, why_of}
-use Rattle.auc_answers.specs.Begins.{ArePrices}
+use Rattle.auc_phases.specs.Begins.{ArePrices}
 use Rattle.auc_answers.specs.Prepared.{NobodyStuck}
 use Rattle.auc_world.specs.declared.solving.Outcome.{Outcome}
 use Rattle.auc_world.specs.Gathering.{AreSales, IsGathered}

@@ -15,8 +15,8 @@ use Rattle.auc_model.specs.Posting.{MayPost, PostTurn, drops_price, keeps_letter
 use Rattle.auc_model.specs.World.{World, ended}
 use Rattle.auc_model.specs.declared.turn.End.{End}
 use Rattle.auc_model.specs.declared.turn.TurnReply.{TurnReply}
-use Rattle.auc_answers.specs.Hub.{ending}
-use Rattle.auc_answers.specs.Boxes.{Reaches, name_of}
+use Rattle.auc_phases.specs.Hub.{ending}
+use Rattle.auc_phases.specs.Boxes.{Reaches, name_of}
 use Rattle.auc_world.specs.declared.post_office.posting.Posted.{Posted}
 use Rattle.auc_world.specs.Mails.{Letters, Mails, named, with_named}
 use Rattle.auc_world.specs.Parts.{AreParts, Parts, outbox_at, phase, world_of}

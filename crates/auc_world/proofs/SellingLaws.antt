@@ -15,9 +15,9 @@ use Rattle.auc_model.specs.Put.{put}
 use Rattle.auc_model.specs.World.{World}
 use Rattle.auc_model.specs.declared.turn.End.{End}
 use Rattle.auc_model.specs.declared.turn.TurnReply.{TurnReply}
-use Rattle.auc_answers.specs.Hub.{ending}
-use Rattle.auc_answers.specs.Shards.{IsObjectShard, no_objects}
-use Rattle.auc_answers.specs.Boxes.{Reaches}
+use Rattle.auc_phases.specs.Hub.{ending}
+use Rattle.auc_phases.specs.Shards.{IsObjectShard, no_objects}
+use Rattle.auc_phases.specs.Boxes.{Reaches}
 use Rattle.auc_world.specs.Mails.{Letters, TakesOne}
 use Rattle.auc_world.specs.Parts.{AreParts, MayAnswer, OwnsObject, Parts, objects_at, phase, world_of}
 use Rattle.auc_world.proofs.WorldOf.{letters_of, seen_sold, with_letters, with_mails}

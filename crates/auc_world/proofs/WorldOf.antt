@@ -14,7 +14,7 @@ use Rattle.auc_model.specs.Put.{put, put2}
 use Rattle.auc_model.proofs.Places.{put_at, put_off}
 use Rattle.auc_model.specs.Hearing as hearing
 use Rattle.auc_model.proofs.Dealt.{shards_set, shards_same, both_set, both_same, numbers_set, numbers_same}
-use Rattle.auc_answers.specs.Shards.{IsPersonShard, no_objects, no_persons}
+use Rattle.auc_phases.specs.Shards.{IsPersonShard, no_objects, no_persons}
 use Rattle.auc_world.specs.Mails.{Letters, Mails}
 use Rattle.auc_world.specs.Parts.{Parts, objects_at, outbox_at, persons_at, phase, world_of}
 

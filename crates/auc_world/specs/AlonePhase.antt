@@ -10,9 +10,9 @@ use Rattle.auc_letters.specs.Price.{IsEps}
 use Rattle.auc_model.specs.Schedule.{Reached}
 use Rattle.auc_model.specs.World.{Phase, World, phase_of}
 use Rattle.auc_model.specs.declared.turn.End.{End}
-use Rattle.auc_answers.specs.declared.limits.Limits.{Limits}
-use Rattle.auc_answers.specs.Begins.{ArePrices}
-use Rattle.auc_answers.specs.Limits.{AreLimits}
+use Rattle.auc_phases.specs.declared.limits.Limits.{Limits}
+use Rattle.auc_phases.specs.Begins.{ArePrices}
+use Rattle.auc_phases.specs.Limits.{AreLimits}
 use Rattle.auc_answers.specs.Prepared.{NobodyStuck}
 use Rattle.auc_world.specs.declared.alone.told.Told.{Told}
 use Rattle.auc_world.specs.Alone.{Alone, Going, Halfway, first_of, firsts_of, freed_by, sale_at, told_of, told_of_sale}

@@ -4,18 +4,18 @@ use Rattle.auc_graph.specs.declared.arc.Arc.{Arc}
 use Rattle.auc_graph.specs.Assignment.{IsAssignment}
 use Rattle.auc_graph.specs.Problem.{Problem}
 use Rattle.auc_graph.specs.Table.{IsTableOf, Table}
-use Rattle.auc_cert.specs.declared.reason.Reason.{Reason}
-use Rattle.auc_cert.specs.declared.cert.CertParts.{CertParts}
+use Rattle.auc_claim.specs.declared.reason.Reason.{Reason}
+use Rattle.auc_claim.specs.declared.cert.CertParts.{CertParts}
 use Rattle.auc_model.specs.Chosen.{ArePricesOf, IsHeldArc}
 use Rattle.auc_model.specs.World.{World}
 use Rattle.auc_model.specs.declared.turn.End.{End}
 use Rattle.auc_letters.specs.declared.state.Held.{Held}
 use Rattle.auc_answers.specs.declared.answer.Answer.{Answer}
-use Rattle.auc_answers.specs.declared.limits.Limits.{Limits}
+use Rattle.auc_phases.specs.declared.limits.Limits.{Limits}
 use Rattle.auc_answers.specs.Answers.{why_of}
 use Rattle.auc_answers.specs.Claims.{GrowsFrom, IsBracketBy, claim_of, holder_at, picks_of}
-use Rattle.auc_answers.specs.Eps.{next_eps}
-use Rattle.auc_answers.specs.Begins.{Begins}
+use Rattle.auc_phases.specs.Eps.{next_eps}
+use Rattle.auc_phases.specs.Begins.{Begins}
 use Rattle.auc_world.specs.Phases.{IsPlayed, Stage}
 
 -- a phase at this eps and these prices comes after r: every person had an object there, the eps is the next one, and the prices are those

@@ -3,7 +3,7 @@ use Rattle.std.specs.Prelude.{ℕ, ◌<◌, ◌≡◌, ℤ, List, [], ⊤, lengt
 use Rattle.auc_graph.specs.Table.{Table}
 use Rattle.auc_persons.specs.Candidates.{Kept, Listed}
 use Rattle.auc_persons.specs.Persons.{Persons}
-use Rattle.auc_answers.specs.Shards.{no_persons}
+use Rattle.auc_phases.specs.Shards.{no_persons}
 use Rattle.auc_world.specs.declared.solving.Outcome.{Outcome}
 
 -- the lists of each shard are right at its copies

@@ -2,9 +2,9 @@
 use Rattle.std.specs.Prelude.{ℕ, ◌+◌, ◌*◌, ◌<◌, ◌≡◌, ℤ, false, List, [], None, length, All, replicate, slice_index_or}
 use Rattle.auc_graph.specs.Table.{Table}
 use Rattle.auc_mail.specs.Mail.{empty_mail}
-use Rattle.auc_answers.specs.declared.limits.Limits.{Limits}
-use Rattle.auc_answers.specs.Shards.{new_objects, new_persons, no_objects, no_persons}
-use Rattle.auc_answers.specs.Limits.{nodes_or}
+use Rattle.auc_phases.specs.declared.limits.Limits.{Limits}
+use Rattle.auc_phases.specs.Shards.{new_objects, new_persons, no_objects, no_persons}
+use Rattle.auc_phases.specs.Limits.{nodes_or}
 use Rattle.auc_world.specs.Parts.{Parts}
 
 -- the parts of a new world

@@ -9,9 +9,9 @@ use Rattle.auc_persons.specs.Persons.{Persons, copy_of, state_of}
 use Rattle.auc_objects.specs.Objects.{Objects, price_of, holder_of}
 use Rattle.auc_model.specs.World.{Phase, World, phase_of}
 use Rattle.auc_model.specs.Mails.{Shard}
-use Rattle.auc_answers.specs.Hub.{Counting}
-use Rattle.auc_answers.specs.Boxes.{Reaches}
-use Rattle.auc_answers.specs.Shards.{IsObjectShard, IsPersonShard, no_objects, no_persons}
+use Rattle.auc_phases.specs.Hub.{Counting}
+use Rattle.auc_phases.specs.Boxes.{Reaches}
+use Rattle.auc_phases.specs.Shards.{IsObjectShard, IsPersonShard, no_objects, no_persons}
 use Rattle.auc_world.specs.Mails.{Mails}
 
 -- The rows of the problem, how many shards there are of each kind, and eps; the shards; the outboxes of the shards of the

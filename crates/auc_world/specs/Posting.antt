@@ -10,7 +10,7 @@ use Rattle.auc_letters.specs.declared.letter.Why.{Why}
 use Rattle.auc_letters.specs.declared.out.Out.{Out}
 use Rattle.auc_model.specs.Mails.{box_of}
 use Rattle.auc_model.specs.Posting.{is_price, reason}
-use Rattle.auc_answers.specs.Boxes.{name_of}
+use Rattle.auc_phases.specs.Boxes.{name_of}
 use Rattle.auc_world.specs.declared.post_office.posting.Posted.{Posted}
 use Rattle.auc_world.specs.Mails.{Letters, Mails, named, outbox_of, with_named}
 

@@ -2,8 +2,8 @@
 //! theorems.
 
 ghost use Rattle.std.specs.Prelude.{true, ℕ, ℤ, pos, ◌<◌, ◌≤◌, ◌≤ℤ◌, ◌≡◌, ◌≢◌, ◌⊎◌, List, [], ◌∷◌, Some, None, All, Contains, length, map};
-ghost use Rattle.auc_cert.specs.declared.cert.CertParts.TheVariants.{Optimal};
-ghost use Rattle.auc_cert.specs.Claim.{pick_of};
+ghost use Rattle.auc_claim.specs.declared.cert.CertParts.TheVariants.{Optimal};
+ghost use Rattle.auc_claim.specs.Claim.{pick_of};
 ghost use Rattle.auc_graph.specs.declared.arc.Arc.{Arc};
 ghost use Rattle.auc_graph.specs.declared.rows.RowArc.{RowArc};
 ghost use Rattle.auc_graph.specs.Assignment.{IsAssignment, total_cost};

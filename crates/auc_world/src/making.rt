@@ -2,7 +2,7 @@
 
 ghost use Rattle.std.specs.Prelude.{ℕ, ℤ, List, ◌≡◌, ◌<◌, length, All, slice_index_or, IfOk};
 ghost use Rattle.auc_graph.specs.Price.{IsPrice};
-ghost use Rattle.auc_answers.specs.Shards.{new_objects, new_persons, no_objects, no_persons};
+ghost use Rattle.auc_phases.specs.Shards.{new_objects, new_persons, no_objects, no_persons};
 ghost use Rattle.auc_world.specs.Lists.{MayKeep};
 
 use auc_graph::Rows;

@@ -3,7 +3,7 @@
 ghost use Rattle.std.specs.Prelude.{◌≡◌, ◌≤◌, ◌<◌, ◌+◌, ◌*◌, [], ◌∷◌, length, slice_set, All, IsTrue, ◌↔◌, IfOk};
 ghost use Rattle.auc_graph.specs.declared.limits.TheConstants.{MOST_PERSONS};
 ghost use Rattle.auc_mail.specs.Mail.{empty_mail};
-ghost use Rattle.auc_answers.specs.Limits.{AreLimits, nodes_or};
+ghost use Rattle.auc_phases.specs.Limits.{AreLimits, nodes_or};
 ghost use Rattle.auc_world.specs.Mails.{outbox_of};
 
 mod boxes;
@@ -15,7 +15,7 @@ use crate::post_office::making::{new_mail, new_outboxes};
 use crate::post_office::outbox::Outbox;
 pub(crate) use crate::post_office::posting::Posted;
 use arrayvec::ArrayVec;
-use auc_answers::{Limits, nodes_or};
+use auc_phases::{Limits, nodes_or};
 use auc_letters::{Letter, Out};
 use auc_mail::MailPool;
 use std::alloc::{AllocError, Global};

@@ -2,11 +2,11 @@
 
 ghost use Rattle.std.specs.Prelude.{◌≡◌, IfOk, List, ℤ, Option, Some, None};
 ghost use Rattle.auc_graph.specs.Table.{IsTableOf};
-ghost use Rattle.auc_cert.specs.Start.{AreStart};
+ghost use Rattle.auc_claim.specs.Start.{AreStart};
 ghost use Rattle.auc_letters.specs.Price.{IsEps};
 ghost use Rattle.auc_answers.specs.Answers.{HasAssignment, IsAnswer};
-ghost use Rattle.auc_answers.specs.Begins.{ArePrices, Begins, MayBegin};
-ghost use Rattle.auc_answers.specs.Limits.{AreLimits};
+ghost use Rattle.auc_phases.specs.Begins.{ArePrices, Begins, MayBegin};
+ghost use Rattle.auc_phases.specs.Limits.{AreLimits};
 ghost use Rattle.auc_answers.specs.Prepared.{NobodyStuck};
 ghost use Rattle.auc_world.specs.Chain.{IsOfRun};
 ghost use Rattle.auc_world.specs.Lists.{MayKeep, StayKept};
@@ -17,10 +17,9 @@ use crate::alone::task::may_play_alone;
 use crate::making::new_bidders;
 use crate::world::World;
 use auc_answers::finish::{bracket, optimal, stop_of};
-use auc_answers::{
-    Answer, Gathered, Guard, LAST_EPS, Limits, Prepared, first_eps, next_eps, prepare,
-};
-use auc_cert::Reason;
+use auc_answers::{Answer, Gathered, Guard, Prepared, prepare};
+use auc_phases::{LAST_EPS, Limits, first_eps, next_eps};
+use auc_claim::Reason;
 use auc_graph::{ArcList, Rows};
 use auc_model::End;
 use auc_persons::Bidder;
@@ -174,7 +173,7 @@ pub fn solve_serial(alloc: Global, problem: &ArcList, limits: &Limits) -> Result
 }
 
 /// Solves a problem as [`solve_serial`] does, but from start prices, such as those of a certificate of the same problem with other costs
-/// ([`auc_cert::start_prices`]): in one phase, at the last eps.
+/// ([`auc_claim::start_prices`]): in one phase, at the last eps.
 ///
 /// The start prices are scaled costs, indexed by object, from 0 to 2^60, and as many as the persons. The answer is as good from any
 /// of them; good ones spare bids, and bad ones cost them.

@@ -1,10 +1,10 @@
 //! Random problems: what is claimed is what the solver by letters claims.
 
 ghost use Rattle.std.specs.Prelude.{IfOk};
-ghost use Rattle.auc_answers.specs.Limits.{AreLimits};
+ghost use Rattle.auc_phases.specs.Limits.{AreLimits};
 
 use crate::texts::{AMPLE, answered, text_of};
-use auc_answers::Limits;
+use auc_phases::Limits;
 use auc_graph::{Arc, ArcList};
 use auc_letters::MOST_SHARDS;
 use auc_mail::MOST_NODES;

@@ -1,7 +1,8 @@
 //! Where bids at eps 1 would go on for billions, since many want few objects: paths end that within a few. With objects to spare there is no other phase, so these tests tell.
 
 use crate::texts::{AMPLE, answered, problem_of, text_of};
-use auc_cert::{read_cert, start_prices};
+use auc_cert::read_cert;
+use auc_claim::start_prices;
 use auc_direct::{DirectLimits, solve_direct_from};
 use auc_graph::{Arc, ArcList};
 use std::test::*;

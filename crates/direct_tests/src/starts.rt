@@ -1,7 +1,8 @@
 //! Solves that start from prices.
 
 use crate::texts::{AMPLE, answered_from, prices_of, problem_of, text_of};
-use auc_cert::{read_cert, start_prices};
+use auc_cert::read_cert;
+use auc_claim::start_prices;
 use auc_direct::{DirectLimits, solve_direct_from};
 use std::test::*;
 

@@ -1,7 +1,8 @@
 //! Problems and answers as texts.
 
 use auc_answers::Answer;
-use auc_cert::{CertParts, check, write_cert};
+use auc_cert::write_cert;
+use auc_claim::{CertParts, check};
 use auc_direct::{DirectLimits, may_start, solve_direct, solve_direct_from};
 use auc_graph::{ArcList, MOST_OBJECTS, ReadLimits, read_arcs};
 use std::test::*;

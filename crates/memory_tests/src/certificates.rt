@@ -3,9 +3,8 @@
 use crate::marks::refuse_one;
 use crate::problems::{ONE_OBJECT, problem_of};
 use crate::same::assert_same;
-use auc_cert::{
-    CertRefused, CertTextError, StartError, check, read_cert, start_prices, write_cert,
-};
+use auc_cert::{CertTextError, read_cert, write_cert};
+use auc_claim::{CertRefused, StartError, check, start_prices};
 use std::alloc::Global;
 use std::test::*;
 

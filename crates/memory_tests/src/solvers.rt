@@ -1,14 +1,15 @@
 //! Worlds, and the solver without threads.
 
 ghost use Rattle.std.specs.Prelude.{◌≡◌, IfOk};
-ghost use Rattle.auc_answers.specs.Begins.{ArePrices};
+ghost use Rattle.auc_phases.specs.Begins.{ArePrices};
 ghost use Rattle.auc_threads.specs.Naming.{AreThreadLimits};
 
 use crate::marks::refuse_one;
 use crate::problems::{LONG, ONE_OBJECT, THREE, problem_of};
 use crate::same::assert_same;
 use auc_book::MOST_ROOM;
-use auc_cert::{read_cert, start_prices, write_cert};
+use auc_cert::{read_cert, write_cert};
+use auc_claim::start_prices;
 use auc_graph::Rows;
 use auc_letters::MOST_SHARDS;
 use auc_mail::MOST_NODES;

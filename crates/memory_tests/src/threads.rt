@@ -8,7 +8,8 @@ use crate::problems::{THREE, problem_of};
 use crate::same::assert_same;
 use crate::solvers::{OLD, limits_of, text_of};
 use auc_book::MailBrand;
-use auc_cert::{read_cert, start_prices};
+use auc_cert::read_cert;
+use auc_claim::start_prices;
 use auc_graph::Rows;
 use auc_threads::{
     FreeGate, Ledgers, Mails, RunError, Solved, phase_threads, solve_threads, solve_threads_from,

@@ -3,10 +3,8 @@
 use crate::fakes::{Full, Picky};
 use crate::said::{ONE_OBJECT, ONE_OBJECT_CERT, TWO, TWO_BEST, TWO_BRACKET};
 use crate::same::assert_same;
-use auc_cert::{
-    Cert, CertParts, CertRefused, CertTextError, Pick, Picks, Prices, Reason, WriteFault,
-    assignments_pass, brackets_pass, check, hall_sets_pass, read_cert, write_cert,
-};
+use auc_cert::{CertTextError, WriteFault, read_cert, write_cert};
+use auc_claim::{Cert, CertParts, CertRefused, Pick, Picks, Prices, Reason, assignments_pass, brackets_pass, check, hall_sets_pass};
 use auc_graph::{Indices, ReadLimits, read_arcs};
 use std::test::*;
 

@@ -5,9 +5,8 @@ ghost use Rattle.std.specs.Prelude.{◌≡◌, ◌≤◌};
 use crate::certificates::is_text_of;
 use crate::said::TWO;
 use crate::same::assert_same;
-use auc_cert::{
-    Cert, CertParts, CertRefused, CertTextError, Pick, Picks, Prices, Reason, check, read_cert,
-};
+use auc_cert::{CertTextError, read_cert};
+use auc_claim::{Cert, CertParts, CertRefused, Pick, Picks, Prices, Reason, check};
 use auc_graph::{ArcList, Indices, ReadError, ReadLimits, read_arcs};
 use std::test::*;
 

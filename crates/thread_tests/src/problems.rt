@@ -4,7 +4,8 @@ ghost use Rattle.std.specs.Prelude.{◌≡◌, IfOk};
 ghost use Rattle.auc_threads.specs.Naming.{AreThreadLimits};
 
 use auc_book::MOST_ROOM;
-use auc_cert::{check, read_cert, start_prices, write_cert};
+use auc_cert::{read_cert, write_cert};
+use auc_claim::{check, start_prices};
 use auc_graph::{ArcList, ReadLimits, read_arcs};
 use auc_letters::MOST_SHARDS;
 use auc_mail::MOST_NODES;

@@ -2,7 +2,8 @@
 
 use crate::problems::{NO_OBJECT, ONE, ONE_OBJECT, THREE, TWO, in_range, problem_of};
 use crate::same::assert_same;
-use auc_cert::{check, write_cert};
+use auc_cert::write_cert;
+use auc_claim::check;
 use auc_graph::ArcList;
 use auc_world::{Answer, Limits, solve_serial};
 use std::test::*;

@@ -2,7 +2,7 @@
 
 use crate::problems::{TWO, problem_of};
 use crate::same::assert_same;
-use auc_cert::Reason;
+use auc_claim::Reason;
 use auc_graph::Rows;
 use auc_letters::{Held, Why};
 use auc_world::finish::{bracket, optimal, stop_of};

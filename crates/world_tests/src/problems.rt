@@ -2,7 +2,7 @@
 
 ghost use Rattle.std.specs.Prelude.{◌≡◌, All, IfOk};
 ghost use Rattle.auc_graph.specs.Price.{IsPrice};
-ghost use Rattle.auc_answers.specs.Limits.{AreLimits};
+ghost use Rattle.auc_phases.specs.Limits.{AreLimits};
 
 use auc_graph::{ArcList, ReadLimits, Rows, read_arcs};
 use auc_letters::MOST_SHARDS;

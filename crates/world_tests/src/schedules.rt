@@ -6,7 +6,7 @@ use crate::numbers::Numbers;
 use crate::problems::{THREE, TWO, in_range, problem_of, world_of};
 use crate::rounds::play_rounds;
 use crate::same::assert_same;
-use auc_cert::CertParts;
+use auc_claim::CertParts;
 use auc_graph::{ArcList, Rows};
 use auc_letters::Held;
 use auc_model::{End, MailName, Turn};

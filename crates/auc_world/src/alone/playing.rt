@@ -2,8 +2,8 @@
 
 ghost use Rattle.std.specs.Prelude.{◌≡◌, IfOk};
 ghost use Rattle.auc_letters.specs.Price.{IsEps};
-ghost use Rattle.auc_answers.specs.Begins.{ArePrices};
-ghost use Rattle.auc_answers.specs.Limits.{AreLimits};
+ghost use Rattle.auc_phases.specs.Begins.{ArePrices};
+ghost use Rattle.auc_phases.specs.Limits.{AreLimits};
 ghost use Rattle.auc_answers.specs.Prepared.{NobodyStuck};
 ghost use Rattle.auc_world.specs.AlonePhase.{MayPlayAlone};
 ghost use Rattle.auc_world.specs.Lists.{MayKeep, StayKept};
@@ -13,7 +13,7 @@ use crate::alone::kept::AloneWorld;
 use crate::alone::rounds::Played;
 use crate::alone::task::Task;
 use crate::solving::Outcome;
-use auc_answers::Limits;
+use auc_phases::Limits;
 use auc_graph::Rows;
 use auc_persons::Bidder;
 use std::alloc::{AllocError, Global};

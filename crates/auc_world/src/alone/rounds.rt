@@ -8,7 +8,7 @@ ghost use Rattle.auc_world.specs.AlonePhase.{IsGoing, IsHalfway, IsStopped, left
 
 use crate::alone::kept::AloneWorld;
 use crate::alone::task::Task;
-use auc_cert::Reason;
+use auc_claim::Reason;
 use auc_graph::MOST_PRICE;
 use auc_persons::Bidder;
 

@@ -2,12 +2,12 @@
 
 ghost use Rattle.std.specs.Prelude.{◌≡◌, ◌↔◌, IsTrue};
 ghost use Rattle.auc_letters.specs.Price.{IsEps};
-ghost use Rattle.auc_answers.specs.Begins.{ArePrices};
-ghost use Rattle.auc_answers.specs.Limits.{AreLimits};
+ghost use Rattle.auc_phases.specs.Begins.{ArePrices};
+ghost use Rattle.auc_phases.specs.Limits.{AreLimits};
 ghost use Rattle.auc_answers.specs.Prepared.{NobodyStuck};
 ghost use Rattle.auc_world.specs.AlonePhase.{IsGiven, MayPlayAlone};
 
-use auc_answers::Limits;
+use auc_phases::Limits;
 use auc_graph::Rows;
 use std::marker::Model;
 

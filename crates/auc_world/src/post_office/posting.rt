@@ -3,12 +3,12 @@
 ghost use Rattle.std.specs.Prelude.{◌≡◌, ◌<◌, length, IfSome, IfNone};
 ghost use Rattle.auc_mail.specs.Step.{Fits, Step, reply_to_post};
 ghost use Rattle.auc_letters.specs.declared.out.Out.{Out};
-ghost use Rattle.auc_answers.specs.Boxes.{name_of};
+ghost use Rattle.auc_phases.specs.Boxes.{name_of};
 ghost use Rattle.auc_world.specs.Mails.{with_named};
 ghost use Rattle.auc_world.specs.Posting.{Leaves, Posts, StandsFirst, Stays, mail_for, post_of};
 
 use crate::post_office::PostOffice;
-use auc_answers::reason_to_stop;
+use auc_phases::reason_to_stop;
 use auc_letters::{Out, To, Why};
 use auc_mail::PostRefused;
 

@@ -8,7 +8,7 @@ ghost use Rattle.auc_model.specs.Selling.{FitsBid, ObjectTakeTurn, TellTurn};
 ghost use Rattle.auc_model.specs.declared.turn.Turn.{Turn};
 ghost use Rattle.auc_objects.specs.Answers.{letters_of};
 ghost use Rattle.auc_objects.specs.Objects.{IsBidIn, Owns, after_bid, price_of, sale_of};
-ghost use Rattle.auc_answers.specs.Boxes.{Reaches};
+ghost use Rattle.auc_phases.specs.Boxes.{Reaches};
 ghost use Rattle.auc_world.specs.Parts.{AreParts, MayAnswer, OwnsObject, SamePhase, objects_at, phase, world_of};
 ghost use Rattle.auc_world.specs.Rounds.{Plays};
 

@@ -2,8 +2,8 @@ use Rattle.std.proofs.Common.{ap, rules, subst, sym, ◌∙◌, List, w64}
 use Rattle.std.specs.Int.{w128}
 use Rattle.std.specs.Prelude.{FitsSigned}
 use Rattle.std.proofs.lemmas.Int.{to_z-of_z}
-use Rattle.auc_cert.specs.declared.lists.Pick.{Pick}
-use Rattle.auc_cert.specs.Claim.{chosen}
+use Rattle.auc_claim.specs.declared.lists.Pick.{Pick}
+use Rattle.auc_claim.specs.Claim.{chosen}
 use Rattle.auc_graph.specs.Assignment.{total_cost}
 use Rattle.auc_graph.proofs.DualLaws.{each_has_arc}
 use Rattle.auc_answers.proofs.BracketLaws.{bound_is, bracket_is, cost_fits, few_picks}

@@ -1,6 +1,6 @@
 use Rattle.std.proofs.Common.{subst, sym, ◌≡◌, List, Option}
 use Rattle.std.proofs.lemmas.Bool.{false≢true}
-use Rattle.auc_cert.specs.Claim.{chosen}
+use Rattle.auc_claim.specs.Claim.{chosen}
 use Rattle.auc_graph.specs.Assignment.{IsAssignment}
 use Rattle.auc_letters.specs.declared.state.Held.{Held}
 use Rattle.auc_answers.specs.Answers.{IsCertified}

@@ -4,8 +4,8 @@ use Rattle.std.proofs.lemmas.Int.{to_z-of_z}
 use Rattle.auc_graph.specs.declared.arc.Arc.{Arc}
 use Rattle.auc_graph.specs.Problem.{IsProblem}
 use Rattle.auc_graph.specs.InMemory.{objects_or, problem_from}
-use Rattle.auc_cert.specs.declared.cert.CertParts.{CertParts}
-use Rattle.auc_cert.specs.Claim.{chosen}
+use Rattle.auc_claim.specs.declared.cert.CertParts.{CertParts}
+use Rattle.auc_claim.specs.Claim.{chosen}
 use Rattle.auc_call.specs.Memory.{AreAt}
 use Rattle.auc_call.specs.Checking.{AreClaimSizes}
 use Rattle.auc_call.proofs.MadeLaws.{made_of}

@@ -1,5 +1,5 @@
 use Rattle.std.proofs.Common.{◌≡◌, length, take}
-use Rattle.auc_cert.specs.Claim.{chosen}
+use Rattle.auc_claim.specs.Claim.{chosen}
 use Rattle.auc_call.specs.Memory.{AreAt}
 use Rattle.auc_call.proofs.picking.picks_at.Given as goal
 

@@ -1,5 +1,5 @@
 use Rattle.std.proofs.Common.{◌≡◌, length, map, take}
-use Rattle.auc_cert.specs.declared.lists.Pick.{Pick}
+use Rattle.auc_claim.specs.declared.lists.Pick.{Pick}
 use Rattle.auc_call.proofs.quick.put_objects.Given as goal
 
 abbrev pub invariant-loop-person : goal.invariant-loop-person

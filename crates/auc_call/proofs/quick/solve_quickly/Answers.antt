@@ -4,8 +4,8 @@ use Rattle.std.specs.Prelude.{FitsSigned, ℤ}
 use Rattle.std.proofs.lemmas.Int.{to_z-of_z}
 use Rattle.auc_graph.specs.Assignment.{total_cost}
 use Rattle.auc_graph.specs.Reading.{problem}
-use Rattle.auc_cert.specs.declared.lists.Pick.{Pick}
-use Rattle.auc_cert.specs.Claim.{chosen}
+use Rattle.auc_claim.specs.declared.lists.Pick.{Pick}
+use Rattle.auc_claim.specs.Claim.{chosen}
 use Rattle.auc_call.specs.Naming.{ByObjects}
 use Rattle.auc_call.specs.Shown.{IsLeastAt}
 use Rattle.auc_call.specs.Table.{table_arcs}

@@ -2,7 +2,7 @@ use Rattle.std.proofs.Common.{pos, get_or, rules, sym, ◌∙◌, arith, w64}
 use Rattle.std.specs.Prelude.{FitsSigned}
 use Rattle.std.proofs.lemmas.Int.{to_z-of_z}
 use Rattle.auc_call.specs.Start.{is_outside}
-use Rattle.auc_cert.proofs.ClaimLaws.{place_is, no_place}
+use Rattle.auc_claim.proofs.ClaimLaws.{place_is, no_place}
 use Rattle.auc_call.proofs.start.outside.Goals as goal
 
 pub returns-then-is_outside : goal.returns-then-is_outside

@@ -1,7 +1,7 @@
 use Rattle.std.proofs.Common.{w64, subst, sym, List, ◌+◌}
 use Rattle.std.specs.Prelude.{FitsSigned, ℤ}
 use Rattle.std.proofs.lemmas.Int.{to_z-of_z}
-use Rattle.auc_cert.specs.declared.lists.Pick.{Pick}
+use Rattle.auc_claim.specs.declared.lists.Pick.{Pick}
 use Rattle.auc_call.specs.Tried.{AreBest, IsBestIn}
 use Rattle.auc_call.proofs.TriedLaws.{best_more}
 use Rattle.auc_call.proofs.trying.best_picks.Goals as goal

@@ -1,7 +1,7 @@
 use Rattle.std.proofs.Common.{◌≡◌, refl, ℕ, arith, length, List, ap, subst, w64}
 use Rattle.std.specs.Prelude.{FitsSigned, ℤ, All}
 use Rattle.std.proofs.lemmas.Int.{to_z-of_z}
-use Rattle.auc_cert.specs.declared.lists.Pick.{Pick}
+use Rattle.auc_claim.specs.declared.lists.Pick.{Pick}
 use Rattle.auc_call.specs.Tried.{AreBest, AreHeldApart, AreOthersFree, IsPlainPrice}
 use Rattle.auc_call.proofs.TriedLaws.{apart}
 use Rattle.auc_call.proofs.trying.try_out.Goals as goal

@@ -2,7 +2,7 @@ use Rattle.std.proofs.Common.{◌+◌}
 use Rattle.std.proofs.lemmas.Result.{err_from_is_err_and}
 use Rattle.auc_cert.specs.Text.{assign_line, price_line}
 use Rattle.auc_graph.specs.Price.{IsPrice}
-use Rattle.auc_cert.specs.Spelled.{IsPick}
+use Rattle.auc_claim.specs.Spelled.{IsPick}
 use Rattle.auc_cert.specs.Runs.{From, BreaksOff}
 use Rattle.auc_cert.specs.CertReading.{IsFirstBadOf, ChoiceLines}
 use Rattle.auc_cert.proofs.CertLaws.{at_line, some_left, none_left}

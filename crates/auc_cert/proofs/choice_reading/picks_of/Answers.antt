@@ -1,5 +1,5 @@
 use Rattle.std.proofs.Common.{refl, sym, arith}
-use Rattle.auc_cert.specs.Spelled.{IsPick}
+use Rattle.auc_claim.specs.Spelled.{IsPick}
 use Rattle.auc_cert.specs.Text.{assign_line}
 use Rattle.auc_cert.proofs.RunLaws.{breaks_off, no_pick, pick_more}
 use Rattle.auc_cert.proofs.choice_reading.picks_of.Goals as goal

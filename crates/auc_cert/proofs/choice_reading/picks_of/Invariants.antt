@@ -1,5 +1,5 @@
 use Rattle.auc_cert.specs.Runs.{IsRun}
-use Rattle.auc_cert.specs.Spelled.{IsPick}
+use Rattle.auc_claim.specs.Spelled.{IsPick}
 use Rattle.auc_cert.specs.Text.{assign_line}
 use Rattle.auc_cert.proofs.choice_reading.picks_of.Given as goal
 

@@ -1,7 +1,7 @@
 use Rattle.std.proofs.Common.{◌+◌}
 use Rattle.std.specs.Prelude.{codes}
 use Rattle.std.proofs.lemmas.Result.{err_from_is_err_and}
-use Rattle.auc_cert.specs.Spelled.{most_in}
+use Rattle.auc_claim.specs.Spelled.{most_in}
 use Rattle.auc_cert.specs.SecondLine.{least_last}
 use Rattle.auc_cert.specs.Runs.{From, BreaksRising}
 use Rattle.auc_cert.specs.CertReading.{IsFirstBadOf, NameLines}

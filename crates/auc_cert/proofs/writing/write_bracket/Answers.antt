@@ -1,7 +1,7 @@
 use Rattle.std.proofs.Common.{◌∷◌, length, w64, rules}
 use Rattle.std.specs.Prelude.{FitsSigned as SFits}
 use Rattle.std.proofs.lemmas.Int.{to_z-of_z}
-use Rattle.auc_cert.specs.Spelled.{choice_version}
+use Rattle.auc_claim.specs.Spelled.{choice_version}
 use Rattle.auc_cert.specs.Text.{bracket_line, head_line, joined, choice_lines}
 use Rattle.auc_cert.proofs.WriteLaws.{two_parts, cut_in_head, cut}
 use Rattle.auc_cert.proofs.writing.write_bracket.Goals as goal

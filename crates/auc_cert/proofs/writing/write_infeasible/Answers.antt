@@ -1,5 +1,5 @@
 use Rattle.std.proofs.Common.{◌∷◌, length}
-use Rattle.auc_cert.specs.Spelled.{names_version}
+use Rattle.auc_claim.specs.Spelled.{names_version}
 use Rattle.auc_cert.specs.Text.{head_line, joined, numbered, infeasible_line, person_line, object_line, name_lines}
 use Rattle.auc_cert.proofs.WriteLaws.{two_parts, two_lists, cut_in_head, cut_in_first, cut_in_rest, cut}
 use Rattle.auc_cert.proofs.writing.write_infeasible.Goals as goal

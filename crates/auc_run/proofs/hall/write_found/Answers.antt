@@ -2,7 +2,7 @@ use Rattle.std.proofs.Common.{◌++◌, length}
 use Rattle.std.specs.Prelude.{codes}
 use Rattle.auc_cert.specs.Text.{assign_line, joined, numbered}
 use Rattle.auc_cert.proofs.WriteLaws.{begins_front, behind, cut}
-use Rattle.auc_run.specs.Lines.{counted}
+use Rattle.auc_cert.specs.Writing.{counted}
 use Rattle.auc_run.proofs.hall.write_found.Goals as goal
 
 pub returns-in_err-write_counted-in-Full : goal.returns-in_err-write_counted-in-Full

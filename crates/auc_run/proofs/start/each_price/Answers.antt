@@ -1,5 +1,5 @@
 use Rattle.std.proofs.Common.{◌≡◌, All, List, ℤ, rules, subst, sym}
-use Rattle.auc_cert.specs.Start.{IsStartPrice}
+use Rattle.auc_claim.specs.Start.{IsStartPrice}
 use Rattle.auc_run.proofs.PriceLaws.{none_too_high}
 use Rattle.auc_run.proofs.start.each_price.Goals as goal
 

@@ -1,6 +1,6 @@
 use Rattle.std.proofs.Common.{◌≡◌, All}
 use Rattle.auc_persons.specs.Candidates.{Kept}
-use Rattle.auc_answers.specs.Shards.{IsPersonShard}
+use Rattle.auc_phases.specs.Shards.{IsPersonShard}
 use Rattle.auc_threads.specs.declared.calls.Step.{Step}
 use Rattle.auc_threads.specs.Buying.{Asks}
 use Rattle.auc_threads.specs.Taking.{GoesWithin}

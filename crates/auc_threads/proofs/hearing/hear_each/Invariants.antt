@@ -1,4 +1,4 @@
-use Rattle.auc_answers.specs.Shards.{IsPersonShard}
+use Rattle.auc_phases.specs.Shards.{IsPersonShard}
 use Rattle.auc_threads.specs.declared.calls.Step.{Step}
 use Rattle.auc_threads.specs.Buying.{Listens}
 use Rattle.auc_threads.specs.Hearing.{Hears}

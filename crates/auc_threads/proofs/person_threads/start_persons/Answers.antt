@@ -3,7 +3,7 @@ use Rattle.std.specs.Prelude.{FitsSigned}
 use Rattle.std.proofs.lemmas.Int.{to_z-of_z}
 use Rattle.std.specs.Vec.Iter.{into_iter_items}
 use Rattle.auc_persons.specs.Candidates.{Kept}
-use Rattle.auc_answers.specs.Shards.{IsPersonShard}
+use Rattle.auc_phases.specs.Shards.{IsPersonShard}
 use Rattle.auc_threads.proofs.PlacedLaws.{placed_more, placed_uncons}
 use Rattle.auc_threads.proofs.StartsLaws.{person_promised, person_shard}
 use Rattle.auc_threads.proofs.person_threads.start_persons.Goals as goal

@@ -1,6 +1,6 @@
 use Rattle.std.specs.Prelude.{unsigned_abs}
 use Rattle.auc_letters.specs.Price.{IsEps}
-use Rattle.auc_answers.specs.Begins.{ArePrices}
+use Rattle.auc_phases.specs.Begins.{ArePrices}
 use Rattle.auc_threads.proofs.SolvedLaws.{IsReady}
 use Rattle.auc_threads.proofs.solving.solve_rows.Given as goal
 

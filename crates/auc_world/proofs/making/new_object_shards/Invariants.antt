@@ -1,5 +1,5 @@
 use Rattle.std.proofs.Common.{ℕ, ◌≡◌, ◌<◌, length, get_or}
-use Rattle.auc_answers.specs.Shards.{new_objects, no_objects}
+use Rattle.auc_phases.specs.Shards.{new_objects, no_objects}
 use Rattle.auc_world.proofs.making.new_object_shards.Given as goal
 
 abbrev pub invariant-loop-shard : goal.invariant-loop-shard

@@ -2,8 +2,8 @@ use Rattle.std.proofs.Common.{◌+◌, ◌*◌, arith, refl, ap, ◌∙◌, w64}
 use Rattle.std.proofs.lemmas.Grind.{common_steps}
 use Rattle.std.proofs.lemmas.Int.{to_z-of_z}
 use Rattle.auc_mail.specs.Mail.{empty_mail}
-use Rattle.auc_answers.specs.Hub.{Counting}
-use Rattle.auc_answers.specs.Limits.{nodes_or}
+use Rattle.auc_phases.specs.Hub.{Counting}
+use Rattle.auc_phases.specs.Limits.{nodes_or}
 use Rattle.auc_world.proofs.ListLaws.{kept_made}
 use Rattle.auc_world.proofs.Made.{made_are}
 use Rattle.auc_world.proofs.world.World.assemble.Goals as goal

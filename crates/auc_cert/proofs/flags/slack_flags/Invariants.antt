@@ -1,6 +1,0 @@
-use Rattle.std.proofs.Common.{take}
-use Rattle.auc_cert.specs.Claim.{is_slack_right, AreFlags}
-use Rattle.auc_cert.proofs.flags.slack_flags.Given as goal
-
-abbrev pub invariant-loop-arc : goal.invariant-loop-arc
-invariant-loop-arc l = AreFlags (is_slack_right l.scale l.prices (take l.arc-index l.arcs)) l.choice l.flags.items

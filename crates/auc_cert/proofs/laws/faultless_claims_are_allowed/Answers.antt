@@ -1,5 +1,0 @@
-use Rattle.auc_cert.proofs.ClaimLaws.{faultless_is_allowed}
-use Rattle.auc_cert.proofs.laws.faultless_claims_are_allowed.Goals as goal
-
-pub returns : goal.returns
-returns c = faultless_is_allowed

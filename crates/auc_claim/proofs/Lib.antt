@@ -1,0 +1,13 @@
+-- for use above
+pub mod ClaimLaws
+pub mod HallLaws
+pub mod Converse
+pub mod RisingLaws
+pub mod VersionLaws
+-- for this crate
+mod CostSums
+mod ValueLaws
+mod RepeatLaws
+mod FlagLaws
+mod SlackLaws
+mod StartLaws

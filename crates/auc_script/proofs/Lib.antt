@@ -1,0 +1,2 @@
+mod ScriptLaws
+mod ReplyLaws

@@ -1,13 +1,12 @@
 -- Which sizes and names the text of a version has.
-use Rattle.std.proofs.Common.{◌≡◌, ℕ, ◌+◌, ◌≤◌, ◌<◌, true, false, nat_lt, eqb, eq-eqb, ◌-◌, List, [], ◌∷◌, length, get_or, refl, sym, subst, ◌∙◌, arith, inl, inr}
-use Rattle.std.proofs.lemmas.Bool.{cases_lt, cases_eq, ne_eqb}
-use Rattle.std.proofs.lemmas.Bool.Decides.{nat_tests}
+use Rattle.std.proofs.Common.{◌≡◌, ℕ, ◌+◌, ◌≤◌, ◌<◌, List, [], ◌∷◌, length, refl, sym, subst, ◌∙◌, arith, inl, inr}
+use Rattle.std.proofs.lemmas.Bool.{cases_lt, cases_eq}
 use Rattle.auc_graph.specs.Rising.{Rises}
 use Rattle.auc_claim.specs.declared.version.Version.{Version}
 use Rattle.auc_claim.specs.declared.version.Version.TheVariants.{First, Second}
 use Rattle.auc_claim.specs.Spelled.{most_in, version_of_sizes, least_behind, names_version, AreNamed}
 use Rattle.auc_cert.specs.SecondLine.{AreObjects, AreSizes, AreCounted, AreCounts, least_named, least_last}
-use Rattle.auc_claim.proofs.RisingLaws.{rises_below_higher, rises_below_last, behind_below, behind_some, behind_last, rises_room}
+use Rattle.auc_claim.proofs.RisingLaws.{rises_below_higher, rises_below_last, behind_below, behind_some, rises_room}
 use Rattle.auc_claim.proofs.VersionLaws.{most_is_few, sized_first, sized_second, named_first, named_second}
 
 pub last_is_in : (version : Version) → least_last version < most_in version

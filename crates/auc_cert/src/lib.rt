@@ -21,7 +21,7 @@ pub use auc_claim::{
     cost_of, high_price, start_prices,
 };
 pub use laws::no_spelling_begins_another;
-pub use output::{Part, WriteFault, write_parts, write_whole};
+pub use output::{Part, WriteFault, write_counted, write_parts, write_whole};
 pub use reading::read_cert;
 pub use text_error::CertTextError;
 pub use writing::{write_cert, write_picks};

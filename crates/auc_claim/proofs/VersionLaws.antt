@@ -1,12 +1,11 @@
 -- Which version a claim has.
-use Rattle.std.proofs.Common.{◌≡◌, ℕ, ◌+◌, ◌≤◌, ◌<◌, true, false, nat_lt, eqb, eq-eqb, ◌-◌, List, [], ◌∷◌, length, get_or, refl, sym, subst, ◌∙◌, arith, inl, inr}
-use Rattle.std.proofs.lemmas.Bool.{cases_lt, cases_eq, ne_eqb}
+use Rattle.std.proofs.Common.{◌≡◌, ℕ, ◌≤◌, ◌<◌, true, false, nat_lt, eqb, eq-eqb, ◌-◌, List, [], ◌∷◌, length, get_or, refl, arith}
+use Rattle.std.proofs.lemmas.Bool.{ne_eqb}
 use Rattle.std.proofs.lemmas.Bool.Decides.{nat_tests}
-use Rattle.auc_graph.specs.Rising.{Rises}
 use Rattle.auc_claim.specs.declared.version.Version.{Version}
 use Rattle.auc_claim.specs.declared.version.Version.TheVariants.{First, Second}
-use Rattle.auc_claim.specs.Spelled.{most_in, version_of_sizes, least_behind, names_version, AreNamed}
-use Rattle.auc_claim.proofs.RisingLaws.{rises_below_higher, rises_below_last, behind_below, behind_some, behind_last, rises_room}
+use Rattle.auc_claim.specs.Spelled.{most_in, version_of_sizes, least_behind, names_version}
+use Rattle.auc_claim.proofs.RisingLaws.{behind_last}
 
 pub most_is_few : (version : Version) → most_in version ≤ 20000
 most_is_few First = omega arith

@@ -22,6 +22,7 @@ use Rattle.auc_call.specs.Shown.{IsLeastAt}
 use Rattle.auc_call.specs.Codes.{IsListFault}
 use Rattle.auc_call.specs.Checking.{AreClaimSizes, IsClaimFault, IsHallFault, Checks, ChecksHall}
 use Rattle.auc_call.specs.Answers.{IsClaimFaultTold, IsHallFaultTold, IsHallShown}
+use Rattle.auc_call.specs.Told.{IsClaimChecked, IsHallChecked}
 use Rattle.auc_call.specs.Telling.{check_status, check_found, check_statuses, KeepsChecked}
 use Rattle.auc_call.proofs.PlaceLaws.{no_pick}
 use Rattle.auc_call.proofs.PickLaws.{at_length}
@@ -203,3 +204,35 @@ hall_same p persons objects (Err Sizes) old h = absurd h
 hall_same p persons objects (Err (Fault fault)) old h = record { cost = refl; lower = refl; persons = refl; objects = refl; kind = λ a b. absurd (b refl); place = λ a b. absurd (b refl) }
 hall_same p persons objects (Err (Start fault)) old h = absurd h
 hall_same p persons objects (Err NoMemory) old h = record { cost = refl; lower = refl; persons = refl; objects = refl; kind = λ a b. refl; place = λ a b. refl }
+
+-- all of it, of an assignment
+pub claim_told : (p : Problem) (places : List ℕ) (prices : List ℤ) (cost : ℤ) (r : Result Checked Failed) (old : Found) → Checks p places prices cost r → IsClaimChecked p places prices cost (check_status r) old (check_found r old)
+claim_told p places prices cost r old h = record {
+  known = claim_known p places prices cost r h;
+  valid = claim_valid p places prices cost r h;
+  passes = claim_passes p places prices cost r h;
+  sizes = (claim_sizes p places prices cost r h, sizes_claim p places prices cost r h);
+  invalid = claim_invalid p places prices cost r old h;
+  refused = claim_refused p places prices cost r old h;
+  same = claim_same p places prices cost r old h;
+}
+
+hall_fits : (p : Problem) (persons objects : List ℕ) (r : Result Checked Failed) → ChecksHall p persons objects r → check_status r ≡ pos 2 → Unit {0} → ⊥
+hall_fits p persons objects (Ok Valid) h e fits = omega (arith, apart 0 2 e)
+hall_fits p persons objects (Ok (Invalid fault)) h e fits = omega (arith, apart 3 2 e)
+hall_fits p persons objects (Err Sizes) h e fits = h
+hall_fits p persons objects (Err (Fault fault)) h e fits = omega (arith, apart 5 2 e)
+hall_fits p persons objects (Err (Start fault)) h e fits = h
+hall_fits p persons objects (Err NoMemory) h e fits = omega (arith, apart 6 2 e)
+
+-- and of a Hall set
+pub hall_told : (p : Problem) (persons objects : List ℕ) (r : Result Checked Failed) (old : Found) → ChecksHall p persons objects r → IsHallChecked p persons objects (check_status r) old (check_found r old)
+hall_told p persons objects r old h = record {
+  known = hall_known p persons objects r h;
+  valid = hall_valid p persons objects r h;
+  passes = hall_passes p persons objects r h;
+  sizes = (hall_fits p persons objects r h, λ not_so. absurd (not_so tt));
+  invalid = hall_invalid p persons objects r old h;
+  refused = hall_refused p persons objects r old h;
+  same = hall_same p persons objects r old h;
+}

@@ -17,6 +17,7 @@ use Rattle.auc_call.specs.Start.{start_fault_by}
 use Rattle.auc_call.specs.Codes.{list_kind, list_place, start_kind, start_place, IsListFault, IsStartFault}
 use Rattle.auc_call.specs.Solving.{Solves}
 use Rattle.auc_call.specs.Answers.{IsBracketTold}
+use Rattle.auc_call.specs.Told.{IsListTold}
 use Rattle.auc_call.specs.Telling.{failed_found, solve_status, solve_found, solve_statuses, KeepsFound, KeepsMemory}
 
 pub apart : (m n : ℕ) → pos m ≡ pos n → m ≡ n
@@ -119,3 +120,18 @@ told_found (Err Sizes) old = record { cost = λ a b. refl; lower = λ a. refl; p
 told_found (Err (Fault fault)) old = record { cost = λ a b. refl; lower = λ a. refl; persons = λ a. refl; objects = λ a. refl; kind = λ a b c. absurd (b refl); place = λ a b. absurd (a refl) }
 told_found (Err (Start fault)) old = record { cost = λ a b. refl; lower = λ a. refl; persons = λ a. refl; objects = λ a. refl; kind = λ a b c. absurd (c refl); place = λ a b. absurd (b refl) }
 told_found (Err NoMemory) old = record { cost = λ a b. refl; lower = λ a. refl; persons = λ a. refl; objects = λ a. refl; kind = λ a b c. refl; place = λ a b. refl }
+
+-- all of it
+pub told : (d : Driver) (p : Problem) (start : List ℤ) (before after : Memory) (r : Result Solved Failed) (old : Found) → Solves d p start before after r → IsListTold p (start_fault_by d p start) (solve_status r) before after old (solve_found r old)
+told d p start before after r old h = record {
+  known = solve_known r;
+  optimal = told_optimal d p start before after r old h;
+  sizes = (told_sizes d p start before after r h, sizes_told d p start before after r h);
+  infeasible = told_infeasible d p start before after r old h;
+  bracket = told_bracket d p start before after r old h;
+  refused = told_refused d p start before after r old h;
+  start = told_start d p start before after r old h;
+  started = told_started d p start before after r h;
+  same = told_same d p start before after r old h;
+  same_found = told_found r old;
+}

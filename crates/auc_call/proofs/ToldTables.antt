@@ -16,8 +16,9 @@ use Rattle.auc_call.specs.Shown.{IsLeastAt, IsHallAt}
 use Rattle.auc_call.specs.Start.{start_fault}
 use Rattle.auc_call.specs.Table.{table_fault}
 use Rattle.auc_call.specs.TableSolving.{AreTableSizes, SolvesTable}
+use Rattle.auc_call.specs.Told.{IsTableTold}
 use Rattle.auc_call.specs.Telling.{failed_found, solve_status, solve_found, KeepsMemory}
-use Rattle.auc_call.proofs.ToldLaws.{apart, list_fault_is, start_fault_is}
+use Rattle.auc_call.proofs.ToldLaws.{apart, list_fault_is, start_fault_is, solve_known, told_found}
 
 pub table_optimal : (p : Problem) (stride entries : ℕ) (start : List ℤ) (bids : ℕ) (before after : Memory) (r : Result Solved Failed) (old : Found) → SolvesTable p stride entries start bids before after r → solve_status r ≡ pos 0 → ByObjects p.arcs after.choice (λ places. IsLeastAt p places after.prices (solve_found r old).cost)
 table_optimal p stride entries start bids before after (Ok (Optimal cost)) old h e = h.2.0
@@ -101,3 +102,18 @@ table_same p stride entries start bids before after (Ok (Optimal cost)) old h = 
 table_same p stride entries start bids before after (Ok (Infeasible persons objects)) old h = record { choice = λ a b c. absurd (b refl); prices = λ a b. h.2.1; set = λ a. absurd (a refl); after_persons = λ e. h.2.2; after_objects = λ e. h.2.3 }
 table_same p stride entries start bids before after (Ok (Bracket reason lower cost)) old h = record { choice = λ a b c. absurd (c refl); prices = λ a b. absurd (b refl); set = λ a. h.2.1; after_persons = λ e. absurd (omega (arith, apart 4 3 e)); after_objects = λ e. absurd (omega (arith, apart 4 3 e)) }
 table_same p stride entries start bids before after (Err failed) old h = record { choice = λ a b c. ap (λ (m : Memory). m.choice) h.1; prices = λ a b. ap (λ (m : Memory). m.prices) h.1; set = λ a. ap (λ (m : Memory). m.set) h.1; after_persons = λ e. ap (λ (m : Memory). drop (failed_found failed old).persons m.choice) h.1; after_objects = λ e. ap (λ (m : Memory). drop (failed_found failed old).objects m.set) h.1 }
+
+-- all of it
+pub table_told : (p : Problem) (stride entries : ℕ) (start : List ℤ) (bids : ℕ) (before after : Memory) (r : Result Solved Failed) (old : Found) → SolvesTable p stride entries start bids before after r → IsTableTold p stride entries (start_fault p start) (solve_status r) before after old (solve_found r old)
+table_told p stride entries start bids before after r old h = record {
+  known = solve_known r;
+  optimal = table_optimal p stride entries start bids before after r old h;
+  sizes = (table_sizes p stride entries start bids before after r h, sizes_table p stride entries start bids before after r h);
+  infeasible = table_infeasible p stride entries start bids before after r old h;
+  bracket = table_bracket p stride entries start bids before after r old h;
+  refused = table_refused p stride entries start bids before after r old h;
+  start = table_start p stride entries start bids before after r old h;
+  started = table_started p stride entries start bids before after r h;
+  same = table_same p stride entries start bids before after r old h;
+  same_found = told_found r old;
+}

@@ -15,3 +15,4 @@ pub mod Entries
 pub mod TableSolving
 pub mod Tried
 pub mod Quick
+pub mod Told

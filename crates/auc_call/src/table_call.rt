@@ -1,17 +1,12 @@
-//! The call over a table, with one promise a status.
+//! The call over a table.
 
-ghost use Rattle.std.specs.Prelude.{◌≡◌, ◌≢◌, ◌↔◌, Contains, None, length, pos};
-ghost use Rattle.auc_graph.specs.Problem.{IsProblem};
+ghost use Rattle.std.specs.Prelude.{◌≡◌, length, pos};
 ghost use Rattle.auc_call.specs.Memory.{memory};
-ghost use Rattle.auc_call.specs.Shown.{IsLeastAt, IsHallAt};
 ghost use Rattle.auc_call.specs.Start.{start_fault};
-ghost use Rattle.auc_call.specs.Codes.{IsListFault, IsStartFault};
-ghost use Rattle.auc_call.specs.Answers.{IsBracketTold};
 ghost use Rattle.auc_call.specs.Limited.{IsLimitTold};
 ghost use Rattle.auc_call.specs.Naming.{ByObjects};
-ghost use Rattle.auc_call.specs.Table.{table_fault, table_problem};
-ghost use Rattle.auc_call.specs.TableSolving.{AreTableSizes};
-ghost use Rattle.auc_call.specs.Telling.{solve_statuses, KeepsFound, KeepsMemory};
+ghost use Rattle.auc_call.specs.Table.{table_problem};
+ghost use Rattle.auc_call.specs.Told.{IsTableTold};
 
 use crate::found::Found;
 use crate::table_solving::solve_table_into;
@@ -46,17 +41,14 @@ pub fn solve_table_call(
     hall_objects: &mut [u32],
     found: &mut Found,
 ) -> i32
-    ensures known { Contains solve_statuses result }
-    ensures optimal { result ≡ pos 0 → ByObjects (table_problem persons objects costs.now stride none).arcs choice.new (λ places. IsLeastAt (table_problem persons objects costs.now stride none) places prices.new found.new.cost) }
-    ensures sizes { result ≡ pos 2 ↔ (AreTableSizes (table_problem persons objects costs.now stride none) stride (length costs.now) (memory choice.old prices.old hall_objects.old) → ⊥) }
-    ensures infeasible { result ≡ pos 3 → IsHallAt (table_problem persons objects costs.now stride none) choice.new hall_objects.new found.new.persons found.new.objects }
-    ensures bracket { result ≡ pos 4 → ByObjects (table_problem persons objects costs.now stride none).arcs choice.new (λ places. IsBracketTold (table_problem persons objects costs.now stride none) places prices.new found.new.kind found.new.lower found.new.cost) }
-    ensures refused { result ≡ pos 5 → IsListFault (table_fault (table_problem persons objects costs.now stride none)) found.new.kind found.new.place }
-    ensures start { result ≡ pos 7 → IsProblem (table_problem persons objects costs.now stride none) × IsStartFault (start_fault (table_problem persons objects costs.now stride none) start.now) found.new.kind found.new.place }
-    ensures started { result ≢ pos 2 → result ≢ pos 5 → result ≢ pos 6 → result ≢ pos 7 → start_fault (table_problem persons objects costs.now stride none) start.now ≡ None }
-    ensures limit { result ≡ pos 4 → ByObjects (table_problem persons objects costs.now stride none).arcs choice.new (λ places. IsLimitTold (table_problem persons objects costs.now stride none) start.now bids places prices.new found.new.kind found.new.lower found.new.cost) }
-    ensures same { KeepsMemory result found.new.persons found.new.objects (memory choice.old prices.old hall_objects.old) (memory choice.new prices.new hall_objects.new) }
-    ensures same_found { KeepsFound result found.old found.new }
+    ensures told { IsTableTold (table_problem persons objects costs.now stride none) stride (length costs.now)
+        (start_fault (table_problem persons objects costs.now stride none) start.now) result
+        (memory choice.old prices.old hall_objects.old) (memory choice.new prices.new hall_objects.new)
+        found.old found.new }
+    ensures limit { result ≡ pos 4
+        → ByObjects (table_problem persons objects costs.now stride none).arcs choice.new
+        (λ places. IsLimitTold (table_problem persons objects costs.now stride none) start.now bids
+        places prices.new found.new.kind found.new.lower found.new.cost) }
 {
     let solved = solve_table_into(
         alloc,

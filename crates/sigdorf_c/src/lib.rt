@@ -5,22 +5,15 @@
 //! the top of `c/sigdorf.h`.
 #![tactic(auto)]
 
-ghost use Rattle.std.specs.Prelude.{◌≡◌, ◌≢◌, ◌↔◌, Contains, None, length, pos};
-ghost use Rattle.auc_graph.specs.Problem.{IsProblem};
-ghost use Rattle.auc_graph.specs.HallSet.{IsHallSet};
-ghost use Rattle.auc_graph.specs.InMemory.{problem_from, list_fault};
-ghost use Rattle.auc_call.specs.Memory.{AreSizes, memory};
-ghost use Rattle.auc_call.specs.Shown.{IsLeastAt, IsHallAt};
+ghost use Rattle.std.specs.Prelude.{◌≡◌, ◌≢◌, length, pos};
+ghost use Rattle.auc_graph.specs.InMemory.{problem_from};
+ghost use Rattle.auc_call.specs.Memory.{memory};
 ghost use Rattle.auc_call.specs.Start.{start_fault, start_fault_by_messages};
-ghost use Rattle.auc_call.specs.Codes.{IsListFault, IsStartFault};
-ghost use Rattle.auc_call.specs.Checking.{AreClaimSizes};
-ghost use Rattle.auc_call.specs.Answers.{IsBracketTold, IsClaimFaultTold, IsHallFaultTold, IsHallShown};
 ghost use Rattle.auc_call.specs.Limited.{IsLimitTold};
 ghost use Rattle.auc_call.specs.Naming.{ByObjects};
 ghost use Rattle.auc_call.specs.Running.{IsRunTold};
-ghost use Rattle.auc_call.specs.Table.{table_fault, table_problem};
-ghost use Rattle.auc_call.specs.TableSolving.{AreTableSizes};
-ghost use Rattle.auc_call.specs.Telling.{solve_statuses, check_statuses, KeepsFound, KeepsMemory, KeepsChecked};
+ghost use Rattle.auc_call.specs.Table.{table_problem};
+ghost use Rattle.auc_call.specs.Told.{IsClaimChecked, IsHallChecked, IsListTold, IsTableTold};
 
 use auc_call::{
     Found, check_call, check_hall_call, solve_by_messages_call, solve_call, solve_table_call,
@@ -43,17 +36,13 @@ pub extern "C" fn sigdorf_solve(
     hall_objects: &mut [u32],
     found: &mut Found,
 ) -> i32
-    ensures known { Contains solve_statuses result }
-    ensures optimal { result ≡ pos 0 → IsLeastAt (problem_from persons objects arcs.now) choice.new prices.new found.new.cost }
-    ensures sizes { result ≡ pos 2 ↔ (AreSizes (problem_from persons objects arcs.now) (memory choice.old prices.old hall_objects.old) → ⊥) }
-    ensures infeasible { result ≡ pos 3 → IsHallAt (problem_from persons objects arcs.now) choice.new hall_objects.new found.new.persons found.new.objects }
-    ensures bracket { result ≡ pos 4 → IsBracketTold (problem_from persons objects arcs.now) choice.new prices.new found.new.kind found.new.lower found.new.cost }
-    ensures refused { result ≡ pos 5 → IsListFault (list_fault persons objects arcs.now) found.new.kind found.new.place }
-    ensures start { result ≡ pos 7 → IsProblem (problem_from persons objects arcs.now) × IsStartFault (start_fault (problem_from persons objects arcs.now) start.now) found.new.kind found.new.place }
-    ensures started { result ≢ pos 2 → result ≢ pos 5 → result ≢ pos 6 → result ≢ pos 7 → start_fault (problem_from persons objects arcs.now) start.now ≡ None }
-    ensures limit { result ≡ pos 4 → IsLimitTold (problem_from persons objects arcs.now) start.now bids choice.new prices.new found.new.kind found.new.lower found.new.cost }
-    ensures same { KeepsMemory result found.new.persons found.new.objects (memory choice.old prices.old hall_objects.old) (memory choice.new prices.new hall_objects.new) }
-    ensures same_found { KeepsFound result found.old found.new }
+    ensures told { IsListTold (problem_from persons objects arcs.now)
+        (start_fault (problem_from persons objects arcs.now) start.now) result
+        (memory choice.old prices.old hall_objects.old) (memory choice.new prices.new hall_objects.new)
+        found.old found.new }
+    ensures limit { result ≡ pos 4
+        → IsLimitTold (problem_from persons objects arcs.now) start.now bids
+        choice.new prices.new found.new.kind found.new.lower found.new.cost }
 {
     solve_call(
         alloc,
@@ -86,17 +75,14 @@ pub extern "C" fn sigdorf_solve_dense(
     hall_objects: &mut [u32],
     found: &mut Found,
 ) -> i32
-    ensures known { Contains solve_statuses result }
-    ensures optimal { result ≡ pos 0 → ByObjects (table_problem persons objects costs.now stride none).arcs choice.new (λ places. IsLeastAt (table_problem persons objects costs.now stride none) places prices.new found.new.cost) }
-    ensures sizes { result ≡ pos 2 ↔ (AreTableSizes (table_problem persons objects costs.now stride none) stride (length costs.now) (memory choice.old prices.old hall_objects.old) → ⊥) }
-    ensures infeasible { result ≡ pos 3 → IsHallAt (table_problem persons objects costs.now stride none) choice.new hall_objects.new found.new.persons found.new.objects }
-    ensures bracket { result ≡ pos 4 → ByObjects (table_problem persons objects costs.now stride none).arcs choice.new (λ places. IsBracketTold (table_problem persons objects costs.now stride none) places prices.new found.new.kind found.new.lower found.new.cost) }
-    ensures refused { result ≡ pos 5 → IsListFault (table_fault (table_problem persons objects costs.now stride none)) found.new.kind found.new.place }
-    ensures start { result ≡ pos 7 → IsProblem (table_problem persons objects costs.now stride none) × IsStartFault (start_fault (table_problem persons objects costs.now stride none) start.now) found.new.kind found.new.place }
-    ensures started { result ≢ pos 2 → result ≢ pos 5 → result ≢ pos 6 → result ≢ pos 7 → start_fault (table_problem persons objects costs.now stride none) start.now ≡ None }
-    ensures limit { result ≡ pos 4 → ByObjects (table_problem persons objects costs.now stride none).arcs choice.new (λ places. IsLimitTold (table_problem persons objects costs.now stride none) start.now bids places prices.new found.new.kind found.new.lower found.new.cost) }
-    ensures same { KeepsMemory result found.new.persons found.new.objects (memory choice.old prices.old hall_objects.old) (memory choice.new prices.new hall_objects.new) }
-    ensures same_found { KeepsFound result found.old found.new }
+    ensures told { IsTableTold (table_problem persons objects costs.now stride none) stride (length costs.now)
+        (start_fault (table_problem persons objects costs.now stride none) start.now) result
+        (memory choice.old prices.old hall_objects.old) (memory choice.new prices.new hall_objects.new)
+        found.old found.new }
+    ensures limit { result ≡ pos 4
+        → ByObjects (table_problem persons objects costs.now stride none).arcs choice.new
+        (λ places. IsLimitTold (table_problem persons objects costs.now stride none) start.now bids
+        places prices.new found.new.kind found.new.lower found.new.cost) }
 {
     solve_table_call(
         alloc,
@@ -128,17 +114,13 @@ pub extern "C" fn sigdorf_solve_by_messages(
     hall_objects: &mut [u32],
     found: &mut Found,
 ) -> i32
-    ensures known { Contains solve_statuses result }
-    ensures optimal { result ≡ pos 0 → IsLeastAt (problem_from persons objects arcs.now) choice.new prices.new found.new.cost }
-    ensures sizes { result ≡ pos 2 ↔ (AreSizes (problem_from persons objects arcs.now) (memory choice.old prices.old hall_objects.old) → ⊥) }
-    ensures infeasible { result ≡ pos 3 → IsHallAt (problem_from persons objects arcs.now) choice.new hall_objects.new found.new.persons found.new.objects }
-    ensures bracket { result ≡ pos 4 → IsBracketTold (problem_from persons objects arcs.now) choice.new prices.new found.new.kind found.new.lower found.new.cost }
-    ensures refused { result ≡ pos 5 → IsListFault (list_fault persons objects arcs.now) found.new.kind found.new.place }
-    ensures start { result ≡ pos 7 → IsProblem (problem_from persons objects arcs.now) × IsStartFault (start_fault_by_messages (problem_from persons objects arcs.now) start.now) found.new.kind found.new.place }
-    ensures started { result ≢ pos 2 → result ≢ pos 5 → result ≢ pos 6 → result ≢ pos 7 → start_fault_by_messages (problem_from persons objects arcs.now) start.now ≡ None }
-    ensures run { result ≢ pos 2 → result ≢ pos 5 → result ≢ pos 6 → result ≢ pos 7 → IsRunTold (problem_from persons objects arcs.now) start.now bids (memory choice.new prices.new hall_objects.new) result found.old found.new }
-    ensures same { KeepsMemory result found.new.persons found.new.objects (memory choice.old prices.old hall_objects.old) (memory choice.new prices.new hall_objects.new) }
-    ensures same_found { KeepsFound result found.old found.new }
+    ensures told { IsListTold (problem_from persons objects arcs.now)
+        (start_fault_by_messages (problem_from persons objects arcs.now) start.now) result
+        (memory choice.old prices.old hall_objects.old) (memory choice.new prices.new hall_objects.new)
+        found.old found.new }
+    ensures run { result ≢ pos 2 → result ≢ pos 5 → result ≢ pos 6 → result ≢ pos 7
+        → IsRunTold (problem_from persons objects arcs.now) start.now bids
+        (memory choice.new prices.new hall_objects.new) result found.old found.new }
 {
     solve_by_messages_call(
         alloc,
@@ -167,13 +149,8 @@ pub extern "C" fn sigdorf_check(
     cost: i64,
     found: &mut Found,
 ) -> i32
-    ensures known { Contains check_statuses result }
-    ensures valid { result ≡ pos 0 → IsLeastAt (problem_from persons objects arcs.now) choice.now prices.now cost }
-    ensures passes { IsLeastAt (problem_from persons objects arcs.now) choice.now prices.now cost → result ≢ pos 6 → result ≡ pos 0 }
-    ensures sizes { result ≡ pos 2 ↔ (AreClaimSizes (problem_from persons objects arcs.now) choice.now prices.now → ⊥) }
-    ensures invalid { result ≡ pos 3 → IsClaimFaultTold (problem_from persons objects arcs.now) choice.now prices.now cost found.new.kind found.new.place }
-    ensures refused { result ≡ pos 5 → IsListFault (list_fault persons objects arcs.now) found.new.kind found.new.place }
-    ensures same { KeepsChecked result found.old found.new }
+    ensures told { IsClaimChecked (problem_from persons objects arcs.now) choice.now prices.now cost
+        result found.old found.new }
 {
     check_call(alloc, persons, objects, arcs, choice, prices, cost, found)
 }
@@ -189,12 +166,8 @@ pub extern "C" fn sigdorf_check_hall(
     hall_objects: &[u32],
     found: &mut Found,
 ) -> i32
-    ensures known { Contains check_statuses result }
-    ensures valid { result ≡ pos 0 → IsHallSet (problem_from persons objects arcs.now) hall_persons.now hall_objects.now }
-    ensures passes { IsHallShown (problem_from persons objects arcs.now) hall_persons.now hall_objects.now → result ≢ pos 6 → result ≡ pos 0 }
-    ensures invalid { result ≡ pos 3 → IsHallFaultTold (problem_from persons objects arcs.now) hall_persons.now hall_objects.now found.new.kind found.new.place }
-    ensures refused { result ≡ pos 5 → IsListFault (list_fault persons objects arcs.now) found.new.kind found.new.place }
-    ensures same { KeepsChecked result found.old found.new }
+    ensures told { IsHallChecked (problem_from persons objects arcs.now) hall_persons.now hall_objects.now
+        result found.old found.new }
 {
     check_hall_call(
         alloc,

@@ -3,12 +3,11 @@ use Rattle.std.specs.Prelude.{FitsSigned}
 use Rattle.std.proofs.lemmas.Int.{to_z-of_z}
 use Rattle.sigdorf_c.proofs.sigdorf_solve_dense.Goals as goal
 
-pub returns-clause-bracket : goal.returns-clause-bracket
-returns-clause-bracket c = λ four.
+pub returns-clause-told : goal.returns-clause-told
+returns-clause-told c =
     let fits : FitsSigned w32 c.solve_table_call.result = search rules in
     let none_fits : FitsSigned w64 c.args.none = c.ranges.none in
-    let bracket = simp to_z-of_z at c.solve_table_call.ensures.bracket in
-    bracket (simp to_z-of_z at four)
+    simp to_z-of_z (simp to_z-of_z at c.solve_table_call.ensures.told)
 
 pub returns-clause-limit : goal.returns-clause-limit
 returns-clause-limit c = λ four.

@@ -1,4 +1,5 @@
--- Hall sets' certificates, and what choices and brackets are to a problem, are for the crates above too; the rest is this crate's own.
+-- Hall sets' certificates, and what choices and brackets are to a problem, are for the crates above too; the rest is
+-- this crate's own.
 pub mod Replicated
 pub mod HallCertificates
 pub mod FoundLaws

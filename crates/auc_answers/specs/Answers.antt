@@ -76,21 +76,26 @@ IsAnswer p (Answer.Infeasible cert) = IsHallCertificate p cert
 IsAnswer p (Answer.Bracket cert) = IsBracketCertificate p cert
 IsAnswer p (Answer.Broken guard) = ⊥
 
--- The answer to holders and prices that each person has an object: that the holders' arcs cost least, by these prices; or the guard of the
--- checker, just where these arcs are no choice, or the checker refuses what they claim.
+-- The answer to holders and prices that each person has an object: that the holders' arcs cost least, by these prices;
+-- or the guard of the checker, just where these arcs are no choice, or the checker refuses what they claim.
 abbrev pub IsOptimalAnswer : Problem → List (Option Held) → List ℤ → Answer → Type 0
-IsOptimalAnswer p holders prices (Answer.Optimal cert) = (choice : List Arc) × IsChoiceOf p holders choice × (cert ≡ claim_of choice prices) × IsCertified p cert
+IsOptimalAnswer p holders prices (Answer.Optimal cert) =
+    (choice : List Arc) × IsChoiceOf p holders choice × (cert ≡ claim_of choice prices) × IsCertified p cert
 IsOptimalAnswer p holders prices (Answer.Infeasible cert) = ⊥
 IsOptimalAnswer p holders prices (Answer.Bracket cert) = ⊥
-IsOptimalAnswer p holders prices (Answer.Broken guard) = (guard ≡ Guard.Check) × ((choice : List Arc) → IsChoiceOf p holders choice → IsCertified p (claim_of choice prices) → ⊥)
+IsOptimalAnswer p holders prices (Answer.Broken guard) =
+    (guard ≡ Guard.Check)
+    × ((choice : List Arc) → IsChoiceOf p holders choice → IsCertified p (claim_of choice prices) → ⊥)
 
--- The answer to holders and prices that a limit has left: an assignment that has grown from the holders' arcs, and the bound that these prices give; or that there is none; or
--- the guard of the checker, just where a holder's arc isn't one of his to his object, or somebody holds two, or the bound is too great or
--- too small for 64 bits.
+-- The answer to holders and prices that a limit has left: an assignment that has grown from the holders' arcs, and the
+-- bound that these prices give; or that there is none; or the guard of the checker, just where a holder's arc isn't one
+-- of his to his object, or somebody holds two, or the bound is too great or too small for 64 bits.
 abbrev pub IsBracketAnswer : Problem → Reason → List (Option Held) → List ℤ → Answer → Type 0
 IsBracketAnswer p reason holders prices (Answer.Optimal cert) = ⊥
 IsBracketAnswer p reason holders prices (Answer.Infeasible cert) = IsHallCertificate p cert
-IsBracketAnswer p reason holders prices (Answer.Bracket cert) = ArePlaceable p holders × IsBracketBy p reason prices cert × IsCertified p cert × GrowsFrom p holders (picks_of cert)
+IsBracketAnswer p reason holders prices (Answer.Bracket cert) =
+    ArePlaceable p holders × IsBracketBy p reason prices cert × IsCertified p cert
+    × GrowsFrom p holders (picks_of cert)
 IsBracketAnswer p reason holders prices (Answer.Broken guard) = (guard ≡ Guard.Check) × (ArePlaceable p holders → BoundFits p prices → ⊥)
 
 -- a bracket of an assignment that wasn't completed, with the bound that these prices give

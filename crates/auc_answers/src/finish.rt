@@ -1,4 +1,5 @@
-//! How a run ends: what its last phase claims, or the guard that a stop stands for. Every claim passes the checker first, or is proved to pass it.
+//! How a run ends: what its last phase claims, or the guard that a stop stands for. Every claim passes the checker
+//! first, or is proved to pass it.
 
 ghost use Rattle.std.specs.Prelude.{◌≡◌, List, length, All, IfOk, IfSome, IfNone};
 ghost use Rattle.auc_graph.specs.declared.arc.Arc.{Arc};
@@ -55,14 +56,17 @@ fn certified(alloc: Global, problem: &ArcList, parts: CertParts) -> Result<Optio
     }
 }
 
-/// The claim of least cost that holders and prices make: their arcs, what these cost together, and the prices. None where the arcs are no choice, or cost more together than 64 bits hold.
+/// The claim of least cost that holders and prices make: their arcs, what these cost together, and the prices. None
+/// where the arcs are no choice, or cost more together than 64 bits hold.
 fn claimed(
     alloc: Global,
     problem: &ArcList,
     gathered: Gathered,
 ) -> Result<Option<CertParts>, AllocError>
     ensures some { IfOk result (λ o. IfSome o (IsClaimOf problem.now gathered.holders.items gathered.prices.items)) }
-    ensures none { IfOk result (λ o. IfNone o ((choice : List Arc) → IsChoiceOf problem.now gathered.holders.items choice → IsCertified problem.now (claim_of choice gathered.prices.items) → ⊥)) }
+    ensures none { IfOk result
+        (λ o. IfNone o ((choice : List Arc) → IsChoiceOf problem.now gathered.holders.items choice → IsCertified
+        problem.now (claim_of choice gathered.prices.items) → ⊥)) }
 {
     let Gathered { holders, prices } = gathered;
     let Some(picks) = picks_of_holders(alloc, problem, holders.as_slice())? else {
@@ -79,8 +83,9 @@ fn claimed(
     }))
 }
 
-/// The answer of a last phase that has sold an object to each person: its holders' arcs, what they cost together, and its prices,
-/// where the checker lets them pass, or else the guard `Check`. Takes O(arcs + persons) time and O(persons) memory.
+/// The answer of a last phase that has sold an object to each person: its holders' arcs, what they cost together, and
+/// its prices, where the checker lets them pass, or else the guard `Check`. Takes O(arcs + persons) time and O(persons)
+/// memory.
 ///
 /// # Errors
 ///
@@ -97,7 +102,8 @@ pub fn optimal(alloc: Global, problem: &ArcList, gathered: Gathered) -> Result<A
     }
 }
 
-/// The answer of [`optimal`] where it is proved that the checker lets the claim pass, so that no time is spent on it. Takes O(persons + objects) time, and O(persons) memory.
+/// The answer of [`optimal`] where it is proved that the checker lets the claim pass, so that no time is spent on it.
+/// Takes O(persons + objects) time, and O(persons) memory.
 ///
 /// # Errors
 ///
@@ -107,7 +113,8 @@ pub fn proved_optimal(
     problem: &ArcList,
     gathered: Gathered,
 ) -> Result<Answer, AllocError>
-    requires passes { (choice : List Arc) × IsChoiceOf problem.now gathered.holders.items choice × IsCertified problem.now (claim_of choice gathered.prices.items) }
+    requires passes { (choice : List Arc) × IsChoiceOf problem.now gathered.holders.items choice
+        × IsCertified problem.now (claim_of choice gathered.prices.items) }
     ensures { IfOk result (IsOptimalAnswer problem.now gathered.holders.items gathered.prices.items) }
 {
     let Some(parts) = claimed(alloc, problem, gathered)? else {
@@ -119,8 +126,9 @@ pub fn proved_optimal(
     Ok(Answer::Optimal(cert))
 }
 
-/// What a bracket claims: these picks, by the arcs at these places, what they cost together, and the bound that the prices give. None where that has more than 64
-/// bits, as it may where there are more objects than persons, and too many of them have a price.
+/// What a bracket claims: these picks, by the arcs at these places, what they cost together, and the bound that the
+/// prices give. None where that has more than 64 bits, as it may where there are more objects than persons, and too
+/// many of them have a price.
 fn bracket_parts(
     alloc: Global,
     problem: &ArcList,
@@ -153,11 +161,13 @@ fn bracket_parts(
     }))
 }
 
-/// The answer of a phase that a limit has stopped: an assignment that the search completes from the holders' arcs, and the bound on the
-/// cost of all that the prices give, where the checker lets it pass; or that there is no assignment. The guard `Check` where a
-/// holder's arc isn't one of his to his object, or somebody holds two, or the bound has more than 64 bits.
+/// The answer of a phase that a limit has stopped: an assignment that the search completes from the holders' arcs, and
+/// the bound on the cost of all that the prices give, where the checker lets it pass; or that there is no assignment.
+/// The guard `Check` where a holder's arc isn't one of his to his object, or somebody holds two, or the bound has more
+/// than 64 bits.
 ///
-/// `rows` are those of the problem; `gathered.prices` are in scaled costs, from 0 to 2^61, and both lists are indexed by object.
+/// `rows` are those of the problem; `gathered.prices` are in scaled costs, from 0 to 2^61, and both lists are indexed
+/// by object.
 ///
 /// Takes the time of the search, see [`complete`], beside O(arcs + persons), and O(persons) memory.
 ///
@@ -197,9 +207,11 @@ pub fn bracket(
     }
 }
 
-/// The bracket of holders of whom each person is one, and whose arcs are an assignment: nothing is completed, so no rows are wanted. That the checker lets it pass is proved, so no time is spent on it.
+/// The bracket of holders of whom each person is one, and whose arcs are an assignment: nothing is completed, so no
+/// rows are wanted. That the checker lets it pass is proved, so no time is spent on it.
 ///
-/// `gathered.prices` are in scaled costs, from 0 to 2^61, and both lists are indexed by object. Takes one pass over the arcs, for the bound, beside O(persons + objects), and O(persons) memory.
+/// `gathered.prices` are in scaled costs, from 0 to 2^61, and both lists are indexed by object. Takes one pass over the
+/// arcs, for the bound, beside O(persons + objects), and O(persons) memory.
 ///
 /// # Errors
 ///
@@ -230,8 +242,8 @@ pub fn proved_bracket(
     Ok(Answer::Bracket(cert))
 }
 
-/// The answer where persons were found who together know fewer objects than they number. Takes O(arcs + persons) time and
-/// O(persons) memory.
+/// The answer where persons were found who together know fewer objects than they number. Takes O(arcs + persons) time
+/// and O(persons) memory.
 ///
 /// # Errors
 ///

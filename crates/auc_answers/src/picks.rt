@@ -28,8 +28,8 @@ fn all_of(alloc: Global, found: &[Option<Pick>]) -> Result<Option<Vec<Pick>>, Al
     Ok(Some(picks))
 }
 
-/// The pick of each person by the arc with which he holds an object. None where a holder's arc isn't one of his, somebody holds
-/// two objects, or a person holds none.
+/// The pick of each person by the arc with which he holds an object. None where a holder's arc isn't one of his,
+/// somebody holds two objects, or a person holds none.
 pub(crate) fn picks_of_holders(
     alloc: Global,
     problem: &ArcList,
@@ -101,8 +101,8 @@ fn picks_by(alloc: Global, arcs: &[Arc], numbers: &[u32]) -> Result<Vec<Pick>, A
     Ok(picks)
 }
 
-/// The pick of each person by the arcs of a full matching, which are given by their places in the list of arcs. Takes O(persons) time and
-/// memory.
+/// The pick of each person by the arcs of a full matching, which are given by their places in the list of arcs. Takes
+/// O(persons) time and memory.
 ///
 /// # Errors
 ///

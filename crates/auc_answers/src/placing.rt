@@ -27,8 +27,8 @@ fn holds_rightly(problem: &ArcList, object: u32, held: Held) -> bool
     arc.person == held.person && arc.object == object
 }
 
-/// The partial assignment in which each holder has his object, placed with the objects rising. None where a holder's arc isn't one of his to
-/// that object, or somebody holds two.
+/// The partial assignment in which each holder has his object, placed with the objects rising. None where a holder's
+/// arc isn't one of his to that object, or somebody holds two.
 pub(crate) fn place_holders(
     alloc: Global,
     problem: &ArcList,

@@ -1,4 +1,5 @@
--- Picks that are best at some prices are a least assignment of a table, and the checker sees it by these prices, scaled.
+-- Picks that are best at some prices are a least assignment of a table, and the checker sees it by these prices,
+-- scaled.
 use Rattle.std.proofs.Common.{◌≡◌, ◌≢◌, ℕ, ◌+◌, ◌*◌, ◌<◌, ◌≤◌, ◌^◌, inl, inr, Bool, true, false, List, [], ◌∷◌, length, map, get_or, Option, Some, refl, sym, ap, subst, ◌∙◌, arith, Contains}
 use Rattle.std.specs.Prelude.{ℤ, pos, ◌+ℤ◌, ◌*ℤ◌, ◌≤ℤ◌, All, nat_eq, slice_get, unsigned_abs}
 use Rattle.std.specs.List.{IsDistinct, range_with_len}

@@ -29,5 +29,7 @@ IsSolvedBy Messages p start bids after solved = IsOfRunFrom p start bids after s
 
 -- by what is told
 abbrev pub IsToldBy : Driver → Problem → List ℤ → ℕ → Memory → ℤ → Found → Found → Type 0
-IsToldBy Direct p start bids after status old new = status ≡ pos 4 → IsLimitTold p start bids after.choice after.prices new.kind new.lower new.cost
-IsToldBy Messages p start bids after status old new = status ≢ pos 2 → status ≢ pos 5 → status ≢ pos 6 → status ≢ pos 7 → IsRunTold p start bids after status old new
+IsToldBy Direct p start bids after status old new =
+    status ≡ pos 4 → IsLimitTold p start bids after.choice after.prices new.kind new.lower new.cost
+IsToldBy Messages p start bids after status old new =
+    status ≢ pos 2 → status ≢ pos 5 → status ≢ pos 6 → status ≢ pos 7 → IsRunTold p start bids after status old new

@@ -10,7 +10,9 @@ use Rattle.auc_call.specs.Table.{at_entry}
 
 -- the fault of an entry, of which there is an arc at this place
 abbrev pub entry_fault : ℕ → ℕ → ℤ → Option ListFault
-entry_fault place entry cost = if nat_le MOST_ARCS place then Some TooManyArcs else (if is_between (neg_ℤ MOST_COST) MOST_COST cost then None else Some (Cost entry))
+entry_fault place entry cost =
+    if nat_le MOST_ARCS place then Some TooManyArcs else
+    (if is_between (neg_ℤ MOST_COST) MOST_COST cost then None else Some (Cost entry))
 
 -- Of these arcs, the first of which has this place, this one is the first at fault.
 pub record IsFirstFault (persons objects place : ℕ) (arcs : List Arc) (fault : ListFault) : Type 0 where

@@ -16,13 +16,15 @@ IsLimitedIn p [] bids answer = IsLimited p bids (pos 0) answer
 IsLimitedIn p (price ∷ prices) bids answer = IsLimitedFrom p bids (price ∷ prices) answer
 
 -- these places and prices are a bracket that this limit of such a run has left
-pub record IsLimitAt (p : Problem) (start : List ℤ) (bids : ℕ) (places : List ℕ) (prices : List ℤ) (reason : Reason) (lower cost : ℤ) : Type 0 where
+pub record IsLimitAt (p : Problem) (start : List ℤ) (bids : ℕ) (places : List ℕ) (prices : List ℤ) (reason : Reason)
+    (lower cost : ℤ) : Type 0 where
   pub picks : List Pick
   pub at : AreAt p.arcs places (chosen 0 picks)
   pub limited : IsLimitedIn p start bids (Answer.Bracket (CertParts.Bracket reason lower cost picks prices))
 
 -- and so is the limit of this kind
-pub record IsLimitTold (p : Problem) (start : List ℤ) (bids : ℕ) (places : List ℕ) (prices : List ℤ) (kind : ℕ) (lower cost : ℤ) : Type 0 where
+pub record IsLimitTold (p : Problem) (start : List ℤ) (bids : ℕ) (places : List ℕ) (prices : List ℤ) (kind : ℕ)
+    (lower cost : ℤ) : Type 0 where
   pub reason : Reason
   pub kind_is : kind ≡ limit_kind reason
   pub limit : IsLimitAt p start bids places prices reason lower cost

@@ -22,10 +22,12 @@ start_in (price ∷ prices) = Some (price ∷ prices)
 
 -- what a certificate says stands in the caller's memory and in what was found
 abbrev pub IsWritten : Problem → CertParts → Memory → Solved → Type 0
-IsWritten p (CertParts.Optimal cost picks prices) m (Solved.Optimal c) = AreAt p.arcs m.choice (chosen 0 picks) × (m.prices ≡ prices) × (c ≡ cost)
+IsWritten p (CertParts.Optimal cost picks prices) m (Solved.Optimal c) =
+    AreAt p.arcs m.choice (chosen 0 picks) × (m.prices ≡ prices) × (c ≡ cost)
 IsWritten p (CertParts.Optimal cost picks prices) m (Solved.Infeasible k l) = ⊥
 IsWritten p (CertParts.Optimal cost picks prices) m (Solved.Bracket r l c) = ⊥
-IsWritten p (CertParts.Bracket reason lower cost picks prices) m (Solved.Bracket r l c) = AreAt p.arcs m.choice (chosen 0 picks) × (m.prices ≡ prices) × (r ≡ reason) × (l ≡ lower) × (c ≡ cost)
+IsWritten p (CertParts.Bracket reason lower cost picks prices) m (Solved.Bracket r l c) =
+    AreAt p.arcs m.choice (chosen 0 picks) × (m.prices ≡ prices) × (r ≡ reason) × (l ≡ lower) × (c ≡ cost)
 IsWritten p (CertParts.Bracket reason lower cost picks prices) m (Solved.Optimal c) = ⊥
 IsWritten p (CertParts.Bracket reason lower cost picks prices) m (Solved.Infeasible k l) = ⊥
 IsWritten p (CertParts.Infeasible persons objects) m (Solved.Infeasible k l) = (take k m.choice ≡ persons) × (take l m.set ≡ objects)

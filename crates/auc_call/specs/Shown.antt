@@ -10,7 +10,8 @@ use Rattle.auc_claim.specs.Claim.{IsBracket, chosen, fault_of}
 use Rattle.auc_claim.specs.Spelled.{IsSpelled}
 use Rattle.auc_call.specs.Memory.{AreAt}
 
--- the arcs at these places are an assignment of this cost, and no assignment costs less; by these prices the checker sees it
+-- the arcs at these places are an assignment of this cost, and no assignment costs less; by these prices the checker
+-- sees it
 pub record IsLeastAt (p : Problem) (places : List ℕ) (prices : List ℤ) (cost : ℤ) : Type 0 where
   pub problem : IsProblem p
   pub picks : List Pick
@@ -20,7 +21,8 @@ pub record IsLeastAt (p : Problem) (places : List ℕ) (prices : List ℤ) (cost
   pub spelled : IsSpelled (CertParts.Optimal cost picks prices)
   pub shown : fault_of p (CertParts.Optimal cost picks prices) ≡ None
 
--- the arcs at these places are an assignment of this cost, and no assignment costs less than the bound; by these prices the checker sees it
+-- the arcs at these places are an assignment of this cost, and no assignment costs less than the bound; by these prices
+-- the checker sees it
 pub record IsBracketAt (p : Problem) (places : List ℕ) (prices : List ℤ) (reason : Reason) (lower cost : ℤ) : Type 0 where
   pub problem : IsProblem p
   pub picks : List Pick
@@ -29,7 +31,8 @@ pub record IsBracketAt (p : Problem) (places : List ℕ) (prices : List ℤ) (re
   pub spelled : IsSpelled (CertParts.Bracket reason lower cost picks prices)
   pub shown : fault_of p (CertParts.Bracket reason lower cost picks prices) ≡ None
 
--- the first so many numbers are persons who together know just the first so many objects, which are fewer; the checker sees it
+-- the first so many numbers are persons who together know just the first so many objects, which are fewer; the checker
+-- sees it
 pub record IsHallAt (p : Problem) (choice set : List ℕ) (persons objects : ℕ) : Type 0 where
   pub problem : IsProblem p
   pub persons_in : persons ≤ length choice

@@ -14,7 +14,9 @@ use Rattle.auc_call.specs.Start.{start_fault_by}
 -- What was found is right for the problem and for what was written, and what isn't named stays as it was.
 abbrev pub IsSolved : Problem → Memory → Memory → Solved → Type 0
 IsSolved p before after (Optimal cost) = IsLeastAt p after.choice after.prices cost × (after.set ≡ before.set)
-IsSolved p before after (Infeasible persons objects) = IsHallAt p after.choice after.set persons objects × (after.prices ≡ before.prices) × StaysAfter persons before.choice after.choice × StaysAfter objects before.set after.set
+IsSolved p before after (Infeasible persons objects) =
+    IsHallAt p after.choice after.set persons objects × (after.prices ≡ before.prices)
+    × StaysAfter persons before.choice after.choice × StaysAfter objects before.set after.set
 IsSolved p before after (Bracket reason lower cost) = IsBracketAt p after.choice after.prices reason lower cost × (after.set ≡ before.set)
 
 -- why there is no run of a problem

@@ -30,11 +30,13 @@ row_arcs gap person object (cost ∷ row) = entry_arcs gap person object cost ++
 -- the arcs of the first so many rows
 abbrev pub table_arcs : ℕ → List ℤ → ℕ → ℤ → ℕ → List Arc
 table_arcs objects costs stride gap zero = []
-table_arcs objects costs stride gap (suc person) = table_arcs objects costs stride gap person ++ row_arcs gap person 0 (row_of objects costs stride person)
+table_arcs objects costs stride gap (suc person) =
+    table_arcs objects costs stride gap person ++ row_arcs gap person 0 (row_of objects costs stride person)
 
 -- so many persons, so many objects, where 0 stands for as many as persons, and the arcs of the table
 abbrev pub table_problem : ℕ → ℕ → List ℤ → ℕ → ℤ → Problem
-table_problem persons wanted costs stride gap = problem_from persons wanted (table_arcs (objects_or wanted persons) costs stride gap persons)
+table_problem persons wanted costs stride gap =
+    problem_from persons wanted (table_arcs (objects_or wanted persons) costs stride gap persons)
 
 -- where an arc's entry stands, as if no row had more than so many places
 abbrev pub entry_of : ℕ → Arc → ℕ

@@ -34,9 +34,15 @@ named arcs (Bracket reason lower cost) choice = objects_at arcs choice
 
 -- What was found is right for the problem and for what was written, and what isn't named stays as it was.
 abbrev pub IsTableSolved : Problem → List ℤ → ℕ → Memory → Memory → Solved → Type 0
-IsTableSolved p start bids before after (Optimal cost) = ByObjects p.arcs after.choice (λ places. IsLeastAt p places after.prices cost) × (after.set ≡ before.set)
-IsTableSolved p start bids before after (Infeasible persons objects) = IsHallAt p after.choice after.set persons objects × (after.prices ≡ before.prices) × StaysAfter persons before.choice after.choice × StaysAfter objects before.set after.set
-IsTableSolved p start bids before after (Bracket reason lower cost) = ByObjects p.arcs after.choice (λ places. IsBracketAt p places after.prices reason lower cost × IsLimitAt p start bids places after.prices reason lower cost) × (after.set ≡ before.set)
+IsTableSolved p start bids before after (Optimal cost) =
+    ByObjects p.arcs after.choice (λ places. IsLeastAt p places after.prices cost) × (after.set ≡ before.set)
+IsTableSolved p start bids before after (Infeasible persons objects) =
+    IsHallAt p after.choice after.set persons objects × (after.prices ≡ before.prices)
+    × StaysAfter persons before.choice after.choice × StaysAfter objects before.set after.set
+IsTableSolved p start bids before after (Bracket reason lower cost) =
+    ByObjects p.arcs after.choice
+    (λ places. IsBracketAt p places after.prices reason lower cost × IsLimitAt p start bids places after.prices reason lower cost)
+    × (after.set ≡ before.set)
 
 -- why a table's problem isn't built
 abbrev pub IsRefused : Problem → Failed → Type 0
@@ -54,10 +60,13 @@ SolvesArcs p start bids before after (Err failed) = IsStop Direct p start failed
 abbrev pub IsTableCause : Problem → ℕ → ℕ → List ℤ → Memory → Failed → Type 0
 IsTableCause p stride entries start before Sizes = AreTableSizes p stride entries before → ⊥
 IsTableCause p stride entries start before (Fault fault) = AreTableSizes p stride entries before × (table_fault p ≡ Some fault)
-IsTableCause p stride entries start before (Start fault) = AreTableSizes p stride entries before × IsProblem p × (start_fault p start ≡ Some fault)
+IsTableCause p stride entries start before (Start fault) =
+    AreTableSizes p stride entries before × IsProblem p × (start_fault p start ≡ Some fault)
 IsTableCause p stride entries start before NoMemory = AreTableSizes p stride entries before
 
 -- what a solve came to is right; where it is refused, nothing is written
 abbrev pub SolvesTable : Problem → ℕ → ℕ → List ℤ → ℕ → Memory → Memory → Result Solved Failed → Type 0
-SolvesTable p stride entries start bids before after (Ok solved) = AreTableSizes p stride entries before × (start_fault p start ≡ None) × IsTableSolved p start bids before after solved
+SolvesTable p stride entries start bids before after (Ok solved) =
+    AreTableSizes p stride entries before × (start_fault p start ≡ None)
+    × IsTableSolved p start bids before after solved
 SolvesTable p stride entries start bids before after (Err failed) = IsTableCause p stride entries start before failed × (after ≡ before)

@@ -37,19 +37,25 @@ check_status (Err failed) = failed_status failed
 
 abbrev pub failed_found : Failed → Found → Found
 failed_found Sizes old = old
-failed_found (Fault fault) old = record { cost = old.cost; lower = old.lower; persons = old.persons; objects = old.objects; kind = list_kind fault; place = list_place fault }
-failed_found (Start fault) old = record { cost = old.cost; lower = old.lower; persons = old.persons; objects = old.objects; kind = start_kind fault; place = start_place fault }
+failed_found (Fault fault) old = record
+    { cost = old.cost; lower = old.lower; persons = old.persons; objects = old.objects; kind = list_kind fault; place = list_place fault }
+failed_found (Start fault) old = record
+    { cost = old.cost; lower = old.lower; persons = old.persons; objects = old.objects; kind = start_kind fault; place = start_place fault }
 failed_found NoMemory old = old
 
 abbrev pub solve_found : Result Solved Failed → Found → Found
-solve_found (Ok (Optimal cost)) old = record { cost = cost; lower = old.lower; persons = old.persons; objects = old.objects; kind = old.kind; place = old.place }
-solve_found (Ok (Infeasible persons objects)) old = record { cost = old.cost; lower = old.lower; persons = persons; objects = objects; kind = old.kind; place = old.place }
-solve_found (Ok (Bracket reason lower cost)) old = record { cost = cost; lower = lower; persons = old.persons; objects = old.objects; kind = limit_kind reason; place = old.place }
+solve_found (Ok (Optimal cost)) old = record
+    { cost = cost; lower = old.lower; persons = old.persons; objects = old.objects; kind = old.kind; place = old.place }
+solve_found (Ok (Infeasible persons objects)) old = record
+    { cost = old.cost; lower = old.lower; persons = persons; objects = objects; kind = old.kind; place = old.place }
+solve_found (Ok (Bracket reason lower cost)) old = record
+    { cost = cost; lower = lower; persons = old.persons; objects = old.objects; kind = limit_kind reason; place = old.place }
 solve_found (Err failed) old = failed_found failed old
 
 abbrev pub check_found : Result Checked Failed → Found → Found
 check_found (Ok Valid) old = old
-check_found (Ok (Invalid fault)) old = record { cost = old.cost; lower = old.lower; persons = old.persons; objects = old.objects; kind = claim_kind fault; place = claim_place fault }
+check_found (Ok (Invalid fault)) old = record
+    { cost = old.cost; lower = old.lower; persons = old.persons; objects = old.objects; kind = claim_kind fault; place = claim_place fault }
 check_found (Err failed) old = failed_found failed old
 
 -- each field is as it was, unless the status names it

@@ -16,8 +16,8 @@ use Rattle.auc_call.specs.Table.{table_fault}
 use Rattle.auc_call.specs.TableSolving.{AreTableSizes}
 use Rattle.auc_call.specs.Telling.{solve_statuses, check_statuses, KeepsFound, KeepsMemory, KeepsChecked}
 
--- A solve. `Fits` is what the caller's memory has to be, `list` and `unfit` are the faults of the problem and of the start, and `At` says
--- something of the places of the chosen arcs.
+-- A solve. `Fits` is what the caller's memory has to be, `list` and `unfit` are the faults of the problem and of the
+-- start, and `At` says something of the places of the chosen arcs.
 pub record IsTold (p : Problem) (Fits : Type 0) (list : Option ListFault) (unfit : Option StartFault) (At : (List ℕ → Type 0) → Type 0)
     (status : ℤ) (before after : Memory) (old new : Found) : Type 0 where
   pub known : Contains solve_statuses status
@@ -45,7 +45,8 @@ abbrev pub IsTableTold : Problem → ℕ → ℕ → Option StartFault → ℤ �
 IsTableTold p stride entries unfit status before after old new =
     IsTold p (AreTableSizes p stride entries before) (table_fault p) unfit (ByObjects p.arcs after.choice) status before after old new
 
--- A check: `Fits` is as for a solve, `Shown` what passes, `Holds` what is then true, and `Faulty` tells a fault by its kind and place.
+-- A check: `Fits` is as for a solve, `Shown` what passes, `Holds` what is then true, and `Faulty` tells a fault by its
+-- kind and place.
 pub record IsCheckTold (p : Problem) (Fits Shown Holds : Type 0) (Faulty : ℕ → ℕ → Type 0) (status : ℤ) (old new : Found) : Type 0 where
   pub known : Contains check_statuses status
   pub valid : status ≡ pos 0 → Holds
@@ -64,4 +65,5 @@ IsClaimChecked p choice prices cost status old new =
 -- a check of a Hall set, which any sizes fit
 abbrev pub IsHallChecked : Problem → List ℕ → List ℕ → ℤ → Found → Found → Type 0
 IsHallChecked p persons objects status old new =
-    IsCheckTold p (Unit {0}) (IsHallShown p persons objects) (IsHallSet p persons objects) (IsHallFaultTold p persons objects) status old new
+    IsCheckTold p (Unit {0}) (IsHallShown p persons objects) (IsHallSet p persons objects)
+    (IsHallFaultTold p persons objects) status old new

@@ -1,4 +1,5 @@
--- What shows that an assignment of a table costs least: at the prices no entry is better for a person than his own, and an object that nobody has is free.
+-- What shows that an assignment of a table costs least: at the prices no entry is better for a person than his own, and
+-- an object that nobody has is free.
 use Rattle.std.specs.Prelude.{◌≡◌, ◌≢◌, ℕ, ◌*◌, ◌<◌, ◌^◌, get_or, List, length, All, ℤ, pos, ◌+ℤ◌, ◌*ℤ◌, ◌≤ℤ◌}
 use Rattle.auc_claim.specs.declared.lists.Pick.{Pick}
 use Rattle.auc_call.specs.Table.{row_of}
@@ -16,7 +17,8 @@ worth_at row prices object = get_or row object (pos 0) +ℤ get_or prices object
 
 -- no entry before this place that is no gap is worth less
 abbrev pub IsNoneBelow : ℤ → List ℤ → List ℤ → ℤ → ℕ → Type 0
-IsNoneBelow gap row prices least place = (object : ℕ) → object < place → get_or row object (pos 0) ≢ gap → least ≤ℤ worth_at row prices object
+IsNoneBelow gap row prices least place =
+    (object : ℕ) → object < place → get_or row object (pos 0) ≢ gap → least ≤ℤ worth_at row prices object
 
 -- The pick is an entry of the row that is no gap, and none of these is better.
 pub record IsBestIn (gap : ℤ) (row prices : List ℤ) (pick : Pick) : Type 0 where
@@ -36,7 +38,9 @@ AreHeldApart picks holders = (person : ℕ) → person < length picks → get_or
 
 -- each object that has a price is picked
 abbrev pub AreOthersFree : List Pick → List ℤ → Type 0
-AreOthersFree picks prices = (object : ℕ) → object < length prices → get_or prices object (pos 0) ≢ pos 0 → (person : ℕ) × (person < length picks) × ((pick_at picks person).object ≡ object)
+AreOthersFree picks prices =
+    (object : ℕ) → object < length prices → get_or prices object (pos 0) ≢ pos 0 → (person : ℕ)
+    × (person < length picks) × ((pick_at picks person).object ≡ object)
 
 -- A price in costs of a table: scaled, it is still one.
 pub record IsPlainPrice (price : ℤ) : Type 0 where

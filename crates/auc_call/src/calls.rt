@@ -53,20 +53,21 @@ fn solve_by(
     tell_solved(solved, found)
 }
 
-/// Solves the problem of so many persons, so many objects and these arcs: a least-cost assignment, persons who together know too few
-/// objects, or, where the bids don't suffice, an assignment and a bound on what any costs.
+/// Solves the problem of so many persons, so many objects and these arcs: a least-cost assignment, persons who together
+/// know too few objects, or, where the bids don't suffice, an assignment and a bound on what any costs.
 ///
-/// Persons and objects are numbered from 0; `objects` 0 stands for as many as persons. `start` holds the prices to start from, indexed by
-/// object, from 0 to 2^60 on the scale of costs times persons + 1, as an earlier call has left them in `prices`; none at all is a start from
-/// nothing. `bids` is the most bids of a phase.
+/// Persons and objects are numbered from 0; `objects` 0 stands for as many as persons. `start` holds the prices to
+/// start from, indexed by object, from 0 to 2^60 on the scale of costs times persons + 1, as an earlier call has left
+/// them in `prices`; none at all is a start from nothing. `bids` is the most bids of a phase.
 ///
-/// `choice` and `hall_objects` have a place for each person, and `prices` one for each object. After [`OPTIMAL`](crate::OPTIMAL) and
-/// [`BRACKET`](crate::BRACKET) `choice` holds for each person the place in `arcs` of his arc, and `prices` the prices that show it; after
-/// [`INFEASIBLE`](crate::INFEASIBLE) `choice` begins with `found.persons` persons, and `hall_objects` with the `found.objects` objects that
-/// they know, both rising. All else stays as it was.
+/// `choice` and `hall_objects` have a place for each person, and `prices` one for each object. After
+/// [`OPTIMAL`](crate::OPTIMAL) and [`BRACKET`](crate::BRACKET) `choice` holds for each person the place in `arcs` of
+/// his arc, and `prices` the prices that show it; after [`INFEASIBLE`](crate::INFEASIBLE) `choice` begins with
+/// `found.persons` persons, and `hall_objects` with the `found.objects` objects that they know, both rising. All else
+/// stays as it was.
 ///
-/// The solver is the one in one hand, [`auc_direct::solve_direct`], or from a start [`auc_direct::solve_direct_from`], whose time and memory
-/// it takes, beside a copy of the arcs. Clause `limit` says where a bracket is left.
+/// The solver is the one in one hand, [`auc_direct::solve_direct`], or from a start [`auc_direct::solve_direct_from`],
+/// whose time and memory it takes, beside a copy of the arcs. Clause `limit` says where a bracket is left.
 pub fn solve_call(
     alloc: Global,
     persons: u32,
@@ -102,11 +103,11 @@ pub fn solve_call(
     )
 }
 
-/// Solves as [`solve_call`] does, but by messages, as the program does without `--direct`: clause `run` says which run the answer is of. Of
-/// several least assignments it may be another one. A start is for as many objects as persons.
+/// Solves as [`solve_call`] does, but by messages, as the program does without `--direct`: clause `run` says which run
+/// the answer is of. Of several least assignments it may be another one. A start is for as many objects as persons.
 ///
-/// Takes the time of [`auc_world::solve_serial`], which may be far longer where there are more objects than persons and costs differ much;
-/// and 44 bytes of memory an arc, the caller's own among them.
+/// Takes the time of [`auc_world::solve_serial`], which may be far longer where there are more objects than persons and
+/// costs differ much; and 44 bytes of memory an arc, the caller's own among them.
 pub fn solve_by_messages_call(
     alloc: Global,
     persons: u32,
@@ -142,8 +143,9 @@ pub fn solve_by_messages_call(
     )
 }
 
-/// Checks that the arcs at these places are an assignment of this cost than which none costs less, as the prices show, whoever found it.
-/// The slices are as [`solve_call`] has left them; it takes O(arcs + persons + objects) time, and memory for a copy of the arcs.
+/// Checks that the arcs at these places are an assignment of this cost than which none costs less, as the prices show,
+/// whoever found it. The slices are as [`solve_call`] has left them; it takes O(arcs + persons + objects) time, and
+/// memory for a copy of the arcs.
 ///
 /// What [`solve_call`] answers as [`OPTIMAL`](crate::OPTIMAL) passes, unless memory is refused.
 pub fn check_call(
@@ -163,8 +165,8 @@ pub fn check_call(
     tell_checked(checked, found)
 }
 
-/// Checks that these persons together know none but these objects, which are fewer, whoever found them. Both rise. It takes O(arcs +
-/// persons + objects) time, and memory for a copy of the arcs.
+/// Checks that these persons together know none but these objects, which are fewer, whoever found them. Both rise. It
+/// takes O(arcs + persons + objects) time, and memory for a copy of the arcs.
 ///
 /// What [`solve_call`] answers as [`INFEASIBLE`](crate::INFEASIBLE) passes, unless memory is refused.
 pub fn check_hall_call(

@@ -12,10 +12,10 @@ pub struct Found {
     pub persons: u32,
     /// How many objects these persons know: of [`INFEASIBLE`](crate::INFEASIBLE).
     pub objects: u32,
-    /// Which limit ended a phase, or which fault there is, from 1: of [`BRACKET`](crate::BRACKET), [`REFUSED`](crate::REFUSED),
-    /// [`START`](crate::START) and [`INVALID`](crate::INVALID).
+    /// Which limit ended a phase, or which fault there is, from 1: of [`BRACKET`](crate::BRACKET),
+    /// [`REFUSED`](crate::REFUSED), [`START`](crate::START) and [`INVALID`](crate::INVALID).
     pub kind: u32,
-    /// The arc, entry, person or object that is at fault, from 0, where the kind has one, else 0: of [`REFUSED`](crate::REFUSED),
-    /// [`START`](crate::START) and [`INVALID`](crate::INVALID).
+    /// The arc, entry, person or object that is at fault, from 0, where the kind has one, else 0: of
+    /// [`REFUSED`](crate::REFUSED), [`START`](crate::START) and [`INVALID`](crate::INVALID).
     pub place: u32,
 }

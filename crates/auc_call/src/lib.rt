@@ -1,7 +1,8 @@
 //! The solver and the checker over a caller's memory: what a C program holds goes in, and a status comes out.
 //!
-//! [`solve_call`], [`solve_table_call`], [`solve_by_messages_call`], [`check_call`] and [`check_hall_call`] are what the crate `sigdorf_c`
-//! exports. Each says by its status which of its promises holds of what it has written. No call keeps anything after its return.
+//! [`solve_call`], [`solve_table_call`], [`solve_by_messages_call`], [`check_call`] and [`check_hall_call`] are what
+//! the crate `sigdorf_c` exports. Each says by its status which of its promises holds of what it has written. No call
+//! keeps anything after its return.
 #![tactic(auto)]
 
 mod calls;

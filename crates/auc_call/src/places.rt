@@ -46,7 +46,8 @@ fn find_places(arcs: &[Arc], picks: &[Pick], choice: &mut [u32])
     }
 }
 
-/// Writes for each person the place of an arc that is his pick: the places that came with the picks where they are right, as those of a solve are, and else what is found in the list.
+/// Writes for each person the place of an arc that is his pick: the places that came with the picks where they are
+/// right, as those of a solve are, and else what is found in the list.
 pub(crate) fn set_places(arcs: &[Arc], picks: &[Pick], places: Option<&[u32]>, choice: &mut [u32])
     requires few { length arcs.now ≤ 33554432 }
     requires persons { All (λ a. a.person < length picks.now) arcs.now }

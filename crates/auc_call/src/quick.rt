@@ -13,13 +13,16 @@ use auc_claim::{Pick, cost_of};
 use auc_table::{Table, propose};
 use std::alloc::{AllocError, Global};
 
-/// How many entries the search may look at in any table with as many objects as persons: as many as take some ten milliseconds.
+/// How many entries the search may look at in any table with as many objects as persons: as many as take some ten
+/// milliseconds.
 const LOOKS: u64 = 16_777_216;
 
-/// How many times it may look at each entry in the mean, where that is more. Where it takes more, bids with lists are faster.
+/// How many times it may look at each entry in the mean, where that is more. Where it takes more, bids with lists are
+/// faster.
 const TIMES: u64 = 32;
 
-/// How many entries the search may look at. To look over a row counts as a bid; with more objects than persons nothing else ends it, since bids are no faster there.
+/// How many entries the search may look at. To look over a row counts as a bid; with more objects than persons nothing
+/// else ends it, since bids are no faster there.
 fn looks_of(persons: u32, objects: u32, bids: u64) -> u64 {
     let row = u64::from(objects);
     let by_bids = row.saturating_mul(bids);
@@ -61,7 +64,8 @@ fn put_prices(scale: i64, plain: &[i64], prices: &mut [i64])
     }
 }
 
-/// Solves a table of so many arcs from nothing, where the search comes to a least assignment soon enough; gives its cost. Else nothing is written.
+/// Solves a table of so many arcs from nothing, where the search comes to a least assignment soon enough; gives its
+/// cost. Else nothing is written.
 pub(crate) fn solve_quickly(
     alloc: Global,
     persons: u32,
@@ -80,7 +84,8 @@ pub(crate) fn solve_quickly(
     requires choice { length choice.old ≡ persons }
     requires prices { length prices.old ≡ objects }
     ensures unstarted { IfOk result (λ o. IfSome o (λ cost. start.now ≡ [])) }
-    ensures quick { IsQuick (problem persons objects (table_arcs objects costs.now stride gap persons)) choice.old choice.new prices.old prices.new result }
+    ensures quick { IsQuick (problem persons objects (table_arcs objects costs.now stride gap persons)) choice.old
+        choice.new prices.old prices.new result }
 {
     if !start.is_empty() {
         return Ok(None);

@@ -72,8 +72,10 @@ pub(crate) fn solve_into(
     prices: &mut [i64],
     set: &mut [u32],
 ) -> Result<Solved, Failed>
-    ensures solves { Solves driver (problem_from persons objects arcs.now) start.now (memory choice.old prices.old set.old) (memory choice.new prices.new set.new) result }
-    ensures run { IfOk result (IsSolvedBy driver (problem_from persons objects arcs.now) start.now bids (memory choice.new prices.new set.new)) }
+    ensures solves { Solves driver (problem_from persons objects arcs.now) start.now
+        (memory choice.old prices.old set.old) (memory choice.new prices.new set.new) result }
+    ensures run { IfOk result
+        (IsSolvedBy driver (problem_from persons objects arcs.now) start.now bids (memory choice.new prices.new set.new)) }
 {
     let wanted = objects_or(objects, persons) as usize;
     let places = persons as usize;

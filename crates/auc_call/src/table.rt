@@ -159,7 +159,10 @@ pub(crate) fn arcs_of_table(
     Ok(arcs)
 }
 
-/// The arcs of a table are those of its entries that are no gap, and no others: each has the person, the object and the cost of its entry.
+/// The arcs of a table are those of its entries that are no gap, and no others: each has the person, the object and the
+/// cost of its entry.
 pub fn arcs_are_entries()
-    ensures { (persons objects stride : ℕ) (costs : List ℤ) (gap : ℤ) (arc : Arc) → IsTable persons objects stride (length costs) → Contains (table_arcs objects costs stride gap persons) arc ↔ IsEntry persons objects costs stride gap arc }
+    ensures { (persons objects stride : ℕ) (costs : List ℤ) (gap : ℤ) (arc : Arc)
+        → IsTable persons objects stride (length costs) → Contains (table_arcs objects costs stride gap persons) arc
+        ↔ IsEntry persons objects costs stride gap arc }
 {}

@@ -13,20 +13,23 @@ use crate::table_solving::solve_table_into;
 use crate::telling::tell_solved;
 use std::alloc::Global;
 
-/// Solves as [`solve_call`](crate::solve_call) does, but the problem of a table, which has a row for each person and in it an entry for
-/// each object: the cost of person `i` and object `j` stands at `costs[i * stride + j]`, and an entry that equals `none` is a gap, which is
-/// no arc. The arcs are those of the other entries, row by row. What stands between rows and after the last one is not looked at.
+/// Solves as [`solve_call`](crate::solve_call) does, but the problem of a table, which has a row for each person and in
+/// it an entry for each object: the cost of person `i` and object `j` stands at `costs[i * stride + j]`, and an entry
+/// that equals `none` is a gap, which is no arc. The arcs are those of the other entries, row by row. What stands
+/// between rows and after the last one is not looked at.
 ///
-/// After [`OPTIMAL`](crate::OPTIMAL) and [`BRACKET`](crate::BRACKET) `choice` holds for each person his object in place of his arc. After
-/// [`REFUSED`](crate::REFUSED) a cost's `found.place` is that of the entry in a table whose stride is the number of objects. A stride below
-/// that number, and a row that doesn't lie within `costs`, are [`SIZES`](crate::SIZES).
+/// After [`OPTIMAL`](crate::OPTIMAL) and [`BRACKET`](crate::BRACKET) `choice` holds for each person his object in place
+/// of his arc. After [`REFUSED`](crate::REFUSED) a cost's `found.place` is that of the entry in a table whose stride is
+/// the number of objects. A stride below that number, and a row that doesn't lie within `costs`, are
+/// [`SIZES`](crate::SIZES).
 ///
-/// Where `start` is empty a search over the table comes first ([`auc_table::propose`]), in which to look over a row counts as a bid, and
-/// its answer is taken where one pass over the table shows that it is least. That takes O(persons^2 * objects) time at most, at most 44
-/// bytes of memory an object and 20 a person, and 8 an entry where the table has gaps. Where it looks at more than 2^24 entries of a table
-/// with as many objects as persons, and at more than 32 times all, and where there is a start, the arcs are written out and solved: that
-/// takes the time and memory of [`solve_call`](crate::solve_call), but for its copy of the arcs, which is the only one here: 16 bytes for
-/// each entry that is no gap.
+/// Where `start` is empty a search over the table comes first ([`auc_table::propose`]), in which to look over a row
+/// counts as a bid, and its answer is taken where one pass over the table shows that it is least. That takes
+/// O(persons^2 * objects) time at most, at most 44 bytes of memory an object and 20 a person, and 8 an entry where the
+/// table has gaps. Where it looks at more than 2^24 entries of a table with as many objects as persons, and at more
+/// than 32 times all, and where there is a start, the arcs are written out and solved: that takes the time and memory
+/// of [`solve_call`](crate::solve_call), but for its copy of the arcs, which is the only one here: 16 bytes for each
+/// entry that is no gap.
 pub fn solve_table_call(
     alloc: Global,
     persons: u32,

@@ -87,8 +87,8 @@ fn solve_arcs(
     Ok(solved)
 }
 
-/// Solves the problem of a table in one hand, and writes the answer into the caller's memory, with objects in place of arcs. Where there is no start, a search over
-/// the table itself comes first.
+/// Solves the problem of a table in one hand, and writes the answer into the caller's memory, with objects in place of
+/// arcs. Where there is no start, a search over the table itself comes first.
 pub(crate) fn solve_table_into(
     alloc: Global,
     persons: u32,
@@ -102,7 +102,8 @@ pub(crate) fn solve_table_into(
     prices: &mut [i64],
     set: &mut [u32],
 ) -> Result<Solved, Failed>
-    ensures { SolvesTable (table_problem persons objects costs.now stride gap) stride (length costs.now) start.now bids (memory choice.old prices.old set.old) (memory choice.new prices.new set.new) result }
+    ensures { SolvesTable (table_problem persons objects costs.now stride gap) stride (length costs.now) start.now
+        bids (memory choice.old prices.old set.old) (memory choice.new prices.new set.new) result }
 {
     let wanted = objects_or(objects, persons);
     let places = persons as usize;

@@ -1,4 +1,5 @@
-//! Whether what was proposed for a table shows a least assignment of it. Nothing is known of a proposal, so all of it is looked at.
+//! Whether what was proposed for a table shows a least assignment of it. Nothing is known of a proposal, so all of it
+//! is looked at.
 
 ghost use Rattle.std.specs.Prelude.{◌≡◌, ◌≢◌, ◌<◌, ◌≤◌, ◌^◌, pos, neg_ℤ, ◌+ℤ◌, ◌≤ℤ◌, All, IsTrue, IfOk, IfSome, length};
 ghost use Rattle.auc_graph.specs.declared.limits.TheConstants.{MOST_PERSONS};
@@ -11,8 +12,8 @@ use auc_graph::MOST_COST;
 use auc_table::Proposal;
 use std::alloc::{AllocError, Global};
 
-/// The highest price that is taken, in costs of the table: scaled by persons + 1, it is below 2^61. Those of a least assignment need not be above 10,000 times the
-/// spread of the costs.
+/// The highest price that is taken, in costs of the table: scaled by persons + 1, it is below 2^61. Those of a least
+/// assignment need not be above 10,000 times the spread of the costs.
 const HIGHEST: i64 = 200_000_000_000_000;
 
 /// Whether all prices are from 0 to the highest.

@@ -9,7 +9,8 @@ use Rattle.auc_cert.proofs.LineLaws.{number_again, number_takes}
 use Rattle.auc_cert.proofs.RunLaws.{none_some, run_begins, run_more}
 use Rattle.auc_claim.proofs.RisingLaws.{rises_push, behind_push}
 
--- what the reader of such lines keeps: the numbers that were read rise, those to come have room below `most`, and the last one is `last` or above
+-- what the reader of such lines keeps: the numbers that were read rise, those to come have room below `most`, and the
+-- last one is `last` or above
 pub record HasRead (front : List ℕ) (most last n done : ℕ) (bytes numbers rest : List ℕ) (least : ℕ) : Type 0 where
   pub run : IsRisingRun front most done bytes numbers rest
   pub is : least ≡ least_behind 0 numbers

@@ -58,7 +58,8 @@ pub record AreCounts (version : Version) (persons objects : ℕ) : Type 0 where
 abbrev pub IsSecondLine : Version → SecondLine → Type 0
 IsSecondLine version (Optimal persons objects cost) = AreSizes version persons objects × FitsSigned w64 cost
 IsSecondLine version (Infeasible persons objects) = AreCounts version persons objects
-IsSecondLine version (Bracket reason persons objects lower cost) = AreSizes version persons objects × FitsSigned w64 lower × FitsSigned w64 cost
+IsSecondLine version (Bracket reason persons objects lower cost) =
+    AreSizes version persons objects × FitsSigned w64 lower × FitsSigned w64 cost
 
 -- what can stand after it
 abbrev pub LinesBehind : Version → SecondLine → List (List ℕ) → Type 0

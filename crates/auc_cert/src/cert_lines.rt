@@ -1,4 +1,5 @@
-//! The lines of a certificate, read one by one: the first one, which tells the version, and those of picks, prices and names.
+//! The lines of a certificate, read one by one: the first one, which tells the version, and those of picks, prices and
+//! names.
 
 ghost use Rattle.std.specs.Prelude.{◌≡◌, ◌<◌, ◌≤◌, IfSome};
 ghost use Rattle.auc_cert.specs.Fields.{viewed, after, head_at, pick_line_at, price_line_at, number_at};

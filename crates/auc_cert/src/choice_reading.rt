@@ -24,7 +24,8 @@ fn picks_of(
     requires persons { persons ≤ 10000 }
     requires most { most ≤ 20000 }
     ensures found { IfOk result (λ x. IsRun assign_line (IsPick most) persons bytes.now x.0.items x.1.now) }
-    ensures line { AnswersUnless CertTextError.NoMemory (λ x. x) result (λ r. IfErr r (NamesLine (From 2 (BreaksOff assign_line (IsPick most) persons bytes.now)))) }
+    ensures line { AnswersUnless CertTextError.NoMemory (λ x. x) result
+        (λ r. IfErr r (NamesLine (From 2 (BreaksOff assign_line (IsPick most) persons bytes.now)))) }
 {
     let mut picks = Vec::new(alloc);
     let mut rest = bytes;
@@ -53,7 +54,8 @@ fn prices_of(
     requires objects { objects ≤ 20000 }
     requires first { first ≤ 20000 }
     ensures found { IfOk result (λ x. IsRun price_line IsPrice objects bytes.now x.0.items x.1.now) }
-    ensures line { AnswersUnless CertTextError.NoMemory (λ x. x) result (λ r. IfErr r (NamesLine (From first (BreaksOff price_line IsPrice objects bytes.now)))) }
+    ensures line { AnswersUnless CertTextError.NoMemory (λ x. x) result
+        (λ r. IfErr r (NamesLine (From first (BreaksOff price_line IsPrice objects bytes.now)))) }
 {
     let mut prices = Vec::new(alloc);
     let mut rest = bytes;
@@ -72,7 +74,8 @@ fn prices_of(
     Ok((prices, rest))
 }
 
-/// The picks of so many persons and the prices of so many objects, after the first two lines of a certificate that ends with them.
+/// The picks of so many persons and the prices of so many objects, after the first two lines of a certificate that ends
+/// with them.
 pub(crate) fn choice_of(
     alloc: Global,
     persons: u32,
@@ -80,8 +83,10 @@ pub(crate) fn choice_of(
     bytes: &[u8],
 ) -> Result<(Picks, Prices), CertTextError>
     requires { AreCounted persons objects }
-    ensures found { IfOk result (λ x. IsChoice x.0 x.1 × (length x.0 ≡ persons) × (length x.1 ≡ objects) × (bytes.now ≡ joined (choice_lines x.0 x.1))) }
-    ensures line { AnswersUnless CertTextError.NoMemory (λ x. x) result (λ r. IfErr r (NamesLine (From 2 (IsFirstBadOf (ChoiceLines persons objects) bytes.now)))) }
+    ensures found { IfOk result
+        (λ x. IsChoice x.0 x.1 × (length x.0 ≡ persons) × (length x.1 ≡ objects) × (bytes.now ≡ joined (choice_lines x.0 x.1))) }
+    ensures line { AnswersUnless CertTextError.NoMemory (λ x. x) result
+        (λ r. IfErr r (NamesLine (From 2 (IsFirstBadOf (ChoiceLines persons objects) bytes.now)))) }
 {
     let most = Version::of_sizes(persons as usize, objects as usize).most_objects();
     let (choice, rest) = picks_of(alloc, persons, most, bytes)?;

@@ -1,4 +1,5 @@
-//! A line of text, put together from its end to its front: the digits of a number come last one first, and nothing that stands moves.
+//! A line of text, put together from its end to its front: the digits of a number come last one first, and nothing that
+//! stands moves.
 
 ghost use Rattle.std.specs.Prelude.{◌≡◌, ◌+◌, ◌<◌, ◌≤◌, ◌∷◌, ◌++◌, length, codes};
 ghost use Rattle.std.specs.Fmt.{decimal, signed_decimal};

@@ -11,11 +11,11 @@ ghost use Rattle.auc_cert.specs.CertReading.{IsFirstBadOf, NameLines};
 use crate::cert_lines::number_of;
 use crate::text_error::CertTextError;
 use auc_claim::{MOST_OBJECTS_IN_FIRST, Version};
-use auc_graph::MOST_PERSONS;
-use auc_graph::Indices;
+use auc_graph::{Indices, MOST_PERSONS};
 use std::alloc::Global;
 
-/// The least number that may stand after `done` of `count` numbers, where it is `least`, and of the last one `last` too.
+/// The least number that may stand after `done` of `count` numbers, where it is `least`, and of the last one `last`
+/// too.
 fn least_here(least: u32, last: u32, done: u32, count: u32) -> u32
     requires { done < count }
     ensures least { least ≤ result }
@@ -29,8 +29,8 @@ fn least_here(least: u32, last: u32, done: u32, count: u32) -> u32
     }
 }
 
-/// So many rising numbers below `most`, the last one `last` or above, each on a line with this front, the first on line `first`,
-/// and what stands after them. A number has to leave room for those after it.
+/// So many rising numbers below `most`, the last one `last` or above, each on a line with this front, the first on line
+/// `first`, and what stands after them. A number has to leave room for those after it.
 fn rising_of<'a>(
     alloc: Global,
     front: &[u8],
@@ -46,7 +46,8 @@ fn rising_of<'a>(
     requires first { first ≤ 20000 }
     ensures found { IfOk result (λ x. IsRisingRun front.now most count bytes.now x.0.items x.1.now) }
     ensures last { IfOk result (λ x. 0 < count → last < least_behind 0 x.0.items) }
-    ensures line { AnswersUnless CertTextError.NoMemory (λ x. x) result (λ r. IfErr r (NamesLine (From first (BreaksRising front.now most last count bytes.now)))) }
+    ensures line { AnswersUnless CertTextError.NoMemory (λ x. x) result
+        (λ r. IfErr r (NamesLine (From first (BreaksRising front.now most last count bytes.now)))) }
 {
     let mut numbers = Vec::new(alloc);
     let mut least = 0;
@@ -92,8 +93,11 @@ pub(crate) fn names_of(
     bytes: &[u8],
 ) -> Result<(Indices, Indices), CertTextError>
     requires { AreCounts version persons objects }
-    ensures found { IfOk result (λ x. AreNamed x.0 x.1 × (names_version x.1 ≡ version) × (length x.0 ≡ persons) × (length x.1 ≡ objects) × (bytes.now ≡ joined (name_lines x.0 x.1))) }
-    ensures line { AnswersUnless CertTextError.NoMemory (λ x. x) result (λ r. IfErr r (NamesLine (From 2 (IsFirstBadOf (NameLines version persons objects) bytes.now)))) }
+    ensures found { IfOk result
+        (λ x. AreNamed x.0 x.1 × (names_version x.1 ≡ version) × (length x.0 ≡ persons) × (length x.1 ≡ objects) ×
+        (bytes.now ≡ joined (name_lines x.0 x.1))) }
+    ensures line { AnswersUnless CertTextError.NoMemory (λ x. x) result
+        (λ r. IfErr r (NamesLine (From 2 (IsFirstBadOf (NameLines version persons objects) bytes.now)))) }
 {
     let (named, rest) = rising_of(alloc, b"person ", MOST_PERSONS, 0, persons, 2, bytes)?;
     let (known, rest) = rising_of(

@@ -52,8 +52,9 @@ fn taken_of(written: io::Result<usize>) -> Result<usize, WriteFault>
 ///
 /// # Errors
 ///
-/// [`WriteFault::Failed`] at the first write that fails, also by an interrupt: no write is tried again. [`WriteFault::Stopped`] at the
-/// first one that takes nothing. A beginning of the bytes was written, and not all of them.
+/// [`WriteFault::Failed`] at the first write that fails, also by an interrupt: no write is tried again.
+/// [`WriteFault::Stopped`] at the first one that takes nothing. A beginning of the bytes was written, and not all of
+/// them.
 pub fn write_whole<W: Write>(writer: &mut W, bytes: &[u8]) -> Result<(), WriteFault>
     ensures { Writes result (W.contents writer.old) (W.contents writer.new) bytes.now }
 {
@@ -99,11 +100,7 @@ pub fn write_parts<W: Write>(writer: &mut W, parts: &[Part]) -> Result<(), Write
 /// # Errors
 ///
 /// As [`write_whole`], of the whole line.
-pub fn write_counted<W: Write>(
-    writer: &mut W,
-    words: &[u8],
-    number: u64,
-) -> Result<(), WriteFault>
+pub fn write_counted<W: Write>(writer: &mut W, words: &[u8], number: u64) -> Result<(), WriteFault>
     ensures { Writes result (W.contents writer.old) (W.contents writer.new) (counted words.now number) }
 {
     let parts = [Part::Words(words), Part::Count(number), Part::LineEnd];

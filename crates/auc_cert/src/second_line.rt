@@ -29,7 +29,8 @@ pub(crate) enum SecondLine {
     },
 }
 
-/// How many objects there are after so many persons, and what stands after that: version 1 has as many, and doesn't write it.
+/// How many objects there are after so many persons, and what stands after that: version 1 has as many, and doesn't
+/// write it.
 #[tactic(auto, unfolding(crate::specs::Fields::objects_at))]
 fn objects_of(bytes: &[u8], version: Version, persons: u32) -> Option<(u32, &[u8])>
     ensures { viewed (λ x. (x.0, x.1.now)) result ≡ objects_at version persons bytes.now }

@@ -4,7 +4,6 @@ ghost use Rattle.std.specs.Prelude.{◌≡◌};
 ghost use Rattle.auc_cert.specs.Text.{head_line, reason_word};
 ghost use Rattle.auc_cert.specs.Fields.{reason_of};
 
-
 const REASONS: [Reason; 5] = [
     Reason::Bids,
     Reason::Ceiling,
@@ -12,6 +11,7 @@ const REASONS: [Reason; 5] = [
     Reason::Trail,
     Reason::Mail,
 ];
+
 use auc_claim::{Reason, Version};
 
 /// The first line of a text.
@@ -42,5 +42,8 @@ pub(crate) fn reason_word(reason: Reason) -> &'static [u8]
 pub(crate) fn reason_of_word(word: &[u8]) -> Option<Reason>
     ensures { result ≡ reason_of word.now }
 {
-    REASONS.iter().copied().find(|reason| word == reason_word(*reason))
+    REASONS
+        .iter()
+        .copied()
+        .find(|reason| word == reason_word(*reason))
 }

@@ -18,7 +18,8 @@ fn write_optimal_head<W: Write>(
     objects: u64,
     cost: i64,
 ) -> Result<(), WriteFault>
-    ensures { Writes result (W.contents writer.old) (W.contents writer.new) (head_line version ++ optimal_line version persons objects cost) }
+    ensures { Writes result (W.contents writer.old) (W.contents writer.new)
+        (head_line version ++ optimal_line version persons objects cost) }
 {
     match version {
         Version::First => {
@@ -76,7 +77,8 @@ fn write_bracket_head<W: Write>(
     lower: i64,
     cost: i64,
 ) -> Result<(), WriteFault>
-    ensures { Writes result (W.contents writer.old) (W.contents writer.new) (head_line version ++ bracket_line version reason persons objects lower cost) }
+    ensures { Writes result (W.contents writer.old) (W.contents writer.new)
+        (head_line version ++ bracket_line version reason persons objects lower cost) }
 {
     match version {
         Version::First => {
@@ -140,8 +142,8 @@ fn write_price<W: Write>(writer: &mut W, object: u64, price: i64) -> Result<(), 
     write_whole(writer, line.as_slice())
 }
 
-/// Writes the lines of all persons: `assign I J C` for the pick of person I, who takes object J at cost C, both numbered
-/// from 1.
+/// Writes the lines of all persons: `assign I J C` for the pick of person I, who takes object J at cost C, both
+/// numbered from 1.
 pub fn write_picks<W: Write>(writer: &mut W, choice: &[Pick]) -> Result<(), WriteFault>
     requires { length choice.now < 2 ^ 32 }
     ensures { Writes result (W.contents writer.old) (W.contents writer.new) (joined (numbered assign_line 0 choice.now)) }
@@ -208,7 +210,8 @@ fn write_bracket<W: Write>(
 ) -> Result<(), WriteFault>
     requires choice { length choice.now < 2 ^ 32 }
     requires prices { length prices.now < 2 ^ 32 }
-    ensures { Writes result (W.contents writer.old) (W.contents writer.new) (text (CertParts.Bracket reason lower cost choice.now prices.now)) }
+    ensures { Writes result (W.contents writer.old) (W.contents writer.new)
+        (text (CertParts.Bracket reason lower cost choice.now prices.now)) }
 {
     let version = Version::of_sizes(choice.len(), prices.len());
     let (persons, objects) = (choice.len() as u64, prices.len() as u64);
@@ -251,7 +254,8 @@ fn write_infeasible<W: Write>(
     write_numbers(writer, b"object ", objects)
 }
 
-/// Writes the text of a certificate, the one that [`read_cert`](crate::read_cert) reads. Takes O(persons + objects) writes and no memory.
+/// Writes the text of a certificate, the one that [`read_cert`](crate::read_cert) reads. Takes O(persons + objects)
+/// writes and no memory.
 ///
 /// # Errors
 ///

@@ -64,7 +64,8 @@ choice_faults p cost choice prices =
 
 -- what the test of slackness finds: the first person with a better arc
 abbrev pub slack_fault : Problem → List Pick → List ℤ → Option CertRefused
-slack_fault p choice prices = option_map (λ i. Slack i) (position (λ c. not (is_slack_right (scale_of p) prices p.arcs c)) (chosen 0 choice))
+slack_fault p choice prices =
+    option_map (λ i. Slack i) (position (λ c. not (is_slack_right (scale_of p) prices p.arcs c)) (chosen 0 choice))
 
 -- the objects that are picked
 abbrev pub picked : List Pick → List ℕ
@@ -94,11 +95,14 @@ stays_within persons objects a = not (is_listed persons a.person) || is_listed o
 
 -- fewer objects than persons, all of the problem, and no arc of a listed person leads to another object
 abbrev pub is_hall : Problem → List ℕ → List ℕ → Bool
-is_hall p persons objects = (are_below p.persons persons && are_below p.objects objects) && (nat_lt (length objects) (length persons) && list_all (stays_within persons objects) p.arcs)
+is_hall p persons objects =
+    (are_below p.persons persons && are_below p.objects objects) &&
+    (nat_lt (length objects) (length persons) && list_all (stays_within persons objects) p.arcs)
 
 -- what the tests of a claim find, in their order
 abbrev pub faults_of : Problem → CertParts → List (Option CertRefused)
-faults_of p (Optimal cost choice prices) = choice_faults p cost choice prices ++ slack_fault p choice prices ∷ left_over_fault choice prices ∷ []
+faults_of p (Optimal cost choice prices) =
+    choice_faults p cost choice prices ++ slack_fault p choice prices ∷ left_over_fault choice prices ∷ []
 faults_of p (Infeasible persons objects) = fault_if (not (is_hall p persons objects)) NotHall ∷ []
 faults_of p (Bracket reason lower cost choice prices) = choice_faults p cost choice prices ++ bound_fault p lower prices ∷ []
 

@@ -25,14 +25,17 @@ start_unless prices (Some object) = Err (TooHigh object)
 
 -- the prices beside picks, where both are as many as persons
 abbrev pub start_of_choice : ℕ → List Pick → List ℤ → Result (List ℤ) StartError
-start_of_choice persons choice prices = if (length choice == persons) && (length prices == persons) then start_unless prices (high_price prices) else Err OtherSize
+start_of_choice persons choice prices =
+    if (length choice == persons) && (length prices == persons) then start_unless prices (high_price prices) else Err
+    OtherSize
 
 abbrev pub start_of_parts : ℕ → CertParts → Result (List ℤ) StartError
 start_of_parts persons (Optimal cost choice prices) = start_of_choice persons choice prices
 start_of_parts persons (Infeasible those objects) = Err NoPrices
 start_of_parts persons (Bracket reason lower cost choice prices) = start_of_choice persons choice prices
 
--- The prices of a certificate, from which a run on this problem may start, or why they can't. Nothing else of the certificate counts.
+-- The prices of a certificate, from which a run on this problem may start, or why they can't. Nothing else of the
+-- certificate counts.
 abbrev pub start_of : Problem → CertParts → Result (List ℤ) StartError
 start_of p cert = if p.objects == p.persons then start_of_parts p.persons cert else Err NotSquare
 

@@ -15,8 +15,8 @@ use std::marker::Model;
 /// What a certificate claims.
 #[derive(Debug, Drop)]
 pub enum CertParts {
-    /// A least-cost assignment: the cost of the whole, a pick for each person, and for each object, of which there may be more, a
-    /// price; the prices show that no assignment costs less.
+    /// A least-cost assignment: the cost of the whole, a pick for each person, and for each object, of which there may
+    /// be more, a price; the prices show that no assignment costs less.
     Optimal {
         cost: i64,
         choice: Picks,
@@ -28,8 +28,8 @@ pub enum CertParts {
         persons: Indices,
         objects: Indices,
     },
-    /// An assignment of this cost, and that none costs less than the lower bound: which limit ended the run, the bound, the
-    /// cost of the whole, a pick for each person, and for each object a price; the prices show the bound.
+    /// An assignment of this cost, and that none costs less than the lower bound: which limit ended the run, the bound,
+    /// the cost of the whole, a pick for each person, and for each object a price; the prices show the bound.
     Bracket {
         reason: Reason,
         lower: i64,
@@ -107,11 +107,11 @@ fn are_named(persons: &[u32], objects: &[u32]) -> bool
 impl Cert {
     ghost use Rattle.auc_claim.specs.Spelled.{IsSpelled};
 
-    /// The certificate of these parts, which are handed back where no text spells them: where there are no picks or more
-    /// than 10,000, fewer prices than picks or more than 20,000, an object from 20,000 on (with as many prices as picks from
-    /// 10,000 on), a cost of a pick beyond 10^9 in magnitude, or a price that is not from 0 to 2^61; where no person is named
-    /// or more than 10,000 objects are, where the persons don't rise or are not below 10,000, or the objects don't rise or are
-    /// not below 20,000. Takes O(persons + objects) time and no memory.
+    /// The certificate of these parts, which are handed back where no text spells them: where there are no picks or
+    /// more than 10,000, fewer prices than picks or more than 20,000, an object from 20,000 on (with as many prices as
+    /// picks from 10,000 on), a cost of a pick beyond 10^9 in magnitude, or a price that is not from 0 to 2^61; where
+    /// no person is named or more than 10,000 objects are, where the persons don't rise or are not below 10,000, or the
+    /// objects don't rise or are not below 20,000. Takes O(persons + objects) time and no memory.
     pub fn make(parts: CertParts) -> Result<Cert, CertParts>
         ensures ok { IsOk result ↔ IsSpelled parts }
         ensures same { MatchResult result (λ c. c ≡ parts) (λ e. e ≡ parts) }

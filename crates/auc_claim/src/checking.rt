@@ -26,8 +26,8 @@ fn is_sized(problem: &ArcList, choice: &[Pick], prices: &[i64]) -> bool
     choice.len() == problem.persons() as usize && prices.len() == problem.objects() as usize
 }
 
-/// Whether the picks are an assignment of this cost, where there are as many as persons and `missing` is the first person whose
-/// pick is no arc of his: each an arc of his person, no object twice.
+/// Whether the picks are an assignment of this cost, where there are as many as persons and `missing` is the first
+/// person whose pick is no arc of his: each an arc of his person, no object twice.
 fn check_picks(
     alloc: Global,
     problem: &ArcList,
@@ -39,7 +39,8 @@ fn check_picks(
     requires few { length choice.now ≤ MOST_PERSONS }
     requires sized { is_sized problem.now choice.now _prices.now ≡ true }
     requires missing { missing ≡ position (is_missing problem.now.arcs) (chosen 0 choice.now) }
-    ensures exact { AnswersUnless CertRefused.NoMemory (λ x. x) result (IsVerdict (first_of (choice_faults problem.now cost choice.now _prices.now))) }
+    ensures exact { AnswersUnless CertRefused.NoMemory (λ x. x) result
+        (IsVerdict (first_of (choice_faults problem.now cost choice.now _prices.now))) }
     ensures objects { IsOk result → All (λ p. p.object < problem.now.objects) choice.now }
 {
     if let Some(person) = missing {
@@ -54,8 +55,8 @@ fn check_picks(
     Ok(())
 }
 
-/// Whether no arc of a person is better than his pick by more than 1, on the scale of persons + 1; `is_slack` where this is known.
-/// Who has a better arc is looked for only where it isn't.
+/// Whether no arc of a person is better than his pick by more than 1, on the scale of persons + 1; `is_slack` where
+/// this is known. Who has a better arc is looked for only where it isn't.
 fn check_slack(
     alloc: Global,
     problem: &ArcList,
@@ -67,7 +68,8 @@ fn check_slack(
     requires prices { length prices.now ≡ problem.now.objects }
     requires objects { All (λ p. p.object < problem.now.objects) choice.now }
     requires told { is_slack ≡ true → slack_fault problem.now choice.now prices.now ≡ None }
-    ensures exact { AnswersUnless CertRefused.NoMemory (λ x. x) result (IsVerdict (first_of (slack_fault problem.now choice.now prices.now ∷ []))) }
+    ensures exact { AnswersUnless CertRefused.NoMemory (λ x. x) result
+        (IsVerdict (first_of (slack_fault problem.now choice.now prices.now ∷ []))) }
     ensures problem { IsProblem problem.now }
 {
     let arcs = problem.arcs();
@@ -103,7 +105,8 @@ fn check_bound(
     requires arcs { EachHasArc problem.now }
     requires len { length prices.now ≡ problem.now.objects }
     requires prices { All IsPrice prices.now }
-    ensures exact { AnswersUnless CertRefused.NoMemory (λ x. x) result (IsVerdict (first_of (bound_fault problem.now lower prices.now ∷ []))) }
+    ensures exact { AnswersUnless CertRefused.NoMemory (λ x. x) result
+        (IsVerdict (first_of (bound_fault problem.now lower prices.now ∷ []))) }
     ensures problem { IsProblem problem.now }
 {
     let scale = problem.persons() + 1;
@@ -123,7 +126,8 @@ fn check_optimal(
     prices: &[i64],
 ) -> Result<(), CertRefused>
     requires { IsChoice choice.now prices.now }
-    ensures exact { AnswersUnless CertRefused.NoMemory (λ x. x) result (IsVerdict (fault_of problem.now (CertParts.Optimal cost choice.now prices.now))) }
+    ensures exact { AnswersUnless CertRefused.NoMemory (λ x. x) result
+        (IsVerdict (fault_of problem.now (CertParts.Optimal cost choice.now prices.now))) }
     ensures allowed { IsOk result → IsAllowed problem.now (CertParts.Optimal cost choice.now prices.now) }
 {
     if !is_sized(problem, choice, prices) {
@@ -143,7 +147,8 @@ fn check_infeasible(
     objects: &[u32],
 ) -> Result<(), CertRefused>
     requires { AreNamed persons.now objects.now }
-    ensures exact { AnswersUnless CertRefused.NoMemory (λ x. x) result (IsVerdict (fault_of problem.now (CertParts.Infeasible persons.now objects.now))) }
+    ensures exact { AnswersUnless CertRefused.NoMemory (λ x. x) result
+        (IsVerdict (fault_of problem.now (CertParts.Infeasible persons.now objects.now))) }
     ensures allowed { IsOk result → IsAllowed problem.now (CertParts.Infeasible persons.now objects.now) }
 {
     if !is_hall(alloc, problem, persons, objects)? {
@@ -162,7 +167,9 @@ fn check_bracket(
     prices: &[i64],
 ) -> Result<(), CertRefused>
     requires { IsChoice choice.now prices.now }
-    ensures exact { (reason : Reason) → AnswersUnless CertRefused.NoMemory (λ x. x) result (IsVerdict (fault_of problem.now (CertParts.Bracket reason lower cost choice.now prices.now))) }
+    ensures exact { (reason : Reason)
+        → AnswersUnless CertRefused.NoMemory (λ x. x) result
+        (IsVerdict (fault_of problem.now (CertParts.Bracket reason lower cost choice.now prices.now))) }
     ensures allowed { (reason : Reason) → IsOk result → IsAllowed problem.now (CertParts.Bracket reason lower cost choice.now prices.now) }
 {
     if !is_sized(problem, choice, prices) {
@@ -177,24 +184,26 @@ fn check_bracket(
 ///
 /// An optimal claim that is answered `Ok` is a least-cost assignment: no assignment of the problem costs less than
 /// `cost`. That is weak duality: prices by which no pick is worse than another arc of its person by more than 1, where
-/// costs are multiplied by persons + 1, and by which an object that nobody picks has none, bound the cost of every assignment
-/// from below.
+/// costs are multiplied by persons + 1, and by which an object that nobody picks has none, bound the cost of every
+/// assignment from below.
 ///
-/// A bracket that is answered `Ok` is an assignment of this cost, and no assignment of the problem costs less than `lower`:
-/// the least cost that, multiplied by persons + 1, is at least the dual bound of the prices. Which limit ended the run that
-/// made it is not looked at.
+/// A bracket that is answered `Ok` is an assignment of this cost, and no assignment of the problem costs less than
+/// `lower`: the least cost that, multiplied by persons + 1, is at least the dual bound of the prices. Which limit ended
+/// the run that made it is not looked at.
 ///
-/// An infeasible claim that is answered `Ok` names persons who together know fewer objects than they number, so that there
-/// is no assignment (Hall 1935).
+/// An infeasible claim that is answered `Ok` names persons who together know fewer objects than they number, so that
+/// there is no assignment (Hall 1935).
 ///
 /// # Errors
 ///
 /// Of an optimal claim, in this order: [`CertRefused::WrongSize`], [`CertRefused::NoSuchArc`],
-/// [`CertRefused::ObjectTwice`], [`CertRefused::WrongCost`], [`CertRefused::Slack`], [`CertRefused::LeftOver`]. Of a bracket the
-/// same, with [`CertRefused::WrongBound`] in place of the last two. Of an infeasible one only [`CertRefused::NotHall`].
-/// [`CertRefused::NoMemory`] may stand in place of any other answer, where memory was refused.
+/// [`CertRefused::ObjectTwice`], [`CertRefused::WrongCost`], [`CertRefused::Slack`], [`CertRefused::LeftOver`]. Of a
+/// bracket the same, with [`CertRefused::WrongBound`] in place of the last two. Of an infeasible one only
+/// [`CertRefused::NotHall`]. [`CertRefused::NoMemory`] may stand in place of any other answer, where memory was
+/// refused.
 ///
-/// Takes O(arcs + persons + objects) time and O(persons + objects) memory: one pass over the arcs for an optimal claim that holds, else two at most.
+/// Takes O(arcs + persons + objects) time and O(persons + objects) memory: one pass over the arcs for an optimal claim
+/// that holds, else two at most.
 pub fn check(alloc: Global, problem: &ArcList, cert: &Cert) -> Result<(), CertRefused>
     ensures exact { AnswersUnless CertRefused.NoMemory (λ x. x) result (IsVerdict (fault_of problem.now cert.now)) }
     ensures allowed { IsOk result → IsAllowed problem.now cert.now }

@@ -190,7 +190,8 @@ pub(crate) fn first_look(
     requires choice { IsChoice choice.now prices.now }
     requires arcs { All (IsWithin (length choice.now) (length prices.now)) arcs.now }
     ensures missing { IfOk result (λ x. x.0 ≡ position (is_missing arcs.now) (chosen 0 choice.now)) }
-    ensures slack { IfOk result (λ x. x.1 ≡ true → position (λ c. not (is_slack_right scale prices.now arcs.now c)) (chosen 0 choice.now) ≡ None) }
+    ensures slack { IfOk result
+        (λ x. x.1 ≡ true → position (λ c. not (is_slack_right scale prices.now arcs.now c)) (chosen 0 choice.now) ≡ None) }
 {
     let values = pick_values(alloc, scale, choice, prices)?;
     let mut missing = vec![in alloc; true; choice.len()]?;

@@ -30,7 +30,8 @@ fn listed_flags(alloc: Global, end: usize, numbers: &[u32]) -> Result<Vec<bool>,
 /// Whether each arc of a flagged person leads to a flagged object.
 fn stay_within(arcs: &[Arc], persons: &[bool], objects: &[bool]) -> bool
     requires { All (IsWithin (length persons.now) (length objects.now)) arcs.now }
-    ensures { result ≡ list_all (λ a. not (slice_index_or persons.now a.person false) || slice_index_or objects.now a.object false) arcs.now }
+    ensures { result ≡ list_all
+        (λ a. not (slice_index_or persons.now a.person false) || slice_index_or objects.now a.object false) arcs.now }
 {
     for arc in arcs {
         if persons[arc.person as usize] && !objects[arc.object as usize] {
@@ -40,8 +41,8 @@ fn stay_within(arcs: &[Arc], persons: &[bool], objects: &[bool]) -> bool
     true
 }
 
-/// Whether these are persons and objects of the problem, fewer objects than persons, and all arcs of the persons lead to
-/// the objects.
+/// Whether these are persons and objects of the problem, fewer objects than persons, and all arcs of the persons lead
+/// to the objects.
 pub(crate) fn is_hall(
     alloc: Global,
     problem: &ArcList,

@@ -8,5 +8,6 @@ pub const MOST_OBJECTS_IN_FIRST: u32 = 10_000;
 /// The most objects that an infeasible certificate names: they are fewer than persons.
 pub const MOST_NAMED: u32 = 10_000;
 
-/// The highest price that a run may start from, 2^60, on the scale of costs times persons + 1: half of the highest one there is.
+/// The highest price that a run may start from, 2^60, on the scale of costs times persons + 1: half of the highest one
+/// there is.
 pub const HIGHEST_START: i64 = 1_152_921_504_606_846_976;

@@ -14,7 +14,8 @@ pub struct Pick {
 
 /// A pick for each person, in the order of the persons. Contracts see it as a list.
 ///
-/// Whoever has chosen them from a list of arcs may hand on where these stand in it. No contract says that they do, so whoever reads it looks.
+/// Whoever has chosen them from a list of arcs may hand on where these stand in it. No contract says that they do, so
+/// whoever reads it looks.
 #[derive(Debug, Drop)]
 pub struct Picks {
     picks: Vec<Pick>,

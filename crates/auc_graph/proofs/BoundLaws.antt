@@ -1,4 +1,5 @@
--- The dual bound as it is computed: the values of arcs have 64 bits, and the table of least values adds up to the bound.
+-- The dual bound as it is computed: the values of arcs have 64 bits, and the table of least values adds up to the
+-- bound.
 use Rattle.std.proofs.Common.{◌≡◌, ℕ, ◌+◌, ◌-◌, ◌*◌, ◌^◌, ◌<◌, ◌≤◌, List, [], ◌∷◌, ◌++◌, length, get_or, take, ap, ◌∙◌, arith}
 use Rattle.std.specs.Prelude.{ℤ, pos, neg_ℤ, ◌+ℤ◌, ◌-ℤ◌, ◌*ℤ◌, ◌≤ℤ◌, unsigned_abs, All, FitsSigned}
 use Rattle.std.specs.Int.{w64}

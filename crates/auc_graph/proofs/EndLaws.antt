@@ -1,4 +1,5 @@
--- What is answered at the end of a text; no text reads as too many reads, and what is read has as many objects as are wanted.
+-- What is answered at the end of a text; no text reads as too many reads, and what is read has as many objects as are
+-- wanted.
 use Rattle.std.proofs.Common.{◌≡◌, ℕ, ◌+◌, ◌*◌, ◌-◌, ◌++◌, inl, inr, List, [], ◌∷◌, length, Result, Ok, Err, refl, sym, ap, subst, ◌∙◌, Option}
 use Rattle.std.specs.Prelude.{◌≢◌, ℤ, pos, neg_ℤ, unsigned_abs, nat_le, nat_lt, ◌==◌, ⊤}
 use Rattle.std.specs.Io.KnownBytes.{IsAtEnd}

@@ -24,7 +24,8 @@ pub record IsNextArc (value_of : RowArc → ℤ) (row : List RowArc) (best next 
 -- one object, the scaled spread of all costs stands for the difference.
 abbrev pub IsAmount : ℤ → ℤ → ℤ → (ℕ → ℤ) → List RowArc → RowArc → ℤ → Type 0
 IsAmount scale spread eps price row best amount =
-    ((next : RowArc) × IsNextArc (value scale price) row best next × (amount ≡ (price best.object +ℤ (value scale price next -ℤ value scale price best)) +ℤ eps))
+    ((next : RowArc) × IsNextArc (value scale price) row best next × (amount ≡ (price best.object +ℤ (value scale
+    price next -ℤ value scale price best)) +ℤ eps))
     ⊎ (All (λ b. b.object ≡ best.object) row × (amount ≡ (price best.object +ℤ (scale *ℤ spread)) +ℤ eps))
 
 -- a person with this row bids this amount by this arc

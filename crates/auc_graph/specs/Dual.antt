@@ -22,7 +22,8 @@ arc_value scale prices a = value_at (pos scale) (price_at prices) a.cost a.objec
 
 -- no arc of the same person is better by more than eps: eps-complementary slackness (Bertsekas)
 abbrev pub IsSlackRight : ℤ → ℕ → List ℤ → List Arc → Arc → Type 0
-IsSlackRight eps scale prices arcs chosen = All (λ a. a.person ≡ chosen.person → arc_value scale prices chosen ≤ℤ (arc_value scale prices a +ℤ eps)) arcs
+IsSlackRight eps scale prices arcs chosen =
+    All (λ a. a.person ≡ chosen.person → arc_value scale prices chosen ≤ℤ (arc_value scale prices a +ℤ eps)) arcs
 
 -- the least of a number and some more
 abbrev pub lowest : ℤ → List ℤ → ℤ

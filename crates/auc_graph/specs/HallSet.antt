@@ -4,7 +4,8 @@ use Rattle.std.specs.List.{IsDistinct}
 use Rattle.auc_graph.specs.declared.arc.Arc.{Arc}
 use Rattle.auc_graph.specs.Problem.{Problem}
 
--- the persons are different ones of the problem, each object to which an arc of theirs leads is listed, and fewer are listed than they are
+-- the persons are different ones of the problem, each object to which an arc of theirs leads is listed, and fewer are
+-- listed than they are
 pub record IsHallSet (p : Problem) (persons objects : List ℕ) : Type 0 where
   pub within : (i : ℕ) → Contains persons i → i < p.persons
   pub different : IsDistinct nat_eq persons

@@ -1,4 +1,5 @@
--- Which lists of arcs are problems, and the first fault of one that is none: in the order in which a text of them would be read.
+-- Which lists of arcs are problems, and the first fault of one that is none: in the order in which a text of them would
+-- be read.
 use Rattle.std.specs.Prelude.{ℕ, suc, not, ◌==◌, ◌&&◌, nat_le, if◌then◌else◌, List, [], ◌∷◌, Option, Some, None, Result, Ok, Err, neg_ℤ}
 use Rattle.std.specs.Option.{option_or}
 use Rattle.auc_graph.specs.declared.arc.Arc.{Arc}
@@ -18,7 +19,10 @@ problem_from persons wanted arcs = problem persons (objects_or wanted persons) a
 
 -- the fault of the arc at this place
 abbrev pub fault_at : ℕ → ℕ → ℕ → Arc → Option ListFault
-fault_at persons objects place a = if nat_le MOST_ARCS place then Some TooManyArcs else (if nat_le persons a.person then Some (Person place) else (if nat_le objects a.object then Some (Object place) else (if is_between (neg_ℤ MOST_COST) MOST_COST a.cost then None else Some (Cost place))))
+fault_at persons objects place a =
+    if nat_le MOST_ARCS place then Some TooManyArcs else
+    (if nat_le persons a.person then Some (Person place) else (if nat_le objects a.object then Some (Object place)
+    else (if is_between (neg_ℤ MOST_COST) MOST_COST a.cost then None else Some (Cost place))))
 
 -- the first fault of arcs, the first of which has this place
 abbrev pub first_fault : ℕ → ℕ → ℕ → List Arc → Option ListFault
@@ -26,7 +30,9 @@ first_fault persons objects place [] = None
 first_fault persons objects place (a ∷ arcs) = option_or (fault_at persons objects place a) (first_fault persons objects (suc place) arcs)
 
 abbrev pub counts_fault : ℕ → ℕ → Option ListFault
-counts_fault persons objects = if not (nat_le 1 persons && nat_le persons MOST_PERSONS) then Some Persons else (if not (nat_le persons objects && nat_le objects MOST_OBJECTS) then Some Objects else None)
+counts_fault persons objects =
+    if not (nat_le 1 persons && nat_le persons MOST_PERSONS) then Some Persons else
+    (if not (nat_le persons objects && nat_le objects MOST_OBJECTS) then Some Objects else None)
 
 -- the first fault of what is to be a problem
 abbrev pub problem_fault : Problem → Option ListFault

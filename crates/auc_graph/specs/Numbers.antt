@@ -16,7 +16,9 @@ is_zero b = b == 48
 
 -- one or more digits, and optionally a point that zeros only may follow
 unfoldable pub is_magnitude : List ℕ → Bool
-is_magnitude bytes = is_nonempty (before_first is_point bytes) && list_all is_ascii_digit (before_first is_point bytes) && list_all is_zero (after_first is_point bytes)
+is_magnitude bytes =
+    is_nonempty (before_first is_point bytes) && list_all is_ascii_digit (before_first is_point bytes) && list_all
+    is_zero (after_first is_point bytes)
 
 -- what such bytes stand for
 unfoldable pub magnitude : List ℕ → Option ℕ

@@ -38,7 +38,8 @@ abbrev pub IsStage : ℕ → Stage → List Arc → Type 0
 IsStage limit (AtCount wanted) arcs = (arcs ≡ []) × (wanted ≤ MOST_OBJECTS)
 IsStage limit (AtPerson persons objects) arcs = AreArcs limit persons objects arcs
 IsStage limit (AtObject persons objects person) arcs = AreArcs limit persons objects arcs × (length arcs < limit) × (person < persons)
-IsStage limit (AtCost persons objects person object) arcs = AreArcs limit persons objects arcs × (length arcs < limit) × (person < persons) × (object < objects)
+IsStage limit (AtCost persons objects person object) arcs =
+    AreArcs limit persons objects arcs × (length arcs < limit) × (person < persons) × (object < objects)
 
 -- a stage, or a fault
 abbrev pub IsKnown : ℕ → Result Stage ReadError → List Arc → Type 0
@@ -62,8 +63,8 @@ abbrev pub IsCapped : Unfinished → Type 0
 IsCapped NoNumber = ⊤
 IsCapped (Digits negative value point) = value ≤ 10 ^ 18 + 1
 
--- What a reader answers that has taken this text and has so much left: at the end, what the whole text reads as; of too many reads,
--- that each has taken a byte. Of a read that failed, and of want of memory, nothing is said.
+-- What a reader answers that has taken this text and has so much left: at the end, what the whole text reads as; of too
+-- many reads, that each has taken a byte. Of a read that failed, and of want of memory, nothing is said.
 abbrev pub IsRead : ReadLimits → Option (List ℕ) → List ℕ → Result Problem ReadError → Type 0
 IsRead limits left text (Err NoMemory) = ⊤
 IsRead limits left text (Err ReadFault) = ⊤

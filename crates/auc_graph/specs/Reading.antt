@@ -44,20 +44,22 @@ problem persons objects arcs = record { persons = persons; objects = objects; ar
 abbrev pub room : ℕ → ℕ → Result ℕ ReadError
 room limit before = if nat_le limit before then Err TooManyArcs else Ok before
 
--- the number of objects beside so many persons, where so many are wanted: 0 means as many as persons, and fewer are too few
+-- the number of objects beside so many persons, where so many are wanted: 0 means as many as persons, and fewer are too
+-- few
 abbrev pub objects_for : ℕ → ℕ → Result ℕ ReadError
 objects_for wanted persons = if wanted == 0 then Ok persons else (if nat_lt wanted persons then Err TooFewObjects else Ok wanted)
 
--- the stage and the arcs after some numbers of a text, or the first fault in them; the first stage knows how many objects are wanted,
--- a later one the numbers of persons and objects, and of the next arc the person and the object, as far as they have been read
+-- the stage and the arcs after some numbers of a text, or the first fault in them; the first stage knows how many
+-- objects are wanted, a later one the numbers of persons and objects, and of the next arc the person and the object, as
+-- far as they have been read
 abbrev pub State : Type 0
 State = Result (Stage × List Arc) ReadError
 
 abbrev pub start : ℕ → State
 start wanted = Ok (AtCount wanted, [])
 
--- What the next number makes of a stage and of the arcs so far. The first number of arc k stands at token 1 + 3 * k, all
--- counted from 0.
+-- What the next number makes of a stage and of the arcs so far. The first number of arc k stands at token 1 + 3 * k,
+-- all counted from 0.
 unfoldable pub step_at : ℕ → Stage → List Arc → Number → State
 step_at limit (AtCount wanted) arcs x = do
   before ← index MOST_PERSONS 0 CountRange x

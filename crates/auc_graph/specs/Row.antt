@@ -24,4 +24,6 @@ pub record IsCostRange (arcs : List Arc) (least greatest : ℤ) : Type 0 where
 
 -- the greatest minus the least cost, and 0 without arcs
 abbrev pub IsSpread : List Arc → ℤ → Type 0
-IsSpread arcs spread = ((arcs ≡ []) × (spread ≡ pos 0)) ⊎ ((least : ℤ) × (greatest : ℤ) × IsCostRange arcs least greatest × (spread ≡ greatest -ℤ least))
+IsSpread arcs spread =
+    ((arcs ≡ []) × (spread ≡ pos 0))
+    ⊎ ((least : ℤ) × (greatest : ℤ) × IsCostRange arcs least greatest × (spread ≡ greatest -ℤ least))

@@ -10,5 +10,7 @@ AreBytes bytes = (i : ℕ) → slice_index_or bytes i 0 < 256
 
 -- whatever eight bytes have these under the mask, they begin with the number of the person
 abbrev pub IsWritten : WrittenPerson → Type 0
-IsWritten written = (front : List ℕ) (word : ℕ) → length front ≡ 8 → AreBytes front → word ≡ from_le_bytes w64 front → bit_and word written.mask ≡ written.word
+IsWritten written =
+    (front : List ℕ) (word : ℕ) → length front ≡ 8 → AreBytes front → word ≡ from_le_bytes w64 front
+    → bit_and word written.mask ≡ written.word
     → (written.digits < 7) × IsPlainToken front (written.person + 1) written.digits

@@ -33,7 +33,9 @@ fn least_values(
     requires arcs { All (IsWithin persons (length prices.now)) arcs.now }
     requires prices { All IsPrice prices.now }
     ensures len { IfOk result (λ v. length v.items ≡ persons) }
-    ensures least { IfOk result (λ v. (i : ℕ) → i < persons → slice_index_or v.items i (pos 0) ≡ lowest (pos (2 ^ 63 - 1)) (worths (arc_value (persons + 1) prices.now) arcs.now i)) }
+    ensures least { IfOk result
+        (λ v. (i : ℕ) → i < persons → slice_index_or v.items i (pos 0) ≡ lowest (pos (2 ^ 63 - 1)) (worths (arc_value
+        (persons + 1) prices.now) arcs.now i)) }
 {
     let scale = persons + 1;
     let mut least = vec![in alloc; i64::MAX; persons as usize]?;
@@ -59,12 +61,12 @@ fn total_of(numbers: &[i64]) -> i128
     sum
 }
 
-/// The dual bound of these prices, one of each object: the sum over the persons of the least value of their arcs, minus the
-/// sum of all prices. No assignment costs less, scaled.
+/// The dual bound of these prices, one of each object: the sum over the persons of the least value of their arcs, minus
+/// the sum of all prices. No assignment costs less, scaled.
 ///
-/// Prices and the bound are scaled costs, costs of the file times persons + 1; the value of an arc is its scaled cost and the
-/// price of its object. Takes one pass over the arcs, O(arcs + persons + objects) time, and 8 bytes of memory a person. The
-/// bound is the objective of the dual problem (Bertsekas, 1988).
+/// Prices and the bound are scaled costs, costs of the file times persons + 1; the value of an arc is its scaled cost
+/// and the price of its object. Takes one pass over the arcs, O(arcs + persons + objects) time, and 8 bytes of memory a
+/// person. The bound is the objective of the dual problem (Bertsekas, 1988).
 ///
 /// # Errors
 ///
@@ -81,8 +83,8 @@ pub fn dual_bound(alloc: Global, problem: &ArcList, prices: &[i64]) -> Result<i1
     Ok(total_of(least.as_slice()) - total_of(prices))
 }
 
-/// Whether `lower`, a cost of the file, is the least one that reaches this bound, a scaled cost: whether it is [`lower_of`]
-/// the bound. O(1), without division.
+/// Whether `lower`, a cost of the file, is the least one that reaches this bound, a scaled cost: whether it is
+/// [`lower_of`] the bound. O(1), without division.
 pub fn is_lower(scale: u32, bound: i128, lower: i64) -> bool
     requires low { neg_ℤ (pos (2 ^ 96)) ≤ℤ bound }
     requires high { bound ≤ℤ pos (2 ^ 96) }
@@ -92,9 +94,9 @@ pub fn is_lower(scale: u32, bound: i128, lower: i64) -> bool
     bound <= scaled && scaled < bound + scale as i128
 }
 
-/// The least cost of the file that reaches this bound, a scaled cost: the bound divided by the scale, rounded up, so -7 thirds
-/// give -2. Of the dual bound of prices from 0 to 2^61, of which no more than persons are above 0, it is an i64 wherever there
-/// is an assignment ([`bounds_fit`](crate::bounds_fit)). O(1).
+/// The least cost of the file that reaches this bound, a scaled cost: the bound divided by the scale, rounded up, so -7
+/// thirds give -2. Of the dual bound of prices from 0 to 2^61, of which no more than persons are above 0, it is an i64
+/// wherever there is an assignment ([`bounds_fit`](crate::bounds_fit)). O(1).
 pub fn lower_of(scale: u32, bound: i128) -> i128
     requires some { 0 < scale }
     requires low { neg_ℤ (pos (2 ^ 96)) ≤ℤ bound }

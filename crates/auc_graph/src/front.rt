@@ -18,7 +18,8 @@ pub(crate) const SHORT: usize = 8;
 /// One more than the digits of the greatest cost.
 const LONG: usize = 11;
 
-/// The value of a digit; what another byte gives is above nine. Of 32 bits, so that the sum that takes it needs no widening.
+/// The value of a digit; what another byte gives is above nine. Of 32 bits, so that the sum that takes it needs no
+/// widening.
 #[inline(always)]
 fn digit_of(byte: u8) -> u32
     ensures digit { result ≤ 9 → (is_ascii_digit byte ≡ true) × (byte ≡ result + 48) }
@@ -112,7 +113,8 @@ fn signed_of(negative: bool, size: u32) -> i64
     }
 }
 
-/// The cost at the front, in range, of up to ten digits and after a sign or none, and the text after the separator that follows it.
+/// The cost at the front, in range, of up to ten digits and after a sign or none, and the text after the separator that
+/// follows it.
 #[inline(always)]
 fn long_cost(bytes: &[u8]) -> Option<(i64, &[u8])>
     ensures found { IfSome result (λ x. (more : List ℕ) → numbers (bytes.now ++ more) ≡ Value x.0 ∷ numbers (x.1.now ++ more)) }

@@ -1,5 +1,5 @@
-//! Where the rows lie, of arcs that stand in the order of their persons, and the spread of their costs: one pass over them, each put
-//! after the others.
+//! Where the rows lie, of arcs that stand in the order of their persons, and the spread of their costs: one pass over
+//! them, each put after the others.
 
 ghost use Rattle.std.specs.Prelude.{◌≡◌, ◌<◌, ◌≤◌, ◌+◌, ◌*◌, ◌^◌, ◌≤ℤ◌, pos, neg_ℤ, ℕ, length, slice_index, slice_index_or, slice_range, vec_capacity, All, IfOk, IfSome};
 ghost use Rattle.auc_graph.specs.Row.{row, IsSpread};
@@ -38,7 +38,9 @@ pub(crate) fn rows_in_order(
     requires costs { All (λ a. (neg_ℤ MOST_COST ≤ℤ a.cost) × (a.cost ≤ℤ MOST_COST)) arcs.now }
     ensures offsets { IfOk result (λ r. IfSome r (λ x. AreOffsets x.offsets.items persons arcs.now)) }
     ensures len { IfOk result (λ r. IfSome r (λ x. length x.arcs.items ≡ length arcs.now)) }
-    ensures rows { IfOk result (λ r. IfSome r (λ x. (k : ℕ) → k < persons → slice_range x.arcs.items (slice_index x.offsets.items k) (slice_index x.offsets.items (k + 1)) ≡ row k arcs.now)) }
+    ensures rows { IfOk result
+        (λ r. IfSome r (λ x. (k : ℕ) → k < persons → slice_range x.arcs.items (slice_index x.offsets.items k)
+        (slice_index x.offsets.items (k + 1)) ≡ row k arcs.now)) }
     ensures spread { IfOk result (λ r. IfSome r (λ x. IsSpread arcs.now x.spread)) }
     ensures low { IfOk result (λ r. IfSome r (λ x. pos 0 ≤ℤ x.spread)) }
     ensures high { IfOk result (λ r. IfSome r (λ x. x.spread ≤ℤ pos (2 * 10 ^ 9))) }

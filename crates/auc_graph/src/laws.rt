@@ -1,5 +1,5 @@
-//! Laws of the definitions, as contracts of functions without a body: what prices show of the cost of every assignment, and the numbers
-//! of the limits.
+//! Laws of the definitions, as contracts of functions without a body: what prices show of the cost of every assignment,
+//! and the numbers of the limits.
 
 ghost use Rattle.std.specs.Prelude.{◌≡◌, ◌+◌, ◌^◌, ◌≤◌, ◌-ℤ◌, ◌*ℤ◌, ◌≤ℤ◌, ℕ, List, ℤ, pos, neg_ℤ, length, All, FitsSigned, Ok, true};
 ghost use Rattle.std.specs.Int.{w64};
@@ -12,45 +12,65 @@ ghost use Rattle.auc_graph.specs.Dual.{scale_of, dual, is_lower, IsLower, IsSlac
 
 use crate::limits::{MOST_ARCS, MOST_COST, MOST_OBJECTS, MOST_PERSONS, MOST_PRICE, MOST_READS};
 
-/// Weak duality: at prices that aren't negative no assignment costs, scaled, less than the dual bound; so none costs less than
-/// the least number that reaches this bound when scaled. There may be more objects than persons.
+/// Weak duality: at prices that aren't negative no assignment costs, scaled, less than the dual bound; so none costs
+/// less than the least number that reaches this bound when scaled. There may be more objects than persons.
 pub fn prices_bound_costs()
-    ensures scaled { (p : Problem) (prices : List ℤ) (choice : List Arc) → All (IsWithin p.persons p.objects) p.arcs → length prices ≡ p.objects → AreNotNegative prices → IsAssignment p choice → dual p prices ≤ℤ (pos (scale_of p) *ℤ total_cost choice) }
-    ensures lower { (p : Problem) (prices : List ℤ) (choice : List Arc) (lower : ℤ) → All (IsWithin p.persons p.objects) p.arcs → length prices ≡ p.objects → AreNotNegative prices → IsAssignment p choice → IsLower (scale_of p) (dual p prices) lower → lower ≤ℤ total_cost choice }
+    ensures scaled { (p : Problem) (prices : List ℤ) (choice : List Arc) → All (IsWithin p.persons p.objects) p.arcs
+        → length prices ≡ p.objects → AreNotNegative prices → IsAssignment p choice
+        → dual p prices ≤ℤ (pos (scale_of p) *ℤ total_cost choice) }
+    ensures lower { (p : Problem) (prices : List ℤ) (choice : List Arc) (lower : ℤ)
+        → All (IsWithin p.persons p.objects) p.arcs → length prices ≡ p.objects → AreNotNegative prices
+        → IsAssignment p choice → IsLower (scale_of p) (dual p prices) lower → lower ≤ℤ total_cost choice }
 {}
 
-/// The least cost that a dual bound allows: there is one at most, and a test without division finds it. Where there is an
-/// assignment, it is at most the greatest cost times the persons, and below the negative of that by no more than all prices
-/// together, scaled down (`top`). So where no more objects than persons have a price, each from 0 to 2^61, it has 64 bits.
+/// The least cost that a dual bound allows: there is one at most, and a test without division finds it. Where there is
+/// an assignment, it is at most the greatest cost times the persons, and below the negative of that by no more than all
+/// prices together, scaled down (`top`). So where no more objects than persons have a price, each from 0 to 2^61, it
+/// has 64 bits.
 pub fn bounds_fit()
     ensures one { (scale : ℕ) (d lower other : ℤ) → IsLower scale d lower → IsLower scale d other → lower ≡ other }
     ensures tested { (n : ℕ) (d lower : ℤ) → is_lower (n + 1) d lower ≡ true → IsLower (n + 1) d lower }
     ensures passes { (n : ℕ) (d lower : ℤ) → IsLower (n + 1) d lower → is_lower (n + 1) d lower ≡ true }
-    ensures low { (p : Problem) (prices : List ℤ) (choice : List Arc) (top lower : ℤ) → All (IsWithin p.persons p.objects) p.arcs → length prices ≡ p.objects → AreNotNegative prices → total prices ≤ℤ (pos (scale_of p) *ℤ top) → IsAssignment p choice → IsLower (scale_of p) (dual p prices) lower → ((pos p.persons *ℤ neg_ℤ MOST_COST) -ℤ top) ≤ℤ lower }
-    ensures high { (p : Problem) (prices : List ℤ) (choice : List Arc) (lower : ℤ) → All (IsWithin p.persons p.objects) p.arcs → length prices ≡ p.objects → AreNotNegative prices → IsAssignment p choice → IsLower (scale_of p) (dual p prices) lower → lower ≤ℤ (pos p.persons *ℤ MOST_COST) }
-    ensures fits { (p : Problem) (prices : List ℤ) (choice : List Arc) (lower : ℤ) → p.persons ≤ MOST_PERSONS → All (IsWithin p.persons p.objects) p.arcs → length prices ≡ p.objects → All IsPrice prices → AreFewPriced p prices → IsAssignment p choice → IsLower (scale_of p) (dual p prices) lower → FitsSigned w64 lower }
+    ensures low { (p : Problem) (prices : List ℤ) (choice : List Arc) (top lower : ℤ)
+        → All (IsWithin p.persons p.objects) p.arcs → length prices ≡ p.objects → AreNotNegative prices
+        → total prices ≤ℤ (pos (scale_of p) *ℤ top) → IsAssignment p choice
+        → IsLower (scale_of p) (dual p prices) lower → ((pos p.persons *ℤ neg_ℤ MOST_COST) -ℤ top) ≤ℤ lower }
+    ensures high { (p : Problem) (prices : List ℤ) (choice : List Arc) (lower : ℤ)
+        → All (IsWithin p.persons p.objects) p.arcs → length prices ≡ p.objects → AreNotNegative prices
+        → IsAssignment p choice → IsLower (scale_of p) (dual p prices) lower → lower ≤ℤ (pos p.persons *ℤ MOST_COST) }
+    ensures fits { (p : Problem) (prices : List ℤ) (choice : List Arc) (lower : ℤ) → p.persons ≤ MOST_PERSONS
+        → All (IsWithin p.persons p.objects) p.arcs → length prices ≡ p.objects → All IsPrice prices
+        → AreFewPriced p prices → IsAssignment p choice → IsLower (scale_of p) (dual p prices) lower
+        → FitsSigned w64 lower }
 {}
 
-/// An assignment costs least where at prices that aren't negative no arc of a person is better than his chosen one by more
-/// than 1, and no object that nobody takes has a price. There may be more objects than persons.
+/// An assignment costs least where at prices that aren't negative no arc of a person is better than his chosen one by
+/// more than 1, and no object that nobody takes has a price. There may be more objects than persons.
 pub fn slack_right_costs_least()
-    ensures { (p : Problem) (prices : List ℤ) (choice : List Arc) → All (IsWithin p.persons p.objects) p.arcs → length prices ≡ p.objects → AreNotNegative prices → IsAssignment p choice → All (IsSlackRight (pos 1) (scale_of p) prices p.arcs) choice → IsNoPriceLeft prices choice → IsLeast p choice }
+    ensures { (p : Problem) (prices : List ℤ) (choice : List Arc) → All (IsWithin p.persons p.objects) p.arcs
+        → length prices ≡ p.objects → AreNotNegative prices → IsAssignment p choice
+        → All (IsSlackRight (pos 1) (scale_of p) prices p.arcs) choice → IsNoPriceLeft prices choice
+        → IsLeast p choice }
 {}
 
 /// Where there are as many objects as persons, an assignment leaves none, and so no price.
 pub fn assignments_leave_no_price()
-    ensures { (p : Problem) (prices : List ℤ) (choice : List Arc) → All (IsWithin p.persons p.objects) p.arcs → IsSquare p → length prices ≡ p.objects → IsAssignment p choice → IsNoPriceLeft prices choice }
+    ensures { (p : Problem) (prices : List ℤ) (choice : List Arc) → All (IsWithin p.persons p.objects) p.arcs
+        → IsSquare p → length prices ≡ p.objects → IsAssignment p choice → IsNoPriceLeft prices choice }
 {}
 
 /// No more objects than persons have a price where there are no more objects, or where an assignment leaves no price.
 pub fn prices_are_few()
     ensures square { (p : Problem) (prices : List ℤ) → IsSquare p → length prices ≡ p.objects → AreFewPriced p prices }
-    ensures assigned { (p : Problem) (prices : List ℤ) (choice : List Arc) → IsAssignment p choice → IsNoPriceLeft prices choice → AreFewPriced p prices }
+    ensures assigned { (p : Problem) (prices : List ℤ) (choice : List Arc) → IsAssignment p choice
+        → IsNoPriceLeft prices choice → AreFewPriced p prices }
 {}
 
-/// What a text reads as has the objects that are wanted: as many as persons where this is 0, else just so many, which are no fewer.
+/// What a text reads as has the objects that are wanted: as many as persons where this is 0, else just so many, which
+/// are no fewer.
 pub fn wanted_objects_are_read()
-    ensures objects { (limit wanted : ℕ) (text : List ℕ) (p : Problem) → reading limit wanted text ≡ Ok p → objects_for wanted p.persons ≡ Ok p.objects }
+    ensures objects { (limit wanted : ℕ) (text : List ℕ) (p : Problem) → reading limit wanted text ≡ Ok p
+        → objects_for wanted p.persons ≡ Ok p.objects }
     ensures square { (limit : ℕ) (text : List ℕ) (p : Problem) → reading limit 0 text ≡ Ok p → IsSquare p }
 {}
 

@@ -1,7 +1,7 @@
 //! Sparse assignment problems and their reader: a list of arcs is just what the text reads as.
 //!
-//! Reading takes one pass over the bytes of the text, whole or piece by piece, with no copy of it, and 16 bytes of memory an arc.
-//! Persons, objects, tokens and arcs are numbered from 0.
+//! Reading takes one pass over the bytes of the text, whole or piece by piece, with no copy of it, and 16 bytes of
+//! memory an arc. Persons, objects, tokens and arcs are numbered from 0.
 #![tactic(auto)]
 
 mod arc;

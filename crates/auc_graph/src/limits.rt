@@ -15,6 +15,6 @@ pub const MOST_READS: u32 = 1_073_741_824;
 /// The greatest magnitude of a cost.
 pub const MOST_COST: i64 = 1_000_000_000;
 
-/// The greatest price of an object, copy of a price and amount of a bid, 2 to the 61st, on the scale of costs times persons + 1.
-/// The least is 0.
+/// The greatest price of an object, copy of a price and amount of a bid, 2 to the 61st, on the scale of costs times
+/// persons + 1. The least is 0.
 pub const MOST_PRICE: i64 = 2_305_843_009_213_693_952;

@@ -1,7 +1,7 @@
 //! Lines of two short numbers and a cost at the front of a text that goes on.
 //!
-//! Most files list the arcs of a person line by line, so the person of a line is known by comparing its first bytes with
-//! those of the line before.
+//! Most files list the arcs of a person line by line, so the person of a line is known by comparing its first bytes
+//! with those of the line before.
 
 ghost use Rattle.std.specs.Prelude.{◌≡◌, ◌+◌, ◌-◌, ◌<◌, ◌∷◌, ◌++◌, List, ℕ, length, drop, pos, IfSome};
 ghost use Rattle.auc_graph.specs.declared.number.Number.TheVariants.{Value};
@@ -14,7 +14,8 @@ use crate::arc::Arc;
 use crate::front::{SHORT, Separators, cost_at, short_number, short_number_at};
 use crate::tokens::from_place;
 
-/// The bytes of the longest line of three short numbers: the last may have a sign. A longer cost asks for more by itself.
+/// The bytes of the longest line of three short numbers: the last may have a sign. A longer cost asks for more by
+/// itself.
 const LINE: usize = 3 * SHORT + 1;
 
 /// How a person is written at the front of a line: the digits of the number and a separator.
@@ -61,7 +62,8 @@ pub(crate) fn person_at(persons: u32, bytes: &[u8]) -> Option<WrittenPerson>
 #[inline(always)]
 fn behind_person(written: WrittenPerson, bytes: &[u8]) -> Option<&[u8]>
     requires { IsWritten written }
-    ensures found { IfSome result (λ x. (more : List ℕ) → numbers (bytes.now ++ more) ≡ Value (pos (written.person + 1)) ∷ numbers (x.now ++ more)) }
+    ensures found { IfSome result
+        (λ x. (more : List ℕ) → numbers (bytes.now ++ more) ≡ Value (pos (written.person + 1)) ∷ numbers (x.now ++ more)) }
     ensures shorter { IfSome result (λ x. length x.now < length bytes.now) }
     ensures behind { IfSome result (λ x. x.now ≡ drop (length bytes.now - length x.now) bytes.now) }
 {
@@ -72,12 +74,14 @@ fn behind_person(written: WrittenPerson, bytes: &[u8]) -> Option<&[u8]>
     Some(from_place(bytes, written.digits + 1))
 }
 
-/// The arc at the front and the text after it, where the person is written so, the object is a short number, the cost one of up to
-/// ten digits with or without a sign, and both are in range.
+/// The arc at the front and the text after it, where the person is written so, the object is a short number, the cost
+/// one of up to ten digits with or without a sign, and both are in range.
 #[inline(always)]
 pub(crate) fn short_arc(written: WrittenPerson, objects: u32, bytes: &[u8]) -> Option<(Arc, &[u8])>
     requires { IsWritten written }
-    ensures found { IfSome result (λ x. (more : List ℕ) → numbers (bytes.now ++ more) ≡ Value (pos (x.0.person + 1)) ∷ Value (pos (x.0.object + 1)) ∷ Value x.0.cost ∷ numbers (x.1.now ++ more)) }
+    ensures found { IfSome result
+        (λ x. (more : List ℕ) → numbers (bytes.now ++ more) ≡ Value (pos (x.0.person + 1)) ∷ Value (pos (x.0.object +
+        1)) ∷ Value x.0.cost ∷ numbers (x.1.now ++ more)) }
     ensures within { IfSome result (λ x. (persons : ℕ) → written.person < persons → IsWithin persons objects x.0) }
     ensures shorter { IfSome result (λ x. length x.1.now < length bytes.now) }
     ensures behind { IfSome result (λ x. x.1.now ≡ drop (length bytes.now - length x.1.now) bytes.now) }

@@ -16,8 +16,8 @@ use crate::stage::Stage;
 use crate::tokens::separators_len;
 use crate::unfinished::{MOST_KEPT, keep};
 
-/// The text after the arcs of two short numbers and a cost each whose person is written so, as many as there is room for. They are put
-/// after the others.
+/// The text after the arcs of two short numbers and a cost each whose person is written so, as many as there is room
+/// for. They are put after the others.
 #[inline(always)]
 fn behind_row<'a>(
     limit: u32,
@@ -30,10 +30,13 @@ fn behind_row<'a>(
     requires written { IsWritten written × (written.person < _persons) }
     requires few { limit ≤ MOST_ARCS }
     requires sound { IsStage limit (AtPerson _persons objects) arcs.old.items }
-    ensures exact { IfOk result (λ rest. (more : List ℕ) → reading_at limit (AtPerson _persons objects) arcs.old.items (bytes.now ++ more) ≡ reading_at limit (AtPerson _persons objects) arcs.new.items (rest.now ++ more)) }
+    ensures exact { IfOk result
+        (λ rest. (more : List ℕ) → reading_at limit (AtPerson _persons objects) arcs.old.items (bytes.now ++ more) ≡
+        reading_at limit (AtPerson _persons objects) arcs.new.items (rest.now ++ more)) }
     ensures sound { IfOk result (λ _. IsStage limit (AtPerson _persons objects) arcs.new.items) }
     ensures memory { IfErr result (λ e. e ≡ ReadError.NoMemory) }
-    ensures behind { IfOk result (λ rest. (length rest.now ≤ length bytes.now) × (rest.now ≡ drop (length bytes.now - length rest.now) bytes.now)) }
+    ensures behind { IfOk result
+        (λ rest. (length rest.now ≤ length bytes.now) × (rest.now ≡ drop (length bytes.now - length rest.now) bytes.now)) }
 {
     if arcs.len() >= limit as usize {
         return Ok(bytes);
@@ -52,8 +55,8 @@ fn behind_row<'a>(
     Ok(rest)
 }
 
-/// The text after the arcs of two short numbers and a cost each, which are put after the others. A function of its own, so that the
-/// loop of a row has the registers.
+/// The text after the arcs of two short numbers and a cost each, which are put after the others. A function of its own,
+/// so that the loop of a row has the registers.
 #[inline(never)]
 fn behind_short_arcs<'a>(
     limit: u32,
@@ -64,10 +67,13 @@ fn behind_short_arcs<'a>(
 ) -> Result<&'a [u8], ReadError>
     requires few { limit ≤ MOST_ARCS }
     requires sound { IsStage limit (AtPerson persons objects) arcs.old.items }
-    ensures exact { IfOk result (λ rest. (more : List ℕ) → reading_at limit (AtPerson persons objects) arcs.old.items (bytes.now ++ more) ≡ reading_at limit (AtPerson persons objects) arcs.new.items (rest.now ++ more)) }
+    ensures exact { IfOk result
+        (λ rest. (more : List ℕ) → reading_at limit (AtPerson persons objects) arcs.old.items (bytes.now ++ more) ≡
+        reading_at limit (AtPerson persons objects) arcs.new.items (rest.now ++ more)) }
     ensures sound { IfOk result (λ _. IsStage limit (AtPerson persons objects) arcs.new.items) }
     ensures memory { IfErr result (λ e. e ≡ ReadError.NoMemory) }
-    ensures behind { IfOk result (λ rest. (length rest.now ≤ length bytes.now) × (rest.now ≡ drop (length bytes.now - length rest.now) bytes.now)) }
+    ensures behind { IfOk result
+        (λ rest. (length rest.now ≤ length bytes.now) × (rest.now ≡ drop (length bytes.now - length rest.now) bytes.now)) }
 {
     let mut rest = bytes;
     while let Some(written) = person_at(persons, rest) {
@@ -80,7 +86,8 @@ fn behind_short_arcs<'a>(
     Ok(rest)
 }
 
-/// The stage after all numbers of a piece that a separator ends, and how many bytes the unfinished token after them has.
+/// The stage after all numbers of a piece that a separator ends, and how many bytes the unfinished token after them
+/// has.
 pub(crate) fn stage_behind(
     limit: u32,
     first: Stage,
@@ -89,8 +96,11 @@ pub(crate) fn stage_behind(
 ) -> Result<(Stage, usize), ReadError>
     requires few { limit ≤ MOST_ARCS }
     requires sound { IsStage limit first arcs.old.items }
-    ensures exact { IfOk result (λ x. (more : List ℕ) → reading_at limit first arcs.old.items (piece.now ++ more) ≡ reading_at limit x.0 arcs.new.items (drop (length piece.now - x.1) piece.now ++ more)) }
-    ensures fault { IfErr result (λ e. e ≢ ReadError.NoMemory → (more : List ℕ) → reading_at limit first arcs.old.items (piece.now ++ more) ≡ Err e) }
+    ensures exact { IfOk result
+        (λ x. (more : List ℕ) → reading_at limit first arcs.old.items (piece.now ++ more) ≡ reading_at limit x.0
+        arcs.new.items (drop (length piece.now - x.1) piece.now ++ more)) }
+    ensures fault { IfErr result
+        (λ e. e ≢ ReadError.NoMemory → (more : List ℕ) → reading_at limit first arcs.old.items (piece.now ++ more) ≡ Err e) }
     ensures sound { IfOk result (λ x. IsStage limit x.0 arcs.new.items) }
     ensures few { IfOk result (λ x. x.1 ≤ length piece.now) }
     ensures plain { IfOk result (λ x. IsPlain (drop (length piece.now - x.1) piece.now)) }
@@ -119,7 +129,9 @@ pub(crate) fn known_behind(
     requires len { len ≤ length piece.old }
     requires room { MOST_KEPT ≤ length piece.old }
     requires sound { IsKnown limit before arcs.old.items }
-    ensures exact { result.0 ≢ Err ReadError.NoMemory → (more : List ℕ) → reading_from limit before arcs.old.items (take len piece.old ++ more) ≡ reading_from limit result.0 arcs.new.items (take result.1 piece.new ++ more) }
+    ensures exact { result.0 ≢ Err ReadError.NoMemory → (more : List ℕ)
+        → reading_from limit before arcs.old.items (take len piece.old ++ more) ≡ reading_from limit result.0
+        arcs.new.items (take result.1 piece.new ++ more) }
     ensures sound { IsKnown limit result.0 arcs.new.items }
     ensures plain { IsPlain (take result.1 piece.new) }
     ensures few { result.1 ≤ MOST_KEPT }

@@ -19,7 +19,8 @@ use std::io::Read;
 /// The most bytes that are taken of a reader at a time.
 const PIECE: usize = 65_536;
 
-/// How much is read at most: so many arcs, and from a reader by so many calls of `read`; and how many objects the problem has.
+/// How much is read at most: so many arcs, and from a reader by so many calls of `read`; and how many objects the
+/// problem has.
 #[derive(Clone, Copy, Debug, PartialEq, Eq)]
 pub struct ReadLimits {
     pub arcs: u32,
@@ -45,19 +46,19 @@ impl ReadLimits {
 
 /// The problem that a text reads as, or the first fault in the order of the text.
 ///
-/// Bytes 9 to 13, 26 and 32 part the text into tokens. The first token is the number of persons; each three tokens after it
-/// are an arc: person, object, cost. In the text persons and objects are numbered from 1. The same pair listed twice is two
-/// arcs, and no arc at all is a lawful list.
+/// Bytes 9 to 13, 26 and 32 part the text into tokens. The first token is the number of persons; each three tokens
+/// after it are an arc: person, object, cost. In the text persons and objects are numbered from 1. The same pair listed
+/// twice is two arcs, and no arc at all is a lawful list.
 ///
-/// `limits.objects` is the number of objects, of which there are as many as persons where it is 0; `limits.arcs` is the most
-/// arcs that are read; `limits.reads` plays no part here.
+/// `limits.objects` is the number of objects, of which there are as many as persons where it is 0; `limits.arcs` is the
+/// most arcs that are read; `limits.reads` plays no part here.
 ///
 /// # Errors
 ///
-/// At a token [`ReadError::TooManyArcs`] comes first, then [`ReadError::BadNumber`], then the range of the number, and at the
-/// first token then [`ReadError::TooFewObjects`], where more persons than objects are told;
-/// [`ReadError::Cut`] and [`ReadError::Empty`] stand at the end of the text. [`ReadError::NoMemory`] may stand in place
-/// of any other answer, where memory was refused. No text is a [`ReadError::ReadFault`] or has too many reads.
+/// At a token [`ReadError::TooManyArcs`] comes first, then [`ReadError::BadNumber`], then the range of the number, and
+/// at the first token then [`ReadError::TooFewObjects`], where more persons than objects are told; [`ReadError::Cut`]
+/// and [`ReadError::Empty`] stand at the end of the text. [`ReadError::NoMemory`] may stand in place of any other
+/// answer, where memory was refused. No text is a [`ReadError::ReadFault`] or has too many reads.
 ///
 /// Takes O(length) time and 16 bytes of memory an arc.
 pub fn read_arcs(alloc: Global, bytes: &[u8], limits: ReadLimits) -> Result<ArcList, ReadError>
@@ -72,20 +73,22 @@ pub fn read_arcs(alloc: Global, bytes: &[u8], limits: ReadLimits) -> Result<ArcL
     problem_behind(limits.arcs, stage, arcs, token)
 }
 
-/// The problem that the text of a reader reads as, as [`read_arcs`] says, or the first fault; no more of the text is kept than 32
-/// bytes of a token that isn't finished.
+/// The problem that the text of a reader reads as, as [`read_arcs`] says, or the first fault; no more of the text is
+/// kept than 32 bytes of a token that isn't finished.
 ///
-/// `limits.objects` is the number of objects, `limits.arcs` the most arcs that are read, and `limits.reads` the most calls of `read`, the one that finds the end among
-/// them. A read that gives no bytes is the end; the reader is read up to there, also where a fault of the text was seen before.
+/// `limits.objects` is the number of objects, `limits.arcs` the most arcs that are read, and `limits.reads` the most
+/// calls of `read`, the one that finds the end among them. A read that gives no bytes is the end; the reader is read up
+/// to there, also where a fault of the text was seen before.
 ///
 /// # Errors
 ///
 /// [`ReadError::ReadFault`] at the first read that fails, also by an interrupt: no read is tried again.
-/// [`ReadError::TooManyReads`] where so many reads gave bytes each. [`ReadError::NoMemory`] at once, where memory was refused. Each
-/// of these stands whatever fault of the text was seen before. Else the answer is that of [`read_arcs`] on the whole text.
+/// [`ReadError::TooManyReads`] where so many reads gave bytes each. [`ReadError::NoMemory`] at once, where memory was
+/// refused. Each of these stands whatever fault of the text was seen before. Else the answer is that of [`read_arcs`]
+/// on the whole text.
 ///
-/// Takes O(length) time, 16 bytes of memory an arc, and 64 kB for a piece of the text, which are asked for before the first read: none of
-/// them lie on the stack.
+/// Takes O(length) time, 16 bytes of memory an arc, and 64 kB for a piece of the text, which are asked for before the
+/// first read: none of them lie on the stack.
 pub fn read_arcs_from<R: Read>(
     alloc: Global,
     reader: &mut R,
@@ -95,13 +98,15 @@ pub fn read_arcs_from<R: Read>(
     requires reads { limits.reads ≤ MOST_READS }
     requires objects { limits.objects ≤ MOST_OBJECTS }
     // A text was taken, all that the reader had unless it says otherwise; the answer is that of the whole text.
-    ensures { (text : List ℕ) × Consumes (R.remaining reader.old) (R.remaining reader.new) text × IsRead limits (R.remaining reader.new) text result }
+    ensures { (text : List ℕ) × Consumes (R.remaining reader.old) (R.remaining reader.new) text
+        × IsRead limits (R.remaining reader.new) text result }
 {
     let mut piece = vec![in alloc; 0u8; PIECE]?;
     read_by_pieces(alloc, reader, limits, piece.as_mut_slice())
 }
 
-/// The same, through this room for a piece. A function of its own, so that the room comes from memory and not from the stack.
+/// The same, through this room for a piece. A function of its own, so that the room comes from memory and not from the
+/// stack.
 fn read_by_pieces<R: Read>(
     alloc: Global,
     reader: &mut R,
@@ -112,7 +117,8 @@ fn read_by_pieces<R: Read>(
     requires objects { limits.objects ≤ MOST_OBJECTS }
     // What is kept of an unfinished token leaves room for a byte more.
     requires room { MOST_KEPT < length piece.old }
-    ensures { (text : List ℕ) × Consumes (R.remaining reader.old) (R.remaining reader.new) text × IsRead limits (R.remaining reader.new) text result }
+    ensures { (text : List ℕ) × Consumes (R.remaining reader.old) (R.remaining reader.new) text
+        × IsRead limits (R.remaining reader.new) text result }
 {
     let mut arcs = Vec::new(alloc);
     let wanted = limits.objects;

@@ -93,7 +93,9 @@ fn objects_of(wanted: u32, persons: u32) -> Result<u32, ReadError>
 #[tactic(auto, unfolding(crate::specs::Reading::step_at))]
 fn after_count(wanted: u32, number: Number) -> Result<Stage, ReadError>
     requires { wanted ≤ MOST_OBJECTS }
-    ensures exact { (limit : ℕ) (arcs : List Arc) → AnswersUnless ReadError.NoMemory (λ stage. (stage, arcs)) result (λ r. step_at limit (AtCount wanted) arcs number ≡ r) }
+    ensures exact { (limit : ℕ) (arcs : List Arc)
+        → AnswersUnless ReadError.NoMemory (λ stage. (stage, arcs)) result
+        (λ r. step_at limit (AtCount wanted) arcs number ≡ r) }
     ensures sound { (limit : ℕ) → IfOk result (λ stage. IsStage limit stage []) }
 {
     let before = index_of(number, MOST_PERSONS, 0, ReadError::CountRange)?;
@@ -114,7 +116,8 @@ fn after_person(
 ) -> Result<Stage, ReadError>
     requires few { limit ≤ MOST_ARCS }
     requires sound { IsStage limit (AtPerson persons objects) arcs.now }
-    ensures exact { AnswersUnless ReadError.NoMemory (λ stage. (stage, arcs.now)) result (λ r. step_at limit (AtPerson persons objects) arcs.now number ≡ r) }
+    ensures exact { AnswersUnless ReadError.NoMemory (λ stage. (stage, arcs.now)) result
+        (λ r. step_at limit (AtPerson persons objects) arcs.now number ≡ r) }
     ensures sound { IfOk result (λ stage. IsStage limit stage arcs.now) }
 {
     let before = arcs.len() as u64;
@@ -143,7 +146,8 @@ fn after_object(
 ) -> Result<Stage, ReadError>
     requires few { _limit ≤ MOST_ARCS }
     requires sound { IsStage _limit (AtObject persons objects person) arcs.now }
-    ensures exact { AnswersUnless ReadError.NoMemory (λ stage. (stage, arcs.now)) result (λ r. step_at _limit (AtObject persons objects person) arcs.now number ≡ r) }
+    ensures exact { AnswersUnless ReadError.NoMemory (λ stage. (stage, arcs.now)) result
+        (λ r. step_at _limit (AtObject persons objects person) arcs.now number ≡ r) }
     ensures sound { IfOk result (λ stage. IsStage _limit stage arcs.now) }
 {
     let before = arcs.len() as u64;
@@ -169,7 +173,8 @@ impl Stage {
     ) -> Result<Stage, ReadError>
         requires few { limit ≤ MOST_ARCS }
         requires sound { IsStage limit self arcs.old.items }
-        ensures exact { AnswersUnless ReadError.NoMemory (λ stage. (stage, arcs.new.items)) result (λ r. step_at limit self arcs.old.items number ≡ r) }
+        ensures exact { AnswersUnless ReadError.NoMemory (λ stage. (stage, arcs.new.items)) result
+            (λ r. step_at limit self arcs.old.items number ≡ r) }
         ensures sound { IfOk result (λ stage. IsStage limit stage arcs.new.items) }
     {
         match self {

@@ -16,7 +16,8 @@ pub(crate) const MOST_KEPT: usize = 32;
 pub enum Unfinished {
     /// It is no number, however it ends.
     NoNumber,
-    /// A sign, and digits of this value, where one above the largest stands for all above it; perhaps a point and zeros.
+    /// A sign, and digits of this value, where one above the largest stands for all above it; perhaps a point and
+    /// zeros.
     Digits {
         negative: bool,
         value: u64,
@@ -82,8 +83,8 @@ fn spell(piece: &mut [u8], unfinished: Unfinished) -> usize
     }
 }
 
-/// Puts the unfinished token that stands between two places to the front, or a short text that reads alike however the token
-/// goes on, and gives the length.
+/// Puts the unfinished token that stands between two places to the front, or a short text that reads alike however the
+/// token goes on, and gives the length.
 pub(crate) fn keep(piece: &mut [u8], start: usize, end: usize) -> usize
     requires places { (start ≤ end) × (end ≤ length piece.old) }
     requires room { MOST_KEPT ≤ length piece.old }

@@ -14,8 +14,8 @@ use Rattle.auc_hall.specs.Completion.IsExchange.{takes_free, takes_over}
 use Rattle.auc_hall.proofs.Options.{read_set, read_unset, is_within, other_place, same_read}
 use Rattle.auc_hall.proofs.MatchedLaws.{moved, placed, kept_set, untaken}
 
--- What the exchange keeps: all is a partial assignment at each step, the arc at hand leads to a free object, and an exchange that goes on from it is one
--- from the object at which it began.
+-- What the exchange keeps: all is a partial assignment at each step, the arc at hand leads to a free object, and an
+-- exchange that goes on from it is one from the object at which it began.
 pub record IsUnderWay (t : Table) (queue : List Reached) (before choice : List (Option RowArc)) (holder : List (Option ℕ)) (began at : ℕ) (arc : RowArc) : Type 0 where
   pub matched : IsMatched t choice holder
   pub has : HasArc t queue at arc

@@ -13,11 +13,14 @@ use Rattle.auc_hall.specs.Partial.{pick}
 abbrev pub IsUntaken : List (Option RowArc) → ℕ → Type 0
 IsUntaken choice j = (i : ℕ) (b : RowArc) → pick choice i ≡ Some b → b.object ≢ j
 
--- The exchange along an augmenting path, from its end: the object j, which nobody has, is taken by a person without an arc; or by one who gives up
--- his own object for it, and then this object is taken in the same way.
+-- The exchange along an augmenting path, from its end: the object j, which nobody has, is taken by a person without an
+-- arc; or by one who gives up his own object for it, and then this object is taken in the same way.
 pub data IsExchange (t : Table) (after : List (Option RowArc)) : List (Option RowArc) → ℕ → Type 0 where
-  takes_free : (choice : List (Option RowArc)) (j i : ℕ) (a : RowArc) → IsUntaken choice j → Contains (row_of t i) a → a.object ≡ j → pick choice i ≡ None → after ≡ slice_set choice i (Some a) → IsExchange t after choice j
-  takes_over : (choice : List (Option RowArc)) (j i : ℕ) (a b : RowArc) → IsUntaken choice j → Contains (row_of t i) a → a.object ≡ j → pick choice i ≡ Some b → IsExchange t after (slice_set choice i (Some a)) b.object → IsExchange t after choice j
+  takes_free : (choice : List (Option RowArc)) (j i : ℕ) (a : RowArc) → IsUntaken choice j → Contains (row_of t i) a
+      → a.object ≡ j → pick choice i ≡ None → after ≡ slice_set choice i (Some a) → IsExchange t after choice j
+  takes_over : (choice : List (Option RowArc)) (j i : ℕ) (a b : RowArc) → IsUntaken choice j → Contains (row_of t i) a
+      → a.object ≡ j → pick choice i ≡ Some b → IsExchange t after (slice_set choice i (Some a)) b.object
+      → IsExchange t after choice j
 
 -- some exchanges lead from one choice to another, each of which gives an arc to one more person
 pub data IsGrown (t : Table) (after : List (Option RowArc)) : List (Option RowArc) → Type 0 where

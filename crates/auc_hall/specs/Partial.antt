@@ -25,10 +25,11 @@ pub record MayPlace (t : Table) (choice : List (Option RowArc)) (person n : ℕ)
   pub unplaced : pick choice person ≡ None
   pub untaken : (i : ℕ) (b : RowArc) → pick choice i ≡ Some b → b.object ≢ a.object
 
--- Why a person isn't given an arc of this number: he has an arc, or else no arc of his has the number, or else another holds its object.
--- Just one of these holds.
+-- Why a person isn't given an arc of this number: he has an arc, or else no arc of his has the number, or else another
+-- holds its object. Just one of these holds.
 pub data IsNotPlaced (t : Table) (choice : List (Option RowArc)) (person n : ℕ) : Type 0 where
   placed_already : (a : RowArc) → pick choice person ≡ Some a → IsNotPlaced t choice person n
   not_his : pick choice person ≡ None → All (λ a. a.arc ≢ n) (row_of t person) → IsNotPlaced t choice person n
-  object_held : (a b : RowArc) (i : ℕ) → pick choice person ≡ None → Contains (row_of t person) a → a.arc ≡ n → pick choice i ≡ Some b → b.object ≡ a.object
+  object_held : (a b : RowArc) (i : ℕ) → pick choice person ≡ None → Contains (row_of t person) a → a.arc ≡ n
+      → pick choice i ≡ Some b → b.object ≡ a.object
       → IsNotPlaced t choice person n

@@ -48,9 +48,11 @@ pub record AreSeen (t : Table) (queue : List Reached) (seen : List Bool) : Type 
 
 -- each arc of the first so many persons of the queue leads to an object that was seen
 abbrev pub AreWalked : Table → List Reached → List Bool → ℕ → Type 0
-AreWalked t queue seen at = (m : ℕ) (e : Reached) → m < at → slice_get queue m ≡ Some e → All (λ a. WasSeen seen a.object) (row_of t e.person)
+AreWalked t queue seen at =
+    (m : ℕ) (e : Reached) → m < at → slice_get queue m ≡ Some e → All (λ a. WasSeen seen a.object) (row_of t e.person)
 
-pub record IsSearch (t : Table) (choice : List (Option RowArc)) (holder : List (Option ℕ)) (queue : List Reached) (seen : List Bool) : Type 0 where
+pub record IsSearch (t : Table) (choice : List (Option RowArc)) (holder : List (Option ℕ)) (queue : List Reached)
+    (seen : List Bool) : Type 0 where
   pub trail : IsTrail t holder queue
   pub starts : Starts queue choice
   pub marks : AreSeen t queue seen

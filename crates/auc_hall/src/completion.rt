@@ -32,8 +32,8 @@ fn numbers_of(alloc: Global, choice: &[Option<RowArc>]) -> Result<Vec<u32>, Allo
     Ok(out)
 }
 
-/// `complete`, over the arcs of the persons and the holders of the objects. No object is marked in `seen`, and no arc was looked
-/// at.
+/// `complete`, over the arcs of the persons and the holders of the objects. No object is marked in `seen`, and no arc
+/// was looked at.
 fn complete_parts(
     alloc: Global,
     rows: &Rows,

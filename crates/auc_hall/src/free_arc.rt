@@ -8,8 +8,8 @@ use auc_graph::{RowArc, Rows};
 
 /// The person's first arc to an object that nobody holds. `looked` says how many arcs of each person were looked at.
 ///
-/// In a completion an object that is held stays held, so a look goes on where the last one ended. All of them together look at
-/// each arc once, O(arcs). Should one have been left out, the search would still meet it.
+/// In a completion an object that is held stays held, so a look goes on where the last one ended. All of them together
+/// look at each arc once, O(arcs). Should one have been left out, the search would still meet it.
 pub(crate) fn free_arc(
     rows: &Rows,
     holder: &[Option<u32>],

@@ -1,20 +1,22 @@
 //! The search for any full assignment, by labels of the objects (push and relabel).
 //!
-//! Who needs an object takes the one of his row with the lowest label, and raises that to one more than the next lowest.
-//! Whom he displaces goes on in the same way, until somebody takes a free object. A free object has the label 0, and no
-//! other label is more than the number of persons who have to move until the object is free, its holder last: so persons go
-//! where free objects are near, and what one has found out spares the others the way.
+//! Who needs an object takes the one of his row with the lowest label, and raises that to one more than the next
+//! lowest. Whom he displaces goes on in the same way, until somebody takes a free object. A free object has the label
+//! 0, and no other label is more than the number of persons who have to move until the object is free, its holder last:
+//! so persons go where free objects are near, and what one has found out spares the others the way.
 //!
-//! Where the lowest label of a row isn't 0 and no object has the label below it, nobody who holds an object with that label
-//! or a higher one knows any other object. They and the one who needs an object are too many, and the search gives up.
+//! Where the lowest label of a row isn't 0 and no object has the label below it, nobody who holds an object with that
+//! label or a higher one knows any other object. They and the one who needs an object are too many, and the search
+//! gives up.
 //!
-//! Goldberg and Tarjan, "A new approach to the maximum-flow problem", Journal of the ACM 35 (1988). For assignments: Kaya,
-//! Langguth, Manne and Uçar, "Push-relabel based algorithms for the maximum transversal problem", Computers and Operations
-//! Research 40 (2013). The gap below a label: Derigs and Meier, "Implementing Goldberg's max-flow-algorithm", Zeitschrift für
-//! Operations Research 33 (1989). It is the auction of Bertsekas (1988) where all costs are the same, with labels for prices.
+//! Goldberg and Tarjan, "A new approach to the maximum-flow problem", Journal of the ACM 35 (1988). For assignments:
+//! Kaya, Langguth, Manne and Uçar, "Push-relabel based algorithms for the maximum transversal problem", Computers and
+//! Operations Research 40 (2013). The gap below a label: Derigs and Meier, "Implementing Goldberg's
+//! max-flow-algorithm", Zeitschrift für Operations Research 33 (1989). It is the auction of Bertsekas (1988) where all
+//! costs are the same, with labels for prices.
 //!
-//! Nothing is proved of it but that it ends, since what it proposes is tried. So it tests who holds what, and its sums stop
-//! at their ends.
+//! Nothing is proved of it but that it ends, since what it proposes is tried. So it tests who holds what, and its sums
+//! stop at their ends.
 
 ghost use Rattle.std.specs.Prelude.{◌≡◌, ◌<◌, ◌+◌, All, IfSome, false, length};
 
@@ -118,8 +120,8 @@ fn lowest_of(row: &[RowArc], labels: &[u32]) -> Lowest
     lowest
 }
 
-/// Whether no way to a free object leads over objects with this label: as many persons as there are would have to move on,
-/// or no object has the label below. `counts` has the number of objects of each label, up to the number of persons.
+/// Whether no way to a free object leads over objects with this label: as many persons as there are would have to move
+/// on, or no object has the label below. `counts` has the number of objects of each label, up to the number of persons.
 fn is_cut_off(counts: &[u32], label: u32) -> bool
     requires { 0 < length counts.now }
     ensures { result ≡ false → label < length counts.now }
@@ -166,8 +168,8 @@ fn take(
     }
 }
 
-/// Finds an object for a person, and for whom he displaces, and so on until somebody takes a free one. False where no way
-/// leads to one, or where no looks are left.
+/// Finds an object for a person, and for whom he displaces, and so on until somebody takes a free one. False where no
+/// way leads to one, or where no looks are left.
 fn place(
     rows: &Rows,
     labels: &mut [u32],
@@ -194,8 +196,8 @@ fn place(
     false
 }
 
-/// Finds an object for each person; false where it gives up. It begins with labels and counts of 0, no holders, and nobody
-/// at a place. Then whoever holds an object does so by the arc at his place of his row.
+/// Finds an object for each person; false where it gives up. It begins with labels and counts of 0, no holders, and
+/// nobody at a place. Then whoever holds an object does so by the arc at his place of his row.
 pub(crate) fn search_by_labels(
     rows: &Rows,
     labels: &mut [u32],

@@ -3,9 +3,8 @@
 //!
 //! A person knows the objects of his arcs. `complete` takes O(persons * arcs) time at most, and mostly far less: each
 //! search for a free object looks at an arc at most once and stops at the first one that leads to a free object.
-//! `has_full_matching` is for who only asks whether there is a full assignment: it takes O(arcs) time, and where it finds none
-//! `complete` tells.
-//! Persons, objects and arcs are numbered from 0.
+//! `has_full_matching` is for who only asks whether there is a full assignment: it takes O(arcs) time, and where it
+//! finds none `complete` tells. Persons, objects and arcs are numbered from 0.
 #![tactic(auto)]
 
 mod completion;

@@ -73,7 +73,8 @@ fn place_in(
     requires matched { IsMatched rows.now choice.old holder.old }
     requires person { person < length rows.now.rows }
     ensures matched { IsMatched rows.now choice.new holder.new }
-    ensures placed { IsTrue result → (a : RowArc) × MayPlace rows.now choice.old person arc a × (choice.new ≡ slice_set choice.old person (Some a)) }
+    ensures placed { IsTrue result → (a : RowArc) × MayPlace rows.now choice.old person arc a
+        × (choice.new ≡ slice_set choice.old person (Some a)) }
     ensures unchanged { result ≡ false → choice.new ≡ choice.old }
     ensures refused { result ≡ false → (a : RowArc) → MayPlace rows.now choice.old person arc a → ⊥ }
     ensures cause { result ≡ false → IsNotPlaced rows.now choice.old person arc }
@@ -117,7 +118,8 @@ impl Partial {
         requires made { IsFor rows.now self.old }
         requires person { person < length rows.now.rows }
         ensures made { IsFor rows.now self.new }
-        ensures placed { IsTrue result → (a : RowArc) × MayPlace rows.now self.old.choice person arc a × (self.new.choice ≡ slice_set self.old.choice person (Some a)) }
+        ensures placed { IsTrue result → (a : RowArc) × MayPlace rows.now self.old.choice person arc a
+            × (self.new.choice ≡ slice_set self.old.choice person (Some a)) }
         ensures unchanged { result ≡ false → self.new ≡ self.old }
         ensures refused { result ≡ false → (a : RowArc) → MayPlace rows.now self.old.choice person arc a → ⊥ }
         ensures cause { result ≡ false → IsNotPlaced rows.now self.old.choice person arc }

@@ -28,9 +28,9 @@ pub(crate) struct PathEnd {
     pub(crate) at: usize,
 }
 
-/// Looks at the arcs of the person at this place of the queue. Each object that was not seen yet is marked, and its holder
-/// put last into the queue; the first of these who has an arc to a free object ends the search. He is the first of the whole
-/// queue who has one, since each before him was asked when he was put there.
+/// Looks at the arcs of the person at this place of the queue. Each object that was not seen yet is marked, and its
+/// holder put last into the queue; the first of these who has an arc to a free object ends the search. He is the first
+/// of the whole queue who has one, since each before him was asked when he was put there.
 fn walk(
     rows: &Rows,
     _choice: &[Option<RowArc>],
@@ -49,7 +49,9 @@ fn walk(
     ensures grows { OnOk result (Grows queue.old.items queue.new.items) }
     ensures kept { (j : ℕ) → WasSeen seen.old j → WasSeen seen.new j }
     ensures found { IfOk result (λ r. IfSome r (λ f. LeadsOut rows.now holder.now queue.new.items f.at f.arc)) }
-    ensures walked { IfOk result (λ r. IfNone r ((e : Reached) → slice_get queue.old.items at ≡ Some e → All (λ a. WasSeen seen.new a.object) (row_of rows.now e.person))) }
+    ensures walked { IfOk result
+        (λ r. IfNone r ((e : Reached) → slice_get queue.old.items at ≡ Some e → All (λ a. WasSeen seen.new a.object)
+        (row_of rows.now e.person))) }
 {
     let person = queue[at].person;
     for arc in rows.row(person) {
@@ -90,8 +92,8 @@ fn forget(seen: &mut [bool], queue: &[Reached])
     }
 }
 
-/// Searches a free object from this person on, the nearest first. `seen` and `queue` are those of the search before, and
-/// `looked` says how many arcs of each person were looked at for a free object.
+/// Searches a free object from this person on, the nearest first. `seen` and `queue` are those of the search before,
+/// and `looked` says how many arcs of each person were looked at for a free object.
 pub(crate) fn search(
     rows: &Rows,
     choice: &[Option<RowArc>],

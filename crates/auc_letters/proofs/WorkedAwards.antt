@@ -1,4 +1,5 @@
--- Bids on one object, computed by the definitions: the first, one too low, one high enough; and all of them among letters.
+-- Bids on one object, computed by the definitions: the first, one too low, one high enough; and all of them among
+-- letters.
 use Rattle.std.proofs.Common.{◌≡◌, ℕ, [], ◌∷◌, Some, None, List, refl}
 use Rattle.std.specs.Prelude.{ℤ, pos, negsuc}
 use Rattle.auc_letters.specs.declared.letter.Letter.{Letter}

@@ -32,7 +32,9 @@ award eps sale bid = if is_accepted eps sale bid then sold_by bid else sale
 -- the letters of an accepted bid: the earlier holder is outbid before the award; an object without holder is counted
 abbrev pub awards : ℕ → Option Held → ℕ → ℕ → ℤ → List Out
 awards shards None person object price = to_person shards person (Letter.Award person object price) ∷ to_hub (Letter.First object) ∷ []
-awards shards (Some held) person object price = to_person shards held.person (Letter.Outbid held.person object price) ∷ to_person shards person (Letter.Award person object price) ∷ []
+awards shards (Some held) person object price =
+    to_person shards held.person (Letter.Outbid held.person object price) ∷ to_person shards person
+    (Letter.Award person object price) ∷ []
 
 -- the letter of a bid that is too low, with the present price
 abbrev pub refusal : ℕ → ℕ → ℕ → ℤ → List Out
@@ -40,7 +42,9 @@ refusal shards person object price = to_person shards person (Letter.Refused per
 
 -- The letters that answer a bid, in the order in which they are sent, where there are so many shards of the persons.
 abbrev pub answers : ℕ → ℤ → Sale → Bid → List Out
-answers shards eps sale bid = if is_accepted eps sale bid then awards shards sale.holder bid.person bid.object bid.amount else refusal shards bid.person bid.object sale.price
+answers shards eps sale bid =
+    if is_accepted eps sale bid then awards shards sale.holder bid.person bid.object bid.amount else refusal shards
+    bid.person bid.object sale.price
 
 -- what bids on one object make of it, one after another
 abbrev pub award_all : ℤ → Sale → List Bid → Sale

@@ -64,8 +64,8 @@ pub enum Letter {
     },
 }
 
-/// A bid, without the letter that brings it: the person bids this amount, in scaled costs, for the object, by the arc at this
-/// place in the list of arcs.
+/// A bid, without the letter that brings it: the person bids this amount, in scaled costs, for the object, by the arc
+/// at this place in the list of arcs.
 #[derive(Clone, Copy, Debug, PartialEq, Eq)]
 pub struct Bid {
     pub person: u32,

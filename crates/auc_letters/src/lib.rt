@@ -1,7 +1,7 @@
 //! Letters between persons and objects: what they say, where they go, and what they do.
 //!
-//! Persons, objects, arcs and shards are numbered from 0. All types are small `Copy` values. The award rule, and the shard
-//! that a letter goes to, are defined in `specs/Award.antt` and `specs/Routing.antt`.
+//! Persons, objects, arcs and shards are numbered from 0. All types are small `Copy` values. The award rule, and the
+//! shard that a letter goes to, are defined in `specs/Award.antt` and `specs/Routing.antt`.
 #![tactic(auto)]
 
 mod law;

@@ -18,7 +18,8 @@ abbrev pub box_of : List MailBox → ℕ → MailBox
 box_of boxes b = slice_index_or boxes b no_box
 
 abbrev pub lane_at : {T : Type 0} → List ℕ → List (List T) → ℕ → Lane T
-lane_at posted lists k = record { taken = slice_index_or posted k 0 - length (slice_index_or lists k []); waiting = slice_index_or lists k [] }
+lane_at posted lists k = record
+    { taken = slice_index_or posted k 0 - length (slice_index_or lists k []); waiting = slice_index_or lists k [] }
 
 abbrev pub lanes_of : {T : Type 0} → List ℕ → List (List T) → List (Lane T)
 lanes_of posted lists = map (lane_at posted lists) (range_with_len 0 (length posted))
@@ -26,7 +27,15 @@ lanes_of posted lists = map (lane_at posted lists) (range_with_len 0 (length pos
 -- the mail that the pool's parts make
 abbrev pub mail_of : {T : Type 0} → ℕ → ℕ → List MailBox → List ℕ → Lists T → Mail T
 mail_of senders most boxes posted pool =
-    record { senders = senders; nodes = pool.nodes; most = most; accepting = map (λ b. b.accepting) boxes; lanes = lanes_of posted pool.lists }
+    record {
+      senders =
+          senders;
+      nodes = pool.nodes;
+      most = most;
+      accepting = map (λ b. b.accepting) boxes;
+      lanes = lanes_of posted
+          pool.lists;
+    }
 
 -- the lane k is one of the box b
 abbrev pub IsLaneOf : ℕ → ℕ → ℕ → Type 0

@@ -28,7 +28,14 @@ pub(crate) const NO_LANE: u32 = u32::MAX;
 pub(crate) fn note_post(boxes: &mut Vec<MailBox>, at: u32, lane: u32)
     requires at { at < length boxes.old.items }
     requires fits { (box_of boxes.old.items at).waiting + 1 < 2 ^ 32 }
-    ensures { boxes.new.items ≡ slice_set boxes.old.items at (record { waiting = (box_of boxes.old.items at).waiting + 1; last = lane; giver = (box_of boxes.old.items at).giver; accepting = (box_of boxes.old.items at).accepting }) }
+    ensures { boxes.new.items ≡ slice_set boxes.old.items at
+        (record {
+          waiting = (box_of boxes.old.items at).waiting + 1;
+          last = lane;
+          giver = (box_of boxes.old.items
+              at).giver;
+          accepting = (box_of boxes.old.items at).accepting;
+        }) }
 {
     let state = &mut boxes[at as usize];
     state.waiting += 1;
@@ -40,7 +47,14 @@ pub(crate) fn note_post(boxes: &mut Vec<MailBox>, at: u32, lane: u32)
 pub(crate) fn note_take(boxes: &mut Vec<MailBox>, at: u32, lane: u32)
     requires at { at < length boxes.old.items }
     requires some { 0 < (box_of boxes.old.items at).waiting }
-    ensures { boxes.new.items ≡ slice_set boxes.old.items at (record { waiting = (box_of boxes.old.items at).waiting - 1; last = (box_of boxes.old.items at).last; giver = lane; accepting = (box_of boxes.old.items at).accepting }) }
+    ensures { boxes.new.items ≡ slice_set boxes.old.items at
+        (record {
+          waiting = (box_of boxes.old.items at).waiting - 1;
+          last = (box_of boxes.old.items at).last;
+          giver =
+              lane;
+          accepting = (box_of boxes.old.items at).accepting;
+        }) }
 {
     let state = &mut boxes[at as usize];
     state.waiting -= 1;
@@ -51,7 +65,14 @@ pub(crate) fn note_take(boxes: &mut Vec<MailBox>, at: u32, lane: u32)
 #[inline]
 pub(crate) fn note_close(boxes: &mut Vec<MailBox>, at: u32)
     requires { at < length boxes.old.items }
-    ensures { boxes.new.items ≡ slice_set boxes.old.items at (record { waiting = (box_of boxes.old.items at).waiting; last = (box_of boxes.old.items at).last; giver = (box_of boxes.old.items at).giver; accepting = false }) }
+    ensures { boxes.new.items ≡ slice_set boxes.old.items at
+        (record {
+          waiting = (box_of boxes.old.items at).waiting;
+          last = (box_of boxes.old.items at).last;
+          giver =
+              (box_of boxes.old.items at).giver;
+          accepting = false;
+        }) }
 {
     let state = &mut boxes[at as usize];
     state.accepting = false;
@@ -78,7 +99,8 @@ pub(crate) fn sender_of(senders: u32, at: u32, lane: u32) -> u32
 // The first of these lanes that has a letter.
 fn first_waiting<T: Copy>(lists: &NodePool<T>, from: u32, to: u32) -> Option<u32>
     requires { to ≤ length lists.now.lists }
-    ensures { MatchOption result ((k : ℕ) → from ≤ k → k < to → list_of lists.now k ≡ []) (λ k. (from ≤ k) × (k < to) × (list_of lists.now k ≢ [])) }
+    ensures { MatchOption result ((k : ℕ) → from ≤ k → k < to → list_of lists.now k ≡ [])
+        (λ k. (from ≤ k) × (k < to) × (list_of lists.now k ≢ [])) }
 {
     for lane in from..to {
         if lists.len(lane) > 0 {
@@ -88,7 +110,8 @@ fn first_waiting<T: Copy>(lists: &NodePool<T>, from: u32, to: u32) -> Option<u32
     None
 }
 
-// The lane whose turn it is: the first of the box's that has a letter, in rotating order from the one after the last giver.
+// The lane whose turn it is: the first of the box's that has a letter, in rotating order from the one after the last
+// giver.
 #[inline(never)]
 pub(crate) fn lane_in_turn<T: Copy>(
     lists: &NodePool<T>,
@@ -98,7 +121,8 @@ pub(crate) fn lane_in_turn<T: Copy>(
 ) -> Option<u32>
     requires lanes { at * senders + senders ≤ length lists.now.lists }
     requires fits { at * senders + senders < 2 ^ 32 }
-    ensures { MatchOption result ((k : ℕ) → IsLaneOf senders at k → list_of lists.now k ≡ []) (λ k. IsLaneOf senders at k × (list_of lists.now k ≢ [])) }
+    ensures { MatchOption result ((k : ℕ) → IsLaneOf senders at k → list_of lists.now k ≡ [])
+        (λ k. IsLaneOf senders at k × (list_of lists.now k ≢ [])) }
 {
     let first = at * senders;
     let end = first + senders;

@@ -21,8 +21,8 @@ use std::marker::Model;
 
 /// A mail: boxes that accept letters until they are closed, and a lane for each box and sender.
 ///
-/// Boxes and senders are numbered from 0. All boxes together have room for a fixed number of waiting letters, reserved by
-/// `make`; each lane has a fixed number of posts. No other call takes memory.
+/// Boxes and senders are numbered from 0. All boxes together have room for a fixed number of waiting letters, reserved
+/// by `make`; each lane has a fixed number of posts. No other call takes memory.
 ///
 /// Contracts see a mail as the `Mail` of `specs/Mail.antt`. They leave open which sender's letter a take gives.
 #[derive(Drop)]
@@ -78,8 +78,9 @@ fn new_lists<T: Copy>(
 impl<T: Copy> MailPool<T> {
     /// The empty mail: every box is open, and nothing was posted.
     ///
-    /// There are `boxes` boxes and `senders` senders. In all boxes together `nodes` letters may wait at a time, and `most`
-    /// letters may ever be posted in each lane. `blank` is any item: it fills places that hold no letter, and is never handed out.
+    /// There are `boxes` boxes and `senders` senders. In all boxes together `nodes` letters may wait at a time, and
+    /// `most` letters may ever be posted in each lane. `blank` is any item: it fills places that hold no letter, and is
+    /// never handed out.
     ///
     /// Errors, in this order: `TooManyLanes` above `MOST_BOXES`, `MOST_SENDERS` or `MOST_LANES`; `TooManyNodes` above
     /// `MOST_NODES`; `NoMemory` where memory was refused.

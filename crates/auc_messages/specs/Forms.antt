@@ -1,5 +1,5 @@
--- Files that are no problem but something else, told by the token that is no number: which one of the file it is, from 0 on, and its first
--- bytes.
+-- Files that are no problem but something else, told by the token that is no number: which one of the file it is, from
+-- 0 on, and its first bytes.
 use Rattle.std.specs.Prelude.{ℕ, ◌==◌, ◌||◌, Bool, nat_eq, if◌then◌else◌, List, [], ◌∷◌, codes, Option, Some, None}
 use Rattle.std.specs.List.{list_any, starts_with}
 use Rattle.auc_graph.specs.declared.read_error.ReadError.{ReadError}

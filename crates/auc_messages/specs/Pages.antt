@@ -24,9 +24,11 @@ page_of_command given =
     (if is_word (codes "hall") given then Some Hall else
     (if is_word (codes "mail") given then Some Mail else None)))
 
--- one word that asks for help or for the version; or a command before a word that asks for help, or after the command that does
+-- one word that asks for help or for the version; or a command before a word that asks for help, or after the command
+-- that does
 abbrev pub page_of : List (List ℕ) → Option Page
 page_of [] = None
 page_of (word ∷ []) = if is_help word || is_help_command word then Some Usage else (if is_version word then Some Version else None)
-page_of (first ∷ second ∷ []) = if is_help second then page_of_command first else (if is_help_command first then page_of_command second else None)
+page_of (first ∷ second ∷ []) =
+    if is_help second then page_of_command first else (if is_help_command first then page_of_command second else None)
 page_of (first ∷ second ∷ third ∷ more) = None

@@ -91,7 +91,8 @@ phrase_of_reason Reason.Posts = codes "a mail has had as many letters as it may 
 phrase_of_reason Reason.Trail = codes "a trail of --audit was full: the answer is an assignment, and a bound below which none costs; for a least cost raise --audit, or leave it out"
 phrase_of_reason Reason.Mail = codes "a mail had no room left: the answer is an assignment, and a bound below which none costs; for a least cost leave out --workers, or say --direct in its place"
 
--- without a refusal or a limit: 3 no assignment, 4 a bracket, 7 a guard, 8 not written, 6 no memory, 5 a refused input, 2 usage, and any other
+-- without a refusal or a limit: 3 no assignment, 4 a bracket, 7 a guard, 8 not written, 6 no memory, 5 a refused input,
+-- 2 usage, and any other
 unfoldable pub phrase_of_status : ℕ → List ℕ
 phrase_of_status status =
     if status == 3 then codes "there is no assignment: the persons that the answer names know fewer objects than they are; give them more arcs, or leave some out" else

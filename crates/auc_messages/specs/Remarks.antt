@@ -31,6 +31,7 @@ IsRemarkOn job status None remark = (remark.subject ≡ subject_of_status status
 abbrev pub IsRemark : Job → Ending → Remark → Type 0
 IsRemark job ending remark = IsRemarkOn job ending.status (told_refusal ending) remark
 
--- its words are those of the refusal, without one those of the limit that ended the search, and without that those of the status
+-- its words are those of the refusal, without one those of the limit that ended the search, and without that those of
+-- the status
 abbrev pub HasWords : Ending → Remark → Type 0
 HasWords ending remark = remark.phrase.now ≡ phrase_for ending.status (told_reason ending) (told_refusal ending)

@@ -24,8 +24,8 @@ abbrev pub last_of : ℕ → Spot
 last_of zero = All
 last_of (suc before) = Token before
 
--- the token of an arc at which its person, its object or its cost stands, by a field of 1, 2 or 3: token 0 is the number of persons. No text has
--- 2^64 tokens.
+-- the token of an arc at which its person, its object or its cost stands, by a field of 1, 2 or 3: token 0 is the
+-- number of persons. No text has 2^64 tokens.
 abbrev pub token_of_arc : ℕ → ℕ → Spot
 token_of_arc arc field = Token (min (arc * 3 + field) (2 ^ 64 - 1))
 

@@ -1,5 +1,6 @@
-//! Files that are no problem but something else, told by the token that is no number. The signatures are those that the formats fix: gzip
-//! (RFC 1952), bzip2, xz, Zstandard (RFC 8878), zip, byte order marks (Unicode), MatrixMarket and DIMACS.
+//! Files that are no problem but something else, told by the token that is no number. The signatures are those that the
+//! formats fix: gzip (RFC 1952), bzip2, xz, Zstandard (RFC 8878), zip, byte order marks (Unicode), MatrixMarket and
+//! DIMACS.
 
 ghost use Rattle.std.specs.Prelude.{◌≡◌, IsTrue};
 ghost use Rattle.auc_messages.specs.Forms.{bad_number, form_of, form_told, mark_form, packed_form, phrase_of_form, text_form, word_form};

@@ -58,8 +58,8 @@ fn write_character<W: Write>(writer: &mut W, character: char) -> Result<(), Writ
     write_whole(writer, character.encode_utf8(&mut bytes).as_bytes())
 }
 
-/// Writes a name, with control characters as Rust writes them in a literal, so that none of them gets to a terminal or ends the line.
-/// Takes no memory.
+/// Writes a name, with control characters as Rust writes them in a literal, so that none of them gets to a terminal or
+/// ends the line. Takes no memory.
 ///
 /// # Errors
 ///

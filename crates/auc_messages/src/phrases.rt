@@ -1,5 +1,5 @@
-//! What is said of each refusal, and of each status without one: what was wrong or wanted, and what to do. A place stands before it, and the
-//! quoted token.
+//! What is said of each refusal, and of each status without one: what was wrong or wanted, and what to do. A place
+//! stands before it, and the quoted token.
 
 ghost use Rattle.std.specs.Prelude.{◌≡◌, IsTrue};
 ghost use Rattle.auc_messages.specs.Phrases.{out_of_memory, phrase_of_certificate, phrase_of_claim, phrase_of_end, phrase_of_input, phrase_of_problem, phrase_of_reason, phrase_of_refusal, phrase_of_script, phrase_of_start, phrase_of_status, read_failed, too_many_reads};
@@ -247,7 +247,8 @@ fn of_status(status: u8) -> &'static [u8]
     }
 }
 
-/// Of the end of a job where nothing was refused: of the limit that ended its search, and where none did, of its status.
+/// Of the end of a job where nothing was refused: of the limit that ended its search, and where none did, of its
+/// status.
 pub(crate) fn of_end(status: u8, reason: Option<Reason>) -> &'static [u8]
     ensures words { result.now ≡ phrase_of_end status reason }
     ensures phrase { IsTrue (is_phrase result.now) }

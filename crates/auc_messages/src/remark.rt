@@ -39,7 +39,8 @@ fn remark_of_refusal(job: &Job, refusal: Refusal) -> Remark
     }
 }
 
-/// Which input a status is about without a refusal: the problem, where there is no assignment, or a limit ended the search.
+/// Which input a status is about without a refusal: the problem, where there is no assignment, or a limit ended the
+/// search.
 fn subject_of_status(status: u8) -> Subject
     ensures { result ≡ subject_of_status status }
 {
@@ -89,9 +90,11 @@ fn told_reason(ending: Ending) -> Option<Reason>
 pub fn remark_of(job: &Job, ending: Ending) -> Option<Remark>
     ensures silent { ending.status ≡ 0 → result ≡ None }
     ensures told { ending.status ≢ 0 → IsSome result }
-    // It is about the input that was refused, and the spot in it; where the answer was not written, it is about that alone.
+    // It is about the input that was refused, and the spot in it; where the answer was not written, it is about that
+    // alone.
     ensures is { IfSome result (IsRemark job.now ending) }
-    // Its words are those of the refusal that is told; where none is, of the limit that ended the search; and without one, of the status.
+    // Its words are those of the refusal that is told; where none is, of the limit that ended the search; and without
+    // one, of the status.
     ensures words { IfSome result (HasWords ending) }
     // They say something, on one line.
     ensures phrase { IfSome result (λ remark. IsTrue (is_phrase remark.phrase.now)) }
@@ -105,8 +108,9 @@ pub fn remark_of(job: &Job, ending: Ending) -> Option<Remark>
     }
 }
 
-/// What is to be said of the end of this job where its token is known to stand at this place, if it is: as [`remark_of`]; but a first file that is
-/// no problem, and begins as files of another form do, is told to be of that form, with what to do.
+/// What is to be said of the end of this job where its token is known to stand at this place, if it is: as
+/// [`remark_of`]; but a first file that is no problem, and begins as files of another form do, is told to be of that
+/// form, with what to do.
 pub fn remark_at(job: &Job, ending: Ending, place: &Option<Place>) -> Option<Remark>
     ensures silent { ending.status ≡ 0 → result ≡ None }
     ensures told { ending.status ≢ 0 → IsSome result }

@@ -114,7 +114,8 @@ pub(crate) fn spot_of(refusal: Refusal) -> Spot
     }
 }
 
-/// Which input of this job a refusal is about. What was not read to its end is a mail's script, and else the certificate.
+/// Which input of this job a refusal is about. What was not read to its end is a mail's script, and else the
+/// certificate.
 pub(crate) fn subject_of(job: &Job, refusal: Refusal) -> Subject
     ensures { result ≡ subject_of job.now refusal }
 {

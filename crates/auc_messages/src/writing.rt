@@ -50,7 +50,8 @@ fn write_end<W: Write>(writer: &mut W, whole: bool, phrase: &[u8]) -> Result<(),
 
 /// Writes the first bytes of a token, and what stands after them.
 fn write_quoted<W: Write>(writer: &mut W, place: &Place, phrase: &[u8]) -> Result<(), WriteFault>
-    ensures { Writes result (W.contents writer.old) (W.contents writer.new) (map shown_byte place.now.front.items ++ quoted_end place.now.whole phrase.now) }
+    ensures { Writes result (W.contents writer.old) (W.contents writer.new)
+        (map shown_byte place.now.front.items ++ quoted_end place.now.whole phrase.now) }
 {
     let front = shown(place.front.as_slice());
     write_whole(writer, front.as_slice())?;
@@ -134,8 +135,8 @@ fn write_alone<W: Write>(writer: &mut W, phrase: &[u8]) -> Result<(), WriteFault
     write_parts(writer, &parts)
 }
 
-/// Writes what is to be said, in one sentence: `name` is that of the input that it is about, if any, and `place` the place where its token stands,
-/// if that is known. Takes no memory.
+/// Writes what is to be said, in one sentence: `name` is that of the input that it is about, if any, and `place` the
+/// place where its token stands, if that is known. Takes no memory.
 ///
 /// # Errors
 ///
@@ -146,7 +147,8 @@ pub fn write_remark<W: Write>(
     place: &Option<Place>,
     remark: Remark,
 ) -> Result<(), WriteFault>
-    ensures { Writes result (W.contents writer.old) (W.contents writer.new) (sentence (option_map (λ x. x.now) name.entry) place.now remark.spot remark.phrase.now) }
+    ensures { Writes result (W.contents writer.old) (W.contents writer.new)
+        (sentence (option_map (λ x. x.now) name.entry) place.now remark.spot remark.phrase.now) }
 {
     match name {
         None => write_alone(writer, remark.phrase),

@@ -1,4 +1,5 @@
--- Boxes that are open, and channels where a box closes: a letter is lost at a closed box alone, and a box never opens again.
+-- Boxes that are open, and channels where a box closes: a letter is lost at a closed box alone, and a box never opens
+-- again.
 use Rattle.std.proofs.Common.{ℕ, ◌*◌, ◌≡◌, refl, Bool, true, false, List, length, ap, sym, ◌∙◌, inl, inr}
 use Rattle.std.specs.Prelude.{◌==◌, ◌&&◌}
 use Rattle.std.proofs.lemmas.Bool.{cases_Bool}

@@ -1,5 +1,5 @@
--- The holders' arcs are slack-right at the true prices, in the words of the problem, and so they cost least at eps 1; and what
--- such an assignment leaves is held by nobody.
+-- The holders' arcs are slack-right at the true prices, in the words of the problem, and so they cost least at eps 1;
+-- and what such an assignment leaves is held by nobody.
 use Rattle.std.proofs.Common.{ℕ, ℤ, pos, zero, suc, ◌+◌, ◌<◌, ◌≡◌, true, refl, arith, List, [], ◌∷◌, length, get_or, map, Option, Some, None, Contains, All, sym, ap, subst, ◌∙◌, inl, inr}
 use Rattle.std.specs.Prelude.{filter, ◌==◌, ◌+ℤ◌, ◌*ℤ◌, ◌≤ℤ◌}
 use Rattle.std.specs.List.{slice_get, enumerate_from}

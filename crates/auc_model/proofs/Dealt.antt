@@ -1,5 +1,5 @@
--- Tables that are dealt out over shards, for the code above, where each shard is an element of a list: number i belongs to the
--- shard i mod k. What one table over all numbers makes of a shard that is set.
+-- Tables that are dealt out over shards, for the code above, where each shard is an element of a list: number i belongs
+-- to the shard i mod k. What one table over all numbers makes of a shard that is set.
 use Rattle.std.proofs.Common.{ℕ, ◌%◌, ◌<◌, ◌≡◌, ◌≢◌, List, length, get_or, set, inl, inr, ap, sym, ◌∙◌}
 use Rattle.std.proofs.lemmas.Bool.{cases_eq}
 use Rattle.std.proofs.lemmas.List.{get_or-set_same, get_or-set_other}

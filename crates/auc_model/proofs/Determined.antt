@@ -169,8 +169,8 @@ module _ (g : Phase) (w : World) where
 
   -- what stays open of the mails: the sender of a letter
   module _ (reply : (x y z : Mail Letter) (c : Call Letter) (r s : Reply Letter) → Step x c r y → Step x c s z → (r ≡ s) ⊎ AreOfTwoSenders r s) (next : (x y z : Mail Letter) (c : Call Letter) (r : Reply Letter) → Step x c r y → Step x c r z → y ≡ z) where
-    -- A turn that takes from box b: it does nothing where it is barred or no letter waits, and else the next world is one that this
-    -- relation gives for the letter and the mail after it.
+    -- A turn that takes from box b: it does nothing where it is barred or no letter waits, and else the next world is
+    -- one that this relation gives for the letter and the mail after it.
     module _ (name : MailName) (b : ℕ) (Barred : Type 0) (Next : Letter → Mail Letter → World → Type 0)
         (next_same : (l : Letter) (m : Mail Letter) (u v : World) → Next l m u → Next l m v → u ≡ v)
         (mail_is : (l : Letter) (m : Mail Letter) (v : World) → Next l m v → mail_named v name ≡ m) where

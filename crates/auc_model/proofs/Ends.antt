@@ -1,5 +1,5 @@
--- How a turn may move the end and the hub's count: the first cause sets the end, it then stays, and it is All only where
--- every person was counted.
+-- How a turn may move the end and the hub's count: the first cause sets the end, it then stays, and it is All only
+-- where every person was counted.
 use Rattle.std.proofs.Common.{ℕ, ◌+◌, ◌<◌, ◌≡◌, ◌≢◌, refl, arith, true, false, List, [], ◌∷◌, Option, Some, None, inl, inr, ap, sym, ◌∙◌}
 use Rattle.std.specs.Prelude.{if◌then◌else◌, ◌==◌, nat_lt}
 use Rattle.std.proofs.lemmas.Bool.{cond_both, eqb-true, eq-eqb, cases_Bool, cases_lt}

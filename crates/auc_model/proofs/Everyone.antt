@@ -1,5 +1,5 @@
--- Where the hub has counted every person, every person holds an object; and where nothing is under way and nobody is free, it
--- has counted every person.
+-- Where the hub has counted every person, every person holds an object; and where nothing is under way and nobody is
+-- free, it has counted every person.
 use Rattle.std.proofs.Common.{ℕ, zero, suc, ◌+◌, ◌%◌, ◌<◌, ◌≤◌, ◌≡◌, refl, arith, Bool, true, false, List, [], ◌∷◌, Some, None, length, filter_map, sum_by, ap, sym, ◌∙◌}
 use Rattle.std.specs.Prelude.{if◌then◌else◌, ◌==◌, ◌&&◌}
 use Rattle.std.specs.List.{cons_option}

@@ -54,7 +54,8 @@ keeps_bid w i j free p k l =
       | inr e ↦ bid_other_person w i j k l free e (p k l)
     ]
 
--- What one answer does to the one pair of person and object that it is about. All the new values are variables, with equations for what they are
+-- What one answer does to the one pair of person and object that it is about. All the new values are variables, with
+-- equations for what they are
 module _ (s t : PairState) (xs ys : List Answer) (h g : Bool) (b c n : ℕ) where
   agree_refused : t ≡ s → ys ≡ xs ++ Refused ∷ [] → g ≡ h → b ≡ suc n → c ≡ n → Agree s xs (pair_known h b) → Agree t ys (pair_known g c)
   agree_refused e1 e2 e3 e4 e5 p = grind (arith, replay_push s xs Refused, p.same, p.right)

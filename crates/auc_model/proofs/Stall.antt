@@ -1,5 +1,5 @@
--- Until the end is set, as many Stops are under way as shards have stopped. So where nothing can move, everybody was counted,
--- and the end is set.
+-- Until the end is set, as many Stops are under way as shards have stopped. So where nothing can move, everybody was
+-- counted, and the end is set.
 use Rattle.std.proofs.Common.{ℕ, ℤ, ◌+◌, ◌<◌, ◌≡◌, refl, arith, Bool, true, List, [], ◌∷◌, ◌++◌, Option, Some, None, ap, sym, ◌∙◌}
 use Rattle.std.specs.Prelude.{nat_lt, if◌then◌else◌, ◌==◌}
 use Rattle.std.proofs.lemmas.Bool.{cond_both}

@@ -28,7 +28,8 @@ weight_posted m n s b r k x f whole p =
     let e = ap (λ (z : Mail Letter). weight f z) p.5 in
     omega (arith, a, d, u, e)
 
--- A letter more makes a mail of any shape heavier by no more than itself: where its lane isn't there, the mail stays as it was
+-- A letter more makes a mail of any shape heavier by no more than itself: where its lane isn't there, the mail stays as
+-- it was
 pub weight_posted_le : (m n : Mail Letter) (s b r k : ℕ) (x : Letter) (f : Letter → ℕ) → Step m (Call.Post s b x r) (Reply.Posted k) n → weight f n ≤ weight f m + f x
 weight_posted_le m n s b r k x f p = elim (cases_lt at (length m.lanes)) [ inl h ↦ there h | inr h ↦ past h ]
   where

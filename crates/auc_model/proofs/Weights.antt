@@ -158,7 +158,8 @@ module _ (g : Phase) (w : World) (lost : Lost) (inv : Inv g w (channels g w lost
       (λ x. sum_by_like (Routed g (To.Person b) x) (λ l. answer_one l + price_one l) (λ _. 1) (only_answers g b x) (waiting w.persons_mail b x) (each_front (Routed g (To.Person b) x) (waiting w.persons_mail b x) (lost (To.Person b) x ++ letters_to (To.Person b) (out_of g w x)) (inv.routed (To.Person b) x))))
       ∙ (sym (weight-total g w.persons_mail g.shards (λ l. answer_one l + price_one l) s) ∙ weight_add g w.persons_mail g.shards answer_one price_one s))
 
-  -- An answer at the front of its outbox finds a free node, where the mail has four for each person and at most two of them hold a price
+  -- An answer at the front of its outbox finds a free node, where the mail has four for each person and at most two of
+  -- them hold a price
   pub room_for_answer : (s : ℕ) → o.to ≡ To.Person s → s < g.shards → Shaped g w.persons_mail g.shards → w.persons_mail.nodes ≡ 4 * g.persons → weight price_one w.persons_mail ≤ 2 * g.persons → answer_one o.letter ≡ 1 → 0 < free_of w.persons_mail
   room_for_answer s e l shape nodes few one =
       let c : Channels = channels g w lost in

@@ -53,8 +53,10 @@ pub record MayBid (g : Phase) (w : World) (s i : ℕ) (rest : List ℕ) : Type 0
 
 -- Bid(s)
 pub data BidTurn (g : Phase) (w : World) (s : ℕ) (r : TurnReply) (v : World) : Type 0 where
-  barred : ((g.shards ≤ s) ⊎ (w.person_out s ≢ []) ⊎ (w.has_stopped s ≡ true) ⊎ (w.idle s ≡ [])) → r ≡ TurnReply.Nothing → v ≡ w → BidTurn g w s r v
-  stops : (i : ℕ) (rest : List ℕ) (y : Why) → MayBid g w s i rest → Stops g w s i y → r ≡ TurnReply.Moved → v ≡ after_stop w s y → BidTurn g w s r v
+  barred : ((g.shards ≤ s) ⊎ (w.person_out s ≢ []) ⊎ (w.has_stopped s ≡ true) ⊎ (w.idle s ≡ []))
+      → r ≡ TurnReply.Nothing → v ≡ w → BidTurn g w s r v
+  stops : (i : ℕ) (rest : List ℕ) (y : Why) → MayBid g w s i rest → Stops g w s i y → r ≡ TurnReply.Moved
+      → v ≡ after_stop w s y → BidTurn g w s r v
   bids : (i : ℕ) (rest : List ℕ) (arc : RowArc) (amount : ℤ) → MayBid g w s i rest
       → w.bids_left s ≢ 0 → Bids g w s i arc amount → amount ≤ℤ pos (2 ^ 61)
       → r ≡ TurnReply.Moved → v ≡ after_bid g w s i rest arc amount → BidTurn g w s r v

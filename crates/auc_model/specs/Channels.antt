@@ -1,5 +1,5 @@
--- The letters under way. A channel leads from one sender to one box: the letters that wait in the lane, those that a closed
--- box has swallowed, and those in the sender's outbox.
+-- The letters under way. A channel leads from one sender to one box: the letters that wait in the lane, those that a
+-- closed box has swallowed, and those in the sender's outbox.
 use Rattle.std.specs.Prelude.{ℕ, ◌+◌, ◌-◌, ◌*◌, ◌%◌, ◌<◌, ◌≡◌, ◌==◌, ◌&&◌, nat_lt, ℤ, Bool, List, [], ◌∷◌, ◌++◌, Option, Some, None, if◌then◌else◌, filter_map, length}
 use Rattle.auc_letters.specs.declared.letter.Letter.{Letter}
 use Rattle.auc_letters.specs.declared.letter.Why.{Why}

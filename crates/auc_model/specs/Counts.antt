@@ -17,7 +17,8 @@ total f (suc n) = total f n + f n
 -- how much all letters under way weigh
 abbrev pub everywhere : Phase → (Letter → ℕ) → Channels → ℕ
 everywhere g f c =
-    (total (λ q. total (λ x. sum_by f (c (To.Object q) x)) (senders g)) g.shards + total (λ s. total (λ x. sum_by f (c (To.Person s) x)) (senders g)) g.shards)
+    (total (λ q. total (λ x. sum_by f (c (To.Object q) x)) (senders g)) g.shards + total (λ s. total (λ x. sum_by f
+    (c (To.Person s) x)) (senders g)) g.shards)
     + total (λ x. sum_by f (c To.Hub x)) (senders g)
 
 abbrev pub waits_one : PersonState → ℕ

@@ -49,7 +49,9 @@ abbrev pub held_after : World → ℕ → ℕ → ℕ → ℤ → World
 held_after w s i j p = record w { state = put w.state i (PersonState.Holds j); copy = put2 w.copy s j p }
 
 abbrev pub free_after : World → ℕ → ℕ → ℕ → ℤ → World
-free_after w s i j p = record w { state = put w.state i PersonState.Free; idle = put w.idle s (w.idle s ++ i ∷ []); copy = put2 w.copy s j p }
+free_after w s i j p =
+    record w
+    { state = put w.state i PersonState.Free; idle = put w.idle s (w.idle s ++ i ∷ []); copy = put2 w.copy s j p }
 
 -- the world when the shard s has heard a letter that fits: each sets the copy to its price
 abbrev pub after_letter : World → ℕ → Letter → World

@@ -14,7 +14,10 @@ use Rattle.auc_model.specs.Mails.{Takes, TakesNone, mail_named, with_mail_named}
 
 -- one First letter more, up to the number of persons; the last one ends the phase
 abbrev pub counted : Phase → World → World
-counted g w = if nat_lt w.count g.persons then (record w { count = w.count + 1; end = if (w.count + 1) == g.persons then first_end w.end End.All else w.end }) else w
+counted g w =
+    if nat_lt w.count g.persons then
+    (record w { count = w.count + 1; end = if (w.count + 1) == g.persons then first_end w.end End.All else w.end })
+    else w
 
 -- the world when the hub has dealt with a letter
 abbrev pub hub_after : Phase → Letter → World → World
@@ -44,6 +47,8 @@ pub data HubTakeTurn (g : Phase) (w : World) (r : TurnReply) (v : World) : Type 
 
 -- HubClose(mail, box)
 pub data HubCloseTurn (w : World) (name : MailName) (at : ℕ) (r : TurnReply) (v : World) : Type 0 where
-  leaves : ((HasBox (mail_named w name) at → ⊥) ⊎ (w.end ≡ None) ⊎ IsClosed (mail_named w name) at) → r ≡ TurnReply.Nothing → v ≡ w → HubCloseTurn w name at r v
-  closes : (m : Mail Letter) → HasBox (mail_named w name) at → w.end ≢ None → Step (mail_named w name) (Call.Close at) (Reply.WasOpen true) m
+  leaves : ((HasBox (mail_named w name) at → ⊥) ⊎ (w.end ≡ None) ⊎ IsClosed (mail_named w name) at)
+      → r ≡ TurnReply.Nothing → v ≡ w → HubCloseTurn w name at r v
+  closes : (m : Mail Letter) → HasBox (mail_named w name) at → w.end ≢ None
+      → Step (mail_named w name) (Call.Close at) (Reply.WasOpen true) m
       → r ≡ TurnReply.Moved → v ≡ with_mail_named w name m → HubCloseTurn w name at r v

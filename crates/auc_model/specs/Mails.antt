@@ -60,7 +60,8 @@ abbrev pub with_outbox : World → Shard → List Out → World
 with_outbox w (PersonShard s) out = record w { person_out = put w.person_out s out }
 with_outbox w (ObjectShard q) out = record w { object_out = put w.object_out q out }
 
--- A take from box b gives the letter l of the sender x, its number k in the lane, and leaves n. Any sender may be the one.
+-- A take from box b gives the letter l of the sender x, its number k in the lane, and leaves n. Any sender may be the
+-- one.
 abbrev pub Takes : Mail Letter → ℕ → ℕ → ℕ → Letter → Mail Letter → Type 0
 Takes m b x k l n = Step m (Call.Take b) (Reply.Took (Taken.Letter x k l)) n
 

@@ -1,5 +1,5 @@
--- Persons and objects without shards: how each person stands to each object, by his own state, by the answers that are under
--- way to him, and by what the object's side knows.
+-- Persons and objects without shards: how each person stands to each object, by his own state, by the answers that are
+-- under way to him, and by what the object's side knows.
 use Rattle.std.specs.Prelude.{ℕ, zero, suc, ◌+◌, ◌==◌, ◌≡◌, ◌≢◌, Bool, true, false, List, [], ◌∷◌, ◌++◌, Option, Some, None, if◌then◌else◌}
 use Rattle.auc_letters.specs.declared.state.PersonState.{PersonState}
 use Rattle.auc_letters.specs.declared.state.PersonState.TheVariants.{Free, Waits, Holds}
@@ -39,7 +39,8 @@ pair_state Free j = Unassigned
 pair_state (Waits k) j = if k == j then Waiting else Unassigned
 pair_state (Holds k) j = if k == j then Holding else Unassigned
 
--- the state of the pair that the object's side knows: whether the object is held by the person, and how many of the person's bids on it are under way
+-- the state of the pair that the object's side knows: whether the object is held by the person, and how many of the
+-- person's bids on it are under way
 abbrev pub pair_known : Bool → ℕ → PairState
 pair_known true zero = Holding
 pair_known true (suc n) = Wrong
@@ -84,7 +85,14 @@ award w i j n = record { state = w.state; holder = put w.holder j (Some i); bids
 -- object j goes from person k to person i
 abbrev pub pass_on : Places → ℕ → ℕ → ℕ → ℕ → Places
 pass_on w i j n k =
-    record { state = w.state; holder = put w.holder j (Some i); bids = put2 w.bids i j n; answers = put2 (answered w k j Outbid) i j (answered w k j Outbid i j ++ Award ∷ []) }
+    record {
+      state =
+          w.state;
+      holder = put w.holder j (Some i);
+      bids = put2 w.bids i j n;
+      answers = put2 (answered w k j Outbid) i
+          j (answered w k j Outbid i j ++ Award ∷ []);
+    }
 
 -- the state after an answer
 abbrev pub heard : Answer → ℕ → PersonState

@@ -34,10 +34,12 @@ Schedule g w (t ∷ ts) v = (m : World) × (r : TurnReply) × Turned g w t r m �
 
 -- of the three mails this one may have made a step, and the others are as they were
 pub record StepsIn (w v : World) (name : MailName) : Type 0 where
-  pub this : (mail_named v name ≡ mail_named w name) ⊎ ((c : Call Letter) × (r : Reply Letter) × Step (mail_named w name) c r (mail_named v name))
+  pub this : (mail_named v name ≡ mail_named w name)
+      ⊎ ((c : Call Letter) × (r : Reply Letter) × Step (mail_named w name) c r (mail_named v name))
   pub others : (other : MailName) → other ≢ name → mail_named v other ≡ mail_named w other
 
--- Two worlds after w differ by the sender of a letter: by one and the same call of a mail they come of letters of two senders.
+-- Two worlds after w differ by the sender of a letter: by one and the same call of a mail they come of letters of two
+-- senders.
 pub record TakesOfTwoSenders (w u v : World) : Type 0 where
   pub mail : MailName
   pub box : ℕ

@@ -26,8 +26,8 @@ FitsBid g q (Letter.Stop y) = ⊥
 abbrev pub sale_of : World → ℕ → Sale
 sale_of w j = record { price = w.price j; holder = w.holder j }
 
--- The mail goes on to m, the object is as the award makes it, and the letters that answer the bid go into the empty outbox of
--- the shard q.
+-- The mail goes on to m, the object is as the award makes it, and the letters that answer the bid go into the empty
+-- outbox of the shard q.
 abbrev pub after_answer : Phase → World → ℕ → Mail Letter → Bid → World
 after_answer g w q m bid = record w {
   objects_mail = m;
@@ -38,7 +38,8 @@ after_answer g w q m bid = record w {
 
 -- ObjectTake(q)
 pub data ObjectTakeTurn (g : Phase) (w : World) (q : ℕ) (r : TurnReply) (v : World) : Type 0 where
-  no_letter : ((g.shards ≤ q) ⊎ (w.object_out q ≢ []) ⊎ TakesNone w.objects_mail q) → r ≡ TurnReply.Nothing → v ≡ w → ObjectTakeTurn g w q r v
+  no_letter : ((g.shards ≤ q) ⊎ (w.object_out q ≢ []) ⊎ TakesNone w.objects_mail q) → r ≡ TurnReply.Nothing → v ≡ w
+      → ObjectTakeTurn g w q r v
   answers_bid : (x k : ℕ) (bid : Bid) (m : Mail Letter) → q < g.shards → w.object_out q ≡ [] → Takes w.objects_mail q x k (bid_letter bid) m
       → FitsBid g q (bid_letter bid)
       → r ≡ TurnReply.Moved → v ≡ after_answer g w q m bid → ObjectTakeTurn g w q r v
@@ -48,6 +49,10 @@ pub data ObjectTakeTurn (g : Phase) (w : World) (q : ℕ) (r : TurnReply) (v : W
 
 -- Tell(q, j, s): the shard q of the objects tells the price of j to the shard s of the persons
 pub data TellTurn (g : Phase) (w : World) (q j s : ℕ) (r : TurnReply) (v : World) : Type 0 where
-  silent : ((g.shards ≤ q) ⊎ (g.shards ≤ s) ⊎ (g.objects ≤ j) ⊎ (j % g.shards ≢ q) ⊎ (w.object_out q ≢ [])) → r ≡ TurnReply.Nothing → v ≡ w → TellTurn g w q j s r v
+  silent : ((g.shards ≤ q) ⊎ (g.shards ≤ s) ⊎ (g.objects ≤ j) ⊎ (j % g.shards ≢ q) ⊎ (w.object_out q ≢ []))
+      → r ≡ TurnReply.Nothing → v ≡ w → TellTurn g w q j s r v
   tells : q < g.shards → s < g.shards → j < g.objects → j % g.shards ≡ q → w.object_out q ≡ []
-      → r ≡ TurnReply.Moved → v ≡ record w { object_out = put w.object_out q (price_told g.persons s j (w.price j) ∷ []) } → TellTurn g w q j s r v
+      → r ≡ TurnReply.Moved → v ≡ record w {
+        object_out =
+            put w.object_out q (price_told g.persons s j (w.price j) ∷ []);
+      } → TellTurn g w q j s r v

@@ -4,6 +4,7 @@ use Rattle.auc_graph.specs.declared.rows.RowArc.{RowArc}
 use Rattle.auc_graph.specs.Bid.{value}
 use Rattle.auc_model.specs.World.{Phase, scale}
 
--- No arc of the person is better than this one by more than eps at these prices: eps-complementary slackness (Bertsekas).
+-- No arc of the person is better than this one by more than eps at these prices: eps-complementary slackness
+-- (Bertsekas).
 abbrev pub SlackRight : Phase → (ℕ → ℤ) → ℕ → RowArc → Type 0
 SlackRight g p i a = All (λ b. value (scale g) p a ≤ℤ (value (scale g) p b +ℤ g.eps)) (g.row i)

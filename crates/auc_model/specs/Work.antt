@@ -18,8 +18,8 @@ IsOfRound (Turn.Tell q j s) = ⊥
 IsOfRound Turn.HubTake = Unit {0}
 IsOfRound (Turn.HubClose name at) = ⊥
 
--- The work in a letter that waits in a mail: it is still to be taken. A Bid is answered by at most two letters then, and each
--- of them is still to be posted and taken.
+-- The work in a letter that waits in a mail: it is still to be taken. A Bid is answered by at most two letters then,
+-- and each of them is still to be posted and taken.
 abbrev pub waiting_work : Letter → ℕ
 waiting_work (Letter.Bid i a j p) = 5
 waiting_work (Letter.Award i j p) = 1
@@ -44,7 +44,9 @@ stop_work false = 3
 
 -- in all that the shards of this number have: bids, the Stop, and their outboxes
 abbrev pub shard_work : World → ℕ → ℕ
-shard_work w s = (bid_work * w.bids_left s + stop_work (w.has_stopped s)) + (sum_by posting_work (w.person_out s) + sum_by posting_work (w.object_out s))
+shard_work w s =
+    (bid_work * w.bids_left s + stop_work (w.has_stopped s)) +
+    (sum_by posting_work (w.person_out s) + sum_by posting_work (w.object_out s))
 
 abbrev pub shards_work : Phase → World → ℕ
 shards_work g w = total (λ s. shard_work w s) g.shards

@@ -22,7 +22,8 @@ pub record Phase : Type 0 where
 
 -- the phase of a problem
 abbrev pub phase_of : Table → ℕ → ℤ → Phase
-phase_of t shards eps = record { persons = length t.rows; objects = t.objects; shards = shards; spread = t.spread; eps = eps; row = row_of t }
+phase_of t shards eps = record
+    { persons = length t.rows; objects = t.objects; shards = shards; spread = t.spread; eps = eps; row = row_of t }
 
 -- by what costs are scaled: one more than the persons
 abbrev pub scale : Phase → ℤ
@@ -34,8 +35,8 @@ senders g = 2 * g.shards + 1
 
 -- By object the true price and the holder; by person how he stands; by shard of the persons and object the copy of the
 -- price; by shard of the persons its free persons, who has been free longest first, how many bids are left, and whether
--- it has made a Stop; the outboxes of the shards, the next letter first; the three mails; how many First letters the hub
--- has counted; and the end, once it is set.
+-- it has made a Stop; the outboxes of the shards, the next letter first; the three mails; how many First letters the
+-- hub has counted; and the end, once it is set.
 pub record World : Type 0 where
   pub price : ℕ → ℤ
   pub holder : ℕ → Option Held

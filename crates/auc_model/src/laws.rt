@@ -1,5 +1,5 @@
-//! What holds over every schedule, from every world that a phase begins with. The functions do nothing: their contracts are
-//! theorems, and crates above cite them. One calls the law of the mails that it rests on.
+//! What holds over every schedule, from every world that a phase begins with. The functions do nothing: their contracts
+//! are theorems, and crates above cite them. One calls the law of the mails that it rests on.
 
 ghost use Rattle.std.specs.Prelude.{ℕ, ℤ, pos, ◌<◌, ◌≤◌, ◌≤ℤ◌, ◌≡◌, ◌≢◌, ◌⊎◌, true, List, [], ◌∷◌, ◌++◌, Some, None, Contains, All, length, map};
 ghost use Rattle.auc_graph.specs.declared.rows.RowArc.{RowArc};
@@ -46,10 +46,11 @@ pub fn turns_are_small()
     ensures one_step { (g : Phase) (w v : World) (t : Turn) (r : TurnReply) → Turned g w t r v → (name : MailName) × StepsIn w v name }
 {}
 
-/// A turn leaves nothing open but the sender of a letter that it takes: two outcomes of one turn are the same, or else by each a
-/// letter was taken, of two senders.
+/// A turn leaves nothing open but the sender of a letter that it takes: two outcomes of one turn are the same, or else
+/// by each a letter was taken, of two senders.
 pub fn only_the_sender_is_free_in_turns()
-    ensures { (g : Phase) (w u v : World) (t : Turn) (r s : TurnReply) → Turned g w t r u → Turned g w t s v → ((r ≡ s) × (u ≡ v)) ⊎ TakesOfTwoSenders w u v }
+    ensures { (g : Phase) (w u v : World) (t : Turn) (r s : TurnReply) → Turned g w t r u → Turned g w t s v
+        → ((r ≡ s) × (u ≡ v)) ⊎ TakesOfTwoSenders w u v }
 {
     only_the_sender_is_free::<Letter>();
 }
@@ -60,13 +61,14 @@ pub fn schedules_go_on()
     ensures more { (g : Phase) (w u v : World) (ts us : List Turn) → Schedule g w ts u → Schedule g u us v → Schedule g w (ts ++ us) v }
 {}
 
-/// Worlds that are reached: what a phase begins with is one, and turns and schedules lead from one to another. A mail has its
-/// nodes for good.
+/// Worlds that are reached: what a phase begins with is one, and turns and schedules lead from one to another. A mail
+/// has its nodes for good.
 pub fn reached_worlds()
     ensures begins { (g : Phase) (w : World) → Lawful g → Starts g w → Reached g w }
     ensures turn { (g : Phase) (w v : World) (t : Turn) (r : TurnReply) → Reached g w → Turned g w t r v → Reached g v }
     ensures schedule { (g : Phase) (w v : World) (ts : List Turn) → Reached g w → Schedule g w ts v → Reached g v }
-    ensures nodes { (g : Phase) (w v : World) (ts : List Turn) → Schedule g w ts v → (name : MailName) → (mail_named v name).nodes ≡ (mail_named w name).nodes }
+    ensures nodes { (g : Phase) (w v : World) (ts : List Turn) → Schedule g w ts v → (name : MailName)
+        → (mail_named v name).nodes ≡ (mail_named w name).nodes }
 {}
 
 /// No copy of a price falls over a schedule, whatever the world it begins with.
@@ -76,22 +78,27 @@ pub fn copies_never_fall()
 
 /// An object that nobody holds had no holder before either, and its price is as it was.
 pub fn unheld_prices_stay()
-    ensures { (g : Phase) (w v : World) (ts : List Turn) → Schedule g w ts v → (j : ℕ) → v.holder j ≡ None → (w.holder j ≡ None) × (v.price j ≡ w.price j) }
+    ensures { (g : Phase) (w v : World) (ts : List Turn) → Schedule g w ts v → (j : ℕ) → v.holder j ≡ None
+        → (w.holder j ≡ None) × (v.price j ≡ w.price j) }
 {}
 
-/// In no world that is reached a guard is hit: neither was one so far, nor is one by the letter that comes next, whichever that
-/// is. What a shard of the persons takes fits it, and tells no price below its copy; what a shard of the objects takes is a bid
-/// that fits it; the hub takes only First and Stop letters. Where the mails have the usual numbers of nodes, no letter but a
-/// Price is refused for want of room.
+/// In no world that is reached a guard is hit: neither was one so far, nor is one by the letter that comes next,
+/// whichever that is. What a shard of the persons takes fits it, and tells no price below its copy; what a shard of the
+/// objects takes is a bid that fits it; the hub takes only First and Stop letters. Where the mails have the usual
+/// numbers of nodes, no letter but a Price is refused for want of room.
 pub fn no_guard()
     ensures fell { (g : Phase) (v : World) → Reached g v → v.end ≢ Some (End.Stopped Why.Fell) }
     ensures stray { (g : Phase) (v : World) → Reached g v → v.end ≢ Some (End.Stopped Why.Stray) }
     ensures trail { (g : Phase) (v : World) → Reached g v → v.end ≢ Some (End.Stopped Why.Trail) }
     ensures mail { (g : Phase) (v : World) → Reached g v → UsualNodes g v → v.end ≢ Some (End.Stopped Why.Mail) }
-    ensures hears { (g : Phase) (v : World) → Reached g v → (s x k : ℕ) (l : Letter) (m : Mail Letter) → Takes v.persons_mail s x k l m → FitsLetter g v s l × Rises v s l }
-    ensures sells { (g : Phase) (v : World) → Reached g v → (q x k : ℕ) (l : Letter) (m : Mail Letter) → Takes v.objects_mail q x k l m → FitsBid g q l }
-    ensures counts { (g : Phase) (v : World) → Reached g v → (x k : ℕ) (l : Letter) (m : Mail Letter) → Takes v.hub_mail 0 x k l m → IsForHub l }
-    ensures room { (g : Phase) (v : World) → Reached g v → UsualNodes g v → (h : Shard) (o : Out) (rest : List Out) → MayPost g v h o rest → Refuses g v h o PostRefused.Full → is_price o.letter ≡ true }
+    ensures hears { (g : Phase) (v : World) → Reached g v → (s x k : ℕ) (l : Letter) (m : Mail Letter)
+        → Takes v.persons_mail s x k l m → FitsLetter g v s l × Rises v s l }
+    ensures sells { (g : Phase) (v : World) → Reached g v → (q x k : ℕ) (l : Letter) (m : Mail Letter)
+        → Takes v.objects_mail q x k l m → FitsBid g q l }
+    ensures counts { (g : Phase) (v : World) → Reached g v → (x k : ℕ) (l : Letter) (m : Mail Letter)
+        → Takes v.hub_mail 0 x k l m → IsForHub l }
+    ensures room { (g : Phase) (v : World) → Reached g v → UsualNodes g v → (h : Shard) (o : Out) (rest : List Out)
+        → MayPost g v h o rest → Refuses g v h o PostRefused.Full → is_price o.letter ≡ true }
 {}
 
 /// A world that is reached has stopped for want of an arc only where a person has none.
@@ -99,26 +106,39 @@ pub fn stuck_has_its_cause()
     ensures { (g : Phase) (v : World) → Reached g v → v.end ≡ Some (End.Stopped Why.Stuck) → SomeoneStuck g }
 {}
 
-/// In every world that is reached: no copy is above the true price, no person holds two objects, and each holder's arc is one of
-/// his to that object, slack-right at eps at the true prices. The hub counts no more than there are persons, and no more objects
-/// are held; where it has counted as many, each person holds an object.
+/// In every world that is reached: no copy is above the true price, no person holds two objects, and each holder's arc
+/// is one of his to that object, slack-right at eps at the true prices. The hub counts no more than there are persons,
+/// and no more objects are held; where it has counted as many, each person holds an object.
 pub fn every_schedule()
     ensures copies_low { (g : Phase) (v : World) → Reached g v → (s j : ℕ) → v.copy s j ≤ℤ v.price j }
-    ensures held_once { (g : Phase) (v : World) → Reached g v → (j k : ℕ) (a b : Held) → v.holder j ≡ Some a → v.holder k ≡ Some b → a.person ≡ b.person → j ≡ k }
-    ensures slack { (g : Phase) (v : World) → Reached g v → (j : ℕ) (h : Held) → v.holder j ≡ Some h → (a : RowArc) × Contains (g.row h.person) a × (a.object ≡ j) × (a.arc ≡ h.arc) × SlackRight g v.price h.person a }
+    ensures held_once { (g : Phase) (v : World) → Reached g v → (j k : ℕ) (a b : Held) → v.holder j ≡ Some a
+        → v.holder k ≡ Some b → a.person ≡ b.person → j ≡ k }
+    ensures slack { (g : Phase) (v : World) → Reached g v → (j : ℕ) (h : Held) → v.holder j ≡ Some h → (a : RowArc)
+        × Contains (g.row h.person) a × (a.object ≡ j) × (a.arc ≡ h.arc) × SlackRight g v.price h.person a }
     ensures counted { (g : Phase) (v : World) → Reached g v → v.count ≤ g.persons }
     ensures held { (g : Phase) (v : World) → Reached g v → held_objects g v ≤ g.persons }
-    ensures everyone { (g : Phase) (v : World) → Reached g v → v.count ≡ g.persons → (i : ℕ) → i < g.persons → (j : ℕ) × (h : Held) × (v.holder j ≡ Some h) × (h.person ≡ i) }
+    ensures everyone { (g : Phase) (v : World) → Reached g v → v.count ≡ g.persons → (i : ℕ) → i < g.persons → (j : ℕ)
+        × (h : Held) × (v.holder j ≡ Some h) × (h.person ≡ i) }
 {}
 
-/// In a phase of a problem, in every world that is reached: where the hub has counted as many as there are persons, the holders'
-/// arcs are an assignment of the problem. What an assignment by holders' arcs leaves is held by nobody. Each holder's arc is
-/// slack-right at eps at the true prices; so at eps 1 such an assignment costs least, if no object that it leaves has a price.
+/// In a phase of a problem, in every world that is reached: where the hub has counted as many as there are persons, the
+/// holders' arcs are an assignment of the problem. What an assignment by holders' arcs leaves is held by nobody. Each
+/// holder's arc is slack-right at eps at the true prices; so at eps 1 such an assignment costs least, if no object that
+/// it leaves has a price.
 pub fn counted_holders_are_assigned()
-    ensures assigned { (p : Problem) (t : Table) (shards : ℕ) (eps : ℤ) (v : World) → IsTableOf p t → Reached (phase_of t shards eps) v → v.count ≡ length t.rows → (choice : List Arc) × IsAssignment p choice × All (IsHeldArc p v) choice }
-    ensures left { (p : Problem) (t : Table) (shards : ℕ) (eps : ℤ) (v : World) (choice : List Arc) → IsTableOf p t → Reached (phase_of t shards eps) v → IsAssignment p choice → All (IsHeldArc p v) choice → (j : ℕ) → ¬ Contains (map object_of choice) j → v.holder j ≡ None }
-    ensures slack { (p : Problem) (t : Table) (shards : ℕ) (eps : ℤ) (v : World) (prices : List ℤ) → IsTableOf p t → Reached (phase_of t shards eps) v → ArePricesOf v prices → (arc : Arc) → arc.person < p.persons → IsHeldArc p v arc → IsSlackRight eps (scale_of p) prices p.arcs arc }
-    ensures least { (p : Problem) (t : Table) (shards : ℕ) (v : World) (prices : List ℤ) (choice : List Arc) → IsTableOf p t → Reached (phase_of t shards (pos 1)) v → ArePricesOf v prices → length prices ≡ p.objects → All (IsWithin p.persons p.objects) p.arcs → IsAssignment p choice → All (IsHeldArc p v) choice → IsNoPriceLeft prices choice → IsLeast p choice }
+    ensures assigned { (p : Problem) (t : Table) (shards : ℕ) (eps : ℤ) (v : World) → IsTableOf p t
+        → Reached (phase_of t shards eps) v → v.count ≡ length t.rows → (choice : List Arc) × IsAssignment p choice
+        × All (IsHeldArc p v) choice }
+    ensures left { (p : Problem) (t : Table) (shards : ℕ) (eps : ℤ) (v : World) (choice : List Arc) → IsTableOf p t
+        → Reached (phase_of t shards eps) v → IsAssignment p choice → All (IsHeldArc p v) choice → (j : ℕ)
+        → ¬ Contains (map object_of choice) j → v.holder j ≡ None }
+    ensures slack { (p : Problem) (t : Table) (shards : ℕ) (eps : ℤ) (v : World) (prices : List ℤ) → IsTableOf p t
+        → Reached (phase_of t shards eps) v → ArePricesOf v prices → (arc : Arc) → arc.person < p.persons
+        → IsHeldArc p v arc → IsSlackRight eps (scale_of p) prices p.arcs arc }
+    ensures least { (p : Problem) (t : Table) (shards : ℕ) (v : World) (prices : List ℤ) (choice : List Arc)
+        → IsTableOf p t → Reached (phase_of t shards (pos 1)) v → ArePricesOf v prices → length prices ≡ p.objects
+        → All (IsWithin p.persons p.objects) p.arcs → IsAssignment p choice → All (IsHeldArc p v) choice
+        → IsNoPriceLeft prices choice → IsLeast p choice }
 {}
 
 /// What the laws of every schedule rest on: what a phase begins with is kept by each turn.
@@ -126,7 +146,8 @@ pub fn turns_keep_invariants()
     ensures begins { (g : Phase) (w : World) → Starts g w → Kept g w }
     ensures keeps { (g : Phase) (w v : World) (t : Turn) (r : TurnReply) → Lawful g → Kept g w → Turned g w t r v → Kept g v }
     ensures begins_with_room { (g : Phase) (w : World) → Starts g w → UsualNodes g w → Room g w }
-    ensures keeps_room { (g : Phase) (w v : World) (t : Turn) (r : TurnReply) → Lawful g → Kept g w → Room g w → Turned g w t r v → Room g v }
+    ensures keeps_room { (g : Phase) (w v : World) (t : Turn) (r : TurnReply) → Lawful g → Kept g w → Room g w
+        → Turned g w t r v → Room g v }
 {}
 
 /// An end stays once it is set, and it is `All` only where the hub has counted every person.
@@ -135,27 +156,31 @@ pub fn ends_stay()
     ensures all { (g : Phase) (v : World) → Reached g v → v.end ≡ Some End.All → v.count ≡ g.persons }
 {}
 
-/// Where nothing can move, the end is set: no world is reached in which all outboxes and mails are empty and nobody bids, and none
-/// in which no bid, post or take moves anything, before the end.
+/// Where nothing can move, the end is set: no world is reached in which all outboxes and mails are empty and nobody
+/// bids, and none in which no bid, post or take moves anything, before the end.
 pub fn no_stall()
     ensures still { (g : Phase) (v : World) → 0 < g.persons → Reached g v → IsStill g v → v.end ≢ None }
     ensures rests { (g : Phase) (v : World) → 0 < g.persons → Reached g v → Rests g v → v.end ≢ None }
 {}
 
-/// The turns of a round use up work: none makes more of it, and one that moves leaves less, or the phase has ended after it. So
-/// rounds come to an end.
+/// The turns of a round use up work: none makes more of it, and one that moves leaves less, or the phase has ended
+/// after it. So rounds come to an end.
 pub fn rounds_use_up_work()
     ensures never_more { (g : Phase) (w v : World) (t : Turn) (r : TurnReply) → IsOfRound t → Turned g w t r v → work g v ≤ work g w }
-    ensures less { (g : Phase) (w v : World) (t : Turn) → IsOfRound t → Turned g w t TurnReply.Moved v → (v.end ≢ None) ⊎ (work g v < work g w) }
+    ensures less { (g : Phase) (w v : World) (t : Turn) → IsOfRound t → Turned g w t TurnReply.Moved v
+        → (v.end ≢ None) ⊎ (work g v < work g w) }
 {}
 
-/// The rows of a problem make a lawful phase, and the lists of all persons by shards are those that a phase begins with.
+/// The rows of a problem make a lawful phase, and the lists of all persons by shards are those that a phase begins
+/// with.
 pub fn problems_make_phases()
     ensures lawful { (t : Table) (shards : ℕ) (eps : ℤ) → IsTable t → 0 < shards → IsEps eps → Lawful (phase_of t shards eps) }
     ensures idle { (g : Phase) (s i : ℕ) → occurs i (persons_of s g.shards g.persons) ≡ free_in g PersonState.Free s i }
 {}
 
-/// The premises of the other laws can be met, by a world of one person; and from that world some schedule ends with `All`.
+/// The premises of the other laws can be met, by a world of one person; and from that world some schedule ends with
+/// `All`.
 pub fn premises_can_be_met()
-    ensures { (g : Phase) × (w : World) × Lawful g × Starts g w × UsualNodes g w × ((ts : List Turn) × (v : World) × Schedule g w ts v × (v.end ≡ Some End.All)) }
+    ensures { (g : Phase) × (w : World) × Lawful g × Starts g w × UsualNodes g w
+        × ((ts : List Turn) × (v : World) × Schedule g w ts v × (v.end ≡ Some End.All)) }
 {}

@@ -26,8 +26,8 @@ pub enum Turn {
     PersonTake { shard: u32 },
     /// The shard of the objects takes a bid and answers it into its outbox, if that is empty.
     ObjectTake { shard: u32 },
-    /// The shard of the objects puts the price of the object, for the shard `to` of the persons, into its outbox, if that is
-    /// empty.
+    /// The shard of the objects puts the price of the object, for the shard `to` of the persons, into its outbox, if
+    /// that is empty.
     Tell { shard: u32, object: u32, to: u32 },
     /// The hub takes a letter.
     HubTake,

@@ -58,4 +58,5 @@ pub record CanJoin (links : List ℕ) (front back : Ends) : Type 0 where
 pub record IsJoined (links links' : List ℕ) (front back both : Ends) : Type 0 where
   pub size : length links' ≡ length links
   pub nodes : nodes_from links' both ≡ nodes_from links front ++ nodes_from links back
-  pub others : (e : Ends) → ((i : ℕ) → 0 < times i (nodes_from links front) → times i (nodes_from links e) ≡ 0) → nodes_from links' e ≡ nodes_from links e
+  pub others : (e : Ends) → ((i : ℕ) → 0 < times i (nodes_from links front) → times i (nodes_from links e) ≡ 0)
+      → nodes_from links' e ≡ nodes_from links e

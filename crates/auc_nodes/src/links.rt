@@ -22,7 +22,9 @@ pub struct Ends {
 #[inline]
 pub(crate) fn join<T: Copy>(nodes: &mut Vec<Node<T>>, front: Ends, back: Ends) -> Ends
     requires { CanJoin (links_of nodes.old.items) front back }
-    ensures last { EndsWith (nodes_from (links_of nodes.old.items) back) back.last → EndsWith (nodes_from (links_of nodes.old.items) front ++ nodes_from (links_of nodes.old.items) back) result.last }
+    ensures last { EndsWith (nodes_from (links_of nodes.old.items) back) back.last
+        → EndsWith (nodes_from (links_of nodes.old.items) front ++ nodes_from (links_of nodes.old.items) back)
+        result.last }
     ensures joined { IsJoined (links_of nodes.old.items) (links_of nodes.new.items) front back result }
     ensures items { items_of nodes.new.items ≡ items_of nodes.old.items }
     ensures room { vec_capacity nodes.new ≡ vec_capacity nodes.old }
@@ -41,7 +43,8 @@ pub(crate) fn join<T: Copy>(nodes: &mut Vec<Node<T>>, front: Ends, back: Ends) -
     }
 }
 
-// Links a node after a list. Writes one link at most, and the fields that change alone: this is what most calls come to.
+// Links a node after a list. Writes one link at most, and the fields that change alone: this is what most calls come
+// to.
 #[inline(always)]
 pub(crate) fn link_behind<T: Copy>(
     nodes: &mut Vec<Node<T>>,
@@ -51,8 +54,12 @@ pub(crate) fn link_behind<T: Copy>(
 )
     requires list { list < length ends.old.items }
     requires can { CanJoin (links_of nodes.old.items) (end_of ends.old.items list) (single node) }
-    ensures joined { IsJoined (links_of nodes.old.items) (links_of nodes.new.items) (end_of ends.old.items list) (single node) (behind (end_of ends.old.items list) node) }
-    ensures last { EndsWith (nodes_from (links_of nodes.old.items) (single node)) node → EndsWith (nodes_from (links_of nodes.old.items) (end_of ends.old.items list) ++ nodes_from (links_of nodes.old.items) (single node)) node }
+    ensures joined { IsJoined (links_of nodes.old.items) (links_of nodes.new.items) (end_of ends.old.items list)
+        (single node) (behind (end_of ends.old.items list) node) }
+    ensures last { EndsWith (nodes_from (links_of nodes.old.items) (single node)) node
+        → EndsWith
+        (nodes_from (links_of nodes.old.items) (end_of ends.old.items list) ++ nodes_from (links_of nodes.old.items) (single node))
+        node }
     ensures items { items_of nodes.new.items ≡ items_of nodes.old.items }
     ensures room { vec_capacity nodes.new ≡ vec_capacity nodes.old }
     ensures ends { ends.new.items ≡ slice_set ends.old.items list (behind (end_of ends.old.items list) node) }
@@ -67,8 +74,8 @@ pub(crate) fn link_behind<T: Copy>(
     list.len += 1;
 }
 
-// Links a node that was never used after a list, with this item. It stands apart, so that the push of a used node, which nearly
-// all are, keeps its values in registers.
+// Links a node that was never used after a list, with this item. It stands apart, so that the push of a used node,
+// which nearly all are, keeps its values in registers.
 #[cold]
 #[inline(never)]
 pub(crate) fn link_fresh<T: Copy>(
@@ -81,8 +88,15 @@ pub(crate) fn link_fresh<T: Copy>(
     requires few { length nodes.old.items < 2 ^ 32 }
     requires list { list < length ends.old.items }
     requires can { CanJoin (links_of (grown nodes.old.items item)) (end_of ends.old.items list) (single (length nodes.old.items)) }
-    ensures joined { IsJoined (links_of (grown nodes.old.items item)) (links_of nodes.new.items) (end_of ends.old.items list) (single (length nodes.old.items)) (behind (end_of ends.old.items list) (length nodes.old.items)) }
-    ensures last { EndsWith (nodes_from (links_of (grown nodes.old.items item)) (single (length nodes.old.items))) (length nodes.old.items) → EndsWith (nodes_from (links_of (grown nodes.old.items item)) (end_of ends.old.items list) ++ nodes_from (links_of (grown nodes.old.items item)) (single (length nodes.old.items))) (length nodes.old.items) }
+    ensures joined { IsJoined (links_of (grown nodes.old.items item)) (links_of nodes.new.items)
+        (end_of ends.old.items list) (single (length nodes.old.items))
+        (behind (end_of ends.old.items list) (length nodes.old.items)) }
+    ensures last { EndsWith (nodes_from (links_of (grown nodes.old.items item)) (single (length nodes.old.items)))
+        (length nodes.old.items)
+        → EndsWith
+        (nodes_from (links_of (grown nodes.old.items item)) (end_of ends.old.items list) ++ nodes_from (links_of
+        (grown nodes.old.items item)) (single (length nodes.old.items)))
+        (length nodes.old.items) }
     ensures items { items_of nodes.new.items ≡ items_of (grown nodes.old.items item) }
     ensures ends { ends.new.items ≡ slice_set ends.old.items list (behind (end_of ends.old.items list) (length nodes.old.items)) }
     ensures room { vec_capacity nodes.new ≡ vec_capacity nodes.old }
@@ -96,7 +110,8 @@ pub(crate) fn link_fresh<T: Copy>(
 #[inline]
 pub(crate) fn set_front(ends: &mut Vec<Ends>, list: usize, first: u32, len: u32)
     requires { list < length ends.old.items }
-    ensures { ends.new.items ≡ slice_set ends.old.items list (record { first = first; last = (end_of ends.old.items list).last; len = len }) }
+    ensures { ends.new.items ≡ slice_set ends.old.items list
+        (record { first = first; last = (end_of ends.old.items list).last; len = len }) }
 {
     let list = &mut ends[list];
     list.first = first;

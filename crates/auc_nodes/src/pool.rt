@@ -66,8 +66,8 @@ impl<T: Copy> NodePool<T> {
     /// There are `lists` lists, and `nodes` items may stand in them at a time. `blank` is any item, which is
     /// never handed out.
     ///
-    /// Errors, in this order: `TooManyLists` above `MOST_LISTS`; `TooManyNodes` above `MOST_NODES`; `NoMemory` where memory
-    /// was refused.
+    /// Errors, in this order: `TooManyLists` above `MOST_LISTS`; `TooManyNodes` above `MOST_NODES`; `NoMemory` where
+    /// memory was refused.
     ///
     /// Takes O(lists) time, and O(lists + nodes) memory, of which it touches that of the lists alone.
     pub fn make(alloc: Global, lists: u32, nodes: u32, blank: T) -> Result<NodePool<T>, PoolError>
@@ -132,7 +132,9 @@ impl<T: Copy> NodePool<T> {
     #[inline(always)]
     pub fn push_back(&mut self, list: u32, item: T) -> Result<(), T>
         requires { HasList self.old list }
-        ensures { MatchResult result (λ _. (0 < free_of self.old) × (self.new ≡ with_list self.old list (list_of self.old list ++ item ∷ []))) (λ back. (free_of self.old ≡ 0) × (back ≡ item) × (self.new ≡ self.old)) }
+        ensures { MatchResult result
+            (λ _. (0 < free_of self.old) × (self.new ≡ with_list self.old list (list_of self.old list ++ item ∷ [])))
+            (λ back. (free_of self.old ≡ 0) × (back ≡ item) × (self.new ≡ self.old)) }
     {
         if self.free.len == 0 {
             if self.fresh == 0 {
@@ -155,7 +157,8 @@ impl<T: Copy> NodePool<T> {
     #[inline(always)]
     pub fn pop_front(&mut self, list: u32) -> Option<T>
         requires { HasList self.old list }
-        ensures { MatchOption result ((list_of self.old list ≡ []) × (self.new ≡ self.old)) (λ item. (rest : List _) × (list_of self.old list ≡ item ∷ rest) × (self.new ≡ with_list self.old list rest)) }
+        ensures { MatchOption result ((list_of self.old list ≡ []) × (self.new ≡ self.old))
+            (λ item. (rest : List _) × (list_of self.old list ≡ item ∷ rest) × (self.new ≡ with_list self.old list rest)) }
     {
         let ends = self.ends[list as usize];
         if ends.len == 0 {

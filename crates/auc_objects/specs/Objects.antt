@@ -6,8 +6,8 @@ use Rattle.auc_letters.specs.declared.state.Held.{Held}
 use Rattle.auc_letters.specs.Award.{Sale, award, bid_letter}
 use Rattle.auc_graph.specs.Price.{IsPrice}
 
--- The shard's number, of how many; how many shards of persons and how many persons there are; and by object the price and
--- the holder.
+-- The shard's number, of how many; how many shards of persons and how many persons there are; and by object the price
+-- and the holder.
 pub record Objects : Type 0 where
   pub shard : ℕ
   pub of : ℕ

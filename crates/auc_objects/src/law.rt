@@ -6,9 +6,13 @@ ghost use Rattle.auc_letters.specs.declared.letter.Bid.{Bid};
 ghost use Rattle.auc_letters.specs.Award.{award_all, bids_on};
 ghost use Rattle.auc_objects.specs.Objects.{AreObjects, IsBidIn, Objects, Owns, after_bid, sale_of};
 
-/// What a letter makes of each object of a shard is what the award rule makes of it by the bids on it among letters: where the
-/// letter is a bid that fits, that is dealt with; where it is none, no bid on an object of the shard is in it.
+/// What a letter makes of each object of a shard is what the award rule makes of it by the bids on it among letters:
+/// where the letter is a bid that fits, that is dealt with; where it is none, no bid on an object of the shard is in
+/// it.
 pub fn letters_sell_by_their_bids()
-    ensures dealt { (s : Objects) (eps : ℤ) (letter : Letter) (bid : Bid) (j : ℕ) → AreObjects s → IsBidIn s letter bid → sale_of (after_bid s eps bid) j ≡ award_all eps (sale_of s j) (bids_on j (letter ∷ [])) }
-    ensures stray { (s : Objects) (letter : Letter) (j : ℕ) → Owns s j → ((bid : Bid) → IsBidIn s letter bid → ⊥) → bids_on j (letter ∷ []) ≡ [] }
+    ensures dealt { (s : Objects) (eps : ℤ) (letter : Letter) (bid : Bid) (j : ℕ) → AreObjects s
+        → IsBidIn s letter bid
+        → sale_of (after_bid s eps bid) j ≡ award_all eps (sale_of s j) (bids_on j (letter ∷ [])) }
+    ensures stray { (s : Objects) (letter : Letter) (j : ℕ) → Owns s j → ((bid : Bid) → IsBidIn s letter bid → ⊥)
+        → bids_on j (letter ∷ []) ≡ [] }
 {}

@@ -1,7 +1,7 @@
 //! The object shards: prices and holders, and what they answer to bids. Each bid is dealt with by the award rule.
 //!
-//! A shard sells its objects one bid at a time: pure code, with no mail, no lock and no thread. The rule and its letters
-//! are defined in `auc_letters` (`specs/Award.antt`).
+//! A shard sells its objects one bid at a time: pure code, with no mail, no lock and no thread. The rule and its
+//! letters are defined in `auc_letters` (`specs/Award.antt`).
 #![tactic(auto)]
 
 mod answers;

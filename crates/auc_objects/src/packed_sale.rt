@@ -1,4 +1,5 @@
-//! An object as its shard keeps it: its price and its holder in 16 bytes, so that a bid finds both at one place of memory.
+//! An object as its shard keeps it: its price and its holder in 16 bytes, so that a bid finds both at one place of
+//! memory.
 
 ghost use Rattle.std.specs.Prelude.{◌≡◌, None, Some};
 ghost use Rattle.auc_graph.specs.Price.{IsPrice};

@@ -77,7 +77,16 @@ impl ObjectShard {
         requires person_shards { 0 < person_shards }
         requires persons { 2 * persons < 2 ^ 32 }
         requires prices { All IsPrice prices.now }
-        ensures { IfOk result (λ s. s ≡ record { shard = shard; of = of; person_shards = person_shards; persons = persons; prices = prices.now; holders = replicate (length prices.now) None }) }
+        ensures { IfOk result
+            (λ s. s ≡ record {
+              shard = shard;
+              of = of;
+              person_shards = person_shards;
+              persons = persons;
+              prices =
+                  prices.now;
+              holders = replicate (length prices.now) None;
+            }) }
     {
         let sales = unsold_at(alloc, prices)?;
         Ok(ObjectShard {
@@ -126,8 +135,8 @@ impl ObjectShard {
         }
     }
 
-    /// The bid that a letter is, if it is one that fits the shard: its object is there and is the shard's, and its amount is
-    /// from 0 to the greatest price. O(1).
+    /// The bid that a letter is, if it is one that fits the shard: its object is there and is the shard's, and its
+    /// amount is from 0 to the greatest price. O(1).
     #[inline]
     pub fn bid_in(&self, letter: Letter) -> Option<Bid>
         ensures some { IfSome result (IsBidIn self.now letter) }
@@ -158,8 +167,8 @@ impl ObjectShard {
 
     /// Deals with one bid on an object of the shard, and gives the letters that answer it. O(1).
     ///
-    /// The bid is accepted exactly where its amount is at least the price and `eps` more. Then the amount is the price, and
-    /// the person holds the object by his arc. A bid that is refused changes nothing. `eps` is in scaled costs.
+    /// The bid is accepted exactly where its amount is at least the price and `eps` more. Then the amount is the price,
+    /// and the person holds the object by his arc. A bid that is refused changes nothing. `eps` is in scaled costs.
     #[inline]
     pub fn answer(&mut self, bid: Bid, eps: i64) -> Answers
         requires object { Owns self.old bid.object }
@@ -213,8 +222,8 @@ impl ObjectShard {
         }
     }
 
-    /// The same as [`ObjectShard::answer`], of the bid of `person` by the arc at place `arc` for `object`, with the letters in
-    /// a list, in order. O(1).
+    /// The same as [`ObjectShard::answer`], of the bid of `person` by the arc at place `arc` for `object`, with the
+    /// letters in a list, in order. O(1).
     #[inline]
     pub fn on_bid(
         &mut self,

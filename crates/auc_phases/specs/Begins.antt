@@ -9,8 +9,8 @@ pub record ArePrices (t : Table) (prices : List ℤ) : Type 0 where
   pub each : length prices ≡ t.objects
   pub within : All IsPrice prices
 
--- The eps and the prices of the first phase of a run: the first eps and prices of 0; or from start prices these and eps 1, so that it is the
--- only phase, and there are as many objects as persons.
+-- The eps and the prices of the first phase of a run: the first eps and prices of 0; or from start prices these and eps
+-- 1, so that it is the only phase, and there are as many objects as persons.
 abbrev pub Begins : Table → Option (List ℤ) → ℤ → List ℤ → Type 0
 Begins t None eps prices = (eps ≡ first_eps t) × (prices ≡ replicate t.objects (pos 0))
 Begins t (Some start) eps prices = (eps ≡ pos 1) × (prices ≡ start) × (t.objects ≡ length t.rows)

@@ -7,8 +7,8 @@ use Rattle.auc_graph.specs.Table.{Table}
 abbrev pub scaled_spread : Table → ℤ
 scaled_spread t = pos (length t.rows + 1) *ℤ t.spread
 
--- An eighth of it, rounded down, and at least 1. Where there are more objects than persons, 1, so that there is one phase: a later one
--- would leave prices to objects that nobody holds.
+-- An eighth of it, rounded down, and at least 1. Where there are more objects than persons, 1, so that there is one
+-- phase: a later one would leave prices to objects that nobody holds.
 abbrev pub first_eps : Table → ℤ
 first_eps t = if nat_lt (length t.rows) t.objects then pos 1 else int_max (pos 1) (int_div (scaled_spread t) (pos 8))
 

@@ -15,7 +15,9 @@ ending h e = record h { end = first_end h.end e }
 
 -- a First letter more is counted, up to the number of persons; the last one ends the phase
 abbrev pub counting : ℕ → Counting → Counting
-counting persons h = if nat_lt h.count persons then (record { count = h.count + 1; end = if (h.count + 1) == persons then first_end h.end End.All else h.end }) else h
+counting persons h =
+    if nat_lt h.count persons then
+    (record { count = h.count + 1; end = if (h.count + 1) == persons then first_end h.end End.All else h.end }) else h
 
 -- a letter of any kind
 abbrev pub hearing : ℕ → Letter → Counting → Counting

@@ -15,11 +15,21 @@ no_objects = record { shard = 0; of = 0; person_shards = 0; persons = 0; prices 
 
 -- a new shard of the persons: all are free, and the copies are the prices
 abbrev pub new_persons : ℕ → ℕ → ℕ → List ℤ → ℕ → Persons
-new_persons shards persons bids prices s = record { shard = s; of = shards; object_shards = shards; bids = bids; copies = prices; states = replicate persons PersonState.Free; idle = persons_of s shards persons }
+new_persons shards persons bids prices s = record {
+  shard = s;
+  of = shards;
+  object_shards = shards;
+  bids = bids;
+  copies = prices;
+  states = replicate persons
+      PersonState.Free;
+  idle = persons_of s shards persons;
+}
 
 -- a new shard of the objects: nobody holds any
 abbrev pub new_objects : ℕ → ℕ → List ℤ → ℕ → Objects
-new_objects shards persons prices q = record { shard = q; of = shards; person_shards = shards; persons = persons; prices = prices; holders = replicate (length prices) None }
+new_objects shards persons prices q = record
+    { shard = q; of = shards; person_shards = shards; persons = persons; prices = prices; holders = replicate (length prices) None }
 
 -- a shard of the persons of a phase
 pub record IsPersonShard (table : Table) (shards s : ℕ) (x : Persons) : Type 0 where

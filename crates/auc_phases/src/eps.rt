@@ -25,9 +25,9 @@ fn scaled_spread(rows: &Rows) -> i64
     scale * rows.cost_spread()
 }
 
-/// The eps of the first phase, in scaled costs: an eighth of the scaled spread of all costs, rounded down, and at least 1. Where there
-/// are more objects than persons it is 1, so that the first phase is the only one: a later one would begin with prices of objects
-/// that nobody holds, and leave some of them unsold. O(1).
+/// The eps of the first phase, in scaled costs: an eighth of the scaled spread of all costs, rounded down, and at least
+/// 1. Where there are more objects than persons it is 1, so that the first phase is the only one: a later one would
+/// begin with prices of objects that nobody holds, and leave some of them unsold. O(1).
 pub fn first_eps(rows: &Rows) -> i64
     ensures is { result ≡ first_eps rows.now }
     ensures range { IsEps result }
@@ -38,8 +38,8 @@ pub fn first_eps(rows: &Rows) -> i64
     LAST_EPS.max(scaled_spread(rows) / FIRST_PART)
 }
 
-/// The eps of the phase after one at `eps`, both in scaled costs: a fifth of it, rounded down, and at least 1. None after
-/// the last phase, at 1 and below. O(1).
+/// The eps of the phase after one at `eps`, both in scaled costs: a fifth of it, rounded down, and at least 1. None
+/// after the last phase, at 1 and below. O(1).
 pub fn next_eps(eps: i64) -> Option<i64>
     ensures is { result ≡ next_eps eps }
     ensures range { IsEps eps → IfSome result IsEps }

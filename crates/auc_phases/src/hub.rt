@@ -50,8 +50,8 @@ impl Hub {
         self.end
     }
 
-    /// Hears a letter, where there are so many persons: a First is counted, and the last of them ends the phase; a Stop ends
-    /// it with its reason, and any other letter as stray. The first end stays.
+    /// Hears a letter, where there are so many persons: a First is counted, and the last of them ends the phase; a Stop
+    /// ends it with its reason, and any other letter as stray. The first end stays.
     #[inline]
     pub fn hear(&mut self, letter: Letter, persons: u32)
         ensures { self.new ≡ hearing persons letter self.old }

@@ -26,8 +26,8 @@ pub struct Limits {
 }
 
 impl Limits {
-    /// The usual limits, with so many shards of each kind: 100,000,000 bids, 1,000,000,000,000 posts, no trail, and the usual
-    /// numbers of letters that may wait.
+    /// The usual limits, with so many shards of each kind: 100,000,000 bids, 1,000,000,000,000 posts, no trail, and the
+    /// usual numbers of letters that may wait.
     pub fn usual(shards: u32) -> Limits
         ensures shards { result.shards ≡ shards }
         ensures bids { result.bids ≡ 100000000 }

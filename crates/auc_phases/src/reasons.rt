@@ -20,8 +20,8 @@ pub fn reason_for(fault: PersonFault) -> Why
     }
 }
 
-/// Why a shard stops where its letter was refused: `Posts` where the lane has had all its posts, `Mail` where the mail is full.
-/// It doesn't stop where the box is closed, or where the letter is a price, which may be dropped.
+/// Why a shard stops where its letter was refused: `Posts` where the lane has had all its posts, `Mail` where the mail
+/// is full. It doesn't stop where the box is closed, or where the letter is a price, which may be dropped.
 #[inline]
 pub fn reason_to_stop(refused: PostRefused, letter: Letter) -> Option<Why>
     ensures some { IfSome result (λ y. (refused ≢ PostRefused.Closed) × (is_price letter ≡ false) × (y ≡ reason refused)) }

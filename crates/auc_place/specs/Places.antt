@@ -16,8 +16,8 @@ line_behind before = count_by is_line_feed before + 1
 abbrev pub column_behind : List ℕ → ℕ
 column_behind before = position_or_len is_line_feed (reverse before) + 1
 
--- The text is these three parts, one after another, and the middle one is the token of this number, from 0 on, from its first byte to its
--- last one.
+-- The text is these three parts, one after another, and the middle one is the token of this number, from 0 on, from its
+-- first byte to its last one.
 pub record IsTokenOf (text : List ℕ) (number : ℕ) (before token behind : List ℕ) : Type 0 where
   pub parts : text ≡ before ++ token ++ behind
   pub numbered : length (tokens before) ≡ number

@@ -30,7 +30,8 @@ pub(crate) fn is_separator_byte(byte: u8) -> bool
 /// The line and the column after one more byte.
 #[inline(always)]
 fn place_behind(line: u64, column: u64, byte: u8) -> (u64, u64)
-    ensures { (seen : List ℕ) → length seen < 2 ^ 63 → line ≡ line_behind seen → column ≡ column_behind seen → (result.0 ≡ line_behind (seen ++ byte ∷ [])) × (result.1 ≡ column_behind (seen ++ byte ∷ [])) }
+    ensures { (seen : List ℕ) → length seen < 2 ^ 63 → line ≡ line_behind seen → column ≡ column_behind seen
+        → (result.0 ≡ line_behind (seen ++ byte ∷ [])) × (result.1 ≡ column_behind (seen ++ byte ∷ [])) }
 {
     if byte == b'\n' {
         (line.saturating_add(1), 1)
@@ -72,7 +73,8 @@ impl Cursor {
     pub(crate) fn behind(self, byte: u8) -> Cursor
         ensures is { (seen : List ℕ) → length seen < 2 ^ 63 → IsCursor seen self → IsCursor (seen ++ byte ∷ []) result }
         // A token more begins there only with a byte of its own, after a separator or at the front.
-        ensures begins { self.tokens < result.tokens → (self.inside ≡ false) × (is_separator byte ≡ false) × (result.tokens ≡ self.tokens + 1) }
+        ensures begins { self.tokens < result.tokens → (self.inside ≡ false) × (is_separator byte ≡ false)
+            × (result.tokens ≡ self.tokens + 1) }
     {
         let (tokens, inside) = tokens_behind(self.tokens, self.inside, byte);
         let (line, column) = place_behind(self.line, self.column, byte);

@@ -21,7 +21,8 @@ pub enum Finding {
 /// What is found after one more byte, where the token has not begun before it.
 #[inline(always)]
 fn begun(cursor: Cursor, number: u64, byte: u8) -> Finding
-    ensures { (seen : List ℕ) → length seen < 2 ^ 63 → IsFinding number seen (Finding.Before cursor) → IsFinding number (seen ++ byte ∷ []) result }
+    ensures { (seen : List ℕ) → length seen < 2 ^ 63 → IsFinding number seen (Finding.Before cursor)
+        → IsFinding number (seen ++ byte ∷ []) result }
 {
     let next = cursor.behind(byte);
     if next.tokens > number {
@@ -70,7 +71,8 @@ impl Finding {
 
     /// After one more piece of the text.
     pub(crate) fn behind(self, number: u64, piece: &[u8]) -> Finding
-        ensures { (seen : List ℕ) → length seen + length piece.now < 2 ^ 63 → IsFinding number seen self → IsFinding number (seen ++ piece.now) result }
+        ensures { (seen : List ℕ) → length seen + length piece.now < 2 ^ 63 → IsFinding number seen self
+            → IsFinding number (seen ++ piece.now) result }
     {
         let mut finding = self;
         for byte in piece {

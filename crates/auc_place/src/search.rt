@@ -9,7 +9,8 @@ use crate::place::Place;
 use std::io::Read;
 use thiserror::Error;
 
-/// The most bytes that are taken of a reader at a time. They lie on the stack, since a search takes no memory, so they are few.
+/// The most bytes that are taken of a reader at a time. They lie on the stack, since a search takes no memory, so they
+/// are few.
 const PIECE: usize = 4_096;
 
 /// Why a search was given up.
@@ -23,13 +24,15 @@ pub enum SearchFault {
     TooManyReads,
 }
 
-/// The place of the token of this number, from 0 on, in the text that a reader has, or none where the text has no such token. `limit` is
-/// the most calls of `read`. The reader is read up to the piece in which the token ends, or is known to be longer than what is shown of it.
+/// The place of the token of this number, from 0 on, in the text that a reader has, or none where the text has no such
+/// token. `limit` is the most calls of `read`. The reader is read up to the piece in which the token ends, or is known
+/// to be longer than what is shown of it.
 ///
 /// # Errors
 ///
-/// [`SearchFault::Failed`] at the first read that fails, also by an interrupt: no read is tried again. [`SearchFault::TooManyReads`] where
-/// `limit` reads gave bytes each, and the place of the token was not known after them.
+/// [`SearchFault::Failed`] at the first read that fails, also by an interrupt: no read is tried again.
+/// [`SearchFault::TooManyReads`] where `limit` reads gave bytes each, and the place of the token was not known after
+/// them.
 ///
 /// Takes O(bytes read) time, 4 kB on the stack, and no memory.
 pub fn find_token<R: Read>(
@@ -42,7 +45,8 @@ pub fn find_token<R: Read>(
     // Each read gave at least one byte.
     ensures many { result ≡ Err SearchFault.TooManyReads → IfSome (R.remaining reader.old) (λ text. limit ≤ length text) }
     // The token didn't begin among these bytes, but perhaps among the last of them, as many as a place shows.
-    ensures far { result ≡ Err SearchFault.TooManyReads → IfSome (R.remaining reader.old) (λ text. BeginsBehind text number (limit - MOST_SHOWN)) }
+    ensures far { result ≡ Err SearchFault.TooManyReads
+        → IfSome (R.remaining reader.old) (λ text. BeginsBehind text number (limit - MOST_SHOWN)) }
 {
     let mut finding = Finding::new();
     let mut piece = [0u8; PIECE];

@@ -27,8 +27,8 @@ reply_line (WasOpen false) = codes "was closed\n"
 abbrev pub reply_lines : List (Reply ℤ) → List ℕ
 reply_lines replies = flat_map reply_line replies
 
--- The mail of a script may give these replies to its calls: there is one for each, and they are a run from the empty mail. So
--- each box hands out of a sender's items a prefix of what he sent there, and accepts nothing after a close.
+-- The mail of a script may give these replies to its calls: there is one for each, and they are a run from the empty
+-- mail. So each box hands out of a sender's items a prefix of what he sent there, and accepts nothing after a close.
 pub record AreRepliesTo (s : Script) (replies : List (Reply ℤ)) : Type 0 where
   pub one_each : length replies ≡ length s.calls
   pub last : Mail ℤ

@@ -116,10 +116,7 @@ fn write_reply<W: Write>(writer: &mut W, reply: Reply<i64>) -> Result<(), WriteF
 }
 
 /// Writes the lines of replies, one for each, in order.
-pub fn write_replies<W: Write>(
-    writer: &mut W,
-    replies: &[Reply<i64>],
-) -> Result<(), WriteFault>
+pub fn write_replies<W: Write>(writer: &mut W, replies: &[Reply<i64>]) -> Result<(), WriteFault>
     ensures { Writes result (W.contents writer.old) (W.contents writer.new) (reply_lines replies.now) }
 {
     for reply in replies {

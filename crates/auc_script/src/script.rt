@@ -51,8 +51,8 @@ impl Calls {
     }
 }
 
-/// A mail of so many boxes and senders, with room for so many waiting letters and so many posts for each lane, and the calls
-/// that are made on it. Boxes and senders of the calls are numbered from 0.
+/// A mail of so many boxes and senders, with room for so many waiting letters and so many posts for each lane, and the
+/// calls that are made on it. Boxes and senders of the calls are numbered from 0.
 #[derive(Debug, Drop)]
 pub struct Script {
     pub boxes: u32,

@@ -127,7 +127,8 @@ fn call_of(
     command: Option<CommandWord>,
 ) -> Result<(Call<i64>, u64, &[u8]), ScriptError>
     requires { place < 2 ^ 40 }
-    ensures exact { result_map_both (λ x. ((x.0, x.1), tokens x.2.now)) (λ e. e) result ≡ call_by boxes senders place (tokens bytes.now) command }
+    ensures exact { result_map_both (λ x. ((x.0, x.1), tokens x.2.now)) (λ e. e) result ≡ call_by boxes senders place
+        (tokens bytes.now) command }
     ensures within { IfOk result (λ x. FitsIn senders boxes x.0) }
     ensures next { IfOk result (λ x. x.1 ≤ place + 5) }
     ensures shorter { IfOk result (λ x. length x.2.now ≤ length bytes.now) }
@@ -153,7 +154,8 @@ fn calls_of(
     senders: u32,
     text: &[u8],
 ) -> Result<Vec<Call<i64>>, ScriptError>
-    ensures exact { AnswersUnless ScriptError.NoMemory (λ v. v.items) result (λ r. calls_from most_calls boxes senders 5 (tokens text.now) ≡ r) }
+    ensures exact { AnswersUnless ScriptError.NoMemory (λ v. v.items) result
+        (λ r. calls_from most_calls boxes senders 5 (tokens text.now) ≡ r) }
     ensures within { IfOk result (λ v. All (FitsIn senders boxes) v.items) }
 {
     let mut calls = Vec::new(alloc);
@@ -186,15 +188,15 @@ fn open_script(command: Option<CommandWord>) -> Result<u32, ScriptError>
 
 /// The script that a text reads as, or the first fault in the order of the text.
 ///
-/// The text is parted into tokens, and its numbers are spelled, as those of a problem are. It begins with
-/// `mail BOXES SENDERS NODES MOST`: 1 to 1,000 boxes and senders, up to 1,000,000 waiting letters, up to 10^12 posts for
-/// each lane. After that stand the calls, each one of `post SENDER BOX ITEM RESERVE`, `take BOX` and `close BOX`.
+/// The text is parted into tokens, and its numbers are spelled, as those of a problem are. It begins with `mail BOXES
+/// SENDERS NODES MOST`: 1 to 1,000 boxes and senders, up to 1,000,000 waiting letters, up to 10^12 posts for each lane.
+/// After that stand the calls, each one of `post SENDER BOX ITEM RESERVE`, `take BOX` and `close BOX`.
 ///
 /// # Errors
 ///
 /// At a token [`ScriptError::TooManyCalls`] comes first, then [`ScriptError::Word`], then [`ScriptError::Range`];
-/// [`ScriptError::Cut`] stands at the end of the text. [`ScriptError::NoMemory`] may stand in place of any other answer,
-/// where memory was refused.
+/// [`ScriptError::Cut`] stands at the end of the text. [`ScriptError::NoMemory`] may stand in place of any other
+/// answer, where memory was refused.
 ///
 /// Takes O(length) time, and 32 bytes of memory a call.
 #[tactic(auto, unfolding(crate::specs::Script::script_of))]

@@ -39,7 +39,8 @@ fn rise_of(best: Best) -> i64 {
     (best.second >> 1).wrapping_sub(best.worth >> 1)
 }
 
-/// The keys and the holders of the objects, and the object of each person. `looked` counts the entries that were looked at.
+/// The keys and the holders of the objects, and the object of each person. `looked` counts the entries that were looked
+/// at.
 #[derive(Drop)]
 pub(crate) struct Market {
     pub(crate) keys: Vec<i64>,
@@ -90,8 +91,8 @@ impl Market {
         }
     }
 
-    /// A person takes what is best for him, and pays for it as much as it is better than the next best; gives whom he displaces. Where another one is as good as an object that
-    /// somebody holds, he takes nothing.
+    /// A person takes what is best for him, and pays for it as much as it is better than the next best; gives whom he
+    /// displaces. Where another one is as good as an object that somebody holds, he takes nothing.
     fn bid(&mut self, table: &Table, person: u32) -> Option<u32> {
         let row = row_of(table, person);
         self.looked = self.looked.saturating_add(row.len() as u64);

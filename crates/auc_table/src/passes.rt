@@ -1,7 +1,8 @@
-//! Passes over a row, and over what is kept of each object. None has a branch that hangs on a cost, nor ends before the row does, so that the compiler takes several
-//! entries at a time; so each of them does one thing.
+//! Passes over a row, and over what is kept of each object. None has a branch that hangs on a cost, nor ends before the
+//! row does, so that the compiler takes several entries at a time; so each of them does one thing.
 //!
-//! The **key** of an object is twice its price, and one more where somebody holds it. By twice a cost and the key, of two objects that are as good the free one comes first.
+//! The **key** of an object is twice its price, and one more where somebody holds it. By twice a cost and the key, of
+//! two objects that are as good the free one comes first.
 ghost use Rattle.std.specs.Prelude.{◌<◌, length, IfSome};
 
 /// How far an object is that nobody has come to.
@@ -39,8 +40,9 @@ pub(crate) fn object_of_worth(row: &[i64], keys: &[i64], worth: i64) -> Option<u
     None
 }
 
-/// Takes in the objects that come nearer by this person's row, where `more` added to an entry's worth says how far its object is by him; gives how far the nearest of all is
-/// that isn't settled. A settled one has a key by which nobody comes nearer to it.
+/// Takes in the objects that come nearer by this person's row, where `more` added to an entry's worth says how far its
+/// object is by him; gives how far the nearest of all is that isn't settled. A settled one has a key by which nobody
+/// comes nearer to it.
 #[inline(never)]
 pub(crate) fn come_nearer(
     row: &[i64],

@@ -1,6 +1,8 @@
-//! Shortest augmenting paths: a person who has nothing takes an object, its holder another one, and so on to a free object, so that together it costs least.
+//! Shortest augmenting paths: a person who has nothing takes an object, its holder another one, and so on to a free
+//! object, so that together it costs least.
 //!
-//! This is the search of Dijkstra over reduced costs, with no heap, since each row that is looked at comes to every object anyway.
+//! This is the search of Dijkstra over reduced costs, with no heap, since each row that is looked at comes to every
+//! object anyway.
 
 use crate::market::{Market, NOBODY};
 use crate::passes::{FAR, come_nearer, forget, object_as_far};
@@ -109,7 +111,8 @@ impl Search {
         Ok(None)
     }
 
-    /// Takes back what has made the settled objects dearer, and raises their prices by how much nearer they are than this.
+    /// Takes back what has made the settled objects dearer, and raises their prices by how much nearer they are than
+    /// this.
     fn raise(&mut self, market: &mut Market, end: i64) {
         for settled in &self.line {
             if settled.object < market.keys.len() {

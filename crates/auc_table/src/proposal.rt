@@ -17,8 +17,8 @@ pub struct Proposal {
     pub prices: Vec<i64>,
 }
 
-/// Everybody bids once in order, and whom that displaces, a few times; who has nothing then goes by a path. Gives whether everybody has an object: not where there are too few,
-/// or where more entries were looked at than are to be.
+/// Everybody bids once in order, and whom that displaces, a few times; who has nothing then goes by a path. Gives
+/// whether everybody has an object: not where there are too few, or where more entries were looked at than are to be.
 fn assign_all(
     table: &Table,
     market: &mut Market,
@@ -75,15 +75,17 @@ fn propose_full(alloc: Global, table: &Table, looks: u64) -> Result<Option<Propo
     Ok(Some(proposal_of(market)))
 }
 
-/// Searches a least assignment of a table, where an entry that equals `gap` is none. It looks at some more than so many entries at most; where that doesn't suffice, or there are
-/// fewer objects than persons, it gives None.
+/// Searches a least assignment of a table, where an entry that equals `gap` is none. It looks at some more than so many
+/// entries at most; where that doesn't suffice, or there are fewer objects than persons, it gives None.
 ///
-/// **The caller tries what it gives**, as nothing is proved of it. Where there is an assignment and costs are from -10^9 to 10^9, it should be a least one without gaps, with
-/// prices from 0 up, in costs of the table, at which no object is better for a person than his own, and where what nobody has is free.
+/// **The caller tries what it gives**, as nothing is proved of it. Where there is an assignment and costs are from
+/// -10^9 to 10^9, it should be a least one without gaps, with prices from 0 up, in costs of the table, at which no
+/// object is better for a person than his own, and where what nobody has is free.
 ///
-/// The method is a row reduction, which is an auction at eps 0 that gives up early, from prices 0, and then shortest augmenting paths (Jonker and Volgenant, "A shortest
-/// augmenting path algorithm for dense and sparse linear assignment problems", Computing 38, 1987). Takes O(persons^2 * objects) time at most, and at most 44 bytes of
-/// memory an object and 4 a person, beside a copy of the table, 8 bytes an entry, where `gap` is given.
+/// The method is a row reduction, which is an auction at eps 0 that gives up early, from prices 0, and then shortest
+/// augmenting paths (Jonker and Volgenant, "A shortest augmenting path algorithm for dense and sparse linear assignment
+/// problems", Computing 38, 1987). Takes O(persons^2 * objects) time at most, and at most 44 bytes of memory an object
+/// and 4 a person, beside a copy of the table, 8 bytes an entry, where `gap` is given.
 ///
 /// # Errors
 ///

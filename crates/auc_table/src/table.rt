@@ -1,6 +1,7 @@
 //! A table of costs, as it lies in memory.
 
-/// A row for each person, and in it an entry for each object, whose cost stands `stride` places after that of the row before.
+/// A row for each person, and in it an entry for each object, whose cost stands `stride` places after that of the row
+/// before.
 #[derive(Clone, Copy)]
 pub struct Table<'a> {
     /// How many rows there are.

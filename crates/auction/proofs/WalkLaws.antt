@@ -184,7 +184,8 @@ module _ (command : Text) (rules : List Rule) where
 
   -- ---- word by word
 
-  -- all that was given has these rows, though the last argument's may be still to come; and the next positional is the first of these
+  -- all that was given has these rows, though the last argument's may be still to come; and the next positional is the
+  -- first of these
   record Stands (w : Walk) (rows : List Row) (left : List Text) : Type 0 where
     so_far : List Row
     pending : Option (Text × List Text)

@@ -14,7 +14,8 @@ abbrev pub IsOneOf : List ℕ → List (List ℕ) → Type 0
 IsOneOf name [] = ⊥
 IsOneOf name (first ∷ names) = (name ≡ first) ⊎ IsOneOf name names
 
--- the words of an option and its value: two words, of which the second begins with no hyphen, or one with an equals sign between them
+-- the words of an option and its value: two words, of which the second begins with no hyphen, or one with an equals
+-- sign between them
 abbrev pub AreOption : List ℕ → List ℕ → List (List ℕ) → Type 0
 AreOption option value words = (IsName value × (words ≡ option ∷ value ∷ [])) ⊎ (words ≡ (option ++ codes "=" ++ value) ∷ [])
 
@@ -22,20 +23,27 @@ AreOption option value words = (IsName value × (words ≡ option ∷ value ∷ 
 abbrev pub IsFlag : List (List ℕ) → List ℕ × List ℕ → List (List ℕ) → Type 0
 IsFlag flags given words = IsOneOf given.0 flags × (given.1 ≡ codes "true") × (words ≡ (codes "--" ++ given.0) ∷ [])
 
--- the words give an argument its value: the next of these files its name, and then the others are left; or one of these options its value; or they are one of these flags
+-- the words give an argument its value: the next of these files its name, and then the others are left; or one of these
+-- options its value; or they are one of these flags
 abbrev pub AreArgument : List (List ℕ) → List (List ℕ) → List (List ℕ) → List (List ℕ) → List ℕ × List ℕ → List (List ℕ) → Type 0
 AreArgument options flags files left given words = ((files ≡ given.0 ∷ left) × IsName given.1 × (words ≡ given.1 ∷ []))
     ⊎ ((IsOneOf given.0 options × AreOption (codes "--" ++ given.0) given.1 words × (files ≡ left)) ⊎ (IsFlag flags given words × (files ≡ left)))
 
--- the words give these arguments their values, one after the other: files in their order, and options and flags anywhere among them
+-- the words give these arguments their values, one after the other: files in their order, and options and flags
+-- anywhere among them
 abbrev pub AreArguments : List (List ℕ) → List (List ℕ) → List (List ℕ) → List (List ℕ × List ℕ) → List (List ℕ) → Type 0
 AreArguments options flags files [] words = words ≡ []
 AreArguments options flags files (first ∷ given) words =
-    (left : List (List ℕ)) × (front : List (List ℕ)) × (rest : List (List ℕ)) × AreArgument options flags files left first front × AreArguments options flags left given rest × (words ≡ front ++ rest)
+    (left : List (List ℕ)) × (front : List (List ℕ)) × (rest : List (List ℕ))
+    × AreArgument options flags files left first front × AreArguments options flags left given rest
+    × (words ≡ front ++ rest)
 
--- the words are a command with these options, these flags and these files, and give these arguments their values, in this order and none twice
+-- the words are a command with these options, these flags and these files, and give these arguments their values, in
+-- this order and none twice
 abbrev pub AreCommand : List ℕ → List (List ℕ) → List (List ℕ) → List (List ℕ) → List (List ℕ) → List (List ℕ × List ℕ) → Type 0
-AreCommand command options flags files words given = (rest : List (List ℕ)) × (words ≡ command ∷ rest) × AreArguments options flags files given rest × IsDistinct bytes_eq (keys_of given)
+AreCommand command options flags files words given =
+    (rest : List (List ℕ)) × (words ≡ command ∷ rest) × AreArguments options flags files given rest
+    × IsDistinct bytes_eq (keys_of given)
 
 -- the value of an argument, where it is given
 abbrev pub value_in : List (List ℕ × List ℕ) → List ℕ → Option (List ℕ)

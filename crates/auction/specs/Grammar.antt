@@ -47,4 +47,7 @@ bare_grammar = on_top (λ s. record s {
 }) (new_app (codes "auction"))
 
 abbrev pub grammar : App
-grammar = with_subcommand (with_subcommand (with_subcommand (with_subcommand bare_grammar check_grammar.top) hall_grammar.top) mail_grammar.top) solve_grammar.top
+grammar =
+    with_subcommand
+    (with_subcommand (with_subcommand (with_subcommand bare_grammar check_grammar.top) hall_grammar.top) mail_grammar.top)
+    solve_grammar.top

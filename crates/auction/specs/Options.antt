@@ -62,15 +62,16 @@ HasThreads values = (is_some (values (codes "workers")) ≡ true) ⊎ (is_some (
 abbrev pub HasWatch : (List ℕ → Option (List ℕ)) → Type 0
 HasWatch values = (is_some (values (codes "seconds")) ≡ true) ⊎ (is_some (values (codes "progress")) ≡ true)
 
--- What goes together: the solver in one hand has no threads and no trail; the other one has a trail only where there are threads, starts from a certificate only without a number of
--- objects, and isn't watched.
+-- What goes together: the solver in one hand has no threads and no trail; the other one has a trail only where there
+-- are threads, starts from a certificate only without a number of objects, and isn't watched.
 pub record GoTogether (values : List ℕ → Option (List ℕ)) (workers audit : ℕ) : Type 0 where
   pub direct : is_direct values ≡ true → ¬ HasThreads values
   pub trail : is_direct values ≡ false → workers ≡ 0 → audit ≡ 0
   pub start : is_direct values ≡ false → ¬ HasBoth values
   pub watch : is_direct values ≡ false → ¬ HasWatch values
 
--- whether they go together, or why not, where a fault of a solve in one hand is told alone, and a trail before a start, and that before a watch
+-- whether they go together, or why not, where a fault of a solve in one hand is told alone, and a trail before a start,
+-- and that before a watch
 abbrev pub AreTogether : (List ℕ → Option (List ℕ)) → ℕ → ℕ → Result ⊤ WordsError → Type 0
 AreTogether values workers audit (Ok _) = GoTogether values workers audit
 AreTogether values workers audit (Err Usage) = ⊥
@@ -78,11 +79,14 @@ AreTogether values workers audit (Err AuditAlone) = (is_direct values ≡ false)
 AreTogether values workers audit (Err NoMemory) = ⊥
 AreTogether values workers audit (Err FromObjects) = (is_direct values ≡ false) × (workers ≡ 0 → audit ≡ 0) × HasBoth values
 AreTogether values workers audit (Err DirectThreads) = (is_direct values ≡ true) × HasThreads values
-AreTogether values workers audit (Err WatchAlone) = (is_direct values ≡ false) × (workers ≡ 0 → audit ≡ 0) × (¬ HasBoth values) × HasWatch values
+AreTogether values workers audit (Err WatchAlone) =
+    (is_direct values ≡ false) × (workers ≡ 0 → audit ≡ 0) × (¬ HasBoth values) × HasWatch values
 
 -- the solve that the options' values ask for: with their numbers, where these go together
 abbrev pub AsksToSolve : (List ℕ → Option (List ℕ)) → Job → Type 0
-AsksToSolve values job = (workers : ℕ) × (bids : ℕ) × (audit : ℕ) × (objects : ℕ) × AreNumbers values workers bids audit objects × GoTogether values workers audit
+AsksToSolve values job =
+    (workers : ℕ) × (bids : ℕ) × (audit : ℕ) × (objects : ℕ) × AreNumbers values workers bids audit objects
+    × GoTogether values workers audit
     × (job ≡ Solve workers bids audit objects (is_some (values (codes "from"))) (is_direct values))
 
 -- all numbers are in their ranges, and these don't go together: the solver in one hand, and threads or a trail
@@ -141,12 +145,14 @@ abbrev pub IsSolveOf : (List ℕ → Option (List ℕ)) → Result SolveAsked Wo
 IsSolveOf values (Ok solve) = AsksToSolve values solve.job × IsWatchedBy values solve.watching
 IsSolveOf values (Err e) = AskWrongly values e
 
--- the words were read as the solve that a subcommand's matches ask for, of the files that they name, and watched so; or refused, where they ask for none, or memory ran out
+-- the words were read as the solve that a subcommand's matches ask for, of the files that they name, and watched so; or
+-- refused, where they ask for none, or memory ran out
 abbrev pub HasSolveOf : Result Words WordsError → List Row → Type 0
 HasSolveOf (Ok w) rows = AsksToSolve (λ name. first_of name rows) w.job × AsksFor w.job (Ok w) (first_of (codes "file") rows) (first_of (codes "from") rows) × IsWatchedBy (λ name. first_of name rows) w.watching
 HasSolveOf (Err e) rows = (e ≡ NoMemory) ⊎ AskWrongly (λ name. first_of name rows) e
 
--- the words were read as the job with the number of objects that this value gives, on these files; or refused, where it gives none, or memory ran out
+-- the words were read as the job with the number of objects that this value gives, on these files; or refused, where it
+-- gives none, or memory ran out
 abbrev pub HasObjectsJob : (ℕ → Job) → Result Words WordsError → Option (List ℕ) → Option (List ℕ) → Option (List ℕ) → Type 0
 HasObjectsJob job (Ok w) value first second = (objects : ℕ) × HasObjects value objects × AsksFor (job objects) (Ok w) first second
 HasObjectsJob job (Err e) value first second = (e ≡ NoMemory) ⊎ ((e ≡ Usage) × ((objects : ℕ) → ¬ HasObjects value objects))

@@ -24,8 +24,8 @@ pub struct Solve {
     pub watching: Watching,
 }
 
-/// A job, and the names of the files that it reads: a problem, or a script; and a certificate, to be checked, or to start from. A name left
-/// out means standard input, if the job has such an input.
+/// A job, and the names of the files that it reads: a problem, or a script; and a certificate, to be checked, or to
+/// start from. A name left out means standard input, if the job has such an input.
 #[derive(Debug, Drop)]
 pub struct Words {
     pub job: Job,

@@ -33,8 +33,8 @@ use words::read_words;
 use words_error::WordsError;
 use wrong_words::fault_of;
 
-/// The most reads that look for the place of a token, 4,096 bytes each: in the first 64 MiB of a file. A token that stands after them is
-/// told by its number, so that the answer isn't long past when the sentence comes.
+/// The most reads that look for the place of a token, 4,096 bytes each: in the first 64 MiB of a file. A token that
+/// stands after them is told by its number, so that the answer isn't long past when the sentence comes.
 const MOST_PLACE_READS: u32 = 16_384;
 
 /// Linux's number of the error of a read where a descriptor is not open, or not for reading.
@@ -124,8 +124,8 @@ fn with_second<
     }
 }
 
-/// Where the token stands that the end of the job is about, looked up in the first file; none where there is no such token, it stands too far
-/// after, or the file can't be read a second time, as a pipe.
+/// Where the token stands that the end of the job is about, looked up in the first file; none where there is no such
+/// token, it stands too far after, or the file can't be read a second time, as a pipe.
 fn place_in<F: Read + Seek>(file: &mut F, job: &Job, ended: &Ended) -> Option<Place> {
     let Ok(ending) = ended else {
         return None;
@@ -173,7 +173,8 @@ fn reads_standard_input(words: &Words) -> bool {
     words.first.is_none() || words.second.is_none() && matches!(&words.job, Job::Check { .. })
 }
 
-/// Whether standard input is open. Where it isn't, the first file that is opened gets its descriptor, and would be read in its place.
+/// Whether standard input is open. Where it isn't, the first file that is opened gets its descriptor, and would be read
+/// in its place.
 fn is_standard_input_open<R: Input>(rt: &R) -> bool {
     match rt.reader().read(&mut []) {
         Ok(_) => true,

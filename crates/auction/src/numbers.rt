@@ -41,7 +41,8 @@ fn number_of(
     usual: u64,
 ) -> Result<u64, WordsError>
     ensures given { IfOk result (HasNumber least most usual (first_value (found_of matches.now) id.now)) }
-    ensures refused { IfErr result (λ e. (e ≡ WordsError.Usage) × ((n : ℕ) → ¬ HasNumber least most usual (first_value (found_of matches.now) id.now) n)) }
+    ensures refused { IfErr result
+        (λ e. (e ≡ WordsError.Usage) × ((n : ℕ) → ¬ HasNumber least most usual (first_value (found_of matches.now) id.now) n)) }
 {
     match matches.get_str(id) {
         Some(text) => number_in(text, least, most),
@@ -52,7 +53,8 @@ fn number_of(
 /// How many objects the problem is to have; 0, as without the option, stands for as many as persons.
 pub(crate) fn objects_of(matches: &ArgMatches<'_>) -> Result<u32, WordsError>
     ensures given { IfOk result (HasObjects (first_value (found_of matches.now) (codes "objects"))) }
-    ensures refused { IfErr result (λ e. (e ≡ WordsError.Usage) × ((n : ℕ) → ¬ HasObjects (first_value (found_of matches.now) (codes "objects")) n)) }
+    ensures refused { IfErr result
+        (λ e. (e ≡ WordsError.Usage) × ((n : ℕ) → ¬ HasObjects (first_value (found_of matches.now) (codes "objects")) n)) }
     ensures range { IfOk result (λ n. n ≤ 20000) }
 {
     let objects = number_of(matches, "objects", 1, MOST_OBJECTS, 0)?;
@@ -69,7 +71,8 @@ fn is_given(matches: &ArgMatches<'_>, id: &str) -> bool
 /// How the solve is to be watched.
 fn watching_of(matches: &ArgMatches<'_>) -> Result<Watching, WordsError>
     ensures given { IfOk result (IsWatchedBy (λ name. first_value (found_of matches.now) name)) }
-    ensures refused { IfErr result (λ e. (e ≡ WordsError.Usage) × ((n : ℕ) → ¬ HasSeconds (first_value (found_of matches.now) (codes "seconds")) n)) }
+    ensures refused { IfErr result
+        (λ e. (e ≡ WordsError.Usage) × ((n : ℕ) → ¬ HasSeconds (first_value (found_of matches.now) (codes "seconds")) n)) }
 {
     let seconds = number_of(matches, "seconds", 1, MOST_SECONDS, 0)?;
     Ok(Watching {
@@ -78,8 +81,8 @@ fn watching_of(matches: &ArgMatches<'_>) -> Result<Watching, WordsError>
     })
 }
 
-/// Looks whether the options go together: a solve in one hand has no threads and no trail; another one has a trail only with threads, starts from
-/// a certificate only without a number of objects, and isn't watched.
+/// Looks whether the options go together: a solve in one hand has no threads and no trail; another one has a trail only
+/// with threads, starts from a certificate only without a number of objects, and isn't watched.
 fn look_together(
     matches: &ArgMatches<'_>,
     workers: u64,

@@ -67,7 +67,8 @@ fn job_of_two(
 ) -> Result<Words, WordsError>
     requires { IsInRange job }
     ensures watching { IfOk result (λ w. w.watching ≡ watching) }
-    ensures names { AsksFor job result (first_of first.now (rows_of (found_of matches.now))) (first_of second.now (rows_of (found_of matches.now))) }
+    ensures names { AsksFor job result (first_of first.now (rows_of (found_of matches.now)))
+        (first_of second.now (rows_of (found_of matches.now))) }
     ensures range { IfOk result (λ w. IsInRange w.job) }
 {
     Ok(Words {
@@ -110,7 +111,8 @@ fn solve_of(alloc: Global, matches: &ArgMatches<'_>) -> Result<Words, WordsError
 fn words_of(alloc: Global, matches: &ArgMatches<'_>) -> Result<Words, WordsError>
     ensures check { (rows : List Row) → subcommand_rows_of matches.now ≡ Some (codes "check", rows) → HasCheckOf result rows }
     ensures hall { (rows : List Row) → subcommand_rows_of matches.now ≡ Some (codes "hall", rows) → HasHallOf result rows }
-    ensures mail { (rows : List Row) → subcommand_rows_of matches.now ≡ Some (codes "mail", rows) → AsksFor Job.Mail result (first_of (codes "script") rows) None }
+    ensures mail { (rows : List Row) → subcommand_rows_of matches.now ≡ Some (codes "mail", rows)
+        → AsksFor Job.Mail result (first_of (codes "script") rows) None }
     ensures solve { (rows : List Row) → subcommand_rows_of matches.now ≡ Some (codes "solve", rows) → HasSolveOf result rows }
     ensures range { IfOk result (λ w. IsInRange w.job) }
 {
@@ -127,48 +129,69 @@ fn words_of(alloc: Global, matches: &ArgMatches<'_>) -> Result<Words, WordsError
 ///
 /// # Errors
 ///
-/// [`WordsError::Usage`] where the words are no job, or a number is out of its range; then [`WordsError::DirectThreads`] where a solve in one
-/// hand is to have threads or a trail; then, of another one, [`WordsError::AuditAlone`] where it has no threads and is to keep a trail; then
-/// [`WordsError::FromObjects`] where it is to start from a certificate and has a number of objects; then [`WordsError::WatchAlone`] where it is to be watched.
+/// [`WordsError::Usage`] where the words are no job, or a number is out of its range; then
+/// [`WordsError::DirectThreads`] where a solve in one hand is to have threads or a trail; then, of another one,
+/// [`WordsError::AuditAlone`] where it has no threads and is to keep a trail; then [`WordsError::FromObjects`] where it
+/// is to start from a certificate and has a number of objects; then [`WordsError::WatchAlone`] where it is to be
+/// watched.
 pub fn read_words(alloc: Global, words: &[String]) -> Result<Words, WordsError>
-    // A check that is asked for without options is read as that check, of as many objects as persons, unless memory runs out.
-    ensures check { (file : List ℕ) (cert : Option (List ℕ)) → AreCheck (map string_bytes words.now) file cert → AsksFor (Job.Check 0) result (Some file) cert }
-    // A check with a number of objects, anywhere among its files, is read as the check with that number, unless memory runs out.
-    ensures check_objects { (given : List (List ℕ × List ℕ)) (objects : ℕ) → AreCheckOf (map string_bytes words.now) given → HasObjects (value_in given (codes "objects")) objects
+    // A check that is asked for without options is read as that check, of as many objects as persons, unless memory
+    // runs out.
+    ensures check { (file : List ℕ) (cert : Option (List ℕ)) → AreCheck (map string_bytes words.now) file cert
+        → AsksFor (Job.Check 0) result (Some file) cert }
+    // A check with a number of objects, anywhere among its files, is read as the check with that number, unless memory
+    // runs out.
+    ensures check_objects { (given : List (List ℕ × List ℕ)) (objects : ℕ)
+        → AreCheckOf (map string_bytes words.now) given → HasObjects (value_in given (codes "objects")) objects
         → AsksFor (Job.Check objects) result (value_in given (codes "file")) (value_in given (codes "cert")) }
-    // A hall that is asked for without options is read as that hall, of as many objects as persons, unless memory runs out.
-    ensures hall { (file : Option (List ℕ)) → AreJob (codes "hall") (map string_bytes words.now) file → AsksFor (Job.Hall 0) result file None }
-    // A hall with a number of objects, before or after its file, is read as the hall with that number, unless memory runs out.
-    ensures hall_objects { (given : List (List ℕ × List ℕ)) (objects : ℕ) → AreHallOf (map string_bytes words.now) given → HasObjects (value_in given (codes "objects")) objects
+    // A hall that is asked for without options is read as that hall, of as many objects as persons, unless memory runs
+    // out.
+    ensures hall { (file : Option (List ℕ)) → AreJob (codes "hall") (map string_bytes words.now) file
+        → AsksFor (Job.Hall 0) result file None }
+    // A hall with a number of objects, before or after its file, is read as the hall with that number, unless memory
+    // runs out.
+    ensures hall_objects { (given : List (List ℕ × List ℕ)) (objects : ℕ)
+        → AreHallOf (map string_bytes words.now) given → HasObjects (value_in given (codes "objects")) objects
         → AsksFor (Job.Hall objects) result (value_in given (codes "file")) None }
     // A mail that is asked for is read as that mail, unless memory runs out.
-    ensures mail { (script : Option (List ℕ)) → AreJob (codes "mail") (map string_bytes words.now) script → AsksFor Job.Mail result script None }
-    // A solve that is asked for without options is read as that solve, with no threads, the usual bids, no trail, as many objects as persons, and from no certificate, unless memory runs out.
-    ensures solve { (file : Option (List ℕ)) → AreJob (codes "solve") (map string_bytes words.now) file → AsksFor (Job.Solve 0 100000000 0 0 false false) result file None }
-    // A solve with options, in any order, is read as the solve with their numbers and the usual ones of the others, from the certificate that they name, and in one hand where they say so, unless memory runs out.
-    ensures options { (given : List (List ℕ × List ℕ)) (workers bids audit objects : ℕ) → AreSolve (map string_bytes words.now) given → AreNumbers (value_in given) workers bids audit objects
+    ensures mail { (script : Option (List ℕ)) → AreJob (codes "mail") (map string_bytes words.now) script
+        → AsksFor Job.Mail result script None }
+    // A solve that is asked for without options is read as that solve, with no threads, the usual bids, no trail, as
+    // many objects as persons, and from no certificate, unless memory runs out.
+    ensures solve { (file : Option (List ℕ)) → AreJob (codes "solve") (map string_bytes words.now) file
+        → AsksFor (Job.Solve 0 100000000 0 0 false false) result file None }
+    // A solve with options, in any order, is read as the solve with their numbers and the usual ones of the others,
+    // from the certificate that they name, and in one hand where they say so, unless memory runs out.
+    ensures options { (given : List (List ℕ × List ℕ)) (workers bids audit objects : ℕ)
+        → AreSolve (map string_bytes words.now) given → AreNumbers (value_in given) workers bids audit objects
         → GoTogether (value_in given) workers audit
         → AsksFor (Job.Solve workers bids audit objects (is_some (value_in given (codes "from"))) (is_direct (value_in given))) result (value_in given (codes "file")) (value_in given (codes "from")) }
     // An option whose value is no number, or one out of range, is a fault of usage, unless memory runs out.
     ensures wrong_number { (given : List (List ℕ × List ℕ)) → AreSolve (map string_bytes words.now) given
         → ((workers bids audit objects : ℕ) → ¬ AreNumbers (value_in given) workers bids audit objects) → IsUsage result }
     // So is a number of objects of a check, or of a hall.
-    ensures wrong_objects { (given : List (List ℕ × List ℕ)) → AreCheckOf (map string_bytes words.now) given ⊎ AreHallOf (map string_bytes words.now) given
+    ensures wrong_objects { (given : List (List ℕ × List ℕ)) → AreCheckOf (map string_bytes words.now) given
+        ⊎ AreHallOf (map string_bytes words.now) given
         → ((objects : ℕ) → ¬ HasObjects (value_in given (codes "objects")) objects) → IsUsage result }
     // A solve in one hand with threads or a trail is a fault of its own, unless memory runs out.
-    ensures direct_threads { (given : List (List ℕ × List ℕ)) (workers bids audit objects : ℕ) → AreSolve (map string_bytes words.now) given → AreNumbers (value_in given) workers bids audit objects
+    ensures direct_threads { (given : List (List ℕ × List ℕ)) (workers bids audit objects : ℕ)
+        → AreSolve (map string_bytes words.now) given → AreNumbers (value_in given) workers bids audit objects
         → is_direct (value_in given) ≡ true → HasThreads (value_in given) → IsDirectThreads result }
     // So is, of another one, a trail without threads.
-    ensures audit_alone { (given : List (List ℕ × List ℕ)) (bids audit objects : ℕ) → AreSolve (map string_bytes words.now) given → AreNumbers (value_in given) 0 bids audit objects
+    ensures audit_alone { (given : List (List ℕ × List ℕ)) (bids audit objects : ℕ)
+        → AreSolve (map string_bytes words.now) given → AreNumbers (value_in given) 0 bids audit objects
         → is_direct (value_in given) ≡ false → 0 < audit → IsAuditAlone result }
     // After it, so is a start from a certificate with a number of objects.
-    ensures from_objects { (given : List (List ℕ × List ℕ)) (workers bids audit objects : ℕ) → AreSolve (map string_bytes words.now) given → AreNumbers (value_in given) workers bids audit objects
+    ensures from_objects { (given : List (List ℕ × List ℕ)) (workers bids audit objects : ℕ)
+        → AreSolve (map string_bytes words.now) given → AreNumbers (value_in given) workers bids audit objects
         → is_direct (value_in given) ≡ false → (workers ≡ 0 → audit ≡ 0) → HasBoth (value_in given) → IsFromObjects result }
     // After these, so is one that is to be watched.
-    ensures watch_alone { (given : List (List ℕ × List ℕ)) (workers bids audit objects : ℕ) → AreSolve (map string_bytes words.now) given → AreNumbers (value_in given) workers bids audit objects
+    ensures watch_alone { (given : List (List ℕ × List ℕ)) (workers bids audit objects : ℕ)
+        → AreSolve (map string_bytes words.now) given → AreNumbers (value_in given) workers bids audit objects
         → is_direct (value_in given) ≡ false → (workers ≡ 0 → audit ≡ 0) → ¬ HasBoth (value_in given) → HasWatch (value_in given) → IsWatchAlone result }
     // A solve is watched as its options ask: for so many seconds, and with or without progress.
-    ensures watched { (given : List (List ℕ × List ℕ)) → AreSolve (map string_bytes words.now) given → IfOk result (λ w. IsWatchedBy (value_in given) w.watching) }
+    ensures watched { (given : List (List ℕ × List ℕ)) → AreSolve (map string_bytes words.now) given
+        → IfOk result (λ w. IsWatchedBy (value_in given) w.watching) }
     // Words that the grammar does not take are a fault of usage, unless memory runs out.
     ensures unfit { fault_of grammar (map string_bytes words.now) ≢ [] → IsUsage result }
     // The numbers of the job are those that it may have.

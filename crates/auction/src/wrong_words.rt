@@ -1,5 +1,5 @@
-//! Which of some words that are no job is at fault, and what was wanted. Whether words are a job, the parser tells (`words.rt`); this tells
-//! why not.
+//! Which of some words that are no job is at fault, and what was wanted. Whether words are a job, the parser tells
+//! (`words.rt`); this tells why not.
 
 use crate::numbers::{MOST_AUDIT, MOST_OBJECTS, MOST_SECONDS, MOST_WORKERS, number_in};
 use crate::word_fault::{WordFault, nearest};
@@ -283,7 +283,8 @@ fn fault_of_help<'a>(alloc: Global, words: &'a [String]) -> Result<WordFault<'a>
     }
 }
 
-/// What is wrong with words that are no job: the first word at fault, and the right one that is most like it, if one is.
+/// What is wrong with words that are no job: the first word at fault, and the right one that is most like it, if one
+/// is.
 ///
 /// # Errors
 ///

@@ -1,8 +1,8 @@
 //! The solver and the checker as C calls them: the exports alone, over [`auc_call`].
 //!
-//! Each export takes what a C program holds: numbers, references to `#[repr(C)]` structs, and slices as a pointer and a length. What a
-//! call answers is a status; the rest goes out through `&mut`. No call keeps anything after its return. What the caller owes stands at
-//! the top of `c/sigdorf.h`.
+//! Each export takes what a C program holds: numbers, references to `#[repr(C)]` structs, and slices as a pointer and a
+//! length. What a call answers is a status; the rest goes out through `&mut`. No call keeps anything after its return.
+//! What the caller owes stands at the top of `c/sigdorf.h`.
 #![tactic(auto)]
 
 ghost use Rattle.std.specs.Prelude.{◌≡◌, ◌≢◌, length, pos};
@@ -21,8 +21,8 @@ use auc_call::{
 use auc_graph::Arc;
 use std::alloc::Global;
 
-/// Solves the problem of so many persons, so many objects (0: as many as persons) and these arcs, from nothing where `start` is empty, else
-/// from its prices, in one hand: see [`auc_call::solve_call`].
+/// Solves the problem of so many persons, so many objects (0: as many as persons) and these arcs, from nothing where
+/// `start` is empty, else from its prices, in one hand: see [`auc_call::solve_call`].
 #[unsafe(no_mangle)]
 pub extern "C" fn sigdorf_solve(
     alloc: Global,
@@ -58,8 +58,8 @@ pub extern "C" fn sigdorf_solve(
     )
 }
 
-/// Solves as [`sigdorf_solve`] does, but the problem of a table, where an entry that equals `none` is no arc, and with objects in place of
-/// arcs: see [`auc_call::solve_table_call`].
+/// Solves as [`sigdorf_solve`] does, but the problem of a table, where an entry that equals `none` is no arc, and with
+/// objects in place of arcs: see [`auc_call::solve_table_call`].
 #[unsafe(no_mangle)]
 pub extern "C" fn sigdorf_solve_dense(
     alloc: Global,
@@ -136,8 +136,8 @@ pub extern "C" fn sigdorf_solve_by_messages(
     )
 }
 
-/// Checks that the arcs at these places are an assignment of this cost than which none costs less, as the prices show: see
-/// [`auc_call::check_call`].
+/// Checks that the arcs at these places are an assignment of this cost than which none costs less, as the prices show:
+/// see [`auc_call::check_call`].
 #[unsafe(no_mangle)]
 pub extern "C" fn sigdorf_check(
     alloc: Global,

@@ -9,8 +9,8 @@ use crate::pool::MailPool;
 impl<T: Copy> MailPool<T> {
     /// Posts `item` from `sender` to the box `to`, and answers the letter's number in its lane, from 1.
     ///
-    /// Refused, in this order: `Closed` where the box is closed; `Spent` where the lane had all its posts; `Full` where no
-    /// more than `reserve` letters are free. A refused post changes nothing. Takes O(1) time.
+    /// Refused, in this order: `Closed` where the box is closed; `Spent` where the lane had all its posts; `Full` where
+    /// no more than `reserve` letters are free. A refused post changes nothing. Takes O(1) time.
     #[inline(always)]
     pub fn post(&mut self, sender: u32, to: u32, item: T, reserve: u32) -> Result<u64, PostRefused>
         requires { Fits self.old (Call.Post sender to item reserve) }

@@ -12,8 +12,8 @@ use crate::pool::MailPool;
 impl<T: Copy> MailPool<T> {
     /// Takes the first waiting letter of one of the box's lanes; where none has one, says whether one may still come.
     ///
-    /// Which lane is left open: it is the first with a letter, in rotating order from the one after the last giver. Takes O(1)
-    /// time where all letters of the box wait in one lane, or none waits, and else O(senders).
+    /// Which lane is left open: it is the first with a letter, in rotating order from the one after the last giver.
+    /// Takes O(1) time where all letters of the box wait in one lane, or none waits, and else O(senders).
     #[inline(always)]
     pub fn take(&mut self, at: u32) -> Taken<T>
         requires { Fits self.old (Call.Take at) }
@@ -65,8 +65,8 @@ impl<T: Copy> MailPool<T> {
         }
     }
 
-    // Takes the first letter of the lane whose turn it is. Inlined, so that no letter goes through memory: the lane alone is seldom
-    // looked for, and out of the callers.
+    // Takes the first letter of the lane whose turn it is. Inlined, so that no letter goes through memory: the lane
+    // alone is seldom looked for, and out of the callers.
     #[inline(always)]
     fn take_in_turn(&mut self, at: u32) -> Taken<T>
         requires { HasBox self.old at }

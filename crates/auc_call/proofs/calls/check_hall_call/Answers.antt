@@ -13,5 +13,7 @@ returns c =
     let fits : FitsSigned w32 c.tell_checked.result = search rules in
     let p = problem_from c.args.persons c.args.objects c.args.arcs.now in
     let all = hall_told p c.args.hall_persons.now c.args.hall_objects.now c.check_hall_at-checked.result c.args.found.now c.check_hall_at-checked.ensures in
-    record { told = simp to_z-of_z (subst (λ (z : ℤ). IsHallChecked p c.args.hall_persons.now c.args.hall_objects.now z c.args.found.now c.tell_checked.new.found) (sym c.tell_checked.ensures.status)
-    (subst (λ (f : Found). IsHallChecked p c.args.hall_persons.now c.args.hall_objects.now (check_status c.check_hall_at-checked.result) c.args.found.now f) (sym c.tell_checked.ensures.found) all)) }
+    record {
+      told = simp to_z-of_z (subst (λ (z : ℤ). IsHallChecked p c.args.hall_persons.now c.args.hall_objects.now z c.args.found.now c.tell_checked.new.found) (sym c.tell_checked.ensures.status)
+          (subst (λ (f : Found). IsHallChecked p c.args.hall_persons.now c.args.hall_objects.now (check_status c.check_hall_at-checked.result) c.args.found.now f) (sym c.tell_checked.ensures.found) all));
+    }

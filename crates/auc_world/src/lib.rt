@@ -15,8 +15,8 @@ mod solving;
 mod world;
 
 pub use auc_answers::{Answer, Gathered, Guard, Prepared, finish, picks_of_matching, prepare};
-pub use auc_phases::{LAST_EPS, Limits, USUAL_BIDS, first_eps, next_eps, nodes_or};
 pub use auc_model::{End, MailName, Turn, TurnReply};
+pub use auc_phases::{LAST_EPS, Limits, USUAL_BIDS, first_eps, next_eps, nodes_or};
 pub use playing::play;
 pub use solving::{solve_serial, solve_serial_from};
 pub use world::World;

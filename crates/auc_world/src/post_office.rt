@@ -15,9 +15,9 @@ use crate::post_office::making::{new_mail, new_outboxes};
 use crate::post_office::outbox::Outbox;
 pub(crate) use crate::post_office::posting::Posted;
 use arrayvec::ArrayVec;
-use auc_phases::{Limits, nodes_or};
 use auc_letters::{Letter, Out};
 use auc_mail::MailPool;
+use auc_phases::{Limits, nodes_or};
 use std::alloc::{AllocError, Global};
 use std::marker::Model;
 

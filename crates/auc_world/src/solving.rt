@@ -18,11 +18,11 @@ use crate::making::new_bidders;
 use crate::world::World;
 use auc_answers::finish::{bracket, optimal, stop_of};
 use auc_answers::{Answer, Gathered, Guard, Prepared, prepare};
-use auc_phases::{LAST_EPS, Limits, first_eps, next_eps};
 use auc_claim::Reason;
 use auc_graph::{ArcList, Rows};
 use auc_model::End;
 use auc_persons::Bidder;
+use auc_phases::{LAST_EPS, Limits, first_eps, next_eps};
 use std::alloc::{AllocError, Global};
 use std::mem;
 

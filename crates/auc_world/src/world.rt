@@ -25,12 +25,12 @@ mod turns;
 
 use crate::making::{new_bidders, new_object_shards, new_person_shards};
 use crate::post_office::PostOffice;
-use auc_phases::{Hub, Limits};
 use auc_graph::Rows;
 use auc_letters::{Held, shard_of};
 use auc_model::End;
 use auc_objects::ObjectShard;
 use auc_persons::{Bidder, PersonShard};
+use auc_phases::{Hub, Limits};
 use std::alloc::{AllocError, Global};
 use std::marker::Model;
 

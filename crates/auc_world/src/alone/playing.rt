@@ -13,9 +13,9 @@ use crate::alone::kept::AloneWorld;
 use crate::alone::rounds::Played;
 use crate::alone::task::Task;
 use crate::solving::Outcome;
-use auc_phases::Limits;
 use auc_graph::Rows;
 use auc_persons::Bidder;
+use auc_phases::Limits;
 use std::alloc::{AllocError, Global};
 
 /// Plays a phase by itself, which may be: in whole rounds; what its bids are found by outlasts it where all is sold.

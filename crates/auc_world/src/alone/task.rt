@@ -7,8 +7,8 @@ ghost use Rattle.auc_phases.specs.Limits.{AreLimits};
 ghost use Rattle.auc_answers.specs.Prepared.{NobodyStuck};
 ghost use Rattle.auc_world.specs.AlonePhase.{IsGiven, MayPlayAlone};
 
-use auc_phases::Limits;
 use auc_graph::Rows;
+use auc_phases::Limits;
 use std::marker::Model;
 
 /// What a phase is given that is played by itself. Prices and `eps` are in scaled costs, the prices by object.

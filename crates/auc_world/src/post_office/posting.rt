@@ -8,9 +8,9 @@ ghost use Rattle.auc_world.specs.Mails.{with_named};
 ghost use Rattle.auc_world.specs.Posting.{Leaves, Posts, StandsFirst, Stays, mail_for, post_of};
 
 use crate::post_office::PostOffice;
-use auc_phases::reason_to_stop;
 use auc_letters::{Out, To, Why};
 use auc_mail::PostRefused;
+use auc_phases::reason_to_stop;
 
 /// What comes of a post of the first letter of an outbox.
 #[derive(Clone, Copy)]

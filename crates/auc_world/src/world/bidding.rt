@@ -8,7 +8,7 @@ ghost use Rattle.auc_world.specs.Parts.{AreParts, MayAskForBid, SamePhase, perso
 ghost use Rattle.auc_world.specs.Rounds.{Plays};
 
 use crate::world::World;
-use crate::world::rounds::{either, has_moved};
+use crate::world::rounds::has_moved;
 use auc_letters::{Letter, Out, To};
 use auc_model::TurnReply;
 use auc_persons::Bidding;
@@ -84,6 +84,6 @@ impl<'a> World<'a> {
     {
         let bids = has_moved(self.bid(shard));
         let posts = has_moved(self.person_post(shard));
-        either(bids, posts)
+        bids | posts
     }
 }

@@ -6,10 +6,10 @@ ghost use Rattle.auc_persons.specs.Persons.{OnLetter};
 ghost use Rattle.auc_world.specs.Parts.{SamePhase, persons_at, phase, world_of};
 
 use crate::world::World;
-use auc_phases::reason_for;
 use auc_letters::Letter;
 use auc_model::{End, MailName, TurnReply};
 use auc_persons::PersonFault;
+use auc_phases::reason_for;
 
 impl<'a> World<'a> {
     /// A shard of the persons hears a letter.

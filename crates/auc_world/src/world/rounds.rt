@@ -1,6 +1,6 @@
 //! The serial schedule: whole rounds in which every shard has its turns, until the phase has ended.
 
-ghost use Rattle.std.specs.Prelude.{ℕ, ◌≡◌, ◌||◌, IfNone};
+ghost use Rattle.std.specs.Prelude.{ℕ, ◌≡◌, IfNone};
 ghost use Rattle.auc_model.specs.Still.{Rests};
 ghost use Rattle.auc_world.specs.Parts.{phase, world_of};
 ghost use Rattle.auc_world.specs.Rounds.{Plays, Rounds, answers_of, bids_of, has_moved, hearings_of, round_of};
@@ -19,14 +19,6 @@ pub(crate) fn has_moved(reply: TurnReply) -> bool
     }
 }
 
-/// Whether one of two turns moved anything.
-#[inline]
-pub(crate) fn either(first: bool, second: bool) -> bool
-    ensures { result ≡ (first || second) }
-{
-    first || second
-}
-
 impl<'a> World<'a> {
     /// Each shard of the persons bids and posts. Whether anything moved.
     fn bid_all(&mut self) -> bool
@@ -36,7 +28,7 @@ impl<'a> World<'a> {
         let mut moved = false;
         for shard in 0..self.shards() {
             let here = self.bid_and_post(shard);
-            moved = either(moved, here);
+            moved = moved | here;
         }
         moved
     }
@@ -49,7 +41,7 @@ impl<'a> World<'a> {
         let mut moved = false;
         for shard in 0..self.shards() {
             let here = self.take_and_post(shard);
-            moved = either(moved, here);
+            moved = moved | here;
         }
         moved
     }
@@ -62,7 +54,7 @@ impl<'a> World<'a> {
         let mut moved = false;
         for shard in 0..self.shards() {
             let take = has_moved(self.person_take(shard));
-            moved = either(moved, take);
+            moved = moved | take;
         }
         moved
     }
@@ -78,7 +70,7 @@ impl<'a> World<'a> {
         let answers = self.answer_all();
         let hearings = self.hear_all();
         let count = has_moved(self.hub_take());
-        either(either(either(bids, answers), hearings), count)
+        bids | answers | hearings | count
     }
 
     /// Takes rounds until the phase has ended, and tells how; None where a round moved nothing.

@@ -13,7 +13,7 @@ ghost use Rattle.auc_world.specs.Parts.{AreParts, MayAnswer, OwnsObject, SamePha
 ghost use Rattle.auc_world.specs.Rounds.{Plays};
 
 use crate::world::World;
-use crate::world::rounds::{either, has_moved};
+use crate::world::rounds::has_moved;
 use auc_letters::{Bid, Letter, Out, Why};
 use auc_model::{End, MailName, TurnReply};
 use auc_objects::Answers;
@@ -110,6 +110,6 @@ impl<'a> World<'a> {
         let takes = has_moved(self.object_take(shard));
         let first = has_moved(self.object_post(shard));
         let second = has_moved(self.object_post(shard));
-        either(takes, either(first, second))
+        takes | (first | second)
     }
 }

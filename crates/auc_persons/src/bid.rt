@@ -11,27 +11,13 @@ ghost use Rattle.auc_persons.specs.Priced.{KeptAt, IsScanOf, arcs_of};
 
 use crate::amount::amount_of;
 use crate::bidder::Bidder;
-use crate::method::{Method, SHORT};
+use crate::method::Method;
 use crate::person_row::PersonRow;
 use crate::priced_row::PricedRow;
-use crate::rising::scan_short;
 use crate::scan::Scan;
 use crate::search::scan_from;
 use auc_graph::Rows;
 use auc_letters::Bid;
-
-/// The best arc of a person, in one pass over his row; nothing where he has none.
-#[inline]
-fn best_of_row(own: PersonRow) -> Option<Scan>
-    ensures some { IfSome result (IsScanOf own.entry) }
-    ensures none { IfNone result (arcs_of own.entry ≡ []) }
-{
-    let row = PricedRow::of(own);
-    if row.arcs.len() <= SHORT {
-        return scan_short(row);
-    }
-    scan_from(row)
-}
 
 /// What a person bids, whose best arc is found.
 #[inline]
@@ -56,7 +42,7 @@ pub(crate) fn plain_bid(own: PersonRow, eps: i64) -> Option<Bid>
     ensures some { IfSome result (IsBidAt own.entry eps) }
     ensures none { IfNone result (arcs_of own.entry ≡ []) }
 {
-    let found = best_of_row(own)?;
+    let found = scan_from(PricedRow::of(own))?;
     Some(bid_on(own, eps, found))
 }
 
@@ -69,7 +55,7 @@ impl Bidder {
         ensures kept { KeptAt own.entry self.new }
     {
         match self.method(own) {
-            Method::Sorted | Method::Short => None,
+            Method::Short => None,
             Method::List => self.best_listed(own, place),
             Method::Blocks => self.best_blocked(own, place),
         }
@@ -92,7 +78,7 @@ impl Bidder {
         if found.is_some() {
             return found;
         }
-        best_of_row(own)
+        scan_from(PricedRow::of(own))
     }
 
     /// The same, for a search that is made in line.
@@ -117,7 +103,7 @@ impl Bidder {
         ensures none { IfNone result (arcs_of own.entry ≡ []) }
         ensures kept { KeptAt own.entry self.new }
     {
-        if let Method::Sorted = self.method(own) {
+        if let Method::Short = self.method(own) {
             let found = self.best_sorted(own);
             if found.is_some() {
                 return found;

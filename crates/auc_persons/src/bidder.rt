@@ -5,12 +5,10 @@ ghost use Rattle.auc_graph.specs.Table.{Table};
 ghost use Rattle.auc_persons.specs.Candidates.{Kept, Listed};
 ghost use Rattle.auc_persons.specs.declared.method.Method.{Method};
 ghost use Rattle.auc_persons.specs.Persons.{NeverFall};
-ghost use Rattle.auc_persons.specs.Look.{IsLook};
-ghost use Rattle.auc_persons.specs.Priced.{KeptAt, IsScanOf, arcs_of, value_to};
+ghost use Rattle.auc_persons.specs.Priced.{KeptAt, IsScanOf, arcs_of};
 
 use crate::amount::scaled;
 use crate::blocks::Blocks;
-use crate::look::Look;
 use crate::method::{Method, SHORT, has_row_above};
 use crate::person_row::PersonRow;
 use crate::priced_row::PricedRow;
@@ -26,7 +24,7 @@ const WANTED: i64 = 11;
 
 /// What the bids of a shard's persons are found by ([`Bidder::bid`], [`crate::PersonShard::next_bid_by`]): lists of candidates, one for each person, by
 /// which most bids of rows of more than 64 arcs look at a few arcs alone, and bounds of blocks for rows of more than 256; and of shorter rows that they
-/// rise, or copies that do, or their cheap arcs. All are of the rows that they were made for, and stay right as long as no copy of a price falls.
+/// rise, or copies that do. All are of the rows that they were made for, and stay right as long as no copy of a price falls.
 #[derive(Drop)]
 pub struct Bidder {
     lists: Vec<Shortlist>,
@@ -53,23 +51,23 @@ fn first_delta(rows: &Rows, person: u32) -> i64
     scaled(scale_of(rows.persons()), rows.cost_spread()) / (arcs + 1) * WANTED
 }
 
-/// What a person's list tells of his row. `place` is where the list stands, if anywhere.
+/// The best arc of a person, where his list tells it. `place` is where the list stands, if anywhere.
 // In line: docs/CODEGEN.md, "A person's row by value".
 #[inline(always)]
-fn scan_list(lists: &mut [Shortlist], own: PersonRow, place: u32) -> Look
+fn scan_list(lists: &mut [Shortlist], own: PersonRow, place: u32) -> Option<Scan>
     requires kept { KeptAt own lists.old }
-    ensures look { IsLook (value_to own.entry) (arcs_of own.entry) result }
+    ensures some { IfSome result (IsScanOf own.entry) }
     ensures kept { KeptAt own.entry lists.new }
     ensures length { length lists.new ≡ length lists.old }
 {
     let place = place as usize;
     if place >= lists.len() {
-        return Look::Nothing;
+        return None;
     }
     let row = PricedRow::of(own);
     let list = &mut lists[place];
     if list.person() != own.person {
-        return Look::Nothing;
+        return None;
     }
     list.scan(row)
 }
@@ -96,10 +94,8 @@ impl Bidder {
     /// Empty lists for the persons of shard number `shard` of `of`, none where no row has more than 64 arcs; and what is known of shorter rows.
     ///
     /// Takes O(persons + arcs) time, and where some row has more than 64 arcs, 312 bytes of memory for each person of the shard. Where some row
-    /// has more than 256 arcs, it takes 48 bytes more for each person, 8 to 16 for each 16 arcs of such a row, and 4 to 8 for each arc of such a row that
-    /// leads to all objects in order. Where some row of at most 64 arcs doesn't rise, it takes 16 bytes for each person, 12 for each arc of the shard's
-    /// rows of that length, and O(arcs of the row) time for each of these; where all rise and the costs of most have two levels, 24 bytes for each person,
-    /// and 12 to 24 for each cheap arc of the shard's.
+    /// has more than 256 arcs, it takes 16 bytes more for each person, and 8 to 16 for each 16 arcs of such a row. Where some row of at most 64 arcs
+    /// doesn't rise, it takes 16 bytes for each person, 12 for each arc of the shard's rows of that length, and O(arcs of the row) time for each of these.
     ///
     /// # Errors
     ///
@@ -124,15 +120,14 @@ impl Bidder {
         ensures { result ≡ Method.Blocks → 256 < length (arcs_of own.entry) }
     {
         let arcs = own.rows.row(own.person).len();
-        Method::of(arcs, self.short.knows(own.person))
+        Method::of(arcs)
     }
 
     /// The best arc of a person with a short row, by what is known of it.
     #[inline(always)]
-    pub(crate) fn best_sorted(&mut self, own: PersonRow) -> Option<Scan>
-        requires kept { KeptAt own self.old }
-        ensures some { IfSome result (IsScanOf own.entry) }
-        ensures same { self.new ≡ self.old }
+    pub(crate) fn best_sorted(&self, own: PersonRow) -> Option<Scan>
+        requires kept { KeptAt own self.now }
+        ensures { IfSome result (IsScanOf own.entry) }
     {
         self.short.best(own)
     }
@@ -144,11 +139,7 @@ impl Bidder {
         ensures some { IfSome result (IsScanOf own.entry) }
         ensures kept { KeptAt own.entry self.new }
     {
-        let lists = self.lists.as_mut_slice();
-        match scan_list(lists, own, place) {
-            Look::Best(scan) => Some(scan),
-            Look::Known(_) | Look::Nothing => None,
-        }
+        scan_list(self.lists.as_mut_slice(), own, place)
     }
 
     /// The best arc of a person with a long row: by his list where that tells it, and else by his blocks, which make the list of a very long row
@@ -161,15 +152,14 @@ impl Bidder {
         ensures kept { KeptAt own.entry self.new }
     {
         let lists = self.lists.as_mut_slice();
-        let known = match scan_list(lists, own, place) {
-            Look::Best(scan) => return Some(scan),
-            Look::Known(scan) => Some(scan),
-            Look::Nothing => None,
-        };
+        let found = scan_list(lists, own, place);
+        if found.is_some() {
+            return found;
+        }
         let Some(blocks) = &mut self.blocks else {
             return None;
         };
-        blocks.scan(own, place, known, lists)
+        blocks.scan(own, place, lists)
     }
 }
 

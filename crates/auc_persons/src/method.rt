@@ -1,5 +1,4 @@
-//! The ways to look a row over for a bid. The way is told once a bid, by the length of the person's own row, and by whether arcs of that row are known
-//! whose objects rise; all ways find the same arc.
+//! The ways to look a row over for a bid. The way is told by the length of the person's own row; all ways find the same arc.
 
 ghost use Rattle.std.specs.Prelude.{◌≡◌, ◌<◌};
 
@@ -22,10 +21,7 @@ pub(crate) const VERY_LONG: usize = 640;
 /// A way to look a row over.
 #[derive(Clone, Copy)]
 pub(crate) enum Method {
-    /// Short, and it rises, or there is a copy that does: one pass with no branch by values (`sorted_row`), over its cheap arcs alone
-    /// where these tell the bid (`cheap`). Rows in any order take 0.86 of the instructions by copies that they took by the next way (`shuffled 32`).
-    Sorted,
-    /// Short, and nothing is known of it: a pass with selects (`scan`).
+    /// Short: one pass with no branch by values over the row, if it rises, or over a copy that does (`sorted_row`).
     Short,
     /// At most 256 arcs: a list of candidates (`shortlist`); where that doesn't tell the bid, a pass over the row (`search`). 128 arcs take 0.83 of the
     /// instructions without lists (`uniform 128`), 501 arcs 0.64 (`share 10` of 5,000 persons).
@@ -35,9 +31,9 @@ pub(crate) enum Method {
 }
 
 impl Method {
-    /// The way for a row of so many arcs, of which rising ones may be known.
+    /// The way for a row of so many arcs.
     #[inline(always)]
-    pub(crate) fn of(arcs: usize, is_sorted: bool) -> Method
+    pub(crate) fn of(arcs: usize) -> Method
         ensures { result ≡ Method.Blocks → 256 < arcs }
     {
         if arcs > LONG {
@@ -46,11 +42,7 @@ impl Method {
         if arcs > SHORT {
             return Method::List;
         }
-        if is_sorted {
-            Method::Sorted
-        } else {
-            Method::Short
-        }
+        Method::Short
     }
 }
 

@@ -7,25 +7,25 @@ use Rattle.auc_persons.specs.Candidates.{KeepsListed}
 use Rattle.auc_persons.proofs.KeptBlocks.{behind, front}
 use Rattle.auc_persons.proofs.bidder.Bidder.best_blocked.Goals as goal
 
-pub scan_list-requires : goal.scan_list-requires
-scan_list-requires c =
+pub scan_list-found-requires : goal.scan_list-found-requires
+scan_list-found-requires c =
     let P = KeepsListed c.args.own.rows.now c.args.own.copies.now in
     let kept = All-same P (c.self.inside.lists.items ++ (or_none c.self.inside.blocks ++ c.self.inside.short)) c.args.self.now c.self.view_is c.requires.kept in
     record { kept = rw c.as_mut_slice-lists.ensures.value (front P c.self.inside.lists.items (or_none c.self.inside.blocks ++ c.self.inside.short) kept) }
 
-pub returns-in-Best-clause-kept : goal.returns-in-Best-clause-kept
-returns-in-Best-clause-kept c =
+pub returns-then-is_some-clause-kept : goal.returns-then-is_some-clause-kept
+returns-then-is_some-clause-kept c =
     let P = KeepsListed c.args.own.rows.now c.args.own.copies.now in
     let kept = All-same P (c.self.inside.lists.items ++ (or_none c.self.inside.blocks ++ c.self.inside.short)) c.args.self.now c.self.view_is c.requires.kept in
-    let len : length c.scan_list.new.lists ≡ c.self.inside.lists.len = omega (arith, c.scan_list.ensures.length, c.as_mut_slice-lists.ensures.len, ap length c.as_mut_slice-lists.ensures.value) in
-    rw (with_items_is c.self.inside.lists c.scan_list.new.lists len) (All-append P c.scan_list.new.lists (or_none c.self.inside.blocks ++ c.self.inside.short) c.scan_list.ensures.kept (behind P c.self.inside.lists.items (or_none c.self.inside.blocks ++ c.self.inside.short) kept))
+    let len : length c.scan_list-found.new.lists ≡ c.self.inside.lists.len = omega (arith, c.scan_list-found.ensures.length, c.as_mut_slice-lists.ensures.len, ap length c.as_mut_slice-lists.ensures.value) in
+    rw (with_items_is c.self.inside.lists c.scan_list-found.new.lists len) (All-append P c.scan_list-found.new.lists (or_none c.self.inside.blocks ++ c.self.inside.short) c.scan_list-found.ensures.kept (behind P c.self.inside.lists.items (or_none c.self.inside.blocks ++ c.self.inside.short) kept))
 
 pub returns-in_default-clause-kept : goal.returns-in_default-clause-kept
 returns-in_default-clause-kept c =
     let P = KeepsListed c.args.own.rows.now c.args.own.copies.now in
     let kept = All-same P (c.self.inside.lists.items ++ (or_none c.self.inside.blocks ++ c.self.inside.short)) c.args.self.now c.self.view_is c.requires.kept in
-    let len : length c.scan_list.new.lists ≡ c.self.inside.lists.len = omega (arith, c.scan_list.ensures.length, c.as_mut_slice-lists.ensures.len, ap length c.as_mut_slice-lists.ensures.value) in
-    rw (with_items_is c.self.inside.lists c.scan_list.new.lists len) (All-append P c.scan_list.new.lists (or_none c.self.inside.blocks ++ c.self.inside.short) c.scan_list.ensures.kept (behind P c.self.inside.lists.items (or_none c.self.inside.blocks ++ c.self.inside.short) kept))
+    let len : length c.scan_list-found.new.lists ≡ c.self.inside.lists.len = omega (arith, c.scan_list-found.ensures.length, c.as_mut_slice-lists.ensures.len, ap length c.as_mut_slice-lists.ensures.value) in
+    rw (with_items_is c.self.inside.lists c.scan_list-found.new.lists len) (All-append P c.scan_list-found.new.lists (or_none c.self.inside.blocks ++ c.self.inside.short) c.scan_list-found.ensures.kept (behind P c.self.inside.lists.items (or_none c.self.inside.blocks ++ c.self.inside.short) kept))
 
 pub scan-requires-clause-kept : goal.scan-requires-clause-kept
 scan-requires-clause-kept c =
@@ -38,5 +38,5 @@ returns-clause-kept c =
     let P = KeepsListed c.args.own.rows.now c.args.own.copies.now in
     let kept = All-same P (c.self.inside.lists.items ++ (or_none c.self.inside.blocks ++ c.self.inside.short)) c.args.self.now c.self.view_is c.requires.kept in
     let short = behind P (or_none c.self.inside.blocks) c.self.inside.short (behind P c.self.inside.lists.items (or_none c.self.inside.blocks ++ c.self.inside.short) kept) in
-    let len : length c.scan.new.lists ≡ c.self.inside.lists.len = omega (arith, c.scan.ensures.length, c.scan_list.ensures.length, c.as_mut_slice-lists.ensures.len, ap length c.as_mut_slice-lists.ensures.value) in
+    let len : length c.scan.new.lists ≡ c.self.inside.lists.len = omega (arith, c.scan.ensures.length, c.scan_list-found.ensures.length, c.as_mut_slice-lists.ensures.len, ap length c.as_mut_slice-lists.ensures.value) in
     rw (with_items_is c.self.inside.lists c.scan.new.lists len) (All-append P c.scan.new.lists (or_none (Some c.scan.new.self) ++ c.self.inside.short) c.scan.ensures.lists (All-append P (or_none (Some c.scan.new.self)) c.self.inside.short c.scan.ensures.kept short))

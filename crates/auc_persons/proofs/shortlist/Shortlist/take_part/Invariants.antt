@@ -1,7 +1,7 @@
 use Rattle.std.proofs.Common.{◌≡◌, ◌≤◌, ◌+◌, ◌*◌, take}
 use Rattle.auc_persons.specs.Priced.{value_in}
 use Rattle.auc_persons.specs.Candidates.{Gathered}
-use Rattle.auc_persons.proofs.shortlist.Shortlist.take_each.Given as goal
+use Rattle.auc_persons.proofs.shortlist.Shortlist.take_part.Given as goal
 
 abbrev pub invariant-loop-pair : goal.invariant-loop-pair
 invariant-loop-pair l = record {

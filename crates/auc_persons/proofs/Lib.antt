@@ -10,7 +10,7 @@ pub mod SkippedBlocks
 pub mod SameRows
 pub mod SortedScans
 pub mod SortingLaws
-pub mod ShortRows
+pub mod KnownRows
 pub mod Shortlists
 pub mod Amounts
 pub mod Bounds

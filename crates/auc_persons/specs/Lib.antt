@@ -5,5 +5,5 @@ pub mod Bid
 pub mod Search
 pub mod Candidates
 pub mod Blocks
-pub mod Short
+pub mod Sorted
 pub mod Persons

@@ -1,15 +1,10 @@
 -- Rows whose objects rise, and a pass over one.
-use Rattle.std.specs.Prelude.{◌≡◌, ◌<◌, ◌≤◌, ℕ, ℤ, ◌≤ℤ◌, ◌<ℤ◌, List, length, AllPairs}
+use Rattle.std.specs.Prelude.{◌≡◌, ◌<◌, ℤ, ◌≤ℤ◌, ◌<ℤ◌, List, AllPairs}
 use Rattle.auc_graph.specs.declared.rows.RowArc.{RowArc}
-use Rattle.auc_graph.specs.Table.{Table, row_of}
 use Rattle.auc_persons.specs.declared.rising.Nearest.{Nearest}
 
 abbrev pub IsRisingRow : List RowArc → Type 0
 IsRisingRow row = AllPairs (λ a b. a.object < b.object) row
-
--- each row of at most 64 arcs does
-abbrev pub AreRising : Table → Type 0
-AreRising t = (i : ℕ) → i < length t.rows → length (row_of t i) ≤ 64 → IsRisingRow (row_of t i)
 
 -- one arc more, by cases
 pub record Drawn (l : Nearest) (v : ℤ) (a : RowArc) (r : Nearest) : Type 0 where

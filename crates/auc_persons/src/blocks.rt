@@ -1,16 +1,17 @@
 //! The blocks of the long rows of a shard's persons.
 
 ghost use Rattle.std.specs.Prelude.{◌≡◌, ◌<◌, ◌*◌, List, ℕ, ℤ, length, IfOk, IfSome};
-ghost use Rattle.auc_persons.specs.Blocks.{AreAppended, or_none};
+ghost use Rattle.auc_persons.specs.Blocks.{AreAppended};
 ghost use Rattle.auc_persons.specs.Candidates.{Kept};
-ghost use Rattle.auc_persons.specs.Priced.{KeptAt, IsScanOf, arcs_of};
+ghost use Rattle.auc_persons.specs.Priced.{KeptAt, IsScanOf};
 
 use crate::bound::{BLOCK, Blocked, Bound, NO_BOUND};
 use crate::lists_by_blocks::scan_and_list;
-use crate::method::{LONG, has_row_above};
+use crate::lists::{has_list, lists_wanted};
 use crate::person_row::PersonRow;
 use crate::scan::Scan;
 use crate::shortlist::Shortlist;
+use crate::way::LONG;
 use auc_graph::Rows;
 use std::alloc::{AllocError, Global};
 use std::marker::Model;
@@ -63,23 +64,20 @@ fn append_bounds(person: u32, blocks: usize, bounds: &mut Vec<Bound>) -> Result<
 }
 
 impl Blocks {
-    /// Blocks for the persons of shard number `shard` of `of`, with no bounds yet; none where no row is long.
+    /// Blocks for the persons of shard number `shard` of `of` who have lists, with no bounds yet.
     pub(crate) fn make(
         alloc: Global,
         rows: &Rows,
         shard: u32,
         of: u32,
-    ) -> Result<Option<Blocks>, AllocError>
+    ) -> Result<Blocks, AllocError>
         requires { shard < of }
-        ensures kept { IfOk result (λ b. (copies : List ℤ) → Kept rows.now copies (or_none b)) }
+        ensures kept { IfOk result (λ b. (copies : List ℤ) → Kept rows.now copies b) }
     {
-        if !has_row_above(rows, LONG) {
-            return Ok(None);
-        }
-        let mut persons = Vec::with_capacity(alloc, (rows.persons() / of) as usize + 1)?;
+        let mut persons = Vec::with_capacity(alloc, lists_wanted(rows, shard, of))?;
         let mut bounds = Vec::new(alloc);
         for person in 0..rows.persons() {
-            if person % of == shard {
+            if has_list(rows, person, shard, of) {
                 let row = rows.row(person);
                 persons.push(Blocked {
                     person,
@@ -89,22 +87,20 @@ impl Blocks {
                 append_bounds(person, blocks_of(row.len()), &mut bounds)?;
             }
         }
-        Ok(Some(Blocks {
+        Ok(Blocks {
             made: Snapshot::of(rows),
             persons,
             bounds,
-        }))
+        })
     }
 
-    /// The best arc of a person who has blocks; they make the list of a very long row anew. `place` is where he stands among the persons of the
-    /// shard.
+    /// The best arc of a person, if he has blocks; they make the list of a very long row anew. `place` is the number of his list.
     pub(crate) fn scan(
         &mut self,
         own: PersonRow,
         place: u32,
         lists: &mut [Shortlist],
     ) -> Option<Scan>
-        requires long { 256 < length (arcs_of own) }
         requires kept { KeptAt own self.old }
         requires lists { KeptAt own lists.old }
         ensures some { IfSome result (IsScanOf own.entry) }
@@ -118,7 +114,7 @@ impl Blocks {
         }
         let blocked = self.persons[place];
         let arcs = own.rows.row(own.person).len();
-        if blocked.person != own.person || blocked.arcs as usize != arcs {
+        if blocked.person != own.person || blocked.arcs as usize != arcs || arcs <= LONG {
             return None;
         }
         let list = &mut lists[place];

@@ -13,11 +13,11 @@ ghost use Rattle.auc_persons.specs.Priced.{IsScanOf, arcs_of, value_in, value_to
 use crate::bound::{BLOCK, Blocked, Bound};
 use crate::bounded::{lesser, next_within, scan_blocks};
 use crate::least::least_of;
-use crate::method::VERY_LONG;
 use crate::person_row::PersonRow;
 use crate::priced_row::PricedRow;
 use crate::scan::Scan;
 use crate::shortlist::Shortlist;
+use crate::way::VERY_LONG;
 use auc_graph::Rows;
 use std::snapshot::Snapshot;
 

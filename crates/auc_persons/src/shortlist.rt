@@ -12,12 +12,12 @@ ghost use Rattle.auc_persons.specs.Rising.{IsRisingRow};
 
 mod making;
 
-use crate::method::VERY_LONG;
 use crate::priced_row::PricedRow;
 use crate::scan::Scan;
 use crate::search::scan_from;
 use crate::shortlist::making::delta_within;
 use crate::sorted_row::SortedRow;
+use crate::way::VERY_LONG;
 use auc_graph::RowArc;
 use std::marker::Model;
 

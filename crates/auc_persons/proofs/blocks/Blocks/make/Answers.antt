@@ -7,7 +7,7 @@ use Rattle.auc_persons.proofs.BlockNumbers.{all_numbered_before, numbered_new, u
 use Rattle.auc_persons.proofs.SameRows.{Rises}
 use Rattle.auc_persons.proofs.KeptBlocks.{kept_of, own_new, unknown_are}
 use Rattle.auc_persons.proofs.blocks.Blocks.make.Goals as goal
-use Rattle.auc_persons.proofs.blocks.Blocks.make.Goals.{then-person-of+in_ok-push+in_ok-append_bounds, else-person-of}
+use Rattle.auc_persons.proofs.blocks.Blocks.make.Goals.{then-has_list+in_ok-push+in_ok-append_bounds, else-has_list}
 
 pub returns : goal.returns
 returns c =
@@ -22,8 +22,8 @@ loop-person-preserved c =
     let inv = c.loop-person.invariant in
     let before = c.loop-person.bounds.items in
     let persons = c.loop-person.persons.items in
-    elim c.if-person-of.branch [
-      | then-person-of+in_ok-push+in_ok-append_bounds w ↦ (
+    elim c.if-has_list.branch [
+      | then-has_list+in_ok-push+in_ok-append_bounds w ↦ (
           let t = c.args.rows.now in
           let person = c.loop-person.person in
           let blocks = w.blocks_of.result in
@@ -39,5 +39,5 @@ loop-person-preserved c =
             unknown = unknown_before before after person blocks more inv.unknown;
           })
           )
-      | else-person-of w ↦ rw (w.persons-is, w.bounds-is) inv
+      | else-has_list w ↦ rw (w.persons-is, w.bounds-is) inv
     ]

@@ -2,7 +2,7 @@ use Rattle.std.proofs.Common.{get_or, ◌<◌, length, arith}
 use Rattle.std.proofs.lemmas.List.Elements.{All-get_or, All-set}
 use Rattle.auc_persons.specs.Candidates.{KeepsListed}
 use Rattle.auc_persons.proofs.Shortlists.{keeps_at, keeps_back}
-use Rattle.auc_persons.proofs.bidder.scan_list.Goals as goal
+use Rattle.auc_persons.proofs.lists.scan_list.Goals as goal
 
 pub returns-then-person-own-clause-kept : goal.returns-then-person-own-clause-kept
 returns-then-person-own-clause-kept c =

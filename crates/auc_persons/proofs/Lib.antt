@@ -6,13 +6,11 @@ pub mod Parts
 pub mod KeptBlocks
 pub mod BlockBounds
 pub mod BlockNumbers
-pub mod DenseRows
 pub mod SkippedBlocks
 pub mod SameRows
 pub mod SortedScans
 pub mod SortingLaws
-pub mod ShortRows
-pub mod CheapRows
+pub mod KnownRows
 pub mod Shortlists
 pub mod Amounts
 pub mod Bounds

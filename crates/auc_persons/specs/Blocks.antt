@@ -1,5 +1,5 @@
 -- Blocks of long rows: what a bound says of the arcs of a row that stand in a block, in the words of lists of candidates.
-use Rattle.std.specs.Prelude.{◌≡◌, ◌<◌, ◌≤◌, ◌*◌, ◌+◌, ◌++◌, ◌≤ℤ◌, ℕ, ℤ, pos, int_lt, cond, List, [], length, take, drop, All, Option, Some, None, slice_index_or}
+use Rattle.std.specs.Prelude.{◌≡◌, ◌<◌, ◌≤◌, ◌*◌, ◌+◌, ◌++◌, ◌≤ℤ◌, ℕ, ℤ, pos, int_lt, cond, List, [], length, take, drop, All, slice_index_or}
 use Rattle.auc_graph.specs.declared.rows.RowArc.{RowArc}
 use Rattle.auc_graph.specs.Table.{Table, row_of}
 use Rattle.auc_persons.specs.declared.bound.TheConstants.{NO_BOUND}
@@ -49,11 +49,6 @@ AreRight made t copies bounds = All (λ b. KeepsListed t copies (of_bound made b
 -- how long the row of a person is
 abbrev pub HasArcs : Table → Blocked → Type 0
 HasArcs t b = length (row_of t b.person) ≡ b.arcs
-
--- no blocks, or these
-abbrev pub or_none : Option (List Listed) → List Listed
-or_none None = []
-or_none (Some lists) = lists
 
 -- the arcs of a row from this place to that are at this value or above
 abbrev pub Above : (RowArc → ℤ) → List RowArc → ℕ → ℕ → ℤ → Type 0

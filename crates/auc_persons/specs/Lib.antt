@@ -5,8 +5,5 @@ pub mod Bid
 pub mod Search
 pub mod Candidates
 pub mod Blocks
-pub mod Dense
-pub mod Look
-pub mod Short
-pub mod Cheap
+pub mod Sorted
 pub mod Persons

@@ -1,24 +1,12 @@
 -- Rows whose objects rise, and a pass over one.
-use Rattle.std.specs.Prelude.{◌≡◌, ◌<◌, ◌≤◌, ℕ, ℤ, ◌≤ℤ◌, ◌<ℤ◌, List, length, AllPairs}
+use Rattle.std.specs.Prelude.{◌≡◌, ◌<◌, ℤ, ◌≤ℤ◌, ◌<ℤ◌, List, AllPairs}
 use Rattle.auc_graph.specs.declared.rows.RowArc.{RowArc}
-use Rattle.auc_graph.specs.Table.{Table, row_of}
-use Rattle.auc_persons.specs.declared.rising.Least.{Least}
 use Rattle.auc_persons.specs.declared.rising.Nearest.{Nearest}
 
 abbrev pub IsRisingRow : List RowArc → Type 0
 IsRisingRow row = AllPairs (λ a b. a.object < b.object) row
 
--- each row of at most 64 arcs does
-abbrev pub AreRising : Table → Type 0
-AreRising t = (i : ℕ) → i < length t.rows → length (row_of t i) ≤ 64 → IsRisingRow (row_of t i)
-
--- one value more, by cases
-pub record Lowered (l : Least) (v : ℤ) (place : ℕ) (r : Least) : Type 0 where
-  pub wins : v <ℤ l.value → r ≡ record { value = v; second = l.value; place = place }
-  pub next : l.value ≤ℤ v → v <ℤ l.second → r ≡ record { value = l.value; second = v; place = l.place }
-  pub stays : l.value ≤ℤ v → l.second ≤ℤ v → r ≡ l
-
--- one arc more, by cases, where the best arc itself is kept
+-- one arc more, by cases
 pub record Drawn (l : Nearest) (v : ℤ) (a : RowArc) (r : Nearest) : Type 0 where
   pub wins : v <ℤ l.value → (r.value ≡ v) × ((r.second ≡ l.value) × (r.best.now ≡ a))
   pub next : l.value ≤ℤ v → v <ℤ l.second → (r.value ≡ l.value) × ((r.second ≡ v) × (r.best.now ≡ l.best.now))

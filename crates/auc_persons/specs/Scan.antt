@@ -1,5 +1,5 @@
 -- One pass over a row.
-use Rattle.std.specs.Prelude.{◌≡◌, ◌≢◌, ℕ, ◌+◌, ◌-◌, ◌^◌, ◌<◌, ◌≤◌, ◌⊎◌, Bool, true, false, ℤ, pos, neg_ℤ, ◌≤ℤ◌, ◌<ℤ◌, List, Contains, All, slice_index_or}
+use Rattle.std.specs.Prelude.{◌≡◌, ◌≢◌, ℕ, ◌+◌, ◌-◌, ◌^◌, ◌<◌, ◌≤◌, ◌⊎◌, ℤ, pos, neg_ℤ, ◌≤ℤ◌, ◌<ℤ◌, List, Contains, All, slice_index_or}
 use Rattle.auc_graph.specs.declared.rows.RowArc.{RowArc}
 use Rattle.auc_persons.specs.declared.scan.Scan.{Scan}
 
@@ -37,26 +37,3 @@ Beats a v f = (v <ℤ f.value) ⊎ ((v ≡ f.value) × (a.object < f.best.object
 
 abbrev pub Loses : RowArc → ℤ → Scan → Type 0
 Loses a v f = (f.value <ℤ v) ⊎ ((v ≡ f.value) × (f.best.object ≤ a.object))
-
--- what a test of this says
-abbrev pub Judged : Bool → RowArc → ℤ → Scan → Type 0
-Judged true a v f = Beats a v f
-Judged false a v f = Loses a v f
-
--- the first of two where this is true, and else the second
-abbrev pub Chosen : {X : Type 0} → Bool → X → X → X → Type 0
-Chosen true x y r = r ≡ x
-Chosen false x y r = r ≡ y
-
--- the least value of arcs to others, with an arc to another that is better or isn't
-abbrev pub Passed : Bool → ℤ → Scan → ℤ → Type 0
-Passed true v f r = r ≡ f.value
-Passed false v f r = (v <ℤ f.second → r ≡ v) × (f.second ≤ℤ v → r ≡ f.second)
-
--- one arc more, by cases
-pub record Joined (f : Scan) (a : RowArc) (v : ℤ) (r : Scan) : Type 0 where
-  pub same_wins : a.object ≡ f.best.object → v <ℤ f.value → r ≡ record { value = v; second = f.second; best = a }
-  pub same_loses : a.object ≡ f.best.object → f.value ≤ℤ v → r ≡ f
-  pub other_wins : a.object ≢ f.best.object → Beats a v f → r ≡ record { value = v; second = f.value; best = a }
-  pub other_next : a.object ≢ f.best.object → Loses a v f → v <ℤ f.second → r ≡ record { value = f.value; second = v; best = f.best }
-  pub other_loses : a.object ≢ f.best.object → Loses a v f → f.second ≤ℤ v → r ≡ f

@@ -1,105 +1,54 @@
-//! What a shard's bids are found by: lists of candidates, blocks, and what is known of short rows.
+//! What a shard's bids are found by: the way for each row, lists of candidates and blocks.
 
-ghost use Rattle.std.specs.Prelude.{◌≡◌, ◌<◌, List, ℤ, length, IfOk, IfSome};
-ghost use Rattle.auc_graph.specs.Table.{Table};
+ghost use Rattle.std.specs.Prelude.{◌≡◌, ◌<◌, List, ℤ, [], length, All, IfOk, IfSome, IfNone};
+ghost use Rattle.auc_graph.specs.Price.{IsPrice};
+ghost use Rattle.auc_graph.specs.Table.{Table, row_of};
+ghost use Rattle.auc_letters.specs.Price.{IsEps};
+ghost use Rattle.auc_persons.specs.Bid.{IsBidAt, IsBidOf};
 ghost use Rattle.auc_persons.specs.Candidates.{Kept, Listed};
-ghost use Rattle.auc_persons.specs.declared.method.Method.{Method};
 ghost use Rattle.auc_persons.specs.Persons.{NeverFall};
-ghost use Rattle.auc_persons.specs.Look.{IsLook};
-ghost use Rattle.auc_persons.specs.Priced.{KeptAt, IsScanOf, arcs_of, value_to};
+ghost use Rattle.auc_persons.specs.Priced.{KeptAt, IsScanOf, arcs_of};
 
-use crate::amount::scaled;
+use crate::bid::bid_on;
 use crate::blocks::Blocks;
-use crate::look::Look;
-use crate::method::{Method, SHORT, has_row_above};
+use crate::lists::{lists_of, scan_list};
 use crate::person_row::PersonRow;
 use crate::priced_row::PricedRow;
-use crate::scan::{Scan, scale_of};
-use crate::short::ShortRows;
+use crate::scan::Scan;
+use crate::search::scan_from;
 use crate::shortlist::Shortlist;
+use crate::ways::Ways;
 use auc_graph::Rows;
+use auc_letters::Bid;
 use std::alloc::{AllocError, Global};
 use std::marker::Model;
 
-/// How many arcs a list is to hold.
-const WANTED: i64 = 11;
-
-/// What the bids of a shard's persons are found by ([`Bidder::bid`], [`crate::PersonShard::next_bid_by`]): lists of candidates, one for each person, by
-/// which most bids of rows of more than 64 arcs look at a few arcs alone, and bounds of blocks for rows of more than 256; and of shorter rows that they
-/// rise, or copies that do, or their cheap arcs. All are of the rows that they were made for, and stay right as long as no copy of a price falls.
+/// What the bids of a shard's persons are found by ([`Bidder::bid`], [`crate::PersonShard::next_bid_by`]): the way for each row, which is told by that
+/// row alone. For rows of more than 64 arcs there are lists of candidates, by which most bids look at a few arcs alone, and for those of more than 256
+/// bounds of blocks; for shorter ones that don't rise, copies that do. All are of the rows that they were made for, and stay right as long as no copy of a
+/// price falls.
 #[derive(Drop)]
 pub struct Bidder {
+    ways: Ways,
     lists: Vec<Shortlist>,
-    short: ShortRows,
-    // Where some row is long enough for blocks.
-    blocks: Option<Blocks>,
+    blocks: Blocks,
 }
 
 impl Model for Bidder {
     ghost use Rattle.std.specs.Prelude.{List, ◌++◌};
-    ghost use Rattle.auc_persons.specs.Blocks.{or_none};
     ghost use Rattle.auc_persons.specs.Candidates.{Listed};
 
     ghost Value = { List Listed };
 
-    ghost view = { λ c. c.lists.items ++ (or_none c.blocks ++ c.short) };
-}
-
-/// How far above the second the first bound of a person is to lie.
-fn first_delta(rows: &Rows, person: u32) -> i64
-    requires { person < length rows.now.rows }
-{
-    let arcs = rows.row(person).len() as i64;
-    scaled(scale_of(rows.persons()), rows.cost_spread()) / (arcs + 1) * WANTED
-}
-
-/// What a person's list tells of his row. `place` is where the list stands, if anywhere.
-// In line: docs/CODEGEN.md, "A person's row by value".
-#[inline(always)]
-fn scan_list(lists: &mut [Shortlist], own: PersonRow, place: u32) -> Look
-    requires kept { KeptAt own lists.old }
-    ensures look { IsLook (value_to own.entry) (arcs_of own.entry) result }
-    ensures kept { KeptAt own.entry lists.new }
-    ensures length { length lists.new ≡ length lists.old }
-{
-    let place = place as usize;
-    if place >= lists.len() {
-        return Look::Nothing;
-    }
-    let row = PricedRow::of(own);
-    let list = &mut lists[place];
-    if list.person() != own.person {
-        return Look::Nothing;
-    }
-    list.scan(row)
-}
-
-/// Empty lists for the persons of shard number `shard` of `of`; none where no row is long.
-fn lists_of(alloc: Global, rows: &Rows, shard: u32, of: u32) -> Result<Vec<Shortlist>, AllocError>
-    requires { shard < of }
-    ensures kept { IfOk result (λ v. (copies : List ℤ) → Kept rows.now copies v.items) }
-{
-    if !has_row_above(rows, SHORT) {
-        return Ok(Vec::new(alloc));
-    }
-    let persons = rows.persons();
-    let mut lists = Vec::with_capacity(alloc, (persons / of) as usize + 1)?;
-    for person in 0..persons {
-        if person % of == shard {
-            lists.push(Shortlist::new(person, first_delta(rows, person)))?;
-        }
-    }
-    Ok(lists)
+    ghost view = { λ c. c.lists.items ++ (c.blocks ++ c.ways) };
 }
 
 impl Bidder {
-    /// Empty lists for the persons of shard number `shard` of `of`, none where no row has more than 64 arcs; and what is known of shorter rows.
+    /// The ways for the persons of shard number `shard` of `of`, and empty lists for those with more than 64 arcs.
     ///
-    /// Takes O(persons + arcs) time, and where some row has more than 64 arcs, 312 bytes of memory for each person of the shard. Where some row
-    /// has more than 256 arcs, it takes 48 bytes more for each person, 8 to 16 for each 16 arcs of such a row, and 4 to 8 for each arc of such a row that
-    /// leads to all objects in order. Where some row of at most 64 arcs doesn't rise, it takes 16 bytes for each person, 12 for each arc of the shard's
-    /// rows of that length, and O(arcs of the row) time for each of these; where all rise and the costs of most have two levels, 24 bytes for each person,
-    /// and 12 to 24 for each cheap arc of the shard's.
+    /// Takes O(persons + arcs) time, and 8 bytes of memory for each person of all. For each of the shard's with more than 64 arcs it takes 328 bytes, and
+    /// with more than 256 arcs 8 to 16 more for each 16 arcs. For each of the shard's with at most 64 arcs that don't rise it takes 12 to 24 bytes for
+    /// each arc, and O(arcs of the row * log) time, or O(arcs^2) where some lead to one object.
     ///
     /// # Errors
     ///
@@ -110,66 +59,112 @@ impl Bidder {
     {
         let lists = lists_of(alloc, rows, shard, of)?;
         let blocks = Blocks::make(alloc, rows, shard, of)?;
-        let short = ShortRows::make(alloc, rows, shard, of)?;
+        let ways = Ways::make(alloc, rows, shard, of)?;
         Ok(Bidder {
+            ways,
             lists,
-            short,
             blocks,
         })
     }
 
-    /// The way to look the row of a person over.
-    #[inline(always)]
-    pub(crate) fn method(&self, own: PersonRow) -> Method
-        ensures { result ≡ Method.Blocks → 256 < length (arcs_of own.entry) }
-    {
-        let arcs = own.rows.row(own.person).len();
-        Method::of(arcs, self.short.knows(own.person))
-    }
-
-    /// The best arc of a person with a short row, by what is known of it.
-    #[inline(always)]
-    pub(crate) fn best_sorted(&mut self, own: PersonRow) -> Option<Scan>
-        requires kept { KeptAt own self.old }
-        ensures some { IfSome result (IsScanOf own.entry) }
-        ensures same { self.new ≡ self.old }
-    {
-        self.short.best(own)
-    }
-
-    /// The best arc of a person, where his list tells it. `place` is where the list stands, if anywhere.
+    /// The best arc of a person with a long row, where his list, which has this number, or his blocks tell it.
     #[inline]
-    pub(crate) fn best_listed(&mut self, own: PersonRow, place: u32) -> Option<Scan>
+    fn best_long(&mut self, own: PersonRow, place: u32) -> Option<Scan>
         requires kept { KeptAt own self.old }
         ensures some { IfSome result (IsScanOf own.entry) }
         ensures kept { KeptAt own.entry self.new }
     {
         let lists = self.lists.as_mut_slice();
-        match scan_list(lists, own, place) {
-            Look::Best(scan) => Some(scan),
-            Look::Known(_) | Look::Nothing => None,
+        let found = scan_list(lists, own, place);
+        if found.is_some() {
+            return found;
         }
+        self.blocks.scan(own, place, lists)
     }
 
-    /// The best arc of a person with a long row: by his list where that tells it, and else by his blocks, which make the list of a very long row
-    /// anew. `place` is where these stand, if anywhere.
-    #[inline]
-    pub(crate) fn best_blocked(&mut self, own: PersonRow, place: u32) -> Option<Scan>
-        requires long { 256 < length (arcs_of own) }
+    /// The best arc of a person: by his list or his blocks where these tell it, and else by a pass over his row; nothing where he has none.
+    // Apart: docs/CODEGEN.md, "A search in line".
+    #[inline(never)]
+    fn best_apart(&mut self, own: PersonRow) -> Option<Scan>
         requires kept { KeptAt own self.old }
         ensures some { IfSome result (IsScanOf own.entry) }
+        ensures none { IfNone result (arcs_of own.entry ≡ []) }
         ensures kept { KeptAt own.entry self.new }
     {
-        let lists = self.lists.as_mut_slice();
-        let known = match scan_list(lists, own, place) {
-            Look::Best(scan) => return Some(scan),
-            Look::Known(scan) => Some(scan),
-            Look::Nothing => None,
+        if let Some(place) = self.ways.place(own.person) {
+            let found = self.best_long(own, place);
+            if found.is_some() {
+                return found;
+            }
+        }
+        scan_from(PricedRow::of(own))
+    }
+
+    /// The same, for a search that is made in line.
+    // A function by itself: docs/CODEGEN.md, "The memory of a seldom answer".
+    #[inline(always)]
+    fn best_seldom(&mut self, own: PersonRow) -> Option<Scan>
+        requires kept { KeptAt own self.old }
+        ensures some { IfSome result (IsScanOf own.entry) }
+        ensures none { IfNone result (arcs_of own.entry ≡ []) }
+        ensures kept { KeptAt own.entry self.new }
+    {
+        self.best_apart(own)
+    }
+
+    /// The best arc of a person, by the way for his row; nothing where he has none.
+    #[inline(always)]
+    fn best(&mut self, own: PersonRow) -> Option<Scan>
+        requires kept { KeptAt own self.old }
+        ensures some { IfSome result (IsScanOf own.entry) }
+        ensures none { IfNone result (arcs_of own.entry ≡ []) }
+        ensures kept { KeptAt own.entry self.new }
+    {
+        let found = self.ways.best(own);
+        if found.is_some() {
+            return found;
+        }
+        self.best_seldom(own)
+    }
+
+    /// What a person bids at these copies of the prices; None where he has no arc.
+    #[inline(always)]
+    pub(crate) fn bid_by(&mut self, own: PersonRow, eps: i64) -> Option<Bid>
+        requires eps { IsEps eps }
+        requires kept { KeptAt own self.old }
+        ensures some { IfSome result (IsBidAt own.entry eps) }
+        ensures none { IfNone result (arcs_of own.entry ≡ []) }
+        ensures kept { KeptAt own.entry self.new }
+    {
+        let found = self.best(own)?;
+        Some(bid_on(own, eps, found))
+    }
+
+    /// What a person bids at these copies of the prices; None where he has no arc. The amount may be above the greatest price.
+    ///
+    /// `copies` are indexed by object, and no copy has fallen since this was made; `eps` is in scaled costs, as the copies are. A person of another shard
+    /// than this was made for bids the same, found more slowly.
+    ///
+    /// Takes a pass over a short row, or for most bids of a longer one over a short list, and else a pass over the row, of which one of more
+    /// than 256 arcs is looked at in part; no memory.
+    // In line, so that what is found stays in registers.
+    #[inline(always)]
+    pub fn bid(&mut self, rows: &Rows, eps: i64, person: u32, copies: &[i64]) -> Option<Bid>
+        requires person { person < length rows.now.rows }
+        requires objects { rows.now.objects ≡ length copies.now }
+        requires copies { All IsPrice copies.now }
+        requires eps { IsEps eps }
+        requires kept { Kept rows.now copies.now self.old }
+        ensures some { IfSome result (IsBidOf rows.now eps copies.now person) }
+        ensures none { IfNone result (row_of rows.now person ≡ []) }
+        ensures kept { Kept rows.now copies.now self.new }
+    {
+        let own = PersonRow {
+            rows,
+            person,
+            copies,
         };
-        let Some(blocks) = &mut self.blocks else {
-            return None;
-        };
-        blocks.scan(own, place, known, lists)
+        self.bid_by(own, eps)
     }
 }
 

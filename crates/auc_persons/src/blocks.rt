@@ -1,47 +1,41 @@
 //! The blocks of the long rows of a shard's persons.
 
-ghost use Rattle.std.specs.Prelude.{◌≡◌, ◌<◌, ◌≤◌, ◌*◌, List, ℕ, ℤ, length, IfOk, IfSome};
-ghost use Rattle.auc_persons.specs.Blocks.{AreAppended, or_none};
+ghost use Rattle.std.specs.Prelude.{◌≡◌, ◌<◌, ◌*◌, List, ℕ, ℤ, length, IfOk, IfSome};
+ghost use Rattle.auc_persons.specs.Blocks.{AreAppended};
 ghost use Rattle.auc_persons.specs.Candidates.{Kept};
-ghost use Rattle.auc_persons.specs.Priced.{KeptAt, IsScanOf, arcs_of, value_to};
-ghost use Rattle.auc_persons.specs.Search.{IsFound};
+ghost use Rattle.auc_persons.specs.Priced.{KeptAt, IsScanOf};
 
 use crate::bound::{BLOCK, Blocked, Bound, NO_BOUND};
-use crate::costs::append_costs;
 use crate::lists_by_blocks::scan_and_list;
-use crate::method::{LONG, has_row_above};
+use crate::lists::{has_list, lists_wanted};
 use crate::person_row::PersonRow;
 use crate::scan::Scan;
-use crate::search::Hint;
-use crate::short::Part;
 use crate::shortlist::Shortlist;
+use crate::way::LONG;
 use auc_graph::Rows;
 use std::alloc::{AllocError, Global};
 use std::marker::Model;
 use std::snapshot::Snapshot;
 
-/// A bound for each 16 arcs of the long rows, and the costs alone of those long rows that lead to all objects in order. They are of the rows that they
-/// were made for, and stay right as long as no copy falls.
+/// A bound for each 16 arcs of the long rows. They are of the rows that they were made for, and stay right as long as no copy falls.
 #[derive(Drop)]
 pub(crate) struct Blocks {
     // The rows that they were made for. It has no bytes.
     made: Snapshot<Rows>,
     persons: Vec<Blocked>,
     bounds: Vec<Bound>,
-    costs: Vec<i32>,
 }
 
 impl Model for Blocks {
     ghost use Rattle.std.specs.Prelude.{List, All, map, ◌++◌};
     ghost use Rattle.auc_persons.specs.Blocks.{AreNumbered, HasArcs, of_blocked, of_bound};
     ghost use Rattle.auc_persons.specs.Candidates.{Listed};
-    ghost use Rattle.auc_persons.specs.Dense.{HasCosts};
 
     ghost Value = { List Listed };
 
     ghost view = { λ b. map (of_blocked b.made.value) b.persons.items ++ map (of_bound b.made.value) b.bounds.items };
 
-    ghost invariant = { λ b. All (HasArcs b.made.value) b.persons.items × (All (AreNumbered b.bounds.items) b.persons.items × All (HasCosts b.made.value b.costs.items) b.persons.items) };
+    ghost invariant = { λ b. All (HasArcs b.made.value) b.persons.items × All (AreNumbered b.bounds.items) b.persons.items };
 }
 
 /// How many blocks a row of so many arcs has.
@@ -70,61 +64,44 @@ fn append_bounds(person: u32, blocks: usize, bounds: &mut Vec<Bound>) -> Result<
 }
 
 impl Blocks {
-    /// Blocks for the persons of shard number `shard` of `of`, with no bounds yet; none where no row is long.
+    /// Blocks for the persons of shard number `shard` of `of` who have lists, with no bounds yet.
     pub(crate) fn make(
         alloc: Global,
         rows: &Rows,
         shard: u32,
         of: u32,
-    ) -> Result<Option<Blocks>, AllocError>
+    ) -> Result<Blocks, AllocError>
         requires { shard < of }
-        ensures kept { IfOk result (λ b. (copies : List ℤ) → Kept rows.now copies (or_none b)) }
+        ensures kept { IfOk result (λ b. (copies : List ℤ) → Kept rows.now copies b) }
     {
-        if !has_row_above(rows, LONG) {
-            return Ok(None);
-        }
-        let mut persons = Vec::with_capacity(alloc, (rows.persons() / of) as usize + 1)?;
+        let mut persons = Vec::with_capacity(alloc, lists_wanted(rows, shard, of))?;
         let mut bounds = Vec::new(alloc);
-        let mut costs = Vec::new(alloc);
         for person in 0..rows.persons() {
-            if person % of == shard {
+            if has_list(rows, person, shard, of) {
                 let row = rows.row(person);
-                let start = costs.len();
-                let first = append_costs(row, &mut costs)?;
                 persons.push(Blocked {
                     person,
                     arcs: row.len() as u32,
                     start: bounds.len(),
-                    hint: Hint::NONE,
-                    costs: Part {
-                        start,
-                        end: costs.len(),
-                    },
-                    first,
                 })?;
                 append_bounds(person, blocks_of(row.len()), &mut bounds)?;
             }
         }
-        Ok(Some(Blocks {
+        Ok(Blocks {
             made: Snapshot::of(rows),
             persons,
             bounds,
-            costs,
-        }))
+        })
     }
 
-    /// The best arc of a person who has blocks; they make the list of a very long row anew, where one is wanted. `place` is where he
-    /// stands among the persons of the shard; `known` is what a pass over some of his arcs has found.
+    /// The best arc of a person, if he has blocks; they make the list of a very long row anew. `place` is the number of his list.
     pub(crate) fn scan(
         &mut self,
         own: PersonRow,
         place: u32,
-        known: Option<Scan>,
         lists: &mut [Shortlist],
     ) -> Option<Scan>
-        requires long { 256 < length (arcs_of own) }
         requires kept { KeptAt own self.old }
-        requires known { IfSome known (IsFound (value_to own) (arcs_of own)) }
         requires lists { KeptAt own lists.old }
         ensures some { IfSome result (IsScanOf own.entry) }
         ensures kept { KeptAt own.entry self.new }
@@ -137,27 +114,13 @@ impl Blocks {
         }
         let blocked = self.persons[place];
         let arcs = own.rows.row(own.person).len();
-        if blocked.person != own.person || blocked.arcs as usize != arcs {
+        if blocked.person != own.person || blocked.arcs as usize != arcs || arcs <= LONG {
             return None;
         }
         let list = &mut lists[place];
         if list.person() != own.person {
             return None;
         }
-        let Part { start, end } = blocked.costs;
-        let search = scan_and_list(
-            own,
-            &self.made,
-            blocked,
-            &self.costs[start..end],
-            known,
-            self.bounds.as_mut_slice(),
-            list,
-        )?;
-        self.persons[place] = Blocked {
-            hint: search.hint,
-            ..blocked
-        };
-        Some(search.scan)
+        scan_and_list(own, &self.made, blocked, self.bounds.as_mut_slice(), list)
     }
 }

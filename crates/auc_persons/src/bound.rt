@@ -1,7 +1,5 @@
 //! A bound of the values of some arcs of a long row, and what is kept of a person who has such a row.
 
-use crate::search::Hint;
-use crate::short::Part;
 use std::snapshot::Snapshot;
 
 /// How many arcs a block has; the last one of a row may have fewer.
@@ -18,14 +16,10 @@ pub(crate) struct Bound {
     pub block: Snapshot<usize>,
 }
 
-/// A person, how many arcs he has, where the bounds of his blocks begin, and the arcs that decided his last bid; and which part of the costs are his
-/// own, if they are kept, and where the first of his arcs stands in the problem's list.
+/// A person, how many arcs he has, and where the bounds of his blocks begin.
 #[derive(Clone, Copy)]
 pub(crate) struct Blocked {
     pub person: u32,
     pub arcs: u32,
     pub start: usize,
-    pub hint: Hint,
-    pub costs: Part,
-    pub first: u32,
 }

@@ -5,16 +5,15 @@ ghost use Rattle.std.specs.List.{AllWithin};
 ghost use Rattle.auc_graph.specs.Table.{row_of};
 ghost use Rattle.auc_graph.specs.declared.rows.RowArc.{RowArc};
 ghost use Rattle.auc_persons.specs.Blocks.{Above, AreNumbered, AreOfSame, AreRight};
-ghost use Rattle.auc_persons.specs.Dense.{MayBeCosts};
 ghost use Rattle.auc_persons.specs.Search.{Covers, IsFound, IsLimit};
-ghost use Rattle.auc_persons.specs.Priced.{IsScanOf, arcs_of, value_in, value_to};
+ghost use Rattle.auc_persons.specs.Priced.{IsScanOf, arcs_of, value_in};
 
 use crate::bound::{BLOCK, Blocked, Bound};
 use crate::least::least_of;
 use crate::person_row::PersonRow;
 use crate::priced_row::PricedRow;
 use crate::scan::Scan;
-use crate::search::{Search, begun_by};
+use crate::search::{Search, begun};
 use auc_graph::Rows;
 use std::snapshot::Snapshot;
 
@@ -33,7 +32,7 @@ fn with_part(row: PricedRow, begun: Search, from: usize, to: usize) -> Search
     for place in from..to {
         let value = row.value(place);
         if value <= search.limit {
-            search = search.with(row.arc(place), value, place as u32);
+            search = search.with(row.arcs[place], value);
         }
     }
     search
@@ -92,38 +91,33 @@ pub(crate) fn next_within(
     count
 }
 
-/// The best arc of a person with a long row, in one pass over his blocks that begins with what is known of some arcs of it, or else with the two
-/// remembered ones. Each block that is looked at gets its least value as bound.
+/// The best arc of a person with a long row, in one pass over his blocks. Each block that is looked at gets its least value as bound.
 // Apart: docs/CODEGEN.md, "Loops of their own".
 #[inline(never)]
 pub(crate) fn scan_blocks(
     own: PersonRow,
     _made: &Snapshot<Rows>,
     blocked: Blocked,
-    costs: &[i32],
-    known: Option<Scan>,
     bounds: &mut [Bound],
-) -> Option<Search>
+) -> Option<Scan>
     requires long { 256 < length (arcs_of own) }
     requires same { row_of _made.now.value own.person ≡ arcs_of own }
     requires person { blocked.person ≡ own.person }
     requires arcs { blocked.arcs ≡ length (arcs_of own) }
     requires numbered { AreNumbered bounds.old blocked }
     requires right { AreRight _made.now.value own.rows.now own.copies.now bounds.old }
-    requires costs { MayBeCosts (arcs_of own) blocked.first costs.now }
-    requires known { IfSome known (IsFound (value_to own) (arcs_of own)) }
-    ensures some { IfSome result (λ s. IsScanOf own.entry s.scan) }
+    ensures some { IfSome result (IsScanOf own.entry) }
     ensures right { AreRight _made.now.value own.entry.rows.now own.entry.copies.now bounds.new }
     ensures same { AreOfSame bounds.old bounds.new }
 {
-    let row = PricedRow::with_costs(own, costs, blocked.first);
+    let row = PricedRow::of(own);
     let start = blocked.start;
     let count = (row.arcs.len() - 1) / BLOCK + 1;
     // Never so; asked once, in place of a proof for each look at a bound.
     if start > bounds.len() || count > bounds.len() - start {
         return None;
     }
-    let mut search = begun_by(row, known, blocked.hint)?;
+    let mut search = begun(row)?;
     let mut block = next_within(bounds, start, 0, count, search.limit);
     while block < count {
         let from = block * BLOCK;
@@ -132,5 +126,5 @@ pub(crate) fn scan_blocks(
         search = with_block(row, search, from, least);
         block = next_within(bounds, start, block + 1, count, search.limit);
     }
-    Some(search)
+    Some(search.scan)
 }

@@ -4,12 +4,11 @@
 //! answers: pure code, with no mail, no lock and no thread. The bid is that of `auc_graph` (`specs/Bid.antt`); what each
 //! call leaves of the shard is defined in `specs/Persons.antt`.
 //!
-//! Which way a row is looked over is told by its own length and order alone (`method.rt`). Beside a shard, or beside prices of his own, a caller may
-//! keep a [`Bidder`], by which the bids are the same and found sooner ([`Bidder::bid`], [`PersonShard::next_bid_by`]): short rows in rising order of
-//! their objects (`specs/Short.antt`), cheap arcs alone of those whose costs have two levels (`specs/Cheap.antt`), and lists of a few arcs of longer
-//! ones. What a list says of its row is defined in `specs/Candidates.antt`; where it doesn't tell the bid of a row of more than 256 arcs, the row is
-//! looked at by blocks, each with a bound (`specs/Blocks.antt`), and above 640 arcs the list is made anew by them. Of such a row that leads to all
-//! objects in order the costs alone are looked at (`specs/Dense.antt`).
+//! Beside a shard, or beside prices of his own, a caller may keep a [`Bidder`], by which the bids are the same and found sooner ([`Bidder::bid`],
+//! [`PersonShard::next_bid_by`]). How a row is looked over is told once, by its own length and order (`bidder/way.rt`): a short one as it stands where its
+//! objects rise, or as a copy that rises (`specs/Sorted.antt`); a longer one by a list of a few arcs (`specs/Candidates.antt`). Where the list doesn't tell
+//! the bid of a row of more than 256 arcs, the row is looked at by blocks, each with a bound (`specs/Blocks.antt`), and above 640 arcs the list is made anew
+//! by them.
 #![tactic(auto)]
 
 mod amount;
@@ -19,23 +18,20 @@ mod bidding;
 mod blocks;
 mod bound;
 mod bounded;
-mod cheap;
-mod costs;
 mod least;
+mod lists;
 mod lists_by_blocks;
-mod look;
-mod method;
 mod person_row;
 mod priced_row;
 mod rising;
 mod scan;
 mod search;
 mod shard;
-mod short;
 mod shortlist;
-mod sorted;
 mod sorted_row;
 mod sorting;
+mod way;
+mod ways;
 
 pub use auc_letters::{Bid, PersonState};
 pub use bidder::{Bidder, lists_stay_right};

@@ -7,20 +7,17 @@ ghost use Rattle.std.specs.Prelude.{true, false, ◌≡◌, ◌<◌, ◌≤◌, 
 ghost use Rattle.auc_graph.specs.Table.{row_of};
 ghost use Rattle.auc_persons.specs.Blocks.{Above, AreNumbered, AreOfSame, AreRight};
 ghost use Rattle.auc_persons.specs.Candidates.{Gathered, Keeps, KeepsListed};
-ghost use Rattle.auc_persons.specs.Dense.{MayBeCosts};
 ghost use Rattle.auc_persons.specs.Scan.{endless, IsValue};
-ghost use Rattle.auc_persons.specs.Search.{IsFound};
 ghost use Rattle.auc_persons.specs.Priced.{IsScanOf, arcs_of, value_in, value_to};
 
 use crate::bound::{BLOCK, Blocked, Bound};
 use crate::bounded::{lesser, next_within, scan_blocks};
 use crate::least::least_of;
-use crate::method::VERY_LONG;
 use crate::person_row::PersonRow;
 use crate::priced_row::PricedRow;
 use crate::scan::Scan;
-use crate::search::Search;
 use crate::shortlist::Shortlist;
+use crate::way::VERY_LONG;
 use auc_graph::Rows;
 use std::snapshot::Snapshot;
 
@@ -53,7 +50,6 @@ fn fill_by_blocks(
     own: PersonRow,
     _made: &Snapshot<Rows>,
     blocked: Blocked,
-    costs: &[i32],
     bounds: &mut [Bound],
     list: &mut Shortlist,
     bound: i64,
@@ -64,7 +60,6 @@ fn fill_by_blocks(
     requires arcs { blocked.arcs ≡ length (arcs_of own) }
     requires numbered { AreNumbered bounds.old blocked }
     requires right { AreRight _made.now.value own.rows.now own.copies.now bounds.old }
-    requires costs { MayBeCosts (arcs_of own) blocked.first costs.now }
     requires low { neg_ℤ (pos (2 ^ 44)) <ℤ bound }
     requires high { bound ≤ℤ pos (2 ^ 62) }
     ensures keeps { Keeps (value_to own.entry) (arcs_of own.entry) list.new.arcs list.new.bound }
@@ -72,7 +67,7 @@ fn fill_by_blocks(
     ensures right { AreRight _made.now.value own.entry.rows.now own.entry.copies.now bounds.new }
     ensures same { AreOfSame bounds.old bounds.new }
 {
-    let row = PricedRow::with_costs(own, costs, blocked.first);
+    let row = PricedRow::of(own);
     let start = blocked.start;
     let count = (row.arcs.len() - 1) / BLOCK + 1;
     list.begin(bound);
@@ -94,12 +89,11 @@ fn fill_by_blocks(
     true
 }
 
-/// Makes the list of a person with a very long row anew, where one is wanted, so that it reaches above the second of his row.
+/// Makes the list of a person with a very long row anew, so that it reaches above the second of his row.
 fn list_anew(
     own: PersonRow,
     made: &Snapshot<Rows>,
     blocked: Blocked,
-    costs: &[i32],
     bounds: &mut [Bound],
     list: &mut Shortlist,
     second: i64,
@@ -110,7 +104,6 @@ fn list_anew(
     requires arcs { blocked.arcs ≡ length (arcs_of own) }
     requires numbered { AreNumbered bounds.old blocked }
     requires right { AreRight made.now.value own.rows.now own.copies.now bounds.old }
-    requires costs { MayBeCosts (arcs_of own) blocked.first costs.now }
     requires second { second <ℤ endless → IsValue second }
     requires owner { list.old.person ≡ own.person }
     requires keeps { KeepsListed own.rows.now own.copies.now list.old }
@@ -121,41 +114,37 @@ fn list_anew(
     if blocked.arcs as usize <= VERY_LONG {
         return;
     }
-    if second == i64::MAX || !list.is_wanted() {
+    if second == i64::MAX {
         return;
     }
     let bound = list.bound_above(second);
-    let fitted = fill_by_blocks(own, made, blocked, costs, bounds, list, bound);
+    let fitted = fill_by_blocks(own, made, blocked, bounds, list, bound);
     list.adapt(fitted);
 }
 
-/// The best arc of a person with a long row, by his blocks; and where the row is very long and a list is wanted, they make it anew.
+/// The best arc of a person with a long row, by his blocks; and where the row is very long, they make his list anew.
 #[tactic(auto, using(crate::proofs::BlockNumbers::same_then))]
 pub(crate) fn scan_and_list(
     own: PersonRow,
     made: &Snapshot<Rows>,
     blocked: Blocked,
-    costs: &[i32],
-    known: Option<Scan>,
     bounds: &mut [Bound],
     list: &mut Shortlist,
-) -> Option<Search>
+) -> Option<Scan>
     requires long { 256 < length (arcs_of own) }
     requires same { row_of made.now.value own.person ≡ arcs_of own }
     requires person { blocked.person ≡ own.person }
     requires arcs { blocked.arcs ≡ length (arcs_of own) }
     requires numbered { AreNumbered bounds.old blocked }
     requires right { AreRight made.now.value own.rows.now own.copies.now bounds.old }
-    requires costs { MayBeCosts (arcs_of own) blocked.first costs.now }
-    requires known { IfSome known (IsFound (value_to own) (arcs_of own)) }
     requires owner { list.old.person ≡ own.person }
     requires keeps { KeepsListed own.rows.now own.copies.now list.old }
-    ensures some { IfSome result (λ s. IsScanOf own.entry s.scan) }
+    ensures some { IfSome result (IsScanOf own.entry) }
     ensures keeps { KeepsListed own.entry.rows.now own.entry.copies.now list.new }
     ensures right { AreRight made.now.value own.entry.rows.now own.entry.copies.now bounds.new }
     ensures same { AreOfSame bounds.old bounds.new }
 {
-    let search = scan_blocks(own, made, blocked, costs, known, bounds)?;
-    list_anew(own, made, blocked, costs, bounds, list, search.scan.second);
-    Some(search)
+    let found = scan_blocks(own, made, blocked, bounds)?;
+    list_anew(own, made, blocked, bounds, list, found.second);
+    Some(found)
 }

@@ -1,9 +1,8 @@
-//! A person's best arc, in one pass over his row that begins with two arcs of it.
+//! A person's best arc, in one pass over his row with a branch by values, in which arcs may come in any order.
 //!
-//! From two good arcs on, nearly every arc of a long row fails one test, and the processor guesses that it does. Which two
-//! arcs they are is of no importance to what is found.
+//! After some arcs nearly every arc of a long row fails one test, and the processor guesses that it does.
 
-ghost use Rattle.std.specs.Prelude.{◌≡◌, ◌<◌, ◌^◌, ◌≤ℤ◌, pos, neg_ℤ, length, IfSome, IfNone, []};
+ghost use Rattle.std.specs.Prelude.{◌≡◌, ◌^◌, ◌≤ℤ◌, pos, neg_ℤ, IfSome, IfNone, []};
 ghost use Rattle.auc_persons.specs.Scan.{IsScan, IsValue};
 ghost use Rattle.auc_persons.specs.Search.{IsFound, IsLimit, PlaceJudged, Taken};
 ghost use Rattle.auc_persons.specs.Priced.{value_in};
@@ -12,25 +11,12 @@ use crate::priced_row::PricedRow;
 use crate::scan::Scan;
 use auc_graph::RowArc;
 
-/// The places in a person's row of the two arcs that decided his last bid. Any two places are right.
-#[derive(Clone, Copy)]
-pub(crate) struct Hint {
-    pub best: u32,
-    pub next: u32,
-}
-
-impl Hint {
-    /// Where nothing is remembered.
-    pub(crate) const NONE: Hint = Hint { best: 0, next: 0 };
-}
-
-/// What is found so far, and where in the row the two arcs stand that decide it.
+/// What is found so far.
 #[derive(Clone, Copy)]
 pub(crate) struct Search {
     pub scan: Scan,
     // An arc of a value above this changes nothing.
     pub limit: i64,
-    pub hint: Hint,
 }
 
 impl Scan {
@@ -56,7 +42,7 @@ impl Scan {
 impl Search {
     /// With what decides it.
     #[inline]
-    fn by(scan: Scan, best: u32, next: u32) -> Search
+    fn by(scan: Scan) -> Search
         requires low { neg_ℤ (pos (2 ^ 44)) ≤ℤ scan.second }
         ensures scan { result.scan ≡ scan }
         ensures limit { IsLimit result.scan result.limit }
@@ -67,16 +53,12 @@ impl Search {
         } else {
             scan.second
         };
-        Search {
-            scan,
-            limit,
-            hint: Hint { best, next },
-        }
+        Search { scan, limit }
     }
 
-    /// With one arc more, of this value, which stands here in the row.
+    /// With one arc more, of this value.
     #[inline]
-    pub(crate) fn with(self, arc: RowArc, value: i64, place: u32) -> Search
+    pub(crate) fn with(self, arc: RowArc, value: i64) -> Search
         requires value { IsValue value }
         requires best { IsValue self.scan.value }
         requires low { neg_ℤ (pos (2 ^ 44)) ≤ℤ self.scan.second }
@@ -96,14 +78,14 @@ impl Search {
                     second,
                     best: arc,
                 };
-                return Search::by(scan, place, self.hint.next);
+                return Search::by(scan);
             }
             let scan = Scan {
                 value,
                 second: least,
                 best: arc,
             };
-            return Search::by(scan, place, self.hint.best);
+            return Search::by(scan);
         }
         if arc.object == best.object {
             return self;
@@ -116,26 +98,13 @@ impl Search {
             second: value,
             best,
         };
-        Search::by(scan, self.hint.best, place)
+        Search::by(scan)
     }
 }
 
-/// A place of a row: this one, or the first where the row is shorter.
+/// What the first arc of a row alone decides; nothing where the row has no arc.
 #[inline]
-fn within(place: u32, row: PricedRow) -> u32
-    requires { 0 < length row.arcs.now }
-    ensures { result < length row.entry.arcs.now }
-{
-    if (place as usize) < row.arcs.len() {
-        place
-    } else {
-        0
-    }
-}
-
-/// What the two remembered arcs alone decide; nothing where the row has no arc.
-#[inline]
-pub(crate) fn begun(row: PricedRow, hint: Hint) -> Option<Search>
+pub(crate) fn begun(row: PricedRow) -> Option<Search>
     ensures found { IfSome result (λ s. IsFound (value_in row.entry) row.entry.arcs.now s.scan) }
     ensures limit { IfSome result (λ s. IsLimit s.scan s.limit) }
     ensures none { IfNone result (row.entry.arcs.now ≡ []) }
@@ -143,29 +112,11 @@ pub(crate) fn begun(row: PricedRow, hint: Hint) -> Option<Search>
     if row.arcs.is_empty() {
         return None;
     }
-    let best = within(hint.best, row);
-    let next = within(hint.next, row);
-    let alone = Scan {
-        value: row.value(best as usize),
+    Some(Search::by(Scan {
+        value: row.value(0),
         second: i64::MAX,
-        best: row.arc(best as usize),
-    };
-    let value = row.value(next as usize);
-    Some(Search::by(alone, best, best).with(row.arc(next as usize), value, next))
-}
-
-/// What is decided by a pass over some arcs of the row, or else by the two remembered ones.
-#[inline]
-pub(crate) fn begun_by(row: PricedRow, known: Option<Scan>, hint: Hint) -> Option<Search>
-    requires known { IfSome known (IsFound (value_in row) row.arcs.now) }
-    ensures found { IfSome result (λ s. IsFound (value_in row.entry) row.entry.arcs.now s.scan) }
-    ensures limit { IfSome result (λ s. IsLimit s.scan s.limit) }
-    ensures none { IfNone result (row.entry.arcs.now ≡ []) }
-{
-    match known {
-        Some(scan) => Some(Search::by(scan, hint.best, hint.next)),
-        None => begun(row, hint),
-    }
+        best: row.arcs[0],
+    }))
 }
 
 /// The best arc of a row, in one pass with a branch by values; nothing where the row has no arc.
@@ -173,11 +124,11 @@ pub(crate) fn scan_from(row: PricedRow) -> Option<Scan>
     ensures some { IfSome result (IsScan (value_in row.entry) row.entry.arcs.now) }
     ensures none { IfNone result (row.entry.arcs.now ≡ []) }
 {
-    let mut search = begun(row, Hint::NONE)?;
+    let mut search = begun(row)?;
     for place in 0..row.arcs.len() {
         let value = row.value(place);
         if value <= search.limit {
-            search = search.with(row.arcs[place], value, place as u32);
+            search = search.with(row.arcs[place], value);
         }
     }
     Some(search.scan)

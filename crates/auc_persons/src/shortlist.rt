@@ -1,26 +1,23 @@
 //! The candidates of one person: the few arcs of his row that were best when the list was made, and a bound that no other arc
 //! of the row is below.
 //!
-//! Copies of prices never fall, so a bound of an arc's value stays one. How the bound is found, and when a list is made or
-//! left alone, is of no importance to what is bid; it stands in `shortlist/making.rt`.
+//! Copies of prices never fall, so a bound of an arc's value stays one. How the bound is found is of no importance to what is bid; it stands in
+//! `shortlist/making.rt`.
 
 ghost use Rattle.std.specs.Prelude.{false, true, ◌≡◌, ◌<◌, ◌≤◌, ◌^◌, ◌<ℤ◌, ◌≤ℤ◌, [], ◌∷◌, ◌++◌, pos, IsTrue, IfSome, length, take};
 ghost use Rattle.auc_persons.specs.Candidates.{Decides, Keeps, Listed, no_list};
 ghost use Rattle.auc_persons.specs.Scan.{IsScan, IsValue, endless};
-ghost use Rattle.auc_persons.specs.Look.{IsLook};
 ghost use Rattle.auc_persons.specs.Priced.{value_in};
 ghost use Rattle.auc_persons.specs.Rising.{IsRisingRow};
-ghost use Rattle.auc_persons.specs.Search.{IsFound};
 
 mod making;
 
-use crate::look::Look;
-use crate::method::VERY_LONG;
 use crate::priced_row::PricedRow;
-use crate::scan::{Scan, scan_of};
+use crate::scan::Scan;
 use crate::search::scan_from;
 use crate::shortlist::making::delta_within;
 use crate::sorted_row::SortedRow;
+use crate::way::VERY_LONG;
 use auc_graph::RowArc;
 use std::marker::Model;
 
@@ -36,9 +33,6 @@ pub(crate) struct Shortlist {
     arcs: [RowArc; ROOM],
     person: u32,
     count: u8,
-    // How many lists in a row were of no use, and how many bids from now on are made without one.
-    failures: u8,
-    rest: u8,
     // Whether the arcs lead to rising objects, as those of a sorted row do.
     rises: bool,
 }
@@ -70,8 +64,6 @@ impl Shortlist {
             }; ROOM],
             person,
             count: 0,
-            failures: 0,
-            rest: 0,
             rises: true,
         }
     }
@@ -135,21 +127,12 @@ impl Shortlist {
         scan.value < self.bound && scan.second <= self.bound
     }
 
-    /// The list was of use.
-    #[inline]
-    fn note_use(&mut self)
-        ensures { self.new ≡ self.old }
-    {
-        self.failures = 0;
-    }
-
     /// What a pass over the list finds, which is what one over the row would find where it decides; nothing where the list has no
     /// arc.
     #[inline]
     fn listed(&self, row: PricedRow) -> Option<Scan>
         requires keeps { Keeps (value_in row) row.arcs.now self.now.arcs self.now.bound }
         ensures found { IfSome result (λ f. Decides self.now.bound f → IsScan (value_in row.entry) row.entry.arcs.now f) }
-        ensures some { IfSome result (IsFound (value_in row.entry) row.entry.arcs.now) }
         ensures second { IfSome result (λ f. f.second <ℤ endless → IsValue f.second) }
     {
         if self.rises {
@@ -160,12 +143,10 @@ impl Shortlist {
             }
             .best();
         }
-        scan_of(PricedRow {
+        scan_from(PricedRow {
             scale: row.scale,
             arcs: self.arcs(),
             copies: row.copies,
-            costs: &[],
-            first: 0,
         })
     }
 
@@ -189,18 +170,12 @@ impl Shortlist {
         ensures keeps { Keeps (value_in row.entry) row.entry.arcs.now self.new.arcs self.new.bound }
         ensures person { self.new.person ≡ self.old.person }
     {
-        if row.arcs.len() > VERY_LONG || !self.is_wanted() {
+        if row.arcs.len() > VERY_LONG {
             return None;
         }
         if second < i64::MAX {
             self.remake(row, second);
-            let found = self.decided(row);
-            // To make a list takes fewer steps than a pass that finds the best arc, and about as many as blocks take. So it was of
-            // use where it decides this bid.
-            if found.is_some() {
-                self.note_use();
-            }
-            return found;
+            return self.decided(row);
         }
         let whole = scan_from(row)?;
         if whole.second < i64::MAX {
@@ -209,28 +184,21 @@ impl Shortlist {
         Some(whole)
     }
 
-    /// What the list tells of the row: its best arc, where it or one that is made anew decides.
+    /// The best arc of the row, where the list or one that is made anew decides.
     // Apart: docs/CODEGEN.md, "A list's own registers".
     #[inline(never)]
-    pub(crate) fn scan(&mut self, row: PricedRow) -> Look
+    pub(crate) fn scan(&mut self, row: PricedRow) -> Option<Scan>
         requires keeps { Keeps (value_in row) row.arcs.now self.old.arcs self.old.bound }
-        ensures look { IsLook (value_in row.entry) row.entry.arcs.now result }
+        ensures found { IfSome result (IsScan (value_in row.entry) row.entry.arcs.now) }
         ensures keeps { Keeps (value_in row.entry) row.entry.arcs.now self.new.arcs self.new.bound }
         ensures person { self.new.person ≡ self.old.person }
     {
         let Some(scan) = self.listed(row) else {
-            return match self.scan_anew(row, i64::MAX) {
-                Some(best) => Look::Best(best),
-                None => Look::Nothing,
-            };
+            return self.scan_anew(row, i64::MAX);
         };
         if self.decides(scan) {
-            self.note_use();
-            return Look::Best(scan);
+            return Some(scan);
         }
-        match self.scan_anew(row, scan.second) {
-            Some(best) => Look::Best(best),
-            None => Look::Known(scan),
-        }
+        self.scan_anew(row, scan.second)
     }
 }

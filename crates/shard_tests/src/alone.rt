@@ -34,7 +34,7 @@ fn bid_at(
     let Ok(mut bidder) = Bidder::make(rt.alloc(), &rows, 0, 1) else {
         return None;
     };
-    Some(bidder.bid(&rows, eps, person, person, prices))
+    Some(bidder.bid(&rows, eps, person, prices))
 }
 
 fn bid(person: u32, arc: u32, object: u32, amount: i64) -> Option<Option<Bid>> {

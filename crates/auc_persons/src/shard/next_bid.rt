@@ -101,7 +101,7 @@ impl PersonShard {
             person,
             copies: self.copies.as_slice(),
         };
-        let found = bidder.bid_by(own, eps, person, self.of);
+        let found = bidder.bid_by(own, eps);
         self.bid_with(rows, eps, found)
     }
 

@@ -1,4 +1,4 @@
-//! How a list is made: which arcs it takes, how far it reaches, and when none is made for a while.
+//! How a list is made: which arcs it takes, and how far it reaches.
 
 ghost use Rattle.std.specs.Prelude.{true, false, ◌≡◌, ◌+◌, ◌<◌, ◌≤◌, ◌^◌, ◌<ℤ◌, ◌≤ℤ◌, [], pos, neg_ℤ, length, take};
 ghost use Rattle.auc_persons.specs.Candidates.{Gathered, Keeps};
@@ -14,21 +14,6 @@ const FEW: u32 = 8;
 const MANY: u32 = 14;
 /// How far above the second a bound lies at most.
 const MOST_DELTA: i64 = 1 << 60;
-/// After so many lists in a row that were of no use, none is made for a while.
-const MOST_FAILURES: u8 = 8;
-
-/// For how many bids no list is made, after so many in a row that were of no use.
-fn rest_after(failures: u8) -> u8 {
-    match failures {
-        0 | 1 | 2 | 3 => 0,
-        4 => 4,
-        5 => 8,
-        6 => 16,
-        7 => 32,
-        _ => 64,
-    }
-}
-
 /// A number from 1 to the greatest distance of a bound.
 pub(crate) fn delta_within(delta: i64) -> i64
     ensures low { pos 1 ≤ℤ result }
@@ -70,15 +55,16 @@ impl Shortlist {
                 self.count = 0;
                 return false;
             }
-            self.push(row.arc(place));
+            self.push(row.arcs[place]);
         }
         true
     }
 
     /// Takes the arcs below a bound from one place of a row to another, where it has those before; no arc at all where they are
     /// too many.
-    #[inline(always)]
-    fn take_each(&mut self, row: PricedRow, bound: i64, from: usize, to: usize) -> bool
+    // Apart: docs/CODEGEN.md, "Loops of their own".
+    #[inline(never)]
+    pub(crate) fn take_part(&mut self, row: PricedRow, bound: i64, from: usize, to: usize) -> bool
         requires order { from ≤ to }
         requires within { to ≤ length row.arcs.now }
         requires gathered { Gathered (value_in row) (take from row.arcs.now) self.old.arcs bound }
@@ -103,24 +89,6 @@ impl Shortlist {
             return self.take_at(row, bound, place);
         }
         true
-    }
-
-    /// The same: which of two ways the arcs are looked at is asked once.
-    // Apart: docs/CODEGEN.md, "Loops of their own".
-    #[inline(never)]
-    pub(crate) fn take_part(&mut self, row: PricedRow, bound: i64, from: usize, to: usize) -> bool
-        requires order { from ≤ to }
-        requires within { to ≤ length row.arcs.now }
-        requires gathered { Gathered (value_in row) (take from row.arcs.now) self.old.arcs bound }
-        ensures taken { result ≡ true → Gathered (value_in row.entry) (take to row.entry.arcs.now) self.new.arcs bound }
-        ensures none { result ≡ false → self.new.arcs ≡ [] }
-        ensures bound { self.new.bound ≡ self.old.bound }
-        ensures person { self.new.person ≡ self.old.person }
-    {
-        if row.has_costs() {
-            return self.take_each(row, bound, from, to);
-        }
-        self.take_each(row.without_costs(), bound, from, to)
     }
 
     /// Takes the arcs of a row below a bound; none where they are too many.
@@ -166,20 +134,5 @@ impl Shortlist {
         let bound = self.bound_above(second);
         let fitted = self.fill(row, bound);
         self.adapt(fitted);
-    }
-
-    /// Whether a list is to be made: after some that were of no use none is made for a while.
-    pub(crate) fn is_wanted(&mut self) -> bool
-        ensures { self.new ≡ self.old }
-    {
-        if self.rest > 0 {
-            self.rest -= 1;
-            return false;
-        }
-        if self.failures < MOST_FAILURES {
-            self.failures += 1;
-        }
-        self.rest = rest_after(self.failures);
-        true
     }
 }

@@ -39,7 +39,7 @@ impl AloneWorld {
         if !self.has_bids() {
             return Some(Reason::Bids);
         }
-        let Some(bid) = bidder.bid(task.rows, task.eps, person, person, self.copies()) else {
+        let Some(bid) = bidder.bid(task.rows, task.eps, person, self.copies()) else {
             // Nobody is without an arc.
             return Some(Reason::Bids);
         };

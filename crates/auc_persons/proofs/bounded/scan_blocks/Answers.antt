@@ -17,9 +17,9 @@ loop-block-init c =
     let person = c.args.own.person in
     let row = row_of t person in
     let bounds = c.args.bounds.now in
-    let scale : c.with_costs-row.result.scale ≡ pos (length t.rows + 1) = c.with_costs-row.ensures.scale in
-    let sound = rw (c.with_costs-row.ensures.arcs, c.with_costs-row.ensures.copies) at c.with_costs-row.result.is_row in
-    let found = rw (scale, c.with_costs-row.ensures.copies, c.with_costs-row.ensures.arcs) at c.in_ok-search.ensures.found in
+    let scale : c.of-row.result.scale ≡ pos (length t.rows + 1) = c.of-row.ensures.scale in
+    let sound = rw (c.of-row.ensures.arcs, c.of-row.ensures.copies) at c.of-row.result.is_row in
+    let found = rw (scale, c.of-row.ensures.copies, c.of-row.ensures.arcs) at c.in_ok-search.ensures.found in
     let limit = c.in_ok-search.search.limit in
     let f1 : FitsSigned w64 limit = search rules in
     let r = c.requires in
@@ -28,7 +28,7 @@ loop-block-init c =
     record {
       found = found;
       limit = c.in_ok-search.ensures.limit;
-      covered = λ k d lt below. covered_above (pos (length t.rows + 1)) copies row c.in_ok-search.search.scan limit k d (rw (← scale) c.with_costs-row.result.scale_low) (rw (← scale) c.with_costs-row.result.scale_high) sound c.args.own.are_prices found c.in_ok-search.ensures.limit (over k d (omega arith) lt below) below;
+      covered = λ k d lt below. covered_above (pos (length t.rows + 1)) copies row c.in_ok-search.search.scan limit k d (rw (← scale) c.of-row.result.scale_low) (rw (← scale) c.of-row.result.scale_high) sound c.args.own.are_prices found c.in_ok-search.ensures.limit (over k d (omega arith) lt below) below;
       high = c.next_within-block.ensures.high;
       right = r.right;
       same = holds.same;
@@ -52,20 +52,20 @@ loop-block-preserved c =
     let bounds = c.loop-block.bounds in
     let b = c.args.blocked in
     let inv = c.loop-block.invariant in
-    let scale : c.with_costs-row.result.scale ≡ pos (length t.rows + 1) = c.with_costs-row.ensures.scale in
-    let sound = rw (c.with_costs-row.ensures.arcs, c.with_costs-row.ensures.copies) at c.with_costs-row.result.is_row in
+    let scale : c.of-row.result.scale ≡ pos (length t.rows + 1) = c.of-row.ensures.scale in
+    let sound = rw (c.of-row.ensures.arcs, c.of-row.ensures.copies) at c.of-row.result.is_row in
     let one = c.with_block-search in
     let limit = one.result.limit in
     let f1 : FitsSigned w64 limit = search rules in
     let f2 : FitsSigned w64 c.least_of-least.result = search rules in
-    let found = rw (scale, c.with_costs-row.ensures.copies, c.with_costs-row.ensures.arcs) at one.ensures.found in
-    let kept = rw (scale, c.with_costs-row.ensures.copies) at one.ensures.kept in
-    let covered = rw (scale, c.with_costs-row.ensures.copies, c.with_costs-row.ensures.arcs) at one.ensures.covered in
-    let least = rw (scale, c.with_costs-row.ensures.copies, c.with_costs-row.ensures.arcs) at c.least_of-least.ensures in
+    let found = rw (scale, c.of-row.ensures.copies, c.of-row.ensures.arcs) at one.ensures.found in
+    let kept = rw (scale, c.of-row.ensures.copies) at one.ensures.kept in
+    let covered = rw (scale, c.of-row.ensures.copies, c.of-row.ensures.arcs) at one.ensures.covered in
+    let least = rw (scale, c.of-row.ensures.copies, c.of-row.ensures.arcs) at c.least_of-least.ensures in
     let r = c.requires in
     let holds : Holds made t copies before bounds b person = record { own = r.person; arcs = r.arcs; long = r.long; rises = sound.rising; row = r.same; numbered = r.numbered; same = inv.same; right = inv.right } in
     let d = c.index-bounds-start.result in
-    let lt : 16 * block < length row = omega (arith, c.loop-block-test.true, ap length c.with_costs-row.ensures.arcs, r.long) in
+    let lt : 16 * block < length row = omega (arith, c.loop-block-test.true, ap length c.of-row.ensures.arcs, r.long) in
     let after = looked_at made t copies before bounds b person holds block d c.least_of-least.result lt (λ k d low high below. least k d (omega (arith, low)) (omega (arith, high)) below) in
     let next = c.next_within-block-in-loop-block in
     let over = left_out made t copies before _ b person after limit (block + 1) next.result f1 (simp to_z-of_z at next.ensures.above) in
@@ -74,7 +74,7 @@ loop-block-preserved c =
       limit = one.ensures.limit;
       covered = λ k d lt below. covered_blocks val row one.result.scan (block + 1) next.result k d
           (λ up. covered_blocks val row one.result.scan block (block + 1) k d (λ earlier. kept (get_or row k d) (inv.covered k d earlier below)) (λ low high. covered k d (omega (arith, low)) (omega (arith, high)) below) up)
-          (λ low high. covered_above (pos (length t.rows + 1)) copies row one.result.scan limit k d (rw (← scale) c.with_costs-row.result.scale_low) (rw (← scale) c.with_costs-row.result.scale_high) sound c.args.own.are_prices found one.ensures.limit (over k d low high below) below)
+          (λ low high. covered_above (pos (length t.rows + 1)) copies row one.result.scan limit k d (rw (← scale) c.of-row.result.scale_low) (rw (← scale) c.of-row.result.scale_high) sound c.args.own.are_prices found one.ensures.limit (over k d low high below) below)
           lt;
       high = next.ensures.high;
       right = after.right;
@@ -86,5 +86,5 @@ returns-clause-some c =
     let t = c.args.own.rows.now in
     let row = row_of t c.args.own.person in
     let inv = c.loop-block.invariant in
-    let len = ap length c.with_costs-row.ensures.arcs in
+    let len = ap length c.of-row.ensures.arcs in
     whole (value (pos (length t.rows + 1)) (copy_in c.args.own.copies.now)) row c.loop-block.search.scan inv.found (λ k d lt. inv.covered k d (omega (arith, c.loop-block-test.false, len, lt)) lt)

@@ -24,7 +24,7 @@ loop-place-preserved c =
     let there = Contains-get_or row i no_arc lt in
     elim c.if-value-search.branch [
       | then-value-search w ↦ (
-          let t = rw w.arc.ensures at (simp to_z-of_z at w.with-search.ensures.taken) in
+          let t = simp to_z-of_z at w.with-search.ensures.taken in
           let got = taken_is val row c.loop-place.search.scan w.with-search.result.scan a c.value-value.result inv.found there is ok t in
           rw w.search-is (record {
             found = got.found;

@@ -19,7 +19,7 @@ loop-block-init c =
     let row = row_of t person in
     let val = value (pos (length t.rows + 1)) (copy_in copies) in
     let bounds = c.args.bounds.now in
-    let sound = rw (c.with_costs-row.ensures.arcs, c.with_costs-row.ensures.copies) at c.with_costs-row.result.is_row in
+    let sound = rw (c.of-row.ensures.arcs, c.of-row.ensures.copies) at c.of-row.result.is_row in
     let r = c.requires in
     let holds : Holds made t copies bounds bounds c.args.blocked person = record { own = r.person; arcs = r.arcs; long = r.long; rises = sound.rising; row = r.same; numbered = r.numbered; same = same_itself bounds; right = r.right } in
     let limit = c.args.bound -ℤ pos 1 in
@@ -37,10 +37,10 @@ loop-block-init c =
 pub take_block-requires-clause-gathered : goal.take_block-requires-clause-gathered
 take_block-requires-clause-gathered c =
     let f5 : FitsSigned w64 c.args.bound = c.ranges.bound in
-    let scale : c.with_costs-row.result.scale ≡ pos (length c.args.own.rows.now.rows + 1) = c.with_costs-row.ensures.scale in
+    let scale : c.of-row.result.scale ≡ pos (length c.args.own.rows.now.rows + 1) = c.of-row.ensures.scale in
     let at : c.loop-block.block * 16 ≡ 16 * c.loop-block.block = omega arith in
     let inv = simp to_z-of_z at c.loop-block.invariant in
-    simp to_z-of_z (rw (scale, c.with_costs-row.ensures.copies, c.with_costs-row.ensures.arcs, at) inv.gathered)
+    simp to_z-of_z (rw (scale, c.of-row.ensures.copies, c.of-row.ensures.arcs, at) inv.gathered)
 
 pub returns-then-not-take_block : goal.returns-then-not-take_block
 returns-then-not-take_block c =
@@ -54,14 +54,14 @@ returns-then-not-take_block c =
     let bounds = c.loop-block.bounds in
     let b = c.args.blocked in
     let inv = c.loop-block.invariant in
-    let scale : c.with_costs-row.result.scale ≡ pos (length t.rows + 1) = c.with_costs-row.ensures.scale in
-    let sound = rw (c.with_costs-row.ensures.arcs, c.with_costs-row.ensures.copies) at c.with_costs-row.result.is_row in
+    let scale : c.of-row.result.scale ≡ pos (length t.rows + 1) = c.of-row.ensures.scale in
+    let sound = rw (c.of-row.ensures.arcs, c.of-row.ensures.copies) at c.of-row.result.is_row in
     let f2 : FitsSigned w64 c.least_of-least.result = search rules in
-    let least = rw (scale, c.with_costs-row.ensures.copies, c.with_costs-row.ensures.arcs) at c.least_of-least.ensures in
+    let least = rw (scale, c.of-row.ensures.copies, c.of-row.ensures.arcs) at c.least_of-least.ensures in
     let r = c.requires in
     let holds : Holds made t copies before bounds b person = record { own = r.person; arcs = r.arcs; long = r.long; rises = sound.rising; row = r.same; numbered = r.numbered; same = inv.same; right = inv.right } in
     let d = c.index-bounds-start.result in
-    let lt : 16 * block < length row = omega (arith, c.loop-block-test.true, ap length c.with_costs-row.ensures.arcs, r.long) in
+    let lt : 16 * block < length row = omega (arith, c.loop-block-test.true, ap length c.of-row.ensures.arcs, r.long) in
     let after = looked_at made t copies before bounds b person holds block d c.least_of-least.result lt (λ k d low high below. least k d (omega (arith, low)) (omega (arith, high)) below) in
     let none = c.if-not-take_block.ensures in
     simp to_z-of_z (record {
@@ -84,14 +84,14 @@ loop-block-preserved c =
     let bounds = c.loop-block.bounds in
     let b = c.args.blocked in
     let inv = simp to_z-of_z at c.loop-block.invariant in
-    let scale : c.with_costs-row.result.scale ≡ pos (length t.rows + 1) = c.with_costs-row.ensures.scale in
-    let sound = rw (c.with_costs-row.ensures.arcs, c.with_costs-row.ensures.copies) at c.with_costs-row.result.is_row in
+    let scale : c.of-row.result.scale ≡ pos (length t.rows + 1) = c.of-row.ensures.scale in
+    let sound = rw (c.of-row.ensures.arcs, c.of-row.ensures.copies) at c.of-row.result.is_row in
     let f2 : FitsSigned w64 c.least_of-least.result = search rules in
-    let least = rw (scale, c.with_costs-row.ensures.copies, c.with_costs-row.ensures.arcs) at c.least_of-least.ensures in
+    let least = rw (scale, c.of-row.ensures.copies, c.of-row.ensures.arcs) at c.least_of-least.ensures in
     let r = c.requires in
     let holds : Holds made t copies before bounds b person = record { own = r.person; arcs = r.arcs; long = r.long; rises = sound.rising; row = r.same; numbered = r.numbered; same = inv.same; right = inv.right } in
     let d = c.index-bounds-start.result in
-    let lt : 16 * block < length row = omega (arith, c.loop-block-test.true, ap length c.with_costs-row.ensures.arcs, r.long) in
+    let lt : 16 * block < length row = omega (arith, c.loop-block-test.true, ap length c.of-row.ensures.arcs, r.long) in
     let after = looked_at made t copies before bounds b person holds block d c.least_of-least.result lt (λ k d low high below. least k d (omega (arith, low)) (omega (arith, high)) below) in
     let next = c.next_within-block-in-loop-block in
     let val = value (pos (length t.rows + 1)) (copy_in copies) in
@@ -99,7 +99,7 @@ loop-block-preserved c =
     let f6 : FitsSigned w64 limit = omega (arith, ints, r.low, f5) in
     let over = left_out made t copies before _ b person after limit (block + 1) next.result f6 (simp to_z-of_z at next.ensures.above) in
     let took = c.if-not-take_block.ensures in
-    let taken = rw (scale, c.with_costs-row.ensures.copies, c.with_costs-row.ensures.arcs) at (simp to_z-of_z at (took.taken refl)) in
+    let taken = rw (scale, c.of-row.ensures.copies, c.of-row.ensures.arcs) at (simp to_z-of_z at (took.taken refl)) in
     let at : block * 16 + 16 ≡ 16 * (block + 1) = omega arith in
     simp to_z-of_z (record {
       gathered = gathered_to val row _ c.args.bound (16 * (block + 1)) (16 * next.result) sound.rising (omega (arith, next.ensures.low)) (λ k low high below. omega (arith, ints, over k no_arc low high below)) (rw at at taken);
@@ -116,6 +116,6 @@ returns-clause-keeps c =
     let t = c.args.own.rows.now in
     let row = row_of t c.args.own.person in
     let inv = simp to_z-of_z at c.loop-block.invariant in
-    let len = ap length c.with_costs-row.ensures.arcs in
+    let len = ap length c.of-row.ensures.arcs in
     let b = inv.bound in
     rw b (gathered_keeps (value (pos (length t.rows + 1)) (copy_in c.args.own.copies.now)) row c.loop-block.list.arcs c.args.bound (16 * c.loop-block.block) (omega (arith, c.loop-block-test.false, len)) inv.gathered)

@@ -5,11 +5,9 @@ use Rattle.auc_persons.specs.declared.bound.Blocked.{Blocked}
 use Rattle.auc_persons.specs.Blocks.{AreNumbered, HasArcs}
 use Rattle.auc_persons.proofs.BlockNumbers.{all_numbered_before, numbered_new, unknown_before}
 use Rattle.auc_persons.proofs.SameRows.{Rises}
-use Rattle.auc_persons.specs.Dense.{HasCosts}
-use Rattle.auc_persons.proofs.DenseRows.{all_have_still, has_new}
 use Rattle.auc_persons.proofs.KeptBlocks.{kept_of, own_new, unknown_are}
 use Rattle.auc_persons.proofs.blocks.Blocks.make.Goals as goal
-use Rattle.auc_persons.proofs.blocks.Blocks.make.Goals.{then-person-of+in_ok-first+in_ok-push+in_ok-append_bounds, else-person-of}
+use Rattle.auc_persons.proofs.blocks.Blocks.make.Goals.{then-has_list+in_ok-push+in_ok-append_bounds, else-has_list}
 
 pub returns : goal.returns
 returns c =
@@ -24,25 +22,22 @@ loop-person-preserved c =
     let inv = c.loop-person.invariant in
     let before = c.loop-person.bounds.items in
     let persons = c.loop-person.persons.items in
-    elim c.if-person-of.branch [
-      | then-person-of+in_ok-first+in_ok-push+in_ok-append_bounds w ↦ (
+    elim c.if-has_list.branch [
+      | then-has_list+in_ok-push+in_ok-append_bounds w ↦ (
           let t = c.args.rows.now in
           let person = c.loop-person.person in
           let blocks = w.blocks_of.result in
           let after = w.append_bounds.new.bounds.items in
           let more = w.in_ok-append_bounds.ensures in
           let row = w.row-row.result.now in
-          let old_costs = c.loop-person.costs.items in
-          let costs = w.append_costs.new.costs.items in
-          let new : Blocked = record { person = person; arcs = length row; start = w.len.result; hint = record { best = 0; next = 0 }; costs = record { start = w.len-start.result; end = w.len-then-person-of.result }; first = w.in_ok-first.first } in
+          let new : Blocked = record { person = person; arcs = length row; start = w.len.result } in
           let sound = rw w.row-row.ensures.row at w.row-row.ensures.sound in
-          rw (w.persons-is, w.bounds-is, w.costs-is, w.in_ok-push.ensures.items) (record {
+          rw (w.persons-is, w.bounds-is, w.in_ok-push.ensures.items) (record {
             arcs = All-push (HasArcs t) persons new inv.arcs (ap length (sym w.row-row.ensures.row));
             rises = All-push (λ b. Rises (row_of t b.person)) persons new inv.rises sound.rising;
             numbered = All-push (AreNumbered after) persons new (all_numbered_before before after person blocks persons more inv.numbered) (numbered_new before after person blocks new more refl (omega (arith, w.len.ensures)) w.blocks_of.ensures.all);
-            costs = All-push (HasCosts t costs) persons new (all_have_still t old_costs costs row _ persons w.in_ok-first.ensures inv.costs) (has_new t old_costs costs new (rw w.row-row.ensures.row at w.in_ok-first.ensures) (omega (arith, w.len-start.ensures)) (omega (arith, w.len-then-person-of.ensures)));
             unknown = unknown_before before after person blocks more inv.unknown;
           })
           )
-      | else-person-of w ↦ rw (w.persons-is, w.bounds-is, w.costs-is) inv
+      | else-has_list w ↦ rw (w.persons-is, w.bounds-is) inv
     ]

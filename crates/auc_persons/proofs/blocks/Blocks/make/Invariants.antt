@@ -1,7 +1,6 @@
 use Rattle.std.specs.Prelude.{All}
 use Rattle.auc_graph.specs.Table.{row_of}
 use Rattle.auc_persons.specs.Blocks.{AreNumbered, HasArcs, IsUnknown}
-use Rattle.auc_persons.specs.Dense.{HasCosts}
 use Rattle.auc_persons.proofs.SameRows.{Rises}
 use Rattle.auc_persons.proofs.blocks.Blocks.make.Given as goal
 
@@ -11,5 +10,4 @@ invariant-loop-person l = record {
   rises : All (λ b. Rises (row_of l.rows b.person)) l.persons.items;
   numbered : All (AreNumbered l.bounds.items) l.persons.items;
   unknown : All IsUnknown l.bounds.items;
-  costs : All (HasCosts l.rows l.costs.items) l.persons.items;
 }

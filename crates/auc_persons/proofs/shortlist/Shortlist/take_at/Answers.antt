@@ -6,7 +6,7 @@ use Rattle.auc_persons.proofs.Shortlists.{row_one, row_out}
 use Rattle.auc_persons.proofs.shortlist.Shortlist.take_at.Goals as goal
 
 pub returns-else-is_full-clause-taken : goal.returns-else-is_full-clause-taken
-returns-else-is_full-clause-taken c _ = rw (c.push.ensures, c.arc.ensures) (row_one (value_in c.args.row) c.args.row.arcs.now c.args.self.now.arcs c.args.bound c.args.place c.args.row.is_row.rising c.requires.within c.requires.gathered)
+returns-else-is_full-clause-taken c _ = rw c.push.ensures (row_one (value_in c.args.row) c.args.row.arcs.now c.args.self.now.arcs c.args.bound c.args.place c.args.row.is_row.rising c.requires.within c.requires.gathered)
 
 pub returns-else-value-bound-clause-taken : goal.returns-else-value-bound-clause-taken
 returns-else-value-bound-clause-taken c _ =

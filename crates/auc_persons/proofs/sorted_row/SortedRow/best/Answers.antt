@@ -3,7 +3,7 @@ use Rattle.std.specs.Prelude.{FitsSigned}
 use Rattle.std.proofs.lemmas.Int.{to_z-of_z}
 use Rattle.auc_graph.specs.Bid.{value}
 use Rattle.auc_persons.specs.Scan.{copy_in}
-use Rattle.auc_persons.proofs.RisingRows.{nears_more, nears_whole, sorts_first}
+use Rattle.auc_persons.proofs.RisingRows.{nears_first, nears_more, nears_whole}
 use Rattle.auc_persons.proofs.sorted_row.SortedRow.best.Goals as goal
 
 pub loop-place-init : goal.loop-place-init
@@ -11,7 +11,7 @@ loop-place-init c =
     let f2 : FitsSigned w64 c.value.result = search rules in
     let is = c.value.ensures.is in
     let some : 0 < length c.args.self.arcs.now = search rules in
-    simp to_z-of_z (0, refl, sorts_first (value c.args.self.scale (copy_in c.args.self.copies.now)) c.args.self.arcs.now c.value.result c.args.self.rising some is c.value.ensures.range)
+    simp to_z-of_z (nears_first (value c.args.self.scale (copy_in c.args.self.copies.now)) c.args.self.arcs.now _ c.args.self.rising some is c.value.ensures.range refl refl)
 
 pub loop-place-preserved : goal.loop-place-preserved
 loop-place-preserved c =

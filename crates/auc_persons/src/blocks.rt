@@ -6,8 +6,8 @@ ghost use Rattle.auc_persons.specs.Candidates.{Kept};
 ghost use Rattle.auc_persons.specs.Priced.{KeptAt, IsScanOf};
 
 use crate::bound::{BLOCK, Blocked, Bound, NO_BOUND};
-use crate::lists_by_blocks::scan_and_list;
 use crate::lists::{has_list, lists_wanted};
+use crate::lists_by_blocks::scan_and_list;
 use crate::person_row::PersonRow;
 use crate::scan::Scan;
 use crate::shortlist::Shortlist;

@@ -6,14 +6,14 @@ ghost use Rattle.auc_graph.specs.Table.{row_of};
 ghost use Rattle.auc_graph.specs.declared.rows.RowArc.{RowArc};
 ghost use Rattle.auc_persons.specs.Blocks.{Above, AreNumbered, AreOfSame, AreRight};
 ghost use Rattle.auc_persons.specs.Search.{Covers, IsFound, IsLimit};
-ghost use Rattle.auc_persons.specs.Priced.{IsScanOf, arcs_of, value_in};
+ghost use Rattle.auc_persons.specs.Priced.{IsScanOf, arcs_of, value_in, value_to};
 
 use crate::bound::{BLOCK, Blocked, Bound};
 use crate::least::least_of;
 use crate::person_row::PersonRow;
 use crate::priced_row::PricedRow;
 use crate::scan::Scan;
-use crate::search::{Search, begun};
+use crate::search::{Search, begun_by};
 use auc_graph::Rows;
 use std::snapshot::Snapshot;
 
@@ -91,13 +91,15 @@ pub(crate) fn next_within(
     count
 }
 
-/// The best arc of a person with a long row, in one pass over his blocks. Each block that is looked at gets its least value as bound.
+/// The best arc of a person with a long row, in one pass over his blocks that begins with what is known of some arcs of it. Each block that is
+/// looked at gets its least value as bound.
 // Apart: docs/CODEGEN.md, "Loops of their own".
 #[inline(never)]
 pub(crate) fn scan_blocks(
     own: PersonRow,
     _made: &Snapshot<Rows>,
     blocked: Blocked,
+    known: Option<Scan>,
     bounds: &mut [Bound],
 ) -> Option<Scan>
     requires long { 256 < length (arcs_of own) }
@@ -106,6 +108,7 @@ pub(crate) fn scan_blocks(
     requires arcs { blocked.arcs ≡ length (arcs_of own) }
     requires numbered { AreNumbered bounds.old blocked }
     requires right { AreRight _made.now.value own.rows.now own.copies.now bounds.old }
+    requires known { IfSome known (IsFound (value_to own) (arcs_of own)) }
     ensures some { IfSome result (IsScanOf own.entry) }
     ensures right { AreRight _made.now.value own.entry.rows.now own.entry.copies.now bounds.new }
     ensures same { AreOfSame bounds.old bounds.new }
@@ -117,7 +120,7 @@ pub(crate) fn scan_blocks(
     if start > bounds.len() || count > bounds.len() - start {
         return None;
     }
-    let mut search = begun(row)?;
+    let mut search = begun_by(row, known)?;
     let mut block = next_within(bounds, start, 0, count, search.limit);
     while block < count {
         let from = block * BLOCK;

@@ -144,7 +144,9 @@ pub(crate) fn scan_and_list(
     ensures right { AreRight made.now.value own.entry.rows.now own.entry.copies.now bounds.new }
     ensures same { AreOfSame bounds.old bounds.new }
 {
-    let found = scan_blocks(own, made, blocked, bounds)?;
+    // Its best and second are bounds of the row's, by which more blocks are left out.
+    let known = list.listed(PricedRow::of(own));
+    let found = scan_blocks(own, made, blocked, known, bounds)?;
     list_anew(own, made, blocked, bounds, list, found.second);
     Some(found)
 }

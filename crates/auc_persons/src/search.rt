@@ -104,7 +104,7 @@ impl Search {
 
 /// What the first arc of a row alone decides; nothing where the row has no arc.
 #[inline]
-pub(crate) fn begun(row: PricedRow) -> Option<Search>
+fn begun(row: PricedRow) -> Option<Search>
     ensures found { IfSome result (λ s. IsFound (value_in row.entry) row.entry.arcs.now s.scan) }
     ensures limit { IfSome result (λ s. IsLimit s.scan s.limit) }
     ensures none { IfNone result (row.entry.arcs.now ≡ []) }
@@ -117,6 +117,20 @@ pub(crate) fn begun(row: PricedRow) -> Option<Search>
         second: i64::MAX,
         best: row.arcs[0],
     }))
+}
+
+/// What is decided by a pass over some arcs of the row, or else by the first one.
+#[inline]
+pub(crate) fn begun_by(row: PricedRow, known: Option<Scan>) -> Option<Search>
+    requires known { IfSome known (IsFound (value_in row) row.arcs.now) }
+    ensures found { IfSome result (λ s. IsFound (value_in row.entry) row.entry.arcs.now s.scan) }
+    ensures limit { IfSome result (λ s. IsLimit s.scan s.limit) }
+    ensures none { IfNone result (row.entry.arcs.now ≡ []) }
+{
+    match known {
+        Some(scan) => Some(Search::by(scan)),
+        None => begun(row),
+    }
 }
 
 /// The best arc of a row, in one pass with a branch by values; nothing where the row has no arc.

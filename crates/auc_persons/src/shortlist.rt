@@ -9,6 +9,7 @@ ghost use Rattle.auc_persons.specs.Candidates.{Decides, Keeps, Listed, no_list};
 ghost use Rattle.auc_persons.specs.Scan.{IsScan, IsValue, endless};
 ghost use Rattle.auc_persons.specs.Priced.{value_in};
 ghost use Rattle.auc_persons.specs.Rising.{IsRisingRow};
+ghost use Rattle.auc_persons.specs.Search.{IsFound};
 
 mod making;
 
@@ -41,6 +42,7 @@ impl Model for Shortlist {
     ghost use Rattle.std.specs.Prelude.{true, ◌≡◌, ◌≤◌, ◌^◌, ◌≤ℤ◌, pos, length, take};
     ghost use Rattle.auc_persons.specs.Candidates.{Listed};
     ghost use Rattle.auc_persons.specs.Rising.{IsRisingRow};
+    ghost use Rattle.auc_persons.specs.Search.{IsFound};
 
     ghost Value = { Listed };
 
@@ -130,9 +132,10 @@ impl Shortlist {
     /// What a pass over the list finds, which is what one over the row would find where it decides; nothing where the list has no
     /// arc.
     #[inline]
-    fn listed(&self, row: PricedRow) -> Option<Scan>
+    pub(crate) fn listed(&self, row: PricedRow) -> Option<Scan>
         requires keeps { Keeps (value_in row) row.arcs.now self.now.arcs self.now.bound }
         ensures found { IfSome result (λ f. Decides self.now.bound f → IsScan (value_in row.entry) row.entry.arcs.now f) }
+        ensures some { IfSome result (IsFound (value_in row.entry) row.entry.arcs.now) }
         ensures second { IfSome result (λ f. f.second <ℤ endless → IsValue f.second) }
     {
         if self.rises {

@@ -102,12 +102,7 @@ fn count_with(lists: u32, way: Way) -> u32
 impl Ways {
     /// The ways for the persons of shard number `shard` of `of`. They take 8 bytes for each person of all, and 12 to 24 for each arc of the shard's
     /// short rows that don't rise.
-    pub(crate) fn make(
-        alloc: Global,
-        rows: &Rows,
-        shard: u32,
-        of: u32,
-    ) -> Result<Ways, AllocError>
+    pub(crate) fn make(alloc: Global, rows: &Rows, shard: u32, of: u32) -> Result<Ways, AllocError>
         requires { shard < of }
         ensures kept { IfOk result (λ w. (copies : List ℤ) → Kept rows.now copies w) }
     {

@@ -3,7 +3,7 @@ use Rattle.std.specs.Prelude.{FitsSigned}
 use Rattle.std.proofs.lemmas.Int.{to_z-of_z}
 use Rattle.auc_persons.specs.Candidates.{Listed}
 use Rattle.auc_persons.specs.Priced.{value_in}
-use Rattle.auc_persons.proofs.Shortlists.{decided_if, list_is_row}
+use Rattle.auc_persons.proofs.Shortlists.{decided_if, found_if, list_is_row}
 use Rattle.auc_persons.proofs.shortlist.Shortlist.listed.Goals as goal
 
 pub invariant_of-best-clause-within : goal.invariant_of-best-clause-within
@@ -30,3 +30,15 @@ returns-clause-found c =
     let f1 : FitsSigned w64 c.args.row.scale = search rules in
     let s = simp to_z-of_z at c.scan_from.ensures.some in
     decided_if (value_in c.args.row) c.args.row.arcs.now c.args.self.now.arcs c.args.self.now.bound c.scan_from.result c.requires.keeps (rw c.arcs-2.ensures.value at s)
+
+pub returns-then-self-clause-some : goal.returns-then-self-clause-some
+returns-then-self-clause-some c =
+    let f1 : FitsSigned w64 c.args.row.scale = search rules in
+    let s = simp to_z-of_z at c.best.ensures.some in
+    found_if (value_in c.args.row) c.args.row.arcs.now c.args.self.now.arcs c.args.self.now.bound c.best.result c.requires.keeps (rw c.arcs.ensures.value at s)
+
+pub returns-clause-some : goal.returns-clause-some
+returns-clause-some c =
+    let f1 : FitsSigned w64 c.args.row.scale = search rules in
+    let s = simp to_z-of_z at c.scan_from.ensures.some in
+    found_if (value_in c.args.row) c.args.row.arcs.now c.args.self.now.arcs c.args.self.now.bound c.scan_from.result c.requires.keeps (rw c.arcs-2.ensures.value at s)

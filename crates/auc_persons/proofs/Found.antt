@@ -5,7 +5,7 @@ use Rattle.std.proofs.lemmas.Int.{ints, by_lt_z}
 use Rattle.std.proofs.lemmas.Bool.{cases_eq, cases_lt}
 use Rattle.std.proofs.lemmas.List.Elements.{All-contains, All-weaker}
 use Rattle.auc_graph.specs.declared.rows.RowArc.{RowArc}
-use Rattle.auc_persons.specs.declared.scan.Scan.{Scan}
+use Rattle.auc_persons.specs.declared.bidder.scan.Scan.{Scan}
 use Rattle.auc_persons.specs.Scan.{endless, Reached, IsValue, IsScan}
 use Rattle.auc_persons.specs.Search.{Met, IsFound, Covers, IsLimit, Precedes, Follows, Taken}
 

@@ -11,27 +11,9 @@
 //! by them.
 #![tactic(auto)]
 
-mod amount;
-mod bid;
 mod bidder;
 mod bidding;
-mod blocks;
-mod bound;
-mod bounded;
-mod least;
-mod lists;
-mod lists_by_blocks;
-mod person_row;
-mod priced_row;
-mod rising;
-mod scan;
-mod search;
 mod shard;
-mod shortlist;
-mod sorted_row;
-mod sorting;
-mod way;
-mod ways;
 
 pub use auc_letters::{Bid, PersonState};
 pub use bidder::{Bidder, lists_stay_right};

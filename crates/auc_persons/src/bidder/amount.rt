@@ -48,8 +48,8 @@ pub(crate) fn scaled(scale: i64, spread: i64) -> i64
     scale * spread
 }
 
-/// What is bid on the best arc of a row that a pass over it has found. `spread` is that of the costs of the file; `eps` is in scaled
-/// costs.
+/// What is bid on the best arc of a row that a pass over it has found. `spread` is that of the costs of the file; `eps`
+/// is in scaled costs.
 ///
 /// Takes O(1) time and no memory. The method is the bid of the auction algorithm (Bertsekas, 1979).
 pub(crate) fn amount_of(row: PricedRow, spread: i64, eps: i64, found: Scan) -> i64

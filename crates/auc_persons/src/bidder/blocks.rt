@@ -17,7 +17,8 @@ use std::alloc::{AllocError, Global};
 use std::marker::Model;
 use std::snapshot::Snapshot;
 
-/// A bound for each 16 arcs of the long rows. They are of the rows that they were made for, and stay right as long as no copy falls.
+/// A bound for each 16 arcs of the long rows. They are of the rows that they were made for, and stay right as long as
+/// no copy falls.
 #[derive(Drop)]
 pub(crate) struct Blocks {
     // The rows that they were made for. It has no bytes.
@@ -94,7 +95,8 @@ impl Blocks {
         })
     }
 
-    /// The best arc of a person, if he has blocks; they make the list of a very long row anew. `place` is the number of his list.
+    /// The best arc of a person, if he has blocks; they make the list of a very long row anew. `place` is the number of
+    /// his list.
     pub(crate) fn scan(
         &mut self,
         own: PersonRow,

@@ -13,7 +13,7 @@ use crate::bidder::least::least_of;
 use crate::bidder::person_row::PersonRow;
 use crate::bidder::priced_row::PricedRow;
 use crate::bidder::scan::Scan;
-use crate::bidder::search::{Search, begun_by};
+use crate::bidder::search::{Search, begun};
 use auc_graph::Rows;
 use std::snapshot::Snapshot;
 
@@ -38,17 +38,8 @@ fn with_part(row: PricedRow, begun: Search, from: usize, to: usize) -> Search
     search
 }
 
-/// The lesser of two numbers.
-#[inline]
-pub(crate) fn lesser(one: usize, other: usize) -> usize
-    ensures one { result ≤ one }
-    ensures other { result ≤ other }
-    ensures least { (k : ℕ) → k < one → k < other → k < result }
-{
-    if one < other { one } else { other }
-}
-
-/// A search with the arcs of a block, none of which is below this value. Most blocks change nothing, and are left out by one test.
+/// A search with the arcs of a block, none of which is below this value. Most blocks change nothing, and are left out
+/// by one test.
 #[inline]
 fn with_block(row: PricedRow, begun: Search, from: usize, least: i64) -> Search
     requires within { from ≤ length row.arcs.now }
@@ -63,7 +54,7 @@ fn with_block(row: PricedRow, begun: Search, from: usize, least: i64) -> Search
     if least > begun.limit {
         return begun;
     }
-    let to = from + lesser(BLOCK, row.arcs.len() - from);
+    let to = from + BLOCK.min(row.arcs.len() - from);
     with_part(row, begun, from, to)
 }
 
@@ -91,8 +82,8 @@ pub(crate) fn next_within(
     count
 }
 
-/// The best arc of a person with a long row, in one pass over his blocks that begins with what is known of some arcs of it. Each block that is
-/// looked at gets its least value as bound.
+/// The best arc of a person with a long row, in one pass over his blocks that begins with what is known of some arcs of
+/// it. Each block that is looked at gets its least value as bound.
 // Apart: docs/CODEGEN.md, "Loops of their own".
 #[inline(never)]
 pub(crate) fn scan_blocks(
@@ -120,7 +111,7 @@ pub(crate) fn scan_blocks(
     if start > bounds.len() || count > bounds.len() - start {
         return None;
     }
-    let mut search = begun_by(row, known)?;
+    let mut search = begun(row, known)?;
     let mut block = next_within(bounds, start, 0, count, search.limit);
     while block < count {
         let from = block * BLOCK;

@@ -2,21 +2,12 @@
 //!
 //! It is looked for by itself, with no branch: nearly always it tells that the block has nothing to say.
 
-ghost use Rattle.std.specs.Prelude.{◌≤◌, ◌+◌, ◌≤ℤ◌, length};
+ghost use Rattle.std.specs.Prelude.{◌≤◌, ◌+◌, length};
 ghost use Rattle.auc_persons.specs.Blocks.{Above};
 ghost use Rattle.auc_persons.specs.Priced.{value_in};
 
 use crate::bidder::bound::BLOCK;
 use crate::bidder::priced_row::PricedRow;
-
-/// The lower of two values.
-#[inline]
-fn lower(one: i64, other: i64) -> i64
-    ensures one { result ≤ℤ one }
-    ensures other { result ≤ℤ other }
-{
-    if other < one { other } else { one }
-}
 
 /// No arc of a whole block, which begins here, is below this.
 #[inline(always)]
@@ -27,7 +18,7 @@ fn least_of_whole(row: PricedRow, from: usize) -> i64
     let mut least = i64::MAX;
     // A fixed number of arcs: docs/CODEGEN.md, "A block written out".
     for number in 0..BLOCK {
-        least = lower(least, row.value(from + number));
+        least = least.min(row.value(from + number));
     }
     least
 }
@@ -39,7 +30,7 @@ fn least_of_part(row: PricedRow, from: usize, to: usize) -> i64
 {
     let mut least = i64::MAX;
     for place in from..to {
-        least = lower(least, row.value(place));
+        least = least.min(row.value(place));
     }
     least
 }

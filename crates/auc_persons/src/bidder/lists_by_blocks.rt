@@ -1,7 +1,7 @@
 //! A list of candidates of a very long row, made by its blocks.
 //!
-//! The blocks have decided the bid, so the second of the whole row is known, and a block whose bound is not below that of the new list
-//! has no arc for it.
+//! The blocks have decided the bid, so the second of the whole row is known, and a block whose bound is not below that
+//! of the new list has no arc for it.
 
 ghost use Rattle.std.specs.Prelude.{true, false, ◌≡◌, ◌<◌, ◌≤◌, ◌+◌, ◌^◌, [], pos, neg_ℤ, ◌<ℤ◌, ◌≤ℤ◌, IfSome, length, take};
 ghost use Rattle.auc_graph.specs.Table.{row_of};
@@ -11,7 +11,7 @@ ghost use Rattle.auc_persons.specs.Scan.{endless, IsValue};
 ghost use Rattle.auc_persons.specs.Priced.{IsScanOf, arcs_of, value_in, value_to};
 
 use crate::bidder::bound::{BLOCK, Blocked, Bound};
-use crate::bidder::bounded::{lesser, next_within, scan_blocks};
+use crate::bidder::bounded::{next_within, scan_blocks};
 use crate::bidder::least::least_of;
 use crate::bidder::person_row::PersonRow;
 use crate::bidder::priced_row::PricedRow;
@@ -22,8 +22,8 @@ use auc_graph::Rows;
 use std::snapshot::Snapshot;
 
 impl Shortlist {
-    /// Takes the arcs below a bound of the block that begins here, none of whose arcs is below `least`; no arc at all where they are
-    /// too many.
+    /// Takes the arcs below a bound of the block that begins here, none of whose arcs is below `least`; no arc at all
+    /// where they are too many.
     #[inline]
     fn take_block(&mut self, row: PricedRow, bound: i64, from: usize, least: i64) -> bool
         requires within { from ≤ length row.arcs.now }
@@ -37,13 +37,13 @@ impl Shortlist {
         if least >= bound {
             return true;
         }
-        let to = from + lesser(BLOCK, row.arcs.len() - from);
+        let to = from + BLOCK.min(row.arcs.len() - from);
         self.take_part(row, bound, from, to)
     }
 }
 
-/// Takes the arcs of a long row that are below a bound; none where they are too many. Each block that is looked at gets its least
-/// value as bound.
+/// Takes the arcs of a long row that are below a bound; none where they are too many. Each block that is looked at gets
+/// its least value as bound.
 // Apart: docs/CODEGEN.md, "Loops of their own".
 #[inline(never)]
 fn fill_by_blocks(

@@ -7,7 +7,8 @@ ghost use Rattle.auc_graph.specs.Price.{IsPrice};
 
 use auc_graph::Rows;
 
-/// A person, the rows of all, of which one is his own, and the copies of the prices, indexed by object, at which that is looked over.
+/// A person, the rows of all, of which one is his own, and the copies of the prices, indexed by object, at which that
+/// is looked over.
 #[derive(Clone, Copy)]
 pub(crate) struct PersonRow<'a> {
     pub rows: &'a Rows,

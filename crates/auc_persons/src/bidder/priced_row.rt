@@ -8,7 +8,8 @@ use crate::bidder::person_row::PersonRow;
 use crate::bidder::scan::{scale_of, value_of};
 use auc_graph::RowArc;
 
-/// Arcs of one person, in the order of his row, and the copies of the prices, indexed by object, that their values are made of.
+/// Arcs of one person, in the order of his row, and the copies of the prices, indexed by object, that their values are
+/// made of.
 #[derive(Clone, Copy)]
 pub(crate) struct PricedRow<'a> {
     // One more than the persons, by which costs are scaled.

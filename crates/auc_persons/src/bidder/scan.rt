@@ -5,7 +5,8 @@ ghost use Rattle.auc_graph.specs.Price.{IsPrice};
 
 use auc_graph::{MOST_PERSONS, RowArc};
 
-/// The best arc so far, its value, and the least value of arcs to other objects (the greatest number where there is none).
+/// The best arc so far, its value, and the least value of arcs to other objects (the greatest number where there is
+/// none).
 #[derive(Clone, Copy)]
 pub(crate) struct Scan {
     pub value: i64,

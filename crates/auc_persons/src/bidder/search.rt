@@ -20,8 +20,8 @@ pub(crate) struct Search {
 }
 
 impl Scan {
-    /// Whether an arc of this value goes before the best one: arcs may come in any order, so of equal ones to one object the
-    /// place in the row decides.
+    /// Whether an arc of this value goes before the best one: arcs may come in any order, so of equal ones to one
+    /// object the place in the row decides.
     #[inline]
     fn is_preceded(self, arc: RowArc, value: i64) -> bool
         ensures { PlaceJudged result arc value self }
@@ -102,13 +102,17 @@ impl Search {
     }
 }
 
-/// What the first arc of a row alone decides; nothing where the row has no arc.
+/// What is decided by a pass over some arcs of the row, or else by the first one; nothing where the row has no arc.
 #[inline]
-fn begun(row: PricedRow) -> Option<Search>
+pub(crate) fn begun(row: PricedRow, known: Option<Scan>) -> Option<Search>
+    requires known { IfSome known (IsFound (value_in row) row.arcs.now) }
     ensures found { IfSome result (λ s. IsFound (value_in row.entry) row.entry.arcs.now s.scan) }
     ensures limit { IfSome result (λ s. IsLimit s.scan s.limit) }
     ensures none { IfNone result (row.entry.arcs.now ≡ []) }
 {
+    if let Some(scan) = known {
+        return Some(Search::by(scan));
+    }
     if row.arcs.is_empty() {
         return None;
     }
@@ -119,26 +123,12 @@ fn begun(row: PricedRow) -> Option<Search>
     }))
 }
 
-/// What is decided by a pass over some arcs of the row, or else by the first one.
-#[inline]
-pub(crate) fn begun_by(row: PricedRow, known: Option<Scan>) -> Option<Search>
-    requires known { IfSome known (IsFound (value_in row) row.arcs.now) }
-    ensures found { IfSome result (λ s. IsFound (value_in row.entry) row.entry.arcs.now s.scan) }
-    ensures limit { IfSome result (λ s. IsLimit s.scan s.limit) }
-    ensures none { IfNone result (row.entry.arcs.now ≡ []) }
-{
-    match known {
-        Some(scan) => Some(Search::by(scan)),
-        None => begun(row),
-    }
-}
-
 /// The best arc of a row, in one pass with a branch by values; nothing where the row has no arc.
 pub(crate) fn scan_from(row: PricedRow) -> Option<Scan>
     ensures some { IfSome result (IsScan (value_in row.entry) row.entry.arcs.now) }
     ensures none { IfNone result (row.entry.arcs.now ≡ []) }
 {
-    let mut search = begun(row)?;
+    let mut search = begun(row, None)?;
     for place in 0..row.arcs.len() {
         let value = row.value(place);
         if value <= search.limit {

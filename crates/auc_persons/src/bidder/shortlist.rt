@@ -1,8 +1,8 @@
-//! The candidates of one person: the few arcs of his row that were best when the list was made, and a bound that no other arc
-//! of the row is below.
+//! The candidates of one person: the few arcs of his row that were best when the list was made, and a bound that no
+//! other arc of the row is below.
 //!
-//! Copies of prices never fall, so a bound of an arc's value stays one. How the bound is found is of no importance to what is bid; it stands in
-//! `shortlist/making.rt`.
+//! Copies of prices never fall, so a bound of an arc's value stays one. How the bound is found is of no importance to
+//! what is bid; it stands in `shortlist/making.rt`.
 
 ghost use Rattle.std.specs.Prelude.{false, true, ◌≡◌, ◌<◌, ◌≤◌, ◌^◌, ◌<ℤ◌, ◌≤ℤ◌, [], ◌∷◌, ◌++◌, pos, IsTrue, IfSome, length, take};
 ghost use Rattle.auc_persons.specs.Candidates.{Decides, Keeps, Listed, no_list};
@@ -120,8 +120,8 @@ impl Shortlist {
         self.count as usize == ROOM
     }
 
-    /// Whether what a pass over the list has found is what one over the row would find: no arc left out is as good as the best
-    /// or better than the second.
+    /// Whether what a pass over the list has found is what one over the row would find: no arc left out is as good as
+    /// the best or better than the second.
     #[inline]
     fn decides(&self, scan: Scan) -> bool
         ensures { IsTrue result → Decides self.now.bound scan }
@@ -129,8 +129,8 @@ impl Shortlist {
         scan.value < self.bound && scan.second <= self.bound
     }
 
-    /// What a pass over the list finds, which is what one over the row would find where it decides; nothing where the list has no
-    /// arc.
+    /// What a pass over the list finds, which is what one over the row would find where it decides; nothing where the
+    /// list has no arc.
     #[inline]
     pub(crate) fn listed(&self, row: PricedRow) -> Option<Scan>
         requires keeps { Keeps (value_in row) row.arcs.now self.now.arcs self.now.bound }
@@ -153,19 +153,9 @@ impl Shortlist {
         })
     }
 
-    /// What a pass over the list finds, where that decides.
-    #[inline]
-    fn decided(&self, row: PricedRow) -> Option<Scan>
-        requires keeps { Keeps (value_in row) row.arcs.now self.now.arcs self.now.bound }
-        ensures { IfSome result (IsScan (value_in row.entry) row.entry.arcs.now) }
-    {
-        let scan = self.listed(row)?;
-        if self.decides(scan) { Some(scan) } else { None }
-    }
-
-    /// Makes a list anew, and finds the best arc by it; nothing where no list is made, or it doesn't decide. `second` bounds that of
-    /// the row: the second of the list's arcs, where they have one, and else the greatest number. The blocks of a very long
-    /// row make its list themselves.
+    /// Makes a list anew, and finds the best arc by it; nothing where no list is made, or it doesn't decide. `second`
+    /// bounds that of the row: the second of the list's arcs, where they have one, and else the greatest number. The
+    /// blocks of a very long row make its list themselves.
     fn scan_anew(&mut self, row: PricedRow, second: i64) -> Option<Scan>
         requires keeps { Keeps (value_in row) row.arcs.now self.old.arcs self.old.bound }
         requires second { second <ℤ endless → IsValue second }
@@ -178,7 +168,12 @@ impl Shortlist {
         }
         if second < i64::MAX {
             self.remake(row, second);
-            return self.decided(row);
+            let found = self.listed(row)?;
+            return if self.decides(found) {
+                Some(found)
+            } else {
+                None
+            };
         }
         let whole = scan_from(row)?;
         if whole.second < i64::MAX {

@@ -5,12 +5,12 @@ ghost use Rattle.auc_graph.specs.Table.{IsRowArc};
 ghost use Rattle.auc_graph.specs.Price.{IsPrice};
 ghost use Rattle.auc_persons.specs.Rising.{IsRisingRow};
 
-use crate::bidder::priced_row::PricedRow;
 use crate::bidder::rising::Nearest;
 use crate::bidder::scan::{Scan, value_of};
 use auc_graph::RowArc;
 
-/// Arcs of one person in rising order of their objects, and the copies of the prices, indexed by object, that their values are made of.
+/// Arcs of one person in rising order of their objects, and the copies of the prices, indexed by object, that their
+/// values are made of.
 #[derive(Clone, Copy)]
 pub(crate) struct SortedRow<'a> {
     // One more than the persons, by which costs are scaled.
@@ -29,21 +29,6 @@ impl<'a> SortedRow<'a> {
     ghost use Rattle.auc_graph.specs.Bid.{value};
     ghost use Rattle.auc_persons.specs.Priced.{arc_at};
     ghost use Rattle.auc_persons.specs.Scan.{copy_in, IsScan, IsValue};
-
-    /// A row whose objects rise.
-    #[inline(always)]
-    pub fn of(row: PricedRow<'a>) -> SortedRow<'a>
-        requires { IsRisingRow row.arcs.now }
-        ensures scale { result.scale ≡ row.entry.scale }
-        ensures arcs { result.arcs.now ≡ row.entry.arcs.now }
-        ensures copies { result.copies.now ≡ row.entry.copies.now }
-    {
-        SortedRow {
-            scale: row.scale,
-            arcs: row.arcs,
-            copies: row.copies,
-        }
-    }
 
     /// The value of the arc that stands here, in scaled costs.
     #[inline(always)]

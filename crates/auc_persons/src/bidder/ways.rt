@@ -63,7 +63,8 @@ fn copied(
     })
 }
 
-/// The way for a row, if it is the shard's own; a copy that is wanted comes after the others. `place` is for a row with a list.
+/// The way for a row, if it is the shard's own; a copy that is wanted comes after the others. `place` is for a row with
+/// a list.
 fn way_of(
     row: &[RowArc],
     is_own: bool,
@@ -100,8 +101,8 @@ fn count_with(lists: u32, way: Way) -> u32
 }
 
 impl Ways {
-    /// The ways for the persons of shard number `shard` of `of`. They take 8 bytes for each person of all, and 12 to 24 for each arc of the shard's
-    /// short rows that don't rise.
+    /// The ways for the persons of shard number `shard` of `of`. They take 8 bytes for each person of all, and 12 to 24
+    /// for each arc of the shard's short rows that don't rise.
     pub(crate) fn make(alloc: Global, rows: &Rows, shard: u32, of: u32) -> Result<Ways, AllocError>
         requires { shard < of }
         ensures kept { IfOk result (λ w. (copies : List ℤ) → Kept rows.now copies w) }
@@ -135,7 +136,11 @@ impl Ways {
         }
         let row = PricedRow::of(own);
         match self.ways[person] {
-            Way::Rising => Some(SortedRow::of(row)),
+            Way::Rising => Some(SortedRow {
+                scale: row.scale,
+                arcs: row.arcs,
+                copies: row.copies,
+            }),
             Way::Sorted { start, count } => {
                 let start = start as usize;
                 Some(SortedRow {

@@ -40,7 +40,8 @@ impl Shortlist {
         self.rises = true;
     }
 
-    /// Takes the arc at a place of a row where it is below a bound, where it has those before; no arc at all where they are too many.
+    /// Takes the arc at a place of a row where it is below a bound, where it has those before; no arc at all where they
+    /// are too many.
     #[inline(always)]
     fn take_at(&mut self, row: PricedRow, bound: i64, place: usize) -> bool
         requires within { place < length row.arcs.now }
@@ -60,8 +61,8 @@ impl Shortlist {
         true
     }
 
-    /// Takes the arcs below a bound from one place of a row to another, where it has those before; no arc at all where they are
-    /// too many.
+    /// Takes the arcs below a bound from one place of a row to another, where it has those before; no arc at all where
+    /// they are too many.
     // Apart: docs/CODEGEN.md, "Loops of their own".
     #[inline(never)]
     pub(crate) fn take_part(&mut self, row: PricedRow, bound: i64, from: usize, to: usize) -> bool

@@ -1,4 +1,4 @@
-use Rattle.std.proofs.Common.{◌-◌, w64, arith, rules}
+use Rattle.std.proofs.Common.{w64, arith, rules}
 use Rattle.std.specs.Prelude.{FitsSigned}
 use Rattle.std.proofs.lemmas.Int.{ints}
 use Rattle.auc_persons.proofs.Parts.{covered_above}
@@ -15,7 +15,7 @@ returns-then-least-begun-clause-covered c =
 pub returns-clause-covered : goal.returns-clause-covered
 returns-clause-covered c =
     let all = c.with_part.ensures.covered in
-    λ k d low high below. all k d low (omega (arith, low, c.lesser.ensures.least (k - c.args.from) (omega (arith, low, high)) (omega (arith, low, below))))
+    λ k d low high below. all k d low (omega (arith, low, high, below, c.min.ensures))
 
 pub returns-clause-found : goal.returns-clause-found
 returns-clause-found c =

@@ -11,5 +11,5 @@ returns-clause-found c =
     let f2 : FitsSigned w64 c.value.result = search rules in
     let row = c.args.row.arcs.now in
     let is = c.value.ensures.is in
-    let e = simp to_z-of_z at c.by.ensures.scan in
+    let e = simp to_z-of_z at c.by-2.ensures.scan in
     rw e (found_alone (value_in c.args.row) row (get_or row 0 no_arc) c.value.result (Contains-get_or row 0 no_arc (search rules)) is c.value.ensures.range)

@@ -1,4 +1,4 @@
-use Rattle.std.proofs.Common.{◌+◌, ◌-◌, w64, arith}
+use Rattle.std.proofs.Common.{◌+◌, w64, arith}
 use Rattle.std.specs.Prelude.{FitsSigned}
 use Rattle.std.proofs.lemmas.Int.{ints, to_z-of_z}
 use Rattle.auc_persons.specs.Priced.{no_arc, value_in}
@@ -18,5 +18,5 @@ returns-clause-taken c fitted =
     let f5 : FitsSigned w64 c.args.bound = c.ranges.bound in
     let part = c.take_part in
     let taken = simp to_z-of_z at part.ensures.taken in
-    let ends = c.lesser.ensures in
-    gathered_to (value_in c.args.row) c.args.row.arcs.now part.new.self.arcs c.args.bound (c.args.from + c.lesser.result) (c.args.from + 16) c.args.row.is_row.rising (omega (arith, ends.one)) (λ k low high below. absurd (omega (arith, low, ends.least (k - c.args.from) (omega (arith, low, high)) (omega (arith, low, below))))) (taken fitted)
+    let ends = c.min.ensures in
+    gathered_to (value_in c.args.row) c.args.row.arcs.now part.new.self.arcs c.args.bound (c.args.from + c.min.result) (c.args.from + 16) c.args.row.is_row.rising (omega (arith, ends)) (λ k low high below. absurd (omega (arith, low, high, below, ends))) (taken fitted)

@@ -10,8 +10,8 @@ use Rattle.auc_persons.proofs.KnownRows.{rising_here, sorted_here, sorted_within
 use Rattle.auc_persons.proofs.SortedScans.{sorted_scan}
 use Rattle.auc_persons.proofs.bidder.ways.Ways.sorted.Goals as goal
 
-pub of-requires : goal.of-requires
-of-requires c =
+pub invariant_of-result-clause-rising : goal.invariant_of-result-clause-rising
+invariant_of-result-clause-rising c =
     let t = c.args.own.rows.now in
     let made = c.self.inside.made.value in
     let copies = c.args.own.copies.now in
@@ -23,8 +23,8 @@ of-requires c =
     let high = rw c.of-row.ensures.scale at c.of-row.result.scale_high in
     rw c.of-row.ensures.arcs (rising_here made t copies c.self.inside.arcs.items ways c.args.own.person c.index.result.now c.self.invariant lt kept row c.args.own.are_prices low high (sym c.index.ensures ∙ c.in-Rising.is))
 
-pub invariant_of-result-clause-within : goal.invariant_of-result-clause-within
-invariant_of-result-clause-within c =
+pub invariant_of-result-in-Sorted-clause-within : goal.invariant_of-result-in-Sorted-clause-within
+invariant_of-result-in-Sorted-clause-within c =
     let t = c.args.own.rows.now in
     let made = c.self.inside.made.value in
     let copies = c.args.own.copies.now in
@@ -37,8 +37,8 @@ invariant_of-result-clause-within c =
     let is = sorted_here made t copies c.self.inside.arcs.items ways c.args.own.person c.index.result.now c.self.invariant lt kept row c.args.own.are_prices low high c.in-Sorted.start c.in-Sorted.count (sym c.index.ensures ∙ c.in-Sorted.is) in
     rw (c.deref.ensures.value, c.of-row.ensures.copies) (sorted_within (length copies) (row_of t c.args.own.person) (slice_range c.self.inside.arcs.items c.in-Sorted.start (c.in-Sorted.start + c.in-Sorted.count)) is.1 row.within)
 
-pub invariant_of-result-clause-rising : goal.invariant_of-result-clause-rising
-invariant_of-result-clause-rising c =
+pub invariant_of-result-in-Sorted-clause-rising : goal.invariant_of-result-in-Sorted-clause-rising
+invariant_of-result-in-Sorted-clause-rising c =
     let t = c.args.own.rows.now in
     let made = c.self.inside.made.value in
     let copies = c.args.own.copies.now in

@@ -5,7 +5,7 @@ use Rattle.std.proofs.lemmas.Int.{ints}
 use Rattle.std.proofs.lemmas.List.Elements.{All-weaker}
 use Rattle.auc_graph.specs.declared.rows.RowArc.{RowArc}
 use Rattle.auc_graph.specs.Bid.{value, IsBestArc, IsAmount, IsBid}
-use Rattle.auc_persons.specs.declared.scan.Scan.{Scan}
+use Rattle.auc_persons.specs.declared.bidder.scan.Scan.{Scan}
 use Rattle.auc_persons.specs.Scan.{endless, Reached, IsScan}
 
 best_arc : (val : RowArc → ℤ) (row : List RowArc) (f : Scan) → IsScan val row f → IsBestArc val row f.best

@@ -7,8 +7,8 @@ use Rattle.std.proofs.lemmas.List.Elements.{All-append, All-contains_itself, All
 use Rattle.auc_graph.specs.declared.rows.RowArc.{RowArc}
 use Rattle.auc_graph.specs.Bid.{value}
 use Rattle.auc_graph.specs.Table.{Table, row_of}
-use Rattle.auc_persons.specs.declared.bound.TheConstants.{NO_BOUND}
-use Rattle.auc_persons.specs.declared.bound.Bound.{Bound}
+use Rattle.auc_persons.specs.declared.bidder.bound.TheConstants.{NO_BOUND}
+use Rattle.auc_persons.specs.declared.bidder.bound.Bound.{Bound}
 use Rattle.auc_persons.specs.Blocks.{Above, IsOf, beside, of_bound}
 use Rattle.auc_persons.specs.Candidates.{Keeps, KeepsListed}
 use Rattle.auc_persons.specs.Scan.{copy_in}

@@ -5,9 +5,9 @@ use Rattle.std.proofs.lemmas.Bool.{cases_eq, cases_lt}
 use Rattle.std.proofs.lemmas.Int.{ints}
 use Rattle.std.proofs.lemmas.List.{get_or_append_left, get_or_default, get_or_push, get_or-set_other, get_or-set_same, length-append, length-set}
 use Rattle.std.proofs.lemmas.List.Elements.{All-weaker}
-use Rattle.auc_persons.specs.declared.bound.TheConstants.{NO_BOUND}
-use Rattle.auc_persons.specs.declared.bound.Bound.{Bound}
-use Rattle.auc_persons.specs.declared.bound.Blocked.{Blocked}
+use Rattle.auc_persons.specs.declared.bidder.bound.TheConstants.{NO_BOUND}
+use Rattle.auc_persons.specs.declared.bidder.bound.Bound.{Bound}
+use Rattle.auc_persons.specs.declared.bidder.bound.Blocked.{Blocked}
 use Rattle.auc_persons.specs.Blocks.{AreAppended, AreNumbered, AreOfSame, IsOf, IsUnknown}
 
 -- of a bound the value alone has changed

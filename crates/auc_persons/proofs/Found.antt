@@ -3,15 +3,33 @@ use Rattle.std.proofs.Common.{◌≡◌, ◌≢◌, ◌<◌, ◌≤◌, ◌^◌,
 use Rattle.std.specs.Prelude.{ℤ, ◌≤ℤ◌, ◌<ℤ◌, neg_ℤ, All, Contains}
 use Rattle.std.proofs.lemmas.Int.{ints, by_lt_z}
 use Rattle.std.proofs.lemmas.Bool.{cases_eq, cases_lt}
-use Rattle.std.proofs.lemmas.List.Elements.{All-weaker}
+use Rattle.std.proofs.lemmas.List.Elements.{All-contains, All-weaker}
 use Rattle.auc_graph.specs.declared.rows.RowArc.{RowArc}
-use Rattle.auc_persons.specs.declared.scan.Scan.{Scan}
+use Rattle.auc_persons.specs.declared.bidder.scan.Scan.{Scan}
 use Rattle.auc_persons.specs.Scan.{endless, Reached, IsValue, IsScan}
 use Rattle.auc_persons.specs.Search.{Met, IsFound, Covers, IsLimit, Precedes, Follows, Taken}
 
 -- an arc alone
 pub found_alone : (val : RowArc → ℤ) (row : List RowArc) (a : RowArc) (v : ℤ) → Contains row a → v ≡ val a → IsValue v → IsFound val row (record { value = v; second = endless; best = a })
 found_alone val row a v there is ok = record { listed = there; is_value = is; in_range = ok; ordered = omega (arith, ints, ok.high); met = inl refl }
+
+-- a pass over some arcs of the row
+pub found_in_some : (val : RowArc → ℤ) (row arcs : List RowArc) (f : Scan) → All (Contains row) arcs → IsScan val arcs f → IsFound val row f
+found_in_some val row arcs f members s = record {
+  listed = All-contains (Contains row) arcs f.best members s.listed;
+  is_value = s.is_value;
+  in_range = s.in_range;
+  ordered = order s.reached;
+  met = meet s.reached;
+}
+  where
+    order : Reached val arcs f.best f.second → f.value ≤ℤ f.second
+    order (inl (same, none)) = omega (arith, ints, none, s.in_range.high)
+    order (inr (b, there, other, e, ok)) = let low = All-contains (λ b. f.value ≤ℤ val b) arcs b s.least there in omega (arith, ints, low, e)
+
+    meet : Reached val arcs f.best f.second → Met val row f.best f.second
+    meet (inl (same, none)) = inl none
+    meet (inr (b, there, other, e, ok)) = inr (b, All-contains (Contains row) arcs b members there, other, e, ok)
 
 -- each arc goes before the best one or doesn't
 tied_object : (a : RowArc) (v : ℤ) (f : Scan) → v ≡ f.value → a.object ≡ f.best.object → (a.arc < f.best.arc) ⊎ (f.best.arc ≤ a.arc) → Precedes a v f ⊎ Follows a v f

@@ -6,9 +6,9 @@ use Rattle.std.proofs.lemmas.List.Elements.{All-append, All-contains, All-contai
 use Rattle.auc_graph.specs.declared.rows.RowArc.{RowArc}
 use Rattle.auc_graph.specs.Bid.{value}
 use Rattle.auc_graph.specs.Table.{Table, row_of}
-use Rattle.auc_persons.specs.declared.bound.TheConstants.{NO_BOUND}
-use Rattle.auc_persons.specs.declared.bound.Bound.{Bound}
-use Rattle.auc_persons.specs.declared.bound.Blocked.{Blocked}
+use Rattle.auc_persons.specs.declared.bidder.bound.TheConstants.{NO_BOUND}
+use Rattle.auc_persons.specs.declared.bidder.bound.Bound.{Bound}
+use Rattle.auc_persons.specs.declared.bidder.bound.Blocked.{Blocked}
 use Rattle.auc_persons.specs.Blocks.{AreRight, HasArcs, IsUnknown, of_blocked, of_bound}
 use Rattle.auc_persons.specs.Candidates.{Keeps, KeepsListed, Kept}
 use Rattle.auc_persons.specs.Scan.{copy_in}

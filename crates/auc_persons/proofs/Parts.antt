@@ -10,7 +10,7 @@ use Rattle.auc_graph.specs.declared.rows.RowArc.{RowArc}
 use Rattle.auc_graph.specs.Bid.{value}
 use Rattle.auc_graph.specs.Table.{IsRow, IsRowArc}
 use Rattle.auc_graph.specs.Price.{IsPrice}
-use Rattle.auc_persons.specs.declared.scan.Scan.{Scan}
+use Rattle.auc_persons.specs.declared.bidder.scan.Scan.{Scan}
 use Rattle.auc_persons.specs.Blocks.{Above}
 use Rattle.auc_persons.specs.Scan.{IsValue, copy_in}
 use Rattle.auc_persons.specs.Search.{Covers, IsFound, IsLimit}

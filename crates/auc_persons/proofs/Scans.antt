@@ -6,7 +6,7 @@ use Rattle.std.proofs.lemmas.List.{take_all}
 use Rattle.std.proofs.Common.{take, length}
 use Rattle.std.proofs.lemmas.List.Elements.{All-nil, All-push, All-weaker, Contains-push, Contains-append_left}
 use Rattle.auc_graph.specs.declared.rows.RowArc.{RowArc}
-use Rattle.auc_persons.specs.declared.scan.Scan.{Scan}
+use Rattle.auc_persons.specs.declared.bidder.scan.Scan.{Scan}
 use Rattle.auc_persons.specs.Scan.{endless, Reached, IsValue, IsScan, Beats, Loses}
 
 grow : (P Q : RowArc → Type 0) (row : List RowArc) (a : RowArc) → ((b : RowArc) → P b → Q b) → All P row → Q a → All Q (row ++ a ∷ [])

@@ -9,11 +9,13 @@ use Rattle.std.proofs.lemmas.List.Quantifiers.{all_pairs_push}
 use Rattle.auc_graph.specs.declared.rows.RowArc.{RowArc}
 use Rattle.auc_graph.specs.Bid.{value}
 use Rattle.auc_graph.specs.Table.{IsRow, IsRowArc, Table, row_of}
-use Rattle.auc_persons.specs.declared.scan.Scan.{Scan}
+use Rattle.auc_persons.specs.declared.bidder.scan.Scan.{Scan}
 use Rattle.auc_persons.specs.Candidates.{Decides, Gathered, Keeps, KeepsListed, Kept, Listed, no_list}
 use Rattle.auc_persons.specs.Persons.{NeverFall}
 use Rattle.auc_persons.specs.Scan.{copy_in, IsScan, Reached}
 use Rattle.auc_persons.specs.Priced.{no_arc}
+use Rattle.auc_persons.specs.Search.{IsFound}
+use Rattle.auc_persons.proofs.Found.{found_in_some}
 
 -- ---- what a list decides
 
@@ -57,6 +59,10 @@ decided_is val row arcs bound f keeps s d = decided_by val row arcs bound f s d 
 pub decided_if : (val : RowArc → ℤ) (row arcs : List RowArc) (bound : ℤ) (r : Option Scan) → Keeps val row arcs bound → IfSome r (IsScan val arcs) → IfSome r (λ f. Decides bound f → IsScan val row f)
 decided_if val row arcs bound None keeps s = tt
 decided_if val row arcs bound (Some f) keeps s = λ d. decided_is val row arcs bound f keeps s d
+
+pub found_if : (val : RowArc → ℤ) (row arcs : List RowArc) (bound : ℤ) (r : Option Scan) → Keeps val row arcs bound → IfSome r (IsScan val arcs) → IfSome r (IsFound val row)
+found_if val row arcs bound None keeps s = tt
+found_if val row arcs bound (Some f) keeps s = found_in_some val row arcs f keeps.members s
 
 -- a list is a row
 pub list_is_row : (val : RowArc → ℤ) (objects : ℕ) (row arcs : List RowArc) (bound : ℤ) → IsRow objects row → Keeps val row arcs bound → length arcs ≤ 24 → IsRow objects arcs

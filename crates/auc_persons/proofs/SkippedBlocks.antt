@@ -6,8 +6,8 @@ use Rattle.std.proofs.lemmas.List.Elements.{All-get_or, All-set}
 use Rattle.auc_graph.specs.declared.rows.RowArc.{RowArc}
 use Rattle.auc_graph.specs.Bid.{value}
 use Rattle.auc_graph.specs.Table.{Table, row_of}
-use Rattle.auc_persons.specs.declared.bound.Bound.{Bound}
-use Rattle.auc_persons.specs.declared.bound.Blocked.{Blocked}
+use Rattle.auc_persons.specs.declared.bidder.bound.Bound.{Bound}
+use Rattle.auc_persons.specs.declared.bidder.bound.Blocked.{Blocked}
 use Rattle.auc_persons.specs.Blocks.{Above, AreNumbered, AreOfSame, AreRight, IsOf, of_bound}
 use Rattle.auc_persons.specs.Candidates.{KeepsListed}
 use Rattle.auc_persons.specs.Scan.{copy_in}

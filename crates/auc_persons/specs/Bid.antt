@@ -5,7 +5,7 @@ use Rattle.auc_graph.specs.Bid.{IsBid}
 use Rattle.auc_graph.specs.Table.{Table, row_of}
 use Rattle.auc_letters.specs.declared.letter.Bid.{Bid}
 use Rattle.auc_letters.specs.Award.{bid_of}
-use Rattle.auc_persons.specs.declared.person_row.PersonRow.{PersonRow}
+use Rattle.auc_persons.specs.declared.bidder.person_row.PersonRow.{PersonRow}
 use Rattle.auc_persons.specs.Scan.{copy_in}
 
 -- the bid is the person's, on his best arc at these copies; its amount may be above the greatest price

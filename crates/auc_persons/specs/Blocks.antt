@@ -2,9 +2,9 @@
 use Rattle.std.specs.Prelude.{◌≡◌, ◌<◌, ◌≤◌, ◌*◌, ◌+◌, ◌++◌, ◌≤ℤ◌, ℕ, ℤ, pos, int_lt, cond, List, [], length, take, drop, All, slice_index_or}
 use Rattle.auc_graph.specs.declared.rows.RowArc.{RowArc}
 use Rattle.auc_graph.specs.Table.{Table, row_of}
-use Rattle.auc_persons.specs.declared.bound.TheConstants.{NO_BOUND}
-use Rattle.auc_persons.specs.declared.bound.Bound.{Bound}
-use Rattle.auc_persons.specs.declared.bound.Blocked.{Blocked}
+use Rattle.auc_persons.specs.declared.bidder.bound.TheConstants.{NO_BOUND}
+use Rattle.auc_persons.specs.declared.bidder.bound.Bound.{Bound}
+use Rattle.auc_persons.specs.declared.bidder.bound.Blocked.{Blocked}
 use Rattle.auc_persons.specs.Candidates.{KeepsListed, Listed}
 
 -- the arcs of a row beside those of a block, which has 16

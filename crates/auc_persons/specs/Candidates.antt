@@ -3,7 +3,7 @@ use Rattle.std.specs.Prelude.{◌≡◌, ◌<◌, ◌+◌, ◌⊎◌, ℕ, ℤ, 
 use Rattle.auc_graph.specs.declared.rows.RowArc.{RowArc}
 use Rattle.auc_graph.specs.Bid.{value}
 use Rattle.auc_graph.specs.Table.{Table, row_of}
-use Rattle.auc_persons.specs.declared.scan.Scan.{Scan}
+use Rattle.auc_persons.specs.declared.bidder.scan.Scan.{Scan}
 use Rattle.auc_persons.specs.Scan.{copy_in, endless}
 
 -- the list of a person: some arcs of his row, and a bound

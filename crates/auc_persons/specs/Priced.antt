@@ -3,9 +3,9 @@ use Rattle.std.specs.Prelude.{ℕ, ℤ, ◌+◌, pos, List, length, slice_index_
 use Rattle.auc_graph.specs.declared.rows.RowArc.{RowArc}
 use Rattle.auc_graph.specs.Bid.{value}
 use Rattle.auc_graph.specs.Table.{row_of}
-use Rattle.auc_persons.specs.declared.person_row.PersonRow.{PersonRow}
-use Rattle.auc_persons.specs.declared.priced_row.PricedRow.{PricedRow}
-use Rattle.auc_persons.specs.declared.scan.Scan.{Scan}
+use Rattle.auc_persons.specs.declared.bidder.person_row.PersonRow.{PersonRow}
+use Rattle.auc_persons.specs.declared.bidder.priced_row.PricedRow.{PricedRow}
+use Rattle.auc_persons.specs.declared.bidder.scan.Scan.{Scan}
 use Rattle.auc_persons.specs.Candidates.{Kept, Listed}
 use Rattle.auc_persons.specs.Scan.{copy_in, IsScan}
 

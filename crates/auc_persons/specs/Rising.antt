@@ -1,7 +1,7 @@
 -- Rows whose objects rise, and a pass over one.
 use Rattle.std.specs.Prelude.{◌≡◌, ◌<◌, ℤ, ◌≤ℤ◌, ◌<ℤ◌, List, AllPairs}
 use Rattle.auc_graph.specs.declared.rows.RowArc.{RowArc}
-use Rattle.auc_persons.specs.declared.rising.Nearest.{Nearest}
+use Rattle.auc_persons.specs.declared.bidder.rising.Nearest.{Nearest}
 
 abbrev pub IsRisingRow : List RowArc → Type 0
 IsRisingRow row = AllPairs (λ a b. a.object < b.object) row

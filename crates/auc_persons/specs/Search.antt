@@ -1,7 +1,7 @@
 -- A pass over a row in which arcs come in any order.
 use Rattle.std.specs.Prelude.{◌≡◌, ◌≢◌, ◌<◌, ◌≤◌, ◌⊎◌, Bool, true, false, ℤ, ◌≤ℤ◌, ◌<ℤ◌, List, Contains}
 use Rattle.auc_graph.specs.declared.rows.RowArc.{RowArc}
-use Rattle.auc_persons.specs.declared.scan.Scan.{Scan}
+use Rattle.auc_persons.specs.declared.bidder.scan.Scan.{Scan}
 use Rattle.auc_persons.specs.Scan.{endless, IsValue}
 
 -- a second that no arc, or an arc of the row to another object, has

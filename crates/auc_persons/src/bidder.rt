@@ -9,24 +9,44 @@ ghost use Rattle.auc_persons.specs.Candidates.{Kept, Listed};
 ghost use Rattle.auc_persons.specs.Persons.{NeverFall};
 ghost use Rattle.auc_persons.specs.Priced.{KeptAt, IsScanOf, arcs_of};
 
-use crate::bid::bid_on;
-use crate::blocks::Blocks;
-use crate::lists::{lists_of, scan_list};
-use crate::person_row::PersonRow;
-use crate::priced_row::PricedRow;
-use crate::scan::Scan;
-use crate::search::scan_from;
-use crate::shortlist::Shortlist;
-use crate::ways::Ways;
+mod amount;
+pub(crate) mod bid;
+mod blocks;
+mod bound;
+mod bounded;
+mod least;
+mod lists;
+mod lists_by_blocks;
+pub(crate) mod person_row;
+mod priced_row;
+mod rising;
+mod scan;
+mod search;
+mod shortlist;
+mod sorted_row;
+mod sorting;
+mod way;
+mod ways;
+
+use crate::bidder::bid::bid_on;
+use crate::bidder::blocks::Blocks;
+use crate::bidder::lists::{lists_of, scan_list};
+use crate::bidder::person_row::PersonRow;
+use crate::bidder::priced_row::PricedRow;
+use crate::bidder::scan::Scan;
+use crate::bidder::search::scan_from;
+use crate::bidder::shortlist::Shortlist;
+use crate::bidder::ways::Ways;
 use auc_graph::Rows;
 use auc_letters::Bid;
 use std::alloc::{AllocError, Global};
 use std::marker::Model;
 
-/// What the bids of a shard's persons are found by ([`Bidder::bid`], [`crate::PersonShard::next_bid_by`]): the way for each row, which is told by that
-/// row alone. For rows of more than 64 arcs there are lists of candidates, by which most bids look at a few arcs alone, and for those of more than 256
-/// bounds of blocks; for shorter ones that don't rise, copies that do. All are of the rows that they were made for, and stay right as long as no copy of a
-/// price falls.
+/// What the bids of a shard's persons are found by ([`Bidder::bid`], [`crate::PersonShard::next_bid_by`]): the way for
+/// each row, which is told by that row alone. For rows of more than 64 arcs there are lists of candidates, by which
+/// most bids look at a few arcs alone, and for those of more than 256 bounds of blocks; for shorter ones that don't
+/// rise, copies that do. All are of the rows that they were made for, and stay right as long as no copy of a price
+/// falls.
 #[derive(Drop)]
 pub struct Bidder {
     ways: Ways,
@@ -46,9 +66,10 @@ impl Model for Bidder {
 impl Bidder {
     /// The ways for the persons of shard number `shard` of `of`, and empty lists for those with more than 64 arcs.
     ///
-    /// Takes O(persons + arcs) time, and 8 bytes of memory for each person of all. For each of the shard's with more than 64 arcs it takes 328 bytes, and
-    /// with more than 256 arcs 8 to 16 more for each 16 arcs. For each of the shard's with at most 64 arcs that don't rise it takes 12 to 24 bytes for
-    /// each arc, and O(arcs of the row * log) time, or O(arcs^2) where some lead to one object.
+    /// Takes O(persons + arcs) time, and 8 bytes of memory for each person of all. For each of the shard's with more
+    /// than 64 arcs it takes 328 bytes, and with more than 256 arcs 8 to 16 more for each 16 arcs. For each of the
+    /// shard's with at most 64 arcs that don't rise it takes 12 to 24 bytes for each arc and the time to sort them,
+    /// or O(arcs^2) where some lead to one object.
     ///
     /// # Errors
     ///
@@ -82,7 +103,8 @@ impl Bidder {
         self.blocks.scan(own, place, lists)
     }
 
-    /// The best arc of a person: by his list or his blocks where these tell it, and else by a pass over his row; nothing where he has none.
+    /// The best arc of a person: by his list or his blocks where these tell it, and else by a pass over his row;
+    /// nothing where he has none.
     // Apart: docs/CODEGEN.md, "A search in line".
     #[inline(never)]
     fn best_apart(&mut self, own: PersonRow) -> Option<Scan>
@@ -140,13 +162,14 @@ impl Bidder {
         Some(bid_on(own, eps, found))
     }
 
-    /// What a person bids at these copies of the prices; None where he has no arc. The amount may be above the greatest price.
+    /// What a person bids at these copies of the prices; None where he has no arc. The amount may be above the greatest
+    /// price.
     ///
-    /// `copies` are indexed by object, and no copy has fallen since this was made; `eps` is in scaled costs, as the copies are. A person of another shard
-    /// than this was made for bids the same, found more slowly.
+    /// `copies` are indexed by object, and no copy has fallen since this was made; `eps` is in scaled costs, as the
+    /// copies are. A person of another shard than this was made for bids the same, found more slowly.
     ///
-    /// Takes a pass over a short row, or for most bids of a longer one over a short list, and else a pass over the row, of which one of more
-    /// than 256 arcs is looked at in part; no memory.
+    /// Takes a pass over a short row, or for most bids of a longer one over a short list, and else a pass over the row,
+    /// of which one of more than 256 arcs is looked at in part; no memory.
     // In line, so that what is found stays in registers.
     #[inline(always)]
     pub fn bid(&mut self, rows: &Rows, eps: i64, person: u32, copies: &[i64]) -> Option<Bid>
@@ -168,8 +191,8 @@ impl Bidder {
     }
 }
 
-/// Lists of candidates stay right while no copy falls: those of a shard through each of its calls, and from the copies of one
-/// phase to the prices that it leaves, with which the next one begins. Does nothing: its contract is the law.
+/// Lists of candidates stay right while no copy falls: those of a shard through each of its calls, and from the copies
+/// of one phase to the prices that it leaves, with which the next one begins. Does nothing: its contract is the law.
 pub fn lists_stay_right()
     ensures { (t : Table) (copies later : List ℤ) (lists : List Listed) → NeverFall copies later → Kept t copies lists → Kept t later lists }
 {}

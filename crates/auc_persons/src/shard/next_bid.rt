@@ -7,10 +7,10 @@ ghost use Rattle.auc_persons.specs.Bid.{IsBidOf};
 ghost use Rattle.auc_persons.specs.Candidates.{Kept};
 ghost use Rattle.auc_persons.specs.Persons.{IsMadeFor, NextBid, NeverFall, SameShape, first_idle};
 
-use crate::bid::plain_bid;
 use crate::bidder::Bidder;
+use crate::bidder::bid::plain_bid;
+use crate::bidder::person_row::PersonRow;
 use crate::bidding::Bidding;
-use crate::person_row::PersonRow;
 use crate::shard::PersonShard;
 use auc_graph::{MOST_PRICE, Rows};
 use auc_letters::{Bid, Why};

@@ -1,0 +1,49 @@
+//! The least value of the arcs of a block.
+//!
+//! It is looked for by itself, with no branch: nearly always it tells that the block has nothing to say.
+
+ghost use Rattle.std.specs.Prelude.{◌≤◌, ◌+◌, length};
+ghost use Rattle.auc_persons.specs.Blocks.{Above};
+ghost use Rattle.auc_persons.specs.Priced.{value_in};
+
+use crate::bidder::bound::BLOCK;
+use crate::bidder::priced_row::PricedRow;
+
+/// No arc of a whole block, which begins here, is below this.
+#[inline(always)]
+fn least_of_whole(row: PricedRow, from: usize) -> i64
+    requires within { from + 16 ≤ length row.arcs.now }
+    ensures { Above (value_in row.entry) row.entry.arcs.now from (from + 16) result }
+{
+    let mut least = i64::MAX;
+    // A fixed number of arcs: docs/CODEGEN.md, "A block written out".
+    for number in 0..BLOCK {
+        least = least.min(row.value(from + number));
+    }
+    least
+}
+
+/// No arc of a row from one place to another is below this.
+fn least_of_part(row: PricedRow, from: usize, to: usize) -> i64
+    requires within { to ≤ length row.arcs.now }
+    ensures { Above (value_in row.entry) row.entry.arcs.now from to result }
+{
+    let mut least = i64::MAX;
+    for place in from..to {
+        least = least.min(row.value(place));
+    }
+    least
+}
+
+/// The least value of the arcs of the block that begins here, which is shorter where the row ends in it.
+// In line: docs/CODEGEN.md, "A block written out".
+#[inline(always)]
+pub(crate) fn least_of(row: PricedRow, from: usize) -> i64
+    requires within { from ≤ length row.arcs.now }
+    ensures { Above (value_in row.entry) row.entry.arcs.now from (from + 16) result }
+{
+    if row.arcs.len() - from >= BLOCK {
+        return least_of_whole(row, from);
+    }
+    least_of_part(row, from, row.arcs.len())
+}

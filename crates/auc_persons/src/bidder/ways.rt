@@ -1,0 +1,176 @@
+//! The ways for the rows of a shard's persons, and copies that rise of the short rows that don't.
+
+ghost use Rattle.std.specs.Prelude.{◌≡◌, ◌<◌, ◌≤◌, ◌+◌, List, ℤ, length, All, AllPairs, IfOk, IfSome};
+ghost use Rattle.auc_persons.specs.Candidates.{Kept};
+ghost use Rattle.auc_persons.specs.Priced.{KeptAt, IsScanOf};
+ghost use Rattle.auc_persons.specs.Sorted.{DecidesAt, Grows, IsWay};
+
+use crate::bidder::person_row::PersonRow;
+use crate::bidder::priced_row::PricedRow;
+use crate::bidder::scan::Scan;
+use crate::bidder::sorted_row::SortedRow;
+use crate::bidder::sorting::{is_rising, sort_row};
+use crate::bidder::way::{SHORT, Way};
+use auc_graph::{RowArc, Rows};
+use std::alloc::{AllocError, Global};
+use std::marker::Model;
+use std::snapshot::Snapshot;
+
+/// The way for each person's row. They are of the rows that they were made for, whatever the prices are.
+#[derive(Drop)]
+pub(crate) struct Ways {
+    // The rows that they were made for. It has no bytes.
+    made: Snapshot<Rows>,
+    ways: Vec<Way>,
+    // The copies, one after the other.
+    arcs: Vec<RowArc>,
+}
+
+impl Model for Ways {
+    ghost use Rattle.std.specs.Prelude.{List, length};
+    ghost use Rattle.auc_persons.specs.Candidates.{Listed};
+    ghost use Rattle.auc_persons.specs.Sorted.{AreWays, of_rows};
+
+    ghost Value = { List Listed };
+
+    ghost view = { λ w. of_rows w.made.value (length w.ways.items) };
+
+    ghost invariant = { λ w. AreWays w.made.value w.arcs.items w.ways.items };
+}
+
+/// Puts the arcs of a short row after the other copies, sorted.
+fn copied(
+    row: &[RowArc],
+    sorted: &mut Vec<RowArc>,
+    arcs: &mut Vec<RowArc>,
+) -> Result<Way, AllocError>
+    requires some { 0 < length row.now }
+    requires order { AllPairs (λ a b. a.arc < b.arc) row.now }
+    requires objects { All (λ a. a.object < 4294967295) row.now }
+    ensures grown { IfOk result (λ _. Grows arcs.old.items arcs.new.items) }
+    ensures way { IfOk result (IsWay row.now arcs.new.items) }
+{
+    sort_row(row, sorted)?;
+    let start = arcs.len();
+    arcs.extend_from_slice(sorted.as_slice())?;
+    // Never so: asked in place of a proof.
+    if start > u32::MAX as usize || sorted.len() > SHORT {
+        return Ok(Way::Plain);
+    }
+    Ok(Way::Sorted {
+        start: start as u32,
+        count: sorted.len() as u8,
+    })
+}
+
+/// The way for a row, if it is the shard's own; a copy that is wanted comes after the others. `place` is for a row with
+/// a list.
+fn way_of(
+    row: &[RowArc],
+    is_own: bool,
+    place: u32,
+    sorted: &mut Vec<RowArc>,
+    arcs: &mut Vec<RowArc>,
+) -> Result<Way, AllocError>
+    requires order { AllPairs (λ a b. a.arc < b.arc) row.now }
+    requires objects { All (λ a. a.object < 4294967295) row.now }
+    ensures grown { IfOk result (λ _. Grows arcs.old.items arcs.new.items) }
+    ensures way { IfOk result (IsWay row.now arcs.new.items) }
+{
+    if !is_own || row.is_empty() {
+        return Ok(Way::Plain);
+    }
+    if row.len() > SHORT {
+        return Ok(Way::Listed { place });
+    }
+    if is_rising(row) {
+        return Ok(Way::Rising);
+    }
+    copied(row, sorted, arcs)
+}
+
+/// How many lists there are with one way more.
+fn count_with(lists: u32, way: Way) -> u32
+    requires { lists < 10000 }
+    ensures { result ≤ lists + 1 }
+{
+    match way {
+        Way::Listed { .. } => lists + 1,
+        Way::Plain | Way::Rising | Way::Sorted { .. } => lists,
+    }
+}
+
+impl Ways {
+    /// The ways for the persons of shard number `shard` of `of`. They take 8 bytes for each person of all, and 12 to 24
+    /// for each arc of the shard's short rows that don't rise.
+    pub(crate) fn make(alloc: Global, rows: &Rows, shard: u32, of: u32) -> Result<Ways, AllocError>
+        requires { shard < of }
+        ensures kept { IfOk result (λ w. (copies : List ℤ) → Kept rows.now copies w) }
+    {
+        let mut ways = Vec::with_capacity(alloc, rows.persons() as usize)?;
+        let mut arcs = Vec::new(alloc);
+        let mut sorted = Vec::with_capacity(alloc, SHORT)?;
+        let mut lists = 0;
+        for person in 0..rows.persons() {
+            let is_own = person % of == shard;
+            let way = way_of(rows.row(person), is_own, lists, &mut sorted, &mut arcs)?;
+            lists = count_with(lists, way);
+            ways.push(way)?;
+        }
+        Ok(Ways {
+            made: Snapshot::of(rows),
+            ways,
+            arcs,
+        })
+    }
+
+    /// Arcs in rising order of their objects that decide the bid of a person with a short row.
+    #[inline(always)]
+    fn sorted<'a>(&'a self, own: PersonRow<'a>) -> Option<SortedRow<'a>>
+        requires kept { KeptAt own self.now }
+        ensures { IfSome result (DecidesAt own.entry) }
+    {
+        let person = own.person as usize;
+        if person >= self.ways.len() {
+            return None;
+        }
+        let row = PricedRow::of(own);
+        match self.ways[person] {
+            Way::Rising => Some(SortedRow {
+                scale: row.scale,
+                arcs: row.arcs,
+                copies: row.copies,
+            }),
+            Way::Sorted { start, count } => {
+                let start = start as usize;
+                Some(SortedRow {
+                    scale: row.scale,
+                    arcs: &self.arcs[start..start + count as usize],
+                    copies: row.copies,
+                })
+            }
+            Way::Plain | Way::Listed { .. } => None,
+        }
+    }
+
+    /// The best arc of a person with a short row.
+    #[inline(always)]
+    pub(crate) fn best(&self, own: PersonRow) -> Option<Scan>
+        requires kept { KeptAt own self.now }
+        ensures { IfSome result (IsScanOf own.entry) }
+    {
+        self.sorted(own)?.best()
+    }
+
+    /// The number of a person's list, where he has one.
+    pub(crate) fn place(&self, person: u32) -> Option<u32> {
+        let person = person as usize;
+        if person >= self.ways.len() {
+            return None;
+        }
+        match self.ways[person] {
+            Way::Listed { place } => Some(place),
+            Way::Plain | Way::Rising | Way::Sorted { .. } => None,
+        }
+    }
+}

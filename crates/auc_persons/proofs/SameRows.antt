@@ -1,4 +1,5 @@
--- Two rows that rise, one of which has the other's arcs, and as many of them, are one row; so are two that have each other's arcs.
+-- Two rows that rise, one of which has the other's arcs, and as many of them, are one row; so are two that have each
+-- other's arcs.
 use Rattle.std.proofs.Common.{◌≡◌, ℕ, ◌+◌, ◌-◌, ◌<◌, ◌≤◌, ◌⊎◌, inl, inr, List, length, get_or, ap, sym, ◌∙◌, arith, refl, zero, suc}
 use Rattle.std.specs.Prelude.{All, AllPairs, Contains}
 use Rattle.std.proofs.lemmas.Bool.{cases_lt}

@@ -1,4 +1,5 @@
--- One pass over the blocks of a person: those that are left out, since their bounds are above a limit, and those that get a new bound.
+-- One pass over the blocks of a person: those that are left out, since their bounds are above a limit, and those that
+-- get a new bound.
 use Rattle.std.proofs.Common.{◌≡◌, ℕ, ◌+◌, ◌*◌, ◌/◌, ◌<◌, ◌≤◌, List, length, get_or, pos, refl, w64, arith}
 use Rattle.std.specs.Prelude.{FitsSigned, ℤ, ◌<ℤ◌, set}
 use Rattle.std.proofs.lemmas.Int.{ints}

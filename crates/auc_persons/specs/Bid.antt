@@ -10,7 +10,9 @@ use Rattle.auc_persons.specs.Scan.{copy_in}
 
 -- the bid is the person's, on his best arc at these copies; its amount may be above the greatest price
 abbrev pub IsBidOf : Table → ℤ → List ℤ → ℕ → Bid → Type 0
-IsBidOf t eps copies person bid = (arc : RowArc) × IsBid (pos (length t.rows + 1)) t.spread eps (copy_in copies) (row_of t person) arc bid.amount × (bid ≡ bid_of person arc.arc arc.object bid.amount)
+IsBidOf t eps copies person bid =
+    (arc : RowArc) × IsBid (pos (length t.rows + 1)) t.spread eps (copy_in copies) (row_of t person) arc bid.amount
+    × (bid ≡ bid_of person arc.arc arc.object bid.amount)
 
 -- the same, where person, rows and copies stand together
 abbrev pub IsBidAt : PersonRow → ℤ → Bid → Type 0

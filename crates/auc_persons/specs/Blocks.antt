@@ -1,4 +1,5 @@
--- Blocks of long rows: what a bound says of the arcs of a row that stand in a block, in the words of lists of candidates.
+-- Blocks of long rows: what a bound says of the arcs of a row that stand in a block, in the words of lists of
+-- candidates.
 use Rattle.std.specs.Prelude.{◌≡◌, ◌<◌, ◌≤◌, ◌*◌, ◌+◌, ◌++◌, ◌≤ℤ◌, ℕ, ℤ, pos, int_lt, cond, List, [], length, take, drop, All, slice_index_or}
 use Rattle.auc_graph.specs.declared.rows.RowArc.{RowArc}
 use Rattle.auc_graph.specs.Table.{Table, row_of}
@@ -11,9 +12,11 @@ use Rattle.auc_persons.specs.Candidates.{KeepsListed, Listed}
 abbrev pub beside : ℕ → List RowArc → List RowArc
 beside block row = take (16 * block) row ++ drop (16 * block + 16) row
 
--- a bound, as a list that holds all arcs of the row but those of the block; it says nothing where nobody has looked at the block
+-- a bound, as a list that holds all arcs of the row but those of the block; it says nothing where nobody has looked at
+-- the block
 abbrev pub of_bound : Table → Bound → Listed
-of_bound t b = record { person = b.person.value; bound = b.least; arcs = cond (int_lt NO_BOUND b.least) (beside b.block.value (row_of t b.person.value)) [] }
+of_bound t b = record
+    { person = b.person.value; bound = b.least; arcs = cond (int_lt NO_BOUND b.least) (beside b.block.value (row_of t b.person.value)) [] }
 
 -- it is the bound of this block of a person
 abbrev pub IsOf : ℕ → ℕ → Bound → Type 0
@@ -25,7 +28,9 @@ IsUnknown b = b.least ≡ NO_BOUND
 
 -- from the start of a person who has blocks on stand the bounds of these, in order
 abbrev pub AreNumbered : List Bound → Blocked → Type 0
-AreNumbered bounds b = (k : ℕ) (d : Bound) → 256 < b.arcs → 16 * k < b.arcs → (b.start + k < length bounds) × IsOf b.person k (slice_index_or bounds (b.start + k) d)
+AreNumbered bounds b =
+    (k : ℕ) (d : Bound) → 256 < b.arcs → 16 * k < b.arcs → (b.start + k < length bounds)
+    × IsOf b.person k (slice_index_or bounds (b.start + k) d)
 
 -- the bounds are of the same blocks as before
 pub record AreOfSame (before after : List Bound) : Type 0 where
@@ -36,7 +41,8 @@ pub record AreOfSame (before after : List Bound) : Type 0 where
 pub record AreAppended (person blocks : ℕ) (before after : List Bound) : Type 0 where
   pub many : length after ≡ length before + blocks
   pub kept : (j : ℕ) (d : Bound) → j < length before → slice_index_or after j d ≡ slice_index_or before j d
-  pub new : (k : ℕ) (d : Bound) → k < blocks → IsOf person k (slice_index_or after (length before + k) d) × IsUnknown (slice_index_or after (length before + k) d)
+  pub new : (k : ℕ) (d : Bound) → k < blocks → IsOf person k (slice_index_or after (length before + k) d)
+      × IsUnknown (slice_index_or after (length before + k) d)
 
 -- what is remembered of the row of a person: all of it
 abbrev pub of_blocked : Table → Blocked → Listed

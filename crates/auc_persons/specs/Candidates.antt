@@ -15,8 +15,8 @@ pub record Listed : Type 0 where
 abbrev pub no_list : ℕ → Listed
 no_list person = record { person = person; bound = pos 0; arcs = [] }
 
--- The arcs of the list are arcs of the row, in the row's order; and where there are some, each other arc of the row has a
--- value of at least the bound.
+-- The arcs of the list are arcs of the row, in the row's order; and where there are some, each other arc of the row has
+-- a value of at least the bound.
 pub record Keeps (val : RowArc → ℤ) (row arcs : List RowArc) (bound : ℤ) : Type 0 where
   pub members : All (Contains row) arcs
   pub rising : AllPairs (λ a b. a.arc < b.arc) arcs
@@ -36,7 +36,8 @@ pub record Decides (bound : ℤ) (f : Scan) : Type 0 where
   pub next : f.second ≤ℤ bound
   pub some : f.second <ℤ endless
 
--- a list, as far as the arcs of a row were seen: those of the list are among them, and each other one is at the bound or above
+-- a list, as far as the arcs of a row were seen: those of the list are among them, and each other one is at the bound
+-- or above
 pub record Gathered (val : RowArc → ℤ) (seen arcs : List RowArc) (bound : ℤ) : Type 0 where
   pub members : All (Contains seen) arcs
   pub rising : AllPairs (λ a b. a.arc < b.arc) arcs

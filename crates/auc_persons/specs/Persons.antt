@@ -14,8 +14,8 @@ use Rattle.auc_letters.specs.Award.{bid_of, bid_out}
 use Rattle.auc_graph.specs.Bid.{IsBid}
 use Rattle.auc_persons.specs.Scan.{copy_in}
 
--- The shard's number, of how many; how many shards of objects there are, and how many bids are left; by object the copy of
--- its price, by person how he stands; and the free persons of the shard, who has been free longest first.
+-- The shard's number, of how many; how many shards of objects there are, and how many bids are left; by object the copy
+-- of its price, by person how he stands; and the free persons of the shard, who has been free longest first.
 pub record Persons : Type 0 where
   pub shard : ℕ
   pub of : ℕ
@@ -82,7 +82,12 @@ after_bid s i j = record s { idle = drop 1 s.idle; bids = s.bids - 1; states = s
 abbrev pub NextBid : Table → ℤ → Persons → Bidding → Persons → Type 0
 NextBid t eps s Bidding.Idle n = (s.idle ≡ []) × (n ≡ s)
 NextBid t eps s (Bidding.Stop why) n = (s.idle ≢ []) × Stops t eps s (first_idle s) why × (n ≡ s)
-NextBid t eps s (Bidding.Out out) n = (s.idle ≢ []) × (s.bids ≢ 0) × ((arc : RowArc) × (amount : ℤ) × Bids t eps s (first_idle s) arc amount × (amount ≤ℤ pos (2 ^ 61)) × (out ≡ bid_out s.object_shards (bid_of (first_idle s) arc.arc arc.object amount)) × (n ≡ after_bid s (first_idle s) arc.object))
+NextBid t eps s (Bidding.Out out) n =
+    (s.idle ≢ []) × (s.bids ≢ 0)
+    ×
+    ((arc : RowArc) × (amount : ℤ) × Bids t eps s (first_idle s) arc amount × (amount ≤ℤ pos (2 ^ 61)) × (out ≡
+    bid_out s.object_shards (bid_of (first_idle s) arc.arc arc.object amount)) × (n ≡ after_bid s (first_idle s)
+    arc.object))
 
 -- an answer to a person about an object fits where he stands as it wants
 abbrev pub FitsAnswer : Persons → ℕ → ℕ → ℤ → PersonState → Type 0

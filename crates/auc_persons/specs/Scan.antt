@@ -18,7 +18,9 @@ pub record IsValue (v : ℤ) : Type 0 where
 
 -- the least value of arcs to other objects, where there are some
 abbrev pub Reached : (RowArc → ℤ) → List RowArc → RowArc → ℤ → Type 0
-Reached val row a second = (All (λ b. b.object ≡ a.object) row × (second ≡ endless)) ⊎ ((b : RowArc) × Contains row b × (b.object ≢ a.object) × (val b ≡ second) × IsValue second)
+Reached val row a second =
+    (All (λ b. b.object ≡ a.object) row × (second ≡ endless))
+    ⊎ ((b : RowArc) × Contains row b × (b.object ≢ a.object) × (val b ≡ second) × IsValue second)
 
 -- a pass over a row has found its best arc
 pub record IsScan (val : RowArc → ℤ) (row : List RowArc) (f : Scan) : Type 0 where

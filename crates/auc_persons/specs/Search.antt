@@ -28,7 +28,8 @@ pub record Covers (val : RowArc → ℤ) (f : Scan) (b : RowArc) : Type 0 where
 abbrev pub IsLimit : Scan → ℤ → Type 0
 IsLimit f l = (v : ℤ) → l <ℤ v → f.value ≤ℤ f.second → (f.value <ℤ v) × (f.second ≤ℤ v)
 
--- An arc goes before the best one: of a lower value, or of the same and to a lower object, or to the same at an earlier place
+-- An arc goes before the best one: of a lower value, or of the same and to a lower object, or to the same at an earlier
+-- place
 abbrev pub Precedes : RowArc → ℤ → Scan → Type 0
 Precedes a v f = (v <ℤ f.value) ⊎ ((v ≡ f.value) × ((a.object < f.best.object) ⊎ ((a.object ≡ f.best.object) × (a.arc < f.best.arc))))
 

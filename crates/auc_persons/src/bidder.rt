@@ -194,5 +194,6 @@ impl Bidder {
 /// Lists of candidates stay right while no copy falls: those of a shard through each of its calls, and from the copies
 /// of one phase to the prices that it leaves, with which the next one begins. Does nothing: its contract is the law.
 pub fn lists_stay_right()
-    ensures { (t : Table) (copies later : List ℤ) (lists : List Listed) → NeverFall copies later → Kept t copies lists → Kept t later lists }
+    ensures { (t : Table) (copies later : List ℤ) (lists : List Listed) → NeverFall copies later → Kept t copies lists
+        → Kept t later lists }
 {}

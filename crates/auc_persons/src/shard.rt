@@ -36,8 +36,8 @@ fn idle_of(alloc: Global, shard: u32, of: u32, persons: u32) -> Result<VecDeque<
 
 /// One shard of the persons: its copies of the prices, how each of its persons stands, and who of them is free.
 ///
-/// Persons belong to the shards by the remainder of their number. The tables have a place for every person and every object,
-/// so that each is found by its number; the places of other shards' persons are never changed.
+/// Persons belong to the shards by the remainder of their number. The tables have a place for every person and every
+/// object, so that each is found by its number; the places of other shards' persons are never changed.
 #[derive(Drop)]
 pub struct PersonShard {
     shard: u32,
@@ -64,11 +64,11 @@ impl Model for PersonShard {
 impl PersonShard {
     /// Shard number `shard` of `of`, whose persons are all free, in rising order.
     ///
-    /// `object_shards` is the number of the objects' shards, and `persons` that of all persons. The copies are these prices,
-    /// in scaled costs, indexed by object; the shard may make `bids` bids.
+    /// `object_shards` is the number of the objects' shards, and `persons` that of all persons. The copies are these
+    /// prices, in scaled costs, indexed by object; the shard may make `bids` bids.
     ///
-    /// Takes O(persons + objects) time and memory, and is the only call that takes memory: it reserves a place in the list of
-    /// free persons for each.
+    /// Takes O(persons + objects) time and memory, and is the only call that takes memory: it reserves a place in the
+    /// list of free persons for each.
     ///
     /// # Errors
     ///
@@ -86,7 +86,17 @@ impl PersonShard {
         requires object_shards { 0 < object_shards }
         requires persons { persons ≤ MOST_PERSONS }
         requires prices { All IsPrice prices.now }
-        ensures { IfOk result (λ s. s ≡ record { shard = shard; of = of; object_shards = object_shards; bids = bids; copies = prices.now; states = replicate persons PersonState.Free; idle = persons_of shard of persons }) }
+        ensures { IfOk result
+            (λ s. s ≡ record {
+              shard = shard;
+              of = of;
+              object_shards = object_shards;
+              bids = bids;
+              copies =
+                  prices.now;
+              states = replicate persons PersonState.Free;
+              idle = persons_of shard of persons;
+            }) }
     {
         let copies = prices.to_vec(alloc)?;
         let states = vec![in alloc; PersonState::Free; persons as usize]?;
@@ -135,7 +145,12 @@ impl PersonShard {
     fn wait_for(&mut self, object: u32)
         requires some { 0 < length self.old.idle }
         requires bids { 0 < self.old.bids }
-        ensures { self.new ≡ record self.old { idle = drop 1 self.old.idle; bids = self.old.bids - 1; states = slice_set self.old.states (first_idle self.old) (PersonState.Waits object) } }
+        ensures { self.new ≡ record self.old {
+          idle = drop 1 self.old.idle;
+          bids = self.old.bids - 1;
+          states = slice_set self.old.states (first_idle
+              self.old) (PersonState.Waits object);
+        } }
     {
         if let Some(person) = self.idle.pop_front() {
             self.states[person as usize] = PersonState::Waits { object };
@@ -158,7 +173,8 @@ impl PersonShard {
     fn free(&mut self, person: u32)
         requires person { person < length self.old.states }
         requires busy { state_of self.old person ≢ PersonState.Free }
-        ensures { self.new ≡ record self.old { states = slice_set self.old.states person PersonState.Free; idle = self.old.idle ++ person ∷ [] } }
+        ensures { self.new ≡ record self.old
+            { states = slice_set self.old.states person PersonState.Free; idle = self.old.idle ++ person ∷ [] } }
     {
         self.states[person as usize] = PersonState::Free;
         self.idle.push_back_reserved(person);

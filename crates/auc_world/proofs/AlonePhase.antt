@@ -1,5 +1,5 @@
--- A phase that is played by itself: each step of its rounds is one of the machine's, it begins as a new world does, and what it comes to is
--- what the world does.
+-- A phase that is played by itself: each step of its rounds is one of the machine's, it begins as a new world does, and
+-- what it comes to is what the world does.
 use Rattle.std.proofs.Common.{ℕ, ◌*◌, ◌<◌, ◌≤◌, ◌≡◌, ◌≢◌, ◌^◌, Bool, true, false, List, [], ◌∷◌, ◌++◌, Option, Some, None, drop, get_or, length, lit<, lit≤, refl, sym, subst, ap, ◌∙◌, arith}
 use Rattle.std.specs.Prelude.{ℤ, pos, ◌≤ℤ◌, ◌<ℤ◌, All}
 use Rattle.std.proofs.lemmas.List.{length-append}

@@ -1,4 +1,5 @@
--- A bid of the only shard of the persons, and its answers by the only one of the objects: five turns, and what is kept after them.
+-- A bid of the only shard of the persons, and its answers by the only one of the objects: five turns, and what is kept
+-- after them.
 use Rattle.std.proofs.Common.{ℕ, ◌+◌, ◌-◌, ◌*◌, ◌%◌, ◌<◌, ◌≤◌, ◌≡◌, ◌≢◌, ◌^◌, refl, arith, Bool, true, false, List, [], ◌∷◌, ◌++◌, Option, Some, None, drop, length, get_or, set, cond, inl, inr, sym, ap, subst, ◌∙◌, length-set, append_assoc}
 use Rattle.std.specs.Prelude.{ℤ, pos, ◌≤ℤ◌, ◌<ℤ◌, int_le}
 use Rattle.std.proofs.lemmas.Bool.{cases_eq}

@@ -1,5 +1,5 @@
--- How a phase with one shard of each kind ends before everybody has an object: by a Stop of the only shard of the persons; and that it never
--- stands still.
+-- How a phase with one shard of each kind ends before everybody has an object: by a Stop of the only shard of the
+-- persons; and that it never stands still.
 use Rattle.std.proofs.Common.{ℕ, suc, ◌+◌, ◌*◌, ◌<◌, ◌≡◌, ◌≢◌, ◌^◌, refl, arith, true, false, List, [], ◌∷◌, Option, None, drop, length, inr, sym, ap, subst, ◌∙◌}
 use Rattle.std.specs.Prelude.{ℤ, pos, ◌<ℤ◌, ◌||◌}
 use Rattle.auc_graph.specs.Bid.{IsBid}

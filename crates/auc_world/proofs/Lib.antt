@@ -1,4 +1,5 @@
--- Hall sets' certificates, what steps keep of a shard, what a new shard is, and what a matching and new prices are to a phase are for the crates above too; the rest is this crate's own.
+-- Hall sets' certificates, what steps keep of a shard, what a new shard is, and what a matching and new prices are to a
+-- phase are for the crates above too; the rest is this crate's own.
 pub mod Keeping
 mod WorldOf
 mod PostingLaws

@@ -1,5 +1,6 @@
--- A phase with one shard of each kind, played by itself: what is kept of the world, what a round makes of it, and how a world is
--- seen in it. What waits in the mails of the objects and of the hub between two turns is told by the turn, and isn't kept.
+-- A phase with one shard of each kind, played by itself: what is kept of the world, what a round makes of it, and how a
+-- world is seen in it. What waits in the mails of the objects and of the hub between two turns is told by the turn, and
+-- isn't kept.
 use Rattle.std.specs.Prelude.{ℕ, ◌+◌, ◌*◌, ◌-◌, ◌<◌, ◌≤◌, ◌≡◌, ◌==◌, ℤ, pos, Bool, true, false, if◌then◌else◌, List, [], ◌∷◌, ◌++◌, length, drop, slice_index_or, slice_set, Option, Some, None}
 use Rattle.auc_letters.specs.declared.letter.Letter.{Letter}
 use Rattle.auc_letters.specs.declared.letter.Bid.{Bid}
@@ -17,8 +18,9 @@ use Rattle.auc_world.specs.Rounds.{Plays, Rounds}
 abbrev pub nobody : ℕ
 nobody = 4294967295
 
--- How many persons there are; by object the copy of its price, its price and its holder; what waits for the persons, the earliest first; the
--- free persons, who has been free longest first; how many bids are left; and how many objects were sold for the first time.
+-- How many persons there are; by object the copy of its price, its price and its holder; what waits for the persons,
+-- the earliest first; the free persons, who has been free longest first; how many bids are left; and how many objects
+-- were sold for the first time.
 pub record Alone : Type 0 where
   pub persons : ℕ
   pub copies : List ℤ
@@ -47,7 +49,9 @@ told_of_sale None object price = awarded object price ∷ []
 told_of_sale (Some held) object price = frees held.person object price ∷ awarded object price ∷ []
 
 abbrev pub told_of : ℤ → Sale → Bid → List Told
-told_of eps sale bid = if is_accepted eps sale bid then told_of_sale sale.holder bid.object bid.amount else frees bid.person bid.object sale.price ∷ []
+told_of eps sale bid =
+    if is_accepted eps sale bid then told_of_sale sale.holder bid.object bid.amount else frees bid.person bid.object
+    sale.price ∷ []
 
 abbrev pub first_of : Option Held → ℕ
 first_of None = 1
@@ -108,7 +112,8 @@ lane taken letters = record { taken = taken; waiting = letters }
 
 -- an open mail of one box, with its three senders: the shard of the persons, that of the objects, and the hub
 abbrev pub one_box : ℕ → ℕ → Lane Letter → Lane Letter → Mail Letter
-one_box nodes most persons objects = record { senders = 3; nodes = nodes; most = most; accepting = true ∷ []; lanes = persons ∷ objects ∷ blank_lane ∷ [] }
+one_box nodes most persons objects = record
+    { senders = 3; nodes = nodes; most = most; accepting = true ∷ []; lanes = persons ∷ objects ∷ blank_lane ∷ [] }
 
 -- with so many First letters in the hub's mail, which are counted already here, and not yet there
 pub record MailsTell (g : Phase) (allowed most : ℕ) (s : Alone) (firsts : ℕ) (w : World) : Type 0 where
@@ -128,8 +133,8 @@ pub record MailsTell (g : Phase) (allowed most : ℕ) (s : Alone) (firsts : ℕ)
   pub many : length waiting ≡ firsts
   pub few_firsts : counted + length waiting + s.bids ≤ allowed
 
--- A world of the phase, with one shard of each kind, each of whose boxes is open, is seen in it: between two turns of which neither
--- leaves a letter in an outbox. So many bids were allowed, and so many posts in each lane.
+-- A world of the phase, with one shard of each kind, each of whose boxes is open, is seen in it: between two turns of
+-- which neither leaves a letter in an outbox. So many bids were allowed, and so many posts in each lane.
 pub record Shows (g : Phase) (allowed most : ℕ) (s : Alone) (firsts : ℕ) (w : World) : Type 0 where
   pub price : (j : ℕ) → w.price j ≡ slice_index_or s.prices j (pos 0)
   pub holder : (j : ℕ) → w.holder j ≡ slice_index_or s.holders j None

@@ -27,7 +27,8 @@ pub record Given : Type 0 where
   pub prices : List ℤ
   pub eps : ℤ
 
--- it may be played by itself: there is one shard of each kind, as many letters may wait as are usual, and more may be posted than two for each bid
+-- it may be played by itself: there is one shard of each kind, as many letters may wait as are usual, and more may be
+-- posted than two for each bid
 pub record MayPlayAlone (limits : Limits) : Type 0 where
   pub one : limits.shards ≡ 1
   pub usual : limits.nodes ≡ 0

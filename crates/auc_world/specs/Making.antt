@@ -13,14 +13,17 @@ pub record IsMade (t : Table) (limits : Limits) (prices : List ℤ) (eps : ℤ) 
   pub shards : p.shards ≡ limits.shards
   pub eps_is : p.eps ≡ eps
   pub persons_are : length p.persons ≡ limits.shards
-  pub each_persons : (s : ℕ) → s < limits.shards → slice_index_or p.persons s no_persons ≡ new_persons limits.shards (length t.rows) limits.bids prices s
+  pub each_persons : (s : ℕ) → s < limits.shards
+      → slice_index_or p.persons s no_persons ≡ new_persons limits.shards (length t.rows) limits.bids prices s
   pub objects_are : length p.objects ≡ limits.shards
-  pub each_objects : (q : ℕ) → q < limits.shards → slice_index_or p.objects q no_objects ≡ new_objects limits.shards (length t.rows) prices q
+  pub each_objects : (q : ℕ) → q < limits.shards
+      → slice_index_or p.objects q no_objects ≡ new_objects limits.shards (length t.rows) prices q
   pub outboxes_are : length p.outboxes ≡ 2 * limits.shards
   pub each_outbox : All (λ x. x ≡ []) p.outboxes
   pub stopped_are : p.stopped ≡ replicate limits.shards false
   pub objects_mail : p.mails.objects ≡ empty_mail limits.shards (2 * limits.shards + 1) (nodes_or limits.nodes (length t.rows)) limits.posts
-  pub persons_mail : p.mails.persons ≡ empty_mail limits.shards (2 * limits.shards + 1) (nodes_or limits.nodes (4 * length t.rows)) limits.posts
+  pub persons_mail : p.mails.persons ≡ empty_mail limits.shards (2 * limits.shards + 1)
+      (nodes_or limits.nodes (4 * length t.rows)) limits.posts
   pub hub_mail : p.mails.hub ≡ empty_mail 1 (2 * limits.shards + 1) (nodes_or limits.nodes (length t.rows + 2 * limits.shards)) limits.posts
   pub count : p.hub.count ≡ 0
   pub end : p.hub.end ≡ None

@@ -14,9 +14,9 @@ use Rattle.auc_phases.specs.Boxes.{Reaches}
 use Rattle.auc_phases.specs.Shards.{IsObjectShard, IsPersonShard, no_objects, no_persons}
 use Rattle.auc_world.specs.Mails.{Mails}
 
--- The rows of the problem, how many shards there are of each kind, and eps; the shards; the outboxes of the shards of the
--- persons, and after them those of the shards of the objects; which shards of the persons have made a Stop; the three mails;
--- how many First letters the hub has counted, and the end, once it is set.
+-- The rows of the problem, how many shards there are of each kind, and eps; the shards; the outboxes of the shards of
+-- the persons, and after them those of the shards of the objects; which shards of the persons have made a Stop; the
+-- three mails; how many First letters the hub has counted, and the end, once it is set.
 pub record Parts : Type 0 where
   pub table : Table
   pub shards : ℕ

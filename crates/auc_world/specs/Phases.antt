@@ -20,8 +20,8 @@ pub record Stage : Type 0 where
   pub prices : List ℤ
   pub world : World
 
--- It is played from the new world that the limits and its prices make, in whole rounds, up to the first one after which the end is
--- set.
+-- It is played from the new world that the limits and its prices make, in whole rounds, up to the first one after which
+-- the end is set.
 pub record IsPlayed (t : Table) (limits : Limits) (s : Stage) : Type 0 where
   pub parts : Parts
   pub made : IsMade t limits s.prices s.eps parts
@@ -36,8 +36,12 @@ pub record Leaves (t : Table) (limits : Limits) (s : Stage) (gathered : Gathered
   pub sales : AreSales t.objects s.world gathered.holders.items gathered.prices.items
   pub within : All IsPrice gathered.prices.items
 
--- What a phase at these prices and this eps comes to: each person has an object, or it was stopped by a limit; no guard is hit, and it never stalls.
+-- What a phase at these prices and this eps comes to: each person has an object, or it was stopped by a limit; no guard
+-- is hit, and it never stalls.
 abbrev pub ComesOf : Table → Limits → List ℤ → ℤ → Outcome → Type 0
-ComesOf t limits prices eps (Outcome.Sold gathered) = (v : World) × Leaves t limits (record { eps = eps; prices = prices; world = v }) gathered × (v.end ≡ Some End.All)
-ComesOf t limits prices eps (Outcome.Stopped reason gathered) = (v : World) × Leaves t limits (record { eps = eps; prices = prices; world = v }) gathered × (v.end ≡ Some (End.Stopped (why_of reason)))
+ComesOf t limits prices eps (Outcome.Sold gathered) =
+    (v : World) × Leaves t limits (record { eps = eps; prices = prices; world = v }) gathered × (v.end ≡ Some End.All)
+ComesOf t limits prices eps (Outcome.Stopped reason gathered) =
+    (v : World) × Leaves t limits (record { eps = eps; prices = prices; world = v }) gathered
+    × (v.end ≡ Some (End.Stopped (why_of reason)))
 ComesOf t limits prices eps (Outcome.Broken guard) = ⊥

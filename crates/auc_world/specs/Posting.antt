@@ -22,15 +22,20 @@ mail_for s o = named s (name_of o.to)
 abbrev pub post_of : ℕ → Out → Call Letter
 post_of x o = Call.Post x (box_of o.to) o.letter o.reserve
 
--- it leaves its outbox, since its mail accepts it, or refuses it and doesn't miss it: its box is closed, or it is a Price
+-- it leaves its outbox, since its mail accepts it, or refuses it and doesn't miss it: its box is closed, or it is a
+-- Price
 abbrev pub Leaves : Mails → ℕ → Out → Mails → Type 0
 Leaves s x o t =
     ((k : ℕ) × Step (mail_for s o) (post_of x o) (Reply.Posted k) (mail_for t o) × (t ≡ with_named s (name_of o.to) (mail_for t o)))
-    ⊎ ((y : PostRefused) × Step (mail_for s o) (post_of x o) (Reply.Refused y) (mail_for s o) × ((y ≡ PostRefused.Closed) ⊎ ((y ≢ PostRefused.Closed) × (is_price o.letter ≡ true))) × (t ≡ s))
+    ⊎
+    ((y : PostRefused) × Step (mail_for s o) (post_of x o) (Reply.Refused y) (mail_for s o) × ((y ≡
+    PostRefused.Closed) ⊎ ((y ≢ PostRefused.Closed) × (is_price o.letter ≡ true))) × (t ≡ s))
 
 -- it is refused and stays there, and the phase ends for this reason
 abbrev pub Stays : Mails → ℕ → Out → Why → Type 0
-Stays s x o why = (y : PostRefused) × Step (mail_for s o) (post_of x o) (Reply.Refused y) (mail_for s o) × (y ≢ PostRefused.Closed) × (is_price o.letter ≡ false) × (why ≡ reason y)
+Stays s x o why =
+    (y : PostRefused) × Step (mail_for s o) (post_of x o) (Reply.Refused y) (mail_for s o) × (y ≢ PostRefused.Closed)
+    × (is_price o.letter ≡ false) × (why ≡ reason y)
 
 -- it stands first in the outbox of x
 abbrev pub StandsFirst : Letters → ℕ → Out → Type 0
@@ -39,5 +44,7 @@ StandsFirst p x o = outbox_of p x ≡ o ∷ drop 1 (outbox_of p x)
 -- From p, sender x posts the first letter of its outbox, and n is left.
 abbrev pub Posts : Letters → ℕ → Posted → Letters → Type 0
 Posts p x Posted.Nothing n = (outbox_of p x ≡ []) × (n ≡ p)
-Posts p x Posted.Left n = (o : Out) × StandsFirst p x o × Leaves p.mails x o n.mails × (n.outboxes ≡ slice_set p.outboxes x (drop 1 (outbox_of p x)))
+Posts p x Posted.Left n =
+    (o : Out) × StandsFirst p x o × Leaves p.mails x o n.mails
+    × (n.outboxes ≡ slice_set p.outboxes x (drop 1 (outbox_of p x)))
 Posts p x (Posted.Stays why) n = (o : Out) × StandsFirst p x o × Stays p.mails x o why × (n ≡ p)

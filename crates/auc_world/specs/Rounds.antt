@@ -12,7 +12,9 @@ has_moved TurnReply.Nothing = false
 -- the turns, one after another, lead from w to v; `moved` says whether one of them moved anything
 abbrev pub Plays : Phase → World → List Turn → Bool → World → Type 0
 Plays g w [] moved v = (v ≡ w) × (moved ≡ false)
-Plays g w (t ∷ ts) moved v = (m : World) × (r : TurnReply) × (later : Bool) × Turned g w t r m × Plays g m ts later v × (moved ≡ (has_moved r || later))
+Plays g w (t ∷ ts) moved v =
+    (m : World) × (r : TurnReply) × (later : Bool) × Turned g w t r m × Plays g m ts later v
+    × (moved ≡ (has_moved r || later))
 
 -- each of so many shards of the persons bids and posts
 abbrev pub bids_of : ℕ → List Turn

@@ -1,5 +1,5 @@
-//! What holds of every world that [`World::make`] gave and turns have led to. The functions do nothing: their contracts are
-//! theorems.
+//! What holds of every world that [`World::make`] gave and turns have led to. The functions do nothing: their contracts
+//! are theorems.
 
 ghost use Rattle.std.specs.Prelude.{true, ℕ, ℤ, pos, ◌<◌, ◌≤◌, ◌≤ℤ◌, ◌≡◌, ◌≢◌, ◌⊎◌, List, [], ◌∷◌, Some, None, All, Contains, length, map};
 ghost use Rattle.auc_claim.specs.declared.cert.CertParts.TheVariants.{Optimal};
@@ -33,44 +33,61 @@ ghost use Rattle.auc_world.specs.Parts.{phase, world_of};
 use crate::world::World;
 
 impl<'a> World<'a> {
-    /// No guard is hit, whatever the turns were: the phase hasn't stopped for a price that fell, a stray letter or a full trail;
-    /// the next letter that a shard of the persons takes fits it and tells no price below its copy, the next one that a shard
-    /// of the objects takes is a bid that fits it, and the next one that the hub takes is a First or a Stop. With the usual
-    /// numbers of letters that may wait, only a Price meets a full mail. A law, which does nothing.
+    /// No guard is hit, whatever the turns were: the phase hasn't stopped for a price that fell, a stray letter or a
+    /// full trail; the next letter that a shard of the persons takes fits it and tells no price below its copy, the
+    /// next one that a shard of the objects takes is a bid that fits it, and the next one that the hub takes is a First
+    /// or a Stop. With the usual numbers of letters that may wait, only a Price meets a full mail. A law, which does
+    /// nothing.
     pub fn no_guard_is_hit(&self)
         requires { Reached (phase self.now) (world_of self.now) }
         ensures fell { (world_of self.now).end ≢ Some (End.Stopped Why.Fell) }
         ensures stray { (world_of self.now).end ≢ Some (End.Stopped Why.Stray) }
         ensures trail { (world_of self.now).end ≢ Some (End.Stopped Why.Trail) }
         ensures mail { UsualNodes (phase self.now) (world_of self.now) → (world_of self.now).end ≢ Some (End.Stopped Why.Mail) }
-        ensures hears { (s x k : ℕ) (l : Letter) (m : Mail Letter) → Takes (world_of self.now).persons_mail s x k l m → FitsLetter (phase self.now) (world_of self.now) s l × Rises (world_of self.now) s l }
-        ensures sells { (q x k : ℕ) (l : Letter) (m : Mail Letter) → Takes (world_of self.now).objects_mail q x k l m → FitsBid (phase self.now) q l }
+        ensures hears { (s x k : ℕ) (l : Letter) (m : Mail Letter) → Takes (world_of self.now).persons_mail s x k l m
+            → FitsLetter (phase self.now) (world_of self.now) s l × Rises (world_of self.now) s l }
+        ensures sells { (q x k : ℕ) (l : Letter) (m : Mail Letter) → Takes (world_of self.now).objects_mail q x k l m
+            → FitsBid (phase self.now) q l }
         ensures counts { (x k : ℕ) (l : Letter) (m : Mail Letter) → Takes (world_of self.now).hub_mail 0 x k l m → IsForHub l }
-        ensures room { UsualNodes (phase self.now) (world_of self.now) → (h : Shard) (o : Out) (rest : List Out) → MayPost (phase self.now) (world_of self.now) h o rest → Refuses (phase self.now) (world_of self.now) h o PostRefused.Full → is_price o.letter ≡ true }
+        ensures room { UsualNodes (phase self.now) (world_of self.now) → (h : Shard) (o : Out) (rest : List Out)
+            → MayPost (phase self.now) (world_of self.now) h o rest
+            → Refuses (phase self.now) (world_of self.now) h o PostRefused.Full → is_price o.letter ≡ true }
     {}
 
-    /// No copy of a price is above the true one, nobody holds two objects, and each holder's arc is one of his to that object,
-    /// slack-right at eps at the true prices; the hub has counted no more than there are persons. A law, which does nothing.
+    /// No copy of a price is above the true one, nobody holds two objects, and each holder's arc is one of his to that
+    /// object, slack-right at eps at the true prices; the hub has counted no more than there are persons. A law, which
+    /// does nothing.
     pub fn holders_are_slack_right(&self)
         requires { Reached (phase self.now) (world_of self.now) }
         ensures copies_low { (s j : ℕ) → (world_of self.now).copy s j ≤ℤ (world_of self.now).price j }
-        ensures held_once { (j k : ℕ) (a b : Held) → (world_of self.now).holder j ≡ Some a → (world_of self.now).holder k ≡ Some b → a.person ≡ b.person → j ≡ k }
-        ensures slack { (j : ℕ) (h : Held) → (world_of self.now).holder j ≡ Some h → (a : RowArc) × Contains ((phase self.now).row h.person) a × (a.object ≡ j) × (a.arc ≡ h.arc) × SlackRight (phase self.now) (world_of self.now).price h.person a }
+        ensures held_once { (j k : ℕ) (a b : Held) → (world_of self.now).holder j ≡ Some a
+            → (world_of self.now).holder k ≡ Some b → a.person ≡ b.person → j ≡ k }
+        ensures slack { (j : ℕ) (h : Held) → (world_of self.now).holder j ≡ Some h → (a : RowArc)
+            × Contains ((phase self.now).row h.person) a × (a.object ≡ j) × (a.arc ≡ h.arc)
+            × SlackRight (phase self.now) (world_of self.now).price h.person a }
         ensures counted { (world_of self.now).count ≤ (phase self.now).persons }
     {}
 
-    /// Where the hub has counted as many as there are persons, each person holds an object, and the holders' arcs are an
-    /// assignment of the problem, at any eps. A law, which does nothing.
+    /// Where the hub has counted as many as there are persons, each person holds an object, and the holders' arcs are
+    /// an assignment of the problem, at any eps. A law, which does nothing.
     pub fn counted_holders_are_assigned(&self)
         requires { Reached (phase self.now) (world_of self.now) }
-        ensures everyone { (world_of self.now).count ≡ (phase self.now).persons → (i : ℕ) → i < (phase self.now).persons → (j : ℕ) × (h : Held) × ((world_of self.now).holder j ≡ Some h) × (h.person ≡ i) }
-        ensures assigned { (p : Problem) → IsTableOf p self.now.table → (world_of self.now).count ≡ (phase self.now).persons → (choice : List Arc) × IsAssignment p choice × All (IsHeldArc p (world_of self.now)) choice }
+        ensures everyone { (world_of self.now).count ≡ (phase self.now).persons → (i : ℕ)
+            → i < (phase self.now).persons → (j : ℕ) × (h : Held) × ((world_of self.now).holder j ≡ Some h)
+            × (h.person ≡ i) }
+        ensures assigned { (p : Problem) → IsTableOf p self.now.table
+            → (world_of self.now).count ≡ (phase self.now).persons → (choice : List Arc) × IsAssignment p choice
+            × All (IsHeldArc p (world_of self.now)) choice }
     {}
 }
 
-/// Where the hub has counted as many as there are persons, the holders' arcs are an assignment; and at eps 1 the checker finds
-/// no fault in it with the true prices, so it costs least; there are as many objects as persons, or what nobody holds has no price,
-/// as in each world that was made with every price 0. A law, which does nothing.
+/// Where the hub has counted as many as there are persons, the holders' arcs are an assignment; and at eps 1 the
+/// checker finds no fault in it with the true prices, so it costs least; there are as many objects as persons, or what
+/// nobody holds has no price, as in each world that was made with every price 0. A law, which does nothing.
 pub fn counted_holders_pass_the_checker()
-    ensures { (p : Problem) (t : Table) (shards : ℕ) (v : Model) (prices : List ℤ) → IsProblem p → IsTable t → IsTableOf p t → (IsSquare p ⊎ ((j : ℕ) → v.holder j ≡ None → v.price j ≡ pos 0)) → Reached (phase_of t shards (pos 1)) v → v.count ≡ length t.rows → ArePricesOf v prices → length prices ≡ p.objects → All IsPrice prices → (choice : List Arc) × IsAssignment p choice × All (IsHeldArc p v) choice × IsCertified p (Optimal (total_cost choice) (map pick_of choice) prices) }
+    ensures { (p : Problem) (t : Table) (shards : ℕ) (v : Model) (prices : List ℤ) → IsProblem p → IsTable t
+        → IsTableOf p t → (IsSquare p ⊎ ((j : ℕ) → v.holder j ≡ None → v.price j ≡ pos 0))
+        → Reached (phase_of t shards (pos 1)) v → v.count ≡ length t.rows → ArePricesOf v prices
+        → length prices ≡ p.objects → All IsPrice prices → (choice : List Arc) × IsAssignment p choice
+        × All (IsHeldArc p v) choice × IsCertified p (Optimal (total_cost choice) (map pick_of choice) prices) }
 {}

@@ -21,8 +21,8 @@ use auc_phases::{Limits, nodes_or};
 use std::alloc::{AllocError, Global};
 use std::marker::Model;
 
-/// The letters of a world: an outbox for each sender, which is each shard of either kind, and three mails. The boxes of the objects' and of
-/// the persons' mail are their shards; the hub's mail has one box.
+/// The letters of a world: an outbox for each sender, which is each shard of either kind, and three mails. The boxes of
+/// the objects' and of the persons' mail are their shards; the hub's mail has one box.
 ///
 /// Contracts see the outboxes as lists.
 #[derive(Drop)]
@@ -59,9 +59,15 @@ impl PostOffice {
         requires persons { persons ≤ MOST_PERSONS }
         ensures outboxes { IfOk result (λ p. length p.outboxes ≡ 2 * limits.now.shards) }
         ensures empty { IfOk result (λ p. All (λ x. x ≡ []) p.outboxes) }
-        ensures objects { IfOk result (λ p. p.mails.objects ≡ empty_mail limits.now.shards (2 * limits.now.shards + 1) (nodes_or limits.now.nodes persons) limits.now.posts) }
-        ensures persons { IfOk result (λ p. p.mails.persons ≡ empty_mail limits.now.shards (2 * limits.now.shards + 1) (nodes_or limits.now.nodes (4 * persons)) limits.now.posts) }
-        ensures hub { IfOk result (λ p. p.mails.hub ≡ empty_mail 1 (2 * limits.now.shards + 1) (nodes_or limits.now.nodes (persons + 2 * limits.now.shards)) limits.now.posts) }
+        ensures objects { IfOk result
+            (λ p. p.mails.objects ≡ empty_mail limits.now.shards (2 * limits.now.shards + 1) (nodes_or
+            limits.now.nodes persons) limits.now.posts) }
+        ensures persons { IfOk result
+            (λ p. p.mails.persons ≡ empty_mail limits.now.shards (2 * limits.now.shards + 1) (nodes_or
+            limits.now.nodes (4 * persons)) limits.now.posts) }
+        ensures hub { IfOk result
+            (λ p. p.mails.hub ≡ empty_mail 1 (2 * limits.now.shards + 1) (nodes_or limits.now.nodes (persons + 2 *
+            limits.now.shards)) limits.now.posts) }
     {
         let Limits {
             shards,

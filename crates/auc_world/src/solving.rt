@@ -73,7 +73,8 @@ fn play_world(
     }
 }
 
-/// Plays one phase in whole rounds, by itself where it may be; what its bids are found by outlasts it where all is sold.
+/// Plays one phase in whole rounds, by itself where it may be; what its bids are found by outlasts it where all is
+/// sold.
 fn play_phase(
     alloc: Global,
     rows: &Rows,
@@ -96,8 +97,8 @@ fn play_phase(
     play_world(alloc, rows, limits, prices, eps, bidders)
 }
 
-/// Solves a problem in which each person has an arc: a phase at each eps, and each begins with the prices of the one before, the first
-/// with these.
+/// Solves a problem in which each person has an arc: a phase at each eps, and each begins with the prices of the one
+/// before, the first with these.
 fn solve_rows(
     alloc: Global,
     problem: &ArcList,
@@ -140,20 +141,21 @@ fn solve_rows(
     }
 }
 
-/// Solves a problem: an arc for each person, no object twice, of the least cost together; or persons who together know fewer
-/// objects than they number; or, where the limits are too low, an assignment and a bound on what any costs. Each claim has passed the
-/// checker.
+/// Solves a problem: an arc for each person, no object twice, of the least cost together; or persons who together know
+/// fewer objects than they number; or, where the limits are too low, an assignment and a bound on what any costs. Each
+/// claim has passed the checker.
 ///
-/// First an assignment of any cost is searched ([`auc_hall::complete`]); where there is none, the answer is `Infeasible`.
-/// Else the auction algorithm with epsilon scaling (Bertsekas, 1979 and 1988) runs in phases, from prices of 0 at
-/// [`first_eps`] on, each next one at [`next_eps`] and the prices that the one before has left, all persons free. A phase is
-/// a new world that is played in whole rounds, in which every shard has its turns in order, until it ends.
+/// First an assignment of any cost is searched ([`auc_hall::complete`]); where there is none, the answer is
+/// `Infeasible`. Else the auction algorithm with epsilon scaling (Bertsekas, 1979 and 1988) runs in phases, from prices
+/// of 0 at [`first_eps`] on, each next one at [`next_eps`] and the prices that the one before has left, all persons
+/// free. A phase is a new world that is played in whole rounds, in which every shard has its turns in order, until it
+/// ends.
 ///
-/// Where a limit ends a phase, the answer is a `Bracket`: the holders' arcs are completed to an assignment of any cost, and the prices bound
-/// the cost of all from below. `Broken` is never answered. `limits.audit` isn't looked at.
+/// Where a limit ends a phase, the answer is a `Bracket`: the holders' arcs are completed to an assignment of any cost,
+/// and the prices bound the cost of all from below. `Broken` is never answered. `limits.audit` isn't looked at.
 ///
-/// Takes the time of the search and of the bids, each O(arcs of the person), and 28 bytes of memory an arc, the problem's own
-/// among them.
+/// Takes the time of the search and of the bids, each O(arcs of the person), and 28 bytes of memory an arc, the
+/// problem's own among them.
 ///
 /// # Errors
 ///
@@ -172,11 +174,11 @@ pub fn solve_serial(alloc: Global, problem: &ArcList, limits: &Limits) -> Result
     }
 }
 
-/// Solves a problem as [`solve_serial`] does, but from start prices, such as those of a certificate of the same problem with other costs
-/// ([`auc_claim::start_prices`]): in one phase, at the last eps.
+/// Solves a problem as [`solve_serial`] does, but from start prices, such as those of a certificate of the same problem
+/// with other costs ([`auc_claim::start_prices`]): in one phase, at the last eps.
 ///
-/// The start prices are scaled costs, indexed by object, from 0 to 2^60, and as many as the persons. The answer is as good from any
-/// of them; good ones spare bids, and bad ones cost them.
+/// The start prices are scaled costs, indexed by object, from 0 to 2^60, and as many as the persons. The answer is as
+/// good from any of them; good ones spare bids, and bad ones cost them.
 ///
 /// # Errors
 ///

@@ -61,8 +61,8 @@ impl<'a> Model for World<'a> {
 }
 
 impl<'a> World<'a> {
-    /// The world that a phase begins with: the prices are these, each copy of a price is that price, every person is free, and
-    /// nothing was sent.
+    /// The world that a phase begins with: the prices are these, each copy of a price is that price, every person is
+    /// free, and nothing was sent.
     ///
     /// `prices` are in scaled costs, indexed by object; `eps` is in scaled costs. `limits.audit` isn't looked at.
     ///
@@ -89,7 +89,8 @@ impl<'a> World<'a> {
         ensures reached { IfOk result (λ w. Reached (phase w) (world_of w)) }
         ensures usual { limits.now.nodes ≡ 0 → IfOk result (λ w. UsualNodes (phase w) (world_of w)) }
         ensures prices { IfOk result (λ w. (j : ℕ) → (world_of w).price j ≡ slice_index_or prices.now j (pos 0)) }
-        ensures copies { IfOk result (λ w. (s j : ℕ) → s < limits.now.shards → (world_of w).copy s j ≡ slice_index_or prices.now j (pos 0)) }
+        ensures copies { IfOk result
+            (λ w. (s j : ℕ) → s < limits.now.shards → (world_of w).copy s j ≡ slice_index_or prices.now j (pos 0)) }
     {
         // Read here, so that the proof knows what all rows keep.
         let _ = rows.persons();
@@ -98,8 +99,8 @@ impl<'a> World<'a> {
         Ok(world)
     }
 
-    /// The same world, whose shards of the persons find their bids by these, by shard: those of the worlds before, of lower prices, or
-    /// new ones.
+    /// The same world, whose shards of the persons find their bids by these, by shard: those of the worlds before, of
+    /// lower prices, or new ones.
     pub(crate) fn make_with(
         alloc: Global,
         rows: &'a Rows,

@@ -1,4 +1,5 @@
-//! The quick search for any assignment: where it finds one that the first free objects don't make, and where it finds none.
+//! The quick search for any assignment: where it finds one that the first free objects don't make, and where it finds
+//! none.
 
 use crate::desk::rows_of;
 use auc_graph::{ReadLimits, Rows, read_arcs};
@@ -15,7 +16,8 @@ fn finds(rt: &HostRuntime, text: &str) -> Result<bool, Fail> {
     Ok(has_full_matching(rt.alloc(), &rows)?)
 }
 
-/// A problem in which each person but the last knows the object of his number, the next one, and so many before it; the last one knows the first few alone.
+/// A problem in which each person but the last knows the object of his number, the next one, and so many before it; the
+/// last one knows the first few alone.
 fn stairs(rt: &HostRuntime, before: u32, first: u32) -> Result<String, AllocError> {
     let mut text = String::new(rt.alloc());
     text.push_str("600\n")?;
@@ -40,7 +42,8 @@ fn displaces(rt: HostRuntime) -> Result<(), Fail> {
     Ok(())
 }
 
-/// The last person needs the object of the first one, who needs that of the next, and so on through all of them; and where each could go back too.
+/// The last person needs the object of the first one, who needs that of the next, and so on through all of them; and
+/// where each could go back too.
 #[test]
 fn displaces_all(rt: HostRuntime) -> Result<(), Fail> {
     let text = stairs(&rt, 0, 1)?;
@@ -50,7 +53,8 @@ fn displaces_all(rt: HostRuntime) -> Result<(), Fail> {
     Ok(())
 }
 
-/// A person without an arc, two persons who know one object, and three who know two, of whom the first two are given them.
+/// A person without an arc, two persons who know one object, and three who know two, of whom the first two are given
+/// them.
 #[test]
 fn finds_none(rt: HostRuntime) -> Result<(), Fail> {
     assert!(rt; !finds(&rt, "1\n")?);

@@ -72,7 +72,8 @@ impl Stall {
         }
     }
 
-    /// The price of an object as a letter to the only shard of the persons; the blank letter where there is no such object.
+    /// The price of an object as a letter to the only shard of the persons; the blank letter where there is no such
+    /// object.
     pub fn tell(&self, object: u32) -> Out {
         if (object as usize) < self.objects {
             self.shard.tell(object, 0)

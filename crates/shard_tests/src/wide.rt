@@ -1,4 +1,5 @@
-//! Bids by what is kept beside a shard are those of a whole pass, for rows of each length that has a way of its own, in any order and rising.
+//! Bids by what is kept beside a shard are those of a whole pass, for rows of each length that has a way of its own, in
+//! any order and rising.
 
 ghost use Rattle.std.specs.Prelude.{◌<◌};
 ghost use Rattle.auc_letters.specs.Price.{IsEps};
@@ -21,8 +22,9 @@ const LEVELS: u32 = 5;
 /// How many arcs each person has then.
 const ARCS_WITH_LEVELS: u32 = 20;
 
-/// What the arc of a person at a place of his row costs, in one of six ways: all arcs cost the same; there are a few levels;
-/// costs are products; they look like drawn, for objects in any order or in rising order; two of five cost 4, in rising order, and the others 1.
+/// What the arc of a person at a place of his row costs, in one of six ways: all arcs cost the same; there are a few
+/// levels; costs are products; they look like drawn, for objects in any order or in rising order; two of five cost 4,
+/// in rising order, and the others 1.
 fn cost_of(way: u32, person: u32, place: u32) -> u32 {
     match way {
         0 => 5,
@@ -37,8 +39,8 @@ fn cost_of(way: u32, person: u32, place: u32) -> u32 {
     }
 }
 
-/// To which object the arc at a place leads: places and objects are in different orders, but in the last two ways. With a few levels two arcs each lead
-/// to one.
+/// To which object the arc at a place leads: places and objects are in different orders, but in the last two ways. With
+/// a few levels two arcs each lead to one.
 fn object_of(way: u32, place: u32) -> u32
     ensures { result < 600 }
 {

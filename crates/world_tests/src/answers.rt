@@ -48,7 +48,8 @@ const ALIKE: [Example; 5] = [
 
 /// Problems with one least assignment, whose prices may be others with more shards.
 const PRICED: [Example; 2] = [
-    // Two phases, at eps 2 and 1. These prices come only where the second one begins with the prices 4, 10 and 10 of the first.
+    // Two phases, at eps 2 and 1. These prices come only where the second one begins with the prices 4, 10 and 10 of
+    // the first.
     Example {
         problem: THREE,
         claim: "auction 1\noptimal 3 5\nassign 1 2 1\nassign 2 1 2\nassign 3 3 2\n",

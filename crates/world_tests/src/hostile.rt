@@ -30,8 +30,8 @@ fn steps_at(beyond: u32) -> [Step; 13] {
     ]
 }
 
-/// Turns out of range at the start, in the middle of each of six rounds, where letters wait everywhere, and after the end: 29
-/// each time, with objects of another shard, and how the world stands before and after them.
+/// Turns out of range at the start, in the middle of each of six rounds, where letters wait everywhere, and after the
+/// end: 29 each time, with objects of another shard, and how the world stands before and after them.
 fn out_of_range_steps(rt: &HostRuntime) -> Result<Vec<Step>, Fail> {
     let mut steps = Vec::new(rt.alloc());
     for _ in 0..6 {
@@ -64,7 +64,8 @@ fn stands_as_before(told: &str, marks: &str) -> bool {
 fn out_of_range(rt: HostRuntime) -> Result<(), Fail> {
     let steps = out_of_range_steps(&rt)?;
     let told = told(&rt, TWO, Limits::usual(2), steps.as_slice())?;
-    // None of them moved anything, nor changed how the world stands; the two turns after a round are answered as they may.
+    // None of them moved anything, nor changed how the world stands; the two turns after a round are answered as they
+    // may.
     let none = ".............................";
     assert_same(&rt, told.as_str().matches(none).count(), 6);
     assert!(rt; stands_as_before(told.as_str(), none), "{told}");
@@ -95,8 +96,8 @@ fn nothing_waits(rt: HostRuntime) -> Result<(), Fail> {
     Ok(())
 }
 
-/// Tells a price, again and again. The persons' mail has room for eight letters, and keeps four of it from prices: so four
-/// wait, and the others are dropped. One tell waits in the outbox until it is posted.
+/// Tells a price, again and again. The persons' mail has room for eight letters, and keeps four of it from prices: so
+/// four wait, and the others are dropped. One tell waits in the outbox until it is posted.
 #[test]
 fn tells_beyond_the_room(rt: HostRuntime) -> Result<(), Fail> {
     let mut steps = Vec::new(rt.alloc());

@@ -111,8 +111,8 @@ fn greatest_price(rt: HostRuntime) -> Result<(), Fail> {
     Ok(())
 }
 
-/// A full mail stops the phase. The turns go on after the end, with the letters that had no room, until each person has an
-/// object and the hub has counted both; the end stays.
+/// A full mail stops the phase. The turns go on after the end, with the letters that had no room, until each person has
+/// an object and the hub has counted both; the end stays.
 #[test]
 fn first_cause_stays(rt: HostRuntime) -> Result<(), Fail> {
     let mut steps = Vec::new(rt.alloc());

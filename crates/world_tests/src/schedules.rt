@@ -58,8 +58,8 @@ fn problems() -> [Example; 5] {
     ]
 }
 
-/// The next turn: in one of four cases or so its shard or its object is none. Never one of the starved kind, if there is such a
-/// kind.
+/// The next turn: in one of four cases or so its shard or its object is none. Never one of the starved kind, if there
+/// is such a kind.
 fn next_turn(numbers: &mut Numbers, shards: u32, starved: u32) -> Turn
     requires { shards ≤ 16 }
 {
@@ -168,8 +168,8 @@ fn plays_well(
     Ok(true)
 }
 
-/// Takes a mixed schedule from the start of a phase, and whole rounds from there. What the holders cost then, if all was well
-/// and the checker finds that nothing costs less.
+/// Takes a mixed schedule from the start of a phase, and whole rounds from there. What the holders cost then, if all
+/// was well and the checker finds that nothing costs less.
 fn cost_after(
     rt: &HostRuntime,
     problem: &ArcList,

@@ -39,7 +39,8 @@ fn answered_from(
     text_of(rt, &problem, answer)
 }
 
-/// The prices are taken, not the picks: from nothing the first problem's would be other ones. One certificate is of other costs, one is a bracket.
+/// The prices are taken, not the picks: from nothing the first problem's would be other ones. One certificate is of
+/// other costs, one is a bracket.
 #[test]
 fn prices_start_a_solve(rt: HostRuntime) -> Result<(), Fail> {
     let highest = format!(in rt.alloc(); "{OF_ONE}1152921504606846976\n")?;

@@ -20,8 +20,9 @@ fn first_bid(rt: HostRuntime) -> Result<(), Fail> {
     Ok(())
 }
 
-/// Both persons bid for the first object, 4 and 7, before either has heard anything. The second one gets it, and the award waits in
-/// the outbox; the first one hears of his award, of the price 4 and that he is outbid, and bids 5 for the second object.
+/// Both persons bid for the first object, 4 and 7, before either has heard anything. The second one gets it, and the
+/// award waits in the outbox; the first one hears of his award, of the price 4 and that he is outbid, and bids 5 for
+/// the second object.
 const OUTBID_BEFORE_HE_HEARS: [Step; 30] = [
     BID,
     PERSON_POST,
@@ -63,8 +64,8 @@ fn outbid_before_he_hears(rt: HostRuntime) -> Result<(), Fail> {
     Ok(())
 }
 
-/// The same persons and objects, each in a shard of its own. The second person bids for the first object and gets it; the first
-/// one, who knows the old price, is refused.
+/// The same persons and objects, each in a shard of its own. The second person bids for the first object and gets it;
+/// the first one, who knows the old price, is refused.
 const FIRST_OBJECT: [Step; 11] = [
     OTHER_BID,
     OTHER_PERSON_POST,

@@ -49,7 +49,8 @@ fn with_block(row: PricedRow, begun: Search, from: usize, least: i64) -> Search
     ensures found { IsFound (value_in row.entry) row.entry.arcs.now result.scan }
     ensures limit { IsLimit result.scan result.limit }
     ensures kept { (b : RowArc) → Covers (value_in row.entry) begun.scan b → Covers (value_in row.entry) result.scan b }
-    ensures covered { (k : ℕ) (d : RowArc) → from ≤ k → k < from + 16 → k < length row.entry.arcs.now → Covers (value_in row.entry) result.scan (slice_index_or row.entry.arcs.now k d) }
+    ensures covered { (k : ℕ) (d : RowArc) → from ≤ k → k < from + 16 → k < length row.entry.arcs.now
+        → Covers (value_in row.entry) result.scan (slice_index_or row.entry.arcs.now k d) }
 {
     if least > begun.limit {
         return begun;

@@ -52,7 +52,8 @@ impl PersonShard {
     #[tactic(auto, using(crate::proofs::Rise::shape_held, crate::proofs::Rise::shape_same, crate::proofs::Rise::rises_same))]
     #[inline(always)]
     fn on_award(&mut self, person: u32, object: u32, price: i64) -> Result<(), PersonFault>
-        ensures exact { Answered self.old person object price (PersonState.Waits object) (held_after self.old person object price) result self.new }
+        ensures exact { Answered self.old person object price (PersonState.Waits object)
+            (held_after self.old person object price) result self.new }
         ensures rise { NeverFall self.old.copies self.new.copies }
         ensures shape { SameShape self.old self.new }
     {
@@ -104,15 +105,15 @@ impl PersonShard {
 
     /// Takes a letter: an answer to a bid, an Outbid or a price. O(1), and no memory.
     ///
-    /// An Award wants a person of the shard who waits for the object; he then holds it. A Refused wants the same, and an
-    /// Outbid one who holds the object; he is then the last of the free persons. Each of them, and Price, sets the copy of
-    /// the object's price.
+    /// An Award wants a person of the shard who waits for the object; he then holds it. A Refused wants the same, and
+    /// an Outbid one who holds the object; he is then the last of the free persons. Each of them, and Price, sets the
+    /// copy of the object's price.
     ///
     /// # Errors
     ///
-    /// Nothing is changed by a letter that is refused. [`PersonFault::Stray`] comes first: another kind of letter, a person
-    /// or an object that isn't the shard's or is out of range, a price out of range, or a state that doesn't fit. Then
-    /// [`PersonFault::Fell`]: the price is below the copy.
+    /// Nothing is changed by a letter that is refused. [`PersonFault::Stray`] comes first: another kind of letter, a
+    /// person or an object that isn't the shard's or is out of range, a price out of range, or a state that doesn't
+    /// fit. Then [`PersonFault::Fell`]: the price is below the copy.
     // docs/CODEGEN.md, "Letters taken in line".
     #[inline(always)]
     pub fn on_letter(&mut self, letter: Letter) -> Result<(), PersonFault>

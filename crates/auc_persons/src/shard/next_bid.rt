@@ -45,9 +45,9 @@ impl PersonShard {
 
     /// The bid of the person who has been free longest; he waits from now on. Idle where nobody is free.
     ///
-    /// Stop tells why he can't bid, and nothing is changed then: Bids where the shard has used up its bids, else Stuck where
-    /// he has no arc, else Ceiling where he would bid more than the greatest price. `rows` are the rows of the problem that
-    /// the shard was made for; `eps` is in scaled costs.
+    /// Stop tells why he can't bid, and nothing is changed then: Bids where the shard has used up its bids, else Stuck
+    /// where he has no arc, else Ceiling where he would bid more than the greatest price. `rows` are the rows of the
+    /// problem that the shard was made for; `eps` is in scaled costs.
     ///
     /// Takes one pass over the person's row, O(arcs of the person) time and no memory.
     #[tactic(auto, using(crate::proofs::Rise::shape_bid, crate::proofs::Rise::shape_same))]
@@ -75,11 +75,11 @@ impl PersonShard {
 
     /// The same bid as [`Self::next_bid`] makes, found sooner by what is kept beside the shard.
     ///
-    /// `bidder` is of these rows, and no copy has fallen since it was made: what is made for them stays such in each call of the
-    /// shard, since copies never fall, and where a world of later prices begins.
+    /// `bidder` is of these rows, and no copy has fallen since it was made: what is made for them stays such in each
+    /// call of the shard, since copies never fall, and where a world of later prices begins.
     ///
-    /// Takes a pass over a short row, or for most bids of a longer one over a short list, and else as long as [`Self::next_bid`], where a
-    /// row of more than 256 arcs is looked at in part; no memory.
+    /// Takes a pass over a short row, or for most bids of a longer one over a short list, and else as long as
+    /// [`Self::next_bid`], where a row of more than 256 arcs is looked at in part; no memory.
     #[inline(always)]
     pub fn next_bid_by(&mut self, rows: &Rows, eps: i64, bidder: &mut Bidder) -> Bidding
         requires rows { IsMadeFor rows.now self.old }

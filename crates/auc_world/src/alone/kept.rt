@@ -74,7 +74,8 @@ fn all_persons(alloc: Global, persons: u32) -> Result<VecDeque<u32>, AllocError>
 }
 
 impl AloneWorld {
-    /// What a phase begins with: nobody has anything, and everybody is free. Takes O(persons + objects) time and memory; no round takes any.
+    /// What a phase begins with: nobody has anything, and everybody is free. Takes O(persons + objects) time and
+    /// memory; no round takes any.
     ///
     /// # Errors
     ///
@@ -174,7 +175,8 @@ impl AloneWorld {
     fn set_lot(&mut self, object: u32, price: i64, held: Held)
         requires object { object < length self.old.prices }
         requires person { held.person < 4294967295 }
-        ensures { self.new ≡ record self.old { prices = slice_set self.old.prices object price; holders = slice_set self.old.holders object (Some held) } }
+        ensures { self.new ≡ record self.old
+            { prices = slice_set self.old.prices object price; holders = slice_set self.old.holders object (Some held) } }
     {
         self.lots[object as usize] = Lot {
             price,

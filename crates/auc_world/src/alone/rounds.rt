@@ -21,7 +21,8 @@ pub(crate) struct Played {
 }
 
 impl AloneWorld {
-    /// The person who has been free longest bids, if anybody is free, and his bid is answered; or a limit stops the phase.
+    /// The person who has been free longest bids, if anybody is free, and his bid is answered; or a limit stops the
+    /// phase.
     #[inline(always)]
     fn trade(&mut self, task: &Task, bidder: &mut Bidder) -> Option<Reason>
         requires going { IsGoing task.now self.old }

@@ -28,8 +28,8 @@ impl<'a> Model for Task<'a> {
     ghost view = { λ t. record { table = t.rows.now; limits = t.limits.now; prices = t.prices.now; eps = t.eps } };
 }
 
-/// Whether a phase may be played by itself: there is one shard of each kind, as many letters may wait as are usual, and no lane can have had as
-/// many posts as it may, since a bid is answered by two letters at most.
+/// Whether a phase may be played by itself: there is one shard of each kind, as many letters may wait as are usual, and
+/// no lane can have had as many posts as it may, since a bid is answered by two letters at most.
 pub(crate) fn may_play_alone(limits: &Limits) -> bool
     ensures { IsTrue result → MayPlayAlone limits.now }
 {

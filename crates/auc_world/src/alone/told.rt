@@ -3,8 +3,8 @@
 /// Stands for nobody who is free again.
 pub(crate) const NOBODY: u32 = 4_294_967_295;
 
-/// What the only shard of the objects has told the only one of the persons, and waits there, in 16 bytes: an award where nobody is free by it. Who
-/// has won an object isn't told, since nothing that is kept here changes for him.
+/// What the only shard of the objects has told the only one of the persons, and waits there, in 16 bytes: an award
+/// where nobody is free by it. Who has won an object isn't told, since nothing that is kept here changes for him.
 #[derive(Clone, Copy)]
 pub(crate) struct Told {
     /// The price of the object, in scaled costs.

@@ -6,7 +6,8 @@ use arrayvec::ArrayVec;
 use auc_letters::Out;
 use std::marker::Model;
 
-/// The letters that a shard has still to post, the next one first: at most four, which is room for the answers to a bid.
+/// The letters that a shard has still to post, the next one first: at most four, which is room for the answers to a
+/// bid.
 ///
 /// Contracts see them as a list.
 #[derive(Drop)]

@@ -24,7 +24,8 @@ pub(crate) enum Posted {
 }
 
 impl PostOffice {
-    /// Posts the first letter of a sender's outbox, if there is one. Inlined, since in a round an outbox is nearly always empty.
+    /// Posts the first letter of a sender's outbox, if there is one. Inlined, since in a round an outbox is nearly
+    /// always empty.
     #[inline]
     pub(crate) fn post_first(&mut self, sender: u32) -> Posted
         requires known { sender < length self.old.outboxes }

@@ -79,7 +79,8 @@ impl<'a> World<'a> {
 
     /// A shard of the persons bids and posts, by two turns. Whether anything moved.
     pub(crate) fn bid_and_post(&mut self, shard: u32) -> bool
-        ensures plays { Plays (phase self.old) (world_of self.old) (Turn.Bid shard ∷ Turn.PersonPost shard ∷ []) result (world_of self.new) }
+        ensures plays { Plays (phase self.old) (world_of self.old) (Turn.Bid shard ∷ Turn.PersonPost shard ∷ [])
+            result (world_of self.new) }
         ensures phase { SamePhase self.old self.new }
     {
         let bids = has_moved(self.bid(shard));

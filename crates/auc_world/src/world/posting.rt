@@ -14,7 +14,8 @@ impl<'a> World<'a> {
     #[inline]
     fn post_first(&mut self, sender: u32) -> TurnReply
         requires known { sender < 2 * self.old.shards }
-        ensures turn { (h : Shard) → sender_of self.old h ≡ sender → number h < self.old.shards → PostTurn (phase self.old) (world_of self.old) h result (world_of self.new) }
+        ensures turn { (h : Shard) → sender_of self.old h ≡ sender → number h < self.old.shards
+            → PostTurn (phase self.old) (world_of self.old) h result (world_of self.new) }
         ensures phase { SamePhase self.old self.new }
     {
         match self.post.post_first(sender) {

@@ -59,8 +59,8 @@ impl<'a> World<'a> {
         moved
     }
 
-    /// One round: each shard of the persons bids, each of the objects answers, each of the persons hears, and the hub counts.
-    /// Whether anything moved.
+    /// One round: each shard of the persons bids, each of the objects answers, each of the persons hears, and the hub
+    /// counts. Whether anything moved.
     #[inline]
     fn round(&mut self) -> bool
         ensures plays { Plays (phase self.old) (world_of self.old) (round_of self.old.shards) result (world_of self.new) }

@@ -28,7 +28,8 @@ impl<'a> World<'a> {
         shard < self.shards && self.post.has_posted_all(self.shards + shard)
     }
 
-    /// The bid that a letter to a shard of the objects is, where it fits: the object is the shard's, and the amount is in range.
+    /// The bid that a letter to a shard of the objects is, where it fits: the object is the shard's, and the amount is
+    /// in range.
     #[inline]
     fn bid_in(&self, shard: u32, letter: Letter) -> Option<Bid>
         requires { shard < self.now.shards }
@@ -46,7 +47,8 @@ impl<'a> World<'a> {
         requires owns { Owns (objects_at self.old shard) offer.object }
         requires amount { IsPrice offer.amount }
         ensures award { objects_at self.new shard ≡ after_bid (objects_at self.old shard) self.old.eps offer }
-        ensures letters { letters_of result ≡ answers self.old.shards self.old.eps (sale_of (objects_at self.old shard) offer.object) offer }
+        ensures letters { letters_of result ≡ answers self.old.shards self.old.eps
+            (sale_of (objects_at self.old shard) offer.object) offer }
         ensures rest { self.new ≡ record self.old { objects = slice_set self.old.objects shard (objects_at self.new shard) } }
         ensures reach { All (Reaches self.old.shards) (letters_of result) }
     {
@@ -67,8 +69,8 @@ impl<'a> World<'a> {
         objects.tell(object, to)
     }
 
-    /// A shard of the objects takes a bid and answers it into its outbox. A letter that fits no bid on an object of the shard ends the
-    /// phase.
+    /// A shard of the objects takes a bid and answers it into its outbox. A letter that fits no bid on an object of the
+    /// shard ends the phase.
     #[inline]
     pub(crate) fn object_take(&mut self, shard: u32) -> TurnReply
         ensures turn { ObjectTakeTurn (phase self.old) (world_of self.old) shard result (world_of self.new) }
@@ -104,7 +106,8 @@ impl<'a> World<'a> {
 
     /// A shard of the objects takes a bid and posts its answers, by three turns. Whether anything moved.
     pub(crate) fn take_and_post(&mut self, shard: u32) -> bool
-        ensures plays { Plays (phase self.old) (world_of self.old) (Turn.ObjectTake shard ∷ Turn.ObjectPost shard ∷ Turn.ObjectPost shard ∷ []) result (world_of self.new) }
+        ensures plays { Plays (phase self.old) (world_of self.old)
+            (Turn.ObjectTake shard ∷ Turn.ObjectPost shard ∷ Turn.ObjectPost shard ∷ []) result (world_of self.new) }
         ensures phase { SamePhase self.old self.new }
     {
         let takes = has_moved(self.object_take(shard));

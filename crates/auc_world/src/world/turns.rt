@@ -9,8 +9,8 @@ use auc_model::{Turn, TurnReply};
 impl<'a> World<'a> {
     /// Takes one turn. O(arcs of the person) for a bid, and O(1) beside it and the mail's own calls; no memory.
     ///
-    /// Nothing is answered where nothing can move: there is no such shard, box or object; the outbox isn't empty, or is; no
-    /// letter waits; nobody is free; the box is closed. Then the world is as it was.
+    /// Nothing is answered where nothing can move: there is no such shard, box or object; the outbox isn't empty, or
+    /// is; no letter waits; nobody is free; the box is closed. Then the world is as it was.
     pub fn turn(&mut self, turn: Turn) -> TurnReply
         ensures turn { Turned (phase self.old) (world_of self.old) turn result (world_of self.new) }
         ensures phase { SamePhase self.old self.new }

@@ -5,7 +5,7 @@ use Rattle.auc_mail.specs.Mail.{empty_mail}
 use Rattle.auc_phases.specs.declared.limits.Limits.{Limits}
 use Rattle.auc_phases.specs.Shards.{new_objects, new_persons, no_objects, no_persons}
 use Rattle.auc_phases.specs.Limits.{nodes_or}
-use Rattle.auc_world.specs.Parts.{Parts}
+use Rattle.auc_world.specs.Parts.{Parts, world_of}
 
 -- the parts of a new world
 pub record IsMade (t : Table) (limits : Limits) (prices : List ℤ) (eps : ℤ) (p : Parts) : Type 0 where
@@ -27,3 +27,9 @@ pub record IsMade (t : Table) (limits : Limits) (prices : List ℤ) (eps : ℤ) 
   pub hub_mail : p.mails.hub ≡ empty_mail 1 (2 * limits.shards + 1) (nodes_or limits.nodes (length t.rows + 2 * limits.shards)) limits.posts
   pub count : p.hub.count ≡ 0
   pub end : p.hub.end ≡ None
+
+-- what nobody holds after some turns had no holder before them, and has kept its price
+abbrev pub KeepsUnheld : Parts → Parts → Type 0
+KeepsUnheld before after =
+    (j : ℕ) → (world_of after).holder j ≡ None → ((world_of before).holder j ≡ None)
+    × ((world_of after).price j ≡ (world_of before).price j)

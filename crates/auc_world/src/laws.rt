@@ -68,10 +68,11 @@ impl<'a> World<'a> {
         ensures counted { (world_of self.now).count ≤ (phase self.now).persons }
     {}
 
-    /// Where the hub has counted as many as there are persons, each person holds an object, and the holders' arcs are
-    /// an assignment of the problem, at any eps. A law, which does nothing.
+    /// A phase that has ended with all has counted as many as there are persons. Where the hub has, each person holds
+    /// an object, and the holders' arcs are an assignment of the problem, at any eps. A law, which does nothing.
     pub fn counted_holders_are_assigned(&self)
         requires { Reached (phase self.now) (world_of self.now) }
+        ensures ended { (world_of self.now).end ≡ Some End.All → (world_of self.now).count ≡ (phase self.now).persons }
         ensures everyone { (world_of self.now).count ≡ (phase self.now).persons → (i : ℕ)
             → i < (phase self.now).persons → (j : ℕ) × (h : Held) × ((world_of self.now).holder j ≡ Some h)
             × (h.person ≡ i) }
@@ -83,7 +84,8 @@ impl<'a> World<'a> {
 
 /// Where the hub has counted as many as there are persons, the holders' arcs are an assignment; and at eps 1 the
 /// checker finds no fault in it with the true prices, so it costs least; there are as many objects as persons, or what
-/// nobody holds has no price, as in each world that was made with every price 0. A law, which does nothing.
+/// nobody holds has no price, as in each world that was made with every price 0 (clause `unheld` of [`World::turn`]). A
+/// law, which does nothing.
 pub fn counted_holders_pass_the_checker()
     ensures { (p : Problem) (t : Table) (shards : ℕ) (v : Model) (prices : List ℤ) → IsProblem p → IsTable t
         → IsTableOf p t → (IsSquare p ⊎ ((j : ℕ) → v.holder j ≡ None → v.price j ≡ pos 0))

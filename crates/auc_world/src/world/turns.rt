@@ -1,5 +1,6 @@
 //! The turns of a world.
 
+ghost use Rattle.auc_world.specs.Making.{KeepsUnheld};
 ghost use Rattle.auc_world.specs.Parts.{SamePhase, phase, world_of};
 ghost use Rattle.auc_model.specs.Schedule.{Reached, Turned};
 
@@ -11,10 +12,13 @@ impl<'a> World<'a> {
     ///
     /// Nothing is answered where nothing can move: there is no such shard, box or object; the outbox isn't empty, or
     /// is; no letter waits; nobody is free; the box is closed. Then the world is as it was.
+    ///
+    /// What nobody holds has the price that the world was made with: clause `unheld`, turn by turn.
     pub fn turn(&mut self, turn: Turn) -> TurnReply
         ensures turn { Turned (phase self.old) (world_of self.old) turn result (world_of self.new) }
         ensures phase { SamePhase self.old self.new }
         ensures reached { Reached (phase self.old) (world_of self.old) → Reached (phase self.new) (world_of self.new) }
+        ensures unheld { KeepsUnheld self.old self.new }
     {
         self.take_turn(turn)
     }

@@ -3,6 +3,7 @@ use Rattle.auc_model.specs.Schedule.{Reached}
 use Rattle.auc_model.specs.World.{Phase}
 use Rattle.auc_model.proofs.Copies.{copy_schedule}
 use Rattle.auc_model.proofs.Reached.{reached_on}
+use Rattle.auc_model.proofs.Unheld.{unheld_schedule}
 use Rattle.auc_world.specs.Parts.{phase, world_of}
 use Rattle.auc_world.proofs.TurnByTurn.{same_phase, turn_more}
 use Rattle.auc_world.proofs.playing.play.Goals as goal
@@ -23,3 +24,8 @@ returns-clause-reached c = λ before.
     let p = c.args.world.now in
     let all = c.loop-turn.invariant in
     subst (λ (g : Phase). Reached g (world_of c.loop-turn.world)) (sym all.phase) (reached_on (phase p) (world_of p) (world_of c.loop-turn.world) (take c.loop-turn.turn-index c.args.turns.now) before all.schedule)
+
+pub returns-clause-unheld : goal.returns-clause-unheld
+returns-clause-unheld c =
+    let p = c.args.world.now in
+    unheld_schedule (phase p) (world_of p) (take c.loop-turn.turn-index c.args.turns.now) (world_of c.loop-turn.world) c.loop-turn.invariant.schedule

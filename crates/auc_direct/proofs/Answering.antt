@@ -1,5 +1,5 @@
 -- What the last phase leaves is an answer.
-use Rattle.std.proofs.Common.{Bool, false, ℕ, ℤ, pos, ◌≡◌, ◌<◌, refl, arith, inl, inr, List, [], ◌∷◌, length, get_or, map, Contains, Option, Some, ap, sym, subst, ◌∙◌}
+use Rattle.std.proofs.Common.{Bool, true, false, ℕ, ℤ, pos, ◌≡◌, ◌<◌, refl, arith, inl, inr, List, [], ◌∷◌, length, get_or, map, Contains, Option, Some, ap, sym, subst, ◌∙◌}
 use Rattle.std.specs.Prelude.{IfOk, Result, Ok, Err, ◌⊎◌}
 use Rattle.std.specs.List.{slice_get}
 use Rattle.std.proofs.lemmas.Bool.{cases_lt, false≢true}
@@ -29,7 +29,8 @@ use Rattle.auc_answers.proofs.BracketLaws.{bound_fits, holders_price_few}
 use Rattle.auc_rows.specs.declared.arc.ShortArc.{ShortArc}
 use Rattle.auc_rows.specs.Rows.{AreRowsOf, AreSameRows, EachHasArc, FlatTable, IsFlatTable, flat_row_of, short, short_row}
 use Rattle.auc_direct.specs.declared.ending.Ending.{Ending}
-use Rattle.auc_direct.specs.Endings.{AreAdopted, AreFirst, AreOfRun, HasReason, IsClaimOfFirst, IsClaimOfRun, IsLeft, IsLimit, IsLimited, IsLimitedBy, IsLimitedFrom, IsLimitedUnless, IsOfFirstPhases, IsOfPhases, IsOfPhasesFrom, IsStart, IsStopTold, IsToldOr}
+use Rattle.auc_direct.specs.Adopted.{IsFullTable}
+use Rattle.auc_direct.specs.Endings.{AreAdopted, AreFirst, AreOfRun, HasReason, IsAsked, IsClaimOfFirst, IsClaimOfRun, IsLeft, IsLimit, IsLimited, IsLimitedBy, IsLimitedFrom, IsLimitedUnless, IsOfFirstPhases, IsOfPhases, IsOfPhasesFrom, IsStart, IsStopTold, IsToldOr}
 use Rattle.auc_direct.specs.Phases.{HasRun, IsAdopted, IsRun}
 use Rattle.auc_direct.specs.Held.{AreHeld, AreHolders, AreListed, arc_by}
 use Rattle.auc_direct.specs.Market.{EachHasRow, HaveObjects, Stands, holder_at, own_at}
@@ -240,6 +241,23 @@ not_told P a (inr is) = is.1
 -- who never says no has said no nowhere
 pub never_told : {E : Type 0} (P : Answer → Type 0) (r : Result Answer E) → IfOk r (λ a. IsLimitedUnless false false a (P a)) → IfOk r P
 never_told P r h = of_answers (λ a. IsLimitedUnless false false a (P a)) P r (not_told P) h
+
+-- ---- who watches was asked
+
+pub is_asked : (asked : Bool) (p : Problem) (r : FlatTable) → AreRowsOf p r → (asked ≡ true) ⊎ IsFullTable r → (answer : Answer) → IsAsked asked p answer
+is_asked true p r rows h answer = tt
+is_asked false p r rows (inl e) answer = absurd (false≢true e)
+is_asked false p r rows (inr full) (Answer.Optimal cert) = (r, rows, full)
+is_asked false p r rows (inr full) (Answer.Infeasible cert) = tt
+is_asked false p r rows (inr full) (Answer.Bracket cert) = (r, rows, full)
+is_asked false p r rows (inr full) (Answer.Broken guard) = (r, rows, full)
+
+pub none_asked : (asked : Bool) (p : Problem) (answer : Answer) → IsInfeasibleAnswer p answer → IsAsked asked p answer
+none_asked true p answer h = tt
+none_asked false p (Answer.Optimal cert) h = absurd h
+none_asked false p (Answer.Infeasible cert) h = tt
+none_asked false p (Answer.Bracket cert) h = absurd h
+none_asked false p (Answer.Broken guard) h = absurd h
 
 -- ---- a stop is told
 

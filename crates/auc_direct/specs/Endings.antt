@@ -1,5 +1,5 @@
 -- What a chain of bids, a phase and a run come to.
-use Rattle.std.specs.Prelude.{Bool, true, ℕ, ℤ, pos, ◌≡◌, ◌⊎◌, ◌+ℤ◌, ◌≤ℤ◌, List, length, All}
+use Rattle.std.specs.Prelude.{Bool, true, false, ℕ, ℤ, pos, ◌≡◌, ◌⊎◌, ◌+ℤ◌, ◌≤ℤ◌, List, length, All}
 use Rattle.auc_claim.specs.declared.cert.CertParts.{CertParts}
 use Rattle.auc_claim.specs.declared.reason.Reason.{Reason}
 use Rattle.auc_graph.specs.Assignment.{total}
@@ -11,6 +11,7 @@ use Rattle.auc_answers.specs.declared.answer.Answer.{Answer}
 use Rattle.auc_rows.specs.declared.arc.ShortArc.{ShortArc}
 use Rattle.auc_rows.specs.Rows.{AreRowsOf, AreSameRows, FlatTable}
 use Rattle.auc_direct.specs.declared.ending.Ending.{Ending}
+use Rattle.auc_direct.specs.Adopted.{IsFullTable}
 use Rattle.auc_direct.specs.Bids.{HaveRunOut, State}
 use Rattle.auc_direct.specs.Eps.{IsEpsOf}
 use Rattle.auc_direct.specs.Phases.{HasRun, IsAdopted, IsRun}
@@ -103,6 +104,22 @@ IsStopTold (Answer.Broken guard) = ⊥
 -- What is answered of a run that somebody watches: he has said no, and that is told; or he has said no more than before the call, and this holds.
 abbrev pub IsLimitedUnless : Bool → Bool → Answer → Type 0 → Type 0
 IsLimitedUnless before after answer Holds = ((after ≡ true) × IsStopTold answer) ⊎ ((after ≡ before) × Holds)
+
+-- each person has an arc to each object
+abbrev pub IsFull : Problem → Type 0
+IsFull p = (r : FlatTable) × AreRowsOf p r × IsFullTable r
+
+-- what may be answered though nobody was asked: that there is no assignment, or what a search over a full table has proposed
+abbrev pub IsUnasked : Problem → Answer → Type 0
+IsUnasked p (Answer.Optimal cert) = IsFull p
+IsUnasked p (Answer.Infeasible cert) = Unit {0}
+IsUnasked p (Answer.Bracket cert) = IsFull p
+IsUnasked p (Answer.Broken guard) = IsFull p
+
+-- whoever watches was asked, or needn't have been
+abbrev pub IsAsked : Bool → Problem → Answer → Type 0
+IsAsked true p answer = Unit {0}
+IsAsked false p answer = IsUnasked p answer
 
 -- prices to which phases of at most so many bids each lead from these
 abbrev pub AreOfRun : Problem → ℕ → List ℤ → List ℤ → Type 0

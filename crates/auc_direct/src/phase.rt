@@ -61,6 +61,7 @@ impl<'a> Market<'a> {
         watch: &mut W,
     ) -> Result<Ending, Halt>
         ensures played { IfOk result (λ e. IsPlayed bids (W.has_stopped watch.old) (W.has_stopped watch.new) e self.old self.new) }
+        ensures asked { IfOk result (λ e. W.was_asked watch.new ≡ true) }
         ensures halt { IfErr result (λ h. IsHalt self.old.table h × (W.has_stopped watch.new ≡ W.has_stopped watch.old)) }
     {
         self.law();
@@ -99,6 +100,7 @@ impl<'a> Market<'a> {
         ensures played { IfOk result (λ o. IfSome o (λ e. IsPlayed bids (W.has_stopped watch.old) (W.has_stopped watch.new) e self.old self.new)) }
         ensures tried { IfOk result (λ o. IfNone o (IsTried bids self.old self.new)) }
         ensures going { IfOk result (λ o. IfNone o (W.has_stopped watch.new ≡ W.has_stopped watch.old)) }
+        ensures asked { IfOk result (λ o. IfSome o (λ e. W.was_asked watch.new ≡ true)) }
         ensures few { IfOk result (λ o. IfNone o (few < 2 ^ 64 - 1)) }
         ensures halt { IfErr result (λ h. IsHalt self.old.table h × (W.has_stopped watch.new ≡ W.has_stopped watch.old)) }
     {

@@ -1,7 +1,8 @@
 //! A run: its phases one after another, as the rules choose them. This is epsilon scaling.
 
-ghost use Rattle.std.specs.Prelude.{◌≡◌, ◌<◌, ◌-◌, ◌^◌, pos, length, IfErr, IfNone, IfOk, IfSome, OnOk};
+ghost use Rattle.std.specs.Prelude.{true, ◌≡◌, ◌⊎◌, ◌<◌, ◌-◌, ◌^◌, pos, length, IfErr, IfNone, IfOk, IfSome, OnOk};
 ghost use Rattle.auc_rows.specs.Rows.{EachHasArc};
+ghost use Rattle.auc_direct.specs.Adopted.{IsFullTable};
 ghost use Rattle.auc_direct.specs.Endings.{IsOutcome};
 ghost use Rattle.auc_direct.specs.Eps.{IsEpsOf};
 ghost use Rattle.auc_direct.specs.Halts.{IsHalt};
@@ -42,6 +43,7 @@ impl<'a> Market<'a> {
         ensures plays { OnOk result (Plays bids self.old self.new) }
         ensures played { IfOk result (λ o. IfSome o (λ e. IsPlayedAt eps bids (W.has_stopped watch.old) (W.has_stopped watch.new) e self.old self.new)) }
         ensures going { IfOk result (λ o. IfNone o (W.has_stopped watch.new ≡ W.has_stopped watch.old)) }
+        ensures asked { IfOk result (λ o. IfSome o (λ e. W.was_asked watch.new ≡ true)) }
         ensures few { IfOk result (λ o. IfNone o (few < 2 ^ 64 - 1)) }
         ensures halt { IfErr result (λ h. IsHalt self.old.table h × (W.has_stopped watch.new ≡ W.has_stopped watch.old)) }
     {
@@ -64,6 +66,7 @@ impl<'a> Market<'a> {
         requires rows { self.old.table ≡ rows.now }
         requires square { rows.now.objects ≡ length rows.now.rows }
         ensures over { IfOk result (λ e. IsRunOut bids (W.has_stopped watch.old) (W.has_stopped watch.new) e self.old self.new) }
+        ensures asked { IfOk result (λ e. W.was_asked watch.new ≡ true) }
         ensures halt { IfErr result (λ h. IsHalt rows.now h × (W.has_stopped watch.new ≡ W.has_stopped watch.old)) }
     {
         let mut rules = Rules::new(rows);
@@ -113,6 +116,7 @@ pub(crate) fn run<W: Watch>(
     requires arcs { EachHasArc rows.now }
     requires stands { Stands rows.now (pos 1) holdings.prices.items holdings.holders.items holdings.owns.items }
     ensures outcome { IfOk result (λ o. IsOutcome rows.now bids holdings.prices.items (W.has_stopped watch.old) (W.has_stopped watch.new) o.ending o.holdings.prices.items o.holdings.holders.items o.holdings.owns.items) }
+    ensures asked { IfOk result (λ o. (W.was_asked watch.new ≡ true) ⊎ IsFullTable rows.now) }
     ensures halt { IfErr result (λ h. IsHalt rows.now h × (W.has_stopped watch.new ≡ W.has_stopped watch.old)) }
 {
     let mut market = Market::new(alloc, rows, holdings)?;

@@ -1,12 +1,13 @@
 //! The solver in one hand.
 
-ghost use Rattle.std.specs.Prelude.{Bool, ℕ, ℤ, List, ◌≡◌, ◌⊎◌, pos, All, length, IfErr, IfOk, IfSome, IfNone};
+ghost use Rattle.std.specs.Prelude.{Bool, ℕ, ℤ, List, true, ◌≡◌, ◌⊎◌, pos, All, length, IfErr, IfOk, IfSome, IfNone};
 ghost use Rattle.auc_graph.specs.Assignment.{total};
 ghost use Rattle.auc_graph.specs.Price.{IsPrice};
 ghost use Rattle.auc_direct.specs.Halts.{IsHalt};
 ghost use Rattle.auc_answers.specs.Answers.{HasAssignment, IsAnswer, IsBracketAnswer, IsInfeasibleAnswer};
 ghost use Rattle.auc_rows.specs.Rows.{AreRowsOf, EachHasArc, IsFlatTable};
-ghost use Rattle.auc_direct.specs.Endings.{IsLeft, IsLimited, IsLimitedFrom, IsLimitedUnless, IsOfFirstPhases, IsOfPhases, IsOfPhasesFrom, IsOutcome, IsStopTold, IsStopped};
+ghost use Rattle.auc_direct.specs.Adopted.{IsFullTable};
+ghost use Rattle.auc_direct.specs.Endings.{IsAsked, IsLeft, IsLimited, IsLimitedFrom, IsLimitedUnless, IsOfFirstPhases, IsOfPhases, IsOfPhasesFrom, IsOutcome, IsStopTold, IsStopped};
 ghost use Rattle.auc_claim.specs.declared.reason.Reason.{Reason};
 ghost use Rattle.auc_direct.specs.declared.ending.Ending.{Ending};
 ghost use Rattle.auc_direct.specs.Phases.{HasRun};
@@ -136,6 +137,7 @@ fn concluded(
     ensures is { IfOk result (IsAnswer problem.now) }
     ensures limit { (bids : ℕ) (begun : List ℤ) (before after : Bool) → IfOk ended (λ o. IsOutcome flat bids begun before after o.ending o.holdings.prices.items o.holdings.holders.items o.holdings.owns.items) → IfErr ended (λ h. after ≡ before) → IfOk result (λ a. IsLimitedUnless before after a (IsLimited problem.now bids (total begun) a)) }
     ensures run { (bids : ℕ) (begun : List ℤ) (before after : Bool) → IfOk ended (λ o. IsOutcome flat bids begun before after o.ending o.holdings.prices.items o.holdings.holders.items o.holdings.owns.items) → IfOk result (IsOfPhases problem.now bids begun) }
+    ensures asked { (asked : Bool) → IfOk ended (λ o. (asked ≡ true) ⊎ IsFullTable flat) → IfOk result (IsAsked asked problem.now) }
 {
     match ended {
         Ok(outcome) => answer_of(alloc, problem, flat, outcome),
@@ -205,7 +207,7 @@ pub fn solve_direct_from(
 
 /// Solves a problem as [`solve_direct`] does, and asks between bids whether the run goes on: before each phase, and after as many bids of one as look at some four million arcs. Where it doesn't, the answer is
 /// a bracket with the reason `Bids`, or that there is no assignment; where it has said no more than before the call, a bracket stands only after a limit: clause `limit`. The bracket has the pairs of the last whole
-/// phase, if there was one. Who has said no isn't asked again. To ask takes O(persons) time, and that of `goes_on`.
+/// phase, if there was one. Who has said no isn't asked again; that somebody was asked at all, but for a full table or where there is no assignment, is clause `asked`. To ask takes O(persons) time, and that of `goes_on`.
 ///
 /// Nothing is asked before the rows are laid out, within a search for a path, while a full table is searched, while prices are refined, which takes at most the time of some twice the bids of the phase before
 /// it, or after a no, while a bracket is made and checked.
@@ -222,6 +224,7 @@ pub fn solve_direct_watched<W: Watch>(
     ensures is { IfOk result (IsAnswer problem.now) }
     ensures limit { IfOk result (λ a. IsLimitedUnless (W.has_stopped watch.old) (W.has_stopped watch.new) a (IsLimited problem.now limits.now.bids (pos 0) a)) }
     ensures run { IfOk result (IsOfFirstPhases problem.now limits.now.bids) }
+    ensures asked { IfOk result (IsAsked (W.was_asked watch.new) problem.now) }
 {
     let flat = FlatRows::build(alloc, problem)?;
     if let Some(answer) = answered(alloc, problem, &flat)? {
@@ -249,6 +252,7 @@ pub fn solve_direct_watched_from<W: Watch>(
     ensures is { IfOk result (IsAnswer problem.now) }
     ensures limit { IfOk result (λ a. IsLimitedUnless (W.has_stopped watch.old) (W.has_stopped watch.new) a (IsLimitedFrom problem.now limits.now.bids start.now a)) }
     ensures run { IfOk result (IsOfPhasesFrom problem.now limits.now.bids start.now) }
+    ensures asked { IfOk result (IsAsked (W.was_asked watch.new) problem.now) }
 {
     let flat = FlatRows::build(alloc, problem)?;
     if let Some(answer) = answered(alloc, problem, &flat)? {

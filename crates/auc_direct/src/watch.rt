@@ -18,21 +18,27 @@ pub trait Watch {
     /// Whether it has said no.
     ghost has_stopped: { Self → Bool };
 
-    /// The same, for who is about to ask.
+    /// Whether it was asked.
+    ghost was_asked: { Self → Bool };
+
+    /// Whether it has said no, for who is about to ask.
     fn has_said_no(&self) -> bool
-        ensures { result ≡ has_stopped self.now };
+        ensures said { result ≡ has_stopped self.now }
+        ensures asked { result ≡ true → was_asked self.now ≡ true };
 
     /// Whether the run goes on. Where it doesn't, it ends, and nothing is asked any more.
     fn goes_on(&mut self, progress: Progress) -> bool
         requires going { has_stopped self.old ≡ false }
         ensures yes { result ≡ true → has_stopped self.new ≡ false }
-        ensures no { result ≡ false → has_stopped self.new ≡ true };
+        ensures no { result ≡ false → has_stopped self.new ≡ true }
+        ensures asked { was_asked self.new ≡ true };
 }
 
 /// Asks whether a run goes on; who has said no isn't asked again.
 pub(crate) fn may_go_on<W: Watch>(watch: &mut W, progress: Progress) -> bool
     ensures yes { result ≡ true → W.has_stopped watch.new ≡ W.has_stopped watch.old }
     ensures no { result ≡ false → W.has_stopped watch.new ≡ true }
+    ensures asked { W.was_asked watch.new ≡ true }
 {
     if watch.has_said_no() {
         return false;
@@ -46,6 +52,8 @@ pub struct Onward;
 
 impl Watch for Onward {
     ghost has_stopped = { λ _. false };
+
+    ghost was_asked = { λ _. true };
 
     fn has_said_no(&self) -> bool {
         false

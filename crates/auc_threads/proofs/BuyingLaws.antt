@@ -19,6 +19,7 @@ use Rattle.auc_threads.specs.Calling.{lines_made}
 use Rattle.auc_threads.specs.Taking.{AfterTake, AfterTakes, Answer, Takes, letter_of}
 use Rattle.auc_threads.specs.Posting.{Posts, PostsAt, calls_sent, first_step}
 use Rattle.auc_threads.specs.Buying.{Act, AfterActs, AfterAsks, Asks, Buys, Hear, Listens, ListensTo, Make, Plays, heard_in, made_in}
+use Rattle.auc_threads.specs.Worker.{Rooms, Worker, with_hub}
 use Rattle.auc_threads.proofs.TakingLaws.{after_one, after_then, took_as, took_nil, took_take, took_then}
 use Rattle.auc_threads.proofs.PostingLaws.{at_none, at_then, posts_long, sent_full, sent_long}
 use Rattle.auc_threads.proofs.StepLaws.{posts_bids}
@@ -71,14 +72,14 @@ plays_bids t eps s n (Make o ∷ acts) f =
     omega (arith, plays_bids t eps f.0 n acts f.2, some, used)
 
 -- where the worker had made no call of that mail, its seat there counts no more bids than it made
-pub bids_made : (t : Table) (eps : ℤ) (ro rp at : ℕ) (s n : Persons) (a a' p p' : Account Letter) (step : Step) → (f : Buys t eps ro rp at s a p n a' p' step) → a.count ≡ 0 → a'.count ≤ length (made_in f.acts)
-bids_made t eps ro rp at s n a a' p p' step f none =
-    omega (arith, none, f.posts.makes.counted, sent_long a.worker f.posts.posts, posts_long (made_in f.acts) f.posts.posts f.posts_step f.posts.posted)
+pub bids_made : (t : Table) (eps : ℤ) (r : Rooms) (at : ℕ) (old new : Worker Persons) (step : Step) → (f : Buys t eps r at old new step) → old.seats.objects.count ≡ 0 → new.seats.objects.count ≤ length (made_in f.acts)
+bids_made t eps r at old new step f none =
+    omega (arith, none, f.posts.makes.counted, sent_long old.seats.objects.worker f.posts.posts, posts_long (made_in f.acts) f.posts.posts f.posts_step f.posts.posted)
 
 -- and so no more than are allowed
-pub bids_few : (t : Table) (eps : ℤ) (ro rp at : ℕ) (s n : Persons) (a a' p p' : Account Letter) (step : Step) → Buys t eps ro rp at s a p n a' p' step → a.count ≡ 0 → a'.count ≤ s.bids
-bids_few t eps ro rp at s n a a' p p' step f none =
-    omega (arith, bids_made t eps ro rp at s n a a' p p' step f none, plays_bids t eps s n f.acts f.plays)
+pub bids_few : (t : Table) (eps : ℤ) (r : Rooms) (at : ℕ) (old new : Worker Persons) (step : Step) → Buys t eps r at old new step → old.seats.objects.count ≡ 0 → new.seats.objects.count ≤ old.shard.bids
+bids_few t eps r at old new step f none =
+    omega (arith, bids_made t eps r at old new step f none, plays_bids t eps old.shard new.shard f.acts f.plays)
 
 bids_stop : (x y : Step) → Step.Stop Why.Bids ≡ first_step x y → (x ≢ Step.Stop Why.Bids) → (x ≡ Step.On) × (y ≡ Step.Stop Why.Bids)
 bids_stop Step.On y e ne = (refl, sym e)
@@ -101,18 +102,20 @@ none_left t eps n fault h =
     no_fault PersonFault.Fell e = cc
 
 -- and just so many where they ended it
-pub bids_spent : (t : Table) (eps : ℤ) (ro rp at : ℕ) (s n : Persons) (a a' p p' : Account Letter) (step : Step) → Buys t eps ro rp at s a p n a' p' step → a.count ≡ 0 → step ≡ Step.Stop Why.Bids → a'.count ≡ s.bids
-bids_spent t eps ro rp at s n a a' p p' step f none stop =
+pub bids_spent : (t : Table) (eps : ℤ) (r : Rooms) (at : ℕ) (old new : Worker Persons) (step : Step) → Buys t eps r at old new step → old.seats.objects.count ≡ 0 → step ≡ Step.Stop Why.Bids → new.seats.objects.count ≡ old.shard.bids
+bids_spent t eps r at old new step f none stop =
     let both = bids_stop f.posts_step f.acts_step (sym stop ∙ f.is) (posts_bids (made_in f.acts) f.posts.posts f.posts_step f.posts.posted) in
     let posted : Posts (made_in f.acts) f.posts.posts Step.On = subst (λ (x : Step). Posts (made_in f.acts) f.posts.posts x) both.0 f.posts.posted in
-    let left : n.bids ≡ 0 = none_left t eps n f.fault (subst (λ (x : Step). AfterActs t eps n f.fault x) both.1 f.after) in
-    omega (arith, none, f.posts.makes.counted, sent_full a.worker (made_in f.acts) f.posts.posts posted, plays_bids t eps s n f.acts f.plays, left)
+    let left : new.shard.bids ≡ 0 = none_left t eps new.shard f.fault (subst (λ (x : Step). AfterActs t eps new.shard f.fault x) both.1 f.after) in
+    omega (arith, none, f.posts.makes.counted, sent_full old.seats.objects.worker (made_in f.acts) f.posts.posts posted, plays_bids t eps old.shard new.shard f.acts f.plays, left)
 
 -- where there is room for lines, each call has its line
-pub bids_noted : (t : Table) (eps : ℤ) (ro rp at : ℕ) (s n : Persons) (a a' p p' : Account Letter) (step : Step) → Buys t eps ro rp at s a p n a' p' step → 0 < ro → a.count ≡ 0 → a.lines ≡ [] → length a'.lines ≡ a'.count
-bids_noted t eps ro rp at s n a a' p p' step f some fresh none =
+pub bids_noted : (t : Table) (eps : ℤ) (r : Rooms) (at : ℕ) (old new : Worker Persons) (step : Step) → Buys t eps r at old new step → 0 < r.objects → old.seats.objects.count ≡ 0 → old.seats.objects.lines ≡ []
+    → length new.seats.objects.lines ≡ new.seats.objects.count
+bids_noted t eps r at old new step f some fresh none =
+    let a = old.seats.objects in
     let sent = lines_made a.worker (calls_sent a.worker f.posts.posts) in
-    let lines : a'.lines ≡ sent = f.posts.makes.told some ∙ ap (λ w. w ++ sent) none in
+    let lines : new.seats.objects.lines ≡ sent = f.posts.makes.told some ∙ ap (λ w. w ++ sent) none in
     omega (arith, ap length lines, f.posts.makes.counted, fresh)
 
 -- ---- asking
@@ -164,9 +167,9 @@ listens_then t eps s m n xs ys step f g =
 pub listens_none : (t : Table) (eps : ℤ) (room at : ℕ) (s : Persons) (a : Account Letter) → Listens t eps room at s a s a Step.On
 listens_none t eps room at s a = record { letters = []; took = took_nil room at a; listens = record { acts = []; fault = []; plays = refl; made = refl; letters_are = refl; after = refl }; taken = ((λ e. cc), (λ e. cc)) }
 
-pub hearkens_more : (t : Table) (eps : ℤ) (room at : ℕ) (s m n : Persons) (a b c : Account Letter) (r : Answer) (step : Step)
+pub listens_more : (t : Table) (eps : ℤ) (room at : ℕ) (s m n : Persons) (a b c : Account Letter) (r : Answer) (step : Step)
     → Listens t eps room at s a m b Step.On → SeatCalls room b (Call.Take at) (take_reply r) c → ListensTo t eps m (letter_of r) n step → AfterTake r step → Listens t eps room at s a n c step
-hearkens_more t eps room at s m n a b c r step f call g after = record {
+listens_more t eps room at s m n a b c r step f call g after = record {
   letters = f.letters ++ letter_of r;
   took = took_then room at a b c f.letters (letter_of r) f.took (took_take room at b c r call);
   listens = listens_then t eps s m n f.letters (letter_of r) step f.listens g;
@@ -177,12 +180,12 @@ pub listens_empty : (t : Table) (eps : ℤ) (room at : ℕ) (s m : Persons) (a b
     → Listens t eps room at s a m b Step.On → SeatCalls room b (Call.Take at) (take_reply r) c → r ≡ Ok Taken.Empty → Listens t eps room at s a m c Step.On
 listens_empty t eps room at s m a b c r f call e =
     let none : ListensTo t eps m [] m Step.On = record { acts = []; fault = []; plays = refl; made = refl; letters_are = refl; after = refl } in
-    hearkens_more t eps room at s m m a b c r Step.On f call (subst (λ (q : Answer). ListensTo t eps m (letter_of q) m Step.On) (sym e) none) (subst (λ (q : Answer). AfterTake q Step.On) (sym e) refl)
+    listens_more t eps room at s m m a b c r Step.On f call (subst (λ (q : Answer). ListensTo t eps m (letter_of q) m Step.On) (sym e) none) (subst (λ (q : Answer). AfterTake q Step.On) (sym e) refl)
 
 -- ---- bidding and hearing
 
-pub buys_none : (t : Table) (eps : ℤ) (ro rp at : ℕ) (s : Persons) (a p : Account Letter) → Buys t eps ro rp at s a p s a p Step.On
-buys_none t eps ro rp at s a p = record { acts = []; fault = []; posts_step = Step.On; acts_step = Step.On; plays = refl; posts = at_none ro a; took = took_nil rp at p; after = refl; taken = ((λ e. cc), (λ e. cc)); is = refl }
+pub buys_none : (t : Table) (eps : ℤ) (r : Rooms) (at : ℕ) (w : Worker Persons) → Buys t eps r at w w Step.On
+buys_none t eps r at w = record { acts = []; fault = []; posts_step = Step.On; acts_step = Step.On; plays = refl; posts = at_none r.objects w.seats.objects; took = took_nil r.persons at w.seats.persons; after = refl; taken = ((λ e. cc), (λ e. cc)); is = refl }
 
 asked_after : (t : Table) (eps : ℤ) (n : Persons) (step : Step) → AfterAsks t eps n step → AfterActs t eps n [] step
 asked_after t eps n Step.On h = refl
@@ -202,18 +205,22 @@ none_taken t eps n (Step.Stop why) h = ((λ e. cc), (λ e. stops why (why_same e
     stops y e s = subst (λ (z : Why). Stops t eps n (first_idle n) z) e s
 
 -- bids were made and posted, and nothing was heard after them
-module _ (t : Table) (eps : ℤ) (ro rp at : ℕ) (s m : Persons) (a b p : Account Letter) (old bids sliced : List Out) (asked posted : Step) (f : Asks t eps s old m bids asked) (none : old ≡ []) (same : sliced ≡ bids) (g : PostsAt ro a sliced b posted) where
-  made_posts : PostsAt ro a (made_in f.acts) b posted
-  made_posts = subst (λ w. PostsAt ro a w b posted) (same ∙ (f.made ∙ ap (λ w. w ++ made_in f.acts) none)) g
+module _ (t : Table) (eps : ℤ) (r : Rooms) (at : ℕ) (x : Worker Persons) (m : Persons) (b : Account Letter) (old bids sliced : List Out) (asked posted : Step) (f : Asks t eps x.shard old m bids asked) (none : old ≡ []) (same : sliced ≡ bids) (g : PostsAt r.objects x.seats.objects sliced b posted) where
+  made_posts : PostsAt r.objects x.seats.objects (made_in f.acts) b posted
+  made_posts = subst (λ w. PostsAt r.objects x.seats.objects w b posted) (same ∙ (f.made ∙ ap (λ w. w ++ made_in f.acts) none)) g
 
-  abbrev none_heard : Takes rp at p (heard_in f.acts ++ []) p
-  none_heard = took_as rp at p p [] (heard_in f.acts ++ []) (ap (λ w. w ++ []) (sym f.heard)) (took_nil rp at p)
+  abbrev none_heard : Takes r.persons at x.seats.persons (heard_in f.acts ++ []) x.seats.persons
+  none_heard = took_as r.persons at x.seats.persons x.seats.persons [] (heard_in f.acts ++ []) (ap (λ w. w ++ []) (sym f.heard)) (took_nil r.persons at x.seats.persons)
 
-  pub buys_asked : (step : Step) → step ≡ first_step posted asked → Buys t eps ro rp at s a p m b p step
+  -- the worker after them
+  abbrev left_by : Persons → Account Letter → Worker Persons
+  left_by n q = record { shard = n; seats = record { objects = b; persons = q; hub = x.seats.hub } }
+
+  pub buys_asked : (step : Step) → step ≡ first_step posted asked → Buys t eps r at x (left_by m x.seats.persons) step
   buys_asked step is = record { acts = f.acts; fault = []; posts_step = posted; acts_step = asked; plays = f.plays; posts = made_posts; took = none_heard; after = asked_after t eps m asked f.after; taken = none_taken t eps m asked f.after; is = is }
 
   -- or letters were
-  pub buys_heard : (n : Persons) (q : Account Letter) (step : Step) → posted ≡ Step.On → Listens t eps rp at m p n q step → Buys t eps ro rp at s a p n b q step
+  pub buys_heard : (n : Persons) (q : Account Letter) (step : Step) → posted ≡ Step.On → Listens t eps r.persons at m x.seats.persons n q step → Buys t eps r at x (left_by n q) step
   buys_heard n q step on l =
       let acts : List Act = f.acts ++ l.listens.acts in
       let made : made_in acts ≡ made_in f.acts = made_append f.acts l.listens.acts ∙ (ap (λ w. made_in f.acts ++ w) l.listens.made ∙ append-nil (made_in f.acts)) in
@@ -223,36 +230,46 @@ module _ (t : Table) (eps : ℤ) (ro rp at : ℕ) (s m : Persons) (a b p : Accou
         fault = l.listens.fault;
         posts_step = posted;
         acts_step = step;
-        plays = plays_then t eps s m n f.acts l.listens.acts f.plays l.listens.plays;
-        posts = subst (λ w. PostsAt ro a w b posted) (sym made) made_posts;
-        took = took_as rp at p q _ _ (l.listens.letters_are ∙ ap (λ w. w ++ l.listens.fault) (sym heard)) l.took;
+        plays = plays_then t eps x.shard m n f.acts l.listens.acts f.plays l.listens.plays;
+        posts = subst (λ w. PostsAt r.objects x.seats.objects w b posted) (sym made) made_posts;
+        took = took_as r.persons at x.seats.persons q _ _ (l.listens.letters_are ∙ ap (λ w. w ++ l.listens.fault) (sym heard)) l.took;
         after = l.listens.after;
         taken = l.taken;
-        is = ap (λ (x : Step). first_step x step) (sym on);
+        is = ap (λ (z : Step). first_step z step) (sym on);
       }
+
+-- the hub's mail is no part of it
+pub buys_apart : (t : Table) (eps : ℤ) (r : Rooms) (at : ℕ) (x y : Worker Persons) (h : Account Letter) (step : Step) → Buys t eps r at x y step → Buys t eps r at x (with_hub y h) step
+buys_apart t eps r at x y h step f = record { acts = f.acts; fault = f.fault; posts_step = f.posts_step; acts_step = f.acts_step; plays = f.plays; posts = f.posts; took = f.took; after = f.after; taken = f.taken; is = f.is }
 
 on_both : (x y : Step) → Step.On ≡ first_step x y → (x ≡ Step.On) × (y ≡ Step.On)
 on_both Step.On y e = (refl, sym e)
 on_both Step.Over y e = absurd cc
 on_both (Step.Stop why) y e = absurd cc
 
-pub buys_then : (t : Table) (eps : ℤ) (ro rp at : ℕ) (s m n : Persons) (a b c p q r : Account Letter) (step : Step) → Buys t eps ro rp at s a p m b q Step.On → Buys t eps ro rp at m b q n c r step → Buys t eps ro rp at s a p n c r step
-buys_then t eps ro rp at s m n a b c p q r step f g =
+pub buys_then : (t : Table) (eps : ℤ) (r : Rooms) (at : ℕ) (x y z : Worker Persons) (step : Step) → Buys t eps r at x y Step.On → Buys t eps r at y z step → Buys t eps r at x z step
+buys_then t eps r at x y z step f g =
+    let ro = r.objects in
+    let rp = r.persons in
+    let a = x.seats.objects in
+    let b = y.seats.objects in
+    let p = x.seats.persons in
+    let q = y.seats.persons in
     let on = on_both f.posts_step f.acts_step f.is in
-    let none : f.fault ≡ [] = subst (λ (x : Step). AfterActs t eps m f.fault x) on.1 f.after in
-    let posts : PostsAt ro a (made_in f.acts) b Step.On = subst (λ (x : Step). PostsAt ro a (made_in f.acts) b x) on.0 f.posts in
+    let none : f.fault ≡ [] = subst (λ (s : Step). AfterActs t eps y.shard f.fault s) on.1 f.after in
+    let posts : PostsAt ro a (made_in f.acts) b Step.On = subst (λ (s : Step). PostsAt ro a (made_in f.acts) b s) on.0 f.posts in
     let first : Takes rp at p (heard_in f.acts) q = took_as rp at p q _ _ (ap (λ w. heard_in f.acts ++ w) none ∙ append-nil (heard_in f.acts)) f.took in
     record {
       acts = f.acts ++ g.acts;
       fault = g.fault;
       posts_step = g.posts_step;
       acts_step = g.acts_step;
-      plays = plays_then t eps s m n f.acts g.acts f.plays g.plays;
-      posts = subst (λ w. PostsAt ro a w c g.posts_step) (sym (made_append f.acts g.acts)) (at_then ro a b c (made_in f.acts) (made_in g.acts) g.posts_step posts g.posts);
+      plays = plays_then t eps x.shard y.shard z.shard f.acts g.acts f.plays g.plays;
+      posts = subst (λ w. PostsAt ro a w z.seats.objects g.posts_step) (sym (made_append f.acts g.acts)) (at_then ro a b z.seats.objects (made_in f.acts) (made_in g.acts) g.posts_step posts g.posts);
       took =
-          took_as rp at p r _ _ (sym (append_assoc (heard_in f.acts) (heard_in g.acts) g.fault) ∙ ap (λ w. w ++ g.fault) (sym (heard_append f.acts g.acts)))
-          (took_then rp at p q r (heard_in f.acts) (heard_in g.acts ++ g.fault) first g.took);
+          took_as rp at p z.seats.persons _ _ (sym (append_assoc (heard_in f.acts) (heard_in g.acts) g.fault) ∙ ap (λ w. w ++ g.fault) (sym (heard_append f.acts g.acts)))
+          (took_then rp at p q z.seats.persons (heard_in f.acts) (heard_in g.acts ++ g.fault) first g.took);
       after = g.after;
-      taken = after_then f.took.answers g.took.answers g.acts_step (subst (λ (x : Step). AfterTakes f.took.answers x) on.1 f.taken) g.taken;
+      taken = after_then f.took.answers g.took.answers g.acts_step (subst (λ (s : Step). AfterTakes f.took.answers s) on.1 f.taken) g.taken;
       is = g.is;
     }

@@ -24,6 +24,7 @@ use Rattle.auc_threads.specs.declared.calls.Step.{Step}
 use Rattle.auc_threads.specs.Taking.{AfterTake, AfterTakes, Answer, Takes, letter_of}
 use Rattle.auc_threads.specs.Posting.{Says, first_step}
 use Rattle.auc_threads.specs.Dealing.{AfterLetters, Deals, DealsWith, Fits, Serves, after_bids, others, prices_told, says, says_all}
+use Rattle.auc_threads.specs.Worker.{Rooms, Worker}
 use Rattle.auc_threads.proofs.TakingLaws.{after_one, after_then, took_nil, took_take, took_then}
 use Rattle.auc_threads.proofs.PostingLaws.{says_none, says_then}
 
@@ -233,8 +234,15 @@ deals_shape eps room at s t a b said step f = subst (λ (z : Objects). SameShape
 
 -- ---- and posted
 
-pub serves_none : (eps : ℤ) (ro rp rh at : ℕ) (s : Objects) (a p h : Account Letter) → Serves eps ro rp rh at s a p h s a p h Step.On
-serves_none eps ro rp rh at s a p h = record { said = []; took_step = Step.On; said_step = Step.On; deals = takes_none eps ro at s a [] refl; tells = says_none rp rh p h; is = refl }
+pub serves_none : (eps : ℤ) (r : Rooms) (at : ℕ) (w : Worker Objects) → Serves eps r at w w Step.On
+serves_none eps r at w = record {
+  said = [];
+  took_step = Step.On;
+  said_step = Step.On;
+  deals = takes_none eps r.objects at w.shard w.seats.objects [] refl;
+  posts = says_none r w.seats;
+  is = refl;
+}
 
 -- where the worker goes on, both steps do
 on_first : (x y : Step) → Step.On ≡ first_step x y → (x ≡ Step.On) × (y ≡ Step.On)
@@ -242,16 +250,19 @@ on_first Step.On y e = (refl, sym e)
 on_first Step.Over y e = absurd cc
 on_first (Step.Stop why) y e = absurd cc
 
-pub serves_then : (eps : ℤ) (ro rp rh at : ℕ) (s t u : Objects) (a b c p q r h i j : Account Letter) (step : Step) → Serves eps ro rp rh at s a p h t b q i Step.On → Serves eps ro rp rh at t b q i u c r j step → Serves eps ro rp rh at s a p h u c r j step
-serves_then eps ro rp rh at s t u a b c p q r h i j step f g =
+pub serves_then : (eps : ℤ) (r : Rooms) (at : ℕ) (x y z : Worker Objects) (step : Step) → Serves eps r at x y Step.On → Serves eps r at y z step → Serves eps r at x z step
+serves_then eps r at x y z step f g =
+    let a = x.seats in
+    let b = y.seats in
+    let c = z.seats in
     let on = on_first f.said_step f.took_step f.is in
-    let deals : Deals eps ro at s a f.said t b Step.On = subst (λ (x : Step). Deals eps ro at s a f.said t b x) on.1 f.deals in
-    let tells : Says rp rh p h f.said q i Step.On = subst (λ (x : Step). Says rp rh p h f.said q i x) on.0 f.tells in
+    let deals : Deals eps r.objects at x.shard a.objects f.said y.shard b.objects Step.On = subst (λ (s : Step). Deals eps r.objects at x.shard a.objects f.said y.shard b.objects s) on.1 f.deals in
+    let posts : Says r a f.said b Step.On = subst (λ (s : Step). Says r a f.said b s) on.0 f.posts in
     record {
       said = f.said ++ g.said;
       took_step = g.took_step;
       said_step = g.said_step;
-      deals = deals_more eps ro at s t u a b c f.said (f.said ++ g.said) g.said g.deals.letters g.took_step deals g.deals.took refl g.deals.dealt g.deals.taken;
-      tells = says_then rp rh p h q i r j f.said g.said g.said_step tells g.tells;
+      deals = deals_more eps r.objects at x.shard y.shard z.shard a.objects b.objects c.objects f.said (f.said ++ g.said) g.said g.deals.letters g.took_step deals g.deals.took refl g.deals.dealt g.deals.taken;
+      posts = says_then r a b c f.said g.said g.said_step posts g.posts;
       is = g.is;
     }

@@ -3,14 +3,13 @@ use Rattle.std.proofs.Common.{◌≡◌, ◌≢◌, ℕ, zero, suc, ◌+◌, ◌
 use Rattle.std.specs.Prelude.{ℤ, pos, Option, IfSome, IsTrue, ◌↔◌}
 use Rattle.std.proofs.lemmas.Bool.{cases_lt}
 use Rattle.std.proofs.lemmas.List.Elements.{All-cons, All-head, All-nil, All-tail}
-use Rattle.auc_persons.specs.Persons.{Persons}
 use Rattle.auc_threads.specs.Hearing.{Falls, SomebodyStuck}
 use Rattle.std.proofs.lemmas.List.{length-map}
 use Rattle.auc_threads.specs.Counting.{Closes, Counts, firsts_in}
-use Rattle.auc_threads.specs.Worked.{AreWorked, IsHub, end_by, first_some}
+use Rattle.auc_threads.specs.Worked.{AreWorked, IsHub, audited, end_by, first_some}
 use Rattle.auc_threads.proofs.BuyingLaws.{bids_few, bids_made, bids_spent}
 use Rattle.auc_threads.proofs.StepLaws.{why_stop}
-use Rattle.auc_threads.proofs.WorkedLaws.{buyer_told, first_whose, is_told, seller_told, stopped_for, value_at}
+use Rattle.auc_threads.proofs.WorkedLaws.{AreTrue, buyer_told, first_whose, is_noted, seller_told, stopped_for, value_at}
 use Rattle.auc_letters.specs.declared.letter.Letter.{Letter}
 use Rattle.auc_letters.specs.declared.letter.Why.{Why}
 use Rattle.auc_letters.specs.declared.state.Held.{Held}
@@ -20,19 +19,21 @@ use Rattle.auc_book.specs.Seat.{Account, new_account}
 use Rattle.auc_book.specs.Settling.{Agrees, IsSettled, IsTrueOf, IsTurnedByFull}
 use Rattle.auc_book.specs.Trail.{IsOwn, lines_of}
 use Rattle.auc_threads.proofs.SenderLaws.{persons_post}
-use Rattle.auc_phases.specs.Shards.{new_objects}
 use Rattle.auc_phases.specs.declared.limits.Limits.{Limits}
 use Rattle.auc_answers.proofs.Replicated.{replicate_default}
 use Rattle.auc_threads.specs.Placed.{Placed}
 use Rattle.auc_threads.specs.Gathering.{Gathers, IsOwnShard}
 use Rattle.auc_threads.specs.Phase.{AreCounted, HasPlayed, IsToldBy, IsTrail, price_in, taken_by, unsold}
-use Rattle.auc_threads.specs.Naming.{IsNamed, hub_nodes, objects_nodes, persons_nodes, workers_of}
+use Rattle.auc_threads.specs.Naming.{AreNamed, IsNamed, Numbers, hub_nodes, objects_nodes, persons_nodes, workers_of}
 use Rattle.auc_threads.specs.declared.phase.PhaseEnd.{PhaseEnd}
-use Rattle.auc_threads.specs.declared.task.Task.{Task}
+use Rattle.auc_threads.specs.declared.object_worker.ObjectWork.{ObjectWork}
+use Rattle.auc_threads.specs.declared.person_worker.PersonWork.{PersonWork}
+use Rattle.auc_threads.specs.declared.running.Works.{Works}
 use Rattle.auc_threads.specs.declared.settling.Trails.{Trails}
 use Rattle.auc_model.specs.declared.turn.End.{End}
 use Rattle.auc_letters.specs.Award.{Sale, award_all, bids_on}
-use Rattle.auc_threads.specs.Starts.{IsObjectResult, IsPersonResult}
+use Rattle.auc_threads.specs.Starts.{AreWorks, HaveBought, HaveSold, IsObjectResult, IsPersonResult}
+use Rattle.auc_threads.specs.Worker.{Accounts, Rooms, Setting, accounts_of, bought_of, new_seller, rooms, sold_of}
 use Rattle.auc_threads.specs.Taking.{letters_in, letters_taken}
 use Rattle.auc_threads.proofs.TakingLaws.{lines_tell, took_told}
 use Rattle.auc_threads.proofs.CountingLaws.{closed_told}
@@ -63,100 +64,106 @@ pub placed_all : {X : Type 0} (P : ℕ → X → Type 0) (Q : X → Type 0) (xs 
 placed_all P Q xs f all k d l = f (0 + k) (get_or xs k d) (placed_at P 0 xs k d all l)
 
 -- the results of the threads
-module _ {X : Type 0} (f : X → Objects) (a p h : X → Account Letter) (y : X → Option Why) (task : Task) (r₁ r₂ r₃ : ℕ) (xs : List X)
-    (results : Placed (λ k w. IsObjectResult task r₁ r₂ r₃ k (f w) (a w) (p w) (h w) (y w)) 0 xs) where
-  pub own_of : (objects : ℕ) → length task.prices.now ≡ objects → Placed (λ k w. IsOwnShard task.limits.now.shards objects k (f w)) 0 xs
+module _ {O P H : Type 0} (g : Setting) (r : Rooms) (xs : List (ObjectWork O P H)) (results : HaveSold g r xs) where
+  abbrev Sold : ℕ → ObjectWork O P H → Type 0
+  Sold k x = IsObjectResult g r k (sold_of x) x.why
+
+  pub own_of : (objects : ℕ) → length g.prices ≡ objects → Placed (λ k x. IsOwnShard g.limits.shards objects k x.shard) 0 xs
   own_of objects e =
-      placed_weaker (λ k w. IsObjectResult task r₁ r₂ r₃ k (f w) (a w) (p w) (h w) (y w)) (λ k w. IsOwnShard task.limits.now.shards objects k (f w))
-      (λ k w r. record { number = r.sells.shape.shard; of = r.sells.shape.of; prices = r.sells.shape.objects ∙ e }) 0 xs results
+      placed_weaker Sold (λ k x. IsOwnShard g.limits.shards objects k x.shard)
+      (λ k x is. record { number = is.sells.shape.shard; of = is.sells.shape.of; prices = is.sells.shape.objects ∙ e }) 0 xs results
 
-  pub no_guards : All (λ w. (y w ≢ Some Why.Stuck) × (y w ≢ Some Why.Fell)) xs
-  no_guards =
-      placed_all (λ k w. IsObjectResult task r₁ r₂ r₃ k (f w) (a w) (p w) (h w) (y w)) (λ w. (y w ≢ Some Why.Stuck) × (y w ≢ Some Why.Fell)) xs
-      (λ k w r. r.no_guard) results
+  pub no_guards : All (λ x. (x.why ≢ Some Why.Stuck) × (x.why ≢ Some Why.Fell)) xs
+  no_guards = placed_all Sold (λ x. (x.why ≢ Some Why.Stuck) × (x.why ≢ Some Why.Fell)) xs (λ k x is. is.no_guard) results
 
-  pub no_bids : All (λ w. y w ≢ Some Why.Bids) xs
-  no_bids = placed_all (λ k w. IsObjectResult task r₁ r₂ r₃ k (f w) (a w) (p w) (h w) (y w)) (λ w. y w ≢ Some Why.Bids) xs (λ k w r. r.no_bids) results
+  pub no_bids : All (λ x. x.why ≢ Some Why.Bids) xs
+  no_bids = placed_all Sold (λ x. x.why ≢ Some Why.Bids) xs (λ k x is. is.no_bids) results
 
   -- each object's price and holder, by the trail
-  pub sold_told : (trail : List (TrailLine Letter)) (j : ℕ) (price : ℤ) (holder : Option Held) → 0 < r₁ → All (λ w. Agrees trail (a w)) xs → length xs ≡ task.limits.now.shards → 0 < task.limits.now.shards → j < length task.prices.now
-      → ((d : X) → Gathers (f (get_or xs (j % task.limits.now.shards) d)) j price holder)
-      → record { price = price; holder = holder } ≡ award_all task.eps (unsold task.prices.now j) (bids_on j (taken_by (task.limits.now.shards + j % task.limits.now.shards) trail))
+  pub sold_told : (trail : List (TrailLine Letter)) (j : ℕ) (price : ℤ) (holder : Option Held) → 0 < r.objects → All (λ x. Agrees trail x.seats.objects) xs → length xs ≡ g.limits.shards → 0 < g.limits.shards → j < length g.prices
+      → ((d : ObjectWork O P H) → Gathers (get_or xs (j % g.limits.shards) d).shard j price holder)
+      → record { price = price; holder = holder } ≡ award_all g.eps (unsold g.prices j) (bids_on j (taken_by (g.limits.shards + j % g.limits.shards) trail))
   sold_told trail j price holder room agree many some low got =
-      let q = j % task.limits.now.shards in
+      let q = j % g.limits.shards in
       let known : q < length xs = omega (arith, many, some) in
-      let at = placed_some (λ k w. IsObjectResult task r₁ r₂ r₃ k (f w) (a w) (p w) (h w) (y w)) 0 xs q results known in
+      let at = placed_some Sold 0 xs q results known in
       let x = at.0 in
-      let r : IsObjectResult task r₁ r₂ r₃ q (f x) (a x) (p x) (h x) (y x) = subst (λ (m : ℕ). IsObjectResult task r₁ r₂ r₃ m (f x) (a x) (p x) (h x) (y x)) (omega arith) at.1 in
-      let g : Gathers (f x) j price holder = subst (λ w. Gathers (f w) j price holder) (at.2 x) (got x) in
-      let owns : Owns (new_objects task.limits.now.shards (length task.rows.now.rows) task.prices.now q) j = record { known = low; own = refl } in
-      let start : sale_of (new_objects task.limits.now.shards (length task.rows.now.rows) task.prices.now q) j ≡ unsold task.prices.now j = ap (λ (o : Option Held). record { price = price_in task.prices.now j; holder = o }) (replicate_default (length task.prices.now) j None) in
-      let told : letters_in (a x).lines ≡ r.sells.letters = took_told r₁ _ _ (a x) r.sells.letters r.sells.took room in
-      let lines : lines_of (task.limits.now.shards + q) trail ≡ (a x).lines = ap (λ (m : ℕ). lines_of m trail) (sym r.seat) ∙ subst (λ w. Agrees trail (a w)) (at.2 x) (agree q x known) in
-      ap (λ (z : ℤ). record { price = z; holder = holder }) g.price_is
-      ∙ (ap (λ (o : Option Held). record { price = price_of (f x) j; holder = o }) g.holder_is
-      ∙ (r.sells.sold j owns
-      ∙ (ap (λ (s : Sale). award_all task.eps s (bids_on j r.sells.letters)) start ∙ ap (λ ls. award_all task.eps (unsold task.prices.now j) (bids_on j ls)) (sym told ∙ ap letters_in (sym lines)))))
+      let is : Sold q x = subst (λ (m : ℕ). Sold m x) (omega arith) at.1 in
+      let here : Gathers x.shard j price holder = subst (λ (w : ObjectWork O P H). Gathers w.shard j price holder) (at.2 x) (got x) in
+      let begun = (new_seller g q).shard in
+      let owns : Owns begun j = record { known = low; own = refl } in
+      let start : sale_of begun j ≡ unsold g.prices j = ap (λ (o : Option Held). record { price = price_in g.prices j; holder = o }) (replicate_default (length g.prices) j None) in
+      let told : letters_in x.seats.objects.lines ≡ is.sells.letters = took_told r.objects _ _ x.seats.objects is.sells.letters is.sells.took room in
+      let lines : lines_of (g.limits.shards + q) trail ≡ x.seats.objects.lines =
+      ap (λ (m : ℕ). lines_of m trail) (sym is.seats.objects_seat) ∙ subst (λ (w : ObjectWork O P H). Agrees trail w.seats.objects) (at.2 x) (agree q x known) in
+      ap (λ (z : ℤ). record { price = z; holder = holder }) here.price_is
+      ∙ (ap (λ (o : Option Held). record { price = price_of x.shard j; holder = o }) here.holder_is
+      ∙ (is.sells.sold j owns
+      ∙ (ap (λ (s : Sale). award_all g.eps s (bids_on j is.sells.letters)) start ∙ ap (λ ls. award_all g.eps (unsold g.prices j) (bids_on j ls)) (sym told ∙ ap letters_in (sym lines)))))
 
 -- the persons' results
-module _ {X : Type 0} (f : X → Persons) (a p h : X → Account Letter) (y : X → Option Why) (task : Task) (r₁ r₂ r₃ : ℕ) (xs : List X)
-    (results : Placed (λ k w. IsPersonResult task r₁ r₂ r₃ k (f w) (a w) (p w) (h w) (y w)) 0 xs) where
-  pub stuck_told : (k : ℕ) × (k < length xs) × ((d : X) → y (get_or xs k d) ≡ Some Why.Stuck) → SomebodyStuck task.rows.now
-  stuck_told s =
-      let at = placed_some (λ k w. IsPersonResult task r₁ r₂ r₃ k (f w) (a w) (p w) (h w) (y w)) 0 xs s.0 results s.1 in
-      at.1.work.stuck (ap y (sym (at.2 at.0)) ∙ s.2 at.0)
+module _ {O P H : Type 0} (g : Setting) (r : Rooms) (xs : List (PersonWork O P H)) (results : HaveBought g r xs) where
+  abbrev Bought : ℕ → PersonWork O P H → Type 0
+  Bought k x = IsPersonResult g r k (bought_of x) x.why
 
-  pub fell_told : (trail : List (TrailLine Letter)) → 0 < r₂ → All (λ w. Agrees trail (p w)) xs → length xs ≡ task.limits.now.shards
-      → (k : ℕ) × (k < length xs) × ((d : X) → y (get_or xs k d) ≡ Some Why.Fell)
-      → (k : ℕ) × (k < task.limits.now.shards) × Falls (price_in task.prices.now) (taken_by k trail)
+  pub stuck_told : (k : ℕ) × (k < length xs) × ((d : PersonWork O P H) → (get_or xs k d).why ≡ Some Why.Stuck) → SomebodyStuck g.table
+  stuck_told s =
+      let at = placed_some Bought 0 xs s.0 results s.1 in
+      at.1.work.stuck (ap (λ (x : PersonWork O P H). x.why) (sym (at.2 at.0)) ∙ s.2 at.0)
+
+  pub fell_told : (trail : List (TrailLine Letter)) → 0 < r.persons → All (λ x. Agrees trail x.seats.persons) xs → length xs ≡ g.limits.shards
+      → (k : ℕ) × (k < length xs) × ((d : PersonWork O P H) → (get_or xs k d).why ≡ Some Why.Fell)
+      → (k : ℕ) × (k < g.limits.shards) × Falls (price_in g.prices) (taken_by k trail)
   fell_told trail room agree many s =
-      let at = placed_some (λ k w. IsPersonResult task r₁ r₂ r₃ k (f w) (a w) (p w) (h w) (y w)) 0 xs s.0 results s.1 in
+      let at = placed_some Bought 0 xs s.0 results s.1 in
       let x = at.0 in
-      let r : IsPersonResult task r₁ r₂ r₃ s.0 (f x) (a x) (p x) (h x) (y x) = subst (λ (m : ℕ). IsPersonResult task r₁ r₂ r₃ m (f x) (a x) (p x) (h x) (y x)) (omega arith) at.1 in
-      let told : letters_in (p x).lines ≡ r.work.hears.letters = took_told r₂ _ _ (p x) r.work.hears.letters r.work.hears.took room in
-      let lines : lines_of s.0 trail ≡ (p x).lines = ap (λ (m : ℕ). lines_of m trail) (sym r.seat) ∙ subst (λ w. Agrees trail (p w)) (at.2 x) (agree s.0 x s.1) in
-      let falls : Falls (price_in task.prices.now) r.work.hears.letters = r.work.hears.hears.falls (ap y (sym (at.2 x)) ∙ s.2 x) in
-      (s.0, omega (arith, s.1, many), subst (λ ls. Falls (price_in task.prices.now) ls) (sym told ∙ ap letters_in (sym lines)) falls)
+      let is : Bought s.0 x = subst (λ (m : ℕ). Bought m x) (omega arith) at.1 in
+      let hears = is.work.hears in
+      let told : letters_in x.seats.persons.lines ≡ hears.letters = took_told r.persons _ _ x.seats.persons hears.letters hears.took room in
+      let lines : lines_of s.0 trail ≡ x.seats.persons.lines =
+      ap (λ (m : ℕ). lines_of m trail) (sym is.seats.persons_seat) ∙ subst (λ (w : PersonWork O P H). Agrees trail w.seats.persons) (at.2 x) (agree s.0 x s.1) in
+      let falls : Falls (price_in g.prices) hears.letters = hears.hears.falls (ap (λ (w : PersonWork O P H). w.why) (sym (at.2 x)) ∙ s.2 x) in
+      (s.0, omega (arith, s.1, many), subst (λ ls. Falls (price_in g.prices) ls) (sym told ∙ ap letters_in (sym lines)) falls)
 
   -- the bids that they posted, by their seats at the objects' mail
-  pub counted_told : (bids : List ℕ) (whys : List (Option Why)) (last : Option Why) (is_all : Bool) (end : Option End) → bids ≡ map (λ w. (a w).count) xs → length xs ≡ task.limits.now.shards
-      → end ≡ end_by is_all (first_some ((map y xs ++ whys) ++ last ∷ [])) → first_some whys ≢ Some Why.Bids → last ≢ Some Why.Bids → AreCounted task.limits.now bids end
-  counted_told bids whys last is_all end is many ends others here =
-      let count : X → ℕ = λ w. (a w).count in
-      record {
-        many = ap length is ∙ (length-map xs count ∙ many);
-        few = subst (λ ns. All (λ n. n ≤ task.limits.now.bids) ns) (sym is) few;
-        spent = λ e. (
-            let s = first_whose y xs whys last Why.Bids (stopped_for is_all _ end Why.Bids ends e) others here in
-            let known = s.1 in
-            let at = placed_some (λ k w. IsPersonResult task r₁ r₂ r₃ k (f w) (a w) (p w) (h w) (y w)) 0 xs s.0 results known in
-            let x = at.0 in
-            let r = at.1 in
-            let stop = why_stop r.work.step (y x) Why.Bids r.work.why_is (ap y (sym (at.2 x)) ∙ s.2 x) in
-            let all : (a x).count ≡ task.limits.now.bids = bids_spent _ _ _ _ _ _ _ _ _ _ _ _ r.work.buys refl stop in
-            (s.0, omega (arith, known, many), ap (λ ns. get_or ns s.0 0) is ∙ (sym (value_at count 0 xs s.0 x known at.2) ∙ all)));
-      }
+  pub counted_told : (bids : List ℕ) (whys : List (Option Why)) (last : Option Why) (is_all : Bool) (end : Option End) → bids ≡ map (λ x. x.seats.objects.count) xs → length xs ≡ g.limits.shards
+      → end ≡ end_by is_all (first_some ((map (λ x. x.why) xs ++ whys) ++ last ∷ [])) → first_some whys ≢ Some Why.Bids → last ≢ Some Why.Bids → AreCounted g.limits bids end
+  counted_told bids whys last is_all end is many ends others here = record {
+    many = ap length is ∙ (length-map xs count ∙ many);
+    few = subst (λ ns. All (λ n. n ≤ g.limits.bids) ns) (sym is) few;
+    spent = λ e. (
+        let s = first_whose (λ x. x.why) xs whys last Why.Bids (stopped_for is_all _ end Why.Bids ends e) others here in
+        let known = s.1 in
+        let at = placed_some Bought 0 xs s.0 results known in
+        let x = at.0 in
+        let work = at.1.work in
+        let stop = why_stop work.step x.why Why.Bids work.why_is (ap (λ (w : PersonWork O P H). w.why) (sym (at.2 x)) ∙ s.2 x) in
+        let all : count x ≡ g.limits.bids = bids_spent _ _ _ _ _ _ _ work.buys refl stop in
+        (s.0, omega (arith, known, many), ap (λ ns. get_or ns s.0 0) is ∙ (sym (value_at count 0 xs s.0 x known at.2) ∙ all)));
+  }
     where
-      few : All (λ n. n ≤ task.limits.now.bids) (map (λ w. (a w).count) xs)
+      count : PersonWork O P H → ℕ
+      count x = x.seats.objects.count
+
+      few : All (λ n. n ≤ g.limits.bids) (map (λ x. x.seats.objects.count) xs)
       few k d low =
-          let known : k < length xs = omega (arith, low, length-map xs (λ w. (a w).count)) in
-          let at = placed_some (λ k w. IsPersonResult task r₁ r₂ r₃ k (f w) (a w) (p w) (h w) (y w)) 0 xs k results known in
+          let known : k < length xs = omega (arith, low, length-map xs (λ x. x.seats.objects.count)) in
+          let at = placed_some Bought 0 xs k results known in
           let x = at.0 in
-          let r = at.1 in
-          let one : (a x).count ≤ task.limits.now.bids = bids_few _ _ _ _ _ _ _ _ _ _ _ _ r.work.buys refl in
-          subst (λ (n : ℕ). n ≤ task.limits.now.bids) (value_at (λ w. (a w).count) d xs k x known at.2) one
+          let one : x.seats.objects.count ≤ g.limits.bids = bids_few _ _ _ _ _ _ _ at.1.work.buys refl in
+          subst (λ (n : ℕ). n ≤ g.limits.bids) (value_at (λ x. x.seats.objects.count) d xs k x known at.2) one
 
   -- what each of them did
-  pub played_told : (bids : List ℕ) → bids ≡ map (λ w. (a w).count) xs → length xs ≡ task.limits.now.shards → (k : ℕ) → k < task.limits.now.shards
-      → HasPlayed task.rows.now task.limits.now task.eps task.prices.now k (get_or bids k 0)
+  pub played_told : (bids : List ℕ) → bids ≡ map (λ x. x.seats.objects.count) xs → length xs ≡ g.limits.shards → (k : ℕ) → k < g.limits.shards
+      → HasPlayed g.table g.limits g.eps g.prices k (get_or bids k 0)
   played_told bids is many k low =
       let known : k < length xs = omega (arith, low, many) in
-      let at = placed_some (λ k w. IsPersonResult task r₁ r₂ r₃ k (f w) (a w) (p w) (h w) (y w)) 0 xs k results known in
+      let at = placed_some Bought 0 xs k results known in
       let x = at.0 in
-      let r : IsPersonResult task r₁ r₂ r₃ k (f x) (a x) (p x) (h x) (y x) = subst (λ (m : ℕ). IsPersonResult task r₁ r₂ r₃ m (f x) (a x) (p x) (h x) (y x)) (omega arith) at.1 in
-      let count : (a x).count ≡ get_or bids k 0 = value_at (λ w. (a w).count) 0 xs k x known at.2 ∙ ap (λ ns. get_or ns k 0) (sym is) in
-      let made = bids_made _ _ _ _ _ _ _ _ _ _ _ _ r.work.buys refl in
-      record { acts = r.work.buys.acts; left = f x; plays = r.work.buys.plays; posted = omega (arith, count, made); rise = r.work.hears.hears.rise }
+      let work = (subst (λ (m : ℕ). Bought m x) (omega arith) at.1).work in
+      let count : x.seats.objects.count ≡ get_or bids k 0 = value_at (λ x. x.seats.objects.count) 0 xs k x known at.2 ∙ ap (λ ns. get_or ns k 0) (sym is) in
+      let made = bids_made _ _ _ _ _ _ _ work.buys refl in
+      record { acts = work.buys.acts; left = x.shard; plays = work.buys.plays; posted = omega (arith, count, made); rise = work.hears.hears.rise }
 
 -- the hub's
 pub all_told : (room persons w : ℕ) (is_all : Bool) (why : Option Why) (b : Account Letter) (trail : List (TrailLine Letter)) → 0 < room → Counts room persons (new_account w) is_all why b → Agrees trail b
@@ -221,83 +228,112 @@ gathers_more f shards n xs ps qs hs gs p h x ep eh lp lh known is price holder e
     ]
 
 -- the trail of a mail that settled is one of it
-trail_of : (b w n m r b' n' : ℕ) (limits : Limits) (s : List (Account Letter)) (ls : List (TrailLine Letter)) → IsNamed b w n m r b' n' limits → IsSettled b w n m r s ls → IsTrail b' (workers_of limits.shards) n' limits.posts ls
-trail_of b w n m r b' n' limits s ls named set =
-    subst (λ (x : ℕ). IsTrail b' (workers_of limits.shards) n' x ls) named.most_is
-    (subst (λ (x : ℕ). IsTrail b' (workers_of limits.shards) x m ls) named.nodes_are
-    (subst (λ (x : ℕ). IsTrail b' x n m ls) named.workers_are (subst (λ (x : ℕ). IsTrail x w n m ls) named.boxes_are (record { run = (set.last, set.run); own = set.own }))))
+trail_of : (n : Numbers) (boxes nodes : ℕ) (limits : Limits) (s : List (Account Letter)) (ls : List (TrailLine Letter)) → IsNamed n boxes nodes limits → IsSettled n.boxes n.workers n.nodes n.most n.room s ls → IsTrail boxes (workers_of limits.shards) nodes limits.posts ls
+trail_of n boxes nodes limits s ls named set =
+    subst (λ (x : ℕ). IsTrail boxes (workers_of limits.shards) nodes x ls) named.most_is
+    (subst (λ (x : ℕ). IsTrail boxes (workers_of limits.shards) x n.most ls) named.nodes_are
+    (subst (λ (x : ℕ). IsTrail boxes x n.nodes n.most ls) named.workers_are (subst (λ (x : ℕ). IsTrail x n.workers n.nodes n.most ls) named.boxes_are (record { run = (set.last, set.run); own = set.own }))))
+
+-- the seats of all workers at one mail, in order
+abbrev pub seats_at : {O P H : Type 0} → (Accounts → Account Letter) → Works O P H → List (Account Letter)
+seats_at a w = (map (λ x. a (accounts_of x.seats)) w.persons.items ++ map (λ x. a (accounts_of x.seats)) w.objects.items) ++ a (accounts_of w.hub.seats) ∷ []
 
 -- What the trails tell, of all that came back.
-module _ {X Z : Type 0} (f : X → Persons) (a p h : X → Account Letter) (y : X → Option Why) (g : Z → Objects) (b q i : Z → Account Letter) (z : Z → Option Why)
-    (task : Task) (ro rp rh : ℕ) (xs : List X) (zs : List Z)
-    (bought : Placed (λ k w. IsPersonResult task ro rp rh k (f w) (a w) (p w) (h w) (y w)) 0 xs)
-    (sold : Placed (λ k w. IsObjectResult task ro rp rh k (g w) (b w) (q w) (i w) (z w)) 0 zs)
-    (persons_many : length xs ≡ task.limits.now.shards) (objects_many : length zs ≡ task.limits.now.shards) (some : 0 < task.limits.now.shards) (each : length task.prices.now ≡ task.rows.now.objects)
-    (is_all : Bool) (hub_why : Option Why) (hub_objects hub_persons hub : Account Letter) (counts : Counts rh (length task.rows.now.rows) (new_account (2 * task.limits.now.shards)) is_all hub_why hub)
+module _ {O P H : Type 0} (g : Setting) (o p h : Numbers) (w : Works O P H) (are : AreWorks g (rooms o.room p.room h.room) w) (named : AreNamed g.limits (length g.table.rows) o p h)
+    (some : 0 < g.limits.shards) (each : length g.prices ≡ g.table.objects) (persons_many : length w.persons.items ≡ g.limits.shards) (objects_many : length w.objects.items ≡ g.limits.shards)
     (e : PhaseEnd)
-    (gathers : (j : ℕ) (d : Z) → j < task.rows.now.objects → Gathers (g (get_or zs (j % task.limits.now.shards) d)) j (price_in e.gathered.prices.items j) (get_or e.gathered.holders.items j None))
-    (ends : (e.end ≡ Some End.All) ↔ IsTrue is_all)
-    (falls : e.end ≡ Some (End.Stopped Why.Fell) → (k : ℕ) × (k < length xs) × ((d : X) → y (get_or xs k d) ≡ Some Why.Fell))
-    (bo wo no mo bp wp np mp bh wh nh mh : ℕ) (named_o : IsNamed bo wo no mo ro task.limits.now.shards (objects_nodes task.limits.now (length task.rows.now.rows)) task.limits.now) (named_p : IsNamed bp wp np mp rp task.limits.now.shards (persons_nodes task.limits.now (length task.rows.now.rows)) task.limits.now)
-    (named_h : IsNamed bh wh nh mh rh 1 (hub_nodes task.limits.now (length task.rows.now.rows)) task.limits.now)
-    (so sp sh : List (Account Letter)) (eo : so ≡ (map a xs ++ map b zs) ++ hub_objects ∷ []) (ep : sp ≡ (map p xs ++ map q zs) ++ hub_persons ∷ []) (eh : sh ≡ (map h xs ++ map i zs) ++ hub ∷ [])
-    (closed_o : Closes ro bo (new_account (2 * task.limits.now.shards)) hub_objects) (closed_p : Closes rp bp (new_account (2 * task.limits.now.shards)) hub_persons)
-    (end_is : e.end ≡ end_by is_all (first_some ((map y xs ++ map z zs) ++ hub_why ∷ [])))
-    (counted : e.bids.items ≡ map (λ w. (a w).count) xs) (trails : Trails) where
-  hub_is : IsTrueOf task.limits.now.audit trails.objects hub_objects → IsTrueOf task.limits.now.audit trails.persons hub_persons → IsTrueOf task.limits.now.audit trails.hub hub → IsHub task.rows.now task.limits.now trails is_all hub_why
-  hub_is agree_o agree_p agree_h =
-      let w : Account Letter = new_account (2 * task.limits.now.shards) in
+    (gathers : (j : ℕ) (d : ObjectWork O P H) → j < g.table.objects → Gathers (get_or w.objects.items (j % g.limits.shards) d).shard j (price_in e.gathered.prices.items j) (get_or e.gathered.holders.items j None))
+    (ends : (e.end ≡ Some End.All) ↔ IsTrue w.hub.is_all)
+    (falls : e.end ≡ Some (End.Stopped Why.Fell) → (k : ℕ) × (k < length w.persons.items) × ((d : PersonWork O P H) → (get_or w.persons.items k d).why ≡ Some Why.Fell))
+    (so sp sh : List (Account Letter)) (eo : so ≡ seats_at (λ a. a.objects) w) (ep : sp ≡ seats_at (λ a. a.persons) w) (eh : sh ≡ seats_at (λ a. a.hub) w)
+    (end_is : e.end ≡ end_by w.hub.is_all (first_some ((map (λ x. x.why) w.persons.items ++ map (λ x. x.why) w.objects.items) ++ w.hub.why ∷ [])))
+    (counted : e.bids.items ≡ map (λ x. x.seats.objects.count) w.persons.items) (trails : Trails)
+    (at_objects : IsSettled o.boxes o.workers o.nodes o.most o.room so trails.objects) (at_persons : IsSettled p.boxes p.workers p.nodes p.most p.room sp trails.persons) (at_hub : IsSettled h.boxes h.workers h.nodes h.most h.room sh trails.hub) where
+  abbrev audit : ℕ
+  audit = g.limits.audit
+
+  rooms_are : rooms o.room p.room h.room ≡ audited g.limits
+  rooms_are =
+      ap (λ (n : ℕ). rooms n p.room h.room) named.objects.room_is ∙ (ap (λ (n : ℕ). rooms audit n h.room) named.persons_mail.room_is ∙ ap (λ (n : ℕ). rooms audit audit n) named.hub.room_is)
+
+  truth : (room : ℕ) (s t : List (Account Letter)) (trail : List (TrailLine Letter)) → room ≡ audit → s ≡ t → All (Agrees trail) s → All (IsTurnedByFull room trail) s → All (IsTrueOf audit trail) t
+  truth room s t trail is same agree full = subst (λ ws. All (IsTrueOf audit trail) ws) same (λ k d low. (agree k d low, λ room_left. omega (arith, is, full k d low room_left)))
+
+  true_objects : All (IsTrueOf audit trails.objects) (seats_at (λ a. a.objects) w)
+  true_objects = truth o.room so _ trails.objects named.objects.room_is eo at_objects.agree at_objects.full
+
+  true_persons : All (IsTrueOf audit trails.persons) (seats_at (λ a. a.persons) w)
+  true_persons = truth p.room sp _ trails.persons named.persons_mail.room_is ep at_persons.agree at_persons.full
+
+  true_hub : All (IsTrueOf audit trails.hub) (seats_at (λ a. a.hub) w)
+  true_hub = truth h.room sh _ trails.hub named.hub.room_is eh at_hub.agree at_hub.full
+
+  buyers_true : AreTrue audit trails (λ x. accounts_of x.seats) w.persons.items
+  buyers_true = record {
+    objects = all_first (IsTrueOf audit trails.objects) (λ x. x.seats.objects) (λ x. x.seats.objects) w.persons.items w.objects.items _ _ refl true_objects;
+    persons = all_first (IsTrueOf audit trails.persons) (λ x. x.seats.persons) (λ x. x.seats.persons) w.persons.items w.objects.items _ _ refl true_persons;
+    hub = all_first (IsTrueOf audit trails.hub) (λ x. x.seats.hub) (λ x. x.seats.hub) w.persons.items w.objects.items _ _ refl true_hub;
+  }
+
+  sellers_true : AreTrue audit trails (λ x. accounts_of x.seats) w.objects.items
+  sellers_true = record {
+    objects = all_second (IsTrueOf audit trails.objects) (λ x. x.seats.objects) (λ x. x.seats.objects) w.persons.items w.objects.items _ _ refl true_objects;
+    persons = all_second (IsTrueOf audit trails.persons) (λ x. x.seats.persons) (λ x. x.seats.persons) w.persons.items w.objects.items _ _ refl true_persons;
+    hub = all_second (IsTrueOf audit trails.hub) (λ x. x.seats.hub) (λ x. x.seats.hub) w.persons.items w.objects.items _ _ refl true_hub;
+  }
+
+  hub_is : IsHub g trails w.hub.is_all w.hub.why
+  hub_is =
+      let seat : Account Letter = new_account (2 * g.limits.shards) in
+      let seats = w.hub.seats in
       record {
-        objects = hub_objects;
-        persons = hub_persons;
-        hub = hub;
-        counts = subst (λ (n : ℕ). Counts n (length task.rows.now.rows) w is_all hub_why hub) named_h.room_is counts;
-        objects_closed = subst (λ (n : ℕ). Closes task.limits.now.audit n w hub_objects) named_o.boxes_are (subst (λ (n : ℕ). Closes n bo w hub_objects) named_o.room_is closed_o);
-        persons_closed = subst (λ (n : ℕ). Closes task.limits.now.audit n w hub_persons) named_p.boxes_are (subst (λ (n : ℕ). Closes n bp w hub_persons) named_p.room_is closed_p);
-        told = record {
-          at_objects = is_told _ _ trails.objects hub_objects closed_o.makes.worker agree_o;
-          at_persons = is_told _ _ trails.persons hub_persons closed_p.makes.worker agree_p;
-          at_hub = is_told _ _ trails.hub hub (counts.closes.makes.worker ∙ counts.takes.worker) agree_h;
+        left = accounts_of seats;
+        counts = subst (λ (n : ℕ). Counts n (length g.table.rows) seat w.hub.is_all w.hub.why seats.hub) named.hub.room_is are.counts;
+        objects_closed = subst (λ (n : ℕ). Closes n g.limits.shards seat seats.objects) named.objects.room_is are.hub_objects;
+        persons_closed = subst (λ (n : ℕ). Closes n g.limits.shards seat seats.persons) named.persons_mail.room_is are.hub_persons;
+        noted = record {
+          at_objects = is_noted _ _ trails.objects seats.objects are.hub_objects.makes.worker (all_last (IsTrueOf audit trails.objects) (λ x. x.seats.objects) (λ x. x.seats.objects) w.persons.items w.objects.items _ _ refl true_objects);
+          at_persons = is_noted _ _ trails.persons seats.persons are.hub_persons.makes.worker (all_last (IsTrueOf audit trails.persons) (λ x. x.seats.persons) (λ x. x.seats.persons) w.persons.items w.objects.items _ _ refl true_persons);
+          at_hub = is_noted _ _ trails.hub seats.hub (are.counts.closes.makes.worker ∙ are.counts.takes.worker) (all_last (IsTrueOf audit trails.hub) (λ x. x.seats.hub) (λ x. x.seats.hub) w.persons.items w.objects.items _ _ refl true_hub);
         };
       }
 
-  truth : (r : ℕ) (s : List (Account Letter)) (trail : List (TrailLine Letter)) → r ≡ task.limits.now.audit → All (Agrees trail) s → All (IsTurnedByFull r trail) s → All (IsTrueOf task.limits.now.audit trail) s
-  truth r s trail e agree full k d low = (agree k d low, λ some. omega (arith, e, full k d low some))
-
-  worked : IsSettled bo wo no mo ro so trails.objects → IsSettled bp wp np mp rp sp trails.persons → IsSettled bh wh nh mh rh sh trails.hub → AreWorked task.rows.now task.limits.now task.eps task.prices.now trails e.bids.items e.end
-  worked o u v = record {
-    person_reasons = map y xs;
-    object_reasons = map z zs;
-    hub_reason = hub_why;
-    is_all = is_all;
-    buyers =
-        buyer_told f a p h y task ro rp rh xs bought o.kept named_o.room_is named_p.room_is named_h.room_is trails
-        (all_first (IsTrueOf task.limits.now.audit trails.objects) a b xs zs hub_objects so eo (truth ro so trails.objects named_o.room_is o.agree o.full)) (all_first (IsTrueOf task.limits.now.audit trails.persons) p q xs zs hub_persons sp ep (truth rp sp trails.persons named_p.room_is u.agree u.full)) (all_first (IsTrueOf task.limits.now.audit trails.hub) h i xs zs hub sh eh (truth rh sh trails.hub named_h.room_is v.agree v.full)) persons_many e.bids.items counted;
-    sellers =
-        seller_told g b q i z task ro rp rh zs sold named_o.room_is named_p.room_is named_h.room_is trails
-        (all_second (IsTrueOf task.limits.now.audit trails.objects) a b xs zs hub_objects so eo (truth ro so trails.objects named_o.room_is o.agree o.full)) (all_second (IsTrueOf task.limits.now.audit trails.persons) p q xs zs hub_persons sp ep (truth rp sp trails.persons named_p.room_is u.agree u.full)) (all_second (IsTrueOf task.limits.now.audit trails.hub) h i xs zs hub sh eh (truth rh sh trails.hub named_h.room_is v.agree v.full)) objects_many;
-    hub = hub_is (all_last (IsTrueOf task.limits.now.audit trails.objects) a b xs zs hub_objects so eo (truth ro so trails.objects named_o.room_is o.agree o.full)) (all_last (IsTrueOf task.limits.now.audit trails.persons) p q xs zs hub_persons sp ep (truth rp sp trails.persons named_p.room_is u.agree u.full)) (all_last (IsTrueOf task.limits.now.audit trails.hub) h i xs zs hub sh eh (truth rh sh trails.hub named_h.room_is v.agree v.full));
-    person_many = length-map xs y ∙ persons_many;
-    object_many = length-map zs z ∙ objects_many;
+  worked : AreWorked g trails e.bids.items e.end
+  worked = record {
+    person_reasons = map (λ x. x.why) w.persons.items;
+    object_reasons = map (λ x. x.why) w.objects.items;
+    hub_reason = w.hub.why;
+    is_all = w.hub.is_all;
+    buyers = buyer_told g (rooms o.room p.room h.room) rooms_are trails w.persons.items are.persons at_objects.kept buyers_true persons_many e.bids.items counted;
+    sellers = seller_told g (rooms o.room p.room h.room) rooms_are trails w.objects.items are.objects sellers_true objects_many;
+    hub = hub_is;
+    person_many = length-map w.persons.items (λ x. x.why) ∙ persons_many;
+    object_many = length-map w.objects.items (λ x. x.why) ∙ objects_many;
     end_is = end_is;
   }
 
-  pub told_phase : IsSettled bo wo no mo ro so trails.objects → IsSettled bp wp np mp rp sp trails.persons → IsSettled bh wh nh mh rh sh trails.hub → IsToldBy task.rows.now task.limits.now task.eps task.prices.now e trails
-  told_phase o u v =
-      let hub_told = all_told rh (length task.rows.now.rows) (2 * task.limits.now.shards) is_all hub_why hub trails.hub v.kept counts (all_last (Agrees trails.hub) h i xs zs hub sh eh v.agree) in
-      let kept : 0 < task.limits.now.audit = subst (λ (x : ℕ). 0 < x) named_o.room_is o.kept in
-      let own = subst (λ (n : ℕ). All (λ l. (l.worker < n) × IsOwn l.worker l.call) trails.objects) named_o.workers_are o.own in
+  pub told_phase : IsToldBy g.table g.limits g.eps g.prices e trails
+  told_phase =
+      let r = rooms o.room p.room h.room in
+      let persons = length g.table.rows in
+      let agree_h : Agrees trails.hub w.hub.seats.hub = all_last (Agrees trails.hub) (λ x. x.seats.hub) (λ x. x.seats.hub) w.persons.items w.objects.items _ sh eh at_hub.agree in
+      let hub_told = all_told h.room persons (2 * g.limits.shards) w.hub.is_all w.hub.why w.hub.seats.hub trails.hub at_hub.kept are.counts agree_h in
+      let kept : 0 < audit = subst (λ (x : ℕ). 0 < x) named.objects.room_is at_objects.kept in
+      let own = subst (λ (n : ℕ). All (λ l. (l.worker < n) × IsOwn l.worker l.call) trails.objects) named.objects.workers_are at_objects.own in
       record {
         kept = kept;
-        objects_trail = trail_of bo wo no mo ro task.limits.now.shards (objects_nodes task.limits.now (length task.rows.now.rows)) task.limits.now so trails.objects named_o o;
-        persons_trail = trail_of bp wp np mp rp task.limits.now.shards (persons_nodes task.limits.now (length task.rows.now.rows)) task.limits.now sp trails.persons named_p u;
-        hub_trail = trail_of bh wh nh mh rh 1 (hub_nodes task.limits.now (length task.rows.now.rows)) task.limits.now sh trails.hub named_h v;
-        bids_of_persons = persons_post task.rows.now task.limits.now task.eps task.prices.now trails e.bids.items e.end kept (worked o u v) own;
+        objects_trail = trail_of o g.limits.shards (objects_nodes g.limits persons) g.limits so trails.objects named.objects at_objects;
+        persons_trail = trail_of p g.limits.shards (persons_nodes g.limits persons) g.limits sp trails.persons named.persons_mail at_persons;
+        hub_trail = trail_of h 1 (hub_nodes g.limits persons) g.limits sh trails.hub named.hub at_hub;
+        bids_of_persons = persons_post g trails e.bids.items e.end kept worked own;
         sold = λ j low.
-            sold_told g b q i z task ro rp rh zs sold trails.objects j (price_in e.gathered.prices.items j) (get_or e.gathered.holders.items j None) o.kept (all_second (Agrees trails.objects) a b xs zs hub_objects so eo o.agree) objects_many some (omega (arith, low, each)) (λ d. gathers j d low);
+            sold_told g r w.objects.items are.objects trails.objects j (price_in e.gathered.prices.items j) (get_or e.gathered.holders.items j None) at_objects.kept
+            (all_second (Agrees trails.objects) (λ x. x.seats.objects) (λ x. x.seats.objects) w.persons.items w.objects.items _ so eo at_objects.agree) objects_many some (omega (arith, low, each)) (λ d. gathers j d low);
         all = ((λ x. hub_told.0 (ends.0 x)), (λ x. ends.1 (hub_told.1 x)));
-        fell = λ x. fell_told f a p h y task ro rp rh xs bought trails.persons u.kept (all_first (Agrees trails.persons) p q xs zs hub_persons sp ep u.agree) persons_many (falls x);
-        worked = worked o u v;
+        fell = λ x.
+            fell_told g r w.persons.items are.persons trails.persons at_persons.kept
+            (all_first (Agrees trails.persons) (λ x. x.seats.persons) (λ x. x.seats.persons) w.persons.items w.objects.items _ sp ep at_persons.agree) persons_many (falls x);
+        worked = worked;
       }
 
 pub told_map : {T : Type 0} (o : Option T) (P Q R S : T → Type 0) → IfSome o P → IfSome o Q → IfSome o R → ((t : T) → P t → Q t → R t → S t) → IfSome o S

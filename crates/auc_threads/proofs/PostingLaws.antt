@@ -20,6 +20,7 @@ use Rattle.auc_threads.specs.declared.calls.Step.{Step}
 use Rattle.auc_threads.specs.Taking.{GoesWithin}
 use Rattle.auc_threads.proofs.CallingLaws.{makes_as, makes_call, makes_none, makes_then}
 use Rattle.auc_threads.specs.Calling.{Makes, lines_by, lines_made}
+use Rattle.auc_threads.specs.Worker.{Accounts, Rooms}
 use Rattle.auc_threads.specs.Posting.{Ends, Posts, PostsAt, Says, Sent, calls_sent, calls_stopped, is_to_hub, post_of, step_after, step_of, to_shards, to_the_hub}
 
 pub sent_append : (k : ℕ) (xs ys : List Sent) → calls_sent k (xs ++ ys) ≡ calls_sent k xs ++ calls_sent k ys
@@ -142,42 +143,12 @@ at_as room a b os ps step e f = subst (λ ws. PostsAt room a ws b step) e f
 
 -- ---- at the persons' mail and the hub's
 
-pub says_none : (rp rh : ℕ) (p h : Account Letter) → Says rp rh p h [] p h Step.On
-says_none rp rh p h = record { posts = []; posted = refl; persons = makes_none rp p; hub = makes_none rh h }
+pub says_none : (r : Rooms) (a : Accounts) → Says r a [] a Step.On
+says_none r a = record { posts = []; posted = refl; persons = makes_none r.persons a.persons; hub = makes_none r.hub a.hub }
 
-one_post : (o : Out) (xs : List Sent) (step : Step) → Posts (o ∷ []) xs step → (x : Sent) × (xs ≡ x ∷ []) × (x.out ≡ o)
-one_post o [] step f = absurd f
-one_post o (x ∷ xs) step f = (x, elim f.1 [ inl on ↦ ap (λ w. x ∷ w) (none xs on.1) | inr end ↦ ap (λ w. x ∷ w) end.1 ], f.0)
-  where
-    none : (ys : List Sent) → Posts [] ys step → ys ≡ []
-    none [] g = refl
-    none (y ∷ ys) g = absurd g
-
-pub says_persons : (rp rh : ℕ) (p h p' : Account Letter) (o : Out) (step : Step) → is_to_hub o.to ≡ false → PostsAt rp p (o ∷ []) p' step → Says rp rh p h (o ∷ []) p' h step
-says_persons rp rh p h p' o step other f =
-    let one = one_post o f.posts step f.posted in
-    let test : is_to_hub one.0.out.to ≡ false = ap (λ (u : Out). is_to_hub u.to) one.2 ∙ other in
-    let kept : to_shards f.posts ≡ f.posts = ap to_shards one.1 ∙ (ap (λ b. cond (not b) (one.0 ∷ []) []) test ∙ sym one.1) in
-    let gone : to_the_hub f.posts ≡ [] = ap to_the_hub one.1 ∙ ap (λ b. cond b (one.0 ∷ []) []) test in
-    record {
-      posts = f.posts;
-      posted = f.posted;
-      persons = makes_as rp p p' (calls_sent p.worker f.posts) (calls_sent p.worker (to_shards f.posts)) (ap (calls_sent p.worker) (sym kept)) f.makes;
-      hub = makes_as rh h h [] (calls_sent h.worker (to_the_hub f.posts)) (ap (calls_sent h.worker) (sym gone)) (makes_none rh h);
-    }
-
-pub says_hub : (rp rh : ℕ) (p h h' : Account Letter) (o : Out) (step : Step) → is_to_hub o.to ≡ true → PostsAt rh h (o ∷ []) h' step → Says rp rh p h (o ∷ []) p h' step
-says_hub rp rh p h h' o step hub f =
-    let one = one_post o f.posts step f.posted in
-    let test : is_to_hub one.0.out.to ≡ true = ap (λ (u : Out). is_to_hub u.to) one.2 ∙ hub in
-    let kept : to_the_hub f.posts ≡ f.posts = ap to_the_hub one.1 ∙ (ap (λ b. cond b (one.0 ∷ []) []) test ∙ sym one.1) in
-    let gone : to_shards f.posts ≡ [] = ap to_shards one.1 ∙ ap (λ b. cond (not b) (one.0 ∷ []) []) test in
-    record {
-      posts = f.posts;
-      posted = f.posted;
-      persons = makes_as rp p p [] (calls_sent p.worker (to_shards f.posts)) (ap (calls_sent p.worker) (sym gone)) (makes_none rp p);
-      hub = makes_as rh h h' (calls_sent h.worker f.posts) (calls_sent h.worker (to_the_hub f.posts)) (ap (calls_sent h.worker) (sym kept)) f.makes;
-    }
+-- with this seat at the persons' mail, and at the objects' one any
+abbrev with_persons : Accounts → Account Letter → Account Letter → Accounts
+with_persons a p o = record { objects = o; persons = p; hub = a.hub }
 
 -- letters of which none goes to the hub
 shards_only : (os : List Out) (xs : List Sent) (step : Step) → All (λ o. is_to_hub o.to ≡ false) os → Posts os xs step → (to_shards xs ≡ xs) × (to_the_hub xs ≡ [])
@@ -195,8 +166,12 @@ shards_only (o ∷ os) (x ∷ xs) step others f =
       ap (λ b. cond b (x ∷ to_the_hub xs) (to_the_hub xs)) test ∙ rest.1,
     )
 
-pub says_shards : (rp rh : ℕ) (p h p' : Account Letter) (os : List Out) (step : Step) → All (λ o. is_to_hub o.to ≡ false) os → PostsAt rp p os p' step → Says rp rh p h os p' h step
-says_shards rp rh p h p' os step others f =
+pub says_shards : (r : Rooms) (a : Accounts) (p' q : Account Letter) (os : List Out) (step : Step) → All (λ o. is_to_hub o.to ≡ false) os → PostsAt r.persons a.persons os p' step → Says r a os (with_persons a p' q) step
+says_shards r a p' q os step others f =
+    let p = a.persons in
+    let h = a.hub in
+    let rp = r.persons in
+    let rh = r.hub in
     let only = shards_only os f.posts step others f.posted in
     record {
       posts = f.posts;
@@ -213,22 +188,24 @@ within_to shards (To.Object q) e l = l
 pub within_shards : (boxes shards : ℕ) (os : List Out) → boxes ≡ shards → All (Reaches shards) os → All (λ o. is_to_hub o.to ≡ false) os → All (GoesWithin boxes) os
 within_shards boxes shards os e reach others k d l = subst (λ (n : ℕ). box_of (get_or os k d).to < n) (sym e) (within_to shards (get_or os k d).to (others k d l) (reach k d l))
 
-pub says_then : (rp rh : ℕ) (p h q i r j : Account Letter) (os ps : List Out) (step : Step) → Says rp rh p h os q i Step.On → Says rp rh q i ps r j step → Says rp rh p h (os ++ ps) r j step
-says_then rp rh p h q i r j os ps step f g =
+pub says_then : (r : Rooms) (a b c : Accounts) (os ps : List Out) (step : Step) → Says r a os b Step.On → Says r b ps c step → Says r a (os ++ ps) c step
+says_then r a b c os ps step f g =
+    let p = a.persons in
+    let h = a.hub in
     let shards : to_shards (f.posts ++ g.posts) ≡ to_shards f.posts ++ to_shards g.posts = filter-append (λ x. not (is_to_hub x.out.to)) f.posts g.posts in
     let hubs : to_the_hub (f.posts ++ g.posts) ≡ to_the_hub f.posts ++ to_the_hub g.posts = filter-append (λ x. is_to_hub x.out.to) f.posts g.posts in
     record {
       posts = f.posts ++ g.posts;
       posted = posts_then os ps f.posts g.posts step f.posted g.posted;
-      persons = makes_as rp p r (calls_sent p.worker (to_shards f.posts ++ to_shards g.posts)) (calls_sent p.worker (to_shards (f.posts ++ g.posts))) (ap (calls_sent p.worker) (sym shards)) (makes_sent rp p q r (to_shards f.posts) (to_shards g.posts) f.persons g.persons);
-      hub = makes_as rh h j (calls_sent h.worker (to_the_hub f.posts ++ to_the_hub g.posts)) (calls_sent h.worker (to_the_hub (f.posts ++ g.posts))) (ap (calls_sent h.worker) (sym hubs)) (makes_sent rh h i j (to_the_hub f.posts) (to_the_hub g.posts) f.hub g.hub);
+      persons = makes_as r.persons p c.persons (calls_sent p.worker (to_shards f.posts ++ to_shards g.posts)) (calls_sent p.worker (to_shards (f.posts ++ g.posts))) (ap (calls_sent p.worker) (sym shards)) (makes_sent r.persons p b.persons c.persons (to_shards f.posts) (to_shards g.posts) f.persons g.persons);
+      hub = makes_as r.hub h c.hub (calls_sent h.worker (to_the_hub f.posts ++ to_the_hub g.posts)) (calls_sent h.worker (to_the_hub (f.posts ++ g.posts))) (ap (calls_sent h.worker) (sym hubs)) (makes_sent r.hub h b.hub c.hub (to_the_hub f.posts) (to_the_hub g.posts) f.hub g.hub);
     }
 
-pub says_ended : (rp rh : ℕ) (p h q i : Account Letter) (os ps : List Out) (step : Step) → step ≢ Step.On → Says rp rh p h os q i step → Says rp rh p h (os ++ ps) q i step
-says_ended rp rh p h q i os ps step ne f = record { posts = f.posts; posted = posts_ended os ps f.posts step ne f.posted; persons = f.persons; hub = f.hub }
+pub says_ended : (r : Rooms) (a b : Accounts) (os ps : List Out) (step : Step) → step ≢ Step.On → Says r a os b step → Says r a (os ++ ps) b step
+says_ended r a b os ps step ne f = record { posts = f.posts; posted = posts_ended os ps f.posts step ne f.posted; persons = f.persons; hub = f.hub }
 
-pub says_as : (rp rh : ℕ) (p h q i : Account Letter) (os ps : List Out) (step : Step) → os ≡ ps → Says rp rh p h os q i step → Says rp rh p h ps q i step
-says_as rp rh p h q i os ps step e f = subst (λ ws. Says rp rh p h ws q i step) e f
+pub says_as : (r : Rooms) (a b : Accounts) (os ps : List Out) (step : Step) → os ≡ ps → Says r a os b step → Says r a ps b step
+says_as r a b os ps step e f = subst (λ ws. Says r a ws b step) e f
 
 -- ---- the end
 

@@ -1,9 +1,8 @@
 -- Who posted the bids that a trail holds.
 use Rattle.std.proofs.Common.{◌≡◌, ℕ, ◌+◌, ◌-◌, ◌*◌, ◌<◌, ◌≤◌, Bool, cond, List, [], ◌∷◌, Some, None, refl, ap, sym, ◌∙◌, subst, inl, inr, arith, All, get_or}
-use Rattle.std.specs.Prelude.{ℤ, Option, Result}
+use Rattle.std.specs.Prelude.{Option, Result}
 use Rattle.std.proofs.lemmas.Bool.{cases_eq, cases_lt, eq-eqb, ne_eqb}
 use Rattle.std.proofs.lemmas.List.Elements.{All-append, All-cons, All-head, All-nil, All-tail}
-use Rattle.auc_graph.specs.Table.{Table}
 use Rattle.auc_letters.specs.declared.letter.Letter.{Letter}
 use Rattle.auc_mail.specs.declared.call.Call.{Call}
 use Rattle.auc_mail.specs.declared.call.Reply.{Reply}
@@ -12,13 +11,13 @@ use Rattle.auc_book.specs.declared.line.TrailLine.{TrailLine}
 use Rattle.auc_book.specs.Replies.{close_reply, take_reply}
 use Rattle.auc_book.specs.Trail.{IsOwn, lines_of}
 use Rattle.auc_model.specs.declared.turn.End.{End}
-use Rattle.auc_phases.specs.declared.limits.Limits.{Limits}
 use Rattle.auc_threads.specs.declared.settling.Trails.{Trails}
 use Rattle.auc_threads.specs.Calling.{lines_by, lines_made}
 use Rattle.auc_threads.specs.Taking.{Answer, calls_taken}
 use Rattle.auc_threads.specs.Counting.{calls_closed}
 use Rattle.auc_threads.specs.Phase.{IsPost}
 use Rattle.auc_threads.specs.Worked.{AreWorked}
+use Rattle.auc_threads.specs.Worker.{Setting}
 
 abbrev NoPost : TrailLine Letter → Type 0
 NoPost l = IsPost l.call → ⊥
@@ -55,31 +54,31 @@ module _ (w : ℕ) where
       ]
 
 -- nobody but the persons posts at the objects' mail
-module _ (t : Table) (limits : Limits) (eps : ℤ) (start : List ℤ) (trails : Trails) (bids : List ℕ) (end : Option End) (some : 0 < limits.audit) (worked : AreWorked t limits eps start trails bids end) where
-  none_of_others : (w : ℕ) → limits.shards ≤ w → w < 2 * limits.shards + 1 → All NoPost (lines_of w trails.objects)
+module _ (g : Setting) (trails : Trails) (bids : List ℕ) (end : Option End) (some : 0 < g.limits.audit) (worked : AreWorked g trails bids end) where
+  none_of_others : (w : ℕ) → g.limits.shards ≤ w → w < 2 * g.limits.shards + 1 → All NoPost (lines_of w trails.objects)
   none_of_others w from below =
-      elim (cases_lt w (2 * limits.shards)) [
+      elim (cases_lt w (2 * g.limits.shards)) [
         | inl shard ↦ (
-            let k = w - limits.shards in
+            let k = w - g.limits.shards in
             let seller = worked.sellers k (omega (arith, from, shard)) in
-            let told = seller.told.at_objects in
+            let noted = seller.noted.at_objects in
             let took = seller.work.serves.deals.took in
-            let whose : limits.shards + k ≡ w = omega (arith, from) in
-            let lines : lines_of w trails.objects ≡ lines_made (limits.shards + k) (calls_taken k took.answers) =
-            ap (λ (m : ℕ). lines_of m trails.objects) (sym (told.worker ∙ whose)) ∙ (told.lines ∙ took.makes.told some) in
-            subst (λ ls. All NoPost ls) (sym lines) (none_taken (limits.shards + k) k took.answers))
+            let whose : g.limits.shards + k ≡ w = omega (arith, from) in
+            let lines : lines_of w trails.objects ≡ lines_made (g.limits.shards + k) (calls_taken k took.answers) =
+            ap (λ (m : ℕ). lines_of m trails.objects) (sym (noted.worker ∙ whose)) ∙ (noted.lines ∙ took.makes.told some) in
+            subst (λ ls. All NoPost ls) (sym lines) (none_taken (g.limits.shards + k) k took.answers))
         | inr last ↦ (
             let closes = worked.hub.objects_closed in
-            let told = worked.hub.told.at_objects in
-            let whose : 2 * limits.shards ≡ w = omega (arith, last, below) in
-            let lines : lines_of w trails.objects ≡ lines_made (2 * limits.shards) (calls_closed 0 closes.answers) =
-            ap (λ (m : ℕ). lines_of m trails.objects) (sym (told.worker ∙ whose)) ∙ (told.lines ∙ closes.makes.told some) in
-            subst (λ ls. All NoPost ls) (sym lines) (none_closed (2 * limits.shards) 0 closes.answers))
+            let noted = worked.hub.noted.at_objects in
+            let whose : 2 * g.limits.shards ≡ w = omega (arith, last, below) in
+            let lines : lines_of w trails.objects ≡ lines_made (2 * g.limits.shards) (calls_closed 0 closes.answers) =
+            ap (λ (m : ℕ). lines_of m trails.objects) (sym (noted.worker ∙ whose)) ∙ (noted.lines ∙ closes.makes.told some) in
+            subst (λ ls. All NoPost ls) (sym lines) (none_closed (2 * g.limits.shards) 0 closes.answers))
       ]
 
-  pub persons_post : All (λ l. (l.worker < 2 * limits.shards + 1) × IsOwn l.worker l.call) trails.objects → All (λ l. IsPost l.call → l.worker < limits.shards) trails.objects
+  pub persons_post : All (λ l. (l.worker < 2 * g.limits.shards + 1) × IsOwn l.worker l.call) trails.objects → All (λ l. IsPost l.call → l.worker < g.limits.shards) trails.objects
   persons_post own k d low = λ post.
-      elim (cases_lt (get_or trails.objects k d).worker limits.shards) [
+      elim (cases_lt (get_or trails.objects k d).worker g.limits.shards) [
         | inl person ↦ person
         | inr other ↦ absurd (of_lines _ trails.objects (none_of_others _ (omega (arith, other)) ((own k d low).0)) k d low refl post)
       ]

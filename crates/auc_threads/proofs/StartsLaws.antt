@@ -1,24 +1,23 @@
 -- What comes of a thread's beginning.
-use Rattle.std.proofs.Common.{◌≡◌, ℕ, ◌+◌, length, List, None, sym, ◌∙◌, subst}
+use Rattle.std.proofs.Common.{◌≡◌, ℕ, ◌+◌, length, List, None, ap, sym, ◌∙◌, subst}
 use Rattle.std.specs.Prelude.{ℤ, Option}
 use Rattle.std.proofs.lemmas.List.{length-replicate}
-use Rattle.auc_threads.specs.declared.calls.Step.{Step}
-use Rattle.auc_threads.specs.Dealing.{AfterLetters}
-use Rattle.auc_threads.proofs.StepLaws.{GuardFree, free_bids, free_first, free_posts, free_why}
-use Rattle.auc_threads.proofs.SalesLaws.{sells_of}
 use Rattle.auc_letters.specs.declared.letter.Letter.{Letter}
 use Rattle.auc_letters.specs.declared.letter.Why.{Why}
 use Rattle.auc_objects.specs.Objects.{Objects}
 use Rattle.auc_book.specs.Seat.{Account, new_account}
 use Rattle.auc_graph.specs.Table.{Table}
 use Rattle.auc_persons.specs.Persons.{Persons}
-use Rattle.auc_phases.specs.Shards.{IsPersonShard, new_objects, new_persons}
+use Rattle.auc_phases.specs.Shards.{IsPersonShard}
 use Rattle.auc_phases.proofs.NewShards.{new_persons_are}
-use Rattle.auc_threads.specs.declared.task.Task.{Task}
-use Rattle.auc_threads.specs.Starts.{IsObjectPromise, IsObjectResult, IsObjectStart, IsObjectWork, IsPersonPromise, IsPersonResult, IsPersonStart, IsPersonWork}
-
-pub object_promised : (task : Task) (k : ℕ) (eps : ℤ) (s : Objects) (a p h : Account Letter) → eps ≡ task.eps → IsObjectStart task k s a p h → IsObjectPromise task k eps s a p h
-object_promised task k eps s a p h e start = record { at_eps = e; begins = start }
+use Rattle.auc_threads.specs.declared.calls.Step.{Step}
+use Rattle.auc_threads.specs.declared.object_threads.Sold.{Sold}
+use Rattle.auc_threads.specs.declared.person_threads.Bought.{Bought}
+use Rattle.auc_threads.specs.Dealing.{AfterLetters}
+use Rattle.auc_threads.specs.Starts.{IsObjectPromise, IsObjectResult, IsObjectWork, IsPersonPromise, IsPersonResult, IsPersonStart, IsPersonWork}
+use Rattle.auc_threads.specs.Worker.{Accounts, AreNewSeats, Rooms, Setting, Worker, buyer_of, new_accounts, new_buyer, new_seller, seller_of}
+use Rattle.auc_threads.proofs.SalesLaws.{sells_of}
+use Rattle.auc_threads.proofs.StepLaws.{GuardFree, free_bids, free_first, free_posts, free_why}
 
 free_letters : (t : Objects) (stray : List Letter) (step : Step) → AfterLetters t stray step → GuardFree step
 free_letters t stray Step.On h = tt
@@ -34,60 +33,57 @@ free_letters t stray (Step.Stop Why.Stray) h = tt
 
 -- ---- what a thread gives back
 
-begun_objects : (task : Task) (r₁ r₂ r₃ k : ℕ) (eps : ℤ) (s : Objects) (a p h : Account Letter) (t : Objects) (a' p' h' : Account Letter) (why : Option Why)
-    → IsObjectPromise task k eps s a p h → IsObjectWork eps r₁ r₂ r₃ s a p h t a' p' h' why
-    → IsObjectWork task.eps r₁ r₂ r₃ (new_objects task.limits.now.shards (length task.rows.now.rows) task.prices.now k) (new_account (task.limits.now.shards + k)) (new_account (task.limits.now.shards + k)) (new_account (task.limits.now.shards + k)) t a' p' h' why
-begun_objects task r₁ r₂ r₃ k eps s a p h t a' p' h' why promise work =
-    let seats = promise.begins.seats in
-    let begun : Objects = new_objects task.limits.now.shards (length task.rows.now.rows) task.prices.now k in
-    let seat : Account Letter = new_account (task.limits.now.shards + k) in
-    subst (λ (z : ℤ). IsObjectWork z r₁ r₂ r₃ begun seat seat seat t a' p' h' why) promise.at_eps
-    (subst (λ (x : Account Letter). IsObjectWork eps r₁ r₂ r₃ begun seat seat x t a' p' h' why) seats.hub_seat
-    (subst (λ (x : Account Letter). IsObjectWork eps r₁ r₂ r₃ begun seat x h t a' p' h' why) seats.persons_seat
-    (subst (λ (x : Account Letter). IsObjectWork eps r₁ r₂ r₃ begun x p h t a' p' h' why) seats.objects_seat
-    (subst (λ (x : Objects). IsObjectWork eps r₁ r₂ r₃ x a p h t a' p' h' why) promise.begins.shard work))))
+new_seats : (k : ℕ) (a : Accounts) → AreNewSeats k a → a ≡ new_accounts k
+new_seats k a are =
+    ap (λ (x : Account Letter). record { objects = x; persons = a.persons; hub = a.hub }) are.objects_seat
+    ∙ (ap (λ (x : Account Letter). record { objects = new_account k; persons = x; hub = a.hub }) are.persons_seat
+    ∙ ap (λ (x : Account Letter). record { objects = new_account k; persons = new_account k; hub = x }) are.hub_seat)
 
-pub object_result : (task : Task) (r₁ r₂ r₃ k : ℕ) (eps : ℤ) (s : Objects) (a p h : Account Letter) (t : Objects) (a' p' h' : Account Letter) (why : Option Why)
-    → IsObjectPromise task k eps s a p h → IsObjectWork eps r₁ r₂ r₃ s a p h t a' p' h' why → IsObjectResult task r₁ r₂ r₃ k t a' p' h' why
-object_result task r₁ r₂ r₃ k eps s a p h t a' p' h' why promise work =
-    let begun : Objects = new_objects task.limits.now.shards (length task.rows.now.rows) task.prices.now k in
-    let seat : Account Letter = new_account (task.limits.now.shards + k) in
-    let done = begun_objects task r₁ r₂ r₃ k eps s a p h t a' p' h' why promise work in
+new_worker : {S : Type 0} (w : Worker S) (s : S) (k : ℕ) → w.shard ≡ s → AreNewSeats k w.seats → w ≡ record { shard = s; seats = new_accounts k }
+new_worker {S} w s k shard seats =
+    ap (λ (x : S). record { shard = x; seats = w.seats }) shard ∙ ap (λ (x : Accounts). record { shard = s; seats = x }) (new_seats k w.seats seats)
+
+pub object_result : {O P H : Type 0} (g : Setting) (r : Rooms) (k : ℕ) (p : Sold O P H) (w : Worker Objects) (why : Option Why)
+    → IsObjectPromise g k p → IsObjectWork p.eps r (seller_of p.start.value) w why → IsObjectResult g r k w why
+object_result g r k p w why promise work =
+    let begun = new_seller g k in
+    let start = seller_of p.start.value in
+    let begins : start ≡ begun = new_worker start begun.shard (g.limits.shards + k) promise.begins.shard promise.begins.seats in
+    let done : IsObjectWork g.eps r begun w why =
+    subst (λ (z : ℤ). IsObjectWork z r begun w why) promise.at_eps (subst (λ (x : Worker Objects). IsObjectWork p.eps r x w why) begins work) in
     let serves = done.serves in
-    let free : GuardFree done.step = subst GuardFree (sym serves.is) (free_first serves.said_step serves.took_step (free_posts serves.said serves.tells.posts serves.said_step serves.tells.posted) (free_letters t serves.deals.dealt.stray serves.took_step serves.deals.dealt.after)) in
+    let free : GuardFree done.step = subst GuardFree (sym serves.is) (free_first serves.said_step serves.took_step (free_posts serves.said serves.posts.posts serves.said_step serves.posts.posted) (free_letters w.shard serves.deals.dealt.stray serves.took_step serves.deals.dealt.after)) in
     record {
-      seat = serves.deals.took.makes.worker;
-      persons_seat = serves.tells.persons.worker;
-      hub_seat = done.ends.makes.worker ∙ serves.tells.hub.worker;
-      sells = sells_of task.eps r₁ begun t seat a' serves.said serves.took_step (length-replicate (length task.prices.now) None) serves.deals;
+      seats = record {
+        objects_seat = serves.deals.took.makes.worker;
+        persons_seat = serves.posts.persons.worker;
+        hub_seat = done.ends.makes.worker ∙ serves.posts.hub.worker;
+      };
+      sells = sells_of g.eps r.objects begun.shard w.shard begun.seats.objects w.seats.objects serves.said serves.took_step (length-replicate (length g.prices) None) serves.deals;
       no_guard = free_why done.step why free done.why_is;
       no_bids = free_bids done.step why free done.why_is;
       work = done;
     }
 
-pub person_shard : (task : Task) (k : ℕ) (s : Persons) (a p h : Account Letter) → length task.prices.now ≡ task.rows.now.objects → IsPersonStart task k s a p h → IsPersonShard task.rows.now task.limits.now.shards k s
-person_shard task k s a p h each start =
-    subst (λ (x : Persons). IsPersonShard task.rows.now task.limits.now.shards k x) (sym start.shard) (new_persons_are task.rows.now task.limits.now.shards task.limits.now.bids task.prices.now k each)
+pub person_shard : (g : Setting) (k : ℕ) (w : Worker Persons) → length g.prices ≡ g.table.objects → IsPersonStart g k w → IsPersonShard g.table g.limits.shards k w.shard
+person_shard g k w each start =
+    subst (λ (x : Persons). IsPersonShard g.table g.limits.shards k x) (sym start.shard) (new_persons_are g.table g.limits.shards g.limits.bids g.prices k each)
 
-pub person_promised : (task : Task) (k : ℕ) (eps : ℤ) (t : Table) (s : Persons) (a p h : Account Letter) → eps ≡ task.eps → t ≡ task.rows.now → IsPersonStart task k s a p h → IsPersonPromise task k eps t s a p h
-person_promised task k eps t s a p h is e start = record { at_eps = is; same_table = e; begins = start }
-
-pub person_result : (task : Task) (r₁ r₂ r₃ k : ℕ) (eps : ℤ) (t : Table) (s : Persons) (a p h : Account Letter) (n : Persons) (a' p' h' : Account Letter) (why : Option Why)
-    → IsPersonPromise task k eps t s a p h → IsPersonWork t eps r₁ r₂ r₃ s a p h n a' p' h' why → IsPersonResult task r₁ r₂ r₃ k n a' p' h' why
-person_result task r₁ r₂ r₃ k eps t s a p h n a' p' h' why promise work =
-    let seats = promise.begins.seats in
-    let begun : Persons = new_persons task.limits.now.shards (length task.rows.now.rows) task.limits.now.bids task.prices.now k in
-    let seat : Account Letter = new_account k in
-    let done : IsPersonWork task.rows.now task.eps r₁ r₂ r₃ begun seat seat seat n a' p' h' why =
-    subst (λ (z : Table). IsPersonWork z task.eps r₁ r₂ r₃ begun seat seat seat n a' p' h' why) promise.same_table
-    (subst (λ (z : ℤ). IsPersonWork t z r₁ r₂ r₃ begun seat seat seat n a' p' h' why) promise.at_eps
-    (subst (λ (x : Account Letter). IsPersonWork t eps r₁ r₂ r₃ begun seat seat x n a' p' h' why) seats.hub_seat
-    (subst (λ (x : Account Letter). IsPersonWork t eps r₁ r₂ r₃ begun seat x h n a' p' h' why) seats.persons_seat
-    (subst (λ (x : Account Letter). IsPersonWork t eps r₁ r₂ r₃ begun x p h n a' p' h' why) seats.objects_seat
-    (subst (λ (x : Persons). IsPersonWork t eps r₁ r₂ r₃ x a p h n a' p' h' why) promise.begins.shard work))))) in
+pub person_result : {O P H : Type 0} (g : Setting) (r : Rooms) (k : ℕ) (p : Bought O P H) (w : Worker Persons) (why : Option Why)
+    → IsPersonPromise g k p → IsPersonWork p.rows.value p.eps r (buyer_of p.start.value) w why → IsPersonResult g r k w why
+person_result g r k p w why promise work =
+    let begun = new_buyer g k in
+    let start = buyer_of p.start.value in
+    let begins : start ≡ begun = new_worker start begun.shard k promise.begins.shard promise.begins.seats in
+    let done : IsPersonWork g.table g.eps r begun w why =
+    subst (λ (z : Table). IsPersonWork z g.eps r begun w why) promise.same_table
+    (subst (λ (z : ℤ). IsPersonWork p.rows.value z r begun w why) promise.at_eps
+    (subst (λ (x : Worker Persons). IsPersonWork p.rows.value p.eps r x w why) begins work)) in
     record {
-      seat = done.buys.took.makes.worker;
-      objects_seat = done.buys.posts.makes.worker;
-      hub_seat = done.ends.makes.worker;
+      seats = record {
+        objects_seat = done.buys.posts.makes.worker;
+        persons_seat = done.buys.took.makes.worker;
+        hub_seat = done.ends.makes.worker;
+      };
       work = done;
     }

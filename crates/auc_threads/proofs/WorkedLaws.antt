@@ -5,18 +5,16 @@ use Rattle.std.proofs.lemmas.List.{get_or-map}
 use Rattle.std.proofs.lemmas.List.Elements.{All-head, All-tail}
 use Rattle.auc_letters.specs.declared.letter.Letter.{Letter}
 use Rattle.auc_letters.specs.declared.letter.Why.{Why}
-use Rattle.auc_objects.specs.Objects.{Objects}
-use Rattle.auc_persons.specs.Persons.{Persons}
-use Rattle.auc_book.specs.Seat.{Account, new_account}
+use Rattle.auc_book.specs.Seat.{Account}
 use Rattle.auc_book.specs.declared.line.TrailLine.{TrailLine}
 use Rattle.auc_book.specs.Settling.{IsTrueOf}
 use Rattle.auc_model.specs.declared.turn.End.{End}
-use Rattle.auc_phases.specs.Shards.{new_objects, new_persons}
+use Rattle.auc_threads.specs.declared.object_worker.ObjectWork.{ObjectWork}
+use Rattle.auc_threads.specs.declared.person_worker.PersonWork.{PersonWork}
 use Rattle.auc_threads.specs.declared.settling.Trails.{Trails}
-use Rattle.auc_threads.specs.declared.task.Task.{Task}
-use Rattle.auc_threads.specs.Placed.{Placed}
-use Rattle.auc_threads.specs.Starts.{IsObjectResult, IsObjectWork, IsPersonResult, IsPersonWork}
-use Rattle.auc_threads.specs.Worked.{IsBuyer, IsSeller, IsTold, end_by, first_some}
+use Rattle.auc_threads.specs.Starts.{HaveBought, HaveSold, IsObjectResult, IsObjectWork, IsPersonResult, IsPersonWork}
+use Rattle.auc_threads.specs.Worked.{AreNoted, IsBuyer, IsSeller, IsNoted, audited, end_by, first_some}
+use Rattle.auc_threads.specs.Worker.{Accounts, AreSeatsOf, Rooms, Setting, accounts_of, bought_of, new_buyer, new_seller, sold_of}
 use Rattle.auc_threads.proofs.BuyingLaws.{bids_few, bids_noted, bids_spent}
 use Rattle.auc_threads.proofs.PlacedLaws.{placed_some}
 use Rattle.auc_threads.proofs.StepLaws.{why_stop}
@@ -98,73 +96,62 @@ pub value_at : {X Y : Type 0} (y : X → Y) (none : Y) (xs : List X) (k : ℕ) (
 value_at y none xs k x known at = sym (get_or-map y xs k x none known ∙ ap y (at x))
 
 -- the seat of a worker, as the trail has it
-pub is_told : (room w : ℕ) (trail : List (TrailLine Letter)) (a : Account Letter) → a.worker ≡ w → IsTrueOf room trail a → IsTold room w trail a
-is_told room w trail a worker truth = record { worker = worker; lines = truth.0; full = truth.1 }
+pub is_noted : (room w : ℕ) (trail : List (TrailLine Letter)) (a : Account Letter) → a.worker ≡ w → IsTrueOf room trail a → IsNoted room w trail a
+is_noted room w trail a worker truth = record { worker = worker; lines = truth.0; full = truth.1 }
 
-module _ {X : Type 0} (f : X → Objects) (a p h : X → Account Letter) (y : X → Option Why) (task : Task) (r₁ r₂ r₃ : ℕ) (xs : List X)
-    (results : Placed (λ k w. IsObjectResult task r₁ r₂ r₃ k (f w) (a w) (p w) (h w) (y w)) 0 xs)
-    (e₁ : r₁ ≡ task.limits.now.audit) (e₂ : r₂ ≡ task.limits.now.audit) (e₃ : r₃ ≡ task.limits.now.audit) (trails : Trails)
-    (objects : All (λ w. IsTrueOf task.limits.now.audit trails.objects (a w)) xs) (persons : All (λ w. IsTrueOf task.limits.now.audit trails.persons (p w)) xs) (hub : All (λ w. IsTrueOf task.limits.now.audit trails.hub (h w)) xs)
-    (many : length xs ≡ task.limits.now.shards) where
-  pub seller_told : (k : ℕ) → k < task.limits.now.shards → IsSeller task.rows.now task.limits.now task.eps task.prices.now trails k (get_or (map y xs) k None)
-  seller_told k low =
-      let known : k < length xs = omega (arith, low, many) in
-      let at = placed_some (λ k w. IsObjectResult task r₁ r₂ r₃ k (f w) (a w) (p w) (h w) (y w)) 0 xs k results known in
-      let x = at.0 in
-      let r : IsObjectResult task r₁ r₂ r₃ k (f x) (a x) (p x) (h x) (y x) = subst (λ (m : ℕ). IsObjectResult task r₁ r₂ r₃ m (f x) (a x) (p x) (h x) (y x)) (omega arith) at.1 in
-      let seat : Account Letter = new_account (task.limits.now.shards + k) in
-      let begun : Objects = new_objects task.limits.now.shards (length task.rows.now.rows) task.prices.now k in
-      let n = task.limits.now.audit in
-      record {
-        left = f x;
-        objects = a x;
-        persons = p x;
-        hub = h x;
-        work =
-            subst (λ (o : Option Why). IsObjectWork task.eps n n n begun seat seat seat (f x) (a x) (p x) (h x) o) (value_at y None xs k x known at.2)
-            (subst (λ (m : ℕ). IsObjectWork task.eps n n m begun seat seat seat (f x) (a x) (p x) (h x) (y x)) e₃
-            (subst (λ (m : ℕ). IsObjectWork task.eps n m r₃ begun seat seat seat (f x) (a x) (p x) (h x) (y x)) e₂
-            (subst (λ (m : ℕ). IsObjectWork task.eps m r₂ r₃ begun seat seat seat (f x) (a x) (p x) (h x) (y x)) e₁ r.work)));
-        told = record {
-          at_objects = is_told n _ trails.objects (a x) r.seat (subst (λ w. IsTrueOf n trails.objects (a w)) (at.2 x) (objects k x known));
-          at_persons = is_told n _ trails.persons (p x) r.persons_seat (subst (λ w. IsTrueOf n trails.persons (p w)) (at.2 x) (persons k x known));
-          at_hub = is_told n _ trails.hub (h x) r.hub_seat (subst (λ w. IsTrueOf n trails.hub (h w)) (at.2 x) (hub k x known));
-        };
-      }
+-- what holds of a seat of each of them
+seat_at : {X : Type 0} (a : X → Account Letter) (room : ℕ) (trail : List (TrailLine Letter)) (xs : List X) (k : ℕ) (x : X) (w : ℕ) → All (λ y. IsTrueOf room trail (a y)) xs → k < length xs → ((d : X) → get_or xs k d ≡ x)
+    → (a x).worker ≡ w → IsNoted room w trail (a x)
+seat_at a room trail xs k x w all known at worker = is_noted room w trail (a x) worker (subst (λ y. IsTrueOf room trail (a y)) (at x) (all k x known))
 
-module _ {X : Type 0} (f : X → Persons) (a p h : X → Account Letter) (y : X → Option Why) (task : Task) (r₁ r₂ r₃ : ℕ) (xs : List X)
-    (results : Placed (λ k w. IsPersonResult task r₁ r₂ r₃ k (f w) (a w) (p w) (h w) (y w)) 0 xs) (some : 0 < r₁)
-    (e₁ : r₁ ≡ task.limits.now.audit) (e₂ : r₂ ≡ task.limits.now.audit) (e₃ : r₃ ≡ task.limits.now.audit) (trails : Trails)
-    (objects : All (λ w. IsTrueOf task.limits.now.audit trails.objects (a w)) xs) (persons : All (λ w. IsTrueOf task.limits.now.audit trails.persons (p w)) xs) (hub : All (λ w. IsTrueOf task.limits.now.audit trails.hub (h w)) xs)
-    (many : length xs ≡ task.limits.now.shards) (bids : List ℕ) (counted : bids ≡ map (λ w. (a w).count) xs) where
-  pub buyer_told : (k : ℕ) → k < task.limits.now.shards → IsBuyer task.rows.now task.limits.now task.eps task.prices.now trails (get_or bids k 0) k (get_or (map y xs) k None)
-  buyer_told k low =
-      let known : k < length xs = omega (arith, low, many) in
-      let at = placed_some (λ k w. IsPersonResult task r₁ r₂ r₃ k (f w) (a w) (p w) (h w) (y w)) 0 xs k results known in
-      let x = at.0 in
-      let r : IsPersonResult task r₁ r₂ r₃ k (f x) (a x) (p x) (h x) (y x) = subst (λ (m : ℕ). IsPersonResult task r₁ r₂ r₃ m (f x) (a x) (p x) (h x) (y x)) (omega arith) at.1 in
-      let seat : Account Letter = new_account k in
-      let begun : Persons = new_persons task.limits.now.shards (length task.rows.now.rows) task.limits.now.bids task.prices.now k in
-      let n = task.limits.now.audit in
-      let is = value_at y None xs k x known at.2 in
-      let few : (a x).count ≤ task.limits.now.bids = bids_few task.rows.now task.eps r₁ r₂ k begun (f x) seat (a x) seat (p x) r.work.step r.work.buys refl in
-      let adds : length (a x).lines ≡ (a x).count = bids_noted task.rows.now task.eps r₁ r₂ k begun (f x) seat (a x) seat (p x) r.work.step r.work.buys some refl refl in
-      record {
-        left = f x;
-        objects = a x;
-        persons = p x;
-        hub = h x;
-        work =
-            subst (λ (o : Option Why). IsPersonWork task.rows.now task.eps n n n begun seat seat seat (f x) (a x) (p x) (h x) o) is
-            (subst (λ (m : ℕ). IsPersonWork task.rows.now task.eps n n m begun seat seat seat (f x) (a x) (p x) (h x) (y x)) e₃
-            (subst (λ (m : ℕ). IsPersonWork task.rows.now task.eps n m r₃ begun seat seat seat (f x) (a x) (p x) (h x) (y x)) e₂
-            (subst (λ (m : ℕ). IsPersonWork task.rows.now task.eps m r₂ r₃ begun seat seat seat (f x) (a x) (p x) (h x) (y x)) e₁ r.work)));
-        told = record {
-          at_objects = is_told n _ trails.objects (a x) r.objects_seat (subst (λ w. IsTrueOf n trails.objects (a w)) (at.2 x) (objects k x known));
-          at_persons = is_told n _ trails.persons (p x) r.seat (subst (λ w. IsTrueOf n trails.persons (p w)) (at.2 x) (persons k x known));
-          at_hub = is_told n _ trails.hub (h x) r.hub_seat (subst (λ w. IsTrueOf n trails.hub (h w)) (at.2 x) (hub k x known));
-        };
-        counted = adds ∙ (value_at (λ w. (a w).count) 0 xs k x known at.2 ∙ ap (λ ns. get_or ns k 0) (sym counted));
-        few = omega (arith, adds, few);
-        spent = λ e. adds ∙ bids_spent task.rows.now task.eps r₁ r₂ k begun (f x) seat (a x) seat (p x) r.work.step r.work.buys refl (why_stop r.work.step (y x) Why.Bids r.work.why_is (is ∙ e));
-      }
+-- the lines of the seats of all of them are noted
+pub record AreTrue {X : Type 0} (room : ℕ) (trails : Trails) (a : X → Accounts) (xs : List X) : Type 0 where
+  pub objects : All (λ x. IsTrueOf room trails.objects (a x).objects) xs
+  pub persons : All (λ x. IsTrueOf room trails.persons (a x).persons) xs
+  pub hub : All (λ x. IsTrueOf room trails.hub (a x).hub) xs
+
+noted_at : {X : Type 0} (a : X → Accounts) (room : ℕ) (trails : Trails) (xs : List X) (k : ℕ) (x : X) (w : ℕ) → AreTrue room trails a xs → k < length xs → ((d : X) → get_or xs k d ≡ x) → AreSeatsOf w (a x) → AreNoted room w trails (a x)
+noted_at a room trails xs k x w are known at seats = record {
+  at_objects = seat_at (λ y. (a y).objects) room trails.objects xs k x w are.objects known at seats.objects_seat;
+  at_persons = seat_at (λ y. (a y).persons) room trails.persons xs k x w are.persons known at seats.persons_seat;
+  at_hub = seat_at (λ y. (a y).hub) room trails.hub xs k x w are.hub known at seats.hub_seat;
+}
+
+module _ {O P H : Type 0} (g : Setting) (r : Rooms) (e : r ≡ audited g.limits) (trails : Trails) where
+  module _ (xs : List (ObjectWork O P H)) (results : HaveSold g r xs) (true : AreTrue g.limits.audit trails (λ x. accounts_of x.seats) xs) (many : length xs ≡ g.limits.shards) where
+    pub seller_told : (k : ℕ) → k < g.limits.shards → IsSeller g trails k (get_or (map (λ x. x.why) xs) k None)
+    seller_told k low =
+        let known : k < length xs = omega (arith, low, many) in
+        let at = placed_some (λ k x. IsObjectResult g r k (sold_of x) x.why) 0 xs k results known in
+        let x = at.0 in
+        let w = sold_of x in
+        let got : IsObjectResult g r k w x.why = subst (λ (m : ℕ). IsObjectResult g r m w x.why) (omega arith) at.1 in
+        record {
+          left = w;
+          work =
+              subst (λ (o : Option Why). IsObjectWork g.eps (audited g.limits) (new_seller g k) w o) (value_at (λ y. y.why) None xs k x known at.2)
+              (subst (λ (q : Rooms). IsObjectWork g.eps q (new_seller g k) w x.why) e got.work);
+          noted = noted_at (λ y. accounts_of y.seats) g.limits.audit trails xs k x (g.limits.shards + k) true known at.2 got.seats;
+        }
+
+  module _ (xs : List (PersonWork O P H)) (results : HaveBought g r xs) (some : 0 < r.objects) (true : AreTrue g.limits.audit trails (λ x. accounts_of x.seats) xs) (many : length xs ≡ g.limits.shards)
+      (bids : List ℕ) (counted : bids ≡ map (λ x. x.seats.objects.count) xs) where
+    pub buyer_told : (k : ℕ) → k < g.limits.shards → IsBuyer g trails (get_or bids k 0) k (get_or (map (λ x. x.why) xs) k None)
+    buyer_told k low =
+        let known : k < length xs = omega (arith, low, many) in
+        let at = placed_some (λ k x. IsPersonResult g r k (bought_of x) x.why) 0 xs k results known in
+        let x = at.0 in
+        let w = bought_of x in
+        let got : IsPersonResult g r k w x.why = subst (λ (m : ℕ). IsPersonResult g r m w x.why) (omega arith) at.1 in
+        let begun = new_buyer g k in
+        let is = value_at (λ y. y.why) None xs k x known at.2 in
+        let few : w.seats.objects.count ≤ g.limits.bids = bids_few g.table g.eps r k begun w got.work.step got.work.buys refl in
+        let adds : length w.seats.objects.lines ≡ w.seats.objects.count = bids_noted g.table g.eps r k begun w got.work.step got.work.buys some refl refl in
+        record {
+          left = w;
+          work = subst (λ (o : Option Why). IsPersonWork g.table g.eps (audited g.limits) begun w o) is (subst (λ (q : Rooms). IsPersonWork g.table g.eps q begun w x.why) e got.work);
+          noted = noted_at (λ y. accounts_of y.seats) g.limits.audit trails xs k x k true known at.2 got.seats;
+          counted = adds ∙ (value_at (λ y. y.seats.objects.count) 0 xs k x known at.2 ∙ ap (λ ns. get_or ns k 0) (sym counted));
+          few = omega (arith, adds, few);
+          spent = λ stopped. adds ∙ bids_spent g.table g.eps r k begun w got.work.step got.work.buys refl (why_stop got.work.step x.why Why.Bids got.work.why_is (is ∙ stopped));
+        }

@@ -12,6 +12,7 @@ use Rattle.auc_phases.specs.Reasons.{reason_for}
 use Rattle.auc_threads.specs.declared.calls.Step.{Step}
 use Rattle.auc_threads.specs.Taking.{AfterTakes, Takes}
 use Rattle.auc_threads.specs.Posting.{PostsAt, first_step}
+use Rattle.auc_threads.specs.Worker.{Rooms, Worker}
 
 -- what a shard of the persons does: it hears a letter, or makes a bid
 pub data Act : Type 0 where
@@ -79,16 +80,15 @@ pub record Listens (t : Table) (eps : ℤ) (room at : ℕ) (s : Persons) (a : Ac
   pub taken : AfterTakes took.answers step
 
 -- It bid and heard: it took just these letters from its box, and posted the bids in order, up to the first post that ends it.
-pub record Buys (t : Table) (eps : ℤ) (objects_room persons_room at : ℕ) (s : Persons) (a p : Account Letter) (n : Persons)
-    (a' p' : Account Letter) (step : Step) : Type 0 where
+pub record Buys (t : Table) (eps : ℤ) (r : Rooms) (at : ℕ) (old new : Worker Persons) (step : Step) : Type 0 where
   pub acts : List Act
   pub fault : List Letter
   pub posts_step : Step
   pub acts_step : Step
-  pub plays : Plays t eps s acts n
-  pub posts : PostsAt objects_room a (made_in acts) a' posts_step
-  pub took : Takes persons_room at p (heard_in acts ++ fault) p'
-  pub after : AfterActs t eps n fault acts_step
+  pub plays : Plays t eps old.shard acts new.shard
+  pub posts : PostsAt r.objects old.seats.objects (made_in acts) new.seats.objects posts_step
+  pub took : Takes r.persons at old.seats.persons (heard_in acts ++ fault) new.seats.persons
+  pub after : AfterActs t eps new.shard fault acts_step
   pub taken : AfterTakes took.answers acts_step
   -- a post that ends the worker comes before what it asked for or took later
   pub is : step ≡ first_step posts_step acts_step

@@ -13,6 +13,7 @@ use Rattle.auc_book.specs.Seat.{Account}
 use Rattle.auc_threads.specs.declared.calls.Step.{Step}
 use Rattle.auc_threads.specs.Taking.{AfterTakes, Takes}
 use Rattle.auc_threads.specs.Posting.{Says, first_step}
+use Rattle.auc_threads.specs.Worker.{Rooms, Worker}
 
 -- the shards below n but one, in rising order
 abbrev pub others : ℕ → ℕ → List ℕ
@@ -76,12 +77,11 @@ pub record Deals (eps : ℤ) (room at : ℕ) (s : Objects) (a : Account Letter) 
   pub taken : AfterTakes took.answers step
 
 -- It dealt with letters, and posted what it had to say of them.
-pub record Serves (eps : ℤ) (objects_room persons_room hub_room at : ℕ) (s : Objects) (a p h : Account Letter) (t : Objects)
-    (a' p' h' : Account Letter) (step : Step) : Type 0 where
+pub record Serves (eps : ℤ) (r : Rooms) (at : ℕ) (old new : Worker Objects) (step : Step) : Type 0 where
   pub said : List Out
   pub took_step : Step
   pub said_step : Step
-  pub deals : Deals eps objects_room at s a said t a' took_step
-  pub tells : Says persons_room hub_room p h said p' h' said_step
+  pub deals : Deals eps r.objects at old.shard old.seats.objects said new.shard new.seats.objects took_step
+  pub posts : Says r old.seats said new.seats said_step
   -- a post that ends the worker comes before what it took later
   pub is : step ≡ first_step said_step took_step

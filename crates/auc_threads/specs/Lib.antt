@@ -1,5 +1,6 @@
 pub mod Calling
 pub mod Taking
+pub mod Worker
 pub mod Posting
 pub mod Dealing
 pub mod Buying

@@ -26,13 +26,30 @@ persons_nodes limits persons = nodes_or limits.nodes (4 * persons)
 abbrev pub hub_nodes : Limits → ℕ → ℕ
 hub_nodes limits persons = nodes_or limits.nodes (persons + 2 * limits.shards)
 
--- the numbers of one mail are these: its boxes and nodes, and by the limits its workers, posts and room
-pub record IsNamed (boxes workers nodes most room : ℕ) (boxes' nodes' : ℕ) (limits : Limits) : Type 0 where
-  pub boxes_are : boxes ≡ boxes'
-  pub workers_are : workers ≡ workers_of limits.shards
-  pub nodes_are : nodes ≡ nodes'
-  pub most_is : most ≡ limits.posts
-  pub room_is : room ≡ limits.audit
+-- the numbers that a mail's name tells
+pub record Numbers : Type 0 where
+  pub boxes : ℕ
+  pub workers : ℕ
+  pub nodes : ℕ
+  pub most : ℕ
+  pub room : ℕ
+
+abbrev pub numbers : ℕ → ℕ → ℕ → ℕ → ℕ → Numbers
+numbers boxes workers nodes most room = record { boxes = boxes; workers = workers; nodes = nodes; most = most; room = room }
+
+-- those of one mail are these: its boxes and nodes, and by the limits its workers, posts and room
+pub record IsNamed (n : Numbers) (boxes nodes : ℕ) (limits : Limits) : Type 0 where
+  pub boxes_are : n.boxes ≡ boxes
+  pub workers_are : n.workers ≡ workers_of limits.shards
+  pub nodes_are : n.nodes ≡ nodes
+  pub most_is : n.most ≡ limits.posts
+  pub room_is : n.room ≡ limits.audit
+
+-- those of the three mails of a phase of so many persons
+pub record AreNamed (limits : Limits) (persons : ℕ) (o p h : Numbers) : Type 0 where
+  pub objects : IsNamed o limits.shards (objects_nodes limits persons) limits
+  pub persons_mail : IsNamed p limits.shards (persons_nodes limits persons) limits
+  pub hub : IsNamed h 1 (hub_nodes limits persons) limits
 
 -- limits in range, that of the trails too
 pub record AreThreadLimits (limits : Limits) : Type 0 where

@@ -22,6 +22,7 @@ use Rattle.auc_threads.specs.Taking.{letters_in}
 use Rattle.auc_threads.specs.Hearing.{Falls, SomebodyStuck}
 use Rattle.auc_threads.specs.Counting.{firsts_in}
 use Rattle.auc_threads.specs.Worked.{AreWorked}
+use Rattle.auc_threads.specs.Worker.{setting}
 use Rattle.auc_threads.specs.Naming.{hub_nodes, objects_nodes, persons_nodes, workers_of}
 
 -- the lines are a run of a mail of these numbers, from the empty one
@@ -88,7 +89,7 @@ pub record IsToldBy (t : Table) (limits : Limits) (eps : ℤ) (start : List ℤ)
   -- a price fell only where a worker of the persons took one below the start price, or below an earlier one that he took
   pub fell : p.end ≡ Some (End.Stopped Why.Fell) → (k : ℕ) × (k < limits.shards) × Falls (price_in start) (taken_by k trails.persons)
   -- each worker did what it has to by the letters that it took, and the phase ended for the first of their reasons
-  pub worked : AreWorked t limits eps start trails p.bids.items p.end
+  pub worked : AreWorked (setting t limits eps start) trails p.bids.items p.end
 
 -- A phase at this eps, from these prices.
 pub record IsPhase (t : Table) (limits : Limits) (eps : ℤ) (start : List ℤ) (p : PhaseEnd) : Type 0 where

@@ -16,6 +16,7 @@ use Rattle.auc_model.specs.Mails.{box_of}
 use Rattle.auc_model.specs.Posting.{is_price, reason}
 use Rattle.auc_threads.specs.declared.calls.Step.{Step}
 use Rattle.auc_threads.specs.Calling.{Called, Makes}
+use Rattle.auc_threads.specs.Worker.{Accounts, Rooms}
 
 -- An open box didn't accept a letter: a Price may be dropped, for any other one the worker stops, for the same reason as the world.
 abbrev pub step_without : Letter → PostRefused → Step
@@ -73,11 +74,11 @@ abbrev pub to_shards : List Sent → List Sent
 to_shards posts = filter (λ x. not (is_to_hub x.out.to)) posts
 
 -- The same to two mails, that of the persons and the hub's, one letter after another.
-pub record Says (persons_room hub_room : ℕ) (p h : Account Letter) (wanted : List Out) (p' h' : Account Letter) (step : Step) : Type 0 where
+pub record Says (r : Rooms) (old : Accounts) (wanted : List Out) (new : Accounts) (step : Step) : Type 0 where
   pub posts : List Sent
   pub posted : Posts wanted posts step
-  pub persons : Makes persons_room p (calls_sent p.worker (to_shards posts)) p'
-  pub hub : Makes hub_room h (calls_sent h.worker (to_the_hub posts)) h'
+  pub persons : Makes r.persons old.persons (calls_sent old.persons.worker (to_shards posts)) new.persons
+  pub hub : Makes r.hub old.hub (calls_sent old.hub.worker (to_the_hub posts)) new.hub
 
 -- the first of two steps that doesn't go on
 abbrev pub first_step : Step → Step → Step

@@ -1,5 +1,5 @@
 -- What the threads begin with, and what they give back.
-use Rattle.std.specs.Prelude.{◌≡◌, ◌≢◌, ◌+◌, ℕ, ℤ, List, length, Option, Some}
+use Rattle.std.specs.Prelude.{◌≡◌, ◌≢◌, ◌+◌, ◌*◌, ℕ, ℤ, List, length, Option, Some, vec_len}
 use Rattle.auc_letters.specs.declared.letter.Letter.{Letter}
 use Rattle.auc_letters.specs.declared.letter.Why.{Why}
 use Rattle.auc_objects.specs.Objects.{Objects}
@@ -7,87 +7,111 @@ use Rattle.auc_book.specs.Seat.{Account, new_account}
 use Rattle.auc_graph.specs.Table.{Table}
 use Rattle.auc_persons.specs.Candidates.{Kept, Listed}
 use Rattle.auc_persons.specs.Persons.{Persons}
-use Rattle.auc_phases.specs.Shards.{new_objects, new_persons}
-use Rattle.auc_threads.specs.declared.task.Task.{Task}
-use Rattle.auc_threads.specs.Hearing.{Hears, SomebodyStuck}
 use Rattle.auc_threads.specs.declared.calls.Step.{Step}
-use Rattle.auc_threads.specs.Posting.{Ends, why_of}
-use Rattle.auc_threads.specs.Dealing.{Serves}
+use Rattle.auc_threads.specs.declared.object_threads.Sold.{Sold}
+use Rattle.auc_threads.specs.declared.object_worker.ObjectWork.{ObjectWork}
+use Rattle.auc_threads.specs.declared.object_worker.ObjectWorker.{ObjectWorker}
+use Rattle.auc_threads.specs.declared.person_threads.Bought.{Bought}
+use Rattle.auc_threads.specs.declared.person_worker.PersonWork.{PersonWork}
+use Rattle.auc_threads.specs.declared.person_worker.PersonWorker.{PersonWorker}
+use Rattle.auc_threads.specs.declared.running.Starts.{Starts}
+use Rattle.auc_threads.specs.declared.running.Works.{Works}
 use Rattle.auc_threads.specs.Buying.{Buys}
+use Rattle.auc_threads.specs.Counting.{Closes, Counts}
+use Rattle.auc_threads.specs.Dealing.{Serves}
+use Rattle.auc_threads.specs.Hearing.{Hears, SomebodyStuck}
+use Rattle.auc_threads.specs.Placed.{Placed}
+use Rattle.auc_threads.specs.Posting.{Ends, why_of}
 use Rattle.auc_threads.specs.Sales.{Sells}
+use Rattle.auc_threads.specs.Worker.{AreNewSeats, AreSeatsOf, Rooms, Setting, Worker, accounts_of, bought_of, buyer_of, new_buyer, new_seller, seller_of, sold_of, with_hub}
 
--- the new seats of a worker
-pub record AreNewSeats (k : ℕ) (objects persons hub : Account Letter) : Type 0 where
-  pub objects_seat : objects ≡ new_account k
-  pub persons_seat : persons ≡ new_account k
-  pub hub_seat : hub ≡ new_account k
+-- ---- the objects
 
--- what the shard number k of the objects begins with
-pub record IsObjectStart (task : Task) (k : ℕ) (s : Objects) (a p h : Account Letter) : Type 0 where
-  pub shard : s ≡ new_objects task.limits.now.shards (length task.rows.now.rows) task.prices.now k
-  pub seats : AreNewSeats (task.limits.now.shards + k) a p h
+-- what the worker of the shard number k begins with
+pub record IsSellerStart (g : Setting) (k : ℕ) (w : Worker Objects) : Type 0 where
+  pub shard : w.shard ≡ (new_seller g k).shard
+  pub seats : AreNewSeats (g.limits.shards + k) w.seats
 
--- What comes of a worker of the objects: it dealt with bids from the box of its shard's number and said what it had to, and at its end
--- tells the hub why.
-pub record IsObjectWork (eps : ℤ) (objects_room persons_room hub_room : ℕ) (s : Objects) (a p h : Account Letter) (t : Objects)
-    (a' p' h' : Account Letter) (why : Option Why) : Type 0 where
+-- What comes of a worker: it dealt with bids from the box of its shard's number and said what it had to, and at its end tells the hub why.
+pub record IsObjectWork (eps : ℤ) (r : Rooms) (old new : Worker Objects) (why : Option Why) : Type 0 where
   pub step : Step
   pub before : Account Letter
-  pub serves : Serves eps objects_room persons_room hub_room s.shard s a p h t a' p' before step
+  pub serves : Serves eps r old.shard.shard old (with_hub new before) step
   pub ended : step ≢ Step.On
-  pub ends : Ends hub_room before step h'
+  pub ends : Ends r.hub before step new.seats.hub
   pub why_is : why ≡ why_of step
 
--- what the thread number k of the objects promises: it works at eps, from such a beginning
-pub record IsObjectPromise (task : Task) (k : ℕ) (eps : ℤ) (s : Objects) (a p h : Account Letter) : Type 0 where
-  pub at_eps : eps ≡ task.eps
-  pub begins : IsObjectStart task k s a p h
+-- what the thread number k promises: it works at eps, from such a beginning
+pub record IsObjectPromise {O P H : Type 0} (g : Setting) (k : ℕ) (p : Sold O P H) : Type 0 where
+  pub at_eps : p.eps ≡ g.eps
+  pub begins : IsSellerStart g k (seller_of p.start.value)
 
--- what the thread number k of the objects gives back
-pub record IsObjectResult (task : Task) (objects_room persons_room hub_room : ℕ) (k : ℕ) (t : Objects) (a p h : Account Letter)
-    (why : Option Why) : Type 0 where
-  pub seat : a.worker ≡ task.limits.now.shards + k
-  pub persons_seat : p.worker ≡ task.limits.now.shards + k
-  pub hub_seat : h.worker ≡ task.limits.now.shards + k
-  pub sells : Sells task.eps objects_room (new_objects task.limits.now.shards (length task.rows.now.rows) task.prices.now k)
-      (new_account (task.limits.now.shards + k)) t a
+-- what it gives back
+pub record IsObjectResult (g : Setting) (r : Rooms) (k : ℕ) (w : Worker Objects) (why : Option Why) : Type 0 where
+  pub seats : AreSeatsOf (g.limits.shards + k) w.seats
+  pub sells : Sells g.eps r.objects (new_seller g k).shard (new_account (g.limits.shards + k)) w.shard w.seats.objects
   pub no_guard : (why ≢ Some Why.Stuck) × (why ≢ Some Why.Fell)
   pub no_bids : why ≢ Some Why.Bids
-  pub work : IsObjectWork task.eps objects_room persons_room hub_room
-      (new_objects task.limits.now.shards (length task.rows.now.rows) task.prices.now k) (new_account (task.limits.now.shards + k))
-      (new_account (task.limits.now.shards + k)) (new_account (task.limits.now.shards + k)) t a p h why
+  pub work : IsObjectWork g.eps r (new_seller g k) w why
 
--- the same of the persons
-pub record IsPersonStart (task : Task) (k : ℕ) (s : Persons) (a p h : Account Letter) : Type 0 where
-  pub shard : s ≡ new_persons task.limits.now.shards (length task.rows.now.rows) task.limits.now.bids task.prices.now k
-  pub seats : AreNewSeats k a p h
+-- ---- the persons
+
+pub record IsPersonStart (g : Setting) (k : ℕ) (w : Worker Persons) : Type 0 where
+  pub shard : w.shard ≡ (new_buyer g k).shard
+  pub seats : AreNewSeats k w.seats
 
 -- and with lists that are right whatever the copies are
-pub record IsBuyerStart (task : Task) (k : ℕ) (s : Persons) (lists : List Listed) (a p h : Account Letter) : Type 0 where
-  pub begins : IsPersonStart task k s a p h
-  pub kept : (copies : List ℤ) → Kept task.rows.now copies lists
+pub record IsBuyerStart (g : Setting) (k : ℕ) (lists : List Listed) (w : Worker Persons) : Type 0 where
+  pub begins : IsPersonStart g k w
+  pub kept : (copies : List ℤ) → Kept g.table copies lists
 
--- What comes of a worker of the persons: it bid and heard, by the box of its shard's number, and at its end tells the hub why.
-pub record IsPersonWork (t : Table) (eps : ℤ) (objects_room persons_room hub_room : ℕ) (s : Persons) (a p h : Account Letter) (n : Persons)
-    (a' p' h' : Account Letter) (why : Option Why) : Type 0 where
+-- What comes of a worker: it bid and heard, by the box of its shard's number, and at its end tells the hub why.
+pub record IsPersonWork (t : Table) (eps : ℤ) (r : Rooms) (old new : Worker Persons) (why : Option Why) : Type 0 where
   pub step : Step
-  pub buys : Buys t eps objects_room persons_room s.shard s a p n a' p' step
+  pub buys : Buys t eps r old.shard.shard old new step
   pub ended : step ≢ Step.On
-  pub ends : Ends hub_room h step h'
+  pub ends : Ends r.hub old.seats.hub step new.seats.hub
   pub why_is : why ≡ why_of step
-  pub hears : Hears persons_room s.shard s p n p' (why ≡ Some Why.Fell)
+  pub hears : Hears r.persons old.shard.shard old.shard old.seats.persons new.shard new.seats.persons (why ≡ Some Why.Fell)
   pub stuck : why ≡ Some Why.Stuck → SomebodyStuck t
 
-pub record IsPersonPromise (task : Task) (k : ℕ) (eps : ℤ) (t : Table) (s : Persons) (a p h : Account Letter) : Type 0 where
-  pub at_eps : eps ≡ task.eps
-  pub same_table : t ≡ task.rows.now
-  pub begins : IsPersonStart task k s a p h
+pub record IsPersonPromise {O P H : Type 0} (g : Setting) (k : ℕ) (p : Bought O P H) : Type 0 where
+  pub at_eps : p.eps ≡ g.eps
+  pub same_table : p.rows.value ≡ g.table
+  pub begins : IsPersonStart g k (buyer_of p.start.value)
 
-pub record IsPersonResult (task : Task) (objects_room persons_room hub_room : ℕ) (k : ℕ) (n : Persons) (a p h : Account Letter)
-    (why : Option Why) : Type 0 where
-  pub seat : p.worker ≡ k
-  pub objects_seat : a.worker ≡ k
-  pub hub_seat : h.worker ≡ k
-  pub work : IsPersonWork task.rows.now task.eps objects_room persons_room hub_room
-      (new_persons task.limits.now.shards (length task.rows.now.rows) task.limits.now.bids task.prices.now k) (new_account k)
-      (new_account k) (new_account k) n a p h why
+pub record IsPersonResult (g : Setting) (r : Rooms) (k : ℕ) (w : Worker Persons) (why : Option Why) : Type 0 where
+  pub seats : AreSeatsOf k w.seats
+  pub work : IsPersonWork g.table g.eps r (new_buyer g k) w why
+
+-- ---- all of them
+
+abbrev pub AreBuyers : {O P H : Type 0} → Setting → List (PersonWorker O P H) → Type 0
+AreBuyers g xs = Placed (λ k x. IsBuyerStart g k x.buyer.lists (buyer_of x)) 0 xs
+
+abbrev pub AreSellers : {O P H : Type 0} → Setting → List (ObjectWorker O P H) → Type 0
+AreSellers g xs = Placed (λ k x. IsSellerStart g k (seller_of x)) 0 xs
+
+abbrev pub HaveBought : {O P H : Type 0} → Setting → Rooms → List (PersonWork O P H) → Type 0
+HaveBought g r xs = Placed (λ k x. IsPersonResult g r k (bought_of x) x.why) 0 xs
+
+abbrev pub HaveSold : {O P H : Type 0} → Setting → Rooms → List (ObjectWork O P H) → Type 0
+HaveSold g r xs = Placed (λ k x. IsObjectResult g r k (sold_of x) x.why) 0 xs
+
+-- what the workers of a phase begin with: those of each shard, and the hub
+pub record AreStarts {O P H : Type 0} (g : Setting) (s : Starts O P H) : Type 0 where
+  pub persons : AreBuyers g s.persons.items
+  pub persons_many : vec_len s.persons ≡ g.limits.shards
+  pub objects : AreSellers g s.objects.items
+  pub objects_many : vec_len s.objects ≡ g.limits.shards
+  pub hub : AreNewSeats (2 * g.limits.shards) (accounts_of s.hub)
+
+-- what they give back: the hub has counted, and has closed all boxes
+pub record AreWorks {O P H : Type 0} (g : Setting) (r : Rooms) (w : Works O P H) : Type 0 where
+  pub persons : HaveBought g r w.persons.items
+  pub persons_many : vec_len w.persons ≡ g.limits.shards
+  pub objects : HaveSold g r w.objects.items
+  pub objects_many : vec_len w.objects ≡ g.limits.shards
+  pub counts : Counts r.hub (length g.table.rows) (new_account (2 * g.limits.shards)) w.hub.is_all w.hub.why w.hub.seats.hub
+  pub hub_objects : Closes r.objects g.limits.shards (new_account (2 * g.limits.shards)) w.hub.seats.objects
+  pub hub_persons : Closes r.persons g.limits.shards (new_account (2 * g.limits.shards)) w.hub.seats.persons

@@ -16,11 +16,11 @@ mod person_threads;
 mod person_worker;
 mod phase;
 mod running;
+mod saying;
 mod settling;
 mod solving;
 mod stopping;
 mod task;
-mod telling;
 mod verdict;
 
 pub use error::RunError;

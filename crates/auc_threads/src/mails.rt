@@ -6,9 +6,9 @@ ghost use Rattle.auc_mail.specs.declared.limits.TheConstants.{MOST_NODES};
 ghost use Rattle.auc_book.specs.declared.limits.TheConstants.{MOST_ROOM};
 ghost use Rattle.auc_book.specs.Seat.{new_account};
 ghost use Rattle.auc_threads.specs.declared.error.RunError.TheVariants.{NoMemory};
-ghost use Rattle.auc_threads.specs.Naming.{AreBoxes, AreThreadLimits, IsNamed, IsUnopened, hub_nodes, objects_nodes, persons_nodes, workers_of};
+ghost use Rattle.auc_threads.specs.Naming.{AreBoxes, AreNamed, AreThreadLimits, IsNamed, IsUnopened, numbers, workers_of};
 ghost use Rattle.auc_threads.specs.Placed.{Placed};
-ghost use Rattle.auc_threads.specs.Starts.{AreNewSeats};
+ghost use Rattle.auc_threads.specs.Worker.{AreNewSeats, accounts_of};
 
 use crate::error::RunError;
 use auc_phases::{Limits, nodes_or};
@@ -58,7 +58,7 @@ fn new_mail<N: MailBrand>(
     ledger: Blank,
 ) -> Result<(SharedMail<Letter, N>, Vec<Seat<Letter, N>>), RunError>
     requires ledger { IsUnopened ledger.name N.name ledger.parts N.parts workers }
-    requires numbers { IsNamed N.boxes N.workers N.nodes N.most N.room boxes nodes limits.now }
+    requires numbers { IsNamed (numbers N.boxes N.workers N.nodes N.most N.room) boxes nodes limits.now }
     requires boxes { boxes ≤ 16 }
     requires workers { workers ≡ workers_of limits.now.shards }
     requires nodes { nodes ≤ MOST_NODES }
@@ -95,7 +95,7 @@ fn join_seats<O: MailBrand, P: MailBrand, H: MailBrand>(
     requires persons { Placed (λ k a. a ≡ new_account k) 0 persons.items }
     requires hub { Placed (λ k a. a ≡ new_account k) 0 hub.items }
     requires same { (vec_len persons ≡ vec_len objects) × (vec_len hub ≡ vec_len objects) }
-    ensures seats { IfOk result (λ v. Placed (λ k w. AreNewSeats k w.objects w.persons w.hub) 0 v.items) }
+    ensures seats { IfOk result (λ v. Placed (λ k w. AreNewSeats k (accounts_of w)) 0 v.items) }
     ensures many { IfOk result (λ v. vec_len v ≡ vec_len objects) }
 {
     let mut seats = Vec::with_capacity(alloc, objects.len())?;
@@ -132,13 +132,10 @@ impl<O: MailBrand, P: MailBrand, H: MailBrand> Mails<O, P, H> {
         requires objects_ledger { IsUnopened ledgers.objects.name O.name ledgers.objects.parts O.parts (workers_of limits.now.shards) }
         requires persons_ledger { IsUnopened ledgers.persons.name P.name ledgers.persons.parts P.parts (workers_of limits.now.shards) }
         requires hub_ledger { IsUnopened ledgers.hub.name H.name ledgers.hub.parts H.parts (workers_of limits.now.shards) }
-        requires objects_name { IsNamed O.boxes O.workers O.nodes O.most O.room limits.now.shards (objects_nodes limits.now persons)
-            limits.now }
-        requires persons_name { IsNamed P.boxes P.workers P.nodes P.most P.room limits.now.shards (persons_nodes limits.now persons)
-            limits.now }
-        requires hub_name { IsNamed H.boxes H.workers H.nodes H.most H.room 1 (hub_nodes limits.now persons) limits.now }
+        requires names { AreNamed limits.now persons (numbers O.boxes O.workers O.nodes O.most O.room)
+            (numbers P.boxes P.workers P.nodes P.most P.room) (numbers H.boxes H.workers H.nodes H.most H.room) }
         ensures shards { IfOk result (λ r. r.0.shards ≡ limits.now.shards) }
-        ensures seats { IfOk result (λ r. Placed (λ k w. AreNewSeats k w.objects w.persons w.hub) 0 r.1.items) }
+        ensures seats { IfOk result (λ r. Placed (λ k w. AreNewSeats k (accounts_of w)) 0 r.1.items) }
         ensures many { IfOk result (λ r. vec_len r.1 ≡ workers_of limits.now.shards) }
         ensures refused { IfErr result (λ e. e ≡ NoMemory) }
     {

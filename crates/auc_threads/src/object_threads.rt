@@ -2,7 +2,8 @@
 
 ghost use Rattle.std.specs.Prelude.{◌≡◌, ◌<◌, ◌≤◌, [], vec_len, vec_capacity, IsTrue};
 ghost use Rattle.auc_threads.specs.Placed.{Placed};
-ghost use Rattle.auc_threads.specs.Starts.{IsObjectPromise, IsObjectResult, IsObjectStart};
+ghost use Rattle.auc_threads.specs.Starts.{AreSellers, HaveSold, IsObjectPromise};
+ghost use Rattle.auc_threads.specs.Worker.{rooms, setting_of};
 
 use crate::gate::Gate;
 use crate::object_worker::{ObjectWork, ObjectWorker, sell};
@@ -21,9 +22,9 @@ pub(crate) struct Sold<O: MailBrand, P: MailBrand, H: MailBrand> {
 
 impl<O: MailBrand, P: MailBrand, H: MailBrand> Promise<ObjectWork<O, P, H>> for Sold<O, P, H> {
     ghost use Rattle.auc_threads.specs.Starts.{IsObjectWork};
+    ghost use Rattle.auc_threads.specs.Worker.{rooms, seller_of, sold_of};
 
-    ghost kept_by = { λ p r. IsObjectWork p.eps O.room P.room H.room p.start.value.shard p.start.value.seats.objects
-        p.start.value.seats.persons p.start.value.seats.hub r.shard r.seats.objects r.seats.persons r.seats.hub r.why };
+    ghost kept_by = { λ p r. IsObjectWork p.eps (rooms O.room P.room H.room) (seller_of p.start.value) (sold_of r) r.why };
 }
 
 /// Starts a thread for each shard of the objects. False where one couldn't be started; then no more are.
@@ -44,11 +45,10 @@ pub(crate) fn start_objects<
     handles: &mut Vec<PromisedHandle<ObjectWork<O, P, H>, Sold<O, P, H>>>,
 ) -> bool
     requires many { vec_len starts ≡ run.now.task.limits.now.shards }
-    requires starts { Placed (λ k x. IsObjectStart run.now.task k x.shard x.seats.objects x.seats.persons x.seats.hub) 0 starts.items }
+    requires starts { AreSellers (setting_of run.now.task) starts.items }
     requires none { handles.old.items ≡ [] }
     requires room { vec_len starts ≤ vec_capacity handles.old }
-    ensures promised { Placed (λ k h. IsObjectPromise run.now.task k h.promise.eps h.promise.start.value.shard
-        h.promise.start.value.seats.objects h.promise.start.value.seats.persons h.promise.start.value.seats.hub) 0 handles.new.items }
+    ensures promised { Placed (λ k h. IsObjectPromise (setting_of run.now.task) k h.promise) 0 handles.new.items }
     ensures few { vec_len handles.new ≤ run.now.task.limits.now.shards }
     ensures all { IsTrue result → vec_len handles.new ≡ run.now.task.limits.now.shards }
 {
@@ -83,13 +83,11 @@ pub(crate) fn join_objects<
     handles: Vec<PromisedHandle<ObjectWork<O, P, H>, Sold<O, P, H>>>,
     works: &mut Vec<ObjectWork<O, P, H>>,
 )
-    requires promised { Placed (λ k h. IsObjectPromise task.now k h.promise.eps h.promise.start.value.shard
-        h.promise.start.value.seats.objects h.promise.start.value.seats.persons h.promise.start.value.seats.hub) 0 handles.items }
+    requires promised { Placed (λ k h. IsObjectPromise (setting_of task.now) k h.promise) 0 handles.items }
     requires none { works.old.items ≡ [] }
     requires room { vec_len handles ≤ vec_capacity works.old }
     ensures many { vec_len works.new ≡ vec_len handles }
-    ensures works { Placed (λ k r. IsObjectResult task.now O.room P.room H.room k r.shard r.seats.objects r.seats.persons r.seats.hub r.why)
-        0 works.new.items }
+    ensures works { HaveSold (setting_of task.now) (rooms O.room P.room H.room) works.new.items }
 {
     for handle in handles {
         works.push_reserved(handle.join(rt));

@@ -4,14 +4,15 @@ ghost use Rattle.std.specs.Prelude.{◌≡◌, ◌<◌};
 ghost use Rattle.auc_objects.specs.Objects.{SameShape};
 ghost use Rattle.auc_threads.specs.Dealing.{Serves};
 ghost use Rattle.auc_threads.specs.Starts.{IsObjectWork};
+ghost use Rattle.auc_threads.specs.Worker.{rooms, seller_of, sold_of};
 
 use crate::calls::Step;
 use crate::dealing::{ROOM, deal_next};
 use crate::gate::Gate;
 use crate::mails::WorkerSeats;
+use crate::saying::say;
 use crate::stopping::end;
 use crate::task::PhaseRun;
-use crate::telling::tell;
 use arrayvec::ArrayVec;
 use auc_book::MailBrand;
 use auc_letters::{Out, Why};
@@ -45,15 +46,14 @@ fn serve<O: MailBrand, P: MailBrand, H: MailBrand, R: Wait, G: Gate>(
 ) -> Step
     requires shards { worker.old.shard.person_shards ≡ run.now.task.limits.now.shards }
     requires known { number < run.now.task.limits.now.shards }
-    ensures serves { Serves run.now.task.eps O.room P.room H.room number worker.old.shard worker.old.seats.objects worker.old.seats.persons
-        worker.old.seats.hub worker.new.shard worker.new.seats.objects worker.new.seats.persons worker.new.seats.hub result }
+    ensures serves { Serves run.now.task.eps (rooms O.room P.room H.room) number (seller_of worker.old) (seller_of worker.new) result }
     ensures shape { SameShape worker.old.shard worker.new.shard }
 {
     said.clear();
     let took = deal_next(rt, gate, run, number, worker, said);
-    let told = tell(rt, gate, run, &mut worker.seats, said.as_slice());
-    if told != Step::On {
-        return told;
+    let posted = say(rt, gate, run, &mut worker.seats, said.as_slice());
+    if posted != Step::On {
+        return posted;
     }
     took
 }
@@ -69,8 +69,7 @@ pub(crate) fn sell<O: MailBrand, P: MailBrand, H: MailBrand, R: Wait, G: Gate>(
     requires own { worker.shard.shard ≡ number }
     requires shards { worker.shard.person_shards ≡ run.now.task.limits.now.shards }
     requires known { number < run.now.task.limits.now.shards }
-    ensures { IsObjectWork run.now.task.eps O.room P.room H.room worker.shard worker.seats.objects worker.seats.persons worker.seats.hub
-        result.shard result.seats.objects result.seats.persons result.seats.hub result.why }
+    ensures { IsObjectWork run.now.task.eps (rooms O.room P.room H.room) (seller_of worker) (sold_of result) result.why }
 {
     let mut worker = worker;
     let mut said = ArrayVec::new();

@@ -4,7 +4,8 @@ ghost use Rattle.std.specs.Prelude.{◌≡◌, ◌<◌, ◌≤◌, [], vec_len, 
 ghost use Rattle.auc_persons.specs.Candidates.{Kept};
 ghost use Rattle.auc_phases.specs.Shards.{IsPersonShard};
 ghost use Rattle.auc_threads.specs.Placed.{Placed};
-ghost use Rattle.auc_threads.specs.Starts.{IsBuyerStart, IsPersonPromise, IsPersonResult};
+ghost use Rattle.auc_threads.specs.Starts.{AreBuyers, HaveBought, IsPersonPromise};
+ghost use Rattle.auc_threads.specs.Worker.{rooms, setting_of};
 
 use crate::gate::Gate;
 use crate::person_worker::{PersonWork, PersonWorker, buy};
@@ -25,9 +26,9 @@ pub(crate) struct Bought<O: MailBrand, P: MailBrand, H: MailBrand> {
 
 impl<O: MailBrand, P: MailBrand, H: MailBrand> Promise<PersonWork<O, P, H>> for Bought<O, P, H> {
     ghost use Rattle.auc_threads.specs.Starts.{IsPersonWork};
+    ghost use Rattle.auc_threads.specs.Worker.{bought_of, buyer_of, rooms};
 
-    ghost kept_by = { λ p r. IsPersonWork p.rows.value p.eps O.room P.room H.room p.start.value.buyer.shard p.start.value.seats.objects
-        p.start.value.seats.persons p.start.value.seats.hub r.shard r.seats.objects r.seats.persons r.seats.hub r.why };
+    ghost kept_by = { λ p r. IsPersonWork p.rows.value p.eps (rooms O.room P.room H.room) (buyer_of p.start.value) (bought_of r) r.why };
 }
 
 /// Starts a thread for each shard of the persons. False where one couldn't be started; then no more are.
@@ -48,12 +49,10 @@ pub(crate) fn start_persons<
     handles: &mut Vec<PromisedHandle<PersonWork<O, P, H>, Bought<O, P, H>>>,
 ) -> bool
     requires many { vec_len starts ≡ run.now.task.limits.now.shards }
-    requires starts { Placed (λ k x. IsBuyerStart run.now.task k x.buyer.shard x.buyer.lists x.seats.objects x.seats.persons x.seats.hub) 0
-        starts.items }
+    requires starts { AreBuyers (setting_of run.now.task) starts.items }
     requires none { handles.old.items ≡ [] }
     requires room { vec_len starts ≤ vec_capacity handles.old }
-    ensures promised { Placed (λ k h. IsPersonPromise run.now.task k h.promise.eps h.promise.rows.value h.promise.start.value.buyer.shard
-        h.promise.start.value.seats.objects h.promise.start.value.seats.persons h.promise.start.value.seats.hub) 0 handles.new.items }
+    ensures promised { Placed (λ k h. IsPersonPromise (setting_of run.now.task) k h.promise) 0 handles.new.items }
     ensures few { vec_len handles.new ≤ run.now.task.limits.now.shards }
     ensures all { IsTrue result → vec_len handles.new ≡ run.now.task.limits.now.shards }
 {
@@ -90,13 +89,11 @@ pub(crate) fn join_persons<
     handles: Vec<PromisedHandle<PersonWork<O, P, H>, Bought<O, P, H>>>,
     works: &mut Vec<PersonWork<O, P, H>>,
 )
-    requires promised { Placed (λ k h. IsPersonPromise task.now k h.promise.eps h.promise.rows.value h.promise.start.value.buyer.shard
-        h.promise.start.value.seats.objects h.promise.start.value.seats.persons h.promise.start.value.seats.hub) 0 handles.items }
+    requires promised { Placed (λ k h. IsPersonPromise (setting_of task.now) k h.promise) 0 handles.items }
     requires none { works.old.items ≡ [] }
     requires room { vec_len handles ≤ vec_capacity works.old }
     ensures many { vec_len works.new ≡ vec_len handles }
-    ensures works { Placed (λ k r. IsPersonResult task.now O.room P.room H.room k r.shard r.seats.objects r.seats.persons r.seats.hub r.why)
-        0 works.new.items }
+    ensures works { HaveBought (setting_of task.now) (rooms O.room P.room H.room) works.new.items }
 {
     for handle in handles {
         works.push_reserved(handle.join(rt));

@@ -7,6 +7,7 @@ ghost use Rattle.auc_phases.specs.Shards.{IsPersonShard};
 ghost use Rattle.auc_threads.specs.Buying.{Buys};
 ghost use Rattle.auc_threads.specs.Hearing.{Hears, SomebodyStuck};
 ghost use Rattle.auc_threads.specs.Starts.{IsPersonWork};
+ghost use Rattle.auc_threads.specs.Worker.{bought_of, buyer_of, rooms};
 
 use crate::bidding::{Buyer, ask_all};
 use crate::calls::{BATCH, Step, send};
@@ -53,8 +54,8 @@ fn serve<O: MailBrand, P: MailBrand, H: MailBrand, R: Wait, G: Gate>(
     ensures kept { Kept run.now.task.rows.now worker.new.buyer.shard.copies worker.new.buyer.lists }
     ensures hears { Hears P.room number worker.old.buyer.shard worker.old.seats.persons worker.new.buyer.shard worker.new.seats.persons
         (result ≡ Step.Stop Why.Fell) }
-    ensures buys { Buys run.now.task.rows.now run.now.task.eps O.room P.room number worker.old.buyer.shard worker.old.seats.objects
-        worker.old.seats.persons worker.new.buyer.shard worker.new.seats.objects worker.new.seats.persons result }
+    ensures buys { Buys run.now.task.rows.now run.now.task.eps (rooms O.room P.room H.room) number (buyer_of worker.old)
+        (buyer_of worker.new) result }
     ensures hub { worker.new.seats.hub ≡ worker.old.seats.hub }
     ensures stuck { result ≡ Step.Stop Why.Stuck → SomebodyStuck run.now.task.rows.now }
 {
@@ -84,8 +85,8 @@ pub(crate) fn buy<O: MailBrand, P: MailBrand, H: MailBrand, R: Wait, G: Gate>(
     requires shard { IsPersonShard run.now.task.rows.now run.now.task.limits.now.shards number worker.buyer.shard }
     requires kept { Kept run.now.task.rows.now worker.buyer.shard.copies worker.buyer.lists }
     requires known { number < run.now.task.limits.now.shards }
-    ensures { IsPersonWork run.now.task.rows.now run.now.task.eps O.room P.room H.room worker.buyer.shard worker.seats.objects
-        worker.seats.persons worker.seats.hub result.shard result.seats.objects result.seats.persons result.seats.hub result.why }
+    ensures { IsPersonWork run.now.task.rows.now run.now.task.eps (rooms O.room P.room H.room) (buyer_of worker) (bought_of result)
+        result.why }
 {
     let mut worker = worker;
     let mut bids = ArrayVec::new();

@@ -1,14 +1,12 @@
 //! One phase in threads, on new mails.
 
-ghost use Rattle.std.specs.Prelude.{ℕ, ◌≡◌, ◌*◌, length, IfOk, vec_len};
+ghost use Rattle.std.specs.Prelude.{ℕ, ◌≡◌, length, IfOk};
 ghost use Rattle.auc_letters.specs.Price.{IsEps};
-ghost use Rattle.auc_book.specs.Seat.{new_account};
 ghost use Rattle.auc_phases.specs.Begins.{ArePrices};
-ghost use Rattle.auc_threads.specs.Counting.{Closes, Counts};
-ghost use Rattle.auc_threads.specs.Naming.{AreThreadLimits, IsNamed, IsUnopened, hub_nodes, objects_nodes, persons_nodes, workers_of};
+ghost use Rattle.auc_threads.specs.Naming.{AreNamed, AreThreadLimits, IsUnopened, numbers, workers_of};
 ghost use Rattle.auc_threads.specs.Phase.{IsPhase};
-ghost use Rattle.auc_threads.specs.Placed.{Placed};
-ghost use Rattle.auc_threads.specs.Starts.{IsObjectResult, IsPersonResult};
+ghost use Rattle.auc_threads.specs.Starts.{AreWorks};
+ghost use Rattle.auc_threads.specs.Worker.{rooms, setting_of};
 
 use crate::error::RunError;
 use crate::gate::Gate;
@@ -48,22 +46,9 @@ fn finish<O: MailBrand, P: MailBrand, H: MailBrand>(
     mails: Mails<O, P, H>,
     works: Works<O, P, H>,
 ) -> Result<PhaseEnd, RunError>
-    requires persons { Placed (λ k w. IsPersonResult task.now O.room P.room H.room k w.shard w.seats.objects w.seats.persons w.seats.hub
-        w.why) 0 works.persons.items }
-    requires persons_many { vec_len works.persons ≡ task.now.limits.now.shards }
-    requires objects { Placed (λ k w. IsObjectResult task.now O.room P.room H.room k w.shard w.seats.objects w.seats.persons w.seats.hub
-        w.why) 0 works.objects.items }
-    requires objects_many { vec_len works.objects ≡ task.now.limits.now.shards }
-    requires counts { Counts H.room (length task.now.rows.now.rows) (new_account (2 * task.now.limits.now.shards)) works.hub.is_all
-        works.hub.why works.hub.seats.hub }
-    requires hub_objects { Closes O.room O.boxes (new_account (2 * task.now.limits.now.shards)) works.hub.seats.objects }
-    requires hub_persons { Closes P.room P.boxes (new_account (2 * task.now.limits.now.shards)) works.hub.seats.persons }
-    requires objects_name { IsNamed O.boxes O.workers O.nodes O.most O.room task.now.limits.now.shards
-        (objects_nodes task.now.limits.now (length task.now.rows.now.rows)) task.now.limits.now }
-    requires persons_name { IsNamed P.boxes P.workers P.nodes P.most P.room task.now.limits.now.shards
-        (persons_nodes task.now.limits.now (length task.now.rows.now.rows)) task.now.limits.now }
-    requires hub_name { IsNamed H.boxes H.workers H.nodes H.most H.room 1 (hub_nodes task.now.limits.now (length task.now.rows.now.rows))
-        task.now.limits.now }
+    requires works { AreWorks (setting_of task.now) (rooms O.room P.room H.room) works }
+    requires names { AreNamed task.now.limits.now (length task.now.rows.now.rows) (numbers O.boxes O.workers O.nodes O.most O.room)
+        (numbers P.boxes P.workers P.nodes P.most P.room) (numbers H.boxes H.workers H.nodes H.most H.room) }
     ensures { IfOk result (IsPhase task.now.rows.now task.now.limits.now task.now.eps task.now.prices.now) }
 {
     let shards = task.limits.shards;
@@ -92,12 +77,8 @@ fn named_phase<
     requires objects_ledger { IsUnopened ledgers.objects.name O.name ledgers.objects.parts O.parts (workers_of task.now.limits.now.shards) }
     requires persons_ledger { IsUnopened ledgers.persons.name P.name ledgers.persons.parts P.parts (workers_of task.now.limits.now.shards) }
     requires hub_ledger { IsUnopened ledgers.hub.name H.name ledgers.hub.parts H.parts (workers_of task.now.limits.now.shards) }
-    requires objects_name { IsNamed O.boxes O.workers O.nodes O.most O.room task.now.limits.now.shards
-        (objects_nodes task.now.limits.now (length task.now.rows.now.rows)) task.now.limits.now }
-    requires persons_name { IsNamed P.boxes P.workers P.nodes P.most P.room task.now.limits.now.shards
-        (persons_nodes task.now.limits.now (length task.now.rows.now.rows)) task.now.limits.now }
-    requires hub_name { IsNamed H.boxes H.workers H.nodes H.most H.room 1 (hub_nodes task.now.limits.now (length task.now.rows.now.rows))
-        task.now.limits.now }
+    requires names { AreNamed task.now.limits.now (length task.now.rows.now.rows) (numbers O.boxes O.workers O.nodes O.most O.room)
+        (numbers P.boxes P.workers P.nodes P.most P.room) (numbers H.boxes H.workers H.nodes H.most H.room) }
     ensures { IfOk result (IsPhase task.now.rows.now task.now.limits.now task.now.eps task.now.prices.now) }
 {
     let (mails, seats) = Mails::<O, P, H>::make(alloc, task.rows.persons(), task.limits, ledgers)?;

@@ -1,10 +1,11 @@
 //! One phase in threads: a thread for each shard, and the hub on the caller's.
 
-ghost use Rattle.std.specs.Prelude.{◌≡◌, ◌<◌, ◌≤◌, ◌*◌, [], length, IfOk, IsTrue, vec_capacity, vec_len};
+ghost use Rattle.std.specs.Prelude.{◌≡◌, ◌<◌, ◌≤◌, [], IfOk, IsTrue, vec_capacity, vec_len};
 ghost use Rattle.auc_threads.specs.Naming.{workers_of};
 ghost use Rattle.auc_threads.specs.Counting.{Closes, Counts};
 ghost use Rattle.auc_threads.specs.Placed.{Placed};
-ghost use Rattle.auc_threads.specs.Starts.{AreNewSeats, IsBuyerStart, IsObjectPromise, IsObjectResult, IsObjectStart, IsPersonPromise, IsPersonResult};
+ghost use Rattle.auc_threads.specs.Starts.{AreBuyers, AreSellers, AreStarts, AreWorks, IsObjectPromise, IsPersonPromise};
+ghost use Rattle.auc_threads.specs.Worker.{AreNewSeats, accounts_of, rooms, setting_of};
 
 use crate::bidding::Buyer;
 use crate::error::RunError;
@@ -46,10 +47,9 @@ fn person_starts<O: MailBrand, P: MailBrand, H: MailBrand>(
     task: &Task,
     seats: Vec<WorkerSeats<O, P, H>>,
 ) -> Result<Vec<PersonWorker<O, P, H>>, AllocError>
-    requires seats { Placed (λ k w. AreNewSeats k w.objects w.persons w.hub) 0 seats.items }
+    requires seats { Placed (λ k w. AreNewSeats k (accounts_of w)) 0 seats.items }
     requires many { vec_len seats ≡ task.now.limits.now.shards }
-    ensures starts { IfOk result (λ v. Placed (λ k x. IsBuyerStart task.now k x.buyer.shard x.buyer.lists x.seats.objects x.seats.persons
-        x.seats.hub) 0 v.items) }
+    ensures starts { IfOk result (λ v. AreBuyers (setting_of task.now) v.items) }
     ensures many { IfOk result (λ v. vec_len v ≡ task.now.limits.now.shards) }
 {
     let shards = task.limits.shards;
@@ -73,10 +73,9 @@ fn object_starts<O: MailBrand, P: MailBrand, H: MailBrand>(
     task: &Task,
     seats: Vec<WorkerSeats<O, P, H>>,
 ) -> Result<Vec<ObjectWorker<O, P, H>>, AllocError>
-    requires seats { Placed (λ k w. AreNewSeats k w.objects w.persons w.hub) task.now.limits.now.shards seats.items }
+    requires seats { Placed (λ k w. AreNewSeats k (accounts_of w)) task.now.limits.now.shards seats.items }
     requires many { vec_len seats ≡ task.now.limits.now.shards }
-    ensures starts { IfOk result (λ v. Placed (λ k x. IsObjectStart task.now k x.shard x.seats.objects x.seats.persons x.seats.hub) 0
-        v.items) }
+    ensures starts { IfOk result (λ v. AreSellers (setting_of task.now) v.items) }
     ensures many { IfOk result (λ v. vec_len v ≡ task.now.limits.now.shards) }
 {
     let shards = task.limits.shards;
@@ -97,15 +96,9 @@ pub(crate) fn starts_of<O: MailBrand, P: MailBrand, H: MailBrand>(
     task: &Task,
     seats: Vec<WorkerSeats<O, P, H>>,
 ) -> Result<Starts<O, P, H>, AllocError>
-    requires seats { Placed (λ k w. AreNewSeats k w.objects w.persons w.hub) 0 seats.items }
+    requires seats { Placed (λ k w. AreNewSeats k (accounts_of w)) 0 seats.items }
     requires many { vec_len seats ≡ workers_of task.now.limits.now.shards }
-    ensures persons { IfOk result (λ r. Placed (λ k x. IsBuyerStart task.now k x.buyer.shard x.buyer.lists x.seats.objects x.seats.persons
-        x.seats.hub) 0 r.persons.items) }
-    ensures persons_many { IfOk result (λ r. vec_len r.persons ≡ task.now.limits.now.shards) }
-    ensures objects { IfOk result (λ r. Placed (λ k x. IsObjectStart task.now k x.shard x.seats.objects x.seats.persons x.seats.hub) 0
-        r.objects.items) }
-    ensures objects_many { IfOk result (λ r. vec_len r.objects ≡ task.now.limits.now.shards) }
-    ensures hub { IfOk result (λ r. AreNewSeats (2 * task.now.limits.now.shards) r.hub.objects r.hub.persons r.hub.hub) }
+    ensures { IfOk result (AreStarts (setting_of task.now)) }
 {
     let mut seats = seats;
     let Some(hub) = seats.pop() else {
@@ -165,22 +158,17 @@ fn start_all<
     person_handles: &mut Vec<PromisedHandle<PersonWork<O, P, H>, Bought<O, P, H>>>,
     object_handles: &mut Vec<PromisedHandle<ObjectWork<O, P, H>, Sold<O, P, H>>>,
 ) -> bool
-    requires persons { Placed (λ k x. IsBuyerStart run.now.task k x.buyer.shard x.buyer.lists x.seats.objects x.seats.persons x.seats.hub) 0
-        persons.items }
+    requires persons { AreBuyers (setting_of run.now.task) persons.items }
     requires persons_many { vec_len persons ≡ run.now.task.limits.now.shards }
     requires persons_none { person_handles.old.items ≡ [] }
     requires persons_room { vec_len persons ≤ vec_capacity person_handles.old }
-    requires objects { Placed (λ k x. IsObjectStart run.now.task k x.shard x.seats.objects x.seats.persons x.seats.hub) 0 objects.items }
+    requires objects { AreSellers (setting_of run.now.task) objects.items }
     requires objects_many { vec_len objects ≡ run.now.task.limits.now.shards }
     requires objects_none { object_handles.old.items ≡ [] }
     requires objects_room { vec_len objects ≤ vec_capacity object_handles.old }
-    ensures persons { Placed (λ k h. IsPersonPromise run.now.task k h.promise.eps h.promise.rows.value h.promise.start.value.buyer.shard
-        h.promise.start.value.seats.objects h.promise.start.value.seats.persons h.promise.start.value.seats.hub) 0
-        person_handles.new.items }
+    ensures persons { Placed (λ k h. IsPersonPromise (setting_of run.now.task) k h.promise) 0 person_handles.new.items }
     ensures persons_few { vec_len person_handles.new ≤ run.now.task.limits.now.shards }
-    ensures objects { Placed (λ k h. IsObjectPromise run.now.task k h.promise.eps h.promise.start.value.shard
-        h.promise.start.value.seats.objects h.promise.start.value.seats.persons h.promise.start.value.seats.hub) 0
-        object_handles.new.items }
+    ensures objects { Placed (λ k h. IsObjectPromise (setting_of run.now.task) k h.promise) 0 object_handles.new.items }
     ensures objects_few { vec_len object_handles.new ≤ run.now.task.limits.now.shards }
     ensures persons_all { IsTrue result → vec_len person_handles.new ≡ run.now.task.limits.now.shards }
     ensures objects_all { IsTrue result → vec_len object_handles.new ≡ run.now.task.limits.now.shards }
@@ -209,22 +197,8 @@ fn run_all<
     run: &'e PhaseRun<'e, O, P, H>,
     starts: Starts<O, P, H>,
 ) -> Result<Works<O, P, H>, RunError>
-    requires persons { Placed (λ k x. IsBuyerStart run.now.task k x.buyer.shard x.buyer.lists x.seats.objects x.seats.persons x.seats.hub) 0
-        starts.persons.items }
-    requires persons_many { vec_len starts.persons ≡ run.now.task.limits.now.shards }
-    requires objects { Placed (λ k x. IsObjectStart run.now.task k x.shard x.seats.objects x.seats.persons x.seats.hub) 0
-        starts.objects.items }
-    requires objects_many { vec_len starts.objects ≡ run.now.task.limits.now.shards }
-    ensures persons { IfOk result (λ r. Placed (λ k w. IsPersonResult run.now.task O.room P.room H.room k w.shard w.seats.objects
-        w.seats.persons w.seats.hub w.why) 0 r.persons.items) }
-    ensures persons_many { IfOk result (λ r. vec_len r.persons ≡ run.now.task.limits.now.shards) }
-    ensures objects { IfOk result (λ r. Placed (λ k w. IsObjectResult run.now.task O.room P.room H.room k w.shard w.seats.objects
-        w.seats.persons w.seats.hub w.why) 0 r.objects.items) }
-    ensures objects_many { IfOk result (λ r. vec_len r.objects ≡ run.now.task.limits.now.shards) }
-    ensures counts { IfOk result (λ r. Counts H.room (length run.now.task.rows.now.rows) starts.hub.hub r.hub.is_all r.hub.why
-        r.hub.seats.hub) }
-    ensures hub_objects { IfOk result (λ r. Closes O.room O.boxes starts.hub.objects r.hub.seats.objects) }
-    ensures hub_persons { IfOk result (λ r. Closes P.room P.boxes starts.hub.persons r.hub.seats.persons) }
+    requires { AreStarts (setting_of run.now.task) starts }
+    ensures { IfOk result (AreWorks (setting_of run.now.task) (rooms O.room P.room H.room)) }
 {
     let shards = run.task.limits.shards as usize;
     let persons_count = run.task.rows.persons();
@@ -274,43 +248,15 @@ pub(crate) fn run_in_scope<
     run: &PhaseRun<'_, O, P, H>,
     starts: Starts<O, P, H>,
 ) -> Result<Works<O, P, H>, RunError>
-    requires persons { Placed (λ k x. IsBuyerStart run.now.task k x.buyer.shard x.buyer.lists x.seats.objects x.seats.persons x.seats.hub) 0
-        starts.persons.items }
-    requires persons_many { vec_len starts.persons ≡ run.now.task.limits.now.shards }
-    requires objects { Placed (λ k x. IsObjectStart run.now.task k x.shard x.seats.objects x.seats.persons x.seats.hub) 0
-        starts.objects.items }
-    requires objects_many { vec_len starts.objects ≡ run.now.task.limits.now.shards }
-    ensures persons { IfOk result (λ r. Placed (λ k w. IsPersonResult run.now.task O.room P.room H.room k w.shard w.seats.objects
-        w.seats.persons w.seats.hub w.why) 0 r.persons.items) }
-    ensures persons_many { IfOk result (λ r. vec_len r.persons ≡ run.now.task.limits.now.shards) }
-    ensures objects { IfOk result (λ r. Placed (λ k w. IsObjectResult run.now.task O.room P.room H.room k w.shard w.seats.objects
-        w.seats.persons w.seats.hub w.why) 0 r.objects.items) }
-    ensures objects_many { IfOk result (λ r. vec_len r.objects ≡ run.now.task.limits.now.shards) }
-    ensures counts { IfOk result (λ r. Counts H.room (length run.now.task.rows.now.rows) starts.hub.hub r.hub.is_all r.hub.why
-        r.hub.seats.hub) }
-    ensures hub_objects { IfOk result (λ r. Closes O.room O.boxes starts.hub.objects r.hub.seats.objects) }
-    ensures hub_persons { IfOk result (λ r. Closes P.room P.boxes starts.hub.persons r.hub.seats.persons) }
+    requires { AreStarts (setting_of run.now.task) starts }
+    ensures { IfOk result (AreWorks (setting_of run.now.task) (rooms O.room P.room H.room)) }
 {
     thread::scope(
         thread::scope_env(),
         rt,
         |scope| -> Result<Works<O, P, H>, RunError>
-            requires persons { Placed (λ k x. IsBuyerStart run.now.task k x.buyer.shard x.buyer.lists x.seats.objects x.seats.persons
-                x.seats.hub) 0 starts.persons.items }
-            requires persons_many { vec_len starts.persons ≡ run.now.task.limits.now.shards }
-            requires objects { Placed (λ k x. IsObjectStart run.now.task k x.shard x.seats.objects x.seats.persons x.seats.hub) 0
-                starts.objects.items }
-            requires objects_many { vec_len starts.objects ≡ run.now.task.limits.now.shards }
-            ensures persons { IfOk result (λ r. Placed (λ k w. IsPersonResult run.entry.now.task O.room P.room H.room k w.shard
-                w.seats.objects w.seats.persons w.seats.hub w.why) 0 r.persons.items) }
-            ensures persons_many { IfOk result (λ r. vec_len r.persons ≡ run.entry.now.task.limits.now.shards) }
-            ensures objects { IfOk result (λ r. Placed (λ k w. IsObjectResult run.entry.now.task O.room P.room H.room k w.shard
-                w.seats.objects w.seats.persons w.seats.hub w.why) 0 r.objects.items) }
-            ensures objects_many { IfOk result (λ r. vec_len r.objects ≡ run.entry.now.task.limits.now.shards) }
-            ensures counts { IfOk result (λ r. Counts H.room (length run.entry.now.task.rows.now.rows) starts.hub.hub r.hub.is_all r.hub.why
-                r.hub.seats.hub) }
-            ensures hub_objects { IfOk result (λ r. Closes O.room O.boxes starts.hub.objects r.hub.seats.objects) }
-            ensures hub_persons { IfOk result (λ r. Closes P.room P.boxes starts.hub.persons r.hub.seats.persons) }
+            requires { AreStarts (setting_of run.now.task) starts }
+            ensures { IfOk result (AreWorks (setting_of run.entry.now.task) (rooms O.room P.room H.room)) }
         { run_all(scope, alloc, rt, gate, run, starts) },
     )
 }

@@ -12,7 +12,7 @@ use auc_letters::{Letter, Why};
 use std::sync::Wait;
 
 /// Tells the hub why a worker stops; where that can't be posted, for whatever reason, closes the hub's box.
-fn tell_stop<N: MailBrand, R: Wait, G: Gate>(
+fn post_stop<N: MailBrand, R: Wait, G: Gate>(
     rt: &R,
     gate: &G,
     mail: &SharedMail<Letter, N>,
@@ -43,7 +43,7 @@ pub(crate) fn end<N: MailBrand, R: Wait, G: Gate>(
 {
     match step {
         Step::Stop { why } => {
-            tell_stop(rt, gate, mail, seat, why);
+            post_stop(rt, gate, mail, seat, why);
             Some(why)
         }
         _ => None,

@@ -1,6 +1,6 @@
 //! The last phase before its turn: where the first phase took few bids it ends the run, or is given up. And a run that ends before it comes, since prices were refined.
 
-ghost use Rattle.std.specs.Prelude.{false, ◌≤◌};
+ghost use Rattle.std.specs.Prelude.{false, true, ◌≤◌};
 
 use crate::texts::{AMPLE, problem_of, text_of};
 use auc_direct::{Progress, Watch, solve_direct_watched};
@@ -22,6 +22,8 @@ struct Ear {
 
 impl Watch for Ear {
     ghost has_stopped = { λ _. false };
+
+    ghost was_asked = { λ _. true };
 
     fn has_said_no(&self) -> bool {
         false

@@ -1,5 +1,7 @@
 //! Solves that somebody watches.
 
+ghost use Rattle.std.specs.Prelude.{true};
+
 use crate::texts::{AMPLE, problem_of, text_of};
 use auc_direct::{Progress, Watch, may_start, solve_direct_watched, solve_direct_watched_from};
 use std::test::*;
@@ -20,6 +22,8 @@ struct Patience {
 
 impl Watch for Patience {
     ghost has_stopped = { λ p. p.has_stopped };
+
+    ghost was_asked = { λ _. true };
 
     fn has_said_no(&self) -> bool {
         self.has_stopped

@@ -1,7 +1,7 @@
 //! Phases and solves in threads, and their mails: want of memory, or a thread that can't be started.
 
 ghost use Rattle.std.specs.Prelude.{◌≡◌};
-ghost use Rattle.auc_threads.specs.Naming.{AreThreadLimits, IsNamed, IsUnopened, hub_nodes, objects_nodes, persons_nodes, workers_of};
+ghost use Rattle.auc_threads.specs.Naming.{AreNamed, AreThreadLimits, IsUnopened, numbers, workers_of};
 
 use crate::marks::refuse_one;
 use crate::problems::{THREE, problem_of};
@@ -105,9 +105,8 @@ fn seated<O: MailBrand, P: MailBrand, H: MailBrand>(
     requires objects_ledger { IsUnopened ledgers.objects.name O.name ledgers.objects.parts O.parts (workers_of limits.now.shards) }
     requires persons_ledger { IsUnopened ledgers.persons.name P.name ledgers.persons.parts P.parts (workers_of limits.now.shards) }
     requires hub_ledger { IsUnopened ledgers.hub.name H.name ledgers.hub.parts H.parts (workers_of limits.now.shards) }
-    requires objects_name { IsNamed O.boxes O.workers O.nodes O.most O.room limits.now.shards (objects_nodes limits.now 2) limits.now }
-    requires persons_name { IsNamed P.boxes P.workers P.nodes P.most P.room limits.now.shards (persons_nodes limits.now 2) limits.now }
-    requires hub_name { IsNamed H.boxes H.workers H.nodes H.most H.room 1 (hub_nodes limits.now 2) limits.now }
+    requires names { AreNamed limits.now 2 (numbers O.boxes O.workers O.nodes O.most O.room)
+        (numbers P.boxes P.workers P.nodes P.most P.room) (numbers H.boxes H.workers H.nodes H.most H.room) }
 {
     let (_mails, seats) = Mails::<O, P, H>::make(alloc, 2, limits, ledgers)?;
     Ok(seats.len())

@@ -1,4 +1,4 @@
-use Rattle.std.proofs.Common.{ap, inr, refl, ◌∙◌}
+use Rattle.std.proofs.Common.{ap, inl, inr, refl, ◌∙◌}
 use Rattle.auc_direct.specs.Bids.{state_of}
 use Rattle.auc_direct.specs.Phases.{IsAdopted}
 use Rattle.auc_direct.specs.Position.{Position}
@@ -61,3 +61,17 @@ returns-clause-outcome g c =
     let tried = rw c.in_default.is at c.in_ok-ending.ensures.tried in
     let over = over_before bids before between after c.in_ok-ending-3.ending a b d (rw c.in_default.is at c.in_ok-ending.ensures.going) (plays_tried bids a b tried) c.in_ok-ending-3.ensures.over in
     outcome_of c.args.rows.now bids before after c.in_ok-ending-3.ending c.args.holdings.prices.items a d c.into_holdings-2.result.prices.items c.into_holdings-2.result.holders.items c.into_holdings-2.result.owns.items (ap (λ (p : Position). p.table) e) (ap (λ (p : Position). p.prices) e) over c.into_holdings-2.ensures
+
+-- ---- who watches was asked
+
+pub returns-in-Some-clause-asked : goal.returns-in-Some-clause-asked
+returns-in-Some-clause-asked g c = inl (rw c.in-Some.is at c.in_ok-ending.ensures.asked)
+
+pub returns-in-Some-2-clause-asked : goal.returns-in-Some-2-clause-asked
+returns-in-Some-2-clause-asked g c = inr (rw c.in-Some-2.is at c.in_ok-holdings.ensures.full)
+
+pub returns-then-persons-objects-clause-asked : goal.returns-then-persons-objects-clause-asked
+returns-then-persons-objects-clause-asked g c = inl c.in_ok-ending-2.ensures.asked
+
+pub returns-clause-asked : goal.returns-clause-asked
+returns-clause-asked g c = inl c.in_ok-ending-3.ensures.asked

@@ -1,8 +1,8 @@
 use Rattle.std.proofs.Common.{◌≡◌, inr}
 use Rattle.auc_answers.specs.Answers.{IsAnswer, IsInfeasibleAnswer}
 use Rattle.auc_graph.specs.Assignment.{total}
-use Rattle.auc_direct.specs.Endings.{IsLimited, IsLimitedUnless, IsOfPhases, IsStopped}
-use Rattle.auc_direct.proofs.Answering.{limit_or_told, none_is_answer, none_is_limited, none_of_phases, of_answers}
+use Rattle.auc_direct.specs.Endings.{IsAsked, IsLimited, IsLimitedUnless, IsOfPhases, IsStopped}
+use Rattle.auc_direct.proofs.Answering.{is_asked, limit_or_told, none_asked, none_is_answer, none_is_limited, none_of_phases, of_answers}
 use Rattle.auc_direct.proofs.solving.concluded.Goals as goal
 
 pub answer_of-requires-clause-left : goal.answer_of-requires-clause-left
@@ -34,4 +34,13 @@ pub returns-in-Ok-clause-run : goal.returns-in-Ok-clause-run
 returns-in-Ok-clause-run c = λ bids begun before after ended. (
     let o = rw c.in-Ok.is at ended in
     c.answer_of.ensures.run bids begun o.run
+    )
+
+pub returns-in-Err-clause-asked : goal.returns-in-Err-clause-asked
+returns-in-Err-clause-asked c = λ asked _. of_answers (IsInfeasibleAnswer c.args.problem.now) (IsAsked asked c.args.problem.now) c.halted.result (none_asked asked c.args.problem.now) c.halted.ensures
+
+pub returns-in-Ok-clause-asked : goal.returns-in-Ok-clause-asked
+returns-in-Ok-clause-asked c = λ asked ended. (
+    let p = c.args.problem.now in
+    of_answers (IsAnswer p) (IsAsked asked p) c.answer_of.result (λ a _. is_asked asked p c.args.flat c.requires.rows (rw c.in-Ok.is at ended) a) c.answer_of.ensures.is
     )

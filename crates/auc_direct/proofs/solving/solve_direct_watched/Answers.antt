@@ -2,7 +2,7 @@ use Rattle.std.proofs.Common.{◌≡◌, inr, length, pos, refl}
 use Rattle.auc_graph.specs.Assignment.{total}
 use Rattle.auc_direct.specs.Endings.{IsLimited, IsLimitedUnless, IsOfFirstPhases, IsOfPhases, IsStart}
 use Rattle.auc_direct.specs.Halts.{IsHalt}
-use Rattle.auc_direct.proofs.Answering.{first_prices, of_answers, of_first}
+use Rattle.auc_direct.proofs.Answering.{first_prices, none_asked, of_answers, of_first}
 use Rattle.auc_direct.proofs.EndingLaws.{limited_earlier_unless, of_halts}
 use Rattle.auc_direct.proofs.Opening.{stands_opened, start_low}
 use Rattle.auc_direct.proofs.solving.solve_direct_watched.Goals as goal
@@ -36,3 +36,9 @@ returns-clause-run g c =
     let begun : IsStart c.in_ok-flat.flat (pos 1) prices = rw c.in_ok-holdings.ensures.prices (c.in_ok-prices.ensures (pos 1) (inr refl)) in
     let first = first_prices p c.in_ok-flat.flat prices c.in_ok-flat.ensures begun in
     of_answers (IsOfPhases p bids prices) (IsOfFirstPhases p bids) c.concluded.result (λ a h. of_first p bids prices a first h) (c.concluded.ensures.run bids prices before after c.run-ended.ensures.outcome)
+
+pub returns-clause-asked : goal.returns-clause-asked
+returns-clause-asked g c = c.concluded.ensures.asked (g.W.Watch.was_asked c.run-ended.new.watch) c.run-ended.ensures.asked
+
+pub returns-in-Some-clause-asked : goal.returns-in-Some-clause-asked
+returns-in-Some-clause-asked g c = none_asked (g.W.Watch.was_asked c.args.watch.now) c.args.problem.now c.in-Some.answer (rw c.in-Some.is at c.in_ok-answer.ensures.some)

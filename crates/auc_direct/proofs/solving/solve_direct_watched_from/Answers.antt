@@ -2,7 +2,7 @@ use Rattle.std.proofs.Common.{◌≡◌}
 use Rattle.auc_graph.specs.Assignment.{total}
 use Rattle.auc_direct.specs.Endings.{IsLimited, IsLimitedFrom, IsLimitedUnless, IsOfPhases, IsOfPhasesFrom}
 use Rattle.auc_direct.specs.Halts.{IsHalt}
-use Rattle.auc_direct.proofs.Answering.{limited_from_unless, of_answers, phases_from}
+use Rattle.auc_direct.proofs.Answering.{limited_from_unless, none_asked, of_answers, phases_from}
 use Rattle.auc_direct.proofs.EndingLaws.{of_halts}
 use Rattle.auc_direct.proofs.solving.solve_direct_watched_from.Goals as goal
 
@@ -32,3 +32,9 @@ returns-clause-run g c =
     of_answers (IsOfPhases p bids begun) (IsOfPhasesFrom p bids start) c.concluded.result
     (λ a h. phases_from p rows.table c.in_ok-flat.flat bids start begun rows.of rows.same c.in_ok-holdings.ensures.opened a h)
     (c.concluded.ensures.run bids begun before after c.run-ended.ensures.outcome)
+
+pub returns-clause-asked : goal.returns-clause-asked
+returns-clause-asked g c = c.concluded.ensures.asked (g.W.Watch.was_asked c.run-ended.new.watch) c.run-ended.ensures.asked
+
+pub returns-in-Some-clause-asked : goal.returns-in-Some-clause-asked
+returns-in-Some-clause-asked g c = none_asked (g.W.Watch.was_asked c.args.watch.now) c.args.problem.now c.in-Some.answer (rw c.in-Some.is at c.in_ok-answer.ensures.some)

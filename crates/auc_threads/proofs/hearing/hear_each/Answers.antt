@@ -2,7 +2,7 @@ use Rattle.std.proofs.Common.{◌≡◌, refl, rules}
 use Rattle.std.specs.Prelude.{Ok}
 use Rattle.auc_mail.specs.declared.call.Taken.{Taken}
 use Rattle.auc_threads.specs.declared.calls.Step.{Step}
-use Rattle.auc_threads.proofs.BuyingLaws.{hearkens_more, listens_empty, listens_none}
+use Rattle.auc_threads.proofs.BuyingLaws.{listens_more, listens_empty, listens_none}
 use Rattle.auc_threads.proofs.HearingLaws.{hears_first, hears_nothing, hears_taken, hears_then}
 use Rattle.auc_threads.proofs.TakingLaws.{took_empty, took_nil, took_take}
 use Rattle.auc_threads.proofs.hearing.hear_each.Goals as goal
@@ -26,7 +26,7 @@ returns-then-ne-clause-hears g c =
 
 pub returns-then-ne-clause-listens : goal.returns-then-ne-clause-listens
 returns-then-ne-clause-listens g c =
-    hearkens_more _ _ _ _ _ _ _ _ _ _ _ _ c.loop.invariant.listens c.take-taken.ensures.seat c.hear-step.ensures.listens c.hear-step.ensures.after
+    listens_more _ _ _ _ _ _ _ _ _ _ _ _ c.loop.invariant.listens c.take-taken.ensures.seat c.hear-step.ensures.listens c.hear-step.ensures.after
 
 pub loop-preserved : goal.loop-preserved
 loop-preserved g c =
@@ -34,5 +34,5 @@ loop-preserved g c =
     record {
       is = c.hear-step.ensures.is;
       hears = hears_then _ _ _ _ _ _ _ _ _ _ c.loop.invariant.hears (hears_first _ _ _ _ _ _ _ _ (λ f. absurd f) (hears_taken _ _ _ _ _ _ _ _ (took_take _ _ _ _ _ c.take-taken.ensures.seat) c.hear-step.ensures.hears));
-      listens = hearkens_more _ _ _ _ _ _ _ _ _ _ _ _ c.loop.invariant.listens c.take-taken.ensures.seat (rw on at c.hear-step.ensures.listens) (rw on at c.hear-step.ensures.after);
+      listens = listens_more _ _ _ _ _ _ _ _ _ _ _ _ c.loop.invariant.listens c.take-taken.ensures.seat (rw on at c.hear-step.ensures.listens) (rw on at c.hear-step.ensures.after);
     }

@@ -25,5 +25,5 @@ loop-handle-preserved g c =
       left = rw pushed.len left.1;
       many = omega (arith, inv.many, step.1, pushed.len);
       room = omega (arith, inv.room, pushed.capacity);
-      works = placed_more _ (vec_len c.loop-handle.works) c.loop-handle.works.items c.push_reserved.new.self.items c.join.result inv.works (search rules) pushed.items (object_result _ _ _ _ _ _ _ _ _ _ _ _ _ _ _ left.0 c.join.ensures);
+      works = placed_more _ (vec_len c.loop-handle.works) c.loop-handle.works.items c.push_reserved.new.self.items c.join.result inv.works (search rules) pushed.items (object_result _ _ _ _ _ _ left.0 c.join.ensures);
     }

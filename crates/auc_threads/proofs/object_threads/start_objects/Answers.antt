@@ -3,7 +3,6 @@ use Rattle.std.specs.Prelude.{FitsSigned}
 use Rattle.std.proofs.lemmas.Int.{to_z-of_z}
 use Rattle.std.specs.Vec.Iter.{into_iter_items}
 use Rattle.auc_threads.proofs.PlacedLaws.{placed_more, placed_uncons}
-use Rattle.auc_threads.proofs.StartsLaws.{object_promised}
 use Rattle.auc_threads.proofs.object_threads.start_objects.Goals as goal
 
 pub loop-start-init : goal.loop-start-init
@@ -31,5 +30,5 @@ loop-start-preserved g c =
       many = omega (arith, inv.many, step.1);
       so_far = omega (arith, inv.so_far, pushed.len);
       room = omega (arith, inv.room, pushed.capacity);
-      promised = placed_more _ c.loop-start.number c.loop-start.handles.items c.push_reserved.new.self.items c.in-Ok.handle inv.promised (search rules) pushed.items (rw (ok, c.of.ensures) (object_promised _ _ _ _ _ _ _ same left.0));
+      promised = placed_more _ c.loop-start.number c.loop-start.handles.items c.push_reserved.new.self.items c.in-Ok.handle inv.promised (search rules) pushed.items (rw (ok, c.of.ensures) (record { at_eps = same; begins = left.0 }));
     }

@@ -5,7 +5,7 @@ use Rattle.std.specs.Vec.Iter.{into_iter_items}
 use Rattle.auc_persons.specs.Candidates.{Kept}
 use Rattle.auc_phases.specs.Shards.{IsPersonShard}
 use Rattle.auc_threads.proofs.PlacedLaws.{placed_more, placed_uncons}
-use Rattle.auc_threads.proofs.StartsLaws.{person_promised, person_shard}
+use Rattle.auc_threads.proofs.StartsLaws.{person_shard}
 use Rattle.auc_threads.proofs.person_threads.start_persons.Goals as goal
 
 pub loop-start-init : goal.loop-start-init
@@ -33,7 +33,7 @@ loop-start-preserved g c =
       many = omega (arith, inv.many, step.1);
       so_far = omega (arith, inv.so_far, pushed.len);
       room = omega (arith, inv.room, pushed.capacity);
-      promised = placed_more _ c.loop-start.number c.loop-start.handles.items c.push_reserved.new.self.items c.in-Ok.handle inv.promised (search rules) pushed.items (rw (ok, c.of.ensures, c.of-in-loop-start.ensures) (person_promised _ _ _ _ _ _ _ _ same refl left.0.begins));
+      promised = placed_more _ c.loop-start.number c.loop-start.handles.items c.push_reserved.new.self.items c.in-Ok.handle inv.promised (search rules) pushed.items (rw (ok, c.of.ensures, c.of-in-loop-start.ensures) (record { at_eps = same; same_table = refl; begins = left.0.begins }));
     }
 
 pub spawn_with-requires-clause-runs : goal.spawn_with-requires-clause-runs
@@ -41,7 +41,7 @@ spawn_with-requires-clause-runs g c =
     let inv = c.loop-start.invariant in
     let step = c.in-Some.ensures.steps in
     let left = placed_uncons _ c.loop-start.number (into_iter_items c.loop-start.start-iterator) c.in-Some.start (into_iter_items c.next.new.self) step.0 inv.left in
-    let shard : IsPersonShard c.args.run.now.task.rows.now c.args.run.now.task.limits.now.shards c.loop-start.number c.in-Some.start.buyer.shard = person_shard _ _ _ _ _ _ c.args.run.now.task.prices_are.each left.0.begins in
+    let shard : IsPersonShard c.args.run.now.task.rows.now c.args.run.now.task.limits.now.shards c.loop-start.number c.in-Some.start.buyer.shard = person_shard _ _ _ c.args.run.now.task.prices_are.each left.0.begins in
     let kept : Kept c.args.run.now.task.rows.now c.in-Some.start.buyer.shard.copies c.in-Some.start.buyer.lists = left.0.kept c.in-Some.start.buyer.shard.copies in
     let known : c.loop-start.number < c.args.run.now.task.limits.now.shards = omega (arith, inv.many, step.1) in
     search rules

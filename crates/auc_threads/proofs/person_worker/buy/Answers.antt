@@ -4,7 +4,7 @@ use Rattle.auc_letters.specs.declared.letter.Why.{Why}
 use Rattle.auc_book.specs.Seat.{Account}
 use Rattle.auc_threads.specs.declared.calls.Step.{Step}
 use Rattle.auc_threads.specs.Posting.{Ends}
-use Rattle.auc_threads.proofs.BuyingLaws.{buys_none, buys_then}
+use Rattle.auc_threads.proofs.BuyingLaws.{buys_apart, buys_none, buys_then}
 use Rattle.auc_threads.proofs.HearingLaws.{hears_first, hears_nothing, hears_then}
 use Rattle.auc_threads.proofs.StepLaws.{why_stop}
 use Rattle.auc_threads.proofs.TakingLaws.{took_nil}
@@ -15,7 +15,7 @@ loop-init g c = record {
   is = c.requires.shard;
   kept = c.requires.kept;
   hears = hears_nothing _ _ _ _ _ _ _ (took_nil _ _ _) refl (λ f. f);
-  buys = buys_none _ _ _ _ _ _ _ _;
+  buys = buys_none _ _ _ _ _;
   hub = refl;
 }
 
@@ -27,7 +27,7 @@ loop-preserved g c =
       is = c.serve-step.ensures.is;
       kept = c.serve-step.ensures.kept;
       hears = hears_then _ _ _ _ _ _ _ _ _ _ inv.hears (hears_first _ _ _ _ _ _ _ _ (λ f. absurd f) c.serve-step.ensures.hears);
-      buys = buys_then _ _ _ _ _ _ _ _ _ _ _ _ _ _ _ inv.buys (rw on at c.serve-step.ensures.buys);
+      buys = buys_then _ _ _ _ _ _ _ _ inv.buys (rw on at c.serve-step.ensures.buys);
       hub = c.serve-step.ensures.hub ∙ inv.hub;
     }
 
@@ -37,7 +37,7 @@ returns-then-ne g c =
     let inv = c.loop.invariant in
     record {
       step = c.serve-step.result;
-      buys = rw (← c.requires.shard.number) at (buys_then _ _ _ _ _ _ _ _ _ _ _ _ _ _ _ inv.buys c.serve-step.ensures.buys);
+      buys = rw (← c.requires.shard.number) at (buys_apart _ _ _ _ _ _ c.end-why.new.seat _ (buys_then _ _ _ _ _ _ _ _ inv.buys c.serve-step.ensures.buys));
       ended = ne;
       ends = subst (λ (x : Account Letter). Ends g.H.MailBrand.room x c.serve-step.result c.end-why.new.seat) (c.serve-step.ensures.hub ∙ inv.hub) c.end-why.ensures.ends;
       why_is = c.end-why.ensures.why;

@@ -1,7 +1,13 @@
-use Rattle.std.proofs.Common.{rules, arith}
+use Rattle.std.proofs.Common.{◌≡◌, ◌+◌, rules, arith}
 use Rattle.std.specs.Vec.Iter.{into_iter_items}
 use Rattle.auc_threads.proofs.PlacedLaws.{placed_more, placed_then}
 use Rattle.auc_threads.proofs.running.object_starts.Goals as goal
+
+pub loop-seats-init : goal.loop-seats-init
+loop-seats-init g c =
+    let e : into_iter_items c.into_iter-seats-iterator.result ≡ c.args.seats.items = search rules in
+    let same : c.args.task.now.limits.now.shards + 0 ≡ c.args.task.now.limits.now.shards = omega arith in
+    record { left = rw (e, same) c.requires.seats; many = search rules; so_far = search rules; room = search rules; starts = search rules }
 
 pub loop-seats-preserved : goal.loop-seats-preserved
 loop-seats-preserved g c =

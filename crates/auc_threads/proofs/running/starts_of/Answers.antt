@@ -8,7 +8,14 @@ person_starts-requires-clause-seats g c = rw (c.in_ok-object_seats.ensures.items
 pub object_starts-requires-clause-seats : goal.object_starts-requires-clause-seats
 object_starts-requires-clause-seats g c = rw (c.in_ok-object_seats.ensures.tail, c.in-Some.ensures.rest) (placed_rest _ _ c.args.task.now.limits.now.shards (placed_take _ 0 _ _ c.requires.seats))
 
-pub returns-clause-hub : goal.returns-clause-hub
-returns-clause-hub g c =
+pub returns : goal.returns
+returns g c =
     let some : 0 < vec_len c.args.seats = omega (arith, c.requires.many) in
-    placed_got _ c.args.seats.items (vec_len c.args.seats - 1) (2 * c.args.task.now.limits.now.shards) c.in-Some.hub c.requires.seats (search rules) (omega (arith, c.requires.many)) (c.in-Some.ensures.value c.in-Some.hub some)
+    let shards = c.args.task.now.limits.now.shards in
+    record {
+      persons = c.in_ok-persons.ensures.starts;
+      persons_many = c.in_ok-persons.ensures.many;
+      objects = c.in_ok-objects.ensures.starts;
+      objects_many = c.in_ok-objects.ensures.many;
+      hub = placed_got _ c.args.seats.items (vec_len c.args.seats - 1) (2 * shards) c.in-Some.hub c.requires.seats (search rules) (omega (arith, c.requires.many)) (c.in-Some.ensures.value c.in-Some.hub some);
+    }

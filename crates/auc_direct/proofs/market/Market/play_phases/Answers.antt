@@ -58,6 +58,18 @@ returns-then-branch-clause-over g c =
     let two = plays_on c.args.bids c.args.self.now c.play_anew.new.self c.refine.new.self one (plays_refined c.args.bids c.play_anew.new.self c.refine.new.self c.in_ok-refine.ensures.refined) in
     rw c.in-Sold.is (over_refined c.args.bids (g.W.Watch.has_stopped c.args.watch.now) (g.W.Watch.has_stopped c.play_anew.new.watch) c.args.self.now c.refine.new.self (sold ∙ c.loop-played.invariant.asked) c.law-then-branch.ensures two (c.in_ok-refine.ensures.whole c.if-branch.true))
 
+pub returns-in-Stopped-clause-asked : goal.returns-in-Stopped-clause-asked
+returns-in-Stopped-clause-asked g c = rw c.in-Some.is at c.in_ok-played.ensures.asked
+
+pub returns-in_default-next_eps-clause-asked : goal.returns-in_default-next_eps-clause-asked
+returns-in_default-next_eps-clause-asked g c = rw c.in-Some.is at c.in_ok-played.ensures.asked
+
+pub returns-then-branch-clause-asked : goal.returns-then-branch-clause-asked
+returns-then-branch-clause-asked g c = rw c.in-Some.is at c.in_ok-played.ensures.asked
+
+pub returns-in-Some-early-clause-asked : goal.returns-in-Some-early-clause-asked
+returns-in-Some-early-clause-asked g c = rw c.in-Some-early.is at c.in_ok-early.ensures.asked
+
 -- the last phase before its turn
 pub returns-in-Some-early-clause-over : goal.returns-in-Some-early-clause-over
 returns-in-Some-early-clause-over g c =

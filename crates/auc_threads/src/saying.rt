@@ -3,6 +3,7 @@
 ghost use Rattle.std.specs.Prelude.{◌≡◌, ◌<◌, [], ◌∷◌, false, All};
 ghost use Rattle.auc_phases.specs.Boxes.{Reaches};
 ghost use Rattle.auc_threads.specs.Posting.{Says, is_to_hub};
+ghost use Rattle.auc_threads.specs.Worker.{accounts_of, rooms};
 
 use crate::calls::{Step, hold, post, send};
 use crate::gate::Gate;
@@ -30,7 +31,7 @@ fn post_one<O: MailBrand, P: MailBrand, H: MailBrand>(
     requires some { 0 < P.boxes }
     requires reach { Reaches P.boxes out }
     ensures objects { seats.new.objects ≡ seats.old.objects }
-    ensures says { Says P.room H.room seats.old.persons seats.old.hub (out ∷ []) seats.new.persons seats.new.hub result }
+    ensures says { Says (rooms O.room P.room H.room) (accounts_of seats.old) (out ∷ []) (accounts_of seats.new) result }
 {
     if is_to_hub(out.to) {
         return post(hub, &mut seats.hub, out);
@@ -49,7 +50,7 @@ fn post_each<O: MailBrand, P: MailBrand, H: MailBrand>(
     requires some { 0 < P.boxes }
     requires reach { All (Reaches P.boxes) said.now }
     ensures objects { seats.new.objects ≡ seats.old.objects }
-    ensures says { Says P.room H.room seats.old.persons seats.old.hub said.now seats.new.persons seats.new.hub result }
+    ensures says { Says (rooms O.room P.room H.room) (accounts_of seats.old) said.now (accounts_of seats.new) result }
 {
     for out in said {
         let step = post_one(persons, hub, seats, *out);
@@ -74,7 +75,7 @@ fn has_first(said: &[Out]) -> bool
 
 /// Says what is to be said of the bids that were dealt with, in order. The hub's lock is taken only where something goes to it. Then the gate is passed for both
 /// mails before either is locked, and the hub's lock is always taken after the persons'; that one is given up first, since the persons wait for it.
-pub(crate) fn tell<O: MailBrand, P: MailBrand, H: MailBrand, R: Wait, G: Gate>(
+pub(crate) fn say<O: MailBrand, P: MailBrand, H: MailBrand, R: Wait, G: Gate>(
     rt: &R,
     gate: &G,
     run: &PhaseRun<'_, O, P, H>,
@@ -83,7 +84,7 @@ pub(crate) fn tell<O: MailBrand, P: MailBrand, H: MailBrand, R: Wait, G: Gate>(
 ) -> Step
     requires { All (Reaches run.now.task.limits.now.shards) said.now }
     ensures objects { seats.new.objects ≡ seats.old.objects }
-    ensures says { Says P.room H.room seats.old.persons seats.old.hub said.now seats.new.persons seats.new.hub result }
+    ensures says { Says (rooms O.room P.room H.room) (accounts_of seats.old) said.now (accounts_of seats.new) result }
 {
     if !has_first(said) {
         return send(rt, gate, &run.mails.persons, &mut seats.persons, said);

@@ -2,7 +2,7 @@ use Rattle.std.proofs.Common.{◌≡◌, ◌∙◌, false, All, take, sym, subst
 use Rattle.std.proofs.lemmas.List.{take_all, take_more}
 use Rattle.std.proofs.lemmas.List.Elements.{All-push}
 use Rattle.auc_threads.specs.Posting.{is_to_hub}
-use Rattle.auc_threads.proofs.telling.has_first.Goals as goal
+use Rattle.auc_threads.proofs.saying.has_first.Goals as goal
 
 pub loop-out-preserved : goal.loop-out-preserved
 loop-out-preserved c =

@@ -1,0 +1,100 @@
+-- What contracts see of a worker: its shard, and its seats at the three mails; and what a phase is run on.
+use Rattle.std.specs.Prelude.{◌≡◌, ℕ, ◌+◌, ◌*◌, ℤ, List, length}
+use Rattle.auc_graph.specs.Table.{Table}
+use Rattle.auc_letters.specs.declared.letter.Letter.{Letter}
+use Rattle.auc_objects.specs.Objects.{Objects}
+use Rattle.auc_persons.specs.Persons.{Persons}
+use Rattle.auc_book.specs.Seat.{Account, new_account}
+use Rattle.auc_phases.specs.declared.limits.Limits.{Limits}
+use Rattle.auc_phases.specs.Shards.{new_objects, new_persons}
+use Rattle.auc_threads.specs.declared.mails.WorkerSeats.{WorkerSeats}
+use Rattle.auc_threads.specs.declared.object_worker.ObjectWork.{ObjectWork}
+use Rattle.auc_threads.specs.declared.object_worker.ObjectWorker.{ObjectWorker}
+use Rattle.auc_threads.specs.declared.person_worker.PersonWork.{PersonWork}
+use Rattle.auc_threads.specs.declared.person_worker.PersonWorker.{PersonWorker}
+use Rattle.auc_threads.specs.declared.task.Task.{Task}
+
+-- ---- what a phase is run on
+
+pub record Setting : Type 0 where
+  pub table : Table
+  pub limits : Limits
+  pub eps : ℤ
+  pub prices : List ℤ
+
+abbrev pub setting : Table → Limits → ℤ → List ℤ → Setting
+setting t limits eps prices = record { table = t; limits = limits; eps = eps; prices = prices }
+
+abbrev pub setting_of : Task → Setting
+setting_of task = setting task.rows.now task.limits.now task.eps task.prices.now
+
+-- ---- seats
+
+-- what a worker's seats at the three mails tell
+pub record Accounts : Type 0 where
+  pub objects : Account Letter
+  pub persons : Account Letter
+  pub hub : Account Letter
+
+abbrev pub accounts_of : {O P H : Type 0} → WorkerSeats O P H → Accounts
+accounts_of seats = record { objects = seats.objects; persons = seats.persons; hub = seats.hub }
+
+-- those of the worker number k, who has called nothing
+abbrev pub new_accounts : ℕ → Accounts
+new_accounts k = record { objects = new_account k; persons = new_account k; hub = new_account k }
+
+pub record AreNewSeats (k : ℕ) (a : Accounts) : Type 0 where
+  pub objects_seat : a.objects ≡ new_account k
+  pub persons_seat : a.persons ≡ new_account k
+  pub hub_seat : a.hub ≡ new_account k
+
+-- they are the worker's
+pub record AreSeatsOf (k : ℕ) (a : Accounts) : Type 0 where
+  pub objects_seat : a.objects.worker ≡ k
+  pub persons_seat : a.persons.worker ≡ k
+  pub hub_seat : a.hub.worker ≡ k
+
+-- how many lines the trails of the three mails have room for
+pub record Rooms : Type 0 where
+  pub objects : ℕ
+  pub persons : ℕ
+  pub hub : ℕ
+
+abbrev pub rooms : ℕ → ℕ → ℕ → Rooms
+rooms objects persons hub = record { objects = objects; persons = persons; hub = hub }
+
+-- ---- workers
+
+-- a shard of this kind, with its worker's seats
+pub record Worker (S : Type 0) : Type 0 where
+  pub shard : S
+  pub seats : Accounts
+
+abbrev pub buyer_of : {O P H : Type 0} → PersonWorker O P H → Worker Persons
+buyer_of x = record { shard = x.buyer.shard; seats = accounts_of x.seats }
+
+abbrev pub bought_of : {O P H : Type 0} → PersonWork O P H → Worker Persons
+bought_of x = record { shard = x.shard; seats = accounts_of x.seats }
+
+abbrev pub seller_of : {O P H : Type 0} → ObjectWorker O P H → Worker Objects
+seller_of x = record { shard = x.shard; seats = accounts_of x.seats }
+
+abbrev pub sold_of : {O P H : Type 0} → ObjectWork O P H → Worker Objects
+sold_of x = record { shard = x.shard; seats = accounts_of x.seats }
+
+-- the same worker, with this seat at the hub's mail
+abbrev pub with_hub : {S : Type 0} → Worker S → Account Letter → Worker S
+with_hub w a = record { shard = w.shard; seats = record { objects = w.seats.objects; persons = w.seats.persons; hub = a } }
+
+-- what the worker of the shard number k of the persons, and that of the objects, begins with
+abbrev pub new_buyer : Setting → ℕ → Worker Persons
+new_buyer g k = record {
+  shard = new_persons g.limits.shards (length g.table.rows) g.limits.bids g.prices k;
+  seats = new_accounts k;
+}
+
+abbrev pub new_seller : Setting → ℕ → Worker Objects
+new_seller g k = record {
+  shard = new_objects g.limits.shards (length g.table.rows) g.prices k;
+  seats = new_accounts (g.limits.shards + k);
+}

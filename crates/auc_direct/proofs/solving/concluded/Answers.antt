@@ -1,7 +1,8 @@
 use Rattle.std.proofs.Common.{◌≡◌, inr}
 use Rattle.auc_answers.specs.Answers.{IsAnswer, IsInfeasibleAnswer}
 use Rattle.auc_graph.specs.Assignment.{total}
-use Rattle.auc_direct.specs.Endings.{IsLimited, IsLimitedUnless, IsOfPhases, IsStopped}
+use Rattle.auc_direct.specs.Endings.{IsLimited, IsLimitedUnless, IsOfPhases}
+use Rattle.auc_market.specs.Endings.{IsStopped}
 use Rattle.auc_direct.proofs.Answering.{limit_or_told, none_is_answer, none_is_limited, none_of_phases, of_answers}
 use Rattle.auc_direct.proofs.solving.concluded.Goals as goal
 

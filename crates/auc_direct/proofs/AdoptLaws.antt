@@ -9,8 +9,8 @@ use Rattle.auc_graph.specs.Price.{IsPrice}
 use Rattle.auc_rows.specs.declared.arc.ShortArc.{ShortArc}
 use Rattle.auc_rows.specs.Rows.{FlatTable, flat_row_of}
 use Rattle.auc_direct.specs.Adopted.{IsFullRow}
-use Rattle.auc_direct.specs.Scan.{no_arc}
-use Rattle.auc_direct.proofs.Bounds.{product_abs, product_low}
+use Rattle.auc_market.specs.Scan.{no_arc}
+use Rattle.auc_market.proofs.Bounds.{product_abs, product_low}
 
 -- a price in costs of the table that is not too high, scaled
 pub scaled_price : (s d : ℤ) → pos 1 ≤ℤ s → s ≤ℤ pos 10001 → pos 0 ≤ℤ d → d ≤ℤ pos (2 * 10 ^ 14) → IsPrice (s *ℤ d) × FitsSigned w64 (s *ℤ d)

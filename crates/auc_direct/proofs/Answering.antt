@@ -28,15 +28,18 @@ use Rattle.auc_answers.specs.Prepared.{NobodyStuck}
 use Rattle.auc_answers.proofs.BracketLaws.{bound_fits, holders_price_few}
 use Rattle.auc_rows.specs.declared.arc.ShortArc.{ShortArc}
 use Rattle.auc_rows.specs.Rows.{AreRowsOf, AreSameRows, EachHasArc, FlatTable, IsFlatTable, flat_row_of, short, short_row}
-use Rattle.auc_direct.specs.declared.ending.Ending.{Ending}
+use Rattle.auc_market.specs.declared.ending.Ending.{Ending}
 use Rattle.auc_direct.specs.Adopted.{IsFullTable}
-use Rattle.auc_direct.specs.Endings.{AreAdopted, AreFirst, AreOfRun, HasReason, IsAsked, IsClaimOfFirst, IsClaimOfRun, IsLeft, IsLimit, IsLimited, IsLimitedBy, IsLimitedFrom, IsLimitedUnless, IsOfFirstPhases, IsOfPhases, IsOfPhasesFrom, IsStart, IsStopTold, IsToldOr}
-use Rattle.auc_direct.specs.Phases.{HasRun, IsAdopted, IsRun}
+use Rattle.auc_direct.specs.Endings.{IsAsked, AreAdopted, AreFirst, AreOfRun, HasReason, IsClaimOfFirst, IsClaimOfRun, IsLimited, IsLimitedBy, IsLimitedFrom, IsLimitedUnless, IsOfFirstPhases, IsOfPhases, IsOfPhasesFrom, IsStopTold}
+use Rattle.auc_market.specs.Endings.{IsLeft, IsLimit, IsStart, IsToldOr}
+use Rattle.auc_direct.specs.Phases.{HasRun, IsAdopted}
+use Rattle.auc_market.specs.Phases.{IsRun}
 use Rattle.auc_direct.specs.Held.{AreHeld, AreHolders, AreListed, arc_by}
-use Rattle.auc_direct.specs.Market.{EachHasRow, HaveObjects, Stands, holder_at, own_at}
-use Rattle.auc_direct.specs.Starts.{AreOpened}
+use Rattle.auc_direct.specs.Held.{EachHasRow}
+use Rattle.auc_market.specs.Market.{HaveObjects, Stands, holder_at, own_at}
+use Rattle.auc_market.specs.Starts.{AreOpened}
 use Rattle.auc_direct.proofs.Choices as choices
-use Rattle.auc_direct.proofs.MarketLaws.{holder_has, owner_below}
+use Rattle.auc_market.proofs.MarketLaws.{holder_has, owner_below}
 
 module _ (p : Problem) (t : Table) (r : FlatTable) (prices : List ℤ) (holders : List ℕ) (owns : List ShortArc) (held : List (Option Held)) (is : IsProblem p) (its : IsTableOf p t) (same : AreSameRows t r) (sound : IsFlatTable r) (are : AreHeld p holders owns held) where
   -- ---- each person has an object

@@ -23,11 +23,11 @@ use Rattle.auc_answers.specs.Claims.{ArePlaceable, HasNoPriceUnheld, HoldsAt, Ho
 use Rattle.auc_answers.proofs.FoundLaws.{person_at}
 use Rattle.auc_rows.specs.declared.arc.ShortArc.{ShortArc}
 use Rattle.auc_rows.specs.Rows.{AreSameRows, FlatTable, IsFlatTable, flat_row_of, scale_in, short}
-use Rattle.auc_direct.specs.declared.holdings.TheConstants.{NOBODY}
+use Rattle.auc_market.specs.declared.holdings.TheConstants.{NOBODY}
 use Rattle.auc_direct.specs.Held.{AreHeld, IsHeld, arc_by}
-use Rattle.auc_direct.specs.Market.{AreSpare, HaveObjects, Stands, holder_at, own_at}
-use Rattle.auc_direct.specs.Scan.{short_value}
-use Rattle.auc_direct.proofs.MarketLaws.{holder_has, owner_below}
+use Rattle.auc_market.specs.Market.{AreSpare, HaveObjects, Stands, holder_at, own_at}
+use Rattle.auc_market.specs.Scan.{short_value}
+use Rattle.auc_market.proofs.MarketLaws.{holder_has, owner_below}
 
 -- the value of an arc, on two scales that are one
 same_value : (price : ℕ → ℤ) (m n : ℕ) (c : ℤ) (j : ℕ) → m ≡ n → (pos (m + 1) *ℤ c +ℤ price j) ≡ (pos (n + 1) *ℤ c +ℤ price j)

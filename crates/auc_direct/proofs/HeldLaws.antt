@@ -8,9 +8,9 @@ use Rattle.auc_answers.specs.Claims.{holder_at as held_at}
 use Rattle.auc_letters.specs.declared.state.Held.{Held}
 use Rattle.auc_rows.specs.declared.arc.ShortArc.{ShortArc}
 use Rattle.auc_rows.proofs.ArcLaws.{none}
-use Rattle.auc_direct.specs.declared.holdings.TheConstants.{NOBODY}
+use Rattle.auc_market.specs.declared.holdings.TheConstants.{NOBODY}
 use Rattle.auc_direct.specs.Held.{AreHeld, AreListed, IsHeld, arc_by}
-use Rattle.auc_direct.specs.Market.{holder_at, no_own, own_at}
+use Rattle.auc_market.specs.Market.{holder_at, no_own, own_at}
 
 module _ (p : Problem) (holders : List ℕ) (owns : List ShortArc) where
   -- an arc is the one by which this person holds

@@ -2,7 +2,7 @@
 use Rattle.std.specs.Prelude.{ℕ, ◌≡◌, ◌<◌, List, length, slice_index_or}
 use Rattle.auc_rows.specs.declared.arc.ShortArc.{ShortArc}
 use Rattle.auc_rows.specs.Rows.{FlatTable, flat_row_of}
-use Rattle.auc_direct.specs.Scan.{no_arc}
+use Rattle.auc_market.specs.Scan.{no_arc}
 
 -- an arc to each of so many objects, one each, in order
 pub record IsFullRow (objects : ℕ) (row : List ShortArc) : Type 0 where

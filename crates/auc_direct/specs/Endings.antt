@@ -1,4 +1,4 @@
--- What a chain of bids, a phase and a run come to.
+-- What a run comes to, and its answer.
 use Rattle.std.specs.Prelude.{Bool, true, false, ℕ, ℤ, pos, ◌≡◌, ◌⊎◌, ◌+ℤ◌, ◌≤ℤ◌, List, length, All}
 use Rattle.auc_claim.specs.declared.cert.CertParts.{CertParts}
 use Rattle.auc_claim.specs.declared.reason.Reason.{Reason}
@@ -10,60 +10,15 @@ use Rattle.auc_graph.specs.Price.{IsPrice}
 use Rattle.auc_answers.specs.declared.answer.Answer.{Answer}
 use Rattle.auc_rows.specs.declared.arc.ShortArc.{ShortArc}
 use Rattle.auc_rows.specs.Rows.{AreRowsOf, AreSameRows, FlatTable}
-use Rattle.auc_direct.specs.declared.ending.Ending.{Ending}
+use Rattle.auc_market.specs.declared.ending.Ending.{Ending}
+use Rattle.auc_market.specs.Bids.{HaveRunOut, State}
+use Rattle.auc_market.specs.Eps.{IsEpsOf}
 use Rattle.auc_direct.specs.Adopted.{IsFullTable}
-use Rattle.auc_direct.specs.Bids.{HaveRunOut, State}
-use Rattle.auc_direct.specs.Eps.{IsEpsOf}
-use Rattle.auc_direct.specs.Phases.{HasRun, IsAdopted, IsRun}
-use Rattle.auc_direct.specs.Market.{HaveObjects, IsAbove, Stands}
-use Rattle.auc_direct.specs.Starts.{AreOpened}
-
--- Why a phase may be stopped: it has made as many bids as it may, and the prices add up to more than those that the run began with, by no less than the bids that a phase may
--- take, each of which has raised one; or somebody's bid, at an eps of a phase, would be more than the greatest price.
-abbrev pub IsLimit : FlatTable → ℕ → ℤ → Reason → List ℤ → Type 0
-IsLimit r bids begun Reason.Bids prices = HaveRunOut r bids prices × ((begun +ℤ pos bids) ≤ℤ total prices)
-IsLimit r bids begun Reason.Ceiling prices = (eps : ℤ) × IsEpsOf r eps × IsAbove r eps prices
-IsLimit r bids begun Reason.Posts prices = ⊥
-IsLimit r bids begun Reason.Trail prices = ⊥
-IsLimit r bids begun Reason.Mail prices = ⊥
-
--- each person has an object; or a limit has stopped the phase
-abbrev pub IsEnding : FlatTable → ℕ → ℤ → Ending → List ℤ → List ShortArc → Type 0
-IsEnding r bids begun Ending.Sold prices owns = HaveObjects (length r.rows) owns
-IsEnding r bids begun (Ending.Stopped reason) prices owns = IsLimit r bids begun reason prices
-
--- for what a run in one hand may be stopped; who watches it stops it as if its bids had run out
-abbrev pub IsOwnReason : Reason → Type 0
-IsOwnReason Reason.Bids = Unit {0}
-IsOwnReason Reason.Ceiling = Unit {0}
-IsOwnReason Reason.Posts = ⊥
-IsOwnReason Reason.Trail = ⊥
-IsOwnReason Reason.Mail = ⊥
-
--- where a phase has sold all, each person has an object
-abbrev pub IsSold : FlatTable → Ending → List ShortArc → Type 0
-IsSold r Ending.Sold owns = HaveObjects (length r.rows) owns
-IsSold r (Ending.Stopped reason) owns = IsOwnReason reason
-
--- what a phase at this eps begins with: as many objects as persons, or no price
-pub record IsStart (r : FlatTable) (eps : ℤ) (prices : List ℤ) : Type 0 where
-  pub each : length prices ≡ r.objects
-  pub within : All IsPrice prices
-  pub spare : (r.objects ≡ length r.rows) ⊎ ((eps ≡ pos 1) × ((j : ℕ) → price_at prices j ≡ pos 0))
-
--- what all phases leave: the last one, at eps 1, has given each person an object; or one of them was stopped
-abbrev pub IsLeft : FlatTable → Ending → List ℤ → List ℕ → List ShortArc → Type 0
-IsLeft r Ending.Sold prices holders owns = Stands r (pos 1) prices holders owns × HaveObjects (length r.rows) owns
-IsLeft r (Ending.Stopped reason) prices holders owns = (eps : ℤ) × Stands r eps prices holders owns × IsOwnReason reason
-
--- only a limit has stopped one
-abbrev pub IsStopped : FlatTable → ℕ → ℤ → Ending → List ℤ → Type 0
-IsStopped r bids begun Ending.Sold prices = Unit {0}
-IsStopped r bids begun (Ending.Stopped reason) prices = IsLimit r bids begun reason prices
-
--- What a run comes to that somebody watches, of whom it is known whether he had said no before it and has said no after it: he has said no, and it ends as one whose bids have run out; or he has said no more than before, and this holds.
-abbrev pub IsToldOr : Bool → Bool → Ending → Type 0 → Type 0
-IsToldOr before after ending Holds = ((after ≡ true) × (ending ≡ Ending.Stopped Reason.Bids)) ⊎ ((after ≡ before) × Holds)
+use Rattle.auc_direct.specs.Phases.{HasRun, IsAdopted}
+use Rattle.auc_market.specs.Phases.{IsRun}
+use Rattle.auc_market.specs.Market.{HaveObjects, IsAbove, Stands}
+use Rattle.auc_market.specs.Starts.{AreOpened}
+use Rattle.auc_market.specs.Endings.{IsLeft, IsLimit, IsStart, IsStopped, IsToldOr}
 
 -- What a run comes to that began with these prices: only a limit has stopped it, or who watched it.
 pub record IsOutcome (r : FlatTable) (bids : ℕ) (begun : List ℤ) (before after : Bool) (ending : Ending) (prices : List ℤ) (holders : List ℕ) (owns : List ShortArc) : Type 0 where
@@ -109,7 +64,8 @@ IsLimitedUnless before after answer Holds = ((after ≡ true) × IsStopTold answ
 abbrev pub IsFull : Problem → Type 0
 IsFull p = (r : FlatTable) × AreRowsOf p r × IsFullTable r
 
--- what may be answered though nobody was asked: that there is no assignment, or what a search over a full table has proposed
+-- what may be answered though nobody was asked: that there is no assignment, or what a search over a full table has
+-- proposed
 abbrev pub IsUnasked : Problem → Answer → Type 0
 IsUnasked p (Answer.Optimal cert) = IsFull p
 IsUnasked p (Answer.Infeasible cert) = Unit {0}

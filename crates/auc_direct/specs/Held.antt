@@ -1,12 +1,13 @@
 -- The holders as the arcs of the problem by which they hold.
-use Rattle.std.specs.Prelude.{ℕ, ◌≡◌, ◌≢◌, List, length, Contains, Option, Some, None, slice_get}
+use Rattle.std.specs.Prelude.{ℕ, ◌≡◌, ◌≢◌, ◌<◌, List, [], length, Contains, Option, Some, None, slice_get}
 use Rattle.auc_graph.specs.declared.arc.Arc.{Arc}
 use Rattle.auc_graph.specs.Problem.{Problem}
 use Rattle.auc_letters.specs.declared.state.Held.{Held}
 use Rattle.auc_answers.specs.Claims.{holder_at as held_at}
+use Rattle.auc_rows.specs.Rows.{short_row}
 use Rattle.auc_rows.specs.declared.arc.ShortArc.{ShortArc}
-use Rattle.auc_direct.specs.declared.holdings.TheConstants.{NOBODY}
-use Rattle.auc_direct.specs.Market.{holder_at, own_at}
+use Rattle.auc_market.specs.declared.holdings.TheConstants.{NOBODY}
+use Rattle.auc_market.specs.Market.{holder_at, own_at}
 
 -- the arc of a person for which one of his row stands
 abbrev pub arc_by : ℕ → ShortArc → Arc
@@ -30,3 +31,7 @@ IsHeld p holders owns j (Some h) = (holder_at holders j ≡ h.person) × (h.pers
 
 abbrev pub AreHeld : Problem → List ℕ → List ShortArc → List (Option Held) → Type 0
 AreHeld p holders owns held = (j : ℕ) → IsHeld p holders owns j (held_at held j)
+
+-- each person of a problem has an arc
+abbrev pub EachHasRow : Problem → Type 0
+EachHasRow p = (i : ℕ) → i < p.persons → short_row i p.arcs ≢ []

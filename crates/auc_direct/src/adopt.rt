@@ -2,12 +2,10 @@
 
 ghost use Rattle.std.specs.Prelude.{pos, length, IfOk, IfSome};
 ghost use Rattle.auc_direct.specs.Adopted.{IsFullTable};
-ghost use Rattle.auc_direct.specs.Market.{HaveObjects, Stands};
-ghost use Rattle.auc_direct.specs.Starts.{ArePricesOf};
+ghost use Rattle.auc_market.specs.Market.{HaveObjects, Stands};
+ghost use Rattle.auc_market.specs.Starts.{ArePricesOf};
 
-use crate::eps::LAST_EPS;
-use crate::from_start::prices_before;
-use crate::holdings::Holdings;
+use auc_market::{Holdings, tried};
 use auc_rows::FlatRows;
 use auc_table::{Proposal, Table, propose};
 use std::alloc::{AllocError, Global};
@@ -55,37 +53,6 @@ fn scaled_prices(rows: &FlatRows, mut prices: Vec<i64>) -> Option<Vec<i64>>
     Some(prices)
 }
 
-/// The holdings of a proposal, where each person takes his object at its price, nobody is left out, and each is within the last eps of his best. What nobody takes has no price where there are more objects than persons.
-fn tried(alloc: Global, rows: &FlatRows, proposal: Proposal) -> Result<Option<Holdings>, AllocError>
-    ensures stands { IfOk result (λ o. IfSome o (λ m. Stands rows.now (pos 1) m.prices.items m.holders.items m.owns.items)) }
-    ensures have { IfOk result (λ o. IfSome o (λ m. HaveObjects (length rows.now.rows) m.owns.items)) }
-{
-    let Proposal {
-        objects,
-        prices,
-        ..
-    } = proposal;
-    let Some(start) = scaled_prices(rows, prices) else {
-        return Ok(None);
-    };
-    let persons = rows.persons();
-    if objects.len() != persons as usize {
-        return Ok(None);
-    }
-    let before = prices_before(alloc, rows, start.as_slice())?;
-    let mut holdings = Holdings::new(alloc, persons, before)?;
-    for person in 0..persons {
-        holdings.seat(rows, start.as_slice(), person, objects[person as usize]);
-    }
-    if !holdings.all_have() {
-        return Ok(None);
-    }
-    if !holdings.all_within(rows, LAST_EPS) {
-        return Ok(None);
-    }
-    Ok(Some(holdings))
-}
-
 /// Solves a full table by a search that may look at so many costs, and tries what it proposes. None where the rows aren't a full table, or where that doesn't show a least assignment.
 /// Takes O(persons * objects) time and 8 bytes of memory an arc beside the search.
 ///
@@ -117,5 +84,13 @@ pub(crate) fn adopted(
     let Some(proposal) = propose(alloc, &table, None, looks)? else {
         return Ok(None);
     };
-    tried(alloc, rows, proposal)
+    let Proposal {
+        objects,
+        prices,
+        ..
+    } = proposal;
+    let Some(start) = scaled_prices(rows, prices) else {
+        return Ok(None);
+    };
+    tried(alloc, rows, start.as_slice(), objects.as_slice())
 }

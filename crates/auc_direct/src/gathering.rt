@@ -2,12 +2,12 @@
 
 ghost use Rattle.std.specs.Prelude.{ℕ, true, false, ◌≡◌, ◌<◌, length, IfOk, IfSome};
 ghost use Rattle.auc_direct.specs.Held.{AreHeld, AreHolders, AreListed, arc_by};
-ghost use Rattle.auc_direct.specs.Market.{own_at};
+ghost use Rattle.auc_market.specs.Market.{own_at};
 
-use crate::holdings::Holdings;
 use auc_answers::Gathered;
 use auc_graph::{Arc, ArcList};
 use auc_letters::Held;
+use auc_market::Holdings;
 use auc_rows::{FlatRows, ShortArc};
 use std::alloc::{AllocError, Global};
 

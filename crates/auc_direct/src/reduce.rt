@@ -2,8 +2,8 @@
 
 ghost use Rattle.std.specs.Prelude.{ℤ, ◌≡◌, ◌⊎◌, pos, ◌≤ℤ◌, length, All, IfOk};
 ghost use Rattle.auc_graph.specs.Price.{IsPrice};
-ghost use Rattle.auc_direct.specs.Endings.{IsStart};
-ghost use Rattle.auc_direct.specs.Scan.{IsScale};
+ghost use Rattle.auc_market.specs.Endings.{IsStart};
+ghost use Rattle.auc_market.specs.Scan.{IsScale};
 
 use auc_rows::FlatRows;
 use std::alloc::{AllocError, Global};

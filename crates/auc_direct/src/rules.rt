@@ -10,8 +10,8 @@
 //! 6. **Refinement.** Where phases take no fewer bids than before at an eps that whole costs hardly tell, prices are refined, for as long as two bids of that phase each.
 //! 7. **More objects than persons.** One phase at the last eps, from prices of 0, as what is left over may have no price.
 
-use crate::eps::LAST_EPS;
 use crate::tuning::{CALM, LOOKS, PART, STARTED, STEADY, TABLE};
+use auc_market::LAST_EPS;
 use auc_rows::FlatRows;
 
 /// What the rules know of a problem; how many bids the last phase has made; and how many phases in a row took as many bids as the one before.

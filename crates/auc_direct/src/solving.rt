@@ -1,32 +1,28 @@
 //! The solver in one hand.
 
-ghost use Rattle.std.specs.Prelude.{Bool, ℕ, ℤ, List, true, ◌≡◌, ◌⊎◌, pos, All, length, IfErr, IfOk, IfSome, IfNone};
+ghost use Rattle.std.specs.Prelude.{Bool, ◌↔◌, IsTrue, ℕ, ℤ, List, true, ◌≡◌, ◌⊎◌, pos, All, length, IfErr, IfOk, IfSome, IfNone};
 ghost use Rattle.auc_graph.specs.Assignment.{total};
 ghost use Rattle.auc_graph.specs.Price.{IsPrice};
-ghost use Rattle.auc_direct.specs.Halts.{IsHalt};
+ghost use Rattle.auc_market.specs.Halts.{IsHalt};
 ghost use Rattle.auc_answers.specs.Answers.{HasAssignment, IsAnswer, IsBracketAnswer, IsInfeasibleAnswer};
 ghost use Rattle.auc_rows.specs.Rows.{AreRowsOf, EachHasArc, IsFlatTable};
+ghost use Rattle.auc_market.specs.Endings.{IsLeft, IsStopped};
 ghost use Rattle.auc_direct.specs.Adopted.{IsFullTable};
-ghost use Rattle.auc_direct.specs.Endings.{IsAsked, IsLeft, IsLimited, IsLimitedFrom, IsLimitedUnless, IsOfFirstPhases, IsOfPhases, IsOfPhasesFrom, IsOutcome, IsStopTold, IsStopped};
+ghost use Rattle.auc_direct.specs.Endings.{IsAsked, IsLimited, IsLimitedFrom, IsLimitedUnless, IsOfFirstPhases, IsOfPhases, IsOfPhasesFrom, IsOutcome, IsStopTold};
 ghost use Rattle.auc_claim.specs.declared.reason.Reason.{Reason};
-ghost use Rattle.auc_direct.specs.declared.ending.Ending.{Ending};
+ghost use Rattle.auc_market.specs.declared.ending.Ending.{Ending};
 ghost use Rattle.auc_direct.specs.Phases.{HasRun};
 ghost use Rattle.auc_direct.specs.Starts.{AreStartPrices};
 
-use crate::ending::Ending;
-use crate::from_start::market_from;
 use crate::gathering::gather;
-use crate::hall::infeasible_by;
-use crate::halt::Halt;
-use crate::holdings::Holdings;
 use crate::reduce::start_prices;
 use crate::rules::bids_from_start;
 use crate::run::{Outcome, run};
-use crate::watch::{Onward, Watch};
-use auc_answers::finish::{bracket, proved_bracket, proved_optimal};
+use auc_answers::finish::{bracket, infeasible, proved_bracket, proved_optimal};
 use auc_answers::{Answer, Gathered, Prepared, prepare};
-use auc_claim::Reason;
-use auc_graph::{ArcList, Rows};
+use auc_claim::{HIGHEST_START, Reason};
+use auc_graph::{ArcList, Indices};
+use auc_market::{Ending, HallSet, Halt, Market, Onward, Watch};
 use auc_rows::FlatRows;
 use std::alloc::{AllocError, Global};
 
@@ -35,6 +31,16 @@ use std::alloc::{AllocError, Global};
 pub struct DirectLimits {
     /// How many bids a phase may make; any number.
     pub bids: u64,
+}
+
+/// Whether a solve of a problem may start from these prices: one for each object, from 0 to 2^60. Takes one pass over them.
+pub fn may_start(problem: &ArcList, start: &[i64]) -> bool
+    ensures { IsTrue result ↔ AreStartPrices problem.now start.now }
+{
+    start.len() == problem.objects() as usize
+        && start
+            .iter()
+            .all(|price| 0 <= *price && *price <= HIGHEST_START)
 }
 
 /// The answer of a problem in which somebody has no arc; none where each has one.
@@ -110,16 +116,19 @@ fn answer_of(
 fn halted(
     alloc: Global,
     problem: &ArcList,
-    flat: &FlatRows,
+    _flat: &FlatRows,
     halt: Halt,
 ) -> Result<Answer, AllocError>
-    requires rows { AreRowsOf problem.now flat.now }
-    requires halt { IsHalt flat.now halt }
+    requires rows { AreRowsOf problem.now _flat.now }
+    requires halt { IsHalt _flat.now halt }
     ensures { IfOk result (IsInfeasibleAnswer problem.now) }
 {
     match halt {
         Halt::NoMemory => Err(AllocError),
-        Halt::Closed(hall) => infeasible_by(alloc, problem, flat, hall),
+        Halt::Closed(hall) => {
+            let HallSet { persons, objects } = hall;
+            infeasible(alloc, problem, Indices::new(persons), Indices::new(objects))
+        }
     }
 }
 
@@ -231,8 +240,8 @@ pub fn solve_direct_watched<W: Watch>(
         return Ok(answer);
     }
     let prices = start_prices(alloc, &flat)?;
-    let holdings = Holdings::new(alloc, flat.persons(), prices)?;
-    let ended = run(alloc, &flat, limits.bids, holdings, 0, watch);
+    let market = Market::new(alloc, &flat, prices)?;
+    let ended = run(alloc, &flat, limits.bids, market, 0, watch);
     concluded(alloc, problem, flat, ended)
 }
 
@@ -258,8 +267,8 @@ pub fn solve_direct_watched_from<W: Watch>(
     if let Some(answer) = answered(alloc, problem, &flat)? {
         return Ok(answer);
     }
-    let holdings = market_from(alloc, &flat, start)?;
+    let market = Market::from_start(alloc, &flat, start)?;
     let few = bids_from_start(&flat);
-    let ended = run(alloc, &flat, limits.bids, holdings, few, watch);
+    let ended = run(alloc, &flat, limits.bids, market, few, watch);
     concluded(alloc, problem, flat, ended)
 }

@@ -1,7 +1,7 @@
 use Rattle.std.proofs.Common.{ℕ, ◌<◌, ◌≡◌, get_or}
 use Rattle.auc_rows.specs.Rows.{flat_row_of}
 use Rattle.auc_direct.specs.Adopted.{IsFullRow}
-use Rattle.auc_direct.specs.Scan.{no_arc}
+use Rattle.auc_market.specs.Scan.{no_arc}
 use Rattle.auc_direct.proofs.adopt.costs_of.Given as goal
 
 abbrev pub invariant-loop-person : goal.invariant-loop-person

@@ -1,7 +1,7 @@
 use Rattle.std.proofs.Common.{◌≡◌, arith, pos, w32, w64, ℤ}
 use Rattle.std.specs.Prelude.{FitsSigned, ◌-ℤ◌, ◌*ℤ◌, ◌<ℤ◌}
 use Rattle.std.proofs.lemmas.Int.{ints, to_z-of_z}
-use Rattle.auc_direct.proofs.Opening.{product_price}
+use Rattle.auc_direct.proofs.FirstPrices.{product_price}
 use Rattle.auc_direct.proofs.reduce.price_between.Goals as goal
 
 pub returns-else-more-le0 : goal.returns-else-more-le0

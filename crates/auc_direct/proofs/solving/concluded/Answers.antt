@@ -1,8 +1,9 @@
 use Rattle.std.proofs.Common.{◌≡◌, inr}
 use Rattle.auc_answers.specs.Answers.{IsAnswer, IsInfeasibleAnswer}
 use Rattle.auc_graph.specs.Assignment.{total}
-use Rattle.auc_direct.specs.Endings.{IsAsked, IsLimited, IsLimitedUnless, IsOfPhases, IsStopped}
-use Rattle.auc_direct.proofs.Answering.{is_asked, limit_or_told, none_asked, none_is_answer, none_is_limited, none_of_phases, of_answers}
+use Rattle.auc_direct.specs.Endings.{IsAsked, IsLimited, IsLimitedUnless, IsOfPhases}
+use Rattle.auc_market.specs.Endings.{IsStopped}
+use Rattle.auc_direct.proofs.Answering.{is_asked, none_asked, limit_or_told, none_is_answer, none_is_limited, none_of_phases, of_answers}
 use Rattle.auc_direct.proofs.solving.concluded.Goals as goal
 
 pub answer_of-requires-clause-left : goal.answer_of-requires-clause-left

@@ -1,5 +1,0 @@
-use Rattle.std.proofs.Common.{◌≡◌, length}
-use Rattle.auc_direct.proofs.holdings.Holdings.reached.Given as goal
-
-abbrev pub invariant-loop-settled : goal.invariant-loop-settled
-invariant-loop-settled l = length l.is_in.items ≡ length l.rows.rows

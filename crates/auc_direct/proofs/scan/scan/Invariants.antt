@@ -1,6 +1,0 @@
-use Rattle.std.specs.Prelude.{◌+◌, ◌*◌}
-use Rattle.auc_direct.specs.Scan.{IsFound, short_value}
-use Rattle.auc_direct.proofs.scan.scan.Given as goal
-
-abbrev pub invariant-loop-pair : goal.invariant-loop-pair
-invariant-loop-pair l = IsFound (short_value l.scale l.prices) l.row (2 * l.pair + 1) l.found

@@ -1,9 +1,0 @@
--- What ends a run at once.
-use Rattle.auc_rows.specs.Rows.{FlatTable}
-use Rattle.auc_direct.specs.declared.halt.Halt.{Halt}
-use Rattle.auc_direct.specs.Hall.{IsShortHallSet}
-
--- memory was refused; or there are persons who together know fewer objects than they number
-abbrev pub IsHalt : FlatTable → Halt → Type 0
-IsHalt r Halt.NoMemory = Unit {0}
-IsHalt r (Halt.Closed h) = IsShortHallSet r h.persons.items h.objects.items

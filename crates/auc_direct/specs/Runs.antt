@@ -1,0 +1,34 @@
+-- Phases of a run, one after another, and what they leave.
+use Rattle.std.specs.Prelude.{Bool, ℕ, ℤ, pos, ◌≡◌, ◌≢◌, ◌⊎◌, ◌<◌, ◌≤◌, ◌≤ℤ◌, List, length}
+use Rattle.auc_graph.specs.Assignment.{total}
+use Rattle.auc_rows.specs.declared.arc.ShortArc.{ShortArc}
+use Rattle.auc_rows.specs.Rows.{EachHasArc, FlatTable, IsFlatTable}
+use Rattle.auc_market.specs.declared.ending.Ending.{Ending}
+use Rattle.auc_market.specs.Bids.{AreCounted, AreSpent, IsBidMade, State, state}
+use Rattle.auc_market.specs.Endings.{IsEnding, IsLeft, IsSold, IsStopped, IsToldOr}
+use Rattle.auc_market.specs.Eps.{IsEpsOf}
+use Rattle.auc_market.specs.Incumbent.{IsIncumbent}
+use Rattle.auc_market.specs.Market.{HaveAllBut, HaveObjects, IsAbove, IsAwarded, Stands, own_at}
+use Rattle.auc_market.specs.Phases.{ArePhases, IsOpened, IsPhase, IsRefined}
+use Rattle.auc_market.specs.Shortlist.{Kept}
+use Rattle.auc_market.specs.Way.{IsWay}
+use Rattle.auc_market.specs.Position.{Position, state_at}
+
+-- phases, and what comes between them
+pub record Plays (bids : ℕ) (old new : Position) : Type 0 where
+  pub table : new.table ≡ old.table
+  pub phases : ArePhases old.table bids (state_at old) (state_at new)
+  pub risen : total old.prices ≤ℤ total new.prices
+
+-- and the last of them has ended so
+pub record IsPlayedAt (eps : ℤ) (bids : ℕ) (before after : Bool) (ending : Ending) (old new : Position) : Type 0 where
+  pub eps_is : new.eps ≡ eps
+  pub sold : IsSold old.table ending new.owns
+  pub stopped : IsToldOr before after ending (IsStopped old.table bids (total old.prices) ending new.prices)
+
+-- what all phases leave, and why the last one has ended
+pub record IsRunOut (bids : ℕ) (before after : Bool) (ending : Ending) (old new : Position) : Type 0 where
+  pub table : new.table ≡ old.table
+  pub left : IsLeft old.table ending new.prices new.holders new.owns
+  pub stopped : IsToldOr before after ending (IsStopped old.table bids (total old.prices) ending new.prices)
+  pub phases : ArePhases old.table bids (state_at old) (state_at new)

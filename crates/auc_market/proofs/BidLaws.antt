@@ -1,0 +1,116 @@
+-- What a bid raises, and that it is no worse than the second arc by more than eps.
+use Rattle.std.proofs.Common.{◌≡◌, ℕ, ◌<◌, inl, inr, List, length, get_or, set, ap, sym, ◌∙◌, arith}
+use Rattle.std.specs.Prelude.{ℤ, pos, ◌+ℤ◌, ◌-ℤ◌, ◌*ℤ◌, ◌≤ℤ◌, ◌<ℤ◌, ◌⊎◌, All}
+use Rattle.std.proofs.lemmas.Bool.{cases_eq}
+use Rattle.std.proofs.lemmas.Int.{ints}
+use Rattle.std.proofs.lemmas.List.{get_or-set_same, get_or-set_other, get_or_default}
+use Rattle.std.proofs.lemmas.List.Elements.{All-contains}
+use Rattle.auc_graph.specs.Dual.{price_at}
+use Rattle.auc_rows.specs.declared.arc.ShortArc.{ShortArc}
+use Rattle.auc_market.specs.declared.best.Best.{Best}
+use Rattle.auc_market.specs.Bid.{IsOffer, IsRaise}
+use Rattle.auc_market.specs.Scan.{endless, short_value}
+use Rattle.auc_market.specs.Shortlist.{IsBest, IsSecond}
+
+-- prices of which one has risen are no lower
+pub risen : (prices : List ℤ) (j : ℕ) (amount : ℤ) → j < length prices → price_at prices j ≤ℤ amount → (k : ℕ) → price_at prices k ≤ℤ price_at (set prices j amount) k
+risen prices j amount lt up k =
+    elim (cases_eq k j) [
+      | inl same ↦ (let e = ap (price_at prices) same in let f = ap (price_at (set prices j amount)) same in let h = get_or-set_same prices j amount (pos 0) lt in omega (arith, ints, e, f, h, up))
+      | inr other ↦ (let h = get_or-set_other prices j k amount (pos 0) other in omega (arith, ints, h))
+    ]
+
+-- how much is added to the price beside eps
+pub IsLead : List ShortArc → Best → ℤ → Type 0
+IsLead row b lead = (pos 0 ≤ℤ lead) × ((All (λ a. a ≡ b.arc) row) ⊎ (lead ≡ (b.second -ℤ b.value)))
+
+pub lead_is : (val : ShortArc → ℤ) (row : List ShortArc) (b : Best) (lead spread : ℤ) → IsBest val row b → pos 0 ≤ℤ spread → (b.second <ℤ endless → lead ≡ (b.second -ℤ b.value)) → (endless ≤ℤ b.second → lead ≡ spread) → IsLead row b lead
+unfolding IsLead
+lead_is val row b lead spread h low next only = by h.second_is
+  where
+    by : ((b.second ≡ endless) × All (λ a. a ≡ b.arc) row) ⊎ IsSecond val row b.second → (pos 0 ≤ℤ lead) × ((All (λ a. a ≡ b.arc) row) ⊎ (lead ≡ (b.second -ℤ b.value)))
+    by (inl e) = (let o = only (let a = e.0 in omega (arith, ints, a)) in omega (arith, ints, o, low), inl e.1)
+    by (inr s) =
+        let n = next (let u = s.range.high in omega (arith, ints, u)) in
+        (let l = h.least in omega (arith, ints, n, l), inr n)
+
+module _ (scale eps : ℤ) (prices : List ℤ) (row : List ShortArc) (b : Best) (lead amount : ℤ) (h : IsBest (short_value scale prices) row b) (is : IsLead row b lead) (within : b.arc.object < length prices)
+    (sum : amount ≡ ((price_at prices b.arc.object +ℤ lead) +ℤ eps)) (some : pos 1 ≤ℤ eps) where
+  abbrev arc : ShortArc
+  arc = b.arc
+
+  abbrev new : List ℤ
+  new = set prices arc.object amount
+
+  up : price_at prices arc.object ≤ℤ amount
+  unfolding IsLead
+  up = let l = is.0 in omega (arith, ints, sum, l, some)
+
+  here : price_at new arc.object ≡ amount
+  here = get_or-set_same prices arc.object amount (pos 0) within
+
+  own : short_value scale new arc ≡ ((b.value +ℤ lead) +ℤ eps)
+  own = let e = here in let i = h.is in omega (arith, ints, e, i, sum)
+
+  -- he himself
+  itself : (a : ShortArc) → a ≡ arc → short_value scale new arc ≤ℤ (short_value scale new a +ℤ eps)
+  itself a same = let e = ap (short_value scale new) same in omega (arith, ints, e, some)
+
+  other : (a : ShortArc) → b.second ≤ℤ short_value scale prices a → lead ≡ (b.second -ℤ b.value) → short_value scale new arc ≤ℤ (short_value scale new a +ℤ eps)
+  other a above e =
+      let r = risen prices arc.object amount within up a.object in
+      let m = own in
+      omega (arith, ints, above, r, m, e)
+
+  no_better : (a : ShortArc) (k : ℕ) → k < length row → get_or row k arc ≡ a → (a ≡ arc) ⊎ (b.second ≤ℤ short_value scale prices a) → (All (λ c. c ≡ arc) row) ⊎ (lead ≡ (b.second -ℤ b.value)) → short_value scale new arc ≤ℤ (short_value scale new a +ℤ eps)
+  no_better a k lt at (inl same) by = itself a same
+  no_better a k lt at (inr above) (inl all) = itself a (sym at ∙ all k arc lt)
+  no_better a k lt at (inr above) (inr e) = other a above e
+
+  pub raise_is : IsRaise scale eps prices row arc amount
+  unfolding IsLead
+  raise_is = record {
+    listed = h.listed;
+    more = (let l = is.0 in omega (arith, ints, sum, l));
+    slack = λ k d lt. no_better (get_or row k d) k lt (get_or_default row k arc d lt) (h.others k d lt) is.1;
+  }
+
+-- The amount is no more than the rule of a bid makes it.
+module _ (scale spread eps : ℤ) (prices : List ℤ) (row : List ShortArc) (b : Best) (lead scaled amount : ℤ) (h : IsBest (short_value scale prices) row b) (next : b.second <ℤ endless → lead ≡ (b.second -ℤ b.value)) (only : endless ≤ℤ b.second → lead ≡ scaled) (low : pos 0 ≤ℤ scaled) (product : scaled ≡ (scale *ℤ spread))
+    (sum : amount ≡ ((price_at prices b.arc.object +ℤ lead) +ℤ eps)) where
+  abbrev Seconds : Type 0
+  Seconds = ((b.second ≡ endless) × All (λ a. a ≡ b.arc) row) ⊎ IsSecond (short_value scale prices) row b.second
+
+  lead_second : IsSecond (short_value scale prices) row b.second → lead ≡ (b.second -ℤ b.value)
+  lead_second s = next (let u = s.range.high in omega (arith, ints, u))
+
+  lead_low : Seconds → pos 0 ≤ℤ lead
+  lead_low (inl e) = let o = only (let a = e.0 in omega (arith, ints, a)) in omega (arith, ints, o, low)
+  lead_low (inr s) = let n = lead_second s in let l = h.least in omega (arith, ints, n, l)
+
+  worth : Seconds → (k : ℕ) (d : ShortArc) → k < length row → (get_or row k d ≡ b.arc) ⊎ ((short_value scale prices b.arc +ℤ lead) ≤ℤ short_value scale prices (get_or row k d))
+  worth (inl e) k d lt = inl (e.1 k d lt)
+  worth (inr s) k d lt =
+      elim (h.others k d lt) [
+        | inl same ↦ inl same
+        | inr above ↦ inr (let n = lead_second s in let v = h.is in omega (arith, ints, n, v, above))
+      ]
+
+  alone : Seconds → All (λ a. a ≡ b.arc) row → lead ≤ℤ (scale *ℤ spread)
+  alone (inl e) all = let o = only (let a = e.0 in omega (arith, ints, a)) in omega (arith, ints, o, product)
+  alone (inr s) all =
+      let same = ap (short_value scale prices) (All-contains (λ a. a ≡ b.arc) row s.arc all s.listed) in
+      let u = s.below in
+      let n = lead_second s in
+      let v = h.is in
+      omega (arith, ints, same, u, n, v, low, product)
+
+  pub offer_is : IsOffer scale spread eps prices row b.arc amount
+  offer_is = record {
+    listed = h.listed;
+    lead = lead;
+    low = lead_low h.second_is;
+    others = worth h.second_is;
+    only = alone h.second_is;
+    is = sum;
+  }

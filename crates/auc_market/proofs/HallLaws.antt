@@ -1,0 +1,155 @@
+-- Persons who have a flag, and the objects that they know, are a Hall set of the rows where the objects are fewer.
+use Rattle.std.proofs.Common.{◌≡◌, ℕ, zero, suc, ◌+◌, ◌<◌, ◌≤◌, Bool, true, false, List, [], ◌∷◌, ◌++◌, length, get_or, set, drop, map, Some, refl, sym, ap, subst, ◌∙◌, arith, inl, inr, Contains, append_assoc, replicate}
+use Rattle.std.specs.List.{slice_get}
+use Rattle.std.proofs.lemmas.Bool.{both_ways, cases_eq, cases_lt, false≢true}
+use Rattle.std.proofs.lemmas.List.{drop_more, get_or-map, get_or-set_other, get_or-set_same, get_or_past, length-map, length-replicate, length-set}
+use Rattle.std.proofs.lemmas.List.Elements.{Contains-get_or}
+use Rattle.std.proofs.lemmas.Option.{same_Some, slice_get_within}
+use Rattle.auc_graph.specs.declared.rows.RowArc.{RowArc}
+use Rattle.auc_graph.specs.Problem.{Problem}
+use Rattle.auc_graph.specs.Rising.{IsRising}
+use Rattle.auc_graph.specs.Table.{Table, row_of}
+use Rattle.auc_hall.specs.Chosen.{places}
+use Rattle.auc_hall.specs.HallSet.{IsRowHallSet}
+use Rattle.auc_hall.specs.OfProblem.{IsHallSetOf}
+use Rattle.auc_hall.specs.Search.{WasSeen}
+use Rattle.auc_hall.proofs.Membership.{behind, contains_at, first_or_behind, nothing, place_of}
+use Rattle.auc_hall.proofs.ProblemLaws.{hall_set_of}
+use Rattle.auc_rows.specs.declared.arc.ShortArc.{ShortArc}
+use Rattle.auc_rows.specs.Rows.{AreRowsOf, AreSameRows, FlatTable, flat_row_of, short}
+use Rattle.auc_market.specs.Hall.{AreAdded, AreKnownTo, IsShortHallSet, KnowsShort}
+
+-- ---- the places of flags
+
+place_only : (k : ℕ) (flags : List Bool) (i : ℕ) → Contains (places k flags) i → (j : ℕ) × (i ≡ k + j) × WasSeen flags j
+place_only k [] i c = absurd (nothing i c)
+place_only k (true ∷ flags) i c = elim (first_or_behind k (places (k + 1) flags) i c) [
+  | inl e ↦ (0, omega arith, refl)
+  | inr b ↦ (let r = place_only (k + 1) flags i b in (suc r.0, omega (arith, r.1), r.2))
+]
+place_only k (false ∷ flags) i c = let r = place_only (k + 1) flags i c in (suc r.0, omega (arith, r.1), r.2)
+
+place_all : (k : ℕ) (flags : List Bool) (j : ℕ) → WasSeen flags j → (i : ℕ) → i ≡ k + j → Contains (places k flags) i
+place_all k [] j h i e = absurd (false≢true h)
+place_all k (true ∷ flags) zero h i e = (0, omega arith, omega arith)
+place_all k (true ∷ flags) (suc j) h i e = behind k (places (k + 1) flags) i (place_all (k + 1) flags j h i (omega arith))
+place_all k (false ∷ flags) zero h i e = absurd (false≢true h)
+place_all k (false ∷ flags) (suc j) h i e = place_all (k + 1) flags j h i (omega arith)
+
+places_low : (k : ℕ) (flags : List Bool) (p d : ℕ) → p < length (places k flags) → k ≤ get_or (places k flags) p d
+places_low k [] p d lt = absurd (omega arith)
+places_low k (true ∷ flags) zero d lt = omega arith
+places_low k (true ∷ flags) (suc p) d lt = omega (arith, places_low (k + 1) flags p d (omega arith))
+places_low k (false ∷ flags) p d lt = omega (arith, places_low (k + 1) flags p d lt)
+
+places_rise : (k : ℕ) (flags : List Bool) → IsRising (places k flags)
+places_rise k [] i m d lt in_list = absurd (omega arith)
+places_rise k (true ∷ flags) i zero d lt in_list = absurd (omega arith)
+places_rise k (true ∷ flags) zero (suc m) d lt in_list = omega (arith, places_low (k + 1) flags m d (omega arith))
+places_rise k (true ∷ flags) (suc i) (suc m) d lt in_list = places_rise (k + 1) flags i m d (omega arith) (omega arith)
+places_rise k (false ∷ flags) i m d lt in_list = places_rise (k + 1) flags i m d lt in_list
+
+places_true : (i : ℕ) (b : Bool) (rest : List Bool) → b ≡ true → places i (b ∷ rest) ≡ i ∷ places (i + 1) rest
+places_true i true rest h = refl
+places_true i false rest h = absurd (false≢true h)
+
+places_false : (i : ℕ) (b : Bool) (rest : List Bool) → b ≡ false → places i (b ∷ rest) ≡ places (i + 1) rest
+places_false i false rest h = refl
+places_false i true rest h = absurd (false≢true (sym h))
+
+pub place_more : (out : List ℕ) (flags : List Bool) (all : List ℕ) (i : ℕ) → i < length flags → get_or flags i false ≡ true → out ++ places i (drop i flags) ≡ all → (out ++ i ∷ []) ++ places (i + 1) (drop (i + 1) flags) ≡ all
+place_more out flags all i lt h told =
+    append_assoc out (i ∷ []) (places (i + 1) (drop (i + 1) flags))
+    ∙ ap (λ (x : List ℕ). out ++ x) (sym (ap (places i) (drop_more flags i false lt) ∙ places_true i (get_or flags i false) (drop (i + 1) flags) h)) ∙ told
+
+pub place_past : (out : List ℕ) (flags : List Bool) (all : List ℕ) (i : ℕ) → i < length flags → get_or flags i false ≡ false → out ++ places i (drop i flags) ≡ all → out ++ places (i + 1) (drop (i + 1) flags) ≡ all
+place_past out flags all i lt h told =
+    ap (λ (x : List ℕ). out ++ x) (sym (ap (places i) (drop_more flags i false lt) ∙ places_false i (get_or flags i false) (drop (i + 1) flags) h)) ∙ told
+
+-- ---- the objects that persons with a flag know
+
+kept : (seen : List Bool) (j k : ℕ) → j < length seen → WasSeen seen k → WasSeen (set seen j true) k
+kept seen j k lt h = elim (cases_eq k j) [
+  | inl e ↦ ap (λ (n : ℕ). get_or (set seen j true) n false) e ∙ get_or-set_same seen j true false lt
+  | inr n ↦ get_or-set_other seen j k true false n ∙ h
+]
+
+unset : (n j : ℕ) → get_or (replicate n false) j false ≡ false
+unset zero j = refl
+unset (suc n) zero = refl
+unset (suc n) (suc j) = unset n j
+
+pub none_added : (row : List ShortArc) (seen : List Bool) → AreAdded row 0 seen seen
+none_added row seen = record { size = refl; stay = λ j h. h; each = λ k s lt e. absurd (omega arith); only = λ j h. inl h }
+
+-- one more arc of a row
+pub one_added : (row : List ShortArc) (n : ℕ) (old seen : List Bool) (a : ShortArc) → AreAdded row n old seen → slice_get row n ≡ Some a → a.object < length seen → AreAdded row (n + 1) old (set seen a.object true)
+one_added row n old seen a h here lt = record {
+  size = length-set seen a.object true ∙ h.size;
+  stay = λ j was. kept seen a.object j lt (h.stay j was);
+  each = λ k s l e. elim (cases_eq k n) [
+    | inl is ↦
+        let same : a ≡ s = same_Some a s (sym here ∙ ap (slice_get row) (sym is) ∙ e) in
+        subst (λ (x : ShortArc). WasSeen (set seen a.object true) x.object) same (get_or-set_same seen a.object true false lt)
+    | inr not ↦ kept seen a.object s.object lt (h.each k s (omega (arith, l, not)) e)
+  ];
+  only = λ j was. elim (cases_eq j a.object) [
+    | inl is ↦ inr (a, contains_at row n a here, sym is)
+    | inr not ↦ h.only j (sym (get_or-set_other seen a.object j true false not) ∙ was)
+  ];
+}
+
+module _ (r : FlatTable) (is_in : List Bool) where
+  pub none_known : (seen : List Bool) → seen ≡ replicate r.objects false → AreKnownTo r is_in 0 seen
+  none_known seen is = record {
+    size = ap length is ∙ length-replicate r.objects false;
+    all = λ i j lt has knows. absurd (omega arith);
+    only = λ j was. absurd (both_ways (get_or seen j false) (ap (λ (x : List Bool). get_or x j false) is ∙ unset r.objects j) was);
+  }
+
+  -- the row of one more person who has a flag
+  pub row_known : (i : ℕ) (seen new : List Bool) → AreKnownTo r is_in i seen → WasSeen is_in i → AreAdded (flat_row_of r i) (length (flat_row_of r i)) seen new → AreKnownTo r is_in (i + 1) new
+  row_known i seen new h has added = record {
+    size = added.size ∙ h.size;
+    all = λ m j lt its knows. elim (cases_eq m i) [
+      | inl is ↦
+          let own = subst (λ (n : ℕ). KnowsShort r n j) is knows in
+          let at = place_of (flat_row_of r i) own.0 own.1 in
+          subst (WasSeen new) own.2 (added.each at.0 own.0 (slice_get_within (flat_row_of r i) at.0 own.0 at.1) at.1)
+      | inr not ↦ added.stay j (h.all m j (omega (arith, lt, not)) its knows)
+    ];
+    only = λ j was. elim (added.only j was) [
+      | inl old ↦ (let x = h.only j old in (x.0, omega (arith, x.1), x.2, x.3))
+      | inr own ↦ (i, omega arith, has, own)
+    ];
+  }
+
+  -- and one who has none
+  pub row_past : (i : ℕ) (seen : List Bool) → AreKnownTo r is_in i seen → get_or is_in i false ≡ false → AreKnownTo r is_in (i + 1) seen
+  row_past i seen h none = record {
+    size = h.size;
+    all = λ m j lt its knows. elim (cases_eq m i) [
+      | inl is ↦ absurd (both_ways (get_or is_in i false) none (subst (WasSeen is_in) is its))
+      | inr not ↦ h.all m j (omega (arith, lt, not)) its knows
+    ];
+    only = λ j was. (let x = h.only j was in (x.0, omega (arith, x.1), x.2, x.3));
+  }
+
+  pub is_short_hall_set : (seen : List Bool) → length is_in ≡ length r.rows → AreKnownTo r is_in (length r.rows) seen → length (places 0 seen) < length (places 0 is_in) → IsShortHallSet r (places 0 is_in) (places 0 seen)
+  is_short_hall_set seen many h fewer =
+      let below : (i : ℕ) → WasSeen is_in i → i < length r.rows = λ i was. elim (cases_lt i (length is_in)) [
+        | inl lt ↦ omega (arith, lt, many)
+        | inr le ↦ absurd (both_ways (get_or is_in i false) (get_or_past is_in i false le) was)
+      ] in
+      let flag : (i : ℕ) → Contains (places 0 is_in) i → WasSeen is_in i = λ i c. (let x = place_only 0 is_in i c in subst (WasSeen is_in) (omega (arith, x.1)) x.2) in
+      record {
+        within = λ i c. below i (flag i c);
+        persons_rise = places_rise 0 is_in;
+        objects_rise = places_rise 0 seen;
+        all = λ i j c knows. place_all 0 seen j (h.all i j (below i (flag i c)) (flag i c) knows) j (omega arith);
+        only = λ j c.
+            let x = place_only 0 seen j c in
+            let y = h.only j (subst (WasSeen seen) (omega (arith, x.1)) x.2) in
+            (y.0, place_all 0 is_in y.0 y.2 y.0 (omega arith), y.3);
+        fewer = fewer;
+      }

@@ -1,0 +1,20 @@
+-- for use above
+pub mod Bounds
+pub mod BidsLaws
+pub mod MarketLaws
+pub mod PhasesLaws
+pub mod EndingLaws
+pub mod Moving
+pub mod Opening
+pub mod Ways
+-- for this crate
+mod ScanLaws
+mod Shortlists
+mod BidLaws
+mod HighBids
+mod Incumbents
+mod Example
+mod StartLaws
+mod Serving
+mod Refinement
+mod HallLaws

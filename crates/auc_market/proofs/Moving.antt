@@ -1,0 +1,127 @@
+-- Moves of a market, one after another.
+use Rattle.std.proofs.Common.{Bool, Err, Ok, Result, ap, ℕ, ℤ, pos, refl, ◌+◌, ◌-◌, ◌^◌, ◌≤◌, ◌≡◌, ◌∙◌, arith, List, inl, inr, length, sym, subst}
+use Rattle.std.specs.Prelude.{IfOk, ◌⊎◌, ◌*ℤ◌, ◌≤ℤ◌}
+use Rattle.std.proofs.lemmas.Int.{ints}
+use Rattle.auc_claim.specs.declared.reason.Reason.{Reason}
+use Rattle.auc_graph.specs.Assignment.{total}
+use Rattle.auc_letters.specs.Price.{IsEps}
+use Rattle.auc_rows.specs.declared.arc.ShortArc.{ShortArc}
+use Rattle.auc_rows.specs.Rows.{FlatTable, IsFlatTable, scale_in}
+use Rattle.auc_market.specs.declared.ending.Ending.{Ending}
+use Rattle.auc_market.specs.Bids.{AreCounted, AreSpent, IsBidMade, State}
+use Rattle.auc_market.specs.Endings.{IsEnding, IsLeft, IsSold, IsStopped, IsToldOr}
+use Rattle.auc_market.specs.Eps.{IsEpsOf}
+use Rattle.auc_market.specs.Market.{HaveObjects, IsAbove, Stands}
+use Rattle.auc_market.specs.Phases.{ArePhases, IsOpened, IsPhase, IsRun}
+use Rattle.auc_market.specs.Phases.ArePhases.{begins, opens, refines}
+use Rattle.auc_market.specs.Position.{AreHandedOn, IsBegun, IsBid, IsMove, IsPlayed, IsRefinedWhole, IsRefinement, IsSlice, IsTried, Law, Position, Spends, state_at}
+use Rattle.auc_market.specs.Way.{IsWay}
+use Rattle.auc_market.proofs.BidsLaws.{made_all, made_more, made_none, made_on, made_raises, made_risen, made_slice, made_within, run_out}
+use Rattle.auc_market.proofs.Bounds.{scaled_abs}
+use Rattle.auc_market.proofs.EndingLaws.{sold_left, stopped_before, watched_stopped}
+use Rattle.auc_market.proofs.PhasesLaws.{counted_within, one_phase, opened_phase, phase_more, phases_on, within_slice}
+
+-- a bid at it fits
+pub eps_fits : (r : FlatTable) (eps : ℤ) → IsFlatTable r → IsEpsOf r eps → IsEps eps
+eps_fits r eps sound is = record { low = is.low; high = by is.high }
+  where
+    by : (eps ≡ pos 1) ⊎ (eps ≤ℤ (scale_in r *ℤ r.spread)) → eps ≤ℤ pos (2 ^ 60)
+    by (inl one) = omega (arith, ints, one)
+    by (inr le) = let m = sound.most in let s = scaled_abs (scale_in r) r.spread (omega (arith, ints)) (omega (arith, ints, m)) sound.low sound.high in omega (arith, ints, le, s)
+
+pub eps_one : (r : FlatTable) → IsEpsOf r (pos 1)
+eps_one r = record { low = omega (arith, ints); high = inl refl }
+
+-- the spread of the costs, or less, and at least 1
+pub eps_within : (r : FlatTable) (most spread eps : ℤ) → most ≡ (scale_in r *ℤ r.spread) → spread ≤ℤ most → (eps ≡ pos 1) ⊎ (eps ≡ spread) → pos 1 ≤ℤ eps → IsEpsOf r eps
+eps_within r most spread eps is few (inl one) low = record { low = low; high = inl one }
+eps_within r most spread eps is few (inr same) low = record { low = low; high = inr (omega (arith, ints, is, few, same)) }
+
+-- a lesser one
+pub eps_below : (r : FlatTable) (eps next : ℤ) → IsEpsOf r eps → pos 1 ≤ℤ next → next ≤ℤ eps → IsEpsOf r next
+eps_below r eps next is low le = record { low = low; high = by is.high }
+  where
+    by : (eps ≡ pos 1) ⊎ (eps ≤ℤ (scale_in r *ℤ r.spread)) → (next ≡ pos 1) ⊎ (next ≤ℤ (scale_in r *ℤ r.spread))
+    by (inl one) = inl (omega (arith, ints, one, low, le))
+    by (inr few) = inr (omega (arith, ints, few, le))
+
+pub spends_none : (p : Position) (left : ℕ) → Spends left left p p
+spends_none p left = record { table = refl; eps = refl; spent = made_none p.table p.eps left (state_at p) }
+
+-- one bid more, and a path
+pub spends_more : (a b c d : Position) (before left after i j k : ℕ) → Spends before left a b → IsBid i b c j → IsMove j c d k → left ≡ after + 1 → Spends before after a d
+spends_more a b c d before left after i j k s bid move one =
+    let made : IsBidMade a.table a.eps (state_at b) (state_at c) = rw (s.table, s.eps) at bid.made in
+    let way : IsWay a.table a.eps j c.prices d.prices d.holders c.owns d.owns k = rw (bid.table ∙ s.table, bid.eps ∙ s.eps) at move.way in
+    record {
+      table = move.table ∙ (bid.table ∙ s.table);
+      eps = move.eps ∙ (bid.eps ∙ s.eps);
+      spent = made_more a.table a.eps before left after (state_at a) (state_at b) (state_at c) (state_at d) s.spent made (record { person = j; free = k; way = way }) one;
+    }
+
+pub spends_on : (a b c : Position) (before mid after : ℕ) → Spends before mid a b → Spends mid after b c → Spends before after a c
+spends_on a b c before mid after s t =
+    let spent : AreSpent a.table a.eps mid after (state_at b) (state_at c) = rw (s.table, s.eps) at t.spent in
+    record {
+      table = t.table ∙ s.table;
+      eps = t.eps ∙ s.eps;
+      spent = made_on a.table a.eps before mid after (state_at a) (state_at b) (state_at c) s.spent spent;
+    }
+
+-- a bid that would be too high has changed nothing
+pub spends_still : (a b c : Position) (before left : ℕ) → c ≡ b → Spends before left a b → Spends before left a c
+spends_still a b c before left same s = subst (Spends before left a) (sym same) s
+
+pub above_still : (b c : Position) → c ≡ b → IsAbove b.table b.eps b.prices → IsAbove c.table c.eps c.prices
+above_still b c same above = subst (λ (p : Position). IsAbove p.table p.eps p.prices) (sym same) above
+
+-- a slice of a phase that has made all its bids, after those before it
+pub spends_slice : (most before slice : ℕ) (ending : Ending) (a b c : Position) → ending ≡ Ending.Stopped Reason.Bids → slice ≤ before → Spends most before a b → IsSlice slice ending b c → Spends most (before - slice) a c
+spends_slice most before slice ending a b c out le s is =
+    let counted : AreCounted a.table a.eps slice ending (state_at b) (state_at c) = rw (s.table, s.eps) at is.counted in
+    record {
+      table = is.table ∙ s.table;
+      eps = is.eps ∙ s.eps;
+      spent = made_slice a.table a.eps most before slice ending (state_at a) (state_at b) (state_at c) out le s.spent counted;
+    }
+
+-- what so many bids are of a phase
+pub spent_tried : (most left : ℕ) (a b : Position) → Law a → Spends most left a b → IsTried most a b
+spent_tried most left a b law s =
+    let made = made_within a.table a.eps most left (state_at a) (state_at b) s.spent in
+    record {
+      table = s.table;
+      eps = s.eps;
+      phase = record { eps = a.eps; is_eps = law.eps; stands = law.stands; made = made };
+      risen = made_risen a.table a.eps (state_at a) (state_at b) most law.sound law.eps.low law.stands.prices_are made;
+    }
+
+-- with a slice after them, however it has ended
+pub slice_tried : (most before slice : ℕ) (ending : Ending) (a b c : Position) → Law a → slice ≤ before → Spends most before a b → IsSlice slice ending b c → IsTried most a c
+slice_tried most before slice ending a b c law le s is =
+    let counted : AreCounted a.table a.eps slice ending (state_at b) (state_at c) = rw (s.table, s.eps) at is.counted in
+    let made = within_slice a.table a.eps most before slice (state_at a) (state_at b) (state_at c) s.spent le (counted_within a.table a.eps slice ending (state_at b) (state_at c) counted) in
+    record {
+      table = is.table ∙ s.table;
+      eps = is.eps ∙ s.eps;
+      phase = record { eps = a.eps; is_eps = law.eps; stands = law.stands; made = made };
+      risen = made_risen a.table a.eps (state_at a) (state_at c) most law.sound law.eps.low law.stands.prices_are made;
+    }
+
+-- a phase that has made all its bids
+pub all_spent : (most left : ℕ) (a b : Position) → Law a → left ≡ 0 → Spends most left a b → IsEnding a.table most (total a.prices) (Ending.Stopped Reason.Bids) b.prices b.owns
+all_spent most left a b law none s =
+    let all = made_all a.table a.eps most left (state_at a) (state_at b) none s.spent in
+    (run_out a.table a.eps most (state_at a) (state_at b) law.eps law.stands all, (made_raises a.table a.eps (state_at a) (state_at b) most law.sound law.eps.low law.stands.prices_are all).1)
+
+pub tried_more : (few bids : ℕ) (a b : Position) → few ≤ bids → IsTried few a b → IsTried bids a b
+tried_more few bids a b le is = record { table = is.table; eps = is.eps; phase = phase_more a.table few bids (state_at a) (state_at b) le is.phase; risen = is.risen }
+
+pub no_refinement : (p : Position) → IsRefinement p p
+no_refinement p = record { table = refl; refined = state_at p; is = record { owns = refl; risen = omega (arith, ints) }; after = inl refl; risen = omega (arith, ints) }
+
+-- ---- what is known of a result
+
+pub on_ok : {X E : Type 0} (P Q : X → Type 0) (r : Result X E) → ((x : X) → P x → Q x) → IfOk r P → IfOk r Q
+on_ok P Q (Ok x) f h = f x h
+on_ok P Q (Err e) f h = tt

@@ -1,0 +1,69 @@
+-- What a phase begins with.
+use Rattle.std.proofs.Common.{ℕ, ℤ, pos, w64, zero, suc, refl, ◌<◌, ◌≤◌, ◌≡◌, arith, List, length, get_or, replicate, inl, inr, ap, sym, subst, ◌∙◌}
+use Rattle.std.specs.Prelude.{All, FitsSigned, ◌⊎◌, ◌*◌, ◌^◌, ◌*ℤ◌, ◌<ℤ◌, ◌≤ℤ◌, unsigned_abs}
+use Rattle.std.proofs.lemmas.Int.{ints}
+use Rattle.std.proofs.lemmas.List.{get_or-replicate, get_or_default, length-replicate, same_lists}
+use Rattle.std.proofs.lemmas.List.Elements.{All-replicate, All-weaker}
+use Rattle.auc_claim.specs.Start.{IsStartPrice}
+use Rattle.auc_graph.specs.Assignment.{total}
+use Rattle.auc_graph.specs.Dual.{price_at}
+use Rattle.auc_graph.specs.Problem.{Problem}
+use Rattle.auc_graph.specs.Table.{IsTableOf, Table}
+use Rattle.auc_graph.specs.Price.{IsPrice}
+use Rattle.auc_rows.specs.declared.arc.ShortArc.{ShortArc}
+use Rattle.auc_rows.specs.Rows.{AreSameRows, FlatTable}
+use Rattle.auc_market.specs.declared.holdings.TheConstants.{NOBODY}
+use Rattle.auc_market.proofs.Bounds.{product_abs, product_low}
+use Rattle.auc_market.proofs.MarketLaws.{replicate_default, total_low}
+use Rattle.auc_market.specs.Endings.{IsStart}
+use Rattle.auc_market.specs.Market.{AreSpare, Stands, holder_at, no_own, own_at}
+use Rattle.auc_market.specs.Starts.{ArePricesOf}
+
+-- a list of so many times the same
+pub all_same : {X : Type 0} (a : X) (xs ys : List X) (n : ℕ) → length xs ≡ length ys → length xs ≤ n → ((k : ℕ) → k < n → get_or xs k a ≡ a) → xs ≡ replicate (length ys) a
+all_same a xs ys n len enough same =
+    same_lists xs (replicate (length ys) a) (len ∙ sym (length-replicate (length ys) a))
+    (λ k d lt. get_or_default xs k d a lt ∙ same k (omega (arith, lt, enough)) ∙ sym (get_or-replicate (length ys) k a d (omega (arith, lt, len))))
+
+pub stands_opened : (r : FlatTable) (first eps : ℤ) (prices : List ℤ) (holders : List ℕ) (owns : List ShortArc) (n m : ℕ) → IsStart r first prices → n ≡ r.objects → m ≡ length r.rows → holders ≡ replicate n NOBODY → owns ≡ replicate m no_own → Stands r eps prices holders owns
+stands_opened r first eps prices holders owns n m start objects persons nobody none = record {
+  prices_are = start.each;
+  holders_are = ap length nobody ∙ length-replicate n NOBODY ∙ objects;
+  owns_are = ap length none ∙ length-replicate m no_own ∙ persons;
+  within = start.within;
+  spare = spare start.spare;
+  held = λ j some. absurd (some (unheld j));
+  holds = λ i some. absurd (some (unowned i));
+  slack = λ i some. absurd (some (unowned i));
+}
+  where
+    unheld : (j : ℕ) → holder_at holders j ≡ NOBODY
+    unheld j = ap (λ (hs : List ℕ). holder_at hs j) nobody ∙ replicate_default n j NOBODY
+
+    unowned : (i : ℕ) → (own_at owns i).object ≡ NOBODY
+    unowned i = ap (λ (os : List ShortArc). (own_at os i).object) none ∙ ap (λ (s : ShortArc). s.object) (replicate_default m i no_own)
+
+    spare : (r.objects ≡ length r.rows) ⊎ ((first ≡ pos 1) × ((j : ℕ) → price_at prices j ≡ pos 0)) → AreSpare r prices holders
+    spare (inl square) = inl square
+    spare (inr zeros) = inr (λ j free. zeros.1 j)
+
+-- ---- what a run begins with
+
+zero_price : IsPrice (pos 0)
+zero_price = record { low = omega (arith, ints); high = omega (arith, ints) }
+
+-- no price at all
+pub start_none : (r : FlatTable) (eps : ℤ) (n : ℕ) (prices : List ℤ) → n ≡ r.objects → prices ≡ replicate n (pos 0) → (r.objects ≡ length r.rows) ⊎ (eps ≡ pos 1) → IsStart r eps prices
+start_none r eps n prices many zeros start = record {
+  each = ap length zeros ∙ length-replicate n (pos 0) ∙ many;
+  within = subst (All IsPrice) (sym zeros) (All-replicate IsPrice n (pos 0) zero_price);
+  spare = by start;
+}
+  where
+    by : (r.objects ≡ length r.rows) ⊎ (eps ≡ pos 1) → (r.objects ≡ length r.rows) ⊎ ((eps ≡ pos 1) × ((j : ℕ) → price_at prices j ≡ pos 0))
+    by (inl square) = inl square
+    by (inr one) = inr (one, λ j. ap (λ (ps : List ℤ). price_at ps j) zeros ∙ replicate_default n j (pos 0))
+
+-- and where there are as many objects as persons, a run may begin with them
+pub start_at : (r : FlatTable) (start prices : List ℤ) → ArePricesOf r start → r.objects ≡ length r.rows → prices ≡ start → IsStart r (pos 1) prices
+start_at r start prices is square e = record { each = ap length e ∙ is.each; within = subst (All IsPrice) (sym e) is.within; spare = inl square }

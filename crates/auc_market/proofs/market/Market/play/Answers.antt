@@ -1,0 +1,59 @@
+use Rattle.std.proofs.Common.{◌-◌, ◌≡◌, ◌∙◌, ◌≤◌, true, inl, inr, refl, rules, sym, subst}
+use Rattle.auc_graph.specs.Assignment.{total}
+use Rattle.auc_market.specs.declared.ending.Ending.{Ending}
+use Rattle.auc_market.specs.Endings.{IsEnding}
+use Rattle.auc_market.proofs.EndingLaws.{ending_sold}
+use Rattle.auc_market.proofs.Moving.{all_spent, slice_tried, spends_none, spends_slice, spent_tried}
+use Rattle.auc_market.proofs.market.Market.play.Goals as goal
+
+pub loop-bids-init : goal.loop-bids-init
+loop-bids-init g c = record { spends = spends_none c.args.self.now c.args.bids; asked = refl }
+
+pub loop-bids-preserved : goal.loop-bids-preserved
+loop-bids-preserved g c =
+    let on : c.may_go_on.result ≡ true = search rules in
+    let inv = c.loop-bids.invariant in
+    let le : c.min-slice.result ≤ c.loop-bids.left = search rules in
+    record {
+      spends = spends_slice c.args.bids c.loop-bids.left c.min-slice.result c.in_ok-ending.ending c.args.self.now c.loop-bids.self c.play_slice.new.self (c.if-not-ran_out.ensures.yes refl) le inv.spends c.in_ok-ending.ensures.slice;
+      asked = c.may_go_on.ensures.yes on ∙ inv.asked;
+    }
+
+pub returns-then-not-may_go_on-clause-played : goal.returns-then-not-may_go_on-clause-played
+returns-then-not-may_go_on-clause-played g c = record {
+  tried = spent_tried c.args.bids c.loop-bids.left c.args.self.now c.loop-bids.self c.law.ensures c.loop-bids.invariant.spends;
+  sold = tt;
+  ended = inl (c.may_go_on.ensures.no (search rules), refl);
+}
+
+pub returns-then-not-ran_out-clause-played : goal.returns-then-not-ran_out-clause-played
+returns-then-not-ran_out-clause-played g c =
+    let on : c.may_go_on.result ≡ true = search rules in
+    let inv = c.loop-bids.invariant in
+    let le : c.min-slice.result ≤ c.loop-bids.left = search rules in
+    let old = c.args.self.now in
+    let new = c.play_slice.new.self in
+    let slice = c.in_ok-ending.ensures.slice in
+    let is = c.if-not-ran_out.ensures.no refl old.table c.min-slice.result c.args.bids (total c.loop-bids.self.prices) (total old.prices) new.prices new.owns (rw inv.spends.table at slice.ended) in
+    record {
+      tried = slice_tried c.args.bids c.loop-bids.left c.min-slice.result c.in_ok-ending.ending old c.loop-bids.self new c.law.ensures le inv.spends slice;
+      sold = ending_sold old.table c.args.bids (total old.prices) c.in_ok-ending.ending new.prices new.owns is;
+      ended = inr (c.may_go_on.ensures.yes on ∙ inv.asked, is);
+    }
+
+pub returns-then-left-eq0-clause-played : goal.returns-then-left-eq0-clause-played
+returns-then-left-eq0-clause-played g c =
+    let on : c.may_go_on.result ≡ true = search rules in
+    let inv = c.loop-bids.invariant in
+    let out = c.if-not-ran_out.ensures.yes refl in
+    let le : c.min-slice.result ≤ c.loop-bids.left = search rules in
+    let old = c.args.self.now in
+    let new = c.play_slice.new.self in
+    let slice = c.in_ok-ending.ensures.slice in
+    let spends = spends_slice c.args.bids c.loop-bids.left c.min-slice.result c.in_ok-ending.ending old c.loop-bids.self new out le inv.spends slice in
+    let is : IsEnding old.table c.args.bids (total old.prices) c.in_ok-ending.ending new.prices new.owns = subst (λ (x : Ending). IsEnding old.table c.args.bids (total old.prices) x new.prices new.owns) (sym out) (all_spent c.args.bids (c.loop-bids.left - c.min-slice.result) old new c.law.ensures c.if-left-eq0.true spends) in
+    record {
+      tried = spent_tried c.args.bids (c.loop-bids.left - c.min-slice.result) old new c.law.ensures spends;
+      sold = ending_sold old.table c.args.bids (total old.prices) c.in_ok-ending.ending new.prices new.owns is;
+      ended = inr (c.may_go_on.ensures.yes on ∙ inv.asked, is);
+    }

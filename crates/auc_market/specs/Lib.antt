@@ -1,0 +1,15 @@
+pub mod Scan
+pub mod Bid
+pub mod Eps
+pub mod Bids
+pub mod Phases
+pub mod Market
+pub mod Shortlist
+pub mod Starts
+pub mod Way
+pub mod Endings
+pub mod Incumbent
+pub mod Position
+pub mod Path
+pub mod Hall
+pub mod Halts

@@ -1,0 +1,91 @@
+-- The state of a phase: the prices, who holds each object, and by which arc each person holds his.
+use Rattle.std.specs.Prelude.{ℕ, ℤ, pos, ◌≡◌, ◌≢◌, ◌⊎◌, ◌<◌, ◌^◌, ◌+ℤ◌, ◌≤ℤ◌, ◌<ℤ◌, List, [], length, All, Contains, slice_index_or}
+use Rattle.auc_graph.specs.Assignment.{total}
+use Rattle.auc_graph.specs.Dual.{price_at}
+use Rattle.auc_graph.specs.Problem.{Problem}
+use Rattle.auc_graph.specs.Price.{IsPrice}
+use Rattle.auc_rows.specs.declared.arc.ShortArc.{ShortArc}
+use Rattle.auc_rows.specs.Rows.{FlatTable, flat_row_of, scale_in, short_row}
+use Rattle.auc_market.specs.declared.holdings.TheConstants.{NOBODY}
+use Rattle.auc_market.specs.Bid.{IsOffer}
+use Rattle.auc_market.specs.Scan.{short_value}
+
+-- who holds an object
+abbrev pub holder_at : List ℕ → ℕ → ℕ
+holder_at holders j = slice_index_or holders j NOBODY
+
+-- what stands for the arc of a person who holds no object
+abbrev pub no_own : ShortArc
+no_own = record { object = NOBODY; cost = pos 0 }
+
+-- the arc by which a person holds his object
+abbrev pub own_at : List ShortArc → ℕ → ShortArc
+own_at owns i = slice_index_or owns i no_own
+
+-- an arc of a person, and no other one of his is better by more than eps
+pub record IsSlack (r : FlatTable) (eps : ℤ) (prices : List ℤ) (i : ℕ) (s : ShortArc) : Type 0 where
+  pub listed : Contains (flat_row_of r i) s
+  pub least : All (λ b. short_value (scale_in r) prices s ≤ℤ (short_value (scale_in r) prices b +ℤ eps)) (flat_row_of r i)
+
+-- there are as many objects as persons, or one that nobody holds has no price
+abbrev pub AreSpare : FlatTable → List ℤ → List ℕ → Type 0
+AreSpare r prices holders = (r.objects ≡ length r.rows) ⊎ ((j : ℕ) → holder_at holders j ≡ NOBODY → price_at prices j ≡ pos 0)
+
+-- What holds between two bids: each object's holder has it, and each person who has one is its holder.
+pub record Stands (r : FlatTable) (eps : ℤ) (prices : List ℤ) (holders : List ℕ) (owns : List ShortArc) : Type 0 where
+  pub prices_are : length prices ≡ r.objects
+  pub holders_are : length holders ≡ r.objects
+  pub owns_are : length owns ≡ length r.rows
+  pub within : All IsPrice prices
+  pub spare : AreSpare r prices holders
+  pub held : (j : ℕ) → holder_at holders j ≢ NOBODY → (own_at owns (holder_at holders j)).object ≡ j
+  pub holds : (i : ℕ) → (own_at owns i).object ≢ NOBODY → holder_at holders (own_at owns i).object ≡ i
+  pub slack : (i : ℕ) → (own_at owns i).object ≢ NOBODY → IsSlack r eps prices i (own_at owns i)
+
+-- prices have risen, and nobody has got or left an object
+pub record IsLifted (prices new : List ℤ) (holders held : List ℕ) (owns had : List ShortArc) : Type 0 where
+  pub many : length new ≡ length prices
+  pub within : All IsPrice new
+  pub higher : (k : ℕ) → price_at prices k ≤ℤ price_at new k
+  pub holders_are : held ≡ holders
+  pub owns_are : had ≡ owns
+
+-- each of the first n persons has an object
+abbrev pub HaveObjects : ℕ → List ShortArc → Type 0
+HaveObjects n owns = (i : ℕ) → i < n → (own_at owns i).object ≢ NOBODY
+
+-- Each of the first n persons has an object, but for two, who have none and are not the same: who bids next, and who waits for his turn. NOBODY stands for one where there is none.
+pub record HaveAllBut (n : ℕ) (owns : List ShortArc) (person other : ℕ) : Type 0 where
+  pub none : (own_at owns person).object ≡ NOBODY
+  pub waits : (own_at owns other).object ≡ NOBODY
+  pub apart : person ≢ NOBODY → person ≢ other
+  pub others : (i : ℕ) → i < n → i ≢ person → i ≢ other → (own_at owns i).object ≢ NOBODY
+
+-- at these prices and this eps somebody's bid would be more than the greatest price
+pub record IsAbove (r : FlatTable) (eps : ℤ) (prices : List ℤ) : Type 0 where
+  pub person : ℕ
+  pub known : person < length r.rows
+  pub arc : ShortArc
+  pub amount : ℤ
+  pub offer : IsOffer (scale_in r) r.spread eps prices (flat_row_of r person) arc amount
+  pub above : pos (2 ^ 61) <ℤ amount
+
+-- no price is lower than before
+abbrev pub AreHigher : List ℤ → List ℤ → Type 0
+AreHigher prices new = (k : ℕ) → price_at prices k ≤ℤ price_at new k
+
+-- What a bid that was awarded comes to: the bidder has an object, and who has held it has none.
+pub record IsAwarded (r : FlatTable) (eps : ℤ) (person : ℕ) (prices new : List ℤ) (sold : List ℕ) (owns left : List ShortArc) (displaced : ℕ) : Type 0 where
+  pub stands : Stands r eps new sold left
+  pub more : (total prices +ℤ pos 1) ≤ℤ total new
+  pub none : (own_at left displaced).object ≡ NOBODY
+  pub but : (n other : ℕ) → HaveAllBut n owns person other → HaveAllBut n left displaced other
+  pub below : displaced ≢ NOBODY → displaced < length r.rows
+  pub higher : AreHigher prices new
+
+-- and one that would be too high: nothing has changed
+pub record IsTooHigh (r : FlatTable) (eps : ℤ) (prices new : List ℤ) (holders sold : List ℕ) (owns left : List ShortArc) : Type 0 where
+  pub prices_are : new ≡ prices
+  pub holders_are : sold ≡ holders
+  pub owns_are : left ≡ owns
+  pub above : IsAbove r eps prices

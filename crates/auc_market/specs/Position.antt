@@ -1,0 +1,147 @@
+-- What clauses see of a market, what always holds of it, and what each move comes to.
+use Rattle.std.specs.Prelude.{Bool, ℕ, ℤ, pos, ◌≡◌, ◌≢◌, ◌⊎◌, ◌<◌, ◌≤◌, ◌≤ℤ◌, List, length}
+use Rattle.auc_graph.specs.Assignment.{total}
+use Rattle.auc_rows.specs.declared.arc.ShortArc.{ShortArc}
+use Rattle.auc_rows.specs.Rows.{EachHasArc, FlatTable, IsFlatTable}
+use Rattle.auc_market.specs.declared.ending.Chain.{Chain}
+use Rattle.auc_market.specs.declared.ending.Ending.{Ending}
+use Rattle.auc_market.specs.declared.holdings.TheConstants.{NOBODY}
+use Rattle.auc_market.specs.declared.incumbent.Incumbent.{Incumbent}
+use Rattle.auc_market.specs.declared.shortlist.Shortlist.{Shortlist}
+use Rattle.auc_market.specs.Bids.{AreCounted, AreSpent, IsBidMade, State, state}
+use Rattle.auc_market.specs.Endings.{IsEnding, IsLeft, IsSold, IsStopped, IsToldOr}
+use Rattle.auc_market.specs.Eps.{IsEpsOf}
+use Rattle.auc_market.specs.Incumbent.{IsIncumbent}
+use Rattle.auc_market.specs.Market.{HaveAllBut, HaveObjects, IsAbove, IsAwarded, Stands, own_at}
+use Rattle.auc_market.specs.Phases.{ArePhases, IsOpened, IsPhase, IsRefined}
+use Rattle.auc_market.specs.Shortlist.{Kept}
+use Rattle.auc_market.specs.Way.{IsWay}
+
+-- the rows, eps, the prices, who holds each object, and by which arc each person holds his
+pub record Position : Type 0 where
+  pub table : FlatTable
+  pub eps : ℤ
+  pub prices : List ℤ
+  pub holders : List ℕ
+  pub owns : List ShortArc
+
+abbrev pub position : FlatTable → ℤ → List ℤ → List ℕ → List ShortArc → Position
+position r e p h o = record { table = r; eps = e; prices = p; holders = h; owns = o }
+
+abbrev pub state_at : Position → State
+state_at p = state p.prices p.holders p.owns
+
+-- ---- what always holds
+
+pub record Law (p : Position) : Type 0 where
+  pub sound : IsFlatTable p.table
+  pub arcs : EachHasArc p.table
+  pub eps : IsEpsOf p.table p.eps
+  pub stands : Stands p.table p.eps p.prices p.holders p.owns
+
+-- and each list of candidates is right, and the incumbent was held once
+pub record IsMarket (p : Position) (lists : List Shortlist) (incumbent : Incumbent) : Type 0 where
+  pub law : Law p
+  pub kept : Kept p.table p.prices lists
+  pub incumbent_is : IsIncumbent p.table incumbent
+
+-- what a run begins with: these rows, and the last eps
+pub record Begins (r : FlatTable) (p : Position) : Type 0 where
+  pub table : p.table ≡ r
+  pub eps : p.eps ≡ pos 1
+
+-- ---- moves within a phase
+
+-- a person who holds no object
+pub record IsFree (p : Position) (person : ℕ) : Type 0 where
+  pub known : person < length p.table.rows
+  pub none : (own_at p.owns person).object ≡ NOBODY
+
+-- the same, or nobody
+pub record IsFreed (p : Position) (person : ℕ) : Type 0 where
+  pub below : person ≢ NOBODY → person < length p.table.rows
+  pub none : (own_at p.owns person).object ≡ NOBODY
+
+-- A free person bids, and holds the object; who has held it is free.
+pub record IsBid (person : ℕ) (old new : Position) (displaced : ℕ) : Type 0 where
+  pub table : new.table ≡ old.table
+  pub eps : new.eps ≡ old.eps
+  pub awarded : IsAwarded old.table old.eps person old.prices new.prices new.holders old.owns new.owns displaced
+  pub made : IsBidMade old.table old.eps (state_at old) (state_at new)
+
+-- A free person goes by an augmenting path, or stays; one person is free in his place, or none.
+pub record IsMove (person : ℕ) (old new : Position) (freed : ℕ) : Type 0 where
+  pub table : new.table ≡ old.table
+  pub eps : new.eps ≡ old.eps
+  pub way : IsWay old.table old.eps person old.prices new.prices new.holders old.owns new.owns freed
+
+-- bids, with paths between them, after which so many of those that might be made are left
+pub record Spends (before left : ℕ) (old new : Position) : Type 0 where
+  pub table : new.table ≡ old.table
+  pub eps : new.eps ≡ old.eps
+  pub spent : AreSpent old.table old.eps before left (state_at old) (state_at new)
+
+-- whoever had an object, or began the chain, has one; or the bids have run out; or a bid would be too high
+abbrev pub IsChain : ℕ → ℕ → Chain → Position → Position → Type 0
+IsChain first left Chain.Placed old new = (n : ℕ) → n ≤ length new.table.rows → HaveAllBut n old.owns first NOBODY → HaveObjects n new.owns
+IsChain first left Chain.Bids old new = left ≡ 0
+IsChain first left Chain.Ceiling old new = IsAbove new.table new.eps new.prices
+
+-- the first n persons have objects, but for one who waits; or as above
+abbrev pub AreServed : ℕ → ℕ → ℕ → Chain → Position → Type 0
+AreServed n left waits Chain.Placed new = (waits < length new.table.rows) × HaveAllBut n new.owns NOBODY waits
+AreServed n left waits Chain.Bids new = left ≡ 0
+AreServed n left waits Chain.Ceiling new = IsAbove new.table new.eps new.prices
+
+-- all persons have objects; or as above
+abbrev pub AreSold : ℕ → Chain → Position → Type 0
+AreSold left Chain.Placed new = HaveObjects (length new.table.rows) new.owns
+AreSold left Chain.Bids new = left ≡ 0
+AreSold left Chain.Ceiling new = IsAbove new.table new.eps new.prices
+
+-- ---- phases
+
+-- a part of a phase, of at most so many bids
+pub record IsSlice (bids : ℕ) (ending : Ending) (old new : Position) : Type 0 where
+  pub table : new.table ≡ old.table
+  pub eps : new.eps ≡ old.eps
+  pub ended : IsEnding old.table bids (total old.prices) ending new.prices new.owns
+  pub counted : AreCounted old.table old.eps bids ending (state_at old) (state_at new)
+
+-- a phase of at most so many bids, whole or in part
+pub record IsTried (bids : ℕ) (old new : Position) : Type 0 where
+  pub table : new.table ≡ old.table
+  pub eps : new.eps ≡ old.eps
+  pub phase : IsPhase old.table bids (state_at old) (state_at new)
+  pub risen : total old.prices ≤ℤ total new.prices
+
+-- and how it has ended; who watches it may have stopped it
+pub record IsPlayed (bids : ℕ) (before after : Bool) (ending : Ending) (old new : Position) : Type 0 where
+  pub tried : IsTried bids old new
+  pub sold : IsSold old.table ending new.owns
+  pub ended : IsToldOr before after ending (IsEnding old.table bids (total old.prices) ending new.prices new.owns)
+
+-- the next phase begins at this eps: the prices stay, and nobody holds anything
+pub record IsBegun (eps : ℤ) (old new : Position) : Type 0 where
+  pub table : new.table ≡ old.table
+  pub eps_is : new.eps ≡ eps
+  pub prices : new.prices ≡ old.prices
+  pub none : (i : ℕ) → (own_at new.owns i).object ≡ NOBODY
+
+-- prices were refined: each person has what he had, or nobody holds anything any more
+pub record IsRefinement (old new : Position) : Type 0 where
+  pub table : new.table ≡ old.table
+  pub refined : State
+  pub is : IsRefined (state_at old) refined
+  pub after : (state_at new ≡ refined) ⊎ IsOpened refined (state_at new)
+  pub risen : total old.prices ≤ℤ total new.prices
+
+-- each person has kept what he held, and is within 1 of his best
+pub record IsRefinedWhole (new : Position) : Type 0 where
+  pub eps_is : new.eps ≡ pos 1
+  pub have : HaveObjects (length new.table.rows) new.owns
+
+-- what such a market is given up for: what each person holds, where all have one; else that, or the incumbent, at the same prices
+abbrev pub AreHandedOn : Ending → Position → List ℤ → List ℕ → List ShortArc → Type 0
+AreHandedOn Ending.Sold p prices holders owns = (prices ≡ p.prices) × (holders ≡ p.holders) × (owns ≡ p.owns)
+AreHandedOn (Ending.Stopped reason) p prices holders owns = (prices ≡ p.prices) × ((eps : ℤ) × Stands p.table eps prices holders owns)

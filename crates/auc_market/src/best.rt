@@ -1,0 +1,33 @@
+//! A person's best arc, and what his other arcs are worth at least.
+
+ghost use Rattle.std.specs.Prelude.{◌<◌, pos, ◌≤ℤ◌, All, length};
+ghost use Rattle.auc_graph.specs.Price.{IsPrice};
+ghost use Rattle.auc_rows.specs.Rows.{IsShort};
+ghost use Rattle.auc_market.specs.Scan.{IsPricedRow, short_value};
+ghost use Rattle.auc_market.specs.Shortlist.{IsBest};
+
+use crate::scan::scan;
+use auc_rows::ShortArc;
+
+/// What a person's best arc is worth, what no other one of his is worth less than (the greatest number where he has no other), and the arc.
+#[derive(Clone, Copy)]
+pub(crate) struct Best {
+    pub(crate) value: i64,
+    pub(crate) second: i64,
+    pub(crate) arc: ShortArc,
+}
+
+/// The best arc of a row, by a pass over all of it.
+#[inline(always)]
+pub(crate) fn best_of(scale: i64, row: &[ShortArc], prices: &[i64]) -> Best
+    requires priced { IsPricedRow scale prices.now row.now }
+    requires some { 0 < length row.now }
+    ensures { IsBest (short_value scale prices.now) row.now result }
+{
+    let found = scan(scale, row, prices);
+    Best {
+        value: found.value,
+        second: found.second,
+        arc: row[found.place],
+    }
+}

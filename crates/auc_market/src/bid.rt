@@ -1,0 +1,93 @@
+//! What a person bids at the present prices.
+
+ghost use Rattle.std.specs.Prelude.{true, false, ◌≡◌, ◌<◌, ◌+◌, ◌*◌, ◌^◌, pos, ◌+ℤ◌, ◌-ℤ◌, ◌*ℤ◌, ◌≤ℤ◌, ◌<ℤ◌, All, length};
+ghost use Rattle.auc_graph.specs.Price.{IsPrice};
+ghost use Rattle.auc_letters.specs.Price.{IsEps};
+ghost use Rattle.auc_rows.specs.Rows.{flat_row_of, scale_in};
+ghost use Rattle.auc_market.specs.Bid.{IsOffer, IsRaise};
+ghost use Rattle.auc_market.specs.Scan.{IsValue, endless, short_value};
+ghost use Rattle.auc_market.specs.Shortlist.{IsBest};
+
+use crate::best::Best;
+use auc_graph::MOST_PRICE;
+use auc_rows::{FlatRows, ShortArc};
+
+/// What is bid: an amount, in scaled costs, which the object's price is then; and the arc that it is bid by.
+#[derive(Clone, Copy)]
+pub(crate) struct Bid {
+    pub(crate) amount: i64,
+    pub(crate) arc: ShortArc,
+}
+
+impl Bid {
+    /// Whether its amount is above the greatest price.
+    #[inline(always)]
+    pub(crate) fn is_too_high(self) -> bool
+        ensures above { result ≡ true → pos (2 ^ 61) <ℤ self.amount }
+        ensures within { result ≡ false → self.amount ≤ℤ pos (2 ^ 61) }
+    {
+        self.amount > MOST_PRICE
+    }
+}
+
+/// The spread of all costs, scaled.
+#[inline(always)]
+pub(crate) fn scaled_spread(rows: &FlatRows) -> i64
+    ensures is { result ≡ scale_in rows.now *ℤ rows.now.spread }
+    ensures low { pos 0 ≤ℤ result }
+    ensures high { result ≤ℤ pos (2 ^ 45) }
+{
+    rows.scale() * rows.spread()
+}
+
+/// How much more the second arc of a row is worth than its best one; the scaled spread of all costs where there is no second.
+#[inline(always)]
+fn lead_of(rows: &FlatRows, best: Best) -> i64
+    requires value { IsValue best.value }
+    requires second { best.second <ℤ endless → IsValue best.second }
+    requires order { best.value ≤ℤ best.second }
+    ensures next { best.second <ℤ endless → result ≡ (best.second -ℤ best.value) }
+    ensures only { endless ≤ℤ best.second → result ≡ scale_in rows.now *ℤ rows.now.spread }
+    ensures low { pos 0 ≤ℤ result }
+    ensures high { result ≤ℤ pos (2 ^ 61 + 2 ^ 46) }
+{
+    if best.second < i64::MAX {
+        best.second - best.value
+    } else {
+        scaled_spread(rows)
+    }
+}
+
+/// The price, how much more the second arc is worth, and eps.
+#[inline(always)]
+fn amount_of(price: i64, lead: i64, eps: i64) -> i64
+    requires price { IsPrice price }
+    requires lead_low { pos 0 ≤ℤ lead }
+    requires lead_high { lead ≤ℤ pos (2 ^ 61 + 2 ^ 46) }
+    requires eps { IsEps eps }
+    ensures { result ≡ (price +ℤ lead) +ℤ eps }
+{
+    price + lead + eps
+}
+
+/// What a person bids at these prices, indexed by object: on his best arc, and so much that it is then worth eps more than his second. `eps` and `prices` are in scaled costs.
+///
+/// O(1): the best arc is found before. The method is the bid of the auction algorithm (Bertsekas, 1979).
+#[inline(always)]
+pub(crate) fn bid_of(rows: &FlatRows, eps: i64, _person: u32, best: Best, prices: &[i64]) -> Bid
+    requires eps { IsEps eps }
+    requires many { length prices.now ≡ rows.now.objects }
+    requires prices { All IsPrice prices.now }
+    requires best { IsBest (short_value (scale_in rows.now) prices.now) (flat_row_of rows.now _person) best }
+    ensures raise { IsRaise (scale_in rows.now) eps prices.now (flat_row_of rows.now _person) result.arc result.amount }
+    ensures offer { IsOffer (scale_in rows.now) rows.now.spread eps prices.now (flat_row_of rows.now _person) result.arc result.amount }
+{
+    // Read here, so that the proof knows what all rows keep.
+    let _ = rows.persons();
+    let arc = best.arc;
+    let lead = lead_of(rows, best);
+    Bid {
+        amount: amount_of(prices[arc.object as usize], lead, eps),
+        arc,
+    }
+}

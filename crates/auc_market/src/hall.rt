@@ -1,0 +1,76 @@
+//! Persons who together know fewer objects than they number, by flags of the persons. Who made the flags proves nothing of them: what they come to is counted.
+
+ghost use Rattle.std.specs.Prelude.{◌≡◌, ◌<◌, ◌^◌, All, length, IfOk, IfSome};
+ghost use Rattle.auc_hall.specs.Chosen.{places};
+ghost use Rattle.auc_rows.specs.Rows.{IsShort};
+ghost use Rattle.auc_market.specs.Hall.{AreAdded, AreKnownTo, IsShortHallSet};
+
+use auc_rows::{FlatRows, ShortArc};
+use std::alloc::{AllocError, Global};
+
+/// Persons who together know fewer objects than they number, and these objects, both in rising order.
+#[derive(Drop)]
+pub struct HallSet {
+    pub persons: Vec<u32>,
+    pub objects: Vec<u32>,
+}
+
+/// Sets the flag of each object of a row.
+fn add_row(seen: &mut [bool], row: &[ShortArc])
+    requires { All (IsShort (length seen.old)) row.now }
+    ensures { AreAdded row.now (length row.now) seen.old seen.new }
+{
+    for arc in row {
+        seen[arc.object as usize] = true;
+    }
+}
+
+/// For each object, whether a person who has a flag knows it. O(arcs).
+fn known_to(alloc: Global, rows: &FlatRows, is_in: &[bool]) -> Result<Vec<bool>, AllocError>
+    requires { length is_in.now ≡ length rows.now.rows }
+    ensures { IfOk result (λ v. AreKnownTo rows.now is_in.now (length rows.now.rows) v.items) }
+{
+    let mut seen = vec![in alloc; false; rows.objects() as usize]?;
+    for person in 0..rows.persons() {
+        if is_in[person as usize] {
+            add_row(seen.as_mut_slice(), rows.row(person));
+        }
+    }
+    Ok(seen)
+}
+
+/// The places of the flags that are set, in rising order.
+fn places_of(alloc: Global, flags: &[bool]) -> Result<Vec<u32>, AllocError>
+    requires { length flags.now < 2 ^ 32 }
+    ensures { IfOk result (λ v. v.items ≡ places 0 flags.now) }
+{
+    let mut out = Vec::new(alloc);
+    for i in 0..flags.len() {
+        if !flags[i] {
+            continue;
+        }
+        out.push(i as u32)?;
+    }
+    Ok(out)
+}
+
+/// The persons who have a flag, with the objects that they know. None where these are not fewer than they.
+pub(crate) fn hall_set_of(
+    alloc: Global,
+    rows: &FlatRows,
+    is_in: &[bool],
+) -> Result<Option<HallSet>, AllocError>
+    requires { length is_in.now ≡ length rows.now.rows }
+    ensures { IfOk result (λ o. IfSome o (λ h. IsShortHallSet rows.now h.persons.items h.objects.items)) }
+{
+    // Read here, so that the proof knows what all rows keep.
+    let _ = rows.persons();
+    let seen = known_to(alloc, rows, is_in)?;
+    let persons = places_of(alloc, is_in)?;
+    let objects = places_of(alloc, seen.as_slice())?;
+    if objects.len() < persons.len() {
+        Ok(Some(HallSet { persons, objects }))
+    } else {
+        Ok(None)
+    }
+}

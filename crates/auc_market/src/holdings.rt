@@ -1,0 +1,181 @@
+//! The state of a phase: the prices, who holds each object, and by which arc each person holds his.
+
+ghost use Rattle.std.specs.Prelude.{◌≡◌, ◌≢◌, ◌<◌, ◌≤◌, ℕ, pos, length, replicate, set, IfOk};
+ghost use Rattle.auc_market.specs.Market.{holder_at, no_own, own_at};
+
+use crate::bid::Bid;
+use crate::scan::worth;
+use auc_rows::ShortArc;
+use std::alloc::{AllocError, Global};
+
+/// Stands for the holder of an object that nobody holds, and for the object of a person who holds none.
+pub const NOBODY: u32 = 4_294_967_295;
+
+/// Stands for the arc of a person who holds no object.
+pub(crate) const NO_OWN: ShortArc = ShortArc {
+    object: NOBODY,
+    cost: 0,
+};
+
+/// Stands for what a person pays who holds nothing: no arc is worth less.
+const NOTHING: i64 = -17_592_186_044_416;
+
+/// Prices in scaled costs and holders, both indexed by object, and the arcs by which persons hold, indexed by person.
+#[derive(Drop)]
+pub struct Holdings {
+    pub prices: Vec<i64>,
+    pub holders: Vec<u32>,
+    pub owns: Vec<ShortArc>,
+}
+
+impl Holdings {
+    /// At these prices nobody holds anything.
+    pub(crate) fn new(alloc: Global, persons: u32, prices: Vec<i64>) -> Result<Holdings, AllocError>
+        ensures prices { IfOk result (λ m. m.prices.items ≡ prices.items) }
+        ensures holders { IfOk result (λ m. m.holders.items ≡ replicate (length prices.items) NOBODY) }
+        ensures owns { IfOk result (λ m. m.owns.items ≡ replicate persons no_own) }
+    {
+        let holders = vec![in alloc; NOBODY; prices.len()]?;
+        let owns = vec![in alloc; NO_OWN; persons as usize]?;
+        Ok(Holdings {
+            prices,
+            holders,
+            owns,
+        })
+    }
+
+    /// Nobody holds anything any more, and the prices stay.
+    pub(crate) fn open(&mut self)
+        ensures prices { self.new.prices.items ≡ self.old.prices.items }
+        ensures holders { self.new.holders.items ≡ replicate (length self.old.holders.items) NOBODY }
+        ensures owns { self.new.owns.items ≡ replicate (length self.old.owns.items) no_own }
+    {
+        for object in 0..self.holders.len() {
+            self.holders[object] = NOBODY;
+        }
+        for person in 0..self.owns.len() {
+            self.owns[person] = NO_OWN;
+        }
+    }
+
+    /// Nobody holds anything any more, and nothing has a price.
+    pub(crate) fn empty(&mut self)
+        ensures prices { self.new.prices.items ≡ replicate (length self.old.prices.items) (pos 0) }
+        ensures holders { self.new.holders.items ≡ replicate (length self.old.holders.items) NOBODY }
+        ensures owns { self.new.owns.items ≡ replicate (length self.old.owns.items) no_own }
+    {
+        for object in 0..self.prices.len() {
+            self.prices[object] = 0;
+        }
+        self.open();
+    }
+
+    /// A person leaves his object, which has no price then.
+    pub(crate) fn leave(&mut self, person: u32)
+        requires person { person < length self.old.owns.items }
+        requires price { (own_at self.old.owns.items person).object < length self.old.prices.items }
+        requires holder { (own_at self.old.owns.items person).object < length self.old.holders.items }
+        ensures prices { self.new.prices.items ≡ set self.old.prices.items (own_at self.old.owns.items person).object (pos 0) }
+        ensures holders { self.new.holders.items ≡ set self.old.holders.items (own_at self.old.owns.items person).object NOBODY }
+        ensures owns { self.new.owns.items ≡ set self.old.owns.items person no_own }
+    {
+        let object = self.owns[person as usize].object as usize;
+        self.prices[object] = 0;
+        self.holders[object] = NOBODY;
+        self.owns[person as usize] = NO_OWN;
+    }
+
+    /// The object of a bid is the bidder's, the amount is its price, and who has held it has none; gives him.
+    #[inline(always)]
+    pub(crate) fn award(&mut self, person: u32, bid: Bid) -> u32
+        requires price { bid.arc.object < length self.old.prices.items }
+        requires holder { bid.arc.object < length self.old.holders.items }
+        requires person { person < length self.old.owns.items }
+        requires earlier { holder_at self.old.holders.items bid.arc.object ≢ NOBODY → holder_at self.old.holders.items bid.arc.object < length self.old.owns.items }
+        requires few { length self.old.owns.items < NOBODY }
+        ensures prices { self.new.prices.items ≡ set self.old.prices.items bid.arc.object bid.amount }
+        ensures holders { self.new.holders.items ≡ set self.old.holders.items bid.arc.object person }
+        ensures owns { self.new.owns.items ≡ set (set self.old.owns.items person bid.arc) (holder_at self.old.holders.items bid.arc.object) no_own }
+        ensures earlier { result ≡ holder_at self.old.holders.items bid.arc.object }
+    {
+        let object = bid.arc.object as usize;
+        let earlier = self.holders[object];
+        self.prices[object] = bid.amount;
+        self.holders[object] = person;
+        self.owns[person as usize] = bid.arc;
+        // Where nobody has held it the bidder's own arc is written again, so that there is no branch: it would be guessed wrongly where a chain of bids ends.
+        let (last, own) = if earlier == NOBODY {
+            (person, bid.arc)
+        } else {
+            (earlier, NO_OWN)
+        };
+        self.owns[last as usize] = own;
+        earlier
+    }
+
+    /// The first person from here on, below `until`, who has no object and is neither of these two; `until` where there is none.
+    #[inline(always)]
+    pub(crate) fn free_from(&self, from: u32, until: u32, person: u32, other: u32) -> u32
+        requires from { from ≤ until }
+        requires until { until ≤ length self.now.owns.items }
+        ensures least { from ≤ result }
+        ensures most { result ≤ until }
+        ensures free { result < until → (own_at self.now.owns.items result).object ≡ NOBODY }
+        ensures neither { result < until → (result ≢ person) × (result ≢ other) }
+        ensures passed { (i : ℕ) → from ≤ i → i < result → i ≢ person → i ≢ other → (own_at self.now.owns.items i).object ≢ NOBODY }
+    {
+        for at in from..until {
+            let is_free = self.owns[at as usize].object == NOBODY;
+            if is_free && at != person && at != other {
+                return at;
+            }
+        }
+        until
+    }
+
+    /// Who holds an object; NOBODY where nobody does.
+    #[inline]
+    pub(crate) fn holder_of(&self, object: u32) -> u32
+        ensures { result ≡ holder_at self.now.holders.items object }
+    {
+        if (object as usize) < self.holders.len() {
+            self.holders[object as usize]
+        } else {
+            NOBODY
+        }
+    }
+
+    /// The price of an object.
+    #[inline]
+    pub(crate) fn price_of(&self, object: u32) -> i64 {
+        if (object as usize) < self.prices.len() {
+            self.prices[object as usize]
+        } else {
+            0
+        }
+    }
+
+    /// What a person pays for what he holds, by sums that wrap.
+    #[inline]
+    pub(crate) fn own_worth(&self, scale: i64, person: u32) -> i64 {
+        if person as usize >= self.owns.len() {
+            return NOTHING;
+        }
+        let own = self.owns[person as usize];
+        if own.object == NOBODY {
+            return NOTHING;
+        }
+        worth(scale, own.cost, self.price_of(own.object))
+    }
+
+    /// How many persons have an object.
+    pub(crate) fn count(&self) -> u32 {
+        let mut held: u32 = 0;
+        for own in &self.owns {
+            if own.object != NOBODY {
+                held = held.saturating_add(1);
+            }
+        }
+        held
+    }
+}

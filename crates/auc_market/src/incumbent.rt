@@ -1,0 +1,49 @@
+//! The incumbent: what persons held when each had an object last. A run that is stopped answers with it, at the prices of the stop.
+
+ghost use Rattle.std.specs.Prelude.{◌≡◌, false, length, IfOk};
+ghost use Rattle.auc_market.specs.Incumbent.{AreSetAside};
+
+use crate::holdings::{Holdings, NO_OWN, NOBODY};
+use auc_rows::ShortArc;
+use std::alloc::{AllocError, Global};
+use std::mem;
+
+/// Who held each object, indexed by object; by which arc each person held his, indexed by person; and whether each person had one.
+#[derive(Drop)]
+pub(crate) struct Incumbent {
+    pub(crate) holders: Vec<u32>,
+    pub(crate) owns: Vec<ShortArc>,
+    pub(crate) is_whole: bool,
+}
+
+impl Incumbent {
+    /// There is none yet.
+    pub(crate) fn new(alloc: Global, persons: u32, objects: u32) -> Result<Incumbent, AllocError>
+        ensures holders { IfOk result (λ i. length i.holders.items ≡ objects) }
+        ensures owns { IfOk result (λ i. length i.owns.items ≡ persons) }
+        ensures none { IfOk result (λ i. i.is_whole ≡ false) }
+    {
+        let holders = vec![in alloc; NOBODY; objects as usize]?;
+        let owns = vec![in alloc; NO_OWN; persons as usize]?;
+        Ok(Incumbent {
+            holders,
+            owns,
+            is_whole: false,
+        })
+    }
+}
+
+impl Holdings {
+    /// Where each person has an object, what they hold is the incumbent from now on, and these holdings are to be opened.
+    pub(crate) fn set_aside(&mut self, incumbent: &mut Incumbent)
+        ensures prices { self.new.prices ≡ self.old.prices }
+        ensures aside { AreSetAside self.old incumbent.old self.new incumbent.new }
+    {
+        if !self.all_have() {
+            return;
+        }
+        mem::swap(&mut self.holders, &mut incumbent.holders);
+        mem::swap(&mut self.owns, &mut incumbent.owns);
+        incumbent.is_whole = true;
+    }
+}

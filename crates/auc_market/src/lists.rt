@@ -1,0 +1,76 @@
+//! The lists of candidates of all persons, by which most bids of long rows look at a few arcs alone.
+
+ghost use Rattle.std.specs.Prelude.{◌≡◌, ◌<◌, List, ℤ, All, length, IfOk};
+ghost use Rattle.auc_graph.specs.Price.{IsPrice};
+ghost use Rattle.auc_rows.specs.Rows.{EachHasArc, flat_row_of, scale_in};
+ghost use Rattle.auc_market.specs.Scan.{short_value};
+ghost use Rattle.auc_market.specs.Shortlist.{IsBest, Kept};
+
+use crate::best::{Best, best_of};
+use crate::shortlist::{ROOM, Shortlist, Values};
+use auc_rows::FlatRows;
+use std::alloc::{AllocError, Global};
+
+/// With so many arcs and more a row has a list of its best ones: with fewer a branch that is guessed wrongly takes as long as the list spares.
+pub const LONG: usize = 48;
+
+/// A list for each person, indexed by person, where most arcs stand in long rows; else none. And what they are made with.
+#[derive(Drop)]
+pub(crate) struct Lists {
+    pub(crate) lists: Vec<Shortlist>,
+    values: Values,
+}
+
+/// How many arcs stand in rows that are long enough for a list.
+fn arcs_of_long_rows(rows: &FlatRows) -> usize {
+    let mut long: usize = 0;
+    for person in 0..rows.persons() {
+        let arcs = rows.row(person).len();
+        if arcs >= LONG {
+            long = long.saturating_add(arcs);
+        }
+    }
+    long
+}
+
+impl Lists {
+    /// Lists with no arc, which say nothing. 176 bytes a person where most arcs stand in long rows. Where fewer do, lists take more memory than they are worth: each person would have one.
+    pub(crate) fn new(alloc: Global, rows: &FlatRows) -> Result<Lists, AllocError>
+        ensures { IfOk result (λ l. (prices : List ℤ) → Kept rows.now prices l.lists.items) }
+    {
+        let long = arcs_of_long_rows(rows);
+        let are_mostly_long = long > rows.arc_count() / 2;
+        let count = if are_mostly_long { rows.persons() } else { 0 };
+        let mut lists = Vec::with_capacity(alloc, count as usize)?;
+        for _ in 0..count {
+            lists.push(Shortlist::new())?;
+        }
+        Ok(Lists {
+            lists,
+            values: [i64::MAX; ROOM],
+        })
+    }
+
+    /// The best arc of a person at these prices: by his list where he has one and his row is long, and else by a pass over the row.
+    #[inline(always)]
+    pub(crate) fn best(&mut self, rows: &FlatRows, scale: i64, person: u32, prices: &[i64]) -> Best
+        requires person { person < length rows.now.rows }
+        requires arcs { EachHasArc rows.now }
+        requires scale { scale ≡ scale_in rows.now }
+        requires many { length prices.now ≡ rows.now.objects }
+        requires prices { All IsPrice prices.now }
+        requires kept { Kept rows.now prices.now self.old.lists.items }
+        ensures best { IsBest (short_value scale prices.now) (flat_row_of rows.now person) result }
+        ensures kept { Kept rows.now prices.now self.new.lists.items }
+    {
+        let row = rows.row(person);
+        let place = person as usize;
+        if row.len() < LONG || place >= self.lists.len() {
+            return best_of(scale, row, prices);
+        }
+        if let Some(best) = self.lists[place].told(scale, prices) {
+            return best;
+        }
+        self.lists[place].best_anew(scale, row, prices, &mut self.values)
+    }
+}

@@ -1,0 +1,246 @@
+//! The market: rows, eps, prices and who holds what, and all moves that change them. What always holds of it is said here, once, on its type:
+//!
+//! 1. Each object has one price and one place for a holder, and each person has one place for an arc.
+//! 2. A price is from 0 to 2^61.
+//! 3. The holder of an object holds that object.
+//! 4. A person who holds an object is its holder, so no object is held twice.
+//! 5. A person holds by an arc of his row.
+//! 6. Epsilon-complementary slackness: no other arc of that row has a reduced cost that is lower by more than eps.
+//! 7. Where there are more objects than persons, an object that nobody holds has price 0.
+//! 8. Eps is from 1 to the scaled spread of the costs, or 1; and each person has an arc.
+//! 9. Each candidate list is right: no arc that it leaves out is worth less than its bound.
+//!
+//! A move takes the market from one such position to another: [`Market::bid`] (a bid is an award, as in Gauss-Seidel), [`Market::path`] (a shortest augmenting path, or the Hall violator that it has reached),
+//! [`Market::refine`] (price refinement) and [`Market::open`] (the next eps). When each is made is strategy, and no answer depends on it. Starts are seated before there is a market (`starts.rt`, `adopt.rt`).
+
+ghost use Rattle.std.specs.Prelude.{true, ◌≡◌, ◌≢◌, ◌≤◌, ◌<◌, ℕ, ℤ, pos, length, IfErr, IfNone, IfOk, IfSome, OnOk};
+ghost use Rattle.auc_rows.specs.Rows.{EachHasArc};
+ghost use Rattle.auc_market.specs.declared.holdings.TheConstants.{NOBODY};
+ghost use Rattle.auc_market.specs.Endings.{IsStart};
+ghost use Rattle.auc_market.specs.Eps.{IsEpsOf};
+ghost use Rattle.auc_market.specs.Halts.{IsHalt};
+ghost use Rattle.auc_market.specs.Market.{IsAbove, Stands, own_at};
+ghost use Rattle.auc_market.specs.Position.{AreHandedOn, Begins, IsBegun, IsBid, IsFree, IsMove, IsRefinedWhole, IsRefinement, Law, position};
+
+use crate::ending::Ending;
+use crate::eps::{LAST_EPS, spread_of};
+use crate::halt::Halt;
+use crate::holdings::{Holdings, NOBODY};
+use crate::incumbent::Incumbent;
+use crate::lists::Lists;
+use crate::search::Search;
+use crate::way::Way;
+use auc_rows::FlatRows;
+use std::alloc::{AllocError, Global};
+use std::marker::Model;
+
+/// The rows; eps, in scaled costs; prices, holders and arcs; candidate lists; and room for searches.
+#[derive(Drop)]
+pub struct Market<'a> {
+    alloc: Global,
+    rows: &'a FlatRows,
+    eps: i64,
+    holdings: Holdings,
+    lists: Lists,
+    search: Search,
+    incumbent: Incumbent,
+}
+
+impl<'a> Model for Market<'a> {
+    ghost use Rattle.auc_market.specs.Position.{IsMarket, Position};
+
+    ghost Value = { Position };
+
+    ghost view = { λ m. record { table = m.rows.now; eps = m.eps; prices = m.holdings.prices.items; holders = m.holdings.holders.items; owns = m.holdings.owns.items } };
+
+    ghost invariant = { λ m. IsMarket (record { table = m.rows.now; eps = m.eps; prices = m.holdings.prices.items; holders = m.holdings.holders.items; owns = m.holdings.owns.items }) m.lists.lists.items m.incumbent };
+}
+
+impl<'a> Market<'a> {
+    /// A market at these prices, and the last eps, in which nobody holds anything.
+    ///
+    /// # Errors
+    ///
+    /// Only where memory was refused.
+    pub fn new(
+        alloc: Global,
+        rows: &'a FlatRows,
+        prices: Vec<i64>,
+    ) -> Result<Market<'a>, AllocError>
+        requires arcs { EachHasArc rows.now }
+        requires start { IsStart rows.now (pos 1) prices.items }
+        ensures begins { IfOk result (Begins rows.now) }
+        ensures prices { IfOk result (λ m. m.prices ≡ prices.items) }
+    {
+        let holdings = Holdings::new(alloc, rows.persons(), prices)?;
+        Market::with(alloc, rows, holdings)
+    }
+
+    /// The market in which persons hold this, at the last eps.
+    pub(crate) fn with(
+        alloc: Global,
+        rows: &'a FlatRows,
+        holdings: Holdings,
+    ) -> Result<Market<'a>, AllocError>
+        requires arcs { EachHasArc rows.now }
+        requires stands { Stands rows.now (pos 1) holdings.prices.items holdings.holders.items holdings.owns.items }
+        ensures begins { IfOk result (Begins rows.now) }
+        ensures prices { IfOk result (λ m. m.prices ≡ holdings.prices.items) }
+    {
+        let lists = Lists::new(alloc, rows)?;
+        let incumbent = Incumbent::new(alloc, rows.persons(), rows.objects())?;
+        Ok(Market {
+            alloc,
+            rows,
+            eps: LAST_EPS,
+            holdings,
+            lists,
+            search: Search::new(alloc),
+            incumbent,
+        })
+    }
+
+    /// What holds of each market, for a caller whose proof wants it. It does nothing.
+    #[inline(always)]
+    pub fn law(&self)
+        ensures { Law self.now }
+    {
+        let _ = &self.rows;
+    }
+
+    /// The number of persons.
+    #[inline(always)]
+    pub fn persons(&self) -> u32
+        ensures { result ≡ length self.now.table.rows }
+    {
+        let rows = self.rows;
+        rows.persons()
+    }
+
+    /// Eps, in scaled costs.
+    pub fn eps(&self) -> i64
+        ensures { result ≡ self.now.eps }
+    {
+        self.eps
+    }
+
+    /// How many persons hold an object. O(persons).
+    pub fn held(&self) -> u32 {
+        self.holdings.count()
+    }
+
+    /// The mean spread of the rows of at least so many persons, or of all, at the present prices, in scaled costs, and at least 1: eps of a phase may be as great.
+    pub fn spread(&self, sample: u32) -> i64
+        ensures { IsEpsOf self.now.table result }
+    {
+        let rows = self.rows;
+        spread_of(rows, self.holdings.prices.as_slice(), sample)
+    }
+
+    /// The first person from here on, below `until`, who holds no object and is neither of these two; `until` where there is none.
+    #[inline(always)]
+    pub(crate) fn free_from(&self, from: u32, until: u32, person: u32, other: u32) -> u32
+        requires from { from ≤ until }
+        requires until { until ≤ length self.now.table.rows }
+        ensures least { from ≤ result }
+        ensures most { result ≤ until }
+        ensures free { result < until → (own_at self.now.owns result).object ≡ NOBODY }
+        ensures neither { result < until → (result ≢ person) × (result ≢ other) }
+        ensures passed { (i : ℕ) → from ≤ i → i < result → i ≢ person → i ≢ other → (own_at self.now.owns i).object ≢ NOBODY }
+    {
+        self.holdings.free_from(from, until, person, other)
+    }
+
+    /// A free person bids, and has the object; gives who has held it, or NOBODY. None where the bid would be above the greatest price: nothing has changed then.
+    #[inline(always)]
+    pub(crate) fn bid(&mut self, person: u32) -> Option<u32>
+        requires { IsFree self.old person }
+        ensures bid { IfSome result (IsBid person self.old self.new) }
+        ensures above { IfNone result ((self.new ≡ self.old) × IsAbove self.old.table self.old.eps self.old.prices) }
+    {
+        let rows = self.rows;
+        let lists = &mut self.lists;
+        self.holdings.step(rows, self.eps, person, lists)
+    }
+
+    /// A free person goes by a shortest augmenting path where there is one; gives who is free then, and how many arcs were looked at.
+    ///
+    /// # Errors
+    ///
+    /// Persons who together know too few objects, or memory was refused.
+    pub(crate) fn path(&mut self, person: u32) -> Result<Way, Halt>
+        requires { IsFree self.old person }
+        ensures way { IfOk result (λ w. IsMove person self.old self.new w.free) }
+        ensures halt { IfErr result (IsHalt self.old.table) }
+    {
+        let rows = self.rows;
+        let search = &mut self.search;
+        self.holdings
+            .find_way(self.alloc, rows, self.eps, person, search)
+    }
+
+    /// Raises prices, with so many looks at persons, until each is within 1 of his best: then nothing costs less than what persons hold, and eps is the last one. Gives whether that came to its end; where it
+    /// was begun and hasn't, nobody holds anything any more.
+    pub fn refine(&mut self, looks: u64) -> Result<bool, AllocError>
+        requires square { self.old.table.objects ≡ length self.old.table.rows }
+        ensures refined { OnOk result (IsRefinement self.old self.new) }
+        ensures whole { IfOk result (λ b. b ≡ true → IsRefinedWhole self.new) }
+    {
+        if looks == 0 {
+            return Ok(false);
+        }
+        let rows = self.rows;
+        let lists = &mut self.lists;
+        let is_least = self.holdings.refine(self.alloc, rows, looks, lists)?;
+        if !is_least {
+            self.holdings.set_aside(&mut self.incumbent);
+            self.holdings.open();
+            return Ok(false);
+        }
+        self.eps = LAST_EPS;
+        Ok(true)
+    }
+
+    /// The next phase begins at this eps: prices stay, and nobody holds anything.
+    pub fn open(&mut self, eps: i64)
+        requires eps { IsEpsOf self.old.table eps }
+        requires square { self.old.table.objects ≡ length self.old.table.rows }
+        ensures { IsBegun eps self.old self.new }
+    {
+        self.eps = eps;
+        self.holdings.set_aside(&mut self.incumbent);
+        self.holdings.open();
+    }
+
+    /// What it has come to. Where it was stopped, the incumbent, if there is one, at the present prices.
+    pub fn into_holdings(self, ending: Ending) -> Holdings
+        ensures { AreHandedOn ending self.entry result.prices.items result.holders.items result.owns.items }
+    {
+        match ending {
+            Ending::Sold => self.holdings,
+            Ending::Stopped(_) => self.or_incumbent(),
+        }
+    }
+
+    /// The incumbent at the present prices; or what is held, where there is none.
+    fn or_incumbent(self) -> Holdings
+        ensures prices { result.prices.items ≡ self.entry.prices }
+        ensures stands { (eps : ℤ) × Stands self.entry.table eps result.prices.items result.holders.items result.owns.items }
+    {
+        let Market {
+            holdings,
+            incumbent,
+            ..
+        } = self;
+        if incumbent.is_whole {
+            let Holdings { prices, .. } = holdings;
+            let Incumbent { holders, owns, .. } = incumbent;
+            return Holdings {
+                prices,
+                holders,
+                owns,
+            };
+        }
+        holdings
+    }
+}

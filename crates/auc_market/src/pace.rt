@@ -1,0 +1,98 @@
+//! How long a phase bids before it searches. It sees numbers of bids and of arcs alone, so no answer depends on it.
+
+ghost use Rattle.std.specs.Prelude.{◌≤◌};
+
+use crate::eps::LAST_EPS;
+use crate::lists::LONG;
+use crate::shortlist::ROOM;
+use auc_rows::FlatRows;
+
+/// The numbers of the strategy by which phases are paced.
+#[derive(Clone, Copy)]
+pub struct Pacing {
+    /// How many arcs of a bid an arc of a search for a path takes the time of.
+    pub search: u64,
+    /// How many times as long as a search a chain may take before the last phase; and which part of all arcs the first search is taken to look at.
+    pub early: u64,
+    /// How many arcs are looked at between two questions to a watch, about.
+    pub slice: u64,
+}
+
+/// How many arcs a bid looks at, about; how many bids take as long as a search; whether the last phase is at hand; after how many bids in a row that each displace somebody a path is looked for; how many there
+/// were up to now, after the last search; and how many bids the phase at hand has made.
+#[derive(Clone, Copy)]
+pub struct Pace {
+    pacing: Pacing,
+    arcs_a_bid: u64,
+    search: u64,
+    is_last: bool,
+    pub(crate) patience: u64,
+    pub(crate) walked: u64,
+    pub made: u64,
+}
+
+/// How many arcs a bid looks at, about: those of the mean row, or of a list.
+fn arcs_a_bid(rows: &FlatRows) -> u64 {
+    let mean = rows
+        .arc_count()
+        .checked_div(rows.persons() as usize)
+        .unwrap_or(1)
+        .max(1);
+    if mean < LONG {
+        mean as u64
+    } else {
+        ROOM as u64
+    }
+}
+
+impl Pace {
+    /// Before the first phase: a search is taken to look at a part of all arcs.
+    pub fn new(rows: &FlatRows, pacing: Pacing) -> Pace {
+        let arcs_a_bid = arcs_a_bid(rows);
+        let arcs = (rows.arc_count() as u64).saturating_mul(pacing.search);
+        let arcs = arcs.checked_div(pacing.early).unwrap_or(arcs);
+        Pace {
+            pacing,
+            arcs_a_bid,
+            search: arcs.checked_div(arcs_a_bid).unwrap_or(1),
+            is_last: false,
+            patience: 1,
+            walked: 0,
+            made: 0,
+        }
+    }
+
+    /// After how many bids in a row a path is looked for.
+    fn wait(&mut self) {
+        let times = if self.is_last { 1 } else { self.pacing.early };
+        self.patience = self.search.saturating_mul(times).max(1);
+    }
+
+    /// A phase begins at this eps.
+    pub(crate) fn begin(&mut self, eps: i64) {
+        self.made = 0;
+        self.is_last = eps <= LAST_EPS;
+        self.wait();
+    }
+
+    /// A search has looked at so many arcs: half of what was known of searches before it counts, and half of what it took.
+    pub(crate) fn learn(&mut self, looked: u64) {
+        let bids = looked
+            .saturating_mul(self.pacing.search)
+            .checked_div(self.arcs_a_bid)
+            .unwrap_or(1);
+        self.search = (self.search / 2).saturating_add(bids / 2);
+        self.wait();
+    }
+
+    /// How many bids a phase makes between two questions to a watch.
+    pub(crate) fn slice(&self) -> u64
+        ensures { 1 ≤ result }
+    {
+        self.pacing
+            .slice
+            .checked_div(self.arcs_a_bid)
+            .unwrap_or(1)
+            .max(1)
+    }
+}

@@ -1,0 +1,165 @@
+//! A free person goes by an augmenting path that a search has proposed. What it proposes is tried: prices rise only where each holder stays within eps of his best, and a person takes an object only where he is.
+
+ghost use Rattle.std.specs.Prelude.{◌≡◌, ◌≢◌, ◌<◌, ℤ, List, IsTrue, false, length};
+ghost use Rattle.auc_letters.specs.Price.{IsEps};
+ghost use Rattle.auc_rows.specs.Rows.{IsFlatTable};
+ghost use Rattle.auc_market.specs.declared.holdings.TheConstants.{NOBODY};
+ghost use Rattle.auc_market.specs.Market.{AreHigher, Stands, own_at};
+ghost use Rattle.auc_market.specs.Path.{AreRaised, AreRises, AreWithin, IsWithin};
+ghost use Rattle.auc_market.specs.Starts.{any_eps};
+ghost use Rattle.auc_market.specs.Way.{IsWay};
+
+use crate::bid::Bid;
+use crate::holdings::{Holdings, NOBODY};
+use crate::search::Rise;
+use crate::slack::is_slack;
+use auc_graph::MOST_PRICE;
+use auc_rows::FlatRows;
+
+impl Holdings {
+    /// Notes the prices as they are. Gives whether each of these objects has a holder, and none of their prices would fall, or pass the greatest.
+    fn may_rise(&self, rises: &mut [Rise]) -> bool
+        ensures { IsTrue result → AreRises self.now.prices.items self.now.holders.items rises.new }
+    {
+        for place in 0..rises.len() {
+            let Rise { object, amount, .. } = rises[place];
+            if object as usize >= self.prices.len() || self.holder_of(object) == NOBODY {
+                return false;
+            }
+            let before = self.prices[object as usize];
+            if amount < before || MOST_PRICE < amount {
+                return false;
+            }
+            rises[place] = Rise {
+                object,
+                amount,
+                before,
+            };
+        }
+        true
+    }
+
+    /// The prices rise.
+    fn raise(&mut self, rises: &[Rise])
+        requires { AreRises self.old.prices.items self.old.holders.items rises.now }
+        ensures raised { AreRaised self.old.prices.items self.new.prices.items rises.now }
+        ensures holders { self.new.holders.items ≡ self.old.holders.items }
+        ensures owns { self.new.owns.items ≡ self.old.owns.items }
+    {
+        for rise in rises {
+            self.prices[rise.object as usize] = rise.amount;
+        }
+    }
+
+    /// The prices are what they were before they rose.
+    fn take_back(&mut self, rises: &[Rise])
+        ensures prices { (prices : List ℤ) → AreRises prices self.old.holders.items rises.now → AreRaised prices self.old.prices.items rises.now → self.new.prices.items ≡ prices }
+        ensures holders { self.new.holders.items ≡ self.old.holders.items }
+        ensures owns { self.new.owns.items ≡ self.old.owns.items }
+    {
+        for rise in rises {
+            if rise.object as usize >= self.prices.len() {
+                continue;
+            }
+            self.prices[rise.object as usize] = rise.before;
+        }
+    }
+
+    /// Whether a person is within eps of his best, where he has an object.
+    pub(crate) fn is_within(&self, rows: &FlatRows, eps: i64, person: u32) -> bool
+        requires eps { IsEps eps }
+        requires stands { Stands rows.now any_eps self.now.prices.items self.now.holders.items self.now.owns.items }
+        ensures yes { IsTrue result → IsWithin rows.now eps self.now.prices.items self.now.owns.items person }
+        ensures no { result ≡ false → (own_at self.now.owns.items person).object ≢ NOBODY }
+    {
+        if person >= rows.persons() {
+            return true;
+        }
+        let own = self.owns[person as usize];
+        own.object == NOBODY || is_slack(rows, eps, self.prices.as_slice(), person, own)
+    }
+
+    /// Whether each holder of these objects is within eps of his best.
+    fn are_within(&self, rows: &FlatRows, eps: i64, rises: &[Rise]) -> bool
+        requires eps { IsEps eps }
+        requires stands { Stands rows.now any_eps self.now.prices.items self.now.holders.items self.now.owns.items }
+        ensures { IsTrue result → AreWithin rows.now eps self.now.prices.items self.now.holders.items self.now.owns.items rises.now }
+    {
+        for rise in rises {
+            if !self.is_within(rows, eps, self.holder_of(rise.object)) {
+                return false;
+            }
+        }
+        true
+    }
+
+    /// Prices rise as a search proposes, where each person stays within eps of his best; else nothing changes. Gives whether they have.
+    fn rise(&mut self, rows: &FlatRows, eps: i64, rises: &mut [Rise]) -> bool
+        requires eps { IsEps eps }
+        requires sound { IsFlatTable rows.now }
+        requires stands { Stands rows.now eps self.old.prices.items self.old.holders.items self.old.owns.items }
+        ensures stands { Stands rows.now eps self.new.prices.items self.new.holders.items self.new.owns.items }
+        ensures higher { AreHigher self.old.prices.items self.new.prices.items }
+        ensures owns { self.new.owns.items ≡ self.old.owns.items }
+    {
+        if !self.may_rise(rises) {
+            return false;
+        }
+        self.raise(rises);
+        if self.are_within(rows, eps, rises) {
+            return true;
+        }
+        self.take_back(rises);
+        false
+    }
+
+    /// A free person takes the object of an arc of his row, at its price, where he is within eps of his best by it. Gives who is free then: whoever has held it, NOBODY where nobody has; himself where he may not.
+    fn take_at_price(&mut self, rows: &FlatRows, eps: i64, person: u32, place: u32) -> u32
+        requires eps { IsEps eps }
+        requires sound { IsFlatTable rows.now }
+        requires person { person < length rows.now.rows }
+        requires stands { Stands rows.now eps self.old.prices.items self.old.holders.items self.old.owns.items }
+        requires none { (own_at self.old.owns.items person).object ≡ NOBODY }
+        ensures { IsWay rows.now eps person self.old.prices.items self.new.prices.items self.new.holders.items self.old.owns.items self.new.owns.items result }
+    {
+        let row = rows.row(person);
+        if place as usize >= row.len() {
+            return person;
+        }
+        let arc = row[place as usize];
+        if !is_slack(rows, eps, self.prices.as_slice(), person, arc) {
+            return person;
+        }
+        let amount = self.prices[arc.object as usize];
+        self.award(person, Bid { amount, arc })
+    }
+
+    /// A free person goes by a path that was proposed. Gives who is free then, NOBODY where the path is whole.
+    pub(crate) fn go(
+        &mut self,
+        rows: &FlatRows,
+        eps: i64,
+        person: u32,
+        rises: &mut [Rise],
+        route: &[u32],
+    ) -> u32
+        requires eps { IsEps eps }
+        requires sound { IsFlatTable rows.now }
+        requires person { person < length rows.now.rows }
+        requires stands { Stands rows.now eps self.old.prices.items self.old.holders.items self.old.owns.items }
+        requires none { (own_at self.old.owns.items person).object ≡ NOBODY }
+        ensures { IsWay rows.now eps person self.old.prices.items self.new.prices.items self.new.holders.items self.old.owns.items self.new.owns.items result }
+    {
+        if !self.rise(rows, eps, rises) {
+            return person;
+        }
+        let mut free = person;
+        for place in route {
+            if free == NOBODY {
+                break;
+            }
+            free = self.take_at_price(rows, eps, free, *place);
+        }
+        free
+    }
+}

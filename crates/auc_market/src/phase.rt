@@ -1,0 +1,117 @@
+//! A phase: the persons who have no object begin in order, and bid, two in turn, until each has one. It goes in slices, before each of which somebody is asked whether it goes on.
+
+ghost use Rattle.std.specs.Prelude.{Bool, ℕ, ℤ, List, true, false, ◌≡◌, ◌-◌, ◌<◌, ◌^◌, IfErr, IfOk, IfNone, IfSome, OnOk};
+ghost use Rattle.auc_claim.specs.declared.reason.Reason.{Reason};
+ghost use Rattle.auc_rows.specs.declared.arc.ShortArc.{ShortArc};
+ghost use Rattle.auc_rows.specs.Rows.{FlatTable};
+ghost use Rattle.auc_market.specs.declared.ending.Ending.{Ending};
+ghost use Rattle.auc_market.specs.Endings.{IsEnding};
+ghost use Rattle.auc_market.specs.Halts.{IsHalt};
+ghost use Rattle.auc_market.specs.Position.{IsPlayed, IsSlice, IsTried};
+
+use crate::ending::{Chain, Ending};
+use crate::halt::Halt;
+use crate::market::Market;
+use crate::pace::Pace;
+use crate::watch::{Progress, Watch, may_go_on};
+use auc_claim::Reason;
+
+/// Whether bids have run out. Any other ending of a slice is one of its phase.
+fn ran_out(ending: Ending) -> bool
+    ensures yes { result ≡ true → ending ≡ Ending.Stopped Reason.Bids }
+    ensures no { result ≡ false → (r : FlatTable) (bids other : ℕ) (begun before : ℤ) (prices : List ℤ) (owns : List ShortArc) → IsEnding r bids begun ending prices owns → IsEnding r other before ending prices owns }
+{
+    match ending {
+        Ending::Sold => false,
+        Ending::Stopped(reason) => match reason {
+            Reason::Bids => true,
+            Reason::Ceiling => false,
+            Reason::Posts => false,
+            Reason::Trail => false,
+            Reason::Mail => false,
+        },
+    }
+}
+
+impl<'a> Market<'a> {
+    /// Plays a slice of a phase, of at most so many bids, in which those bid who hold nothing yet.
+    fn play_slice(&mut self, bids: u64, pace: &mut Pace) -> Result<Ending, Halt>
+        ensures slice { IfOk result (λ e. IsSlice bids e self.old self.new) }
+        ensures halt { IfErr result (IsHalt self.old.table) }
+    {
+        self.law();
+        let mut left = bids;
+        match self.sell(&mut left, pace)? {
+            Chain::Placed => {}
+            Chain::Bids => {
+                pace.made = pace.made.saturating_add(bids);
+                return Ok(Ending::Stopped(Reason::Bids));
+            }
+            Chain::Ceiling => return Ok(Ending::Stopped(Reason::Ceiling)),
+        }
+        pace.made = pace.made.saturating_add(bids - left);
+        Ok(Ending::Sold)
+    }
+
+    /// Plays a phase of at most so many bids, in which those bid who hold nothing yet. Where the watch says no, it ends as one whose bids have run out.
+    pub fn play<W: Watch>(
+        &mut self,
+        bids: u64,
+        pace: &mut Pace,
+        watch: &mut W,
+    ) -> Result<Ending, Halt>
+        ensures played { IfOk result (λ e. IsPlayed bids (W.has_stopped watch.old) (W.has_stopped watch.new) e self.old self.new) }
+        ensures asked { IfOk result (λ e. W.was_asked watch.new ≡ true) }
+        ensures halt { IfErr result (λ h. IsHalt self.old.table h × (W.has_stopped watch.new ≡ W.has_stopped watch.old)) }
+    {
+        self.law();
+        let eps = self.eps();
+        pace.begin(eps);
+        let mut left = bids;
+        loop {
+            let progress = Progress {
+                eps,
+                held: self.held(),
+                bids: bids - left,
+            };
+            if !may_go_on(watch, progress) {
+                return Ok(Ending::Stopped(Reason::Bids));
+            }
+            let slice = left.min(pace.slice());
+            let ending = self.play_slice(slice, pace)?;
+            if !ran_out(ending) {
+                return Ok(ending);
+            }
+            left -= slice;
+            if left == 0 {
+                return Ok(ending);
+            }
+        }
+    }
+
+    /// The same of a phase that is tried with `few` bids: none where these have run out, though a phase may make more, or there are none of them.
+    pub fn try_phase<W: Watch>(
+        &mut self,
+        bids: u64,
+        few: u64,
+        pace: &mut Pace,
+        watch: &mut W,
+    ) -> Result<Option<Ending>, Halt>
+        ensures played { IfOk result (λ o. IfSome o (λ e. IsPlayed bids (W.has_stopped watch.old) (W.has_stopped watch.new) e self.old self.new)) }
+        ensures tried { IfOk result (λ o. IfNone o (IsTried bids self.old self.new)) }
+        ensures going { IfOk result (λ o. IfNone o (W.has_stopped watch.new ≡ W.has_stopped watch.old)) }
+        ensures asked { IfOk result (λ o. IfSome o (λ e. W.was_asked watch.new ≡ true)) }
+        ensures few { IfOk result (λ o. IfNone o (few < 2 ^ 64 - 1)) }
+        ensures halt { IfErr result (λ h. IsHalt self.old.table h × (W.has_stopped watch.new ≡ W.has_stopped watch.old)) }
+    {
+        if few == 0 {
+            self.law();
+            return Ok(None);
+        }
+        let ending = self.play(bids.min(few), pace, watch)?;
+        if few < bids && ran_out(ending) && !watch.has_said_no() {
+            return Ok(None);
+        }
+        Ok(Some(ending))
+    }
+}

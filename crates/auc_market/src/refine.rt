@@ -1,0 +1,157 @@
+//! Price refinement: whether what persons hold after a phase costs least already. Prices rise until each person is within 1 of his best, and nobody gets or leaves an object: where that comes to its
+//! end, what they hold costs least, and the phases that are left aren't played.
+//!
+//! A person who would do better with another object, by more than 1, raises its price until he wouldn't, and then whoever holds it is looked at again. Where what they hold costs more than need be, that
+//! goes round in circles, so it is given up after some time. It is a step between two phases of Goldberg and Kennedy (1995), by labels that are corrected first come, first served (Bellman, 1958; Moore, 1959).
+//!
+//! Of who waits nothing is proved: prices rise and stay within range, and at the end each person is looked at once more.
+
+ghost use Rattle.std.specs.Prelude.{true, ◌≡◌, ◌<◌, pos, ◌≤ℤ◌, All, IsTrue, length, IfOk, OnErr, OnOk};
+ghost use Rattle.auc_graph.specs.Assignment.{total};
+ghost use Rattle.auc_graph.specs.Price.{IsPrice};
+ghost use Rattle.auc_letters.specs.Price.{IsEps};
+ghost use Rattle.auc_rows.specs.Rows.{EachHasArc, scale_in};
+ghost use Rattle.auc_market.specs.Market.{HaveObjects, IsLifted, Stands};
+ghost use Rattle.auc_market.specs.Shortlist.{Kept};
+ghost use Rattle.auc_market.specs.Starts.{ArePricesOf, any_eps};
+
+use crate::eps::LAST_EPS;
+use crate::holdings::{Holdings, NOBODY};
+use crate::lists::Lists;
+use crate::queue::Queue;
+use auc_graph::MOST_PRICE;
+use auc_rows::FlatRows;
+use std::alloc::{AllocError, Global};
+
+impl Holdings {
+    /// Whether each person has an object.
+    pub fn all_have(&self) -> bool
+        ensures { result ≡ true → HaveObjects (length self.now.owns.items) self.now.owns.items }
+    {
+        for person in 0..self.owns.len() {
+            if self.owns[person].object == NOBODY {
+                return false;
+            }
+        }
+        true
+    }
+
+    /// Whether each person who has an object is within eps of his best. O(arcs).
+    pub(crate) fn all_within(&self, rows: &FlatRows, eps: i64) -> bool
+        requires eps { IsEps eps }
+        requires stands { Stands rows.now any_eps self.now.prices.items self.now.holders.items self.now.owns.items }
+        ensures { IsTrue result → Stands rows.now eps self.now.prices.items self.now.holders.items self.now.owns.items }
+    {
+        for person in 0..rows.persons() {
+            if !self.is_within(rows, eps, person) {
+                return false;
+            }
+        }
+        true
+    }
+
+    /// The price of an object that a person would rather have rises by so much, and whoever holds it waits. Gives whether that can be: not where he holds it himself, by another arc, nor where the price would pass the
+    /// greatest.
+    #[inline(always)]
+    fn lift(&mut self, person: u32, object: u32, more: i64, queue: &mut Queue) -> bool
+        requires { All IsPrice self.old.prices.items }
+        ensures { IsLifted self.old.prices.items self.new.prices.items self.old.holders.items self.new.holders.items self.old.owns.items self.new.owns.items }
+    {
+        let holder = self.holder_of(object);
+        if holder == person || object as usize >= self.prices.len() {
+            return false;
+        }
+        let price = self.prices[object as usize];
+        let amount = price.saturating_add(more);
+        if amount < price || MOST_PRICE < amount {
+            return false;
+        }
+        queue.push(holder);
+        self.prices[object as usize] = amount;
+        true
+    }
+
+    /// Looks at the person who waits first. Where his best arc is worth less to him than his own one less 1, the price of its object rises until it isn't. Gives whether it goes on.
+    #[inline(always)]
+    fn look(&mut self, rows: &FlatRows, person: u32, lists: &mut Lists, queue: &mut Queue) -> bool
+        requires person { person < length rows.now.rows }
+        requires arcs { EachHasArc rows.now }
+        requires priced { ArePricesOf rows.now self.old.prices.items }
+        requires kept { Kept rows.now self.old.prices.items lists.old.lists.items }
+        ensures lifted { IsLifted self.old.prices.items self.new.prices.items self.old.holders.items self.new.holders.items self.old.owns.items self.new.owns.items }
+        ensures kept { Kept rows.now self.new.prices.items lists.new.lists.items }
+    {
+        let scale = rows.scale();
+        let best = lists.best(rows, scale, person, self.prices.as_slice());
+        let least = self.own_worth(scale, person).saturating_sub(1);
+        if least <= best.value {
+            queue.pop();
+            return true;
+        }
+        let more = least.saturating_sub(best.value);
+        if !self.lift(person, best.arc.object, more, queue) {
+            return false;
+        }
+        if least <= best.second {
+            queue.pop();
+        }
+        true
+    }
+
+    /// Raises prices, with so many looks at persons, until nobody waits; gives whether that came to its end.
+    fn lift_all(
+        &mut self,
+        rows: &FlatRows,
+        looks: u64,
+        lists: &mut Lists,
+        queue: &mut Queue,
+    ) -> bool
+        requires arcs { EachHasArc rows.now }
+        requires priced { ArePricesOf rows.now self.old.prices.items }
+        requires kept { Kept rows.now self.old.prices.items lists.old.lists.items }
+        ensures lifted { IsLifted self.old.prices.items self.new.prices.items self.old.holders.items self.new.holders.items self.old.owns.items self.new.owns.items }
+        ensures kept { Kept rows.now self.new.prices.items lists.new.lists.items }
+    {
+        let persons = rows.persons();
+        for _ in 0..looks {
+            let person = queue.first;
+            if person >= persons {
+                break;
+            }
+            if !self.look(rows, person, lists, queue) {
+                return false;
+            }
+        }
+        queue.first == NOBODY
+    }
+
+    /// Raises prices, with so many looks at persons, until each is within 1 of his best; gives whether that came to its end, and each has an object.
+    pub(crate) fn refine(
+        &mut self,
+        alloc: Global,
+        rows: &FlatRows,
+        looks: u64,
+        lists: &mut Lists,
+    ) -> Result<bool, AllocError>
+        requires arcs { EachHasArc rows.now }
+        requires square { rows.now.objects ≡ length rows.now.rows }
+        requires stands { Stands rows.now any_eps self.old.prices.items self.old.holders.items self.old.owns.items }
+        requires kept { Kept rows.now self.old.prices.items lists.old.lists.items }
+        ensures stands { OnOk result (Stands rows.now any_eps self.new.prices.items self.new.holders.items self.new.owns.items) }
+        ensures slack { IfOk result (λ b. b ≡ true → Stands rows.now (pos 1) self.new.prices.items self.new.holders.items self.new.owns.items) }
+        ensures have { IfOk result (λ b. b ≡ true → HaveObjects (length rows.now.rows) self.new.owns.items) }
+        ensures owns { OnOk result (self.new.owns.items ≡ self.old.owns.items) }
+        ensures risen { OnOk result (total self.old.prices.items ≤ℤ total self.new.prices.items) }
+        ensures kept { Kept rows.now self.new.prices.items lists.new.lists.items }
+        ensures stays { OnErr result (self.new ≡ self.old) }
+    {
+        if !self.all_have() {
+            return Ok(false);
+        }
+        let mut queue = Queue::of_all(alloc, rows.persons())?;
+        if !self.lift_all(rows, looks, lists, &mut queue) {
+            return Ok(false);
+        }
+        Ok(self.all_within(rows, LAST_EPS))
+    }
+}

@@ -1,0 +1,119 @@
+//! A person's best arc, in one pass over his row that has no branch by the values.
+
+ghost use Rattle.std.specs.Prelude.{◌≡◌, ◌<◌, ◌+◌, ◌^◌, pos, neg_ℤ, ◌+ℤ◌, ◌*ℤ◌, ◌≤ℤ◌, All, length};
+ghost use Rattle.auc_graph.specs.Price.{IsPrice};
+ghost use Rattle.auc_rows.specs.Rows.{IsShort};
+ghost use Rattle.auc_market.specs.Scan.{IsFound, IsPricedRow, IsScale, IsValue, Lowered, LoweredTwice, short_value};
+
+use auc_rows::ShortArc;
+
+/// What a pass has found: the least value, the least one of the other arcs (the greatest number where there is none), and where the arc of the least
+/// value stands in the row.
+#[derive(Clone, Copy)]
+pub(crate) struct Found {
+    pub(crate) value: i64,
+    pub(crate) second: i64,
+    pub(crate) place: usize,
+}
+
+impl Found {
+    /// With one value more, of the arc that stands here in the row.
+    #[inline(always)]
+    fn with(self, value: i64, place: usize) -> Found
+        ensures { Lowered self value place result }
+    {
+        let is_less = value < self.value;
+        // Each number is chosen apart, so that LLVM makes selects of them; by one branch for all three it would make a branch.
+        let second = if is_less {
+            self.value
+        } else if value < self.second {
+            value
+        } else {
+            self.second
+        };
+        let place = if is_less { place } else { self.place };
+        let value = if is_less { value } else { self.value };
+        Found {
+            value,
+            second,
+            place,
+        }
+    }
+
+    /// With two values more, of the arc that stands here in the row and of the next one. They are held against each other first: so a pair waits for two comparisons of the pair before
+    /// it, where one by one each value waits for three.
+    #[inline(always)]
+    fn with_two(self, one: i64, other: i64, place: usize) -> Found
+        requires next { place + 1 < 2 ^ 64 }
+        requires ordered { self.value ≤ℤ self.second }
+        ensures { LoweredTwice self one other place result }
+    {
+        let lesser = one.min(other);
+        let greater = one.max(other);
+        let near = if other < one { place + 1 } else { place };
+        let place = if lesser < self.value {
+            near
+        } else {
+            self.place
+        };
+        Found {
+            value: self.value.min(lesser),
+            second: self.second.min(greater).min(self.value.max(lesser)),
+            place,
+        }
+    }
+}
+
+/// What an arc of this cost is worth at this price, by sums that wrap: for searches, whose finds are tried.
+#[inline(always)]
+pub(crate) fn worth(scale: i64, cost: i32, price: i64) -> i64 {
+    scale.wrapping_mul(i64::from(cost)).wrapping_add(price)
+}
+
+/// The same of an arc; the greatest number where its object has no price.
+#[inline(always)]
+pub(crate) fn worth_of(scale: i64, arc: ShortArc, prices: &[i64]) -> i64 {
+    if (arc.object as usize) < prices.len() {
+        worth(scale, arc.cost, prices[arc.object as usize])
+    } else {
+        i64::MAX
+    }
+}
+
+/// What an arc is worth at these prices: its scaled cost and the price of its object.
+#[inline(always)]
+pub(crate) fn value_of(scale: i64, arc: ShortArc, prices: &[i64]) -> i64
+    requires scale { IsScale scale }
+    requires arc { IsShort (length prices.now) arc }
+    requires prices { All IsPrice prices.now }
+    ensures is { result ≡ short_value scale prices.now arc }
+    ensures range { IsValue result }
+{
+    let price = prices[arc.object as usize];
+    scale * i64::from(arc.cost) + price
+}
+
+/// The best arc of a row. Two arcs to one object count as any two do.
+#[inline(always)]
+pub(crate) fn scan(scale: i64, row: &[ShortArc], prices: &[i64]) -> Found
+    requires priced { IsPricedRow scale prices.now row.now }
+    requires some { 0 < length row.now }
+    ensures { IsFound (short_value scale prices.now) row.now (length row.now) result }
+{
+    let mut found = Found {
+        value: value_of(scale, row[0], prices),
+        second: i64::MAX,
+        place: 0,
+    };
+    for pair in 0..(row.len() - 1) / 2 {
+        let place = 2 * pair + 1;
+        let one = value_of(scale, row[place], prices);
+        let other = value_of(scale, row[place + 1], prices);
+        found = found.with_two(one, other, place);
+    }
+    if row.len() % 2 == 0 {
+        let last = row.len() - 1;
+        found = found.with(value_of(scale, row[last], prices), last);
+    }
+    found
+}

@@ -1,0 +1,203 @@
+//! What a run from start prices begins with: who keeps an object at them, and which prices stay.
+
+ghost use Rattle.std.specs.Prelude.{ℕ, ◌≡◌, ◌≢◌, ◌<◌, length, false, pos, IfOk, IfSome};
+ghost use Rattle.auc_letters.specs.Price.{IsEps};
+ghost use Rattle.auc_rows.specs.Rows.{EachHasArc};
+ghost use Rattle.auc_market.specs.declared.holdings.TheConstants.{NOBODY};
+ghost use Rattle.auc_market.specs.Market.{HaveObjects, Stands, own_at};
+ghost use Rattle.auc_market.specs.Endings.{IsStart};
+ghost use Rattle.auc_market.specs.Position.{Begins};
+ghost use Rattle.auc_market.specs.Starts.{AreKept, AreOpened, ArePricesOf, AreSeated, any_eps};
+
+use crate::bid::Bid;
+use crate::eps::LAST_EPS;
+use crate::holdings::{Holdings, NOBODY};
+use crate::market::Market;
+use crate::scan::worth_of;
+use auc_rows::FlatRows;
+use std::alloc::{AllocError, Global};
+
+/// How often all persons are passed over before the start prices are given up.
+const PASSES: u32 = 8;
+
+/// The prices before anybody holds anything: those of the start where there are as many objects as persons, and else none.
+fn prices_before(alloc: Global, rows: &FlatRows, start: &[i64]) -> Result<Vec<i64>, AllocError>
+    requires start { ArePricesOf rows.now start.now }
+    ensures start { IfOk result (λ v. IsStart rows.now (pos 1) v.items) }
+    ensures kept { IfOk result (λ v. AreKept start.now v.items) }
+    ensures same { IfOk result (λ v. rows.now.objects ≡ length rows.now.rows → v.items ≡ start.now) }
+{
+    if rows.persons() == rows.objects() {
+        let prices = start.to_vec(alloc)?;
+        return Ok(prices);
+    }
+    let none = vec![in alloc; 0; rows.objects() as usize]?;
+    Ok(none)
+}
+
+impl Holdings {
+    /// At which place of a person's row the first arc stands that leads to an object that nobody holds, and is within eps of his best at the start prices; past the row where there is none. Nothing is proved of it.
+    fn free_within(&self, rows: &FlatRows, eps: i64, start: &[i64], person: u32) -> u32
+        requires { person < length rows.now.rows }
+    {
+        let scale = rows.scale();
+        let mut least = i64::MAX;
+        for arc in rows.row(person) {
+            least = least.min(worth_of(scale, *arc, start));
+        }
+        let most = least.saturating_add(eps);
+        let mut place: u32 = 0;
+        for arc in rows.row(person) {
+            if self.holder_of(arc.object) == NOBODY && worth_of(scale, *arc, start) <= most {
+                break;
+            }
+            place = place.saturating_add(1);
+        }
+        place
+    }
+
+    /// A person takes the object of the arc that stands here in his row, which has its start price then. Not where somebody holds it, nor past the row.
+    fn seat(&mut self, rows: &FlatRows, start: &[i64], person: u32, place: u32)
+        requires person { person < length rows.now.rows }
+        requires start { ArePricesOf rows.now start.now }
+        requires seated { AreSeated rows.now start.now self.old.prices.items self.old.holders.items self.old.owns.items }
+        requires none { (own_at self.old.owns.items person).object ≡ NOBODY }
+        ensures seated { AreSeated rows.now start.now self.new.prices.items self.new.holders.items self.new.owns.items }
+        ensures none { (i : ℕ) → i ≢ person → (own_at self.old.owns.items i).object ≡ NOBODY → (own_at self.new.owns.items i).object ≡ NOBODY }
+    {
+        let row = rows.row(person);
+        if place as usize >= row.len() {
+            return;
+        }
+        let arc = row[place as usize];
+        if self.holder_of(arc.object) != NOBODY {
+            return;
+        }
+        let amount = start[arc.object as usize];
+        self.award(person, Bid { amount, arc });
+    }
+
+    /// Each person in order does, where there is such an arc.
+    fn seat_all(&mut self, rows: &FlatRows, eps: i64, start: &[i64])
+        requires start { ArePricesOf rows.now start.now }
+        requires seated { AreSeated rows.now start.now self.old.prices.items self.old.holders.items self.old.owns.items }
+        requires none { (i : ℕ) → (own_at self.old.owns.items i).object ≡ NOBODY }
+        ensures { AreSeated rows.now start.now self.new.prices.items self.new.holders.items self.new.owns.items }
+    {
+        for person in 0..rows.persons() {
+            let place = self.free_within(rows, eps, start, person);
+            self.seat(rows, start, person, place);
+        }
+    }
+
+    /// Each person in order whose object isn't within eps of his best leaves it, and it has no price then; gives whether anybody has.
+    fn release(&mut self, rows: &FlatRows, eps: i64) -> bool
+        requires arcs { EachHasArc rows.now }
+        requires eps { IsEps eps }
+        requires stands { Stands rows.now any_eps self.old.prices.items self.old.holders.items self.old.owns.items }
+        ensures stands { Stands rows.now any_eps self.new.prices.items self.new.holders.items self.new.owns.items }
+        ensures kept { AreKept self.old.prices.items self.new.prices.items }
+        ensures nobody { result ≡ false → Stands rows.now eps self.new.prices.items self.new.holders.items self.new.owns.items }
+    {
+        let mut released = false;
+        for person in 0..rows.persons() {
+            if self.is_within(rows, eps, person) {
+                continue;
+            }
+            self.leave(person);
+            released = true;
+        }
+        released
+    }
+
+    /// Persons leave objects until each who has one is within eps of his best. Nobody keeps anything where that takes too long.
+    fn settle(&mut self, rows: &FlatRows, eps: i64)
+        requires arcs { EachHasArc rows.now }
+        requires eps { IsEps eps }
+        requires stands { Stands rows.now any_eps self.old.prices.items self.old.holders.items self.old.owns.items }
+        ensures stands { Stands rows.now eps self.new.prices.items self.new.holders.items self.new.owns.items }
+        ensures kept { AreKept self.old.prices.items self.new.prices.items }
+    {
+        for _ in 0..PASSES {
+            if !self.release(rows, eps) {
+                return;
+            }
+        }
+        self.empty();
+    }
+
+    /// Opens a market in which nobody holds anything, at start prices: persons keep what is within eps of their best at them. Where there are more objects than
+    /// persons, nothing that nobody keeps has a price, so some of those who keep one at the start prices may yet leave it.
+    fn open_at(&mut self, rows: &FlatRows, eps: i64, start: &[i64])
+        requires arcs { EachHasArc rows.now }
+        requires eps { IsEps eps }
+        requires start { ArePricesOf rows.now start.now }
+        requires seated { AreSeated rows.now start.now self.old.prices.items self.old.holders.items self.old.owns.items }
+        requires none { (i : ℕ) → (own_at self.old.owns.items i).object ≡ NOBODY }
+        ensures stands { Stands rows.now eps self.new.prices.items self.new.holders.items self.new.owns.items }
+        ensures opened { AreOpened rows.now.objects (length rows.now.rows) start.now self.new.prices.items }
+    {
+        self.seat_all(rows, eps, start);
+        if rows.persons() != rows.objects() {
+            self.settle(rows, eps);
+            return;
+        }
+        if self.all_within(rows, eps) {
+            return;
+        }
+        self.open();
+    }
+}
+
+impl<'a> Market<'a> {
+    /// A market at start prices, at the last eps: with as many objects as persons, and else at no prices but those of what persons keep of them. They hold what they keep.
+    pub fn from_start(
+        alloc: Global,
+        rows: &'a FlatRows,
+        start: &[i64],
+    ) -> Result<Market<'a>, AllocError>
+        requires arcs { EachHasArc rows.now }
+        requires start { ArePricesOf rows.now start.now }
+        ensures begins { IfOk result (Begins rows.now) }
+        ensures opened { IfOk result (λ m. AreOpened rows.now.objects (length rows.now.rows) start.now m.prices) }
+    {
+        let prices = prices_before(alloc, rows, start)?;
+        let mut holdings = Holdings::new(alloc, rows.persons(), prices)?;
+        holdings.open_at(rows, LAST_EPS, start);
+        Market::with(alloc, rows, holdings)
+    }
+}
+
+/// What persons hold where each takes the object of the arc that is proposed for him, by its place in his row, at its proposed price. None where somebody has no object so, or isn't within the last eps of his best.
+/// What nobody takes has no price where there are more objects than persons.
+///
+/// # Errors
+///
+/// Only where memory was refused.
+pub fn tried(
+    alloc: Global,
+    rows: &FlatRows,
+    prices: &[i64],
+    places: &[u32],
+) -> Result<Option<Holdings>, AllocError>
+    requires start { ArePricesOf rows.now prices.now }
+    ensures stands { IfOk result (λ o. IfSome o (λ m. Stands rows.now (pos 1) m.prices.items m.holders.items m.owns.items)) }
+    ensures have { IfOk result (λ o. IfSome o (λ m. HaveObjects (length rows.now.rows) m.owns.items)) }
+{
+    let persons = rows.persons();
+    if places.len() != persons as usize {
+        return Ok(None);
+    }
+    let before = prices_before(alloc, rows, prices)?;
+    let mut holdings = Holdings::new(alloc, persons, before)?;
+    for person in 0..persons {
+        holdings.seat(rows, prices, person, places[person as usize]);
+    }
+    if !holdings.all_have() {
+        return Ok(None);
+    }
+    if !holdings.all_within(rows, LAST_EPS) {
+        return Ok(None);
+    }
+    Ok(Some(holdings))
+}

@@ -1,0 +1,92 @@
+//! A person who has bid in a long chain looks for a path in place of one more bid.
+
+ghost use Rattle.std.specs.Prelude.{◌≡◌, ◌<◌, length, IfErr, IfOk, IfSome};
+ghost use Rattle.auc_letters.specs.Price.{IsEps};
+ghost use Rattle.auc_market.specs.declared.holdings.TheConstants.{NOBODY};
+ghost use Rattle.auc_market.specs.Hall.{IsShortHallSet};
+ghost use Rattle.auc_market.specs.Halts.{IsHalt};
+ghost use Rattle.auc_market.specs.Market.{AreHigher, Stands, own_at};
+ghost use Rattle.auc_market.specs.Way.{IsWay};
+
+use crate::hall::{HallSet, hall_set_of};
+use crate::halt::Halt;
+use crate::holdings::Holdings;
+use crate::search::Search;
+use auc_rows::FlatRows;
+use std::alloc::{AllocError, Global};
+
+/// Who is free after a search for a path, and how many arcs it has looked at.
+#[derive(Clone, Copy)]
+pub(crate) struct Way {
+    pub(crate) free: u32,
+    pub(crate) looked: u64,
+}
+
+/// Sets the flag of a person, if he is one.
+fn mark(is_in: &mut [bool], person: u32)
+    ensures { length is_in.new ≡ length is_in.old }
+{
+    if (person as usize) < is_in.len() {
+        is_in[person as usize] = true;
+    }
+}
+
+impl Holdings {
+    /// The Hall set that a search has reached which found no free object: the person from whom it began, and who hold what it has settled. None where they know no fewer objects than they are.
+    fn reached(
+        &self,
+        alloc: Global,
+        rows: &FlatRows,
+        start: u32,
+        search: &Search,
+    ) -> Result<Option<HallSet>, AllocError>
+        ensures { IfOk result (λ o. IfSome o (λ h. IsShortHallSet rows.now h.persons.items h.objects.items)) }
+    {
+        let mut is_in = vec![in alloc; false; rows.persons() as usize]?;
+        mark(is_in.as_mut_slice(), start);
+        for settled in &search.settled {
+            mark(is_in.as_mut_slice(), self.holder_of(settled.object));
+        }
+        hall_set_of(alloc, rows, is_in.as_slice())
+    }
+
+    /// A free person goes by a path where one is found; gives who is free then.
+    ///
+    /// # Errors
+    ///
+    /// Persons who together know too few objects, or memory was refused: nothing has changed then.
+    pub(crate) fn find_way(
+        &mut self,
+        alloc: Global,
+        rows: &FlatRows,
+        eps: i64,
+        person: u32,
+        search: &mut Search,
+    ) -> Result<Way, Halt>
+        requires person { person < length rows.now.rows }
+        requires eps { IsEps eps }
+        requires stands { Stands rows.now eps self.old.prices.items self.old.holders.items self.old.owns.items }
+        requires none { (own_at self.old.owns.items person).object ≡ NOBODY }
+        ensures stands { Stands rows.now eps self.new.prices.items self.new.holders.items self.new.owns.items }
+        ensures higher { AreHigher self.old.prices.items self.new.prices.items }
+        ensures way { IfOk result (λ w. IsWay rows.now eps person self.old.prices.items self.new.prices.items self.new.holders.items self.old.owns.items self.new.owns.items w.free) }
+        ensures halt { IfErr result (IsHalt rows.now) }
+    {
+        // Read here, so that the proof knows what all rows keep.
+        let _ = rows.persons();
+        let is_found = search.find(rows, self, person)?;
+        let looked = search.looked;
+        if is_found {
+            let rises = search.rises.as_mut_slice();
+            let free = self.go(rows, eps, person, rises, search.route.as_slice());
+            return Ok(Way { free, looked });
+        }
+        match self.reached(alloc, rows, person, search)? {
+            Some(hall) => Err(Halt::Closed(hall)),
+            None => Ok(Way {
+                free: person,
+                looked,
+            }),
+        }
+    }
+}

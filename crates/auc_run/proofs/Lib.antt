@@ -7,4 +7,3 @@ mod CompletionLaws
 mod PriceLaws
 mod StartLaws
 mod OutcomeLaws
-mod WatchLaws

@@ -10,7 +10,6 @@ pub mod Starts
 pub mod Reports
 pub mod Jobs
 pub mod Said
-pub mod Watched
 pub mod Script
 pub mod ScriptLimits
 pub mod Replies

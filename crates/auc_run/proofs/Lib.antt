@@ -6,4 +6,3 @@ mod CompletionLaws
 mod PriceLaws
 mod StartLaws
 mod OutcomeLaws
-mod WatchLaws

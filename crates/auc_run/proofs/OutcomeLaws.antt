@@ -1,10 +1,11 @@
 -- The outcome of a job, by what its own kind has found.
-use Rattle.std.proofs.Common.{◌≡◌, ◌<◌, ℕ, Bool, true, false, arith, List, Option, Result, Ok, Err, ℤ, refl, sym, subst}
+use Rattle.std.proofs.Common.{◌≡◌, ℕ, List, Option, Result, Ok, Err, ℤ, refl, sym, subst}
 use Rattle.std.specs.Prelude.{IsErrAnd}
 use Rattle.auc_mail.specs.declared.call.Reply.{Reply}
 use Rattle.auc_answers.specs.declared.answer.Answer.{Answer}
 use Rattle.auc_run.specs.declared.command.Job.{Job}
-use Rattle.auc_run.specs.declared.command.Job.TheVariants.{Solve, Check, Hall, Mail}
+use Rattle.auc_run.specs.declared.command.Job.TheVariants.{Check, Hall, Mail}
+use Rattle.auc_run.specs.declared.command.SolveNumbers.{SolveNumbers}
 use Rattle.auc_run.specs.declared.found.Found.{Found}
 use Rattle.auc_run.specs.declared.refusal.Refusal.{Refusal}
 use Rattle.auc_run.specs.declared.report.Report.{Report}
@@ -13,30 +14,26 @@ use Rattle.auc_run.specs.declared.valid.Valid.{Valid}
 use Rattle.auc_run.specs.Completions.{IsFoundIn}
 use Rattle.auc_run.specs.Replies.{AreReplies}
 use Rattle.auc_run.specs.Said.{IsOutcome, reported}
+use Rattle.auc_run.specs.Jobs.{solve_by}
+use Rattle.auc_run.specs.Solutions.{Watched}
 use Rattle.auc_run.specs.Starts.{IsSolvingIn}
 use Rattle.auc_run.specs.Verdicts.{IsVerdict}
 use Rattle.auc_run.proofs.ProblemLaws.{known, are_known}
 
-module _ (a b : Option (List ℕ)) where
-  pub solved : (workers bids audit objects : ℕ) (from direct : Bool) (answer : Result Answer Refusal) → IsSolvingIn direct from objects workers bids audit a b answer
-      → IsOutcome (Solve workers bids audit objects from direct) a b (reported Solved answer)
-  solved workers bids audit objects from direct answer h = (h.0, h.1, h.2, h.3, (answer, h.4, refl))
+module _ (w : Watched) (a b : Option (List ℕ)) where
+  pub solved : (n : SolveNumbers) (answer : Result Answer Refusal) → IsSolvingIn w n a b answer → IsOutcome w (solve_by n) a b (reported Solved answer)
+  solved n answer h = (h.0, h.1, h.2, h.3, (answer, h.4, refl))
 
-  pub judged : (objects : ℕ) (verdict : Result Valid Refusal) → IsVerdict objects a b verdict → IsOutcome (Check objects) a b (reported Judged verdict)
+  pub judged : (objects : ℕ) (verdict : Result Valid Refusal) → IsVerdict objects a b verdict → IsOutcome w (Check objects) a b (reported Judged verdict)
   judged objects verdict h = (h.0, h.1, h.2, h.3, (verdict, h.4, refl))
 
-  pub completed : (objects : ℕ) (found : Result Found Refusal) → IsFoundIn objects a found → IsOutcome (Hall objects) a b (reported Completed found)
+  pub completed : (objects : ℕ) (found : Result Found Refusal) → IsFoundIn objects a found → IsOutcome w (Hall objects) a b (reported Completed found)
   completed objects found h = (h.0, known b, h.1, are_known b, (found, h.2, refl))
 
-  pub replied : (replies : Result (List (Reply ℤ)) Refusal) → AreReplies a replies → IsOutcome Mail a b (reported Replied replies)
+  pub replied : (replies : Result (List (Reply ℤ)) Refusal) → AreReplies a replies → IsOutcome w Mail a b (reported Replied replies)
   replied replies h = (h.0, known b, h.1, are_known b, (replies, h.2, refl))
 
   -- an outcome that is this refusal
-  pub refused : (job : Job) (r : Result Report Refusal) (e : Refusal) → IsErrAnd r (λ x. x ≡ e) → IsOutcome job a b (Err e) → IsOutcome job a b r
+  pub refused : (job : Job) (r : Result Report Refusal) (e : Refusal) → IsErrAnd r (λ x. x ≡ e) → IsOutcome w job a b (Err e) → IsOutcome w job a b r
   refused job (Ok x) e p h = absurd p
-  refused job (Err x) e p h = subst (λ (y : Refusal). IsOutcome job a b (Err y)) (sym p) h
-
--- a job with workers goes by messages
-pub by_messages : (direct : Bool) (workers : ℕ) → (direct ≡ true → workers ≡ 0) → 0 < workers → direct ≡ false
-by_messages true workers alone some = absurd (omega (arith, alone refl, some))
-by_messages false workers alone some = refl
+  refused job (Err x) e p h = subst (λ (y : Refusal). IsOutcome w job a b (Err y)) (sym p) h

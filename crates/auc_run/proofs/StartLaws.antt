@@ -1,6 +1,7 @@
 -- A solve that starts from an old certificate: what is answered at each exit.
-use Rattle.std.proofs.Common.{◌≡◌, ◌≢◌, ◌≤◌, ℕ, zero, suc, arith, Bool, true, false, List, length, ℤ, Option, Some, Result, Ok, Err, refl, sym, subst}
-use Rattle.std.specs.Prelude.{IfSome, IsErrAnd}
+use Rattle.std.proofs.lemmas.Bool.{false≢true}
+use Rattle.std.proofs.Common.{inl, inr, ◌≡◌, ◌≢◌, ◌≤◌, ℕ, zero, suc, arith, Bool, true, false, List, length, ℤ, Option, Some, Result, Ok, Err, refl, sym, subst}
+use Rattle.std.specs.Prelude.{IfSome, IsErrAnd, not}
 use Rattle.auc_graph.specs.declared.limits.TheConstants.{MOST_READS}
 use Rattle.auc_graph.specs.Problem.{Problem}
 use Rattle.auc_claim.specs.declared.cert.CertParts.{CertParts}
@@ -15,8 +16,12 @@ use Rattle.auc_run.specs.declared.start.Started.{Started}
 use Rattle.auc_run.specs.Problems.{AreKnown, IsProblemIn, IsProblemOf}
 use Rattle.auc_threads.specs.declared.phase.PhaseEnd.{PhaseEnd}
 use Rattle.auc_threads.specs.Solved.{IsSolvedBy, IsThreadAnswer}
-use Rattle.auc_run.specs.Solutions.{IsDirectIn, IsSolvedByThreadsIn, IsSolvedIn, thread_limits_of}
-use Rattle.auc_run.specs.Starts.{AnswersFrom, BearOutFrom, BearOutNoStart, BearOutStartError, IsSolvedFromIn, IsSolvingIn, IsStartIn, MayLackThreads, start_for}
+use Rattle.auc_answers.specs.Answers.{IsAnswer}
+use Rattle.auc_direct.specs.Endings.{IsLimitedFrom, IsLimitedUnless}
+use Rattle.auc_world.specs.Chain.{IsOfRun}
+use Rattle.auc_run.specs.declared.command.SolveNumbers.{SolveNumbers}
+use Rattle.auc_run.specs.Solutions.{BearOutMessages, BearOutSolved, BearOutThreads, IsDirectIn, IsHeeded, IsLimitedOr, IsSolvedByThreadsIn, IsSolvedIn, Watched, limits_of, thread_limits_of}
+use Rattle.auc_run.specs.Starts.{AnswersFrom, BearOutFrom, BearOutNoStart, BearOutSolving, BearOutStartError, IsSolvedFromIn, IsSolvingIn, IsStartIn, MayLackThreads, MessagesFrom, start_for}
 use Rattle.auc_run.specs.Verdicts.{IsClaimOf}
 use Rattle.auc_run.proofs.ProblemLaws.{known, are_known, unread}
 
@@ -60,61 +65,103 @@ prices_refused direct objects a b r p bytes claim e h k spells is refused = not_
 
 -- ---- solving
 
-no_start_borne : (direct : Bool) (objects workers bids audit : ℕ) (file cert : List ℕ) (e : Refusal) → BearOutNoStart direct objects file cert e → BearOutFrom direct objects workers bids audit file cert (Err e)
-no_start_borne direct objects workers bids audit file cert (NotRead fault) h = h
-no_start_borne direct objects workers bids audit file cert (NoProblem error) h = h
-no_start_borne direct objects workers bids audit file cert (NoCertificate error) h = h
-no_start_borne direct objects workers bids audit file cert (Invalid error) h = h
-no_start_borne direct objects workers bids audit file cert (NoStart error) h = h
-no_start_borne direct objects workers bids audit file cert (NoScript error) h = h
-no_start_borne direct objects workers bids audit file cert NoMemoryForJob h = absurd h
-no_start_borne direct objects workers bids audit file cert NoThreads h = absurd h
+-- a solve with workers goes by messages
+pub has_messages : (direct : Bool) (workers : ℕ) → (direct ≡ true → workers ≡ 0) → 1 ≤ workers → direct ≡ false
+has_messages true workers alone some = absurd (omega (arith, alone refl, some))
+has_messages false workers alone some = refl
 
-module _ (direct : Bool) (objects : ℕ) (a b : Option (List ℕ)) (workers bids audit : ℕ) (r : Result Answer Refusal) where
-  turned : (e : Refusal) → IsErrAnd r (λ x. x ≡ e) → IsSolvedFromIn direct objects workers bids audit a b (Err e) → IsSolvedFromIn direct objects workers bids audit a b r
-  turned e p h = by r p
-    where
-      by : (s : Result Answer Refusal) → IsErrAnd s (λ x. x ≡ e) → IsSolvedFromIn direct objects workers bids audit a b s
-      by (Ok x) q = absurd q
-      by (Err x) q = subst (λ (y : Refusal). IsSolvedFromIn direct objects workers bids audit a b (Err y)) (sym q) h
+pub is_direct : (direct : Bool) → not direct ≡ false → direct ≡ true
+is_direct true e = refl
+is_direct false e = absurd (false≢true (sym e))
 
-  pub unstarted : (e : Refusal) → IsStartIn direct objects a b (Err e) → IsErrAnd r (λ x. x ≡ e) → IsSolvedFromIn direct objects workers bids audit a b r
-  unstarted e h p = turned e p (h.0, h.1, h.2, h.3, no_start_borne direct objects workers bids audit h.0 h.1 e h.4)
+pub answered : (w : Watched) (n : SolveNumbers) (a b : Option (List ℕ)) (s : Started) (answer : Answer)
+    → IsStartIn n.direct n.objects a b (Ok s) → AnswersFrom n.direct w n s.problem s.prices.items answer → IsSolvedFromIn w n a b (Ok answer)
+answered w n a b s answer h is = (h.0, h.1, h.2, h.3, (s.problem, s.prices.items, h.4, is))
 
-  pub out_of_memory : IsErrAnd r (λ x. x ≡ NoMemoryForJob) → IsSolvedFromIn direct objects workers bids audit a b r
-  out_of_memory p = turned NoMemoryForJob p (known a, known b, are_known a, are_known b, tt)
+no_start_borne : (w : Watched) (n : SolveNumbers) (file cert : List ℕ) (e : Refusal) → BearOutNoStart n.direct n.objects file cert e → BearOutFrom w n file cert (Err e)
+no_start_borne w n file cert (NotRead fault) h = h
+no_start_borne w n file cert (NoProblem error) h = h
+no_start_borne w n file cert (NoCertificate error) h = h
+no_start_borne w n file cert (Invalid error) h = h
+no_start_borne w n file cert (NoStart error) h = h
+no_start_borne w n file cert (NoScript error) h = h
+no_start_borne w n file cert NoMemoryForJob h = absurd h
+no_start_borne w n file cert NoThreads h = absurd h
 
-  pub out_of_threads : 1 ≤ workers → IsErrAnd r (λ x. x ≡ NoThreads) → IsSolvedFromIn direct objects workers bids audit a b r
-  out_of_threads some p = turned NoThreads p (known a, known b, are_known a, are_known b, may workers some)
-    where
-      may : (n : ℕ) → 1 ≤ n → MayLackThreads n
-      may zero s = absurd (omega (arith, s))
-      may (suc n) s = tt
+pub unstarted : (w : Watched) (n : SolveNumbers) (a b : Option (List ℕ)) (r : Result Answer Refusal) (e : Refusal) → IsStartIn n.direct n.objects a b (Err e) → IsErrAnd r (λ x. x ≡ e) → IsSolvedFromIn w n a b r
+unstarted w n a b (Ok x) e h p = absurd p
+unstarted w n a b (Err x) e h p =
+    subst (λ (y : Refusal). IsSolvedFromIn w n a b (Err y)) (sym p) (h.0, h.1, h.2, h.3, no_start_borne w n h.0 h.1 e h.4)
 
-pub answered : (direct : Bool) (objects : ℕ) (a b : Option (List ℕ)) (workers bids audit : ℕ) (s : Started) (answer : Answer) → IsStartIn direct objects a b (Ok s) → AnswersFrom direct workers bids audit s.problem s.prices.items answer → IsSolvedFromIn direct objects workers bids audit a b (Ok answer)
-answered direct objects a b workers bids audit s answer h is = (h.0, h.1, h.2, h.3, (s.problem, s.prices.items, h.4, is))
+-- what holds in one hand, by messages alone, and in threads
+pub in_one_hand : (direct : Bool) (w : Watched) (n : SolveNumbers) (p : Problem) (start : List ℤ) (answer : Answer) → direct ≡ true
+    → IsAnswer p answer × IsHeeded w p answer (IsLimitedFrom p n.bids start answer) → AnswersFrom direct w n p start answer
+in_one_hand true w n p start answer e h = h
+in_one_hand false w n p start answer e h = absurd (false≢true e)
 
-pub answers_by_threads : (workers bids audit : ℕ) (p : Problem) (start : List ℤ) (phases : List PhaseEnd) (answer : Answer) → 1 ≤ workers → IsThreadAnswer p answer → IsSolvedBy p (thread_limits_of workers bids audit) (Some start) phases answer
-    → AnswersFrom false workers bids audit p start answer
-answers_by_threads zero bids audit p start phases answer some is by = absurd (omega (arith, some))
-answers_by_threads (suc workers) bids audit p start phases answer some is by = (is, (phases, by))
+pub by_messages_from : (direct : Bool) (w : Watched) (n : SolveNumbers) (p : Problem) (start : List ℤ) (answer : Answer) → direct ≡ false
+    → MessagesFrom n.workers n p start answer → AnswersFrom direct w n p start answer
+by_messages_from true w n p start answer e h = absurd (false≢true (sym e))
+by_messages_from false w n p start answer e h = h
 
--- from a start
+pub without_threads_from : (k : ℕ) (n : SolveNumbers) (p : Problem) (start : List ℤ) (answer : Answer) → k ≡ 0 → IsAnswer p answer
+    → IsOfRun p (limits_of n.bids) (Some start) answer → MessagesFrom k n p start answer
+without_threads_from zero n p start answer none is run = (is, run)
+without_threads_from (suc k) n p start answer none is run = absurd (omega (arith, none))
 
-pub from_start : (direct : Bool) (objects : ℕ) (a b : Option (List ℕ)) (workers bids audit : ℕ) (answer : Result Answer Refusal) → IsSolvedFromIn direct objects workers bids audit a b answer
-    → IsSolvingIn direct true objects workers bids audit a b answer
-from_start true objects a b workers bids audit answer h = h
-from_start false objects a b workers bids audit answer h = h
+pub in_threads_from : (k : ℕ) (n : SolveNumbers) (p : Problem) (start : List ℤ) (phases : List PhaseEnd) (answer : Answer) → 1 ≤ k
+    → IsThreadAnswer p answer → IsSolvedBy p (thread_limits_of n) (Some start) phases answer → MessagesFrom k n p start answer
+in_threads_from zero n p start phases answer some is by = absurd (omega (arith, some))
+in_threads_from (suc k) n p start phases answer some is by = (is, (phases, by))
+
+pub may_lack : (k : ℕ) → 1 ≤ k → MayLackThreads k
+may_lack zero s = absurd (omega (arith, s))
+may_lack (suc k) s = tt
 
 -- ---- from nothing, the second reader is not looked at
 
-pub from_nothing : (objects : ℕ) (a b : Option (List ℕ)) (bids audit : ℕ) (answer : Result Answer Refusal) → IsSolvedIn objects bids a answer → IsSolvingIn false false objects 0 bids audit a b answer
-from_nothing objects a b bids audit answer h = (h.0, known b, h.1, are_known b, h.2)
+without_threads : (k : ℕ) (n : SolveNumbers) (file : List ℕ) (answer : Result Answer Refusal) → k ≡ 0 → BearOutSolved n file answer
+    → BearOutMessages k n file answer
+without_threads zero n file answer none h = h
+without_threads (suc k) n file answer none h = absurd (omega (arith, none))
 
-pub direct_from_nothing : (objects : ℕ) (a b : Option (List ℕ)) (bids audit : ℕ) (answer : Result Answer Refusal) → IsDirectIn objects bids a answer → IsSolvingIn true false objects 0 bids audit a b answer
-direct_from_nothing objects a b bids audit answer h = (h.0, known b, h.1, are_known b, h.2)
+in_threads : (k : ℕ) (n : SolveNumbers) (file : List ℕ) (answer : Result Answer Refusal) → 1 ≤ k → BearOutThreads n file answer
+    → BearOutMessages k n file answer
+in_threads zero n file answer some h = absurd (omega (arith, some))
+in_threads (suc k) n file answer some h = h
 
-pub threads_from_nothing : (objects : ℕ) (a b : Option (List ℕ)) (workers bids audit : ℕ) (answer : Result Answer Refusal) → 1 ≤ workers → IsSolvedByThreadsIn objects workers bids audit a answer
-    → IsSolvingIn false false objects workers bids audit a b answer
-threads_from_nothing objects a b zero bids audit answer some h = absurd (omega (arith, some))
-threads_from_nothing objects a b (suc workers) bids audit answer some h = (h.0, known b, h.1, are_known b, h.2)
+module _ (w : Watched) (n : SolveNumbers) (a b : Option (List ℕ)) (answer : Result Answer Refusal) (fresh : n.from ≡ false) where
+  from_nothing : (file : List ℕ) → AreKnown a file → BearOutSolving false n.direct w n file (known b) answer → IsSolvingIn w n a b answer
+  from_nothing file is h =
+      (file, known b, is, are_known b, subst (λ (from : Bool). BearOutSolving from n.direct w n file (known b) answer) (sym fresh) h)
+
+  by_messages : n.direct ≡ false → (file : List ℕ) → AreKnown a file → BearOutMessages n.workers n file answer → IsSolvingIn w n a b answer
+  by_messages messages file is h =
+      from_nothing file is (subst (λ (direct : Bool). BearOutSolving false direct w n file (known b) answer) (sym messages) h)
+
+  pub plainly : n.direct ≡ false → n.workers ≡ 0 → IsSolvedIn n a answer → IsSolvingIn w n a b answer
+  plainly messages none h = by_messages messages h.0 h.1 (without_threads n.workers n h.0 answer none h.2)
+
+  pub by_threads : n.direct ≡ false → 1 ≤ n.workers → IsSolvedByThreadsIn n a answer → IsSolvingIn w n a b answer
+  by_threads messages some h = by_messages messages h.0 h.1 (in_threads n.workers n h.0 answer some h.2)
+
+  pub directly : n.direct ≡ true → IsDirectIn w n a answer → IsSolvingIn w n a b answer
+  directly direct h =
+      from_nothing h.0 h.1 (subst (λ (x : Bool). BearOutSolving false x w n h.0 (known b) answer) (sym direct) h.2)
+
+-- ---- from a start
+
+pub from_start : (w : Watched) (n : SolveNumbers) (a b : Option (List ℕ)) (answer : Result Answer Refusal) → n.from ≡ true
+    → IsSolvedFromIn w n a b answer → IsSolvingIn w n a b answer
+from_start w n a b answer from h =
+    (h.0, h.1, h.2, h.3, subst (λ (x : Bool). BearOutSolving x n.direct w n h.0 h.1 answer) (sym from) h.4)
+
+-- ---- who watches
+
+-- he has stopped the run, or hasn't
+pub limited_or : (before stopped : Bool) (answer : Answer) (Holds : Type 0) → IsLimitedUnless before stopped answer Holds
+    → IsLimitedOr stopped answer Holds
+limited_or before true answer Holds (inl told) = inr told.1
+limited_or before false answer Holds (inl told) = absurd (false≢true told.0)
+limited_or before true answer Holds (inr is) = inl is.1
+limited_or before false answer Holds (inr is) = is.1

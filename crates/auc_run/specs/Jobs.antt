@@ -44,4 +44,4 @@ has_second Mail = false
 
 -- the solve with these numbers
 abbrev pub solve_by : SolveNumbers → Job
-solve_by n = Solve n.workers n.bids n.audit n.objects n.from false
+solve_by n = Solve n.workers n.bids n.audit n.objects n.from n.direct

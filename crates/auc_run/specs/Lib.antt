@@ -10,5 +10,4 @@ pub mod Starts
 pub mod Reports
 pub mod Jobs
 pub mod Said
-pub mod Watched
 pub mod Replies

@@ -6,6 +6,7 @@ use Rattle.auc_mail.specs.declared.call.Reply.{Reply}
 use Rattle.auc_answers.specs.declared.answer.Answer.{Answer}
 use Rattle.auc_run.specs.declared.command.Job.{Job}
 use Rattle.auc_run.specs.declared.command.Job.TheVariants.{Solve, Check, Hall, Mail}
+use Rattle.auc_run.specs.declared.command.SolveNumbers.{SolveNumbers}
 use Rattle.auc_run.specs.declared.ending.Ending.{Ending}
 use Rattle.auc_run.specs.declared.found.Found.{Found}
 use Rattle.auc_run.specs.declared.refusal.Refusal.{Refusal}
@@ -15,6 +16,7 @@ use Rattle.auc_run.specs.declared.valid.Valid.{Valid}
 use Rattle.auc_run.specs.Problems.{AreKnown}
 use Rattle.auc_run.specs.Verdicts.{BearOut}
 use Rattle.auc_run.specs.Completions.{BearOutFound}
+use Rattle.auc_run.specs.Solutions.{Watched, onward}
 use Rattle.auc_run.specs.Starts.{BearOutSolving}
 use Rattle.auc_run.specs.Replies.{BearOutReplies}
 use Rattle.auc_run.specs.Reports.{outcome_text, outcome_status, refusal_of, reason_of}
@@ -25,25 +27,34 @@ reported report (Ok x) = Ok (report x)
 reported report (Err refusal) = Err refusal
 
 -- The bytes of the two inputs bear the outcome of the job out: an answer about the problem, a verdict on the certificate's claim, a full
--- assignment or the certificate that there is none, or the replies of a run of the mail.
-abbrev pub BearOutJob : Job → List ℕ → List ℕ → Result Report Refusal → Type 0
-BearOutJob (Solve workers bids audit objects from direct) file cert outcome = (answer : Result Answer Refusal) × BearOutSolving direct from objects workers bids audit file cert answer × (outcome ≡ reported Solved answer)
-BearOutJob (Check objects) file cert outcome = (verdict : Result Valid Refusal) × BearOut objects file cert verdict × (outcome ≡ reported Judged verdict)
-BearOutJob (Hall objects) file cert outcome = (found : Result Found Refusal) × BearOutFound objects file found × (outcome ≡ reported Completed found)
-BearOutJob Mail file cert outcome = (replies : Result (List (Reply ℤ)) Refusal) × BearOutReplies file replies × (outcome ≡ reported Replied replies)
+-- assignment or the certificate that there is none, or the replies of a run of the mail. A solve in one hand may be watched.
+abbrev pub BearOutJob : Watched → Job → List ℕ → List ℕ → Result Report Refusal → Type 0
+BearOutJob w (Solve workers bids audit objects from direct) file cert outcome =
+    let n : SolveNumbers =
+    record { workers = workers; bids = bids; audit = audit; objects = objects; from = from; direct = direct }
+    in (answer : Result Answer Refusal) × BearOutSolving from direct w n file cert answer × (outcome ≡ reported Solved answer)
+BearOutJob w (Check objects) file cert outcome =
+    (verdict : Result Valid Refusal) × BearOut objects file cert verdict × (outcome ≡ reported Judged verdict)
+BearOutJob w (Hall objects) file cert outcome =
+    (found : Result Found Refusal) × BearOutFound objects file found × (outcome ≡ reported Completed found)
+BearOutJob w Mail file cert outcome =
+    (replies : Result (List (Reply ℤ)) Refusal) × BearOutReplies file replies × (outcome ≡ reported Replied replies)
 
 -- an outcome of the job on what two readers have; bytes that a reader does not tell are some bytes
-abbrev pub IsOutcome : Job → Option (List ℕ) → Option (List ℕ) → Result Report Refusal → Type 0
-IsOutcome job first second outcome = (file : List ℕ) × (cert : List ℕ) × AreKnown first file × AreKnown second cert × BearOutJob job file cert outcome
+abbrev pub IsOutcome : Watched → Job → Option (List ℕ) → Option (List ℕ) → Result Report Refusal → Type 0
+IsOutcome w job first second outcome =
+    (file : List ℕ) × (cert : List ℕ) × AreKnown first file × AreKnown second cert × BearOutJob w job file cert outcome
 
--- a job wrote, after what the writer had, the text of an outcome on what the two readers had, and gave its status
+-- a job that nobody watches wrote, after what the writer had, the text of an outcome on what the two readers had, and gave its status
 abbrev pub Said : Job → Option (List ℕ) → Option (List ℕ) → Option (List ℕ) → Option (List ℕ) → ℕ → Type 0
 Said job first second before after status =
-    (outcome : Result Report Refusal) × IsOutcome job first second outcome × Appends before after (outcome_text outcome) × (status ≡ outcome_status outcome)
+    (outcome : Result Report Refusal) × IsOutcome onward job first second outcome × Appends before after (outcome_text outcome)
+    × (status ≡ outcome_status outcome)
 
--- a job wrote a beginning of the text of an outcome on what the two readers had, and not all of it
+-- it wrote a beginning of the text of an outcome on what the two readers had, and not all of it
 abbrev pub SaidInPart : Job → Option (List ℕ) → Option (List ℕ) → Option (List ℕ) → Option (List ℕ) → Type 0
-SaidInPart job first second before after = (outcome : Result Report Refusal) × IsOutcome job first second outcome × Begins before after (outcome_text outcome)
+SaidInPart job first second before after =
+    (outcome : Result Report Refusal) × IsOutcome onward job first second outcome × Begins before after (outcome_text outcome)
 
 -- How a job ended that has this outcome: its text stands after what the writer had, or a beginning of it where the status says so; and the
 -- refusal, and the limit that ended a search, are the outcome's.
@@ -52,3 +63,8 @@ pub record EndsBy (before after : Option (List ℕ)) (outcome : Result Report Re
   pub cut : ending.status ≡ 8 → Begins before after (outcome_text outcome)
   pub refusal : ending.refusal ≡ refusal_of outcome
   pub reason : ending.reason ≡ reason_of outcome
+
+-- a job ended so, by an outcome on what the two readers had
+abbrev pub Ended : Watched → Job → Option (List ℕ) → Option (List ℕ) → Option (List ℕ) → Option (List ℕ) → Ending → Type 0
+Ended w job first second before after ending =
+    (outcome : Result Report Refusal) × IsOutcome w job first second outcome × EndsBy before after outcome ending

@@ -1,5 +1,5 @@
 -- What a solve may answer about a problem, the text that tells it, and which answers are right for the bytes of a problem.
-use Rattle.std.specs.Prelude.{ℕ, zero, suc, List, codes, Option, None, Result, Ok, Err, ⊤, pos}
+use Rattle.std.specs.Prelude.{◌⊎◌, ℕ, zero, suc, Bool, true, false, List, codes, Option, None, Result, Ok, Err, ⊤, pos}
 use Rattle.auc_graph.specs.Problem.{Problem}
 use Rattle.auc_cert.specs.Text.{text}
 use Rattle.auc_answers.specs.declared.answer.Answer.{Answer}
@@ -9,9 +9,10 @@ use Rattle.auc_answers.specs.declared.answer.Guard.TheVariants.{Check, Fell, Set
 use Rattle.auc_phases.specs.declared.limits.Limits.{Limits}
 use Rattle.auc_answers.specs.Answers.{IsAnswer}
 use Rattle.auc_world.specs.Chain.{IsOfRun}
-use Rattle.auc_direct.specs.Endings.{IsLimited}
+use Rattle.auc_direct.specs.Endings.{IsAsked, IsLimited, IsStopTold}
 use Rattle.auc_threads.specs.declared.phase.PhaseEnd.{PhaseEnd}
 use Rattle.auc_threads.specs.Solved.{IsSolvedBy, IsThreadAnswer}
+use Rattle.auc_run.specs.declared.command.SolveNumbers.{SolveNumbers}
 use Rattle.auc_run.specs.declared.refusal.Refusal.{Refusal}
 use Rattle.auc_run.specs.declared.refusal.Refusal.TheVariants.{NotRead, NoProblem, NoCertificate, Invalid, NoStart, NoScript, NoMemory, NoThreads}
 use Rattle.auc_run.specs.Problems.{AreKnown, BearOutRefusal, IsProblemOf}
@@ -20,49 +21,75 @@ use Rattle.auc_run.specs.Problems.{AreKnown, BearOutRefusal, IsProblemOf}
 abbrev pub limits_of : ℕ → Limits
 limits_of bids = record { shards = 1; bids = bids; posts = 1000000000000; audit = 0; nodes = 0 }
 
--- The bytes of a problem bear an answer out, or the refusal. An answer is a certificate in which the checker finds no fault: of a least assignment, of an
--- assignment and a bound, or that there is none; and it is that of a run by so many bids. No guard is hit.
-abbrev pub BearOutSolved : ℕ → ℕ → List ℕ → Result Answer Refusal → Type 0
-BearOutSolved objects bids file (Ok answer) = (p : Problem) × IsProblemOf objects file p × IsAnswer p answer × IsOfRun p (limits_of bids) None answer
-BearOutSolved objects bids file (Err refusal) = BearOutRefusal objects file refusal
+-- The bytes of a problem bear an answer out, or the refusal. An answer is a certificate in which the checker finds no fault: of a least
+-- assignment, of an assignment and a bound, or that there is none; and it is that of a run by so many bids. No guard is hit.
+abbrev pub BearOutSolved : SolveNumbers → List ℕ → Result Answer Refusal → Type 0
+BearOutSolved n file (Ok answer) =
+    (p : Problem) × IsProblemOf n.objects file p × IsAnswer p answer × IsOfRun p (limits_of n.bids) None answer
+BearOutSolved n file (Err refusal) = BearOutRefusal n.objects file refusal
 
--- The same of a solve in one hand. Where an answer is an assignment and a bound, the bids ran out, or somebody would bid more than the greatest price.
-abbrev pub BearOutDirect : ℕ → ℕ → List ℕ → Result Answer Refusal → Type 0
-BearOutDirect objects bids file (Ok answer) = (p : Problem) × IsProblemOf objects file p × IsAnswer p answer × IsLimited p bids (pos 0) answer
-BearOutDirect objects bids file (Err refusal) = BearOutRefusal objects file refusal
+-- Who watches a solve in one hand: whether he has said no, and whether he was asked at all.
+pub record Watched : Type 0 where
+  pub stopped : Bool
+  pub asked : Bool
+
+abbrev pub watched : Bool → Bool → Watched
+watched stopped asked = record { stopped = stopped; asked = asked }
+
+-- nobody watches: the run goes on whatever happens
+abbrev pub onward : Watched
+onward = watched false true
+
+-- Where he has said no, he may have stopped the run, and then that is told. Else this holds.
+abbrev pub IsLimitedOr : Bool → Answer → Type 0 → Type 0
+IsLimitedOr false answer Holds = Holds
+IsLimitedOr true answer Holds = Holds ⊎ IsStopTold answer
+
+-- He was asked, or needn't have been; and unless he has stopped the run, this holds of its answer.
+abbrev pub IsHeeded : Watched → Problem → Answer → Type 0 → Type 0
+IsHeeded w p answer Holds = IsAsked w.asked p answer × IsLimitedOr w.stopped answer Holds
+
+-- The same of a solve in one hand. Where an answer is an assignment and a bound, the bids ran out, or somebody would bid more than the
+-- greatest price; or who watches has stopped it.
+abbrev pub BearOutDirect : Watched → SolveNumbers → List ℕ → Result Answer Refusal → Type 0
+BearOutDirect w n file (Ok answer) =
+    (p : Problem) × IsProblemOf n.objects file p × IsAnswer p answer × IsHeeded w p answer (IsLimited p n.bids (pos 0) answer)
+BearOutDirect w n file (Err refusal) = BearOutRefusal n.objects file refusal
 
 -- the limits of a solve with threads: so many shards of each kind, bids, and places in each trail, and else the usual numbers
-abbrev pub thread_limits_of : ℕ → ℕ → ℕ → Limits
-thread_limits_of workers bids audit = record { shards = workers; bids = bids; posts = 1000000000000; audit = audit; nodes = 0 }
+abbrev pub thread_limits_of : SolveNumbers → Limits
+thread_limits_of n = record { shards = n.workers; bids = n.bids; posts = 1000000000000; audit = n.audit; nodes = 0 }
 
 -- The same of a solve with threads. An answer is that of its phases, of which the last one decides; it may be a guard that was hit.
-abbrev pub BearOutThreads : ℕ → ℕ → ℕ → ℕ → List ℕ → Result Answer Refusal → Type 0
-BearOutThreads objects workers bids audit file (Ok answer) = (p : Problem) × IsProblemOf objects file p × IsThreadAnswer p answer × ((phases : List PhaseEnd) × IsSolvedBy p (thread_limits_of workers bids audit) None phases answer)
-BearOutThreads objects workers bids audit file (Err NoThreads) = ⊤
-BearOutThreads objects workers bids audit file (Err (NotRead fault)) = BearOutRefusal objects file (NotRead fault)
-BearOutThreads objects workers bids audit file (Err (NoProblem error)) = BearOutRefusal objects file (NoProblem error)
-BearOutThreads objects workers bids audit file (Err (NoCertificate error)) = ⊥
-BearOutThreads objects workers bids audit file (Err (Invalid error)) = ⊥
-BearOutThreads objects workers bids audit file (Err (NoStart error)) = ⊥
-BearOutThreads objects workers bids audit file (Err (NoScript error)) = ⊥
-BearOutThreads objects workers bids audit file (Err NoMemory) = BearOutRefusal objects file NoMemory
+abbrev pub BearOutThreads : SolveNumbers → List ℕ → Result Answer Refusal → Type 0
+BearOutThreads n file (Ok answer) =
+    (p : Problem) × IsProblemOf n.objects file p × IsThreadAnswer p answer
+    × ((phases : List PhaseEnd) × IsSolvedBy p (thread_limits_of n) None phases answer)
+BearOutThreads n file (Err NoThreads) = ⊤
+BearOutThreads n file (Err (NotRead fault)) = BearOutRefusal n.objects file (NotRead fault)
+BearOutThreads n file (Err (NoProblem error)) = BearOutRefusal n.objects file (NoProblem error)
+BearOutThreads n file (Err (NoCertificate error)) = ⊥
+BearOutThreads n file (Err (Invalid error)) = ⊥
+BearOutThreads n file (Err (NoStart error)) = ⊥
+BearOutThreads n file (Err (NoScript error)) = ⊥
+BearOutThreads n file (Err NoMemory) = BearOutRefusal n.objects file NoMemory
 
--- a solve goes by threads where there are workers
-abbrev pub BearOutSolve : ℕ → ℕ → ℕ → ℕ → List ℕ → Result Answer Refusal → Type 0
-BearOutSolve objects zero bids audit file answer = BearOutSolved objects bids file answer
-BearOutSolve objects (suc workers) bids audit file answer = BearOutThreads objects (suc workers) bids audit file answer
+-- a solve by messages goes by threads where there are so many workers, and not 0
+abbrev pub BearOutMessages : ℕ → SolveNumbers → List ℕ → Result Answer Refusal → Type 0
+BearOutMessages zero n file answer = BearOutSolved n file answer
+BearOutMessages (suc workers) n file answer = BearOutThreads n file answer
 
 -- what was answered in threads about the problem that a reader has
-abbrev pub IsSolvedByThreadsIn : ℕ → ℕ → ℕ → ℕ → Option (List ℕ) → Result Answer Refusal → Type 0
-IsSolvedByThreadsIn objects workers bids audit reader answer = (file : List ℕ) × AreKnown reader file × BearOutThreads objects workers bids audit file answer
+abbrev pub IsSolvedByThreadsIn : SolveNumbers → Option (List ℕ) → Result Answer Refusal → Type 0
+IsSolvedByThreadsIn n reader answer = (file : List ℕ) × AreKnown reader file × BearOutThreads n file answer
 
 -- what was answered in one hand about the problem that a reader has
-abbrev pub IsDirectIn : ℕ → ℕ → Option (List ℕ) → Result Answer Refusal → Type 0
-IsDirectIn objects bids reader answer = (file : List ℕ) × AreKnown reader file × BearOutDirect objects bids file answer
+abbrev pub IsDirectIn : Watched → SolveNumbers → Option (List ℕ) → Result Answer Refusal → Type 0
+IsDirectIn w n reader answer = (file : List ℕ) × AreKnown reader file × BearOutDirect w n file answer
 
 -- what was answered about the problem that a reader has
-abbrev pub IsSolvedIn : ℕ → ℕ → Option (List ℕ) → Result Answer Refusal → Type 0
-IsSolvedIn objects bids reader answer = (file : List ℕ) × AreKnown reader file × BearOutSolved objects bids file answer
+abbrev pub IsSolvedIn : SolveNumbers → Option (List ℕ) → Result Answer Refusal → Type 0
+IsSolvedIn n reader answer = (file : List ℕ) × AreKnown reader file × BearOutSolved n file answer
 
 abbrev pub guard_line : Guard → List ℕ
 guard_line Fell = codes "broken fell\n"

@@ -14,11 +14,12 @@ use Rattle.auc_world.specs.Chain.{IsOfRun}
 use Rattle.auc_direct.specs.Endings.{IsLimitedFrom}
 use Rattle.auc_threads.specs.declared.phase.PhaseEnd.{PhaseEnd}
 use Rattle.auc_threads.specs.Solved.{IsSolvedBy, IsThreadAnswer}
+use Rattle.auc_run.specs.declared.command.SolveNumbers.{SolveNumbers}
 use Rattle.auc_run.specs.declared.refusal.Refusal.{Refusal}
 use Rattle.auc_run.specs.declared.refusal.Refusal.TheVariants.{NotRead, NoProblem, NoCertificate, Invalid, NoStart, NoScript, NoMemory as NoMemoryForJob, NoThreads}
 use Rattle.auc_run.specs.declared.start.Started.{Started}
 use Rattle.auc_run.specs.Problems.{AreKnown, BearOutInput, IsProblemOf, ReadsAsProblem}
-use Rattle.auc_run.specs.Solutions.{BearOutDirect, BearOutSolve, limits_of, thread_limits_of}
+use Rattle.auc_run.specs.Solutions.{BearOutDirect, BearOutMessages, IsHeeded, Watched, limits_of, thread_limits_of}
 use Rattle.auc_run.specs.Verdicts.{IsClaimOf}
 
 -- ---- the prices of a certificate
@@ -81,11 +82,16 @@ BearOutStart direct objects file cert (Err refusal) = BearOutNoStart direct obje
 abbrev pub IsStartIn : Bool → ℕ → Option (List ℕ) → Option (List ℕ) → Result Started Refusal → Type 0
 IsStartIn direct objects first second started = (file : List ℕ) × (cert : List ℕ) × AreKnown first file × AreKnown second cert × BearOutStart direct objects file cert started
 
--- an answer of a run from these prices: in one hand; or by messages, and by threads where there are workers
-abbrev pub AnswersFrom : Bool → ℕ → ℕ → ℕ → Problem → List ℤ → Answer → Type 0
-AnswersFrom true workers bids audit p start answer = IsAnswer p answer × IsLimitedFrom p bids start answer
-AnswersFrom false zero bids audit p start answer = IsAnswer p answer × IsOfRun p (limits_of bids) (Some start) answer
-AnswersFrom false (suc workers) bids audit p start answer = IsThreadAnswer p answer × ((phases : List PhaseEnd) × IsSolvedBy p (thread_limits_of (suc workers) bids audit) (Some start) phases answer)
+-- an answer of a run by messages from these prices: by threads where there are so many workers, and not 0
+abbrev pub MessagesFrom : ℕ → SolveNumbers → Problem → List ℤ → Answer → Type 0
+MessagesFrom zero n p start answer = IsAnswer p answer × IsOfRun p (limits_of n.bids) (Some start) answer
+MessagesFrom (suc workers) n p start answer =
+    IsThreadAnswer p answer × ((phases : List PhaseEnd) × IsSolvedBy p (thread_limits_of n) (Some start) phases answer)
+
+-- an answer of a run from these prices: in one hand where that is asked for, or by messages
+abbrev pub AnswersFrom : Bool → Watched → SolveNumbers → Problem → List ℤ → Answer → Type 0
+AnswersFrom true w n p start answer = IsAnswer p answer × IsHeeded w p answer (IsLimitedFrom p n.bids start answer)
+AnswersFrom false w n p start answer = MessagesFrom n.workers n p start answer
 
 -- only where there are workers a thread may be missing
 abbrev pub MayLackThreads : ℕ → Type 0
@@ -93,27 +99,31 @@ MayLackThreads zero = ⊥
 MayLackThreads (suc workers) = ⊤
 
 -- The two files bear the answer of a solve from a start out, or the refusal. Of want of memory after the reading nothing is known.
-abbrev pub BearOutFrom : Bool → ℕ → ℕ → ℕ → ℕ → List ℕ → List ℕ → Result Answer Refusal → Type 0
-BearOutFrom direct objects workers bids audit file cert (Ok answer) = (p : Problem) × (start : List ℤ) × IsStartOf direct objects file cert p start × AnswersFrom direct workers bids audit p start answer
-BearOutFrom direct objects workers bids audit file cert (Err NoMemoryForJob) = ⊤
-BearOutFrom direct objects workers bids audit file cert (Err NoThreads) = MayLackThreads workers
-BearOutFrom direct objects workers bids audit file cert (Err (NoProblem error)) = BearOutNoStart direct objects file cert (NoProblem error)
-BearOutFrom direct objects workers bids audit file cert (Err (NotRead fault)) = BearOutNoStart direct objects file cert (NotRead fault)
-BearOutFrom direct objects workers bids audit file cert (Err (NoCertificate error)) = BearOutNoStart direct objects file cert (NoCertificate error)
-BearOutFrom direct objects workers bids audit file cert (Err (NoStart error)) = BearOutNoStart direct objects file cert (NoStart error)
-BearOutFrom direct objects workers bids audit file cert (Err (Invalid error)) = ⊥
-BearOutFrom direct objects workers bids audit file cert (Err (NoScript error)) = ⊥
+abbrev pub BearOutFrom : Watched → SolveNumbers → List ℕ → List ℕ → Result Answer Refusal → Type 0
+BearOutFrom w n file cert (Ok answer) =
+    (p : Problem) × (start : List ℤ) × IsStartOf n.direct n.objects file cert p start × AnswersFrom n.direct w n p start answer
+BearOutFrom w n file cert (Err NoMemoryForJob) = ⊤
+BearOutFrom w n file cert (Err NoThreads) = MayLackThreads n.workers
+BearOutFrom w n file cert (Err (NoProblem error)) = BearOutNoStart n.direct n.objects file cert (NoProblem error)
+BearOutFrom w n file cert (Err (NotRead fault)) = BearOutNoStart n.direct n.objects file cert (NotRead fault)
+BearOutFrom w n file cert (Err (NoCertificate error)) = BearOutNoStart n.direct n.objects file cert (NoCertificate error)
+BearOutFrom w n file cert (Err (NoStart error)) = BearOutNoStart n.direct n.objects file cert (NoStart error)
+BearOutFrom w n file cert (Err (Invalid error)) = ⊥
+BearOutFrom w n file cert (Err (NoScript error)) = ⊥
 
 -- what a solve from a start has answered about what two readers have
-abbrev pub IsSolvedFromIn : Bool → ℕ → ℕ → ℕ → ℕ → Option (List ℕ) → Option (List ℕ) → Result Answer Refusal → Type 0
-IsSolvedFromIn direct objects workers bids audit first second answer = (file : List ℕ) × (cert : List ℕ) × AreKnown first file × AreKnown second cert × BearOutFrom direct objects workers bids audit file cert answer
+abbrev pub IsSolvedFromIn : Watched → SolveNumbers → Option (List ℕ) → Option (List ℕ) → Result Answer Refusal → Type 0
+IsSolvedFromIn w n first second answer =
+    (file : List ℕ) × (cert : List ℕ) × AreKnown first file × AreKnown second cert × BearOutFrom w n file cert answer
 
--- a solve starts from an old certificate, or from nothing; in one hand, or by messages
-abbrev pub BearOutSolving : Bool → Bool → ℕ → ℕ → ℕ → ℕ → List ℕ → List ℕ → Result Answer Refusal → Type 0
-BearOutSolving direct true objects workers bids audit file cert answer = BearOutFrom direct objects workers bids audit file cert answer
-BearOutSolving true false objects workers bids audit file cert answer = BearOutDirect objects bids file answer
-BearOutSolving false false objects workers bids audit file cert answer = BearOutSolve objects workers bids audit file answer
+-- a solve starts from an old certificate, or from nothing: then in one hand, or by messages
+abbrev pub BearOutSolving : Bool → Bool → Watched → SolveNumbers → List ℕ → List ℕ → Result Answer Refusal → Type 0
+BearOutSolving true direct w n file cert answer = BearOutFrom w n file cert answer
+BearOutSolving false true w n file cert answer = BearOutDirect w n file answer
+BearOutSolving false false w n file cert answer = BearOutMessages n.workers n file answer
 
 -- what a solve has answered about what two readers have
-abbrev pub IsSolvingIn : Bool → Bool → ℕ → ℕ → ℕ → ℕ → Option (List ℕ) → Option (List ℕ) → Result Answer Refusal → Type 0
-IsSolvingIn direct from objects workers bids audit first second answer = (file : List ℕ) × (cert : List ℕ) × AreKnown first file × AreKnown second cert × BearOutSolving direct from objects workers bids audit file cert answer
+abbrev pub IsSolvingIn : Watched → SolveNumbers → Option (List ℕ) → Option (List ℕ) → Result Answer Refusal → Type 0
+IsSolvingIn w n first second answer =
+    (file : List ℕ) × (cert : List ℕ) × AreKnown first file × AreKnown second cert
+    × BearOutSolving n.from n.direct w n file cert answer

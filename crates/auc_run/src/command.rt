@@ -6,8 +6,8 @@ ghost use Rattle.auc_claim.specs.Spelled.{IsSpelled};
 ghost use Rattle.auc_run.specs.Verdicts.{Judges, IsVerdict, said_by};
 ghost use Rattle.auc_run.specs.Jobs.{IsInRange, IsPlain, has_second, objects_of, solve_by};
 ghost use Rattle.auc_run.specs.Reports.{IsWritable};
-ghost use Rattle.auc_run.specs.Said.{IsOutcome, Said, SaidInPart};
-ghost use Rattle.auc_run.specs.Watched.{EndedUnless, IsOutcomeUnless};
+ghost use Rattle.auc_run.specs.Said.{Ended, IsOutcome, Said, SaidInPart};
+ghost use Rattle.auc_run.specs.Solutions.{Watched, watched};
 
 use crate::direct::answer_alone;
 use crate::ending::Ending;
@@ -69,7 +69,7 @@ pub enum Job {
     Mail,
 }
 
-/// The numbers of a solve by messages, as [`Job::Solve`] has them.
+/// The numbers of a solve, as [`Job::Solve`] has them.
 #[derive(Clone, Copy)]
 pub(crate) struct SolveNumbers {
     pub(crate) workers: u32,
@@ -77,6 +77,7 @@ pub(crate) struct SolveNumbers {
     pub(crate) audit: u32,
     pub(crate) objects: u32,
     pub(crate) from: bool,
+    pub(crate) direct: bool,
 }
 
 /// What a certificate says, if its claim holds.
@@ -135,22 +136,30 @@ fn outcome_of<R: Read, Q: Read, V: Watch>(
 ) -> Result<Report, Refusal>
     requires range { IsInRange job.now }
     requires plain { IsPlain job.now }
-    ensures outcome { IsOutcomeUnless (V.has_stopped watch.new) job.now (R.remaining reader.old) (Q.remaining second.old) result }
+    ensures outcome { IsOutcome (watched (V.has_stopped watch.new) (V.was_asked watch.new)) job.now (R.remaining reader.old)
+        (Q.remaining second.old) result }
     ensures writable { IfOk result IsWritable }
     ensures unread { IfSome (R.remaining reader.old) (λ file. IsErr (reading MOST_ARCS (objects_of job.now) file) → second.new ≡ second.old) }
     ensures alone { has_second job.now ≡ false → second.new ≡ second.old }
 {
     match job {
         Job::Solve {
-            objects,
+            workers,
             bids,
+            audit,
+            objects,
             from,
             direct,
-            ..
         } => {
-            let answer = answer_alone(
-                alloc, reader, second, *objects, *bids, *from, *direct, watch,
-            )?;
+            let numbers = SolveNumbers {
+                workers: *workers,
+                bids: *bids,
+                audit: *audit,
+                objects: *objects,
+                from: *from,
+                direct: *direct,
+            };
+            let answer = answer_alone(alloc, reader, second, numbers, watch)?;
             Ok(Report::Solved(answer))
         }
         Job::Check { objects } => {
@@ -172,7 +181,7 @@ fn outcome_by_threads<H: Threads + Wait + Sync, R: Read, Q: Read, G: Gate + Sync
 ) -> Result<Report, Refusal>
     requires some { 1 ≤ numbers.workers }
     requires range { IsInRange (solve_by numbers) }
-    ensures outcome { IsOutcome (solve_by numbers) (R.remaining reader.old) (Q.remaining second.old) result }
+    ensures outcome { (w : Watched) → IsOutcome w (solve_by numbers) (R.remaining reader.old) (Q.remaining second.old) result }
     ensures writable { IfOk result IsWritable }
     ensures unread { IfSome (R.remaining reader.old) (λ file. IsErr (reading MOST_ARCS numbers.objects file) → second.new ≡ second.old) }
     ensures alone { numbers.from ≡ false → second.new ≡ second.old }
@@ -192,7 +201,8 @@ fn perform_plainly<R: Read, Q: Read, W: Write, V: Watch>(
 ) -> Ending
     requires range { IsInRange job.now }
     requires plain { IsPlain job.now }
-    ensures ended { EndedUnless (V.has_stopped watch.new) job.now (R.remaining reader.old) (Q.remaining second.old) (W.contents writer.old) (W.contents writer.new) result }
+    ensures ended { Ended (watched (V.has_stopped watch.new) (V.was_asked watch.new)) job.now (R.remaining reader.old)
+        (Q.remaining second.old) (W.contents writer.old) (W.contents writer.new) result }
     ensures unread { IfSome (R.remaining reader.old) (λ file. IsErr (reading MOST_ARCS (objects_of job.now) file) → second.new ≡ second.old) }
     ensures alone { has_second job.now ≡ false → second.new ≡ second.old }
 {
@@ -235,9 +245,9 @@ pub fn run_plain<R: Read, Q: Read, W: Write>(
     perform_plainly(alloc, job, reader, second, writer, &mut Onward).status
 }
 
-/// Does a job, as [`run_command`] does, and says how it ended: with its status, and why it was refused, where it was. A solve in one hand asks the watch whether it
-/// goes on, see [`auc_direct::solve_direct_watched`], and no other job does. Where it has said no, an answer is as right as any other: it may be an assignment and a
-/// bound that no limit has made.
+/// Does a job, as [`run_command`] does, and says how it ended: with its status, and why it was refused, where it was. A solve in one hand
+/// asks the watch whether it goes on, see [`auc_direct::solve_direct_watched`]; no other job does. Where it has said no, an answer is as right
+/// as any other: it may be an assignment and a bound that no limit has made.
 pub fn perform<H: Threads + Wait + Sync, R: Read, Q: Read, W: Write, G: Gate + Sync, V: Watch>(
     rt: &H,
     alloc: Global,
@@ -250,8 +260,10 @@ pub fn perform<H: Threads + Wait + Sync, R: Read, Q: Read, W: Write, G: Gate + S
 ) -> Ending
     // The job's numbers are those that its fields allow.
     requires range { IsInRange job.now }
-    // What was written, the status and the refusal are those of one outcome, which is right for the bytes that were read.
-    ensures ended { EndedUnless (V.has_stopped watch.new) job.now (R.remaining reader.old) (Q.remaining second.old) (W.contents writer.old) (W.contents writer.new) result }
+    // What was written, the status and the refusal are those of one outcome, which is right for the bytes that were read. A solve in one
+    // hand has asked the watch, but for a full table and where there is no assignment.
+    ensures ended { Ended (watched (V.has_stopped watch.new) (V.was_asked watch.new)) job.now (R.remaining reader.old)
+        (Q.remaining second.old) (W.contents writer.old) (W.contents writer.new) result }
     // A certificate for what is no problem is left unread.
     ensures unread { IfSome (R.remaining reader.old) (λ file. IsErr (reading MOST_ARCS (objects_of job.now) file) → second.new ≡ second.old) }
     // Only a check, and a solve that starts from a certificate, has a second input.
@@ -263,7 +275,7 @@ pub fn perform<H: Threads + Wait + Sync, R: Read, Q: Read, W: Write, G: Gate + S
         audit,
         objects,
         from,
-        ..
+        direct,
     } = *job
     {
         if workers > 0 {
@@ -273,6 +285,7 @@ pub fn perform<H: Threads + Wait + Sync, R: Read, Q: Read, W: Write, G: Gate + S
                 audit,
                 objects,
                 from,
+                direct,
             };
             let outcome = outcome_by_threads(rt, alloc, reader, second, numbers, gate);
             return tell(writer, outcome);

@@ -1,11 +1,11 @@
 //! The job of a solve: a problem is read, and a least-cost assignment is found, persons who together know too few objects, or an
 //! assignment and a bound.
 
-ghost use Rattle.std.specs.Prelude.{◌≡◌, ◌≤◌, ℕ, false, IfSome, IsErr};
+ghost use Rattle.std.specs.Prelude.{◌≡◌, ◌≤◌, false, IfSome, IsErr};
 ghost use Rattle.auc_cert.specs.Writing.{Writes};
 ghost use Rattle.auc_graph.specs.Reading.{reading};
 ghost use Rattle.auc_run.specs.Jobs.{IsInRange, solve_by};
-ghost use Rattle.auc_run.specs.Solutions.{IsSolvedByThreadsIn, IsSolvedIn, answer_text, guard_line, limits_of, thread_limits_of};
+ghost use Rattle.auc_run.specs.Solutions.{IsSolvedByThreadsIn, IsSolvedIn, Watched, answer_text, guard_line, limits_of, thread_limits_of};
 ghost use Rattle.auc_run.specs.Starts.{IsSolvedFromIn, IsSolvingIn};
 
 use crate::command::SolveNumbers;
@@ -35,14 +35,13 @@ fn serial_limits(bids: u64) -> Limits
 fn answer_of<R: Read>(
     alloc: Global,
     reader: &mut R,
-    objects: u32,
-    bids: u64,
+    numbers: SolveNumbers,
 ) -> Result<Answer, Refusal>
-    requires { objects ≤ 20000 }
-    ensures { IsSolvedIn objects bids (R.remaining reader.old) result }
+    requires { numbers.objects ≤ 20000 }
+    ensures { IsSolvedIn numbers (R.remaining reader.old) result }
 {
-    let problem = problem_of(alloc, reader, objects)?;
-    let answer = solve_serial(alloc, &problem, &serial_limits(bids))?;
+    let problem = problem_of(alloc, reader, numbers.objects)?;
+    let answer = solve_serial(alloc, &problem, &serial_limits(numbers.bids))?;
     Ok(answer)
 }
 
@@ -51,44 +50,44 @@ fn answer_from<R: Read, Q: Read>(
     alloc: Global,
     reader: &mut R,
     second: &mut Q,
-    objects: u32,
-    bids: u64,
+    numbers: SolveNumbers,
 ) -> Result<Answer, Refusal>
-    requires { objects ≤ 20000 }
-    ensures from { (audit : ℕ) → IsSolvedFromIn false objects 0 bids audit (R.remaining reader.old) (Q.remaining second.old) result }
-    ensures unread { IfSome (R.remaining reader.old) (λ file. IsErr (reading MOST_ARCS objects file) → second.new ≡ second.old) }
+    requires objects { numbers.objects ≤ 20000 }
+    requires plain { numbers.workers ≡ 0 }
+    requires messages { numbers.direct ≡ false }
+    ensures from { (w : Watched) → IsSolvedFromIn w numbers (R.remaining reader.old) (Q.remaining second.old) result }
+    ensures unread { IfSome (R.remaining reader.old) (λ file. IsErr (reading MOST_ARCS numbers.objects file) → second.new ≡ second.old) }
 {
-    let started = started_of(alloc, reader, second, objects, false)?;
-    let limits = serial_limits(bids);
+    let started = started_of(alloc, reader, second, numbers.objects, false)?;
+    let limits = serial_limits(numbers.bids);
     let prices = started.prices.as_slice();
     let answer = solve_serial_from(alloc, &started.problem, &limits, prices)?;
     Ok(answer)
 }
 
-/// What the solver answers about the first reader's problem: with so many objects, where 0 stands for as many as persons, and so many bids for each shard of
-/// the persons in a phase; from nothing, or from the prices of the second reader's certificate.
+/// What the solver answers about the first reader's problem: from nothing, or from the prices of the second reader's certificate.
 pub(crate) fn answer_plainly<R: Read, Q: Read>(
     alloc: Global,
     reader: &mut R,
     second: &mut Q,
-    objects: u32,
-    bids: u64,
-    from: bool,
+    numbers: SolveNumbers,
 ) -> Result<Answer, Refusal>
-    requires { objects ≤ 20000 }
-    ensures solving { (audit : ℕ) → IsSolvingIn false from objects 0 bids audit (R.remaining reader.old) (Q.remaining second.old) result }
-    ensures unread { IfSome (R.remaining reader.old) (λ file. IsErr (reading MOST_ARCS objects file) → second.new ≡ second.old) }
-    ensures alone { from ≡ false → second.new ≡ second.old }
+    requires objects { numbers.objects ≤ 20000 }
+    requires plain { numbers.workers ≡ 0 }
+    requires messages { numbers.direct ≡ false }
+    ensures solving { (w : Watched) → IsSolvingIn w numbers (R.remaining reader.old) (Q.remaining second.old) result }
+    ensures unread { IfSome (R.remaining reader.old) (λ file. IsErr (reading MOST_ARCS numbers.objects file) → second.new ≡ second.old) }
+    ensures alone { numbers.from ≡ false → second.new ≡ second.old }
 {
-    if from {
-        return answer_from(alloc, reader, second, objects, bids);
+    if numbers.from {
+        return answer_from(alloc, reader, second, numbers);
     }
-    answer_of(alloc, reader, objects, bids)
+    answer_of(alloc, reader, numbers)
 }
 
 /// The limits of a solve with threads.
 fn thread_limits(numbers: SolveNumbers) -> Limits
-    ensures { result ≡ thread_limits_of numbers.workers numbers.bids numbers.audit }
+    ensures { result ≡ thread_limits_of numbers }
 {
     let SolveNumbers {
         workers,
@@ -113,7 +112,7 @@ fn answer_by_threads<H: Threads + Wait + Sync, R: Read, G: Gate + Sync>(
 ) -> Result<Answer, Refusal>
     requires some { 1 ≤ numbers.workers }
     requires range { IsInRange (solve_by numbers) }
-    ensures { IsSolvedByThreadsIn numbers.objects numbers.workers numbers.bids numbers.audit (R.remaining reader.old) result }
+    ensures { IsSolvedByThreadsIn numbers (R.remaining reader.old) result }
 {
     let problem = problem_of(alloc, reader, numbers.objects)?;
     let solved = solve_threads(rt, alloc, &problem, &thread_limits(numbers), gate)?;
@@ -131,7 +130,7 @@ fn answer_by_threads_from<H: Threads + Wait + Sync, R: Read, Q: Read, G: Gate + 
 ) -> Result<Answer, Refusal>
     requires some { 1 ≤ numbers.workers }
     requires range { IsInRange (solve_by numbers) }
-    ensures from { IsSolvedFromIn false numbers.objects numbers.workers numbers.bids numbers.audit (R.remaining reader.old) (Q.remaining second.old) result }
+    ensures from { (w : Watched) → IsSolvedFromIn w numbers (R.remaining reader.old) (Q.remaining second.old) result }
     ensures unread { IfSome (R.remaining reader.old) (λ file. IsErr (reading MOST_ARCS numbers.objects file) → second.new ≡ second.old) }
 {
     let started = started_of(alloc, reader, second, numbers.objects, false)?;
@@ -152,7 +151,7 @@ pub(crate) fn answer_in_threads<H: Threads + Wait + Sync, R: Read, Q: Read, G: G
 ) -> Result<Answer, Refusal>
     requires some { 1 ≤ numbers.workers }
     requires range { IsInRange (solve_by numbers) }
-    ensures solving { IsSolvingIn false numbers.from numbers.objects numbers.workers numbers.bids numbers.audit (R.remaining reader.old) (Q.remaining second.old) result }
+    ensures solving { (w : Watched) → IsSolvingIn w numbers (R.remaining reader.old) (Q.remaining second.old) result }
     ensures unread { IfSome (R.remaining reader.old) (λ file. IsErr (reading MOST_ARCS numbers.objects file) → second.new ≡ second.old) }
     ensures alone { numbers.from ≡ false → second.new ≡ second.old }
 {

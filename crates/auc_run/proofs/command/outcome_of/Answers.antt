@@ -1,32 +1,46 @@
-use Rattle.std.proofs.Common.{Ok, Err, inl}
-use Rattle.auc_run.specs.declared.command.Job.TheVariants.{Solve, Hall, Mail}
-use Rattle.auc_run.proofs.OutcomeLaws.{completed, replied, refused}
-use Rattle.auc_run.proofs.WatchLaws.{refused_unless, watched_plainly}
+use Rattle.std.proofs.Common.{Ok, Err}
+use Rattle.auc_run.specs.declared.command.Job.TheVariants.{Hall, Mail}
+use Rattle.auc_run.specs.declared.command.SolveNumbers.{SolveNumbers}
+use Rattle.auc_run.specs.Jobs.{solve_by}
+use Rattle.auc_run.specs.Solutions.{watched}
+use Rattle.auc_run.proofs.OutcomeLaws.{completed, refused, replied, solved}
 use Rattle.auc_run.proofs.command.outcome_of.Goals as goal
 
 pub returns-in_ok-answer-in-Solve-clause-outcome : goal.returns-in_ok-answer-in-Solve-clause-outcome
 returns-in_ok-answer-in-Solve-clause-outcome g c =
-    rw c.in-Solve.is (watched_plainly (g.V.Watch.has_stopped c.answer_alone.new.watch) (g.R.Read.remaining c.args.reader.now) (g.Q.Read.remaining c.args.second.now) c.in-Solve.workers c.in-Solve.bids c.in-Solve.audit c.in-Solve.objects c.in-Solve.from c.in-Solve.direct (Ok c.in_ok-answer-in-Solve.answer) (rw c.in-Solve.is at c.requires.plain) c.in_ok-answer-in-Solve.ensures.solving)
+    let watch = watched (g.V.Watch.has_stopped c.answer_alone.new.watch) (g.V.Watch.was_asked c.answer_alone.new.watch) in
+    let n : SolveNumbers = record { workers = c.in-Solve.workers; bids = c.in-Solve.bids; audit = c.in-Solve.audit; objects = c.in-Solve.objects; from = c.in-Solve.from; direct = c.in-Solve.direct } in
+    rw c.in-Solve.is (solved watch (g.R.Read.remaining c.args.reader.now) (g.Q.Read.remaining c.args.second.now) n (Ok c.in_ok-answer-in-Solve.answer) c.in_ok-answer-in-Solve.ensures.solving)
 
 pub returns-in_err-answer-in-Solve-clause-outcome : goal.returns-in_err-answer-in-Solve-clause-outcome
 returns-in_err-answer-in-Solve-clause-outcome g c =
-    rw c.in-Solve.is (refused_unless (g.V.Watch.has_stopped c.answer_alone.new.watch) (g.R.Read.remaining c.args.reader.now) (g.Q.Read.remaining c.args.second.now) (Solve c.in-Solve.workers c.in-Solve.bids c.in-Solve.audit c.in-Solve.objects c.in-Solve.from c.in-Solve.direct) c.from_residual.result c.in_err-answer-in-Solve.field-0.0 c.from_residual.ensures.1
-    (watched_plainly (g.V.Watch.has_stopped c.answer_alone.new.watch) (g.R.Read.remaining c.args.reader.now) (g.Q.Read.remaining c.args.second.now) c.in-Solve.workers c.in-Solve.bids c.in-Solve.audit c.in-Solve.objects c.in-Solve.from c.in-Solve.direct (Err c.in_err-answer-in-Solve.field-0.0) (rw c.in-Solve.is at c.requires.plain) c.in_err-answer-in-Solve.ensures.solving))
+    let watch = watched (g.V.Watch.has_stopped c.answer_alone.new.watch) (g.V.Watch.was_asked c.answer_alone.new.watch) in
+    let n : SolveNumbers = record { workers = c.in-Solve.workers; bids = c.in-Solve.bids; audit = c.in-Solve.audit; objects = c.in-Solve.objects; from = c.in-Solve.from; direct = c.in-Solve.direct } in
+    let e = c.in_err-answer-in-Solve.field-0.0 in
+    rw c.in-Solve.is (refused watch (g.R.Read.remaining c.args.reader.now) (g.Q.Read.remaining c.args.second.now) (solve_by n) c.from_residual.result e c.from_residual.ensures.1
+    (solved watch (g.R.Read.remaining c.args.reader.now) (g.Q.Read.remaining c.args.second.now) n (Err e) c.in_err-answer-in-Solve.ensures.solving))
 
 pub returns-in_ok-found_of-in-Hall-clause-outcome : goal.returns-in_ok-found_of-in-Hall-clause-outcome
 returns-in_ok-found_of-in-Hall-clause-outcome g c =
-    rw c.in-Hall.is (inl (completed (g.R.Read.remaining c.args.reader.now) (g.Q.Read.remaining c.args.second.now) c.in-Hall.objects (Ok c.in_ok-found_of-in-Hall.field-0) c.in_ok-found_of-in-Hall.ensures.found))
+    let watch = watched (g.V.Watch.has_stopped c.args.watch.now) (g.V.Watch.was_asked c.args.watch.now) in
+    rw c.in-Hall.is (completed watch (g.R.Read.remaining c.args.reader.now) (g.Q.Read.remaining c.args.second.now) c.in-Hall.objects (Ok c.in_ok-found_of-in-Hall.field-0) c.in_ok-found_of-in-Hall.ensures.found)
 
 pub returns-in_err-found_of-in-Hall-clause-outcome : goal.returns-in_err-found_of-in-Hall-clause-outcome
 returns-in_err-found_of-in-Hall-clause-outcome g c =
-    rw c.in-Hall.is (inl (refused (g.R.Read.remaining c.args.reader.now) (g.Q.Read.remaining c.args.second.now) (Hall c.in-Hall.objects) c.from_residual-in_err-found_of-in-Hall.result c.in_err-found_of-in-Hall.field-0.0 c.from_residual-in_err-found_of-in-Hall.ensures.1
-    (completed (g.R.Read.remaining c.args.reader.now) (g.Q.Read.remaining c.args.second.now) c.in-Hall.objects (Err c.in_err-found_of-in-Hall.field-0.0) c.in_err-found_of-in-Hall.ensures.found)))
+    let watch = watched (g.V.Watch.has_stopped c.args.watch.now) (g.V.Watch.was_asked c.args.watch.now) in
+    rw c.in-Hall.is (refused watch (g.R.Read.remaining c.args.reader.now) (g.Q.Read.remaining c.args.second.now) (Hall c.in-Hall.objects) c.from_residual-in_err-found_of-in-Hall.result c.in_err-found_of-in-Hall.field-0.0 c.from_residual-in_err-found_of-in-Hall.ensures.1
+    (completed watch (g.R.Read.remaining c.args.reader.now) (g.Q.Read.remaining c.args.second.now) c.in-Hall.objects (Err c.in_err-found_of-in-Hall.field-0.0) c.in_err-found_of-in-Hall.ensures.found))
 
 pub returns-in_ok-replies_of-in-Mail-clause-outcome : goal.returns-in_ok-replies_of-in-Mail-clause-outcome
 returns-in_ok-replies_of-in-Mail-clause-outcome g c =
-    rw c.in-Mail.is (inl (replied (g.R.Read.remaining c.args.reader.now) (g.Q.Read.remaining c.args.second.now) (Ok c.in_ok-replies_of-in-Mail.field-0) c.in_ok-replies_of-in-Mail.ensures))
+    let watch = watched (g.V.Watch.has_stopped c.args.watch.now) (g.V.Watch.was_asked c.args.watch.now) in
+    rw c.in-Mail.is (replied watch (g.R.Read.remaining c.args.reader.now) (g.Q.Read.remaining c.args.second.now) (Ok c.in_ok-replies_of-in-Mail.field-0) c.in_ok-replies_of-in-Mail.ensures)
 
 pub returns-in_err-replies_of-in-Mail-clause-outcome : goal.returns-in_err-replies_of-in-Mail-clause-outcome
 returns-in_err-replies_of-in-Mail-clause-outcome g c =
-    rw c.in-Mail.is (inl (refused (g.R.Read.remaining c.args.reader.now) (g.Q.Read.remaining c.args.second.now) Mail c.from_residual-in_err-replies_of-in-Mail.result c.in_err-replies_of-in-Mail.field-0.0 c.from_residual-in_err-replies_of-in-Mail.ensures.1
-    (replied (g.R.Read.remaining c.args.reader.now) (g.Q.Read.remaining c.args.second.now) (Err c.in_err-replies_of-in-Mail.field-0.0) c.in_err-replies_of-in-Mail.ensures)))
+    let watch = watched (g.V.Watch.has_stopped c.args.watch.now) (g.V.Watch.was_asked c.args.watch.now) in
+    rw c.in-Mail.is (refused watch (g.R.Read.remaining c.args.reader.now) (g.Q.Read.remaining c.args.second.now) Mail c.from_residual-in_err-replies_of-in-Mail.result c.in_err-replies_of-in-Mail.field-0.0 c.from_residual-in_err-replies_of-in-Mail.ensures.1
+    (replied watch (g.R.Read.remaining c.args.reader.now) (g.Q.Read.remaining c.args.second.now) (Err c.in_err-replies_of-in-Mail.field-0.0) c.in_err-replies_of-in-Mail.ensures))
+
+pub returns-in_ok-answer-in-Solve-clause-unread : goal.returns-in_ok-answer-in-Solve-clause-unread
+returns-in_ok-answer-in-Solve-clause-unread g c = rw c.in-Solve.is c.in_ok-answer-in-Solve.ensures.unread

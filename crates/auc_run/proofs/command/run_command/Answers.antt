@@ -1,13 +1,12 @@
-use Rattle.auc_run.proofs.WatchLaws.{never_stopped}
 use Rattle.auc_run.proofs.command.run_command.Goals as goal
 
 pub returns-clause-said : goal.returns-clause-said
 returns-clause-said g c = λ told.
     let ended = c.perform.ensures.ended in
     let whole = ended.2.whole told in
-    (ended.0, never_stopped c.args.job.now (g.R.Read.remaining c.args.reader.now) (g.Q.Read.remaining c.args.second.now) ended.0 ended.1, whole.0, whole.1)
+    (ended.0, ended.1, whole.0, whole.1)
 
 pub returns-clause-unwritten : goal.returns-clause-unwritten
 returns-clause-unwritten g c = λ cut.
     let ended = c.perform.ensures.ended in
-    (ended.0, never_stopped c.args.job.now (g.R.Read.remaining c.args.reader.now) (g.Q.Read.remaining c.args.second.now) ended.0 ended.1, ended.2.cut cut)
+    (ended.0, ended.1, ended.2.cut cut)

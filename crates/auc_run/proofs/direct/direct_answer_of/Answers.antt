@@ -1,6 +1,13 @@
-use Rattle.auc_run.proofs.WatchLaws.{answered_directly}
+use Rattle.std.proofs.Common.{pos}
+use Rattle.auc_direct.specs.Endings.{IsLimited}
+use Rattle.auc_run.proofs.StartLaws.{limited_or}
 use Rattle.auc_run.proofs.direct.direct_answer_of.Goals as goal
 
 pub returns : goal.returns
 returns g c =
-    answered_directly (g.V.Watch.has_stopped c.args.watch.now) (g.V.Watch.has_stopped c.solve_direct_watched.new.watch) c.args.objects c.args.bids (g.R.Read.remaining c.args.reader.now) c.in_ok-problem.problem c.in_ok-answer.answer c.in_ok-problem.ensures.problem c.in_ok-answer.ensures.is c.in_ok-answer.ensures.limit
+    let p = c.in_ok-problem.problem in
+    let read = c.in_ok-problem.ensures.problem in
+    let answer = c.in_ok-answer.answer in
+    let is = c.in_ok-answer.ensures in
+    let limited = limited_or (g.V.Watch.has_stopped c.args.watch.now) (g.V.Watch.has_stopped c.solve_direct_watched.new.watch) answer (IsLimited p c.args.numbers.bids (pos 0) answer) is.limit in
+    (read.0, read.1, (p, read.2, is.is, (is.asked, limited)))

@@ -3,6 +3,7 @@ use Rattle.std.proofs.Common.{Bool, true, false, ℕ, ℤ, pos, ◌≡◌, ◌<�
 use Rattle.std.specs.Prelude.{IfOk, Result, Ok, Err, ◌⊎◌}
 use Rattle.std.specs.List.{slice_get}
 use Rattle.std.proofs.lemmas.Bool.{cases_lt, false≢true}
+use Rattle.std.proofs.lemmas.Int.{ints}
 use Rattle.std.proofs.lemmas.List.{get_or-map, length-map}
 use Rattle.std.proofs.lemmas.List.Elements.{Contains-get_or}
 use Rattle.std.proofs.lemmas.Option.{slice_get-get_or}
@@ -36,6 +37,7 @@ use Rattle.auc_direct.specs.Phases.{HasRun, IsAdopted}
 use Rattle.auc_market.specs.Phases.{IsRun}
 use Rattle.auc_direct.specs.Held.{AreHeld, AreHolders, AreListed, arc_by}
 use Rattle.auc_direct.specs.Held.{EachHasRow}
+use Rattle.auc_market.specs.Bids.{State}
 use Rattle.auc_market.specs.Market.{HaveObjects, Stands, holder_at, own_at}
 use Rattle.auc_market.specs.Starts.{AreOpened}
 use Rattle.auc_direct.proofs.Choices as choices
@@ -99,10 +101,10 @@ whole_is_answer p reason prices (Answer.Infeasible cert) h = absurd h
 whole_is_answer p reason prices (Answer.Bracket cert) h = let by = h.0 in record { reason = reason; lower = by.lower; cost = total_cost by.choice; choice = map pick_of by.choice; prices = prices; is = by.is; certified = h.1 }
 whole_is_answer p reason prices (Answer.Broken guard) h = absurd h
 
-pub whole_is_limited : (p : Problem) (r : FlatTable) (rows : AreRowsOf p r) (bids : ℕ) (begun : ℤ) (reason : Reason) (prices : List ℤ) → IsLimit r bids begun reason prices → (answer : Answer) → IsBracketOf p reason prices answer → IsLimited p bids begun answer
+pub whole_is_limited : (p : Problem) (r : FlatTable) (rows : AreRowsOf p r) (bids : ℕ) (begun : State) (reason : Reason) (prices : List ℤ) → IsLimit r bids begun reason prices → (answer : Answer) → IsBracketOf p reason prices answer → IsLimited p bids (total begun.prices) answer
 whole_is_limited p r rows bids begun reason prices limit (Answer.Optimal cert) h = tt
 whole_is_limited p r rows bids begun reason prices limit (Answer.Infeasible cert) h = tt
-whole_is_limited p r rows bids begun reason prices limit (Answer.Bracket cert) h = subst (IsLimitedBy p bids begun) (sym h.0.is) (rows.table, r, rows.of, rows.same, limit)
+whole_is_limited p r rows bids begun reason prices limit (Answer.Bracket cert) h = subst (IsLimitedBy p bids (total begun.prices)) (sym h.0.is) (rows.table, r, begun, rows.of, rows.same, omega (arith, ints), limit)
 whole_is_limited p r rows bids begun reason prices limit (Answer.Broken guard) h = tt
 
 pub whole_told : (p : Problem) (prices : List ℤ) (answer : Answer) → IsBracketOf p Reason.Bids prices answer → IsStopTold answer
@@ -119,10 +121,10 @@ sold_is_limited p bids begun held prices (Answer.Infeasible cert) h = tt
 sold_is_limited p bids begun held prices (Answer.Bracket cert) h = absurd h
 sold_is_limited p bids begun held prices (Answer.Broken guard) h = tt
 
-pub stopped_is_limited : (p : Problem) (t : Table) (r : FlatTable) (bids : ℕ) (begun : ℤ) (reason : Reason) (held : List (Option Held)) (prices : List ℤ) → IsTableOf p t → AreSameRows t r → IsLimit r bids begun reason prices → (answer : Answer) → IsBracketAnswer p reason held prices answer → IsLimited p bids begun answer
+pub stopped_is_limited : (p : Problem) (t : Table) (r : FlatTable) (bids : ℕ) (begun : State) (reason : Reason) (held : List (Option Held)) (prices : List ℤ) → IsTableOf p t → AreSameRows t r → IsLimit r bids begun reason prices → (answer : Answer) → IsBracketAnswer p reason held prices answer → IsLimited p bids (total begun.prices) answer
 stopped_is_limited p t r bids begun reason held prices its same limit (Answer.Optimal cert) h = tt
 stopped_is_limited p t r bids begun reason held prices its same limit (Answer.Infeasible cert) h = tt
-stopped_is_limited p t r bids begun reason held prices its same limit (Answer.Bracket cert) h = subst (IsLimitedBy p bids begun) (sym h.1.is) (t, r, its, same, limit)
+stopped_is_limited p t r bids begun reason held prices its same limit (Answer.Bracket cert) h = subst (IsLimitedBy p bids (total begun.prices)) (sym h.1.is) (t, r, begun, its, same, omega (arith, ints), limit)
 stopped_is_limited p t r bids begun reason held prices its same limit (Answer.Broken guard) h = tt
 
 -- one that stands before any phase is no bracket
@@ -147,8 +149,8 @@ either_is_answer p r rows prices holders owns held is sound are eps reason stand
 either_is_answer p r rows prices holders owns held is sound are eps reason stands (Answer.Broken guard) (inl h) = absurd h
 either_is_answer p r rows prices holders owns held is sound are eps reason stands answer (inr h) = stopped_is_answer p rows.table r prices holders owns held is rows.of rows.same sound are eps reason stands h.0 answer h.1
 
-pub either_is_limited : (p : Problem) (r : FlatTable) (rows : AreRowsOf p r) (bids : ℕ) (begun : ℤ) (reason : Reason) (held : List (Option Held)) (prices : List ℤ) → IsLimit r bids begun reason prices → (answer : Answer) → IsInfeasibleAnswer p answer ⊎ (HasAssignment p × IsBracketAnswer p reason held prices answer) → IsLimited p bids begun answer
-either_is_limited p r rows bids begun reason held prices limit answer (inl h) = none_is_limited p bids begun answer h
+pub either_is_limited : (p : Problem) (r : FlatTable) (rows : AreRowsOf p r) (bids : ℕ) (begun : State) (reason : Reason) (held : List (Option Held)) (prices : List ℤ) → IsLimit r bids begun reason prices → (answer : Answer) → IsInfeasibleAnswer p answer ⊎ (HasAssignment p × IsBracketAnswer p reason held prices answer) → IsLimited p bids (total begun.prices) answer
+either_is_limited p r rows bids begun reason held prices limit answer (inl h) = none_is_limited p bids (total begun.prices) answer h
 either_is_limited p r rows bids begun reason held prices limit answer (inr h) = stopped_is_limited p rows.table r bids begun reason held prices rows.of rows.same limit answer h.1
 
 -- what is opened for the rows of a problem is opened for the problem

@@ -12,12 +12,11 @@ use Rattle.auc_answers.specs.declared.answer.Answer.{Answer}
 use Rattle.auc_market.specs.Endings.{IsEnding, IsLeft, IsLimit, IsSold, IsStopped, IsToldOr}
 use Rattle.auc_direct.specs.Endings.{IsLimited, IsLimitedBy, IsLimitedUnless}
 use Rattle.auc_market.specs.Market.{Stands}
-use Rattle.auc_market.proofs.EndingLaws.{limit_earlier}
 
 limited_by : (p : Problem) (bids : ℕ) (begun after : ℤ) (cert : CertParts) → begun ≤ℤ after → IsLimitedBy p bids after cert → IsLimitedBy p bids begun cert
 limited_by p bids begun after (CertParts.Optimal cost choice prices) le h = tt
 limited_by p bids begun after (CertParts.Infeasible persons objects) le h = tt
-limited_by p bids begun after (CertParts.Bracket reason lower cost choice prices) le (t, r, of, same, limit) = (t, r, of, same, limit_earlier r bids begun after reason prices le limit)
+limited_by p bids begun after (CertParts.Bracket reason lower cost choice prices) le (t, r, first, of, same, up, limit) = (t, r, first, of, same, omega (arith, ints, le, up), limit)
 
 -- what has risen so far above a sum has risen as far above a lesser one
 pub limited_earlier : (p : Problem) (bids : ℕ) (begun after : ℤ) (answer : Answer) → begun ≤ℤ after → IsLimited p bids after answer → IsLimited p bids begun answer

@@ -19,7 +19,7 @@ use Rattle.auc_market.specs.Phases.ArePhases.{begins, opens, refines}
 use Rattle.auc_market.specs.Position.{AreHandedOn, IsBegun, IsBid, IsMove, IsPlayed, IsRefinedWhole, IsRefinement, IsSlice, IsTried, Law, Position, Spends, state_at}
 use Rattle.auc_direct.specs.Runs.{IsPlayedAt, IsRunOut, Plays}
 use Rattle.auc_market.specs.Way.{IsWay}
-use Rattle.auc_market.proofs.BidsLaws.{made_all, made_more, made_none, made_on, made_raises, made_risen, made_slice, made_within, run_out}
+use Rattle.auc_market.proofs.BidsLaws.{made_all, made_more, made_none, made_on, made_raises, made_risen, made_slice, made_within}
 use Rattle.auc_market.proofs.Bounds.{scaled_abs}
 use Rattle.auc_market.proofs.EndingLaws.{sold_left, stopped_before, watched_stopped}
 use Rattle.auc_market.proofs.PhasesLaws.{counted_within, one_phase, opened_phase, phase_more, phases_on, within_slice}
@@ -61,11 +61,11 @@ plays_begun eps bids a b c begun is =
 
 pub played_begun : (eps : ℤ) (bids : ℕ) (before after : Bool) (ending : Ending) (a b c : Position) → IsBegun eps a b → IsPlayed bids before after ending b c → IsPlayedAt eps bids before after ending a c
 played_begun eps bids before after ending a b c begun is =
-    let ended : IsToldOr before after ending (IsEnding a.table bids (total b.prices) ending c.prices c.owns) = rw begun.table at is.ended in
+    let ended : IsToldOr before after ending (IsEnding a.table bids (state_at b) ending c.prices c.owns) = rw begun.table at is.ended in
     record {
       eps_is = is.tried.eps ∙ begun.eps_is;
       sold = rw begun.table at is.sold;
-      stopped = watched_stopped before after a.table bids (total a.prices) (total b.prices) ending c.prices c.owns (let e = ap total begun.prices in omega (arith, ints, e)) ended;
+      stopped = stopped_before before before after a.table bids (state_at a) (state_at b) ending c.prices refl (opens (state_at a) (state_at b) (begins (state_at a) refl) (record { prices = begun.prices; none = begun.none })) (let e = ap total begun.prices in omega (arith, ints, e)) (watched_stopped before after a.table bids (state_at b) ending c.prices c.owns ended);
     }
 
 -- what all phases leave, where the last one has ended so
@@ -73,12 +73,12 @@ pub over_at : (eps : ℤ) (bids : ℕ) (before between after : Bool) (ending : E
 over_at eps bids before between after ending a b c same law s t is last =
     let plays = plays_on bids a b c s t in
     let stands : Stands a.table c.eps c.prices c.holders c.owns = rw plays.table at law.stands in
-    let stopped : IsToldOr between after ending (IsStopped a.table bids (total b.prices) ending c.prices) = rw s.table at is.stopped in
+    let stopped : IsToldOr between after ending (IsStopped a.table bids (state_at b) ending c.prices) = rw s.table at is.stopped in
     let sold : IsSold a.table ending c.owns = rw s.table at is.sold in
     record {
       table = plays.table;
       left = sold_left a.table c.eps ending c.prices c.holders c.owns stands sold (λ e. is.eps_is ∙ last e);
-      stopped = stopped_before before between after a.table bids (total a.prices) (total b.prices) ending c.prices same s.risen stopped;
+      stopped = stopped_before before between after a.table bids (state_at a) (state_at b) ending c.prices same s.phases s.risen stopped;
       phases = plays.phases;
     }
 
@@ -98,18 +98,18 @@ pub played_at : (bids : ℕ) (before after : Bool) (ending : Ending) (a b : Posi
 played_at bids before after ending a b is = record {
   eps_is = is.tried.eps;
   sold = is.sold;
-  stopped = watched_stopped before after a.table bids (total a.prices) (total a.prices) ending b.prices b.owns (omega (arith, ints)) is.ended;
+  stopped = watched_stopped before after a.table bids (state_at a) ending b.prices b.owns is.ended;
 }
 
 -- phases before it
 pub over_before : (bids : ℕ) (before between after : Bool) (ending : Ending) (a b c : Position) → between ≡ before → Plays bids a b → IsRunOut bids between after ending b c → IsRunOut bids before after ending a c
 over_before bids before between after ending a b c same plays is =
-    let stopped : IsToldOr between after ending (IsStopped a.table bids (total b.prices) ending c.prices) = rw plays.table at is.stopped in
+    let stopped : IsToldOr between after ending (IsStopped a.table bids (state_at b) ending c.prices) = rw plays.table at is.stopped in
     let phases : ArePhases a.table bids (state_at b) (state_at c) = rw plays.table at is.phases in
     record {
       table = is.table ∙ plays.table;
       left = rw plays.table at is.left;
-      stopped = stopped_before before between after a.table bids (total a.prices) (total b.prices) ending c.prices same plays.risen stopped;
+      stopped = stopped_before before between after a.table bids (state_at a) (state_at b) ending c.prices same plays.phases plays.risen stopped;
       phases = phases_on a.table bids (state_at a) (state_at b) (state_at c) plays.phases phases;
     }
 
@@ -127,12 +127,16 @@ run_ended : (r : FlatTable) (bids : ℕ) (begun : List ℤ) (ending : Ending) (l
 run_ended r bids begun Ending.Sold last prices same run = (last, same, inl run)
 run_ended r bids begun (Ending.Stopped reason) last prices same run = (last, same, run)
 
+told_from : (before after : Bool) (ending : Ending) (r : FlatTable) (bids : ℕ) (s : State) (prices : List ℤ) → IsToldOr before after ending (IsStopped r bids s ending prices) → IsToldOr before after ending ((first : State) × (first.prices ≡ s.prices) × IsStopped r bids first ending prices)
+told_from before after ending r bids s prices (inl told) = inl told
+told_from before after ending r bids s prices (inr is) = inr (is.0, (s, refl, is.1))
+
 -- what a run comes to that began with these prices
 pub outcome_of : (r : FlatTable) (bids : ℕ) (before after : Bool) (ending : Ending) (a b : Position) (prices : List ℤ) (holders : List ℕ) (owns : List ShortArc) → a.table ≡ r → IsRunOut bids before after ending a b → AreHandedOn ending b prices holders owns → IsOutcome r bids a.prices before after ending prices holders owns
 outcome_of r bids before after ending a b prices holders owns table is h =
     let same = handed_prices ending b prices holders owns h in
     record {
       left = handed_left ending r b prices holders owns (is.table ∙ table) (rw table at is.left) h;
-      stopped = rw same (rw table at is.stopped);
+      stopped = told_from before after ending r bids (state_at a) prices (rw same (rw table at is.stopped));
       run = run_ended r bids a.prices ending (state_at b) prices (sym same) (record { first = state_at a; begun_are = refl; phases = rw table at is.phases });
     }

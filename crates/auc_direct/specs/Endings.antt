@@ -11,7 +11,7 @@ use Rattle.auc_answers.specs.declared.answer.Answer.{Answer}
 use Rattle.auc_rows.specs.declared.arc.ShortArc.{ShortArc}
 use Rattle.auc_rows.specs.Rows.{AreRowsOf, AreSameRows, FlatTable}
 use Rattle.auc_market.specs.declared.ending.Ending.{Ending}
-use Rattle.auc_market.specs.Bids.{HaveRunOut, State}
+use Rattle.auc_market.specs.Bids.{State}
 use Rattle.auc_market.specs.Eps.{IsEpsOf}
 use Rattle.auc_direct.specs.Adopted.{IsFullTable}
 use Rattle.auc_direct.specs.Phases.{HasRun, IsAdopted}
@@ -23,13 +23,13 @@ use Rattle.auc_market.specs.Endings.{IsLeft, IsLimit, IsStart, IsStopped, IsTold
 -- What a run comes to that began with these prices: only a limit has stopped it, or who watched it.
 pub record IsOutcome (r : FlatTable) (bids : ℕ) (begun : List ℤ) (before after : Bool) (ending : Ending) (prices : List ℤ) (holders : List ℕ) (owns : List ShortArc) : Type 0 where
   pub left : IsLeft r ending prices holders owns
-  pub stopped : IsToldOr before after ending (IsStopped r bids (total begun) ending prices)
+  pub stopped : IsToldOr before after ending ((first : State) × (first.prices ≡ begun) × IsStopped r bids first ending prices)
   pub run : HasRun r bids begun ending prices
 
 abbrev pub IsLimitedBy : Problem → ℕ → ℤ → CertParts → Type 0
 IsLimitedBy p bids begun (CertParts.Optimal cost choice prices) = Unit {0}
 IsLimitedBy p bids begun (CertParts.Infeasible persons objects) = Unit {0}
-IsLimitedBy p bids begun (CertParts.Bracket reason lower cost choice prices) = (t : Table) × (r : FlatTable) × IsTableOf p t × AreSameRows t r × IsLimit r bids begun reason prices
+IsLimitedBy p bids begun (CertParts.Bracket reason lower cost choice prices) = (t : Table) × (r : FlatTable) × (first : State) × IsTableOf p t × AreSameRows t r × (begun ≤ℤ total first.prices) × IsLimit r bids first reason prices
 
 -- a bracket is answered only where a limit has stopped a phase of a run that began with prices of this sum
 abbrev pub IsLimited : Problem → ℕ → ℤ → Answer → Type 0

@@ -24,11 +24,11 @@ pub record Plays (bids : ℕ) (old new : Position) : Type 0 where
 pub record IsPlayedAt (eps : ℤ) (bids : ℕ) (before after : Bool) (ending : Ending) (old new : Position) : Type 0 where
   pub eps_is : new.eps ≡ eps
   pub sold : IsSold old.table ending new.owns
-  pub stopped : IsToldOr before after ending (IsStopped old.table bids (total old.prices) ending new.prices)
+  pub stopped : IsToldOr before after ending (IsStopped old.table bids (state_at old) ending new.prices)
 
 -- what all phases leave, and why the last one has ended
 pub record IsRunOut (bids : ℕ) (before after : Bool) (ending : Ending) (old new : Position) : Type 0 where
   pub table : new.table ≡ old.table
   pub left : IsLeft old.table ending new.prices new.holders new.owns
-  pub stopped : IsToldOr before after ending (IsStopped old.table bids (total old.prices) ending new.prices)
+  pub stopped : IsToldOr before after ending (IsStopped old.table bids (state_at old) ending new.prices)
   pub phases : ArePhases old.table bids (state_at old) (state_at new)

@@ -23,7 +23,7 @@ fn mean_arcs(rows: &FlatRows) -> i64
     mean as i64
 }
 
-/// The root of such a number, rounded up.
+/// The root of a mean number of arcs, rounded up.
 fn root_of(number: i64) -> i64
     ensures { pos 1 ≤ℤ result }
 {
@@ -35,7 +35,7 @@ fn root_of(number: i64) -> i64
     142
 }
 
-/// The mean spread of a row by the mean number of its arcs, and at least 1: where costs are drawn at random, how much neighbours differ.
+/// The mean spread of a row, divided by the mean number of its arcs, and at least 1: where costs are drawn at random, how much neighbours differ.
 pub(crate) fn fine_eps(rows: &FlatRows, spread: i64) -> i64
     requires { IsEpsOf rows.now spread }
     ensures { IsEpsOf rows.now result }
@@ -43,7 +43,7 @@ pub(crate) fn fine_eps(rows: &FlatRows, spread: i64) -> i64
     (spread / mean_arcs(rows)).max(LAST_EPS)
 }
 
-/// The mean spread of a row by the root of that number, and at least 1: where the other one was too fine.
+/// The mean spread of a row, divided by the root of the mean number of its arcs, and at least 1: where the other one was too fine.
 pub(crate) fn coarse_eps(rows: &FlatRows, spread: i64) -> i64
     requires { IsEpsOf rows.now spread }
     ensures { IsEpsOf rows.now result }

@@ -2,11 +2,12 @@
 //!
 //! 1. **Scaled costs.** Costs count one more than there are persons times. Who is within 1 of his best at the end shows that nothing costs less.
 //! 2. **A bid is an award** (Gauss-Seidel). A person without an object takes his best one at once, and whom he displaces bids next. Two such chains take turns.
-//! 3. **Bid or search.** In the last phase a chain that has taken as long as searches did lately ends by a shortest augmenting path; before it, where chains mostly end by themselves, one that has taken some times
+//! 3. **Bid or search** (`auc_market`, `Pace`). In the last phase a chain that has taken as long as searches did lately ends by a shortest augmenting path; before it, where chains mostly end by themselves, one that has taken some times
 //!    as long. Where no free object is in reach, those who were reached know too few objects.
 //! 4. **Phases.** Columns are reduced; eps begins at the mean spread of a row by the mean number of its arcs, and falls by eighths. Prices stay, and nobody keeps what he holds.
-//! 5. **Too fine, or calm.** A first phase that takes more than a bid a person for each halving of eps that lies ahead is given up, and eps begins at the mean spread by the root of that number. After a phase of fewer than two bids a
-//!    person the last phase is tried at once; it may take a bid a person for each phase that lies ahead. So it is after two phases in a row that took just as many bids as the one before, and may take as many.
+//! 5. **Too fine, or calm.** A first phase is given up once it has made more bids for each person than eps can be halved before it is 1. Eps then begins anew, at the mean spread of a row divided by the root of the
+//!    mean number of its arcs. After a phase of fewer than two bids a person the last phase is tried at once; it may make a bid a person for each phase that lies ahead. So it is after two phases in a row that
+//!    made about as many bids as the one before each; it may make as many.
 //! 6. **Refinement.** Where phases take no fewer bids than before at an eps that whole costs hardly tell, prices are refined, for as long as two bids of that phase each.
 //! 7. **More objects than persons.** One phase at the last eps, from prices of 0, as what is left over may have no price.
 

@@ -3,6 +3,7 @@
 ghost use Rattle.std.specs.Prelude.{Bool, ◌↔◌, IsTrue, ℕ, ℤ, List, true, ◌≡◌, ◌⊎◌, pos, All, length, IfErr, IfOk, IfSome, IfNone};
 ghost use Rattle.auc_graph.specs.Assignment.{total};
 ghost use Rattle.auc_graph.specs.Price.{IsPrice};
+ghost use Rattle.auc_market.specs.Bids.{State};
 ghost use Rattle.auc_market.specs.Halts.{IsHalt};
 ghost use Rattle.auc_answers.specs.Answers.{HasAssignment, IsAnswer, IsBracketAnswer, IsInfeasibleAnswer};
 ghost use Rattle.auc_rows.specs.Rows.{AreRowsOf, EachHasArc, IsFlatTable};
@@ -15,6 +16,7 @@ ghost use Rattle.auc_direct.specs.Phases.{HasRun};
 ghost use Rattle.auc_direct.specs.Starts.{AreStartPrices};
 
 use crate::gathering::gather;
+use crate::onward::Onward;
 use crate::reduce::start_prices;
 use crate::rules::bids_from_start;
 use crate::run::{Outcome, run};
@@ -22,7 +24,7 @@ use auc_answers::finish::{bracket, infeasible, proved_bracket, proved_optimal};
 use auc_answers::{Answer, Gathered, Prepared, prepare};
 use auc_claim::{HIGHEST_START, Reason};
 use auc_graph::{ArcList, Indices};
-use auc_market::{Ending, HallSet, Halt, Market, Onward, Watch};
+use auc_market::{Ending, HallSet, Halt, Market, Watch};
 use auc_rows::FlatRows;
 use std::alloc::{AllocError, Global};
 
@@ -90,7 +92,7 @@ fn answer_of(
     requires sound { IsFlatTable flat }
     requires left { IsLeft flat outcome.ending outcome.holdings.prices.items outcome.holdings.holders.items outcome.holdings.owns.items }
     ensures is { IfOk result (IsAnswer problem.now) }
-    ensures limit { (bids : ℕ) (begun : ℤ) → IsStopped flat bids begun outcome.ending outcome.holdings.prices.items → IfOk result (IsLimited problem.now bids begun) }
+    ensures limit { (bids : ℕ) (begun : State) → IsStopped flat bids begun outcome.ending outcome.holdings.prices.items → IfOk result (IsLimited problem.now bids (total begun.prices)) }
     ensures told { outcome.ending ≡ Ending.Stopped Reason.Bids → IfOk result IsStopTold }
     ensures run { (bids : ℕ) (begun : List ℤ) → HasRun flat bids begun outcome.ending outcome.holdings.prices.items → IfOk result (IsOfPhases problem.now bids begun) }
 {

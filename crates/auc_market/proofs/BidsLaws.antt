@@ -8,10 +8,8 @@ use Rattle.auc_claim.specs.declared.reason.Reason.{Reason}
 use Rattle.auc_graph.specs.Assignment.{total}
 use Rattle.auc_rows.specs.Rows.{FlatTable, IsFlatTable, IsShort, flat_row_of}
 use Rattle.auc_market.specs.declared.ending.Ending.{Ending}
-use Rattle.auc_market.specs.Bids.{AreCounted, HaveRunOut, IsBidMade, IsPathMade, AreSpent, AreMadeWithin, AreMade, State}
+use Rattle.auc_market.specs.Bids.{AreCounted, IsBidMade, IsPathMade, AreSpent, AreMadeWithin, AreMade, State}
 use Rattle.auc_market.specs.Bids.AreMade.{bids, goes, opens}
-use Rattle.auc_market.specs.Eps.{IsEpsOf}
-use Rattle.auc_market.specs.Market.{Stands}
 use Rattle.auc_market.proofs.MarketLaws.{total_rises, total_set}
 
 -- none so far
@@ -70,11 +68,7 @@ made_raises r eps s t n sound some many (goes k u v run gone) =
 pub made_risen : (r : FlatTable) (eps : ℤ) (s t : State) (most : ℕ) → IsFlatTable r → pos 1 ≤ℤ eps → length s.prices ≡ r.objects → AreMadeWithin r eps most s t → total s.prices ≤ℤ total t.prices
 made_risen r eps s t most sound some many within = let up = (made_raises r eps s t within.made sound some many within.run).1 in omega (arith, ints, up)
 
--- they have run out
-pub run_out : (r : FlatTable) (eps : ℤ) (n : ℕ) (s t : State) → IsEpsOf r eps → Stands r eps s.prices s.holders s.owns → AreMade r eps s n t → HaveRunOut r n t.prices
-run_out r eps n s t is stands run = record { eps = eps; is_eps = is; first = s; stands = stands; last = t; run = run; prices_are = refl }
-
--- and those of a slice of a phase
+-- those of a slice of a phase
 pub made_slice : (r : FlatTable) (eps : ℤ) (most before slice : ℕ) (ending : Ending) (s t u : State) → ending ≡ Ending.Stopped Reason.Bids → slice ≤ before → AreSpent r eps most before s t → AreCounted r eps slice ending t u → AreSpent r eps most (before - slice) s u
 made_slice r eps most before slice ending s t u out le m is =
     let run : AreMade r eps t slice u = subst (λ (e : Ending). AreCounted r eps slice e t u) out is in

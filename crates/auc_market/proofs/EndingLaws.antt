@@ -9,22 +9,31 @@ use Rattle.auc_market.specs.declared.ending.Ending.{Ending}
 use Rattle.auc_claim.specs.declared.cert.CertParts.{CertParts}
 use Rattle.auc_graph.specs.Problem.{Problem}
 use Rattle.auc_market.specs.Endings.{IsEnding, IsLeft, IsLimit, IsSold, IsStopped, IsToldOr}
+use Rattle.auc_graph.specs.Assignment.{total}
+use Rattle.auc_market.specs.Bids.{State}
 use Rattle.auc_market.specs.Market.{Stands}
+use Rattle.auc_market.specs.Phases.{ArePhases}
+use Rattle.auc_market.proofs.PhasesLaws.{phases_on}
 
--- a limit of a phase is one of a run that began with no greater sum
-pub limit_earlier : (r : FlatTable) (bids : ℕ) (begun after : ℤ) (reason : Reason) (prices : List ℤ) → begun ≤ℤ after → IsLimit r bids after reason prices → IsLimit r bids begun reason prices
-limit_earlier r bids begun after Reason.Bids prices le h = (h.0, (let s = h.1 in omega (arith, ints, le, s)))
-limit_earlier r bids begun after Reason.Ceiling prices le h = h
-limit_earlier r bids begun after Reason.Posts prices le h = h
-limit_earlier r bids begun after Reason.Trail prices le h = h
-limit_earlier r bids begun after Reason.Mail prices le h = h
+-- a limit of a phase is one of a run whose phases led to it
+limit_earlier : (r : FlatTable) (bids : ℕ) (s t : State) (reason : Reason) (prices : List ℤ) → ArePhases r bids s t → total s.prices ≤ℤ total t.prices → IsLimit r bids t reason prices → IsLimit r bids s reason prices
+limit_earlier r bids s t Reason.Bids prices run le (out, up) =
+    (record { eps = out.eps; is_eps = out.is_eps; first = out.first; before = phases_on r bids s t out.first run out.before; stands = out.stands; last = out.last; run = out.run; prices_are = out.prices_are }, omega (arith, ints, le, up))
+limit_earlier r bids s t Reason.Ceiling prices run le h = h
+limit_earlier r bids s t Reason.Posts prices run le h = h
+limit_earlier r bids s t Reason.Trail prices run le h = h
+limit_earlier r bids s t Reason.Mail prices run le h = h
 
-pub ended_stopped : (r : FlatTable) (bids : ℕ) (begun after : ℤ) (ending : Ending) (prices : List ℤ) (owns : List ShortArc) → begun ≤ℤ after → IsEnding r bids after ending prices owns → IsStopped r bids begun ending prices
-ended_stopped r bids begun after Ending.Sold prices owns le is = tt
-ended_stopped r bids begun after (Ending.Stopped reason) prices owns le is = limit_earlier r bids begun after reason prices le is
+stopped_earlier : (r : FlatTable) (bids : ℕ) (s t : State) (ending : Ending) (prices : List ℤ) → ArePhases r bids s t → total s.prices ≤ℤ total t.prices → IsStopped r bids t ending prices → IsStopped r bids s ending prices
+stopped_earlier r bids s t Ending.Sold prices run le is = tt
+stopped_earlier r bids s t (Ending.Stopped reason) prices run le is = limit_earlier r bids s t reason prices run le is
+
+ended_stopped : (r : FlatTable) (bids : ℕ) (s : State) (ending : Ending) (prices : List ℤ) (owns : List ShortArc) → IsEnding r bids s ending prices owns → IsStopped r bids s ending prices
+ended_stopped r bids s Ending.Sold prices owns is = tt
+ended_stopped r bids s (Ending.Stopped reason) prices owns is = is
 
 -- each ending is one of a run in one hand
-pub ending_sold : (r : FlatTable) (bids : ℕ) (begun : ℤ) (ending : Ending) (prices : List ℤ) (owns : List ShortArc) → IsEnding r bids begun ending prices owns → IsSold r ending owns
+pub ending_sold : (r : FlatTable) (bids : ℕ) (begun : State) (ending : Ending) (prices : List ℤ) (owns : List ShortArc) → IsEnding r bids begun ending prices owns → IsSold r ending owns
 ending_sold r bids begun Ending.Sold prices owns is = is
 ending_sold r bids begun (Ending.Stopped Reason.Bids) prices owns is = tt
 ending_sold r bids begun (Ending.Stopped Reason.Ceiling) prices owns is = tt
@@ -37,19 +46,15 @@ pub sold_left : (r : FlatTable) (eps : ℤ) (ending : Ending) (prices : List ℤ
 sold_left r eps Ending.Sold prices holders owns stands is last = (subst (λ (e : ℤ). Stands r e prices holders owns) (last refl) stands, is)
 sold_left r eps (Ending.Stopped reason) prices holders owns stands is last = (eps, stands, is)
 
-stopped_earlier : (r : FlatTable) (bids : ℕ) (begun later : ℤ) (ending : Ending) (prices : List ℤ) → begun ≤ℤ later → IsStopped r bids later ending prices → IsStopped r bids begun ending prices
-stopped_earlier r bids begun later Ending.Sold prices le is = tt
-stopped_earlier r bids begun later (Ending.Stopped reason) prices le is = limit_earlier r bids begun later reason prices le is
+-- only a limit has stopped the phase, or who watched it
+pub watched_stopped : (before after : Bool) (r : FlatTable) (bids : ℕ) (s : State) (ending : Ending) (prices : List ℤ) (owns : List ShortArc) → IsToldOr before after ending (IsEnding r bids s ending prices owns) → IsToldOr before after ending (IsStopped r bids s ending prices)
+watched_stopped before after r bids s ending prices owns (inl told) = inl told
+watched_stopped before after r bids s ending prices owns (inr is) = inr (is.0, ended_stopped r bids s ending prices owns is.1)
 
--- only a limit has stopped the run, or who watched it
-pub watched_stopped : (before after : Bool) (r : FlatTable) (bids : ℕ) (begun later : ℤ) (ending : Ending) (prices : List ℤ) (owns : List ShortArc) → begun ≤ℤ later → IsToldOr before after ending (IsEnding r bids later ending prices owns) → IsToldOr before after ending (IsStopped r bids begun ending prices)
-watched_stopped before after r bids begun later ending prices owns le (inl told) = inl told
-watched_stopped before after r bids begun later ending prices owns le (inr is) = inr (is.0, ended_stopped r bids begun later ending prices owns le is.1)
-
--- the same of a run that began earlier, with no higher prices, when no more had been said
-pub stopped_before : (before between after : Bool) (r : FlatTable) (bids : ℕ) (begun later : ℤ) (ending : Ending) (prices : List ℤ) → between ≡ before → begun ≤ℤ later → IsToldOr between after ending (IsStopped r bids later ending prices) → IsToldOr before after ending (IsStopped r bids begun ending prices)
-stopped_before before between after r bids begun later ending prices same le (inl told) = inl told
-stopped_before before between after r bids begun later ending prices same le (inr is) = inr (is.0 ∙ same, stopped_earlier r bids begun later ending prices le is.1)
+-- the same of a run that began earlier, when no more had been said
+pub stopped_before : (before between after : Bool) (r : FlatTable) (bids : ℕ) (s t : State) (ending : Ending) (prices : List ℤ) → between ≡ before → ArePhases r bids s t → total s.prices ≤ℤ total t.prices → IsToldOr between after ending (IsStopped r bids t ending prices) → IsToldOr before after ending (IsStopped r bids s ending prices)
+stopped_before before between after r bids s t ending prices same run le (inl told) = inl told
+stopped_before before between after r bids s t ending prices same run le (inr is) = inr (is.0 ∙ same, stopped_earlier r bids s t ending prices run le is.1)
 
 -- a phase that was stopped by nobody has heard no no
 pub sold_going : (before after : Bool) (Holds : Type 0) → IsToldOr before after Ending.Sold Holds → after ≡ before

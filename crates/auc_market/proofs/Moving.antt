@@ -16,7 +16,7 @@ use Rattle.auc_market.specs.Phases.{ArePhases, IsOpened, IsPhase, IsRun}
 use Rattle.auc_market.specs.Phases.ArePhases.{begins, opens, refines}
 use Rattle.auc_market.specs.Position.{AreHandedOn, IsBegun, IsBid, IsMove, IsPlayed, IsRefinedWhole, IsRefinement, IsSlice, IsTried, Law, Position, Spends, state_at}
 use Rattle.auc_market.specs.Way.{IsWay}
-use Rattle.auc_market.proofs.BidsLaws.{made_all, made_more, made_none, made_on, made_raises, made_risen, made_slice, made_within, run_out}
+use Rattle.auc_market.proofs.BidsLaws.{made_all, made_more, made_none, made_on, made_raises, made_risen, made_slice, made_within}
 use Rattle.auc_market.proofs.Bounds.{scaled_abs}
 use Rattle.auc_market.proofs.EndingLaws.{sold_left, stopped_before, watched_stopped}
 use Rattle.auc_market.proofs.PhasesLaws.{counted_within, one_phase, opened_phase, phase_more, phases_on, within_slice}
@@ -109,10 +109,10 @@ slice_tried most before slice ending a b c law le s is =
     }
 
 -- a phase that has made all its bids
-pub all_spent : (most left : ℕ) (a b : Position) → Law a → left ≡ 0 → Spends most left a b → IsEnding a.table most (total a.prices) (Ending.Stopped Reason.Bids) b.prices b.owns
+pub all_spent : (most left : ℕ) (a b : Position) → Law a → left ≡ 0 → Spends most left a b → IsEnding a.table most (state_at a) (Ending.Stopped Reason.Bids) b.prices b.owns
 all_spent most left a b law none s =
     let all = made_all a.table a.eps most left (state_at a) (state_at b) none s.spent in
-    (run_out a.table a.eps most (state_at a) (state_at b) law.eps law.stands all, (made_raises a.table a.eps (state_at a) (state_at b) most law.sound law.eps.low law.stands.prices_are all).1)
+    (record { eps = a.eps; is_eps = law.eps; first = state_at a; before = begins (state_at a) refl; stands = law.stands; last = state_at b; run = all; prices_are = refl }, (made_raises a.table a.eps (state_at a) (state_at b) most law.sound law.eps.low law.stands.prices_are all).1)
 
 pub tried_more : (few bids : ℕ) (a b : Position) → few ≤ bids → IsTried few a b → IsTried bids a b
 tried_more few bids a b le is = record { table = is.table; eps = is.eps; phase = phase_more a.table few bids (state_at a) (state_at b) le is.phase; risen = is.risen }

@@ -68,13 +68,3 @@ AreCounted r eps most (Ending.Stopped Reason.Ceiling) s t = AreMadeWithin r eps 
 AreCounted r eps most (Ending.Stopped Reason.Posts) s t = ⊥
 AreCounted r eps most (Ending.Stopped Reason.Trail) s t = ⊥
 AreCounted r eps most (Ending.Stopped Reason.Mail) s t = ⊥
-
--- as many bids as a phase may make lead to these prices, from a state in which all is as it is between two bids
-pub record HaveRunOut (r : FlatTable) (bids : ℕ) (prices : List ℤ) : Type 0 where
-  pub eps : ℤ
-  pub is_eps : IsEpsOf r eps
-  pub first : State
-  pub stands : Stands r eps first.prices first.holders first.owns
-  pub last : State
-  pub run : AreMade r eps first bids last
-  pub prices_are : prices ≡ last.prices

@@ -10,23 +10,35 @@ use Rattle.auc_graph.specs.Price.{IsPrice}
 use Rattle.auc_rows.specs.declared.arc.ShortArc.{ShortArc}
 use Rattle.auc_rows.specs.Rows.{AreRowsOf, AreSameRows, FlatTable}
 use Rattle.auc_market.specs.declared.ending.Ending.{Ending}
-use Rattle.auc_market.specs.Bids.{HaveRunOut, State}
+use Rattle.auc_market.specs.Bids.{AreMade, State}
+use Rattle.auc_market.specs.Phases.{ArePhases}
 use Rattle.auc_market.specs.Eps.{IsEpsOf}
 use Rattle.auc_market.specs.Phases.{IsRun}
 use Rattle.auc_market.specs.Market.{HaveObjects, IsAbove, Stands}
 use Rattle.auc_market.specs.Starts.{AreOpened}
 
+-- As many bids as a phase may make lead to these prices, from a state to which the phases of a run have led.
+pub record HaveRunOut (r : FlatTable) (bids : ℕ) (begun : State) (prices : List ℤ) : Type 0 where
+  pub eps : ℤ
+  pub is_eps : IsEpsOf r eps
+  pub first : State
+  pub before : ArePhases r bids begun first
+  pub stands : Stands r eps first.prices first.holders first.owns
+  pub last : State
+  pub run : AreMade r eps first bids last
+  pub prices_are : prices ≡ last.prices
+
 -- Why a phase may be stopped: it has made as many bids as it may, and the prices add up to more than those that the run began with, by no less than the bids that a phase may
 -- take, each of which has raised one; or somebody's bid, at an eps of a phase, would be more than the greatest price.
-abbrev pub IsLimit : FlatTable → ℕ → ℤ → Reason → List ℤ → Type 0
-IsLimit r bids begun Reason.Bids prices = HaveRunOut r bids prices × ((begun +ℤ pos bids) ≤ℤ total prices)
+abbrev pub IsLimit : FlatTable → ℕ → State → Reason → List ℤ → Type 0
+IsLimit r bids begun Reason.Bids prices = HaveRunOut r bids begun prices × ((total begun.prices +ℤ pos bids) ≤ℤ total prices)
 IsLimit r bids begun Reason.Ceiling prices = (eps : ℤ) × IsEpsOf r eps × IsAbove r eps prices
 IsLimit r bids begun Reason.Posts prices = ⊥
 IsLimit r bids begun Reason.Trail prices = ⊥
 IsLimit r bids begun Reason.Mail prices = ⊥
 
 -- each person has an object; or a limit has stopped the phase
-abbrev pub IsEnding : FlatTable → ℕ → ℤ → Ending → List ℤ → List ShortArc → Type 0
+abbrev pub IsEnding : FlatTable → ℕ → State → Ending → List ℤ → List ShortArc → Type 0
 IsEnding r bids begun Ending.Sold prices owns = HaveObjects (length r.rows) owns
 IsEnding r bids begun (Ending.Stopped reason) prices owns = IsLimit r bids begun reason prices
 
@@ -55,7 +67,7 @@ IsLeft r Ending.Sold prices holders owns = Stands r (pos 1) prices holders owns 
 IsLeft r (Ending.Stopped reason) prices holders owns = (eps : ℤ) × Stands r eps prices holders owns × IsOwnReason reason
 
 -- only a limit has stopped one
-abbrev pub IsStopped : FlatTable → ℕ → ℤ → Ending → List ℤ → Type 0
+abbrev pub IsStopped : FlatTable → ℕ → State → Ending → List ℤ → Type 0
 IsStopped r bids begun Ending.Sold prices = Unit {0}
 IsStopped r bids begun (Ending.Stopped reason) prices = IsLimit r bids begun reason prices
 

@@ -1,5 +1,5 @@
 -- What clauses see of a market, what always holds of it, and what each move comes to.
-use Rattle.std.specs.Prelude.{Bool, ℕ, ℤ, pos, ◌≡◌, ◌≢◌, ◌⊎◌, ◌<◌, ◌≤◌, ◌≤ℤ◌, List, length}
+use Rattle.std.specs.Prelude.{Bool, true, ℕ, ℤ, pos, ◌≡◌, ◌≢◌, ◌⊎◌, ◌<◌, ◌≤◌, ◌≤ℤ◌, List, length}
 use Rattle.auc_graph.specs.Assignment.{total}
 use Rattle.auc_rows.specs.declared.arc.ShortArc.{ShortArc}
 use Rattle.auc_rows.specs.Rows.{EachHasArc, FlatTable, IsFlatTable}
@@ -17,16 +17,18 @@ use Rattle.auc_market.specs.Phases.{ArePhases, IsOpened, IsPhase, IsRefined}
 use Rattle.auc_market.specs.Shortlist.{Kept}
 use Rattle.auc_market.specs.Way.{IsWay}
 
--- the rows, eps, the prices, who holds each object, and by which arc each person holds his
+-- the rows, eps, the prices, who holds each object, by which arc each person holds his; and whether each had one once, by which arcs then
 pub record Position : Type 0 where
   pub table : FlatTable
   pub eps : ℤ
   pub prices : List ℤ
   pub holders : List ℕ
   pub owns : List ShortArc
+  pub has_incumbent : Bool
+  pub incumbent : List ShortArc
 
-abbrev pub position : FlatTable → ℤ → List ℤ → List ℕ → List ShortArc → Position
-position r e p h o = record { table = r; eps = e; prices = p; holders = h; owns = o }
+abbrev pub position : FlatTable → ℤ → List ℤ → List ℕ → List ShortArc → Bool → List ShortArc → Position
+position r e p h o b i = record { table = r; eps = e; prices = p; holders = h; owns = o; has_incumbent = b; incumbent = i }
 
 abbrev pub state_at : Position → State
 state_at p = state p.prices p.holders p.owns
@@ -105,7 +107,7 @@ AreSold left Chain.Ceiling new = IsAbove new.table new.eps new.prices
 pub record IsSlice (bids : ℕ) (ending : Ending) (old new : Position) : Type 0 where
   pub table : new.table ≡ old.table
   pub eps : new.eps ≡ old.eps
-  pub ended : IsEnding old.table bids (total old.prices) ending new.prices new.owns
+  pub ended : IsEnding old.table bids (state_at old) ending new.prices new.owns
   pub counted : AreCounted old.table old.eps bids ending (state_at old) (state_at new)
 
 -- a phase of at most so many bids, whole or in part
@@ -119,14 +121,15 @@ pub record IsTried (bids : ℕ) (old new : Position) : Type 0 where
 pub record IsPlayed (bids : ℕ) (before after : Bool) (ending : Ending) (old new : Position) : Type 0 where
   pub tried : IsTried bids old new
   pub sold : IsSold old.table ending new.owns
-  pub ended : IsToldOr before after ending (IsEnding old.table bids (total old.prices) ending new.prices new.owns)
+  pub ended : IsToldOr before after ending (IsEnding old.table bids (state_at old) ending new.prices new.owns)
 
--- the next phase begins at this eps: the prices stay, and nobody holds anything
+-- The next phase begins at this eps: the prices stay, and nobody holds anything. What persons held is the incumbent, where each had an object.
 pub record IsBegun (eps : ℤ) (old new : Position) : Type 0 where
   pub table : new.table ≡ old.table
   pub eps_is : new.eps ≡ eps
   pub prices : new.prices ≡ old.prices
   pub none : (i : ℕ) → (own_at new.owns i).object ≡ NOBODY
+  pub incumbent : HaveObjects (length old.owns) old.owns → (new.has_incumbent ≡ true) × (new.incumbent ≡ old.owns)
 
 -- prices were refined: each person has what he had, or nobody holds anything any more
 pub record IsRefinement (old new : Position) : Type 0 where
@@ -144,4 +147,4 @@ pub record IsRefinedWhole (new : Position) : Type 0 where
 -- what such a market is given up for: what each person holds, where all have one; else that, or the incumbent, at the same prices
 abbrev pub AreHandedOn : Ending → Position → List ℤ → List ℕ → List ShortArc → Type 0
 AreHandedOn Ending.Sold p prices holders owns = (prices ≡ p.prices) × (holders ≡ p.holders) × (owns ≡ p.owns)
-AreHandedOn (Ending.Stopped reason) p prices holders owns = (prices ≡ p.prices) × ((eps : ℤ) × Stands p.table eps prices holders owns)
+AreHandedOn (Ending.Stopped reason) p prices holders owns = (prices ≡ p.prices) × ((eps : ℤ) × Stands p.table eps prices holders owns) × (p.has_incumbent ≡ true → owns ≡ p.incumbent)

@@ -145,16 +145,6 @@ impl Holdings {
         }
     }
 
-    /// The price of an object.
-    #[inline]
-    pub(crate) fn price_of(&self, object: u32) -> i64 {
-        if (object as usize) < self.prices.len() {
-            self.prices[object as usize]
-        } else {
-            0
-        }
-    }
-
     /// What a person pays for what he holds, by sums that wrap.
     #[inline]
     pub(crate) fn own_worth(&self, scale: i64, person: u32) -> i64 {
@@ -162,20 +152,9 @@ impl Holdings {
             return NOTHING;
         }
         let own = self.owns[person as usize];
-        if own.object == NOBODY {
+        if own.object as usize >= self.prices.len() {
             return NOTHING;
         }
-        worth(scale, own.cost, self.price_of(own.object))
-    }
-
-    /// How many persons have an object.
-    pub(crate) fn count(&self) -> u32 {
-        let mut held: u32 = 0;
-        for own in &self.owns {
-            if own.object != NOBODY {
-                held = held.saturating_add(1);
-            }
-        }
-        held
+        worth(scale, own.cost, self.prices[own.object as usize])
     }
 }

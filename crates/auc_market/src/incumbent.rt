@@ -1,7 +1,8 @@
 //! The incumbent: what persons held when each had an object last. A run that is stopped answers with it, at the prices of the stop.
 
-ghost use Rattle.std.specs.Prelude.{◌≡◌, false, length, IfOk};
+ghost use Rattle.std.specs.Prelude.{◌≡◌, false, true, length, IfOk};
 ghost use Rattle.auc_market.specs.Incumbent.{AreSetAside};
+ghost use Rattle.auc_market.specs.Market.{HaveObjects};
 
 use crate::holdings::{Holdings, NO_OWN, NOBODY};
 use auc_rows::ShortArc;
@@ -37,6 +38,7 @@ impl Holdings {
     /// Where each person has an object, what they hold is the incumbent from now on, and these holdings are to be opened.
     pub(crate) fn set_aside(&mut self, incumbent: &mut Incumbent)
         ensures prices { self.new.prices ≡ self.old.prices }
+        ensures whole { HaveObjects (length self.old.owns.items) self.old.owns.items → (incumbent.new.is_whole ≡ true) × (incumbent.new.owns.items ≡ self.old.owns.items) }
         ensures aside { AreSetAside self.old incumbent.old self.new incumbent.new }
     {
         if !self.all_have() {

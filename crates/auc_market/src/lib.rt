@@ -41,4 +41,4 @@ pub use holdings::Holdings;
 pub use market::Market;
 pub use pace::{Pace, Pacing};
 pub use starts::tried;
-pub use watch::{Onward, Progress, Watch};
+pub use watch::{Progress, Watch};

@@ -21,24 +21,18 @@ pub(crate) struct Lists {
     values: Values,
 }
 
-/// How many arcs stand in rows that are long enough for a list.
-fn arcs_of_long_rows(rows: &FlatRows) -> usize {
-    let mut long: usize = 0;
-    for person in 0..rows.persons() {
-        let arcs = rows.row(person).len();
-        if arcs >= LONG {
-            long = long.saturating_add(arcs);
-        }
-    }
-    long
-}
-
 impl Lists {
     /// Lists with no arc, which say nothing. 176 bytes a person where most arcs stand in long rows. Where fewer do, lists take more memory than they are worth: each person would have one.
     pub(crate) fn new(alloc: Global, rows: &FlatRows) -> Result<Lists, AllocError>
         ensures { IfOk result (λ l. (prices : List ℤ) → Kept rows.now prices l.lists.items) }
     {
-        let long = arcs_of_long_rows(rows);
+        let mut long: usize = 0;
+        for person in 0..rows.persons() {
+            let arcs = rows.row(person).len();
+            if arcs >= LONG {
+                long = long.saturating_add(arcs);
+            }
+        }
         let are_mostly_long = long > rows.arc_count() / 2;
         let count = if are_mostly_long { rows.persons() } else { 0 };
         let mut lists = Vec::with_capacity(alloc, count as usize)?;

@@ -51,9 +51,9 @@ impl<'a> Model for Market<'a> {
 
     ghost Value = { Position };
 
-    ghost view = { λ m. record { table = m.rows.now; eps = m.eps; prices = m.holdings.prices.items; holders = m.holdings.holders.items; owns = m.holdings.owns.items } };
+    ghost view = { λ m. record { table = m.rows.now; eps = m.eps; prices = m.holdings.prices.items; holders = m.holdings.holders.items; owns = m.holdings.owns.items; has_incumbent = m.incumbent.is_whole; incumbent = m.incumbent.owns.items } };
 
-    ghost invariant = { λ m. IsMarket (record { table = m.rows.now; eps = m.eps; prices = m.holdings.prices.items; holders = m.holdings.holders.items; owns = m.holdings.owns.items }) m.lists.lists.items m.incumbent };
+    ghost invariant = { λ m. IsMarket (record { table = m.rows.now; eps = m.eps; prices = m.holdings.prices.items; holders = m.holdings.holders.items; owns = m.holdings.owns.items; has_incumbent = m.incumbent.is_whole; incumbent = m.incumbent.owns.items }) m.lists.lists.items m.incumbent };
 }
 
 impl<'a> Market<'a> {
@@ -126,7 +126,13 @@ impl<'a> Market<'a> {
 
     /// How many persons hold an object. O(persons).
     pub fn held(&self) -> u32 {
-        self.holdings.count()
+        let mut held: u32 = 0;
+        for own in &self.holdings.owns {
+            if own.object != NOBODY {
+                held = held.saturating_add(1);
+            }
+        }
+        held
     }
 
     /// The mean spread of the rows of at least so many persons, or of all, at the present prices, in scaled costs, and at least 1: eps of a phase may be as great.
@@ -216,31 +222,25 @@ impl<'a> Market<'a> {
     pub fn into_holdings(self, ending: Ending) -> Holdings
         ensures { AreHandedOn ending self.entry result.prices.items result.holders.items result.owns.items }
     {
-        match ending {
-            Ending::Sold => self.holdings,
-            Ending::Stopped(_) => self.or_incumbent(),
-        }
-    }
-
-    /// The incumbent at the present prices; or what is held, where there is none.
-    fn or_incumbent(self) -> Holdings
-        ensures prices { result.prices.items ≡ self.entry.prices }
-        ensures stands { (eps : ℤ) × Stands self.entry.table eps result.prices.items result.holders.items result.owns.items }
-    {
         let Market {
             holdings,
             incumbent,
             ..
         } = self;
-        if incumbent.is_whole {
-            let Holdings { prices, .. } = holdings;
-            let Incumbent { holders, owns, .. } = incumbent;
-            return Holdings {
-                prices,
-                holders,
-                owns,
-            };
+        match ending {
+            Ending::Sold => holdings,
+            Ending::Stopped(_) => {
+                if !incumbent.is_whole {
+                    return holdings;
+                }
+                let Holdings { prices, .. } = holdings;
+                let Incumbent { holders, owns, .. } = incumbent;
+                Holdings {
+                    prices,
+                    holders,
+                    owns,
+                }
+            }
         }
-        holdings
     }
 }

@@ -31,24 +31,13 @@ pub struct Pace {
     pub made: u64,
 }
 
-/// How many arcs a bid looks at, about: those of the mean row, or of a list.
-fn arcs_a_bid(rows: &FlatRows) -> u64 {
-    let mean = rows
-        .arc_count()
-        .checked_div(rows.persons() as usize)
-        .unwrap_or(1)
-        .max(1);
-    if mean < LONG {
-        mean as u64
-    } else {
-        ROOM as u64
-    }
-}
-
 impl Pace {
     /// Before the first phase: a search is taken to look at a part of all arcs.
     pub fn new(rows: &FlatRows, pacing: Pacing) -> Pace {
-        let arcs_a_bid = arcs_a_bid(rows);
+        let mean = rows.arc_count().checked_div(rows.persons() as usize);
+        let mean = mean.unwrap_or(1).max(1);
+        // Those of the mean row, or of a list.
+        let arcs_a_bid = if mean < LONG { mean } else { ROOM } as u64;
         let arcs = (rows.arc_count() as u64).saturating_mul(pacing.search);
         let arcs = arcs.checked_div(pacing.early).unwrap_or(arcs);
         Pace {

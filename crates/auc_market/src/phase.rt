@@ -5,6 +5,7 @@ ghost use Rattle.auc_claim.specs.declared.reason.Reason.{Reason};
 ghost use Rattle.auc_rows.specs.declared.arc.ShortArc.{ShortArc};
 ghost use Rattle.auc_rows.specs.Rows.{FlatTable};
 ghost use Rattle.auc_market.specs.declared.ending.Ending.{Ending};
+ghost use Rattle.auc_market.specs.Bids.{State};
 ghost use Rattle.auc_market.specs.Endings.{IsEnding};
 ghost use Rattle.auc_market.specs.Halts.{IsHalt};
 ghost use Rattle.auc_market.specs.Position.{IsPlayed, IsSlice, IsTried};
@@ -19,7 +20,7 @@ use auc_claim::Reason;
 /// Whether bids have run out. Any other ending of a slice is one of its phase.
 fn ran_out(ending: Ending) -> bool
     ensures yes { result ≡ true → ending ≡ Ending.Stopped Reason.Bids }
-    ensures no { result ≡ false → (r : FlatTable) (bids other : ℕ) (begun before : ℤ) (prices : List ℤ) (owns : List ShortArc) → IsEnding r bids begun ending prices owns → IsEnding r other before ending prices owns }
+    ensures no { result ≡ false → (r : FlatTable) (bids other : ℕ) (begun before : State) (prices : List ℤ) (owns : List ShortArc) → IsEnding r bids begun ending prices owns → IsEnding r other before ending prices owns }
 {
     match ending {
         Ending::Sold => false,

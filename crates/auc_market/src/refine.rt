@@ -6,7 +6,7 @@
 //!
 //! Of who waits nothing is proved: prices rise and stay within range, and at the end each person is looked at once more.
 
-ghost use Rattle.std.specs.Prelude.{true, ◌≡◌, ◌<◌, pos, ◌≤ℤ◌, All, IsTrue, length, IfOk, OnErr, OnOk};
+ghost use Rattle.std.specs.Prelude.{true, false, ◌≡◌, ◌<◌, pos, ◌≤ℤ◌, All, IsTrue, length, IfOk, OnErr, OnOk};
 ghost use Rattle.auc_graph.specs.Assignment.{total};
 ghost use Rattle.auc_graph.specs.Price.{IsPrice};
 ghost use Rattle.auc_letters.specs.Price.{IsEps};
@@ -26,7 +26,8 @@ use std::alloc::{AllocError, Global};
 impl Holdings {
     /// Whether each person has an object.
     pub fn all_have(&self) -> bool
-        ensures { result ≡ true → HaveObjects (length self.now.owns.items) self.now.owns.items }
+        ensures yes { result ≡ true → HaveObjects (length self.now.owns.items) self.now.owns.items }
+        ensures no { result ≡ false → HaveObjects (length self.now.owns.items) self.now.owns.items → ⊥ }
     {
         for person in 0..self.owns.len() {
             if self.owns[person].object == NOBODY {

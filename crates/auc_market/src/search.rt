@@ -86,22 +86,6 @@ impl Search {
         }
     }
 
-    /// Nothing is reached.
-    fn begin(&mut self, objects: usize) -> Result<(), AllocError> {
-        if self.labels.len() != objects {
-            self.labels.clear();
-            self.labels.resize(objects, BLANK)?;
-        }
-        self.number = self.number.wrapping_add(1);
-        self.heap.clear();
-        self.settled.clear();
-        self.rises.clear();
-        self.route.clear();
-        self.end = NOWHERE;
-        self.looked = 0;
-        Ok(())
-    }
-
     /// Labels the objects of a taker's row that are nearer by him than before. None that is no nearer than the nearest object that nobody holds: no path goes by it.
     fn relax(
         &mut self,
@@ -163,7 +147,18 @@ impl Search {
         holdings: &Holdings,
         start: u32,
     ) -> Result<bool, AllocError> {
-        self.begin(rows.objects() as usize)?;
+        let objects = rows.objects() as usize;
+        if self.labels.len() != objects {
+            self.labels.clear();
+            self.labels.resize(objects, BLANK)?;
+        }
+        self.number = self.number.wrapping_add(1);
+        self.heap.clear();
+        self.settled.clear();
+        self.rises.clear();
+        self.route.clear();
+        self.end = NOWHERE;
+        self.looked = 0;
         let mut taker = Taker {
             person: start,
             near: NEAREST,
@@ -185,7 +180,6 @@ impl Search {
             return Ok(false);
         }
         self.propose(holdings)?;
-        self.trace()?;
         Ok(true)
     }
 
@@ -205,7 +199,7 @@ impl Search {
         None
     }
 
-    /// The price of each settled object is to rise by as much as it is nearer than the end.
+    /// The price of each settled object is to rise by as much as it is nearer than the end. The route goes by the labels from the end back to the free person.
     fn propose(&mut self, holdings: &Holdings) -> Result<(), AllocError> {
         for settled in &self.settled {
             let place = settled.object as usize;
@@ -220,11 +214,6 @@ impl Search {
                 before,
             })?;
         }
-        Ok(())
-    }
-
-    /// The route, by the labels from the end back to the free person.
-    fn trace(&mut self) -> Result<(), AllocError> {
         let mut object = self.end.object;
         for _ in 0..=self.settled.len() {
             if object as usize >= self.labels.len() {

@@ -77,19 +77,6 @@ impl Holdings {
         self.award(person, Bid { amount, arc });
     }
 
-    /// Each person in order does, where there is such an arc.
-    fn seat_all(&mut self, rows: &FlatRows, eps: i64, start: &[i64])
-        requires start { ArePricesOf rows.now start.now }
-        requires seated { AreSeated rows.now start.now self.old.prices.items self.old.holders.items self.old.owns.items }
-        requires none { (i : ℕ) → (own_at self.old.owns.items i).object ≡ NOBODY }
-        ensures { AreSeated rows.now start.now self.new.prices.items self.new.holders.items self.new.owns.items }
-    {
-        for person in 0..rows.persons() {
-            let place = self.free_within(rows, eps, start, person);
-            self.seat(rows, start, person, place);
-        }
-    }
-
     /// Each person in order whose object isn't within eps of his best leaves it, and it has no price then; gives whether anybody has.
     fn release(&mut self, rows: &FlatRows, eps: i64) -> bool
         requires arcs { EachHasArc rows.now }
@@ -137,7 +124,10 @@ impl Holdings {
         ensures stands { Stands rows.now eps self.new.prices.items self.new.holders.items self.new.owns.items }
         ensures opened { AreOpened rows.now.objects (length rows.now.rows) start.now self.new.prices.items }
     {
-        self.seat_all(rows, eps, start);
+        for person in 0..rows.persons() {
+            let place = self.free_within(rows, eps, start, person);
+            self.seat(rows, start, person, place);
+        }
         if rows.persons() != rows.objects() {
             self.settle(rows, eps);
             return;

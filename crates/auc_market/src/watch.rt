@@ -45,21 +45,3 @@ pub(crate) fn may_go_on<W: Watch>(watch: &mut W, progress: Progress) -> bool
     }
     watch.goes_on(progress)
 }
-
-/// Lets every run go on.
-#[derive(Clone, Copy, Debug, PartialEq, Eq)]
-pub struct Onward;
-
-impl Watch for Onward {
-    ghost has_stopped = { λ _. false };
-
-    ghost was_asked = { λ _. true };
-
-    fn has_said_no(&self) -> bool {
-        false
-    }
-
-    fn goes_on(&mut self, _progress: Progress) -> bool {
-        true
-    }
-}

@@ -22,15 +22,6 @@ pub(crate) struct Way {
     pub(crate) looked: u64,
 }
 
-/// Sets the flag of a person, if he is one.
-fn mark(is_in: &mut [bool], person: u32)
-    ensures { length is_in.new ≡ length is_in.old }
-{
-    if (person as usize) < is_in.len() {
-        is_in[person as usize] = true;
-    }
-}
-
 impl Holdings {
     /// The Hall set that a search has reached which found no free object: the person from whom it began, and who hold what it has settled. None where they know no fewer objects than they are.
     fn reached(
@@ -40,12 +31,16 @@ impl Holdings {
         start: u32,
         search: &Search,
     ) -> Result<Option<HallSet>, AllocError>
+        requires { start < length rows.now.rows }
         ensures { IfOk result (λ o. IfSome o (λ h. IsShortHallSet rows.now h.persons.items h.objects.items)) }
     {
         let mut is_in = vec![in alloc; false; rows.persons() as usize]?;
-        mark(is_in.as_mut_slice(), start);
+        is_in[start as usize] = true;
         for settled in &search.settled {
-            mark(is_in.as_mut_slice(), self.holder_of(settled.object));
+            let holder = self.holder_of(settled.object) as usize;
+            if holder < is_in.len() {
+                is_in[holder] = true;
+            }
         }
         hall_set_of(alloc, rows, is_in.as_slice())
     }

@@ -1,7 +1,7 @@
 use Rattle.std.proofs.Common.{◌∙◌, arith, refl, rules, sym, w64}
 use Rattle.std.specs.Prelude.{FitsSigned}
 use Rattle.std.proofs.lemmas.Int.{ints, to_z-of_z}
-use Rattle.auc_graph.specs.Assignment.{total}
+use Rattle.auc_market.specs.Position.{state_at}
 use Rattle.auc_market.specs.declared.ending.Ending.{Ending}
 use Rattle.auc_market.specs.Endings.{IsStopped}
 use Rattle.auc_market.proofs.EndingLaws.{sold_going}
@@ -33,7 +33,7 @@ loop-played-preserved g c =
     let after = c.in_ok-played.ensures in
     let early = c.in_ok-early.ensures in
     let next = c.in-Some-next_eps.ensures in
-    let sold = sold_going (g.W.Watch.has_stopped c.loop-played.watch) (g.W.Watch.has_stopped c.play_anew.new.watch) (IsStopped c.loop-played.market.table c.args.bids (total c.loop-played.market.prices) Ending.Sold c.play_anew.new.market.prices) (rw c.in-Sold.is at (rw c.in-Some.is at after.played).stopped) in
+    let sold = sold_going (g.W.Watch.has_stopped c.loop-played.watch) (g.W.Watch.has_stopped c.play_anew.new.watch) (IsStopped c.loop-played.market.table c.args.bids (state_at c.loop-played.market) Ending.Sold c.play_anew.new.market.prices) (rw c.in-Sold.is at (rw c.in-Some.is at after.played).stopped) in
     let one = plays_on c.args.bids c.args.market.now c.loop-played.market c.play_anew.new.market inv.plays after.plays in
     let two = plays_on c.args.bids c.args.market.now c.play_anew.new.market c.refine.new.self one (plays_refined c.args.bids c.play_anew.new.market c.refine.new.self c.in_ok-refine.ensures.refined) in
     simp to_z-of_z (record {
@@ -54,7 +54,7 @@ returns-in_default-next_eps-clause-over g c = over_at _ c.args.bids (g.W.Watch.h
 pub returns-then-branch-clause-over : goal.returns-then-branch-clause-over
 returns-then-branch-clause-over g c =
     let after = c.in_ok-played.ensures in
-    let sold = sold_going (g.W.Watch.has_stopped c.loop-played.watch) (g.W.Watch.has_stopped c.play_anew.new.watch) (IsStopped c.loop-played.market.table c.args.bids (total c.loop-played.market.prices) Ending.Sold c.play_anew.new.market.prices) (rw c.in-Sold.is at (rw c.in-Some.is at after.played).stopped) in
+    let sold = sold_going (g.W.Watch.has_stopped c.loop-played.watch) (g.W.Watch.has_stopped c.play_anew.new.watch) (IsStopped c.loop-played.market.table c.args.bids (state_at c.loop-played.market) Ending.Sold c.play_anew.new.market.prices) (rw c.in-Sold.is at (rw c.in-Some.is at after.played).stopped) in
     let one = plays_on c.args.bids c.args.market.now c.loop-played.market c.play_anew.new.market c.loop-played.invariant.plays after.plays in
     let two = plays_on c.args.bids c.args.market.now c.play_anew.new.market c.refine.new.self one (plays_refined c.args.bids c.play_anew.new.market c.refine.new.self c.in_ok-refine.ensures.refined) in
     rw c.in-Sold.is (over_refined c.args.bids (g.W.Watch.has_stopped c.args.watch.now) (g.W.Watch.has_stopped c.play_anew.new.watch) c.args.market.now c.refine.new.self (sold ∙ c.loop-played.invariant.asked) c.law-then-branch.ensures two (c.in_ok-refine.ensures.whole c.if-branch.true))
@@ -64,7 +64,7 @@ pub returns-in-Some-early-clause-over : goal.returns-in-Some-early-clause-over
 returns-in-Some-early-clause-over g c =
     let after = c.in_ok-played.ensures in
     let early = c.in_ok-early.ensures in
-    let sold = sold_going (g.W.Watch.has_stopped c.loop-played.watch) (g.W.Watch.has_stopped c.play_anew.new.watch) (IsStopped c.loop-played.market.table c.args.bids (total c.loop-played.market.prices) Ending.Sold c.play_anew.new.market.prices) (rw c.in-Sold.is at (rw c.in-Some.is at after.played).stopped) in
+    let sold = sold_going (g.W.Watch.has_stopped c.loop-played.watch) (g.W.Watch.has_stopped c.play_anew.new.watch) (IsStopped c.loop-played.market.table c.args.bids (state_at c.loop-played.market) Ending.Sold c.play_anew.new.market.prices) (rw c.in-Sold.is at (rw c.in-Some.is at after.played).stopped) in
     let one = plays_on c.args.bids c.args.market.now c.loop-played.market c.play_anew.new.market c.loop-played.invariant.plays after.plays in
     let two = plays_on c.args.bids c.args.market.now c.play_anew.new.market c.refine.new.self one (plays_refined c.args.bids c.play_anew.new.market c.refine.new.self c.in_ok-refine.ensures.refined) in
     over_at _ c.args.bids (g.W.Watch.has_stopped c.args.watch.now) (g.W.Watch.has_stopped c.play_anew.new.watch) (g.W.Watch.has_stopped c.play_anew-in-loop-played.new.watch) c.in-Some-early.ending c.args.market.now c.refine.new.self c.play_anew-in-loop-played.new.market (sold ∙ c.loop-played.invariant.asked) c.law-in-loop-played.ensures two early.plays (rw c.in-Some-early.is at early.played) (λ e. refl)

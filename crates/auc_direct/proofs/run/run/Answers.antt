@@ -1,5 +1,6 @@
 use Rattle.std.proofs.Common.{inl, inr, refl, ◌∙◌}
 use Rattle.auc_market.specs.Bids.{state_of}
+use Rattle.auc_market.specs.Position.{state_at}
 use Rattle.auc_direct.specs.Phases.{IsAdopted}
 use Rattle.auc_direct.proofs.Running.{outcome_of, over_at, over_before, played_at, plays_none, plays_tried}
 use Rattle.auc_direct.proofs.run.run.Goals as goal
@@ -26,7 +27,7 @@ returns-in-Some-2-clause-outcome g c =
     let is : IsAdopted c.args.rows.now (state_of c.in-Some-2.holdings) = record { full = rw c.in-Some-2.is at found.full; stands = stands; have = have } in
     record {
       left = (stands, have);
-      stopped = inr (rw c.in_default.is at c.in_ok-ending.ensures.going, tt);
+      stopped = inr (rw c.in_default.is at c.in_ok-ending.ensures.going, (state_at c.args.market, refl, tt));
       run = (state_of c.in-Some-2.holdings, refl, inr is);
     }
 

@@ -1,3 +1,4 @@
+use Rattle.auc_graph.specs.Assignment.{total}
 use Rattle.std.proofs.Common.{◌≡◌, ◌⊎◌}
 use Rattle.auc_claim.specs.declared.reason.Reason.{Reason}
 use Rattle.auc_answers.specs.Answers.{HasAssignment, IsAnswer, IsBracketAnswer, IsBracketOf, IsInfeasibleAnswer, IsOptimalAnswer}
@@ -55,21 +56,21 @@ proved_bracket-requires-clause-choice c =
     let m = c.args.outcome.holdings in
     let stopped = rw c.in-Stopped.is at c.requires.left in
     let left = c.in_ok-gathered.gathered in
-    whole_choice c.args.problem.now c.requires.rows.table c.args.flat m.prices.items m.holders.items m.owns.items left.holders.items c.arcs.ensures.problem c.requires.rows.of c.requires.rows.same c.requires.sound c.in_ok-gathered.ensures.held stopped.0 c.in-Stopped.reason stopped.1 (rw stopped.1.owns_are at (c.all_have-each_has_one.ensures c.if-each_has_one.true))
+    whole_choice c.args.problem.now c.requires.rows.table c.args.flat m.prices.items m.holders.items m.owns.items left.holders.items c.arcs.ensures.problem c.requires.rows.of c.requires.rows.same c.requires.sound c.in_ok-gathered.ensures.held stopped.0 c.in-Stopped.reason stopped.1 (rw stopped.1.owns_are at (c.all_have-each_has_one.ensures.yes c.if-each_has_one.true))
 
 pub proved_bracket-requires-clause-prices : goal.proved_bracket-requires-clause-prices
 proved_bracket-requires-clause-prices c =
     let m = c.args.outcome.holdings in
     let stopped = rw c.in-Stopped.is at c.requires.left in
     let left = c.in_ok-gathered.gathered in
-    rw c.in_ok-gathered.ensures.prices (whole_prices c.args.problem.now c.requires.rows.table c.args.flat m.prices.items m.holders.items m.owns.items left.holders.items c.arcs.ensures.problem c.requires.rows.of c.requires.rows.same c.requires.sound c.in_ok-gathered.ensures.held stopped.0 c.in-Stopped.reason stopped.1 (rw stopped.1.owns_are at (c.all_have-each_has_one.ensures c.if-each_has_one.true)))
+    rw c.in_ok-gathered.ensures.prices (whole_prices c.args.problem.now c.requires.rows.table c.args.flat m.prices.items m.holders.items m.owns.items left.holders.items c.arcs.ensures.problem c.requires.rows.of c.requires.rows.same c.requires.sound c.in_ok-gathered.ensures.held stopped.0 c.in-Stopped.reason stopped.1 (rw stopped.1.owns_are at (c.all_have-each_has_one.ensures.yes c.if-each_has_one.true)))
 
 pub proved_bracket-requires-clause-fits : goal.proved_bracket-requires-clause-fits
 proved_bracket-requires-clause-fits c =
     let m = c.args.outcome.holdings in
     let stopped = rw c.in-Stopped.is at c.requires.left in
     let left = c.in_ok-gathered.gathered in
-    rw c.in_ok-gathered.ensures.prices (whole_fits c.args.problem.now c.requires.rows.table c.args.flat m.prices.items m.holders.items m.owns.items left.holders.items c.arcs.ensures.problem c.requires.rows.of c.requires.rows.same c.requires.sound c.in_ok-gathered.ensures.held stopped.0 c.in-Stopped.reason stopped.1 (rw stopped.1.owns_are at (c.all_have-each_has_one.ensures c.if-each_has_one.true)))
+    rw c.in_ok-gathered.ensures.prices (whole_fits c.args.problem.now c.requires.rows.table c.args.flat m.prices.items m.holders.items m.owns.items left.holders.items c.arcs.ensures.problem c.requires.rows.of c.requires.rows.same c.requires.sound c.in_ok-gathered.ensures.held stopped.0 c.in-Stopped.reason stopped.1 (rw stopped.1.owns_are at (c.all_have-each_has_one.ensures.yes c.if-each_has_one.true)))
 
 pub proved_bracket-requires-clause-within : goal.proved_bracket-requires-clause-within
 proved_bracket-requires-clause-within c =
@@ -86,7 +87,7 @@ pub returns-then-each_has_one-clause-limit : goal.returns-then-each_has_one-clau
 returns-then-each_has_one-clause-limit c = λ bids begun stopped. (
     let p = c.args.problem.now in
     let left = c.in_ok-gathered.gathered in
-    of_answers (IsBracketOf p c.in-Stopped.reason left.prices.items) (IsLimited p bids begun) c.proved_bracket.result
+    of_answers (IsBracketOf p c.in-Stopped.reason left.prices.items) (IsLimited p bids (total begun.prices)) c.proved_bracket.result
     (whole_is_limited p c.args.flat c.requires.rows bids begun c.in-Stopped.reason left.prices.items (rw c.in_ok-gathered.ensures.prices (rw c.in-Stopped.is at stopped))) c.proved_bracket.ensures
     )
 
@@ -112,7 +113,7 @@ returns-then-each_has_one-clause-run c = λ bids begun ended. (
 pub returns-in-Sold-clause-limit : goal.returns-in-Sold-clause-limit
 returns-in-Sold-clause-limit c = λ bids begun stopped. (
     let left = c.in_ok-gathered.gathered in
-    of_answers (IsOptimalAnswer c.args.problem.now left.holders.items left.prices.items) (IsLimited c.args.problem.now bids begun) c.proved_optimal.result (sold_is_limited c.args.problem.now bids begun left.holders.items left.prices.items) c.proved_optimal.ensures
+    of_answers (IsOptimalAnswer c.args.problem.now left.holders.items left.prices.items) (IsLimited c.args.problem.now bids (total begun.prices)) c.proved_optimal.result (sold_is_limited c.args.problem.now bids (total begun.prices) left.holders.items left.prices.items) c.proved_optimal.ensures
     )
 
 pub returns-else-each_has_one-clause-limit : goal.returns-else-each_has_one-clause-limit
@@ -121,7 +122,7 @@ returns-else-each_has_one-clause-limit c = λ bids begun stopped. (
     let m = c.args.outcome.holdings in
     let left = c.in_ok-gathered.gathered in
     let g = c.in_ok-gathered.ensures in
-    of_answers (λ a. IsInfeasibleAnswer p a ⊎ (HasAssignment p × IsBracketAnswer p c.in-Stopped.reason left.holders.items left.prices.items a)) (IsLimited p bids begun) c.bracketed.result
+    of_answers (λ a. IsInfeasibleAnswer p a ⊎ (HasAssignment p × IsBracketAnswer p c.in-Stopped.reason left.holders.items left.prices.items a)) (IsLimited p bids (total begun.prices)) c.bracketed.result
     (rw g.prices (either_is_limited p c.args.flat c.requires.rows bids begun c.in-Stopped.reason left.holders.items m.prices.items (rw c.in-Stopped.is at stopped))) c.bracketed.ensures
     )
 

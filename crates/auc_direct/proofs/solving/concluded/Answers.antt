@@ -1,3 +1,4 @@
+use Rattle.auc_market.specs.Bids.{State}
 use Rattle.std.proofs.Common.{◌≡◌, inr}
 use Rattle.auc_answers.specs.Answers.{IsAnswer, IsInfeasibleAnswer}
 use Rattle.auc_graph.specs.Assignment.{total}
@@ -28,7 +29,7 @@ pub returns-in-Ok-clause-limit : goal.returns-in-Ok-clause-limit
 returns-in-Ok-clause-limit c = λ bids begun before after ended _. (
     let o = rw c.in-Ok.is at ended in
     let outcome = c.in-Ok.outcome in
-    limit_or_told before after outcome.ending (IsLimited c.args.problem.now bids (total begun)) (IsStopped c.args.flat bids (total begun) outcome.ending outcome.holdings.prices.items) c.answer_of.result o.stopped c.answer_of.ensures.told (c.answer_of.ensures.limit bids (total begun))
+    limit_or_told before after outcome.ending (IsLimited c.args.problem.now bids (total begun)) ((first : State) × (first.prices ≡ begun) × IsStopped c.args.flat bids first outcome.ending outcome.holdings.prices.items) c.answer_of.result o.stopped c.answer_of.ensures.told (λ s. rw s.1 at (c.answer_of.ensures.limit bids s.0 s.2))
     )
 
 pub returns-in-Ok-clause-run : goal.returns-in-Ok-clause-run

@@ -1,4 +1,4 @@
-use Rattle.std.proofs.Common.{ℕ, ℤ, ◌≡◌, refl, rules, w64, List, Option, Some, None}
+use Rattle.std.proofs.Common.{Bool, ℕ, ℤ, ◌≡◌, refl, rules, w64, List, Option, Some, None}
 use Rattle.std.specs.Prelude.{FitsSigned, IfNone, IfSome}
 use Rattle.std.proofs.lemmas.Int.{to_z-of_z}
 use Rattle.auc_rows.specs.declared.arc.ShortArc.{ShortArc}
@@ -9,16 +9,16 @@ use Rattle.auc_market.specs.Position.{IsBid, position}
 use Rattle.auc_market.proofs.Moving.{eps_fits}
 use Rattle.auc_market.proofs.market.Market.bid.Goals as goal
 
-module _ (r : FlatTable) (eps : ℤ) (person : ℕ) (prices new : List ℤ) (holders sold : List ℕ) (owns left : List ShortArc) where
+module _ (r : FlatTable) (eps : ℤ) (person : ℕ) (prices new : List ℤ) (holders sold : List ℕ) (owns left : List ShortArc) (has : Bool) (once : List ShortArc) where
   stands_by : (o : Option ℕ) → Stands r eps prices holders owns → IfSome o (IsAwarded r eps person prices new sold owns left) → IfNone o (IsTooHigh r eps prices new holders sold owns left) → Stands r eps new sold left
   stands_by (Some d) stands a h = a.stands
   stands_by None stands a h = rw (h.prices_are, h.holders_are, h.owns_are) stands
 
-  bid_by : (o : Option ℕ) → IfSome o (IsAwarded r eps person prices new sold owns left) → IfSome o (λ d. IsBidMade r eps (state prices holders owns) (state new sold left)) → IfSome o (IsBid person (position r eps prices holders owns) (position r eps new sold left))
+  bid_by : (o : Option ℕ) → IfSome o (IsAwarded r eps person prices new sold owns left) → IfSome o (λ d. IsBidMade r eps (state prices holders owns) (state new sold left)) → IfSome o (IsBid person (position r eps prices holders owns has once) (position r eps new sold left has once))
   bid_by (Some d) a m = record { table = refl; eps = refl; awarded = a; made = m }
   bid_by None a m = tt
 
-  above_by : (o : Option ℕ) → IfNone o (IsTooHigh r eps prices new holders sold owns left) → IfNone o ((position r eps new sold left ≡ position r eps prices holders owns) × IsAbove r eps prices)
+  above_by : (o : Option ℕ) → IfNone o (IsTooHigh r eps prices new holders sold owns left) → IfNone o ((position r eps new sold left has once ≡ position r eps prices holders owns has once) × IsAbove r eps prices)
   above_by (Some d) h = tt
   above_by None h = rw (h.prices_are, h.holders_are, h.owns_are) (refl, h.above)
 
@@ -40,7 +40,7 @@ invariant_of-self c =
         sound = law.sound;
         arcs = law.arcs;
         eps = law.eps;
-        stands = stands_by c.self.inside.rows.now c.self.inside.eps c.args.person old.prices.items new.prices.items old.holders.items new.holders.items old.owns.items new.owns.items c.step.result law.stands step.awarded step.high;
+        stands = stands_by c.self.inside.rows.now c.self.inside.eps c.args.person old.prices.items new.prices.items old.holders.items new.holders.items old.owns.items new.owns.items c.self.inside.incumbent.is_whole c.self.inside.incumbent.owns.items c.step.result law.stands step.awarded step.high;
       };
       kept = step.kept;
       incumbent_is = c.self.invariant.incumbent_is;
@@ -52,7 +52,7 @@ returns-clause-bid c =
     let step = simp to_z-of_z at c.step.ensures in
     let old = c.self.inside.holdings in
     let new = c.step.new.self in
-    rw (← c.self.view_is) (bid_by c.self.inside.rows.now c.self.inside.eps c.args.person old.prices.items new.prices.items old.holders.items new.holders.items old.owns.items new.owns.items c.step.result step.awarded step.made)
+    rw (← c.self.view_is) (bid_by c.self.inside.rows.now c.self.inside.eps c.args.person old.prices.items new.prices.items old.holders.items new.holders.items old.owns.items new.owns.items c.self.inside.incumbent.is_whole c.self.inside.incumbent.owns.items c.step.result step.awarded step.made)
 
 pub returns-clause-above : goal.returns-clause-above
 returns-clause-above c =
@@ -60,4 +60,4 @@ returns-clause-above c =
     let step = simp to_z-of_z at c.step.ensures in
     let old = c.self.inside.holdings in
     let new = c.step.new.self in
-    rw (← c.self.view_is) (above_by c.self.inside.rows.now c.self.inside.eps c.args.person old.prices.items new.prices.items old.holders.items new.holders.items old.owns.items new.owns.items c.step.result step.high)
+    rw (← c.self.view_is) (above_by c.self.inside.rows.now c.self.inside.eps c.args.person old.prices.items new.prices.items old.holders.items new.holders.items old.owns.items new.owns.items c.self.inside.incumbent.is_whole c.self.inside.incumbent.owns.items c.step.result step.high)

@@ -38,4 +38,4 @@ returns c =
     let new = c.open.new.self in
     let same = rw c.set_aside.ensures.prices at c.open.ensures.prices in
     let opened = opened_is (state old.prices.items old.holders.items old.owns.items) (state new.prices.items new.holders.items new.owns.items) (length mid.owns.items) same c.open.ensures.owns in
-    rw (← c.self.view_is) (simp to_z-of_z (record { table = refl; eps_is = refl; prices = opened.prices; none = opened.none }))
+    rw (← c.self.view_is) (simp to_z-of_z (record { table = refl; eps_is = refl; prices = opened.prices; none = opened.none; incumbent = c.set_aside.ensures.whole }))

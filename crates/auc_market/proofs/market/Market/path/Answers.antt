@@ -1,4 +1,4 @@
-use Rattle.std.proofs.Common.{ℕ, ℤ, refl, rules, w64, List, Result, Ok, Err}
+use Rattle.std.proofs.Common.{Bool, ℕ, ℤ, refl, rules, w64, List, Result, Ok, Err}
 use Rattle.std.specs.Prelude.{FitsSigned, IfOk}
 use Rattle.std.proofs.lemmas.Int.{to_z-of_z}
 use Rattle.auc_rows.specs.declared.arc.ShortArc.{ShortArc}
@@ -10,8 +10,8 @@ use Rattle.auc_market.proofs.Moving.{eps_fits}
 use Rattle.auc_market.proofs.Shortlists.{kept_rises}
 use Rattle.auc_market.proofs.market.Market.path.Goals as goal
 
-module _ {Y : Type 0} (r : FlatTable) (eps : ℤ) (person : ℕ) (prices new : List ℤ) (holders sold : List ℕ) (owns left : List ShortArc) where
-  move_by : (o : Result Way Y) → IfOk o (λ w. IsWay r eps person prices new sold owns left w.free) → IfOk o (λ w. IsMove person (position r eps prices holders owns) (position r eps new sold left) w.free)
+module _ {Y : Type 0} (r : FlatTable) (eps : ℤ) (person : ℕ) (prices new : List ℤ) (holders sold : List ℕ) (owns left : List ShortArc) (has : Bool) (once : List ShortArc) where
+  move_by : (o : Result Way Y) → IfOk o (λ w. IsWay r eps person prices new sold owns left w.free) → IfOk o (λ w. IsMove person (position r eps prices holders owns has once) (position r eps new sold left has once) w.free)
   move_by (Ok w) way = record { table = refl; eps = refl; way = way }
   move_by (Err x) way = tt
 
@@ -38,4 +38,4 @@ returns-clause-way c =
     let way = simp to_z-of_z at c.find_way.ensures.way in
     let old = c.self.inside.holdings in
     let new = c.find_way.new.self in
-    rw (← c.self.view_is) (move_by c.self.inside.rows.now c.self.inside.eps c.args.person old.prices.items new.prices.items old.holders.items new.holders.items old.owns.items new.owns.items c.find_way.result way)
+    rw (← c.self.view_is) (move_by c.self.inside.rows.now c.self.inside.eps c.args.person old.prices.items new.prices.items old.holders.items new.holders.items old.owns.items new.owns.items c.self.inside.incumbent.is_whole c.self.inside.incumbent.owns.items c.find_way.result way)

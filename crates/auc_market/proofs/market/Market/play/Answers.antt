@@ -1,7 +1,7 @@
 use Rattle.std.proofs.Common.{◌-◌, ◌≡◌, ◌∙◌, ◌≤◌, true, inl, inr, refl, rules, sym, subst}
-use Rattle.auc_graph.specs.Assignment.{total}
 use Rattle.auc_market.specs.declared.ending.Ending.{Ending}
 use Rattle.auc_market.specs.Endings.{IsEnding}
+use Rattle.auc_market.specs.Position.{state_at}
 use Rattle.auc_market.proofs.EndingLaws.{ending_sold}
 use Rattle.auc_market.proofs.Moving.{all_spent, slice_tried, spends_none, spends_slice, spent_tried}
 use Rattle.auc_market.proofs.market.Market.play.Goals as goal
@@ -34,10 +34,10 @@ returns-then-not-ran_out-clause-played g c =
     let old = c.args.self.now in
     let new = c.play_slice.new.self in
     let slice = c.in_ok-ending.ensures.slice in
-    let is = c.if-not-ran_out.ensures.no refl old.table c.min-slice.result c.args.bids (total c.loop-bids.self.prices) (total old.prices) new.prices new.owns (rw inv.spends.table at slice.ended) in
+    let is = c.if-not-ran_out.ensures.no refl old.table c.min-slice.result c.args.bids (state_at c.loop-bids.self) (state_at old) new.prices new.owns (rw inv.spends.table at slice.ended) in
     record {
       tried = slice_tried c.args.bids c.loop-bids.left c.min-slice.result c.in_ok-ending.ending old c.loop-bids.self new c.law.ensures le inv.spends slice;
-      sold = ending_sold old.table c.args.bids (total old.prices) c.in_ok-ending.ending new.prices new.owns is;
+      sold = ending_sold old.table c.args.bids (state_at old) c.in_ok-ending.ending new.prices new.owns is;
       ended = inr (c.may_go_on.ensures.yes on ∙ inv.asked, is);
     }
 
@@ -51,9 +51,9 @@ returns-then-left-eq0-clause-played g c =
     let new = c.play_slice.new.self in
     let slice = c.in_ok-ending.ensures.slice in
     let spends = spends_slice c.args.bids c.loop-bids.left c.min-slice.result c.in_ok-ending.ending old c.loop-bids.self new out le inv.spends slice in
-    let is : IsEnding old.table c.args.bids (total old.prices) c.in_ok-ending.ending new.prices new.owns = subst (λ (x : Ending). IsEnding old.table c.args.bids (total old.prices) x new.prices new.owns) (sym out) (all_spent c.args.bids (c.loop-bids.left - c.min-slice.result) old new c.law.ensures c.if-left-eq0.true spends) in
+    let is : IsEnding old.table c.args.bids (state_at old) c.in_ok-ending.ending new.prices new.owns = subst (λ (x : Ending). IsEnding old.table c.args.bids (state_at old) x new.prices new.owns) (sym out) (all_spent c.args.bids (c.loop-bids.left - c.min-slice.result) old new c.law.ensures c.if-left-eq0.true spends) in
     record {
       tried = spent_tried c.args.bids (c.loop-bids.left - c.min-slice.result) old new c.law.ensures spends;
-      sold = ending_sold old.table c.args.bids (total old.prices) c.in_ok-ending.ending new.prices new.owns is;
+      sold = ending_sold old.table c.args.bids (state_at old) c.in_ok-ending.ending new.prices new.owns is;
       ended = inr (c.may_go_on.ensures.yes on ∙ inv.asked, is);
     }

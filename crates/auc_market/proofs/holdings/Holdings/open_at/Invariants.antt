@@ -2,7 +2,7 @@ use Rattle.std.proofs.Common.{ℕ, ◌≤◌, ◌≡◌}
 use Rattle.auc_market.specs.declared.holdings.TheConstants.{NOBODY}
 use Rattle.auc_market.specs.Market.{own_at}
 use Rattle.auc_market.specs.Starts.{AreSeated}
-use Rattle.auc_market.proofs.holdings.Holdings.seat_all.Given as goal
+use Rattle.auc_market.proofs.holdings.Holdings.open_at.Given as goal
 
 abbrev pub invariant-loop-person : goal.invariant-loop-person
 invariant-loop-person l = record {

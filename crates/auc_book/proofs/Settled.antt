@@ -17,8 +17,8 @@ use Rattle.auc_book.proofs.Noting.{empty_is}
 use Rattle.auc_book.proofs.Telling.{tells_sent, tells_handed}
 use Rattle.auc_book.proofs.Seats.{taken_sum, taken_all, taken_here, taken_left}
 
--- The seats of the workers below i were taken out, and the rest is left: what is known of all seats by then. Same says whether those
--- agreed.
+-- The seats of the workers below i were taken out, and the rest is left: what is known of all seats by then. Same says
+-- whether those agreed.
 pub record Settles {T : Type 0} (room : ℕ) (trail : List (TrailLine T)) (seats rest : List (Account T)) (i : ℕ) (same : Bool) : Type 0 where
   pub counted : same ≡ true → sum_by (λ a. a.count) seats ≡ sum_by (λ a. a.count) rest + count_by (λ l. nat_lt l.worker i) trail
   pub agree : same ≡ true → All (IsTrueOf room trail) rest → All (IsTrueOf room trail) seats

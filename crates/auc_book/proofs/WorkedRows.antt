@@ -1,4 +1,5 @@
--- Worked examples of the definitions, by computation: one box and two workers, a trail with three places, and the seats that settle with it.
+-- Worked examples of the definitions, by computation: one box and two workers, a trail with three places, and the seats
+-- that settle with it.
 use Rattle.std.proofs.Common.{◌≡◌, ◌≢◌, ℕ, ⊎_elim, inl, true, List, [], ◌∷◌, Some, None, Err, refl, arith}
 use Rattle.std.specs.List.{sum_by}
 use Rattle.std.proofs.lemmas.List.Elements.{All-cons, All-nil}

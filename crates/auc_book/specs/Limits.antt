@@ -12,8 +12,9 @@ RoomFits room = room ≤ 1000000
 abbrev pub IsLastCount : ℕ → Type 0
 IsLastCount count = 18446744073709551615 ≤ count
 
--- When a mail with room for a trail is refused: as the mail itself, whose limits come first; then for its room; then for want of memory.
--- The cases exclude each other, and each of them and a mail that is made: so each refusal stands exactly at its cause.
+-- When a mail with room for a trail is refused: as the mail itself, whose limits come first; then for its room; then
+-- for want of memory. The cases exclude each other, and each of them and a mail that is made: so each refusal stands
+-- exactly at its cause.
 abbrev pub IsRefusedWithRoom : ℕ → ℕ → ℕ → ℕ → MailError → Type 0
 IsRefusedWithRoom boxes workers nodes room TooManyLanes = IsRefusedFor boxes workers nodes TooManyLanes
 IsRefusedWithRoom boxes workers nodes room TooManyNodes = IsRefusedFor boxes workers nodes TooManyNodes

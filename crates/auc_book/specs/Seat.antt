@@ -5,8 +5,8 @@ use Rattle.auc_mail.specs.declared.call.Reply.{Reply}
 use Rattle.auc_book.specs.declared.line.TrailLine.{TrailLine}
 use Rattle.auc_book.specs.Trail.{noted}
 
--- how many calls the worker made, and how many more were turned away, since no more could be noted; and the lines of those that he made,
--- where there is room for lines
+-- how many calls the worker made, and how many more were turned away, since no more could be noted; and the lines of
+-- those that he made, where there is room for lines
 pub record Account (T : Type 0) : Type 0 where
   pub worker : ℕ
   pub count : ℕ
@@ -21,7 +21,8 @@ new_account k = record { worker = k; count = 0; turned_away = 0; lines = [] }
 abbrev pub one_more : ℕ → ℕ
 one_more n = min (n + 1) 18446744073709551615
 
--- what the worker's call leaves of his seat: one call more and its line; or one more that was turned away, and nothing else
+-- what the worker's call leaves of his seat: one call more and its line; or one more that was turned away, and nothing
+-- else
 abbrev pub SeatCalls : {T : Type 0} → ℕ → Account T → Call T → Option (Reply T) → Account T → Type 0
 SeatCalls room old c None new =
     new ≡ record { worker = old.worker; count = old.count; turned_away = one_more old.turned_away; lines = old.lines }

@@ -39,7 +39,8 @@ abbrev pub TellsHanded : {T : Type 0} → List (TrailLine T) → Account T → T
 TellsHanded trail a = (b k : ℕ) → All (λ l. IsTakeAt b l.call → l.worker ≡ a.worker) trail → handed b k (events_of trail)
     ≡ handed b k (events_of a.lines)
 
--- The trail is a run from the empty mail of these numbers, as long as the seats counted together, and each seat's lines are those of its worker.
+-- The trail is a run from the empty mail of these numbers, as long as the seats counted together, and each seat's lines
+-- are those of its worker.
 pub record IsSettled {T : Type 0} (boxes workers nodes most room : ℕ) (seats : List (Account T)) (trail : List (TrailLine T)) : Type 0 where
   pub kept : 0 < room
   pub last : Mail T

@@ -34,7 +34,8 @@ Calls old k c (Some r) new =
     (¬ (IsFull old)) × Step old.mail c r new.mail × (new.count ≡ old.count + 1) × (new.room ≡ old.room)
     × (new.trail ≡ noted old.room old.trail (record { worker = k; call = c; reply = r }))
 
--- What every state keeps: where there is a trail, it leads from the empty mail to this one, and is counted. Workers post in their own names.
+-- What every state keeps: where there is a trail, it leads from the empty mail to this one, and is counted. Workers
+-- post in their own names.
 pub record IsNoted {T : Type 0} (s : State T) : Type 0 where
   pub run : 0 < s.room → Run (start_of s.mail) (events_of s.trail) s.mail
   pub counted : 0 < s.room → s.count ≡ length s.trail

@@ -7,14 +7,14 @@ use std::hint::spin_loop;
 use std::sync::Condvar;
 use std::thread::yield_now;
 
-// How often a thread that waits looks before it lets others run, and how often it lets them run before it sleeps: to sleep and to be woken
-// costs some ten microseconds, and a letter that answers one's own mostly comes sooner.
+// How often a thread that waits looks before it lets others run, and how often it lets them run before it sleeps: to
+// sleep and to be woken costs some ten microseconds, and a letter that answers one's own mostly comes sooner.
 const LOOKS: u32 = 100;
 
 const YIELDS: u32 = 200;
 
-// The bell of a box. It counts its rings, and says nothing of the box: who hears it looks under the lock. It has cache lines of its own, so that those
-// who look at one bell don't slow who rings another.
+// The bell of a box. It counts its rings, and says nothing of the box: who hears it looks under the lock. It has cache
+// lines of its own, so that those who look at one bell don't slow who rings another.
 #[derive(Drop)]
 pub(crate) struct Bell {
     pub(crate) changed: Condvar,

@@ -5,8 +5,8 @@ use std::sync::ledger::Ledger;
 
 /// The name of a mail in the types, which its seats share, so that a seat fits no other mail.
 ///
-/// It fixes the numbers that the mail was made with, and is the ledger of its calls. Code that calls a mail is generic over the name;
-/// who makes the mail calls that code with `Brand`.
+/// It fixes the numbers that the mail was made with, and is the ledger of its calls. Code that calls a mail is generic
+/// over the name; who makes the mail calls that code with `Brand`.
 pub trait MailBrand: Ledger {
     ghost use Rattle.std.specs.Prelude.{ℕ};
 

@@ -2,7 +2,8 @@
 
 use thiserror::Error;
 
-/// No more calls can be noted: the trail has no place left, or the count of calls is at its last value. The call was not made.
+/// No more calls can be noted: the trail has no place left, or the count of calls is at its last value. The call was
+/// not made.
 #[derive(Clone, Copy, Debug, PartialEq, Eq, Error)]
 #[error("no place is left in the trail")]
 pub struct TrailFull;

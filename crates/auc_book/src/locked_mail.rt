@@ -55,8 +55,8 @@ impl<T: Copy, N: MailBrand> LockedMail<T, N> {
         &self.state
     }
 
-    // Makes the call of the seat's worker, and notes it here and there. None where no more can be noted: then the seat counts that it was
-    // turned away.
+    // Makes the call of the seat's worker, and notes it here and there. None where no more can be noted: then the seat
+    // counts that it was turned away.
     #[tactic(auto, using(crate::proofs::LockedMailLaws::place_left))]
     fn note(&mut self, seat: &mut Seat<T, N>, call: Call<T>) -> Option<Reply<T>>
         requires fits { FitsIn N.workers N.boxes call }

@@ -11,10 +11,11 @@ use std::alloc::{AllocError, Global};
 use std::marker::Model;
 use std::sync::ledger::{Book, Share};
 
-/// A worker's seat at a shared mail: it counts his calls, and notes them where the mail keeps a trail. Calls that are turned away are
-/// counted apart.
+/// A worker's seat at a shared mail: it counts his calls, and notes them where the mail keeps a trail. Calls that are
+/// turned away are counted apart.
 ///
-/// Its count is his share of the ledger of all calls, whose total lies under the mail's lock. So it rises only where a call was made there.
+/// Its count is his share of the ledger of all calls, whose total lies under the mail's lock. So it rises only where a
+/// call was made there.
 ///
 /// Contracts see it as the `Account` of `specs/Seat.antt`.
 #[derive(Drop)]
@@ -78,7 +79,8 @@ impl<T: Copy, N: MailBrand> Seat<T, N> {
         self.calls
     }
 
-    /// How many of his calls were turned away, since no more could be noted. It stops at its last value. Takes O(1) time.
+    /// How many of his calls were turned away, since no more could be noted. It stops at its last value. Takes O(1)
+    /// time.
     pub fn turned_away(&self) -> u64
         ensures { result ≡ self.now.turned_away }
     {

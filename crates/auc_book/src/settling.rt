@@ -35,7 +35,8 @@ fn take_seat<T: Copy, N: MailBrand>(seats: &mut Vec<Seat<T, N>>, worker: u32) ->
     }
 }
 
-// Whether the seat tells the truth of the trail: its lines are those of its worker, and no call was turned away while a place was left.
+// Whether the seat tells the truth of the trail: its lines are those of its worker, and no call was turned away while a
+// place was left.
 fn is_true_of<T: Copy + Eq, N: MailBrand>(seat: &Seat<T, N>, lines: &[TrailLine<T>]) -> bool
     requires { EqualIsSame T.eq }
     ensures { IsTrue result ↔ IsTrueOf N.room lines.now seat.now }
@@ -46,7 +47,8 @@ fn is_true_of<T: Copy + Eq, N: MailBrand>(seat: &Seat<T, N>, lines: &[TrailLine<
     same_lines(lines, seat.worker(), seat.lines())
 }
 
-// Compares the seats with the trail. They are taken out in the workers' order, whatever order they came in, and none may be left.
+// Compares the seats with the trail. They are taken out in the workers' order, whatever order they came in, and none
+// may be left.
 pub(crate) fn settle<T: Copy + Eq, N: MailBrand>(
     locked: LockedMail<T, N>,
     workers: u32,

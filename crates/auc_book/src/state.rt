@@ -19,8 +19,8 @@ use std::marker::Model;
 
 /// A mail with a count of its calls and, where it was made with room for them, a trail: a line for each call.
 ///
-/// Workers are numbered from 0, and are the senders: worker `k` posts as sender `k`. Where there is a trail, its calls lead from the
-/// empty mail to this one, and the count is its length. No call but `make` takes memory.
+/// Workers are numbered from 0, and are the senders: worker `k` posts as sender `k`. Where there is a trail, its calls
+/// lead from the empty mail to this one, and the count is its length. No call but `make` takes memory.
 ///
 /// Contracts see it as the `State` of `specs/State.antt`.
 #[derive(Drop)]
@@ -46,10 +46,11 @@ impl<T: Copy> Model for MailState<T> {
 impl<T: Copy> MailState<T> {
     /// The empty mail, with nothing counted and nothing noted.
     ///
-    /// `boxes`, `nodes`, `most` and `blank` are those of `MailPool::make`, and `workers` its senders. The trail has room for `room` lines;
-    /// with 0 there is none.
+    /// `boxes`, `nodes`, `most` and `blank` are those of `MailPool::make`, and `workers` its senders. The trail has
+    /// room for `room` lines; with 0 there is none.
     ///
-    /// Errors, in this order: those of `MailPool::make` of its limits; `TooMuchRoom` above `MOST_ROOM`; `NoMemory` where memory was refused.
+    /// Errors, in this order: those of `MailPool::make` of its limits; `TooMuchRoom` above `MOST_ROOM`; `NoMemory`
+    /// where memory was refused.
     ///
     /// Takes the time and memory of `MailPool::make`, and memory for `room` lines.
     pub fn make(
@@ -143,8 +144,8 @@ impl<T: Copy> MailState<T> {
 
     /// Posts `item` to the box `to` in the worker's name, and answers the letter's number in its lane, from 1.
     ///
-    /// Refused, in this order: `TrailFull` where no more calls can be noted, with nothing changed and nothing noted; `Closed`,
-    /// `Spent` and `Full` as by `MailPool::post`, which are noted. Takes O(1) time.
+    /// Refused, in this order: `TrailFull` where no more calls can be noted, with nothing changed and nothing noted;
+    /// `Closed`, `Spent` and `Full` as by `MailPool::post`, which are noted. Takes O(1) time.
     pub fn post(&mut self, worker: u32, to: u32, item: T, reserve: u32) -> Result<u64, CallRefused>
         requires { HasLane self.old.mail to worker }
         ensures { Calls self.old worker (Call.Post worker to item reserve) (post_reply result) self.new }
@@ -195,8 +196,8 @@ impl<T: Copy> MailState<T> {
         }
     }
 
-    /// What every state keeps: where there is a trail, it is a run from the empty mail to this one. This is a law, and does nothing:
-    /// proofs above cite it.
+    /// What every state keeps: where there is a trail, it is a run from the empty mail to this one. This is a law, and
+    /// does nothing: proofs above cite it.
     pub fn every_state_is_noted(&self)
         ensures { IsNoted self.now }
     {

@@ -1,4 +1,5 @@
--- What a search for a full assignment may find in a problem, the text that tells it, and which findings are right for the bytes of a problem.
+-- What a search for a full assignment may find in a problem, the text that tells it, and which findings are right for
+-- the bytes of a problem.
 use Rattle.std.specs.Prelude.{ℕ, List, ◌++◌, ◌≤◌, length, codes, Option, Result, Ok, Err, ⊤}
 use Rattle.auc_graph.specs.declared.limits.TheConstants.{MOST_PERSONS}
 use Rattle.auc_graph.specs.Problem.{Problem}

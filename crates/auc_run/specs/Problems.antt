@@ -10,8 +10,8 @@ use Rattle.auc_run.specs.declared.input.ReadFault.TheVariants.{Failed, TooManyRe
 use Rattle.auc_run.specs.declared.refusal.Refusal.{Refusal}
 use Rattle.auc_run.specs.declared.refusal.Refusal.TheVariants.{NotRead, NoProblem, NoCertificate, Invalid, NoStart, NoScript, NoMemory as NoMemoryForJob, NoThreads}
 
--- A file reads as this problem, with so many objects, where 0 stands for as many as persons, or by this first fault as none. Of a read that failed, and of want of memory, nothing is known; too many reads
--- have each taken a byte.
+-- A file reads as this problem, with so many objects, where 0 stands for as many as persons, or by this first fault as
+-- none. Of a read that failed, and of want of memory, nothing is known; too many reads have each taken a byte.
 abbrev pub ReadsAsProblem : ℕ → List ℕ → Result Problem ReadError → Type 0
 ReadsAsProblem objects file (Err NoMemory) = ⊤
 ReadsAsProblem objects file (Err ReadFault) = ⊤
@@ -26,14 +26,15 @@ IsProblemOf objects file p = ReadsAsProblem objects file (Ok p)
 abbrev pub AreKnown : Option (List ℕ) → List ℕ → Type 0
 AreKnown known bytes = IfSome known (λ xs. bytes ≡ xs)
 
--- The bytes of an input that is read whole bear out why it was not read to its end: too many reads have each taken a byte. Of a read that failed, and of
--- want of memory, nothing is known.
+-- The bytes of an input that is read whole bear out why it was not read to its end: too many reads have each taken a
+-- byte. Of a read that failed, and of want of memory, nothing is known.
 abbrev pub BearOutInput : List ℕ → InputFault → Type 0
 BearOutInput bytes Failed = ⊤
 BearOutInput bytes TooManyInputReads = MOST_READS ≤ length bytes
 BearOutInput bytes NoMemoryToRead = ⊤
 
--- The bytes of a problem bear out the refusal of a job that has no other input. Of want of memory after the reading nothing is known.
+-- The bytes of a problem bear out the refusal of a job that has no other input. Of want of memory after the reading
+-- nothing is known.
 abbrev pub BearOutRefusal : ℕ → List ℕ → Refusal → Type 0
 BearOutRefusal objects file (NoProblem error) = ReadsAsProblem objects file (Err error)
 BearOutRefusal objects file (NotRead fault) = ⊥

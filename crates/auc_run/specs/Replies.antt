@@ -8,7 +8,8 @@ use Rattle.auc_script.specs.Script.{ReadsAsScript}
 use Rattle.auc_script.specs.Replies.{AreRepliesTo}
 use Rattle.auc_run.specs.Problems.{AreKnown, BearOutInput}
 
--- The bytes of a script bear the replies out, or the refusal. Of a read that failed and of want of memory nothing is known.
+-- The bytes of a script bear the replies out, or the refusal. Of a read that failed and of want of memory nothing is
+-- known.
 abbrev pub BearOutReplies : List ℕ → Result (List (Reply ℤ)) Refusal → Type 0
 BearOutReplies file (Ok replies) = (s : Script) × ReadsAsScript file (Ok s) × AreRepliesTo s replies
 BearOutReplies file (Err (NoScript error)) = ReadsAsScript file (Err error)

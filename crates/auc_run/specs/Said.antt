@@ -26,8 +26,9 @@ abbrev pub reported : {X : Type 0} → (X → Report) → Result X Refusal → R
 reported report (Ok x) = Ok (report x)
 reported report (Err refusal) = Err refusal
 
--- The bytes of the two inputs bear the outcome of the job out: an answer about the problem, a verdict on the certificate's claim, a full
--- assignment or the certificate that there is none, or the replies of a run of the mail. A solve in one hand may be watched.
+-- The bytes of the two inputs bear the outcome of the job out: an answer about the problem, a verdict on the
+-- certificate's claim, a full assignment or the certificate that there is none, or the replies of a run of the mail. A
+-- solve in one hand may be watched.
 abbrev pub BearOutJob : Watched → Job → List ℕ → List ℕ → Result Report Refusal → Type 0
 BearOutJob w (Solve workers bids audit objects from direct) file cert outcome =
     let n : SolveNumbers =
@@ -45,7 +46,8 @@ abbrev pub IsOutcome : Watched → Job → Option (List ℕ) → Option (List �
 IsOutcome w job first second outcome =
     (file : List ℕ) × (cert : List ℕ) × AreKnown first file × AreKnown second cert × BearOutJob w job file cert outcome
 
--- a job that nobody watches wrote, after what the writer had, the text of an outcome on what the two readers had, and gave its status
+-- a job that nobody watches wrote, after what the writer had, the text of an outcome on what the two readers had, and
+-- gave its status
 abbrev pub Said : Job → Option (List ℕ) → Option (List ℕ) → Option (List ℕ) → Option (List ℕ) → ℕ → Type 0
 Said job first second before after status =
     (outcome : Result Report Refusal) × IsOutcome onward job first second outcome × Appends before after (outcome_text outcome)
@@ -56,8 +58,8 @@ abbrev pub SaidInPart : Job → Option (List ℕ) → Option (List ℕ) → Opti
 SaidInPart job first second before after =
     (outcome : Result Report Refusal) × IsOutcome onward job first second outcome × Begins before after (outcome_text outcome)
 
--- How a job ended that has this outcome: its text stands after what the writer had, or a beginning of it where the status says so; and the
--- refusal, and the limit that ended a search, are the outcome's.
+-- How a job ended that has this outcome: its text stands after what the writer had, or a beginning of it where the
+-- status says so; and the refusal, and the limit that ended a search, are the outcome's.
 pub record EndsBy (before after : Option (List ℕ)) (outcome : Result Report Refusal) (ending : Ending) : Type 0 where
   pub whole : ending.status ≢ 8 → Appends before after (outcome_text outcome) × (ending.status ≡ outcome_status outcome)
   pub cut : ending.status ≡ 8 → Begins before after (outcome_text outcome)

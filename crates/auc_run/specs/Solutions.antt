@@ -1,4 +1,5 @@
--- What a solve may answer about a problem, the text that tells it, and which answers are right for the bytes of a problem.
+-- What a solve may answer about a problem, the text that tells it, and which answers are right for the bytes of a
+-- problem.
 use Rattle.std.specs.Prelude.{◌⊎◌, ℕ, zero, suc, Bool, true, false, List, codes, Option, None, Result, Ok, Err, ⊤, pos}
 use Rattle.auc_graph.specs.Problem.{Problem}
 use Rattle.auc_cert.specs.Text.{text}
@@ -21,8 +22,9 @@ use Rattle.auc_run.specs.Problems.{AreKnown, BearOutRefusal, IsProblemOf}
 abbrev pub limits_of : ℕ → Limits
 limits_of bids = record { shards = 1; bids = bids; posts = 1000000000000; audit = 0; nodes = 0 }
 
--- The bytes of a problem bear an answer out, or the refusal. An answer is a certificate in which the checker finds no fault: of a least
--- assignment, of an assignment and a bound, or that there is none; and it is that of a run by so many bids. No guard is hit.
+-- The bytes of a problem bear an answer out, or the refusal. An answer is a certificate in which the checker finds no
+-- fault: of a least assignment, of an assignment and a bound, or that there is none; and it is that of a run by so many
+-- bids. No guard is hit.
 abbrev pub BearOutSolved : SolveNumbers → List ℕ → Result Answer Refusal → Type 0
 BearOutSolved n file (Ok answer) =
     (p : Problem) × IsProblemOf n.objects file p × IsAnswer p answer × IsOfRun p (limits_of n.bids) None answer
@@ -49,18 +51,20 @@ IsLimitedOr true answer Holds = Holds ⊎ IsStopTold answer
 abbrev pub IsHeeded : Watched → Problem → Answer → Type 0 → Type 0
 IsHeeded w p answer Holds = IsAsked w.asked p answer × IsLimitedOr w.stopped answer Holds
 
--- The same of a solve in one hand. Where an answer is an assignment and a bound, the bids ran out, or somebody would bid more than the
--- greatest price; or who watches has stopped it.
+-- The same of a solve in one hand. Where an answer is an assignment and a bound, the bids ran out, or somebody would
+-- bid more than the greatest price; or who watches has stopped it.
 abbrev pub BearOutDirect : Watched → SolveNumbers → List ℕ → Result Answer Refusal → Type 0
 BearOutDirect w n file (Ok answer) =
     (p : Problem) × IsProblemOf n.objects file p × IsAnswer p answer × IsHeeded w p answer (IsLimited p n.bids (pos 0) answer)
 BearOutDirect w n file (Err refusal) = BearOutRefusal n.objects file refusal
 
--- the limits of a solve with threads: so many shards of each kind, bids, and places in each trail, and else the usual numbers
+-- the limits of a solve with threads: so many shards of each kind, bids, and places in each trail, and else the usual
+-- numbers
 abbrev pub thread_limits_of : SolveNumbers → Limits
 thread_limits_of n = record { shards = n.workers; bids = n.bids; posts = 1000000000000; audit = n.audit; nodes = 0 }
 
--- The same of a solve with threads. An answer is that of its phases, of which the last one decides; it may be a guard that was hit.
+-- The same of a solve with threads. An answer is that of its phases, of which the last one decides; it may be a guard
+-- that was hit.
 abbrev pub BearOutThreads : SolveNumbers → List ℕ → Result Answer Refusal → Type 0
 BearOutThreads n file (Ok answer) =
     (p : Problem) × IsProblemOf n.objects file p × IsThreadAnswer p answer

@@ -1,4 +1,5 @@
--- A solve that starts from the prices of an old certificate, and which answers are right for the bytes of a problem and of the certificate.
+-- A solve that starts from the prices of an old certificate, and which answers are right for the bytes of a problem and
+-- of the certificate.
 use Rattle.std.specs.Prelude.{◌≡◌, ◌==◌, ℕ, zero, suc, Bool, true, false, List, length, ℤ, Option, Some, Result, Ok, Err, ⊤, if◌then◌else◌}
 use Rattle.auc_graph.specs.Problem.{Problem}
 use Rattle.auc_claim.specs.declared.cert.CertParts.{CertParts}
@@ -40,14 +41,16 @@ start_for false p claim = start_of p claim
 
 -- ---- both files
 
--- the problem that one file is, and the prices from which it is to be solved: those of the certificate that the other file spells
+-- the problem that one file is, and the prices from which it is to be solved: those of the certificate that the other
+-- file spells
 pub record IsStartOf (direct : Bool) (objects : ℕ) (file cert : List ℕ) (p : Problem) (start : List ℤ) : Type 0 where
   pub claim : CertParts
   pub problem : IsProblemOf objects file p
   pub certificate : IsClaimOf cert claim
   pub prices : start_for direct p claim ≡ Ok start
 
--- the first file is a problem, the other spells a certificate, and this is the first reason why its prices can't start a solve
+-- the first file is a problem, the other spells a certificate, and this is the first reason why its prices can't start
+-- a solve
 pub record IsNoStart (direct : Bool) (objects : ℕ) (file cert : List ℕ) (error : StartError) : Type 0 where
   pub p : Problem
   pub claim : CertParts
@@ -80,7 +83,9 @@ BearOutStart direct objects file cert (Err refusal) = BearOutNoStart direct obje
 
 -- a problem and a start that two readers have, or why there is none
 abbrev pub IsStartIn : Bool → ℕ → Option (List ℕ) → Option (List ℕ) → Result Started Refusal → Type 0
-IsStartIn direct objects first second started = (file : List ℕ) × (cert : List ℕ) × AreKnown first file × AreKnown second cert × BearOutStart direct objects file cert started
+IsStartIn direct objects first second started =
+    (file : List ℕ) × (cert : List ℕ) × AreKnown first file × AreKnown second cert
+    × BearOutStart direct objects file cert started
 
 -- an answer of a run by messages from these prices: by threads where there are so many workers, and not 0
 abbrev pub MessagesFrom : ℕ → SolveNumbers → Problem → List ℤ → Answer → Type 0
@@ -98,7 +103,8 @@ abbrev pub MayLackThreads : ℕ → Type 0
 MayLackThreads zero = ⊥
 MayLackThreads (suc workers) = ⊤
 
--- The two files bear the answer of a solve from a start out, or the refusal. Of want of memory after the reading nothing is known.
+-- The two files bear the answer of a solve from a start out, or the refusal. Of want of memory after the reading
+-- nothing is known.
 abbrev pub BearOutFrom : Watched → SolveNumbers → List ℕ → List ℕ → Result Answer Refusal → Type 0
 BearOutFrom w n file cert (Ok answer) =
     (p : Problem) × (start : List ℤ) × IsStartOf n.direct n.objects file cert p start × AnswersFrom n.direct w n p start answer

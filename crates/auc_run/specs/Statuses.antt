@@ -1,5 +1,5 @@
--- The status that the program gives for a refusal: 3 for a claim that doesn't hold, 5 for an input that can't be read or is none of its kind,
--- and 6 where memory ran out.
+-- The status that the program gives for a refusal: 3 for a claim that doesn't hold, 5 for an input that can't be read
+-- or is none of its kind, and 6 where memory ran out.
 use Rattle.std.specs.Prelude.{ℕ}
 use Rattle.auc_graph.specs.declared.read_error.ReadError.{ReadError}
 use Rattle.auc_graph.specs.declared.read_error.ReadError.TheVariants.{Empty, BadNumber, CountRange, TooManyArcs, PersonRange, ObjectRange, CostRange, Cut, NoMemory, ReadFault, TooManyReads, TooFewObjects}

@@ -1,4 +1,5 @@
--- Which verdicts are right for a problem and a certificate, and for the bytes of both. A verdict is what a valid claim says, or a refusal.
+-- Which verdicts are right for a problem and a certificate, and for the bytes of both. A verdict is what a valid claim
+-- says, or a refusal.
 use Rattle.std.specs.Prelude.{◌≡◌, ℕ, List, length, Option, Result, Ok, Err, ⊤}
 use Rattle.auc_graph.specs.Problem.{Problem}
 use Rattle.auc_graph.specs.Memory.{AnswersUnless}
@@ -31,8 +32,9 @@ said_by (Infeasible persons objects) = Valid.Infeasible (length persons) (length
 abbrev pub IsCheckOf : Problem → CertParts → Result ⊤ CertRefused → Type 0
 IsCheckOf p c answer = AnswersUnless NoMemoryToCheck (λ x. x) answer (IsVerdictOn (fault_of p c))
 
--- A verdict on a problem and a claim. A valid claim is true: its picks are an assignment of this cost, and none costs less, whatever the prices, or than its bound; or its
--- persons together know fewer objects than they number. An invalid one has this first fault.
+-- A verdict on a problem and a claim. A valid claim is true: its picks are an assignment of this cost, and none costs
+-- less, whatever the prices, or than its bound; or its persons together know fewer objects than they number. An invalid
+-- one has this first fault.
 abbrev pub Judges : Problem → CertParts → Result Valid Refusal → Type 0
 Judges p c (Ok valid) = IsCheckOf p c (Ok tt) × IsAllowed p c × (said_by c ≡ valid)
 Judges p c (Err (Invalid error)) = IsCheckOf p c (Err error)
@@ -44,11 +46,13 @@ Judges p c (Err (NoScript error)) = ⊥
 Judges p c (Err NoMemoryForJob) = ⊥
 Judges p c (Err NoThreads) = ⊥
 
--- The bytes of a problem and of a certificate bear a verdict out. Where a read of the certificate failed, or memory ran out, nothing is known of it; too many reads have each
--- taken a byte of it.
+-- The bytes of a problem and of a certificate bear a verdict out. Where a read of the certificate failed, or memory ran
+-- out, nothing is known of it; too many reads have each taken a byte of it.
 abbrev pub BearOut : ℕ → List ℕ → List ℕ → Result Valid Refusal → Type 0
-BearOut objects file cert (Ok valid) = (p : Problem) × (c : CertParts) × IsProblemOf objects file p × IsClaimOf cert c × Judges p c (Ok valid)
-BearOut objects file cert (Err (Invalid error)) = (p : Problem) × (c : CertParts) × IsProblemOf objects file p × IsClaimOf cert c × Judges p c (Err (Invalid error))
+BearOut objects file cert (Ok valid) =
+    (p : Problem) × (c : CertParts) × IsProblemOf objects file p × IsClaimOf cert c × Judges p c (Ok valid)
+BearOut objects file cert (Err (Invalid error)) =
+    (p : Problem) × (c : CertParts) × IsProblemOf objects file p × IsClaimOf cert c × Judges p c (Err (Invalid error))
 BearOut objects file cert (Err (NoCertificate (Line k))) = (p : Problem) × IsProblemOf objects file p × IsFirstBadLine cert k
 BearOut objects file cert (Err (NoCertificate NoMemoryForText)) = ⊤
 BearOut objects file cert (Err (NoProblem error)) = ReadsAsProblem objects file (Err error)
@@ -60,4 +64,5 @@ BearOut objects file cert (Err NoThreads) = ⊥
 
 -- a verdict on what two readers have
 abbrev pub IsVerdict : ℕ → Option (List ℕ) → Option (List ℕ) → Result Valid Refusal → Type 0
-IsVerdict objects first second verdict = (file : List ℕ) × (cert : List ℕ) × AreKnown first file × AreKnown second cert × BearOut objects file cert verdict
+IsVerdict objects first second verdict =
+    (file : List ℕ) × (cert : List ℕ) × AreKnown first file × AreKnown second cert × BearOut objects file cert verdict

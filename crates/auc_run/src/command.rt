@@ -35,22 +35,24 @@ pub const MOST_BIDS: u64 = 1_000_000_000_000;
 /// What the program is to do.
 #[derive(Clone, Copy, Debug, PartialEq, Eq)]
 pub enum Job {
-    /// Reads a problem from the first reader, and finds an assignment of least cost with prices that show it, or persons who
-    /// together know too few objects; or, where the bids don't do, an assignment and a bound below which none costs.
+    /// Reads a problem from the first reader, and finds an assignment of least cost with prices that show it, or
+    /// persons who together know too few objects; or, where the bids don't do, an assignment and a bound below which
+    /// none costs.
     Solve {
         /// How many threads do the work of each kind of shard: 0 to 16, and 0 for none.
         workers: u32,
         /// How many bids each shard of the persons may make in a phase: 1 to [`MOST_BIDS`].
         bids: u64,
-        /// How many calls the trail of each mail may note, by which the phases are judged: 0 to 1,000,000, and 0 for no trail. Without
-        /// threads there is none.
+        /// How many calls the trail of each mail may note, by which the phases are judged: 0 to 1,000,000, and 0 for no
+        /// trail. Without threads there is none.
         audit: u32,
         /// How many objects the problem has: to 20,000, and 0 for as many as persons.
         objects: u32,
-        /// Whether it starts from the prices of an old certificate, which the second reader has: see [`auc_claim::start_prices`]; in one hand any
-        /// prices will do, one for each object, from 0 to 2^60.
+        /// Whether it starts from the prices of an old certificate, which the second reader has: see
+        /// [`auc_claim::start_prices`]; in one hand any prices will do, one for each object, from 0 to 2^60.
         from: bool,
-        /// Whether it is solved in one hand, by [`auc_direct::solve_direct`], in place of by messages: then there are no workers and no trail.
+        /// Whether it is solved in one hand, by [`auc_direct::solve_direct`], in place of by messages: then there are
+        /// no workers and no trail.
         direct: bool,
     },
     /// Reads a problem from the first reader and a certificate from the second, and says whether what the certificate
@@ -59,8 +61,8 @@ pub enum Job {
         /// How many objects the problem has, as for a solve.
         objects: u32,
     },
-    /// Reads a problem from the first reader, and finds an arc for each person, no object twice, or persons who together
-    /// know too few objects.
+    /// Reads a problem from the first reader, and finds an arc for each person, no object twice, or persons who
+    /// together know too few objects.
     Hall {
         /// How many objects the problem has, as for a solve.
         objects: u32,
@@ -108,8 +110,8 @@ fn judge(alloc: Global, problem: &ArcList, cert: &Cert) -> Result<Valid, Refusal
     Ok(valid)
 }
 
-/// What the certificate of the second reader says, where its claim holds of the first reader's problem. The second reader
-/// is read once the problem is accepted.
+/// What the certificate of the second reader says, where its claim holds of the first reader's problem. The second
+/// reader is read once the problem is accepted.
 fn verdict_of<R: Read, Q: Read>(
     alloc: Global,
     reader: &mut R,
@@ -139,7 +141,8 @@ fn outcome_of<R: Read, Q: Read, V: Watch>(
     ensures outcome { IsOutcome (watched (V.has_stopped watch.new) (V.was_asked watch.new)) job.now (R.remaining reader.old)
         (Q.remaining second.old) result }
     ensures writable { IfOk result IsWritable }
-    ensures unread { IfSome (R.remaining reader.old) (λ file. IsErr (reading MOST_ARCS (objects_of job.now) file) → second.new ≡ second.old) }
+    ensures unread { IfSome (R.remaining reader.old)
+        (λ file. IsErr (reading MOST_ARCS (objects_of job.now) file) → second.new ≡ second.old) }
     ensures alone { has_second job.now ≡ false → second.new ≡ second.old }
 {
     match job {
@@ -203,25 +206,27 @@ fn perform_plainly<R: Read, Q: Read, W: Write, V: Watch>(
     requires plain { IsPlain job.now }
     ensures ended { Ended (watched (V.has_stopped watch.new) (V.was_asked watch.new)) job.now (R.remaining reader.old)
         (Q.remaining second.old) (W.contents writer.old) (W.contents writer.new) result }
-    ensures unread { IfSome (R.remaining reader.old) (λ file. IsErr (reading MOST_ARCS (objects_of job.now) file) → second.new ≡ second.old) }
+    ensures unread { IfSome (R.remaining reader.old)
+        (λ file. IsErr (reading MOST_ARCS (objects_of job.now) file) → second.new ≡ second.old) }
     ensures alone { has_second job.now ≡ false → second.new ≡ second.old }
 {
     let outcome = outcome_of(alloc, job, reader, second, watch);
     tell(writer, outcome)
 }
 
-/// Does a job that starts no thread: reads `reader` and, where the job wants it, `second`, writes the answer to `writer`, and gives the
-/// status, one of [`crate::status`]. Each reader is read to its end, by at most [`MOST_READS`] reads, and a failed read
-/// is never tried again. The writer is not flushed.
+/// Does a job that starts no thread: reads `reader` and, where the job wants it, `second`, writes the answer to
+/// `writer`, and gives the status, one of [`crate::status`]. Each reader is read to its end, by at most [`MOST_READS`]
+/// reads, and a failed read is never tried again. The writer is not flushed.
 ///
-/// Where the status is [`crate::status::UNWRITTEN`] a write failed, or took no bytes: a beginning of the answer was written, and not all of it.
+/// Where the status is [`crate::status::UNWRITTEN`] a write failed, or took no bytes: a beginning of the answer was
+/// written, and not all of it.
 ///
-/// A problem is read piece by piece; a certificate and a script are read whole. A solve takes the time of the auction, by
-/// [`auc_world::solve_serial`], or in one hand by [`auc_direct::solve_direct`], and of one check. It takes 28 bytes of memory an arc and
-/// what its shards and mails take, which is linear in the persons; in one hand what [`auc_direct::solve_direct`] tells. A check takes
-/// O(bytes) time, and 16 bytes of memory an arc and that of the certificate's text. A hall takes the time of its search, see
-/// [`auc_hall::complete`], and 28 bytes of memory an arc. A mail takes the time of its calls, and memory for its script, its lanes, its
-/// letters and a reply for each call.
+/// A problem is read piece by piece; a certificate and a script are read whole. A solve takes the time of the auction,
+/// by [`auc_world::solve_serial`], or in one hand by [`auc_direct::solve_direct`], and of one check. It takes 28 bytes
+/// of memory an arc and what its shards and mails take, which is linear in the persons; in one hand what
+/// [`auc_direct::solve_direct`] tells. A check takes O(bytes) time, and 16 bytes of memory an arc and that of the
+/// certificate's text. A hall takes the time of its search, see [`auc_hall::complete`], and 28 bytes of memory an arc.
+/// A mail takes the time of its calls, and memory for its script, its lanes, its letters and a reply for each call.
 pub fn run_plain<R: Read, Q: Read, W: Write>(
     alloc: Global,
     job: &Job,
@@ -234,20 +239,26 @@ pub fn run_plain<R: Read, Q: Read, W: Write>(
     // It has no workers.
     requires plain { IsPlain job.now }
     // What was written and the status are right for the bytes that were read.
-    ensures said { result ≢ 8 → Said job.now (R.remaining reader.old) (Q.remaining second.old) (W.contents writer.old) (W.contents writer.new) result }
+    ensures said { result ≢ 8
+        → Said job.now (R.remaining reader.old) (Q.remaining second.old) (W.contents writer.old)
+        (W.contents writer.new) result }
     // Where not all of it could be written, a beginning of such a text was.
-    ensures unwritten { result ≡ 8 → SaidInPart job.now (R.remaining reader.old) (Q.remaining second.old) (W.contents writer.old) (W.contents writer.new) }
+    ensures unwritten { result ≡ 8
+        → SaidInPart job.now (R.remaining reader.old) (Q.remaining second.old) (W.contents writer.old)
+        (W.contents writer.new) }
     // A certificate for what is no problem is left unread.
-    ensures unread { IfSome (R.remaining reader.old) (λ file. IsErr (reading MOST_ARCS (objects_of job.now) file) → second.new ≡ second.old) }
+    ensures unread { IfSome (R.remaining reader.old)
+        (λ file. IsErr (reading MOST_ARCS (objects_of job.now) file) → second.new ≡ second.old) }
     // Only a check, and a solve that starts from a certificate, has a second input.
     ensures alone { has_second job.now ≡ false → second.new ≡ second.old }
 {
     perform_plainly(alloc, job, reader, second, writer, &mut Onward).status
 }
 
-/// Does a job, as [`run_command`] does, and says how it ended: with its status, and why it was refused, where it was. A solve in one hand
-/// asks the watch whether it goes on, see [`auc_direct::solve_direct_watched`]; no other job does. Where it has said no, an answer is as right
-/// as any other: it may be an assignment and a bound that no limit has made.
+/// Does a job, as [`run_command`] does, and says how it ended: with its status, and why it was refused, where it was. A
+/// solve in one hand asks the watch whether it goes on, see [`auc_direct::solve_direct_watched`]; no other job does.
+/// Where it has said no, an answer is as right as any other: it may be an assignment and a bound that no limit has
+/// made.
 pub fn perform<H: Threads + Wait + Sync, R: Read, Q: Read, W: Write, G: Gate + Sync, V: Watch>(
     rt: &H,
     alloc: Global,
@@ -260,12 +271,13 @@ pub fn perform<H: Threads + Wait + Sync, R: Read, Q: Read, W: Write, G: Gate + S
 ) -> Ending
     // The job's numbers are those that its fields allow.
     requires range { IsInRange job.now }
-    // What was written, the status and the refusal are those of one outcome, which is right for the bytes that were read. A solve in one
-    // hand has asked the watch, but for a full table and where there is no assignment.
+    // What was written, the status and the refusal are those of one outcome, which is right for the bytes that were
+    // read. A solve in one hand has asked the watch, but for a full table and where there is no assignment.
     ensures ended { Ended (watched (V.has_stopped watch.new) (V.was_asked watch.new)) job.now (R.remaining reader.old)
         (Q.remaining second.old) (W.contents writer.old) (W.contents writer.new) result }
     // A certificate for what is no problem is left unread.
-    ensures unread { IfSome (R.remaining reader.old) (λ file. IsErr (reading MOST_ARCS (objects_of job.now) file) → second.new ≡ second.old) }
+    ensures unread { IfSome (R.remaining reader.old)
+        (λ file. IsErr (reading MOST_ARCS (objects_of job.now) file) → second.new ≡ second.old) }
     // Only a check, and a solve that starts from a certificate, has a second input.
     ensures alone { has_second job.now ≡ false → second.new ≡ second.old }
 {
@@ -294,10 +306,12 @@ pub fn perform<H: Threads + Wait + Sync, R: Read, Q: Read, W: Write, G: Gate + S
     perform_plainly(alloc, job, reader, second, writer, watch)
 }
 
-/// Does a job, as [`run_plain`] does; but a solve with workers by threads, see [`auc_threads::solve_threads`]: a thread for each worker in each phase,
-/// and the caller's for the hub. Each worker passes the gate before each of its calls of a mail.
+/// Does a job, as [`run_plain`] does; but a solve with workers by threads, see [`auc_threads::solve_threads`]: a thread
+/// for each worker in each phase, and the caller's for the hub. Each worker passes the gate before each of its calls of
+/// a mail.
 ///
-/// Nothing is said of whether a solve with threads ends. Where a thread can't be started, those that run are ended, and the job is refused.
+/// Nothing is said of whether a solve with threads ends. Where a thread can't be started, those that run are ended, and
+/// the job is refused.
 pub fn run_command<H: Threads + Wait + Sync, R: Read, Q: Read, W: Write, G: Gate + Sync>(
     rt: &H,
     alloc: Global,
@@ -310,11 +324,16 @@ pub fn run_command<H: Threads + Wait + Sync, R: Read, Q: Read, W: Write, G: Gate
     // The job's numbers are those that its fields allow.
     requires range { IsInRange job.now }
     // What was written and the status are right for the bytes that were read.
-    ensures said { result ≢ 8 → Said job.now (R.remaining reader.old) (Q.remaining second.old) (W.contents writer.old) (W.contents writer.new) result }
+    ensures said { result ≢ 8
+        → Said job.now (R.remaining reader.old) (Q.remaining second.old) (W.contents writer.old)
+        (W.contents writer.new) result }
     // Where not all of it could be written, a beginning of such a text was.
-    ensures unwritten { result ≡ 8 → SaidInPart job.now (R.remaining reader.old) (Q.remaining second.old) (W.contents writer.old) (W.contents writer.new) }
+    ensures unwritten { result ≡ 8
+        → SaidInPart job.now (R.remaining reader.old) (Q.remaining second.old) (W.contents writer.old)
+        (W.contents writer.new) }
     // A certificate for what is no problem is left unread.
-    ensures unread { IfSome (R.remaining reader.old) (λ file. IsErr (reading MOST_ARCS (objects_of job.now) file) → second.new ≡ second.old) }
+    ensures unread { IfSome (R.remaining reader.old)
+        (λ file. IsErr (reading MOST_ARCS (objects_of job.now) file) → second.new ≡ second.old) }
     // Only a check, and a solve that starts from a certificate, has a second input.
     ensures alone { has_second job.now ≡ false → second.new ≡ second.old }
 {

@@ -53,8 +53,8 @@ fn direct_answer_from<R: Read, Q: Read, V: Watch>(
     Ok(answer)
 }
 
-/// What is answered without threads about the first reader's problem, in one hand or by messages; from nothing, or from the prices of the
-/// second reader's certificate. The watch may stop the solver in one hand alone.
+/// What is answered without threads about the first reader's problem, in one hand or by messages; from nothing, or from
+/// the prices of the second reader's certificate. The watch may stop the solver in one hand alone.
 pub(crate) fn answer_alone<R: Read, Q: Read, V: Watch>(
     alloc: Global,
     reader: &mut R,

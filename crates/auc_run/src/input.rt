@@ -46,11 +46,11 @@ const PIECE: usize = 65_536;
 /// # Errors
 ///
 /// [`ReadFault::Failed`] at the first read that fails, also by an interrupt: no read is tried again.
-/// [`ReadFault::TooManyReads`] where `limit` reads gave bytes each. After an error the reader stands where the last read
-/// left it. [`ReadFault::NoMemory`] at once, where memory was refused, also before the first read.
+/// [`ReadFault::TooManyReads`] where `limit` reads gave bytes each. After an error the reader stands where the last
+/// read left it. [`ReadFault::NoMemory`] at once, where memory was refused, also before the first read.
 ///
-/// Takes O(length) time and memory, and 64 kB of memory for a piece, which are asked for before the first read: none of them lie on the
-/// stack.
+/// Takes O(length) time and memory, and 64 kB of memory for a piece, which are asked for before the first read: none of
+/// them lie on the stack.
 pub fn read_all<R: Read>(alloc: Global, reader: &mut R, limit: u32) -> Result<Vec<u8>, ReadFault>
     ensures whole { IfOk result (λ v. IfSome (R.remaining reader.old) (λ bytes. v.items ≡ bytes)) }
     ensures end { OnOk result (IsAtEnd (R.remaining reader.new)) }
@@ -61,7 +61,8 @@ pub fn read_all<R: Read>(alloc: Global, reader: &mut R, limit: u32) -> Result<Ve
     read_by_pieces(alloc, reader, limit, piece.as_mut_slice())
 }
 
-/// The same, through this room for a piece. A function of its own, so that the room comes from memory and not from the stack.
+/// The same, through this room for a piece. A function of its own, so that the room comes from memory and not from the
+/// stack.
 fn read_by_pieces<R: Read>(
     alloc: Global,
     reader: &mut R,

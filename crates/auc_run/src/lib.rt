@@ -1,8 +1,8 @@
 //! The jobs of the program, over any two readers and any writer: what is written, and the status, are right for the
 //! bytes that were read.
 //!
-//! A problem is read piece by piece, and none of its text is kept. A certificate and a script are read whole, and take as much memory as
-//! they have bytes.
+//! A problem is read piece by piece, and none of its text is kept. A certificate and a script are read whole, and take
+//! as much memory as they have bytes.
 #![tactic(auto)]
 
 mod command;

@@ -9,9 +9,9 @@ use crate::input::ReadFault;
 use crate::refusal::Refusal;
 use crate::valid::Valid;
 use auc_cert::{CertTextError, Part, WriteFault, write_counted, write_parts, write_whole};
-use auc_script::ScriptError;
 use auc_claim::{CertRefused, StartError};
 use auc_graph::ReadError;
+use auc_script::ScriptError;
 use std::io::Write;
 
 /// Writes the number from 1 on of what is numbered from 0.

@@ -159,7 +159,8 @@ fn reason_of(outcome: &Result<Report, Refusal>) -> Option<Reason>
 /// Writes the outcome of a job, and says how it ended: with status 8 where it was not written, or not all of it.
 pub(crate) fn tell<W: Write>(writer: &mut W, outcome: Result<Report, Refusal>) -> Ending
     requires { IfOk outcome IsWritable }
-    ensures whole { result.status ≢ 8 → Appends (W.contents writer.old) (W.contents writer.new) (outcome_text outcome) × (result.status ≡ outcome_status outcome) }
+    ensures whole { result.status ≢ 8 → Appends (W.contents writer.old) (W.contents writer.new) (outcome_text outcome)
+        × (result.status ≡ outcome_status outcome) }
     ensures cut { result.status ≡ 8 → Begins (W.contents writer.old) (W.contents writer.new) (outcome_text outcome) }
     ensures refusal { result.refusal ≡ refusal_of outcome }
     ensures reason { result.reason ≡ reason_of outcome }

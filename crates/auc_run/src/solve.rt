@@ -1,5 +1,5 @@
-//! The job of a solve: a problem is read, and a least-cost assignment is found, persons who together know too few objects, or an
-//! assignment and a bound.
+//! The job of a solve: a problem is read, and a least-cost assignment is found, persons who together know too few
+//! objects, or an assignment and a bound.
 
 ghost use Rattle.std.specs.Prelude.{◌≡◌, ◌≤◌, false, IfSome, IsErr};
 ghost use Rattle.auc_cert.specs.Writing.{Writes};
@@ -65,7 +65,8 @@ fn answer_from<R: Read, Q: Read>(
     Ok(answer)
 }
 
-/// What the solver answers about the first reader's problem: from nothing, or from the prices of the second reader's certificate.
+/// What the solver answers about the first reader's problem: from nothing, or from the prices of the second reader's
+/// certificate.
 pub(crate) fn answer_plainly<R: Read, Q: Read>(
     alloc: Global,
     reader: &mut R,
@@ -119,7 +120,8 @@ fn answer_by_threads<H: Threads + Wait + Sync, R: Read, G: Gate + Sync>(
     Ok(solved.answer)
 }
 
-/// What the solver in threads answers about the first reader's problem, from the prices of the second one's certificate.
+/// What the solver in threads answers about the first reader's problem, from the prices of the second one's
+/// certificate.
 fn answer_by_threads_from<H: Threads + Wait + Sync, R: Read, Q: Read, G: Gate + Sync>(
     rt: &H,
     alloc: Global,
@@ -140,7 +142,8 @@ fn answer_by_threads_from<H: Threads + Wait + Sync, R: Read, Q: Read, G: Gate + 
     Ok(solved.answer)
 }
 
-/// What the solver in threads answers about the first reader's problem: from nothing, or from the prices of the second reader's certificate.
+/// What the solver in threads answers about the first reader's problem: from nothing, or from the prices of the second
+/// reader's certificate.
 pub(crate) fn answer_in_threads<H: Threads + Wait + Sync, R: Read, Q: Read, G: Gate + Sync>(
     rt: &H,
     alloc: Global,

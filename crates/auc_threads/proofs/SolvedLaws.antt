@@ -73,7 +73,8 @@ module _ (p : Problem) (no_hall : (p : Problem) (persons objects : List ℕ) →
 
 -- ---- one phase more
 
--- What is known before a phase at this eps and these prices: after the phases so far, those from it on are a run from the first ones.
+-- What is known before a phase at this eps and these prices: after the phases so far, those from it on are a run from
+-- the first ones.
 abbrev pub IsReady : Problem → Table → Limits → ℤ → List ℤ → List PhaseEnd → ℤ → List ℤ → Type 0
 IsReady p t limits first from done eps prices = (later : List PhaseEnd) (answer : Answer) → Runs p t limits eps prices later answer → Runs p t limits first from (done ++ later) answer
 

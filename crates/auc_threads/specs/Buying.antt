@@ -36,8 +36,8 @@ made_in [] = []
 made_in (Hear x ∷ acts) = made_in acts
 made_in (Make o ∷ acts) = o ∷ made_in acts
 
--- How the worker goes on that asked for a bid, or took a letter, and left its shard so: its next person can't bid, for this reason; or no call could be
--- noted; or a letter doesn't fit, or tells a lower price.
+-- How the worker goes on that asked for a bid, or took a letter, and left its shard so: its next person can't bid, for
+-- this reason; or no call could be noted; or a letter doesn't fit, or tells a lower price.
 abbrev pub CantBid : Table → ℤ → Persons → Why → Type 0
 CantBid t eps n why = (n.idle ≢ []) × Stops t eps n (first_idle n) why
 
@@ -49,7 +49,8 @@ AfterActs t eps n fault Step.On = fault ≡ []
 AfterActs t eps n fault Step.Over = fault ≡ []
 AfterActs t eps n fault (Step.Stop why) = ((fault ≡ []) × CantBid t eps n why) ⊎ (((fault ≡ []) × (why ≡ Why.Trail)) ⊎ CantHear n fault why)
 
--- The worker asked for bids, and these more were made; then nobody was free, or it had enough of them, or the next person can't bid.
+-- The worker asked for bids, and these more were made; then nobody was free, or it had enough of them, or the next
+-- person can't bid.
 abbrev pub AfterAsks : Table → ℤ → Persons → Step → Type 0
 AfterAsks t eps n Step.On = Unit {0}
 AfterAsks t eps n Step.Over = ⊥
@@ -79,7 +80,8 @@ pub record Listens (t : Table) (eps : ℤ) (room at : ℕ) (s : Persons) (a : Ac
   pub listens : ListensTo t eps s letters n step
   pub taken : AfterTakes took.answers step
 
--- It bid and heard: it took just these letters from its box, and posted the bids in order, up to the first post that ends it.
+-- It bid and heard: it took just these letters from its box, and posted the bids in order, up to the first post that
+-- ends it.
 pub record Buys (t : Table) (eps : ℤ) (r : Rooms) (at : ℕ) (old new : Worker Persons) (step : Step) : Type 0 where
   pub acts : List Act
   pub fault : List Letter

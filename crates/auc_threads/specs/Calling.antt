@@ -33,8 +33,8 @@ turned_in (c ∷ cs) = turned_by c.reply + turned_in cs
 abbrev pub IsMore : ℕ → ℕ → ℕ → Type 0
 IsMore old n new = (new ≡ old + n) ⊎ ((18446744073709551615 ≤ new) × (18446744073709551615 ≤ old + n))
 
--- The worker made these calls at the mail, and no others. Its seat has counted them: those that were made, with their lines where there is
--- room for lines, and those that were turned away.
+-- The worker made these calls at the mail, and no others. Its seat has counted them: those that were made, with their
+-- lines where there is room for lines, and those that were turned away.
 pub record Makes (room : ℕ) (a : Account Letter) (calls : List Called) (b : Account Letter) : Type 0 where
   pub worker : b.worker ≡ a.worker
   pub counted : b.count ≡ a.count + length (lines_made a.worker calls)

@@ -41,8 +41,8 @@ GaveFirst (Ok Taken.Empty) = ⊥
 GaveFirst (Ok Taken.Over) = ⊥
 GaveFirst (Err e) = ⊥
 
--- How the hub ends a phase by a letter that is no First, and its own reason: a shard has stopped, and then it has none; or the letter
--- isn't the hub's.
+-- How the hub ends a phase by a letter that is no First, and its own reason: a shard has stopped, and then it has none;
+-- or the letter isn't the hub's.
 abbrev pub EndsFor : Letter → Option Why → Type 0
 EndsFor x why = (is_first x ≡ false) × (((is_stop x ≡ true) × (why ≡ None)) ⊎ ((is_stop x ≡ false) × (why ≡ Some Why.Stray)))
 
@@ -70,8 +70,9 @@ pub record Closes (room n : ℕ) (a b : Account Letter) : Type 0 where
   pub each : length answers ≡ n
   pub makes : Makes room a (calls_closed 0 answers) b
 
--- The hub took one First after another from its box, and then the last answer, and went on after no other. It says whether it took one
--- First for each person; then it closed its box. Where it didn't, the last answer has ended the phase.
+-- The hub took one First after another from its box, and then the last answer, and went on after no other. It says
+-- whether it took one First for each person; then it closed its box. Where it didn't, the last answer has ended the
+-- phase.
 pub record Counts (room persons : ℕ) (a : Account Letter) (is_all : Bool) (why : Option Why) (b : Account Letter) : Type 0 where
   pub heard : List Answer
   pub last : Answer

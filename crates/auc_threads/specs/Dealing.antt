@@ -23,7 +23,8 @@ others n one = filter (λ q. not (q == one)) (range_with_len 0 n)
 abbrev pub prices_told : Objects → ℕ → ℕ → ℕ → List Out
 prices_told s n one object = map (λ q. price_told s.persons q object (price_of s object)) (others n one)
 
--- What a shard says of a bid: its answers in order, and then, where it was accepted, the new price to each shard of the persons but the bidder's.
+-- What a shard says of a bid: its answers in order, and then, where it was accepted, the new price to each shard of the
+-- persons but the bidder's.
 abbrev pub says : ℤ → Objects → Bid → List Out
 says eps s bid =
     answers s.person_shards eps (sale_of s bid.object) bid
@@ -44,8 +45,8 @@ pub record Fits (s : Objects) (bid : Bid) : Type 0 where
   pub owns : Owns s bid.object
   pub amount : IsPrice bid.amount
 
--- How a worker goes on after letters of which the last ones don't fit: where there is none it goes on, or none will come any more, or no call could be
--- noted; and it stops at the first one.
+-- How a worker goes on after letters of which the last ones don't fit: where there is none it goes on, or none will
+-- come any more, or no call could be noted; and it stops at the first one.
 abbrev pub AfterLetters : Objects → List Letter → Step → Type 0
 AfterLetters t stray Step.On = stray ≡ []
 AfterLetters t stray Step.Over = stray ≡ []
@@ -58,7 +59,8 @@ AfterLetters t stray (Step.Stop Why.Posts) = ⊥
 AfterLetters t stray (Step.Stop Why.Mail) = ⊥
 AfterLetters t stray (Step.Stop Why.Fell) = ⊥
 
--- The letters are bids that fit the shard, which dealt with them one after another, and then perhaps one that is none. This is what it has to say.
+-- The letters are bids that fit the shard, which dealt with them one after another, and then perhaps one that is none.
+-- This is what it has to say.
 pub record DealsWith (eps : ℤ) (s : Objects) (letters : List Letter) (said : List Out) (t : Objects) (step : Step) : Type 0 where
   pub bids : List Bid
   pub stray : List Letter

@@ -31,8 +31,8 @@ pub record Falls (start : ℕ → ℤ) (letters : List Letter) : Type 0 where
   pub tells : Tells object price letter
   pub below : (price <ℤ start object) ⊎ ((earlier : ℤ) × IsTold front object earlier × (price <ℤ earlier))
 
--- A shard of the persons heard letters: each of its copies is as before or told by one of them, and no copy falls. Where the shard stops for a fall,
--- one of them tells a lower price.
+-- A shard of the persons heard letters: each of its copies is as before or told by one of them, and no copy falls.
+-- Where the shard stops for a fall, one of them tells a lower price.
 pub record HearsOf (s : Persons) (letters : List Letter) (t : Persons) (fell : Type 0) : Type 0 where
   pub heard : (j : ℕ) → (copy_of t j ≡ copy_of s j) ⊎ IsTold letters j (copy_of t j)
   pub rise : NeverFall s.copies t.copies

@@ -56,14 +56,15 @@ unsold prices j = record { price = price_in prices j; holder = None }
 abbrev pub left_in : Gathered → ℕ → Sale
 left_in gathered j = record { price = price_in gathered.prices.items j; holder = slice_index_or gathered.holders.items j None }
 
--- How many bids each shard of the persons has posted: no more than the limit, and just so many by one of them where the phase was stopped for that.
+-- How many bids each shard of the persons has posted: no more than the limit, and just so many by one of them where the
+-- phase was stopped for that.
 pub record AreCounted (limits : Limits) (bids : List ℕ) (end : Option End) : Type 0 where
   pub many : length bids ≡ limits.shards
   pub few : All (λ n. n ≤ limits.bids) bids
   pub spent : end ≡ Some (End.Stopped Why.Bids) → (k : ℕ) × (k < limits.shards) × (slice_index_or bids k 0 ≡ limits.bids)
 
--- What the shard number k of the persons did, with trails or without: from its beginning it heard letters and made bids, one after
--- another, of which it posted so many and no more, and no copy of a price fell.
+-- What the shard number k of the persons did, with trails or without: from its beginning it heard letters and made
+-- bids, one after another, of which it posted so many and no more, and no copy of a price fell.
 pub record HasPlayed (t : Table) (limits : Limits) (eps : ℤ) (start : List ℤ) (k bids : ℕ) : Type 0 where
   pub acts : List Act
   pub left : Persons
@@ -81,12 +82,14 @@ pub record IsToldBy (t : Table) (limits : Limits) (eps : ℤ) (start : List ℤ)
   pub hub_trail : IsTrail 1 (workers_of limits.shards) (hub_nodes limits (length t.rows)) limits.posts trails.hub
   -- nobody but the persons posts bids
   pub bids_of_persons : All (λ l. IsPost l.call → l.worker < limits.shards) trails.objects
-  -- each object's price and holder are what the award rule makes of it by the bids on it that its shard's worker took, in order
+  -- each object's price and holder are what the award rule makes of it by the bids on it that its shard's worker took,
+  -- in order
   pub sold : (j : ℕ) → j < t.objects → left_in p.gathered j ≡ award_all eps (unsold start j)
       (bids_on j (taken_by (limits.shards + j % limits.shards) trails.objects))
   -- everyone has an object exactly where the hub took a First for each person
   pub all : (p.end ≡ Some End.All) ↔ (firsts_in (taken_by (2 * limits.shards) trails.hub) ≡ length t.rows)
-  -- a price fell only where a worker of the persons took one below the start price, or below an earlier one that he took
+  -- a price fell only where a worker of the persons took one below the start price, or below an earlier one that he
+  -- took
   pub fell : p.end ≡ Some (End.Stopped Why.Fell) → (k : ℕ) × (k < limits.shards) × Falls (price_in start) (taken_by k trails.persons)
   -- each worker did what it has to by the letters that it took, and the phase ended for the first of their reasons
   pub worked : AreWorked (setting t limits eps start) trails p.bids.items p.end

@@ -18,7 +18,8 @@ use Rattle.auc_threads.specs.declared.calls.Step.{Step}
 use Rattle.auc_threads.specs.Calling.{Called, Makes}
 use Rattle.auc_threads.specs.Worker.{Accounts, Rooms}
 
--- An open box didn't accept a letter: a Price may be dropped, for any other one the worker stops, for the same reason as the world.
+-- An open box didn't accept a letter: a Price may be dropped, for any other one the worker stops, for the same reason
+-- as the world.
 abbrev pub step_without : Letter → PostRefused → Step
 step_without x r = if is_price x then Step.On else Step.Stop (reason r)
 
@@ -38,7 +39,8 @@ pub record Sent : Type 0 where
 abbrev pub step_of : Sent → Step
 step_of x = step_after x.out.letter x.answer
 
--- These letters had to be posted, in order. Each was, and all of them were, or the last post is the first that ends the worker.
+-- These letters had to be posted, in order. Each was, and all of them were, or the last post is the first that ends the
+-- worker.
 abbrev pub Posts : List Out → List Sent → Step → Type 0
 Posts [] [] step = step ≡ Step.On
 Posts [] (x ∷ xs) step = ⊥

@@ -6,8 +6,8 @@ use Rattle.auc_objects.specs.Objects.{Objects, Owns, SameShape, sale_of}
 use Rattle.auc_book.specs.Seat.{Account}
 use Rattle.auc_threads.specs.Taking.{Takes}
 
--- A shard of the objects took letters from its box, and dealt with the bids among them: each of its objects is what the award rule makes of it by the bids
--- on it, in order.
+-- A shard of the objects took letters from its box, and dealt with the bids among them: each of its objects is what the
+-- award rule makes of it by the bids on it, in order.
 pub record Sells (eps : ℤ) (room : ℕ) (s : Objects) (a : Account Letter) (t : Objects) (b : Account Letter) : Type 0 where
   pub shape : SameShape s t
   pub letters : List Letter

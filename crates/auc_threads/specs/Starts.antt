@@ -32,7 +32,8 @@ pub record IsSellerStart (g : Setting) (k : ℕ) (w : Worker Objects) : Type 0 w
   pub shard : w.shard ≡ (new_seller g k).shard
   pub seats : AreNewSeats (g.limits.shards + k) w.seats
 
--- What comes of a worker: it dealt with bids from the box of its shard's number and said what it had to, and at its end tells the hub why.
+-- What comes of a worker: it dealt with bids from the box of its shard's number and said what it had to, and at its end
+-- tells the hub why.
 pub record IsObjectWork (eps : ℤ) (r : Rooms) (old new : Worker Objects) (why : Option Why) : Type 0 where
   pub step : Step
   pub before : Account Letter

@@ -52,14 +52,16 @@ pub record Takes (room at : ℕ) (a : Account Letter) (letters : List Letter) (b
   pub letters_are : letters ≡ letters_taken answers
   pub makes : Makes room a (calls_taken at answers) b
 
--- How a worker may go on after a take: over just where no letter will come any more, and stopped for the trail just where it was turned away.
+-- How a worker may go on after a take: over just where no letter will come any more, and stopped for the trail just
+-- where it was turned away.
 abbrev pub AfterTake : Answer → Step → Type 0
 AfterTake (Ok (Taken.Letter s n x)) step = (step ≢ Step.Over) × (step ≢ Step.Stop Why.Trail)
 AfterTake (Ok Taken.Empty) step = step ≡ Step.On
 AfterTake (Ok Taken.Over) step = step ≡ Step.Over
 AfterTake (Err e) step = step ≡ Step.Stop Why.Trail
 
--- It went on after each of several takes but the last one, and after that so. Where it took nothing, no take has ended it.
+-- It went on after each of several takes but the last one, and after that so. Where it took nothing, no take has ended
+-- it.
 abbrev pub AfterTakes : List Answer → Step → Type 0
 AfterTakes [] step = (step ≢ Step.Over) × (step ≢ Step.Stop Why.Trail)
 AfterTakes (r ∷ rs) step = ((rs ≡ []) × AfterTake r step) ⊎ (AfterTake r Step.On × AfterTakes rs step)

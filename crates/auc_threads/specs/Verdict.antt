@@ -34,8 +34,8 @@ verdict true (Some (End.Stopped why)) = stopped_by (stop_of why)
 abbrev pub verdict_of : Limits → PhaseEnd → Verdict
 verdict_of limits p = verdict (is_settled limits p) p.end
 
--- The answer that a last phase with these holders and prices decides: that the holders' arcs cost least, by the prices; or an assignment and the
--- bound that the prices give; or the guard.
+-- The answer that a last phase with these holders and prices decides: that the holders' arcs cost least, by the prices;
+-- or an assignment and the bound that the prices give; or the guard.
 abbrev pub Decides : Problem → Gathered → Verdict → Answer → Type 0
 Decides p g Verdict.Sold answer = IsOptimalAnswer p g.holders.items g.prices.items answer
 Decides p g (Verdict.Stopped reason) answer = IsBracketAnswer p reason g.holders.items g.prices.items answer

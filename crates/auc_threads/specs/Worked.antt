@@ -14,7 +14,8 @@ use Rattle.auc_threads.specs.Counting.{Closes, Counts}
 use Rattle.auc_threads.specs.Starts.{IsObjectWork, IsPersonWork}
 use Rattle.auc_threads.specs.Worker.{Accounts, Rooms, Setting, Worker, new_buyer, new_seller, rooms}
 
--- The lines of the worker's seat at a mail are noted: the trail has just these, and no other call was turned away, unless the trail is full.
+-- The lines of the worker's seat at a mail are noted: the trail has just these, and no other call was turned away,
+-- unless the trail is full.
 pub record IsNoted (room w : ℕ) (trail : List (TrailLine Letter)) (a : Account Letter) : Type 0 where
   pub worker : a.worker ≡ w
   pub lines : Agrees trail a
@@ -30,8 +31,8 @@ pub record AreNoted (room w : ℕ) (trails : Trails) (a : Accounts) : Type 0 whe
 abbrev pub audited : Limits → Rooms
 audited limits = rooms limits.audit limits.audit limits.audit
 
--- The worker of the shard number k of the persons began with nothing, and this is its work. It posted so many bids, and no more than the
--- limit.
+-- The worker of the shard number k of the persons began with nothing, and this is its work. It posted so many bids, and
+-- no more than the limit.
 pub record IsBuyer (g : Setting) (trails : Trails) (bids k : ℕ) (why : Option Why) : Type 0 where
   pub left : Worker Persons
   pub work : IsPersonWork g.table g.eps (audited g.limits) (new_buyer g k) left why
@@ -66,8 +67,8 @@ end_by true why = Some End.All
 end_by false None = None
 end_by false (Some why) = Some (End.Stopped why)
 
--- What the trails tell of the workers, each with its reason to stop, if it has one; the first of these counts, of the persons, the objects
--- and the hub.
+-- What the trails tell of the workers, each with its reason to stop, if it has one; the first of these counts, of the
+-- persons, the objects and the hub.
 pub record AreWorked (g : Setting) (trails : Trails) (bids : List ℕ) (end : Option End) : Type 0 where
   pub person_reasons : List (Option Why)
   pub object_reasons : List (Option Why)

@@ -8,13 +8,14 @@ ghost use Rattle.auc_threads.specs.Taking.{GoesWithin};
 ghost use Rattle.auc_threads.specs.Posting.{PostsAt, step_after, step_without};
 
 use crate::gate::Gate;
-use auc_phases::reason_to_stop;
 use auc_book::{CallRefused, HeldMail, MailBrand, Seat, SharedMail};
 use auc_letters::{Letter, Out, To, Why};
 use auc_mail::PostRefused;
+use auc_phases::reason_to_stop;
 use std::sync::Wait;
 
-/// How many bids are posted, or taken, under one lock, at most. With more of them the bids would be made at older prices.
+/// How many bids are posted, or taken, under one lock, at most. With more of them the bids would be made at older
+/// prices.
 pub(crate) const BATCH: usize = 16;
 
 /// How a worker goes on.

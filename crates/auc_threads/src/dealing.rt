@@ -73,7 +73,8 @@ fn is_accepted(answers: &Answers) -> bool
     !matches!(answers, Answers::Refused { .. })
 }
 
-/// Deals with a letter, and notes what is to be said of it. It stops where that is no bid that fits the shard; then nothing is changed.
+/// Deals with a letter, and notes what is to be said of it. It stops where that is no bid that fits the shard; then
+/// nothing is changed.
 fn deal_letter(
     task: &Task,
     shard: &mut ObjectShard,

@@ -11,11 +11,11 @@ ghost use Rattle.auc_threads.specs.Hearing.{Hears, HearsOf};
 use crate::calls::{Step, hold, hold_for};
 use crate::gate::Gate;
 use crate::task::{PhaseRun, Task};
-use auc_phases::reason_for;
 use auc_book::{HeldMail, MailBrand, Seat, TrailFull};
 use auc_letters::{Letter, Why};
 use auc_mail::Taken;
 use auc_persons::PersonShard;
+use auc_phases::reason_for;
 use std::sync::Wait;
 
 /// Hears a letter.

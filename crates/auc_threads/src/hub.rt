@@ -5,11 +5,11 @@ ghost use Rattle.auc_mail.specs.declared.call.Taken.{Taken as ATaken};
 ghost use Rattle.auc_threads.specs.Counting.{Closes, Counted, Counts};
 
 use crate::mails::{Mails, WorkerSeats};
-use auc_phases::Hub;
 use auc_book::{MailBrand, TrailFull};
 use auc_letters::{Letter, Why};
 use auc_mail::Taken;
 use auc_model::End;
+use auc_phases::Hub;
 use std::sync::Wait;
 
 /// What the hub makes of what it heard.
@@ -19,7 +19,8 @@ pub(crate) enum Heard {
     On,
     /// It has counted a First for each person.
     All,
-    /// The phase is to end, for this reason of the hub's own, if it has one: a shard that stops gives its reason itself.
+    /// The phase is to end, for this reason of the hub's own, if it has one: a shard that stops gives its reason
+    /// itself.
     End { why: Option<Why> },
 }
 

@@ -11,15 +11,15 @@ ghost use Rattle.auc_threads.specs.Placed.{Placed};
 ghost use Rattle.auc_threads.specs.Worker.{AreNewSeats, accounts_of};
 
 use crate::error::RunError;
-use auc_phases::{Limits, nodes_or};
 use auc_book::{MailBrand, Seat, SharedMail};
 use auc_letters::Letter;
 use auc_mail::MailError;
+use auc_phases::{Limits, nodes_or};
 use std::alloc::{AllocError, Global};
 use std::sync::ledger::Blank;
 
-/// The three mails of a phase, each under a lock of its own. Their workers are the shards of the persons, then those of the objects,
-/// and then the hub.
+/// The three mails of a phase, each under a lock of its own. Their workers are the shards of the persons, then those of
+/// the objects, and then the hub.
 #[derive(Drop)]
 pub struct Mails<O: MailBrand, P: MailBrand, H: MailBrand> {
     /// Bids, with a box for each shard of the objects.
@@ -120,7 +120,8 @@ fn join_seats<O: MailBrand, P: MailBrand, H: MailBrand>(
 impl<O: MailBrand, P: MailBrand, H: MailBrand> Mails<O, P, H> {
     /// The three mails with nothing noted, and the seats of each worker, in order.
     ///
-    /// The conditions tie the names in the types to these arguments: who calls code that is generic over the names picks them so.
+    /// The conditions tie the names in the types to these arguments: who calls code that is generic over the names
+    /// picks them so.
     pub fn make(
         alloc: Global,
         persons: u32,

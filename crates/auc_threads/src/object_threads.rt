@@ -13,7 +13,8 @@ use std::snapshot::Snapshot;
 use std::sync::Wait;
 use std::thread::{Promise, PromisedHandle, Scope, Threads};
 
-/// What a thread of the objects promises: its shard comes of the bids that it took, and it has said what is to be said of them.
+/// What a thread of the objects promises: its shard comes of the bids that it took, and it has said what is to be said
+/// of them.
 #[derive(Drop)]
 pub(crate) struct Sold<O: MailBrand, P: MailBrand, H: MailBrand> {
     pub(crate) eps: i64,

@@ -34,8 +34,8 @@ pub(crate) struct ObjectWork<O: MailBrand, P: MailBrand, H: MailBrand> {
     pub(crate) why: Option<Why>,
 }
 
-/// Waits for bids, deals with those that wait, and says what is to be said of them, also where it then ends. What a refused post is to the worker comes before
-/// what it took later.
+/// Waits for bids, deals with those that wait, and says what is to be said of them, also where it then ends. What a
+/// refused post is to the worker comes before what it took later.
 fn serve<O: MailBrand, P: MailBrand, H: MailBrand, R: Wait, G: Gate>(
     rt: &R,
     gate: &G,

@@ -16,7 +16,8 @@ use std::snapshot::Snapshot;
 use std::sync::Wait;
 use std::thread::{Promise, PromisedHandle, Scope, Threads};
 
-/// What a thread of the persons promises: it bid and heard, falls only where its seat tells of a fall, and is stuck only where a person has no arc.
+/// What a thread of the persons promises: it bid and heard, falls only where its seat tells of a fall, and is stuck
+/// only where a person has no arc.
 #[derive(Drop)]
 pub(crate) struct Bought<O: MailBrand, P: MailBrand, H: MailBrand> {
     pub(crate) eps: i64,

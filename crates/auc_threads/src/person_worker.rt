@@ -37,8 +37,8 @@ pub(crate) struct PersonWork<O: MailBrand, P: MailBrand, H: MailBrand> {
     pub(crate) why: Option<Why>,
 }
 
-/// Asks for bids, posts them, also where the next person can't bid, and hears what waits; where there are none, waits for a letter. What a refused post is to
-/// the worker comes first.
+/// Asks for bids, posts them, also where the next person can't bid, and hears what waits; where there are none, waits
+/// for a letter. What a refused post is to the worker comes first.
 fn serve<O: MailBrand, P: MailBrand, H: MailBrand, R: Wait, G: Gate>(
     rt: &R,
     gate: &G,

@@ -16,10 +16,10 @@ use crate::running::{Works, run_in_scope, starts_of};
 use crate::settling::{Trails, seats_of, settle_all};
 use crate::task::{PhaseRun, Task};
 use auc_answers::Gathered;
-use auc_phases::Limits;
 use auc_book::MailBrand;
 use auc_graph::Rows;
 use auc_model::End;
+use auc_phases::Limits;
 use std::alloc::Global;
 use std::marker::Brand;
 use std::sync::Wait;
@@ -93,9 +93,10 @@ fn named_phase<
 
 /// One phase in threads, on new mails: a thread for each shard, and the hub on the caller's.
 ///
-/// `prices` are in scaled costs, from 0 to 2^61, indexed by object; `eps` is in scaled costs, from 1 to 2^60. Every worker of a shard passes the gate
-/// before each time it takes the lock of a mail, for one call or for several. `limits.audit` is the number of calls that each mail, and each seat at it, has places for; the trails are
-/// given where it is above 0 and all three mails settled with their seats.
+/// `prices` are in scaled costs, from 0 to 2^61, indexed by object; `eps` is in scaled costs, from 1 to 2^60. Every
+/// worker of a shard passes the gate before each time it takes the lock of a mail, for one call or for several.
+/// `limits.audit` is the number of calls that each mail, and each seat at it, has places for; the trails are given
+/// where it is above 0 and all three mails settled with their seats.
 ///
 /// Nothing is said of whether it ends.
 ///

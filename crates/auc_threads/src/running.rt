@@ -41,7 +41,8 @@ pub(crate) struct Works<O: MailBrand, P: MailBrand, H: MailBrand> {
     pub(crate) hub: HubWork<O, P, H>,
 }
 
-/// The workers of the persons, by their seats, each with what its bids are found by, made anew. In a phase no copy of a price falls, so what is put into them stays right.
+/// The workers of the persons, by their seats, each with what its bids are found by, made anew. In a phase no copy of a
+/// price falls, so what is put into them stays right.
 fn person_starts<O: MailBrand, P: MailBrand, H: MailBrand>(
     alloc: Global,
     task: &Task,
@@ -139,7 +140,8 @@ fn hub_work<O: MailBrand, P: MailBrand, H: MailBrand, R: Wait>(
     }
 }
 
-/// Starts a thread for each shard, those of the persons first. False where one couldn't be started; then no more are, of either kind.
+/// Starts a thread for each shard, those of the persons first. False where one couldn't be started; then no more are,
+/// of either kind.
 fn start_all<
     's,
     'e: 's,

@@ -73,8 +73,9 @@ fn has_first(said: &[Out]) -> bool
     false
 }
 
-/// Says what is to be said of the bids that were dealt with, in order. The hub's lock is taken only where something goes to it. Then the gate is passed for both
-/// mails before either is locked, and the hub's lock is always taken after the persons'; that one is given up first, since the persons wait for it.
+/// Says what is to be said of the bids that were dealt with, in order. The hub's lock is taken only where something
+/// goes to it. Then the gate is passed for both mails before either is locked, and the hub's lock is always taken after
+/// the persons'; that one is given up first, since the persons wait for it.
 pub(crate) fn say<O: MailBrand, P: MailBrand, H: MailBrand, R: Wait, G: Gate>(
     rt: &R,
     gate: &G,

@@ -5,11 +5,12 @@ ghost use Rattle.auc_phases.specs.Begins.{ArePrices};
 ghost use Rattle.auc_threads.specs.Naming.{AreBoxes, AreThreadLimits};
 
 use crate::mails::Mails;
-use auc_phases::Limits;
 use auc_book::MailBrand;
 use auc_graph::Rows;
+use auc_phases::Limits;
 
-/// What a phase is run on. That all of it is in range is proved where one is made, so that no function has to ask for it.
+/// What a phase is run on. That all of it is in range is proved where one is made, so that no function has to ask for
+/// it.
 #[derive(Clone, Copy)]
 pub(crate) struct Task<'a> {
     /// The arcs of each person.

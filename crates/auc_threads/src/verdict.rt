@@ -1,4 +1,5 @@
-//! What a phase comes to for the run: it goes on or claims a least cost, or it was stopped by a limit, or a guard was hit.
+//! What a phase comes to for the run: it goes on or claims a least cost, or it was stopped by a limit, or a guard was
+//! hit.
 
 ghost use Rattle.std.specs.Prelude.{◌≡◌, ◌≢◌, length, All, IfOk, Some};
 ghost use Rattle.auc_graph.specs.Table.{IsTableOf};
@@ -9,10 +10,10 @@ ghost use Rattle.auc_threads.specs.Verdict.{Decides, verdict_of};
 use crate::phase::PhaseEnd;
 use auc_answers::finish::{bracket, optimal, stop_of};
 use auc_answers::{Answer, Gathered, Guard};
-use auc_phases::Limits;
 use auc_claim::Reason;
 use auc_graph::{ArcList, Rows};
 use auc_model::End;
+use auc_phases::Limits;
 use std::alloc::{AllocError, Global};
 
 /// What a phase comes to for the run.

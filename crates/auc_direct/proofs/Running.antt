@@ -1,28 +1,23 @@
 -- Phases of a run, one after another, and what they leave.
-use Rattle.std.proofs.Common.{Bool, ap, ℕ, ℤ, pos, refl, ◌+◌, ◌-◌, ◌^◌, ◌≤◌, ◌≡◌, ◌∙◌, arith, List, inl, inr, length, sym, subst}
-use Rattle.std.specs.Prelude.{◌⊎◌, ◌*ℤ◌, ◌≤ℤ◌}
+use Rattle.std.proofs.Common.{Bool, ap, ℕ, ℤ, pos, refl, ◌≡◌, ◌∙◌, arith, List, inl, inr, length, sym, subst}
+use Rattle.std.specs.Prelude.{◌⊎◌}
 use Rattle.std.proofs.lemmas.Int.{ints}
 use Rattle.auc_claim.specs.declared.reason.Reason.{Reason}
 use Rattle.auc_graph.specs.Assignment.{total}
-use Rattle.auc_letters.specs.Price.{IsEps}
 use Rattle.auc_rows.specs.declared.arc.ShortArc.{ShortArc}
-use Rattle.auc_rows.specs.Rows.{FlatTable, IsFlatTable, scale_in}
+use Rattle.auc_rows.specs.Rows.{FlatTable}
 use Rattle.auc_market.specs.declared.ending.Ending.{Ending}
-use Rattle.auc_market.specs.Bids.{AreCounted, AreSpent, IsBidMade, State}
+use Rattle.auc_market.specs.Bids.{State}
 use Rattle.auc_market.specs.Endings.{IsEnding, IsLeft, IsSold, IsStopped, IsToldOr}
 use Rattle.auc_direct.specs.Endings.{IsOutcome}
-use Rattle.auc_market.specs.Eps.{IsEpsOf}
-use Rattle.auc_market.specs.Market.{HaveObjects, IsAbove, Stands}
+use Rattle.auc_market.specs.Market.{HaveObjects, Stands}
 use Rattle.auc_market.specs.Phases.{ArePhases, IsOpened, IsPhase, IsRun}
 use Rattle.auc_direct.specs.Phases.{HasRun}
 use Rattle.auc_market.specs.Phases.ArePhases.{begins, opens, refines}
-use Rattle.auc_market.specs.Position.{AreHandedOn, IsBegun, IsBid, IsMove, IsPlayed, IsRefinedWhole, IsRefinement, IsSlice, IsTried, Law, Position, Spends, state_at}
+use Rattle.auc_market.specs.Position.{AreHandedOn, IsBegun, IsPlayed, IsRefinedWhole, IsRefinement, IsTried, Law, Position, state_at}
 use Rattle.auc_direct.specs.Runs.{IsPlayedAt, IsRunOut, Plays}
-use Rattle.auc_market.specs.Way.{IsWay}
-use Rattle.auc_market.proofs.BidsLaws.{made_all, made_more, made_none, made_on, made_raises, made_risen, made_slice, made_within}
-use Rattle.auc_market.proofs.Bounds.{scaled_abs}
 use Rattle.auc_market.proofs.EndingLaws.{sold_left, stopped_before, watched_stopped}
-use Rattle.auc_market.proofs.PhasesLaws.{counted_within, one_phase, opened_phase, phase_more, phases_on, within_slice}
+use Rattle.auc_market.proofs.PhasesLaws.{one_phase, opened_phase, phases_on}
 
 pub not_sold : (reason : Reason) → Ending.Stopped reason ≡ Ending.Sold → ⊥
 not_sold reason e = absurd cc

@@ -1,13 +1,10 @@
 -- How a run comes to its prices.
-use Rattle.std.specs.Prelude.{ℕ, ℤ, pos, ◌≡◌, ◌⊎◌, ◌≤ℤ◌, List, length}
-use Rattle.auc_graph.specs.Assignment.{total}
+use Rattle.std.specs.Prelude.{ℕ, ℤ, pos, ◌≡◌, ◌⊎◌, List, length}
 use Rattle.auc_rows.specs.Rows.{FlatTable}
 use Rattle.auc_market.specs.declared.ending.Ending.{Ending}
-use Rattle.auc_market.specs.declared.holdings.TheConstants.{NOBODY}
 use Rattle.auc_direct.specs.Adopted.{IsFullTable}
-use Rattle.auc_market.specs.Bids.{AreMadeWithin, State}
-use Rattle.auc_market.specs.Eps.{IsEpsOf}
-use Rattle.auc_market.specs.Market.{HaveObjects, Stands, own_at}
+use Rattle.auc_market.specs.Bids.{State}
+use Rattle.auc_market.specs.Market.{HaveObjects, Stands}
 use Rattle.auc_market.specs.Phases.{IsRun}
 
 -- in a full table: each person has an object that is within 1 of his best, as a search over the table has proposed, and no bid was made

@@ -1,17 +1,9 @@
 -- Phases of a run, one after another, and what they leave.
-use Rattle.std.specs.Prelude.{Bool, ℕ, ℤ, pos, ◌≡◌, ◌≢◌, ◌⊎◌, ◌<◌, ◌≤◌, ◌≤ℤ◌, List, length}
+use Rattle.std.specs.Prelude.{Bool, ℕ, ℤ, ◌≡◌, ◌≤ℤ◌}
 use Rattle.auc_graph.specs.Assignment.{total}
-use Rattle.auc_rows.specs.declared.arc.ShortArc.{ShortArc}
-use Rattle.auc_rows.specs.Rows.{EachHasArc, FlatTable, IsFlatTable}
 use Rattle.auc_market.specs.declared.ending.Ending.{Ending}
-use Rattle.auc_market.specs.Bids.{AreCounted, AreSpent, IsBidMade, State, state}
-use Rattle.auc_market.specs.Endings.{IsEnding, IsLeft, IsSold, IsStopped, IsToldOr}
-use Rattle.auc_market.specs.Eps.{IsEpsOf}
-use Rattle.auc_market.specs.Incumbent.{IsIncumbent}
-use Rattle.auc_market.specs.Market.{HaveAllBut, HaveObjects, IsAbove, IsAwarded, Stands, own_at}
-use Rattle.auc_market.specs.Phases.{ArePhases, IsOpened, IsPhase, IsRefined}
-use Rattle.auc_market.specs.Shortlist.{Kept}
-use Rattle.auc_market.specs.Way.{IsWay}
+use Rattle.auc_market.specs.Endings.{IsLeft, IsSold, IsStopped, IsToldOr}
+use Rattle.auc_market.specs.Phases.{ArePhases}
 use Rattle.auc_market.specs.Position.{Position, state_at}
 
 -- phases, and what comes between them

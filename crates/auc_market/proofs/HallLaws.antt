@@ -1,22 +1,15 @@
 -- Persons who have a flag, and the objects that they know, are a Hall set of the rows where the objects are fewer.
-use Rattle.std.proofs.Common.{◌≡◌, ℕ, zero, suc, ◌+◌, ◌<◌, ◌≤◌, Bool, true, false, List, [], ◌∷◌, ◌++◌, length, get_or, set, drop, map, Some, refl, sym, ap, subst, ◌∙◌, arith, inl, inr, Contains, append_assoc, replicate}
+use Rattle.std.proofs.Common.{◌≡◌, ℕ, zero, suc, ◌+◌, ◌<◌, ◌≤◌, Bool, true, false, List, [], ◌∷◌, ◌++◌, length, get_or, set, drop, Some, refl, sym, ap, subst, ◌∙◌, arith, inl, inr, Contains, append_assoc, replicate}
 use Rattle.std.specs.List.{slice_get}
 use Rattle.std.proofs.lemmas.Bool.{both_ways, cases_eq, cases_lt, false≢true}
-use Rattle.std.proofs.lemmas.List.{drop_more, get_or-map, get_or-set_other, get_or-set_same, get_or_past, length-map, length-replicate, length-set}
-use Rattle.std.proofs.lemmas.List.Elements.{Contains-get_or}
+use Rattle.std.proofs.lemmas.List.{drop_more, get_or-set_other, get_or-set_same, get_or_past, length-replicate, length-set}
 use Rattle.std.proofs.lemmas.Option.{same_Some, slice_get_within}
-use Rattle.auc_graph.specs.declared.rows.RowArc.{RowArc}
-use Rattle.auc_graph.specs.Problem.{Problem}
 use Rattle.auc_graph.specs.Rising.{IsRising}
-use Rattle.auc_graph.specs.Table.{Table, row_of}
 use Rattle.auc_hall.specs.Chosen.{places}
-use Rattle.auc_hall.specs.HallSet.{IsRowHallSet}
-use Rattle.auc_hall.specs.OfProblem.{IsHallSetOf}
 use Rattle.auc_hall.specs.Search.{WasSeen}
 use Rattle.auc_hall.proofs.Membership.{behind, contains_at, first_or_behind, nothing, place_of}
-use Rattle.auc_hall.proofs.ProblemLaws.{hall_set_of}
 use Rattle.auc_rows.specs.declared.arc.ShortArc.{ShortArc}
-use Rattle.auc_rows.specs.Rows.{AreRowsOf, AreSameRows, FlatTable, flat_row_of, short}
+use Rattle.auc_rows.specs.Rows.{FlatTable, flat_row_of}
 use Rattle.auc_market.specs.Hall.{AreAdded, AreKnownTo, IsShortHallSet, KnowsShort}
 
 -- ---- the places of flags

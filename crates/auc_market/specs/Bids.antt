@@ -7,8 +7,7 @@ use Rattle.auc_market.specs.declared.ending.Ending.{Ending}
 use Rattle.auc_market.specs.declared.holdings.Holdings.{Holdings}
 use Rattle.auc_market.specs.declared.holdings.TheConstants.{NOBODY}
 use Rattle.auc_market.specs.Bid.{IsOffer}
-use Rattle.auc_market.specs.Eps.{IsEpsOf}
-use Rattle.auc_market.specs.Market.{Stands, holder_at, no_own, own_at}
+use Rattle.auc_market.specs.Market.{holder_at, no_own, own_at}
 use Rattle.auc_market.specs.Way.{IsWay}
 
 -- the prices, who holds each object, and by which arc each person holds his

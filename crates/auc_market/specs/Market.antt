@@ -1,11 +1,10 @@
 -- The state of a phase: the prices, who holds each object, and by which arc each person holds his.
-use Rattle.std.specs.Prelude.{ℕ, ℤ, pos, ◌≡◌, ◌≢◌, ◌⊎◌, ◌<◌, ◌^◌, ◌+ℤ◌, ◌≤ℤ◌, ◌<ℤ◌, List, [], length, All, Contains, slice_index_or}
+use Rattle.std.specs.Prelude.{ℕ, ℤ, pos, ◌≡◌, ◌≢◌, ◌⊎◌, ◌<◌, ◌^◌, ◌+ℤ◌, ◌≤ℤ◌, ◌<ℤ◌, List, length, All, Contains, slice_index_or}
 use Rattle.auc_graph.specs.Assignment.{total}
 use Rattle.auc_graph.specs.Dual.{price_at}
-use Rattle.auc_graph.specs.Problem.{Problem}
 use Rattle.auc_graph.specs.Price.{IsPrice}
 use Rattle.auc_rows.specs.declared.arc.ShortArc.{ShortArc}
-use Rattle.auc_rows.specs.Rows.{FlatTable, flat_row_of, scale_in, short_row}
+use Rattle.auc_rows.specs.Rows.{FlatTable, flat_row_of, scale_in}
 use Rattle.auc_market.specs.declared.holdings.TheConstants.{NOBODY}
 use Rattle.auc_market.specs.Bid.{IsOffer}
 use Rattle.auc_market.specs.Scan.{short_value}

@@ -1,12 +1,11 @@
 -- The phases of a run, one after another, and what is done between them.
-use Rattle.std.specs.Prelude.{ℕ, ℤ, pos, ◌≡◌, ◌⊎◌, ◌≤ℤ◌, List, length}
+use Rattle.std.specs.Prelude.{ℕ, ℤ, ◌≡◌, ◌≤ℤ◌, List}
 use Rattle.auc_graph.specs.Assignment.{total}
 use Rattle.auc_rows.specs.Rows.{FlatTable}
-use Rattle.auc_market.specs.declared.ending.Ending.{Ending}
 use Rattle.auc_market.specs.declared.holdings.TheConstants.{NOBODY}
 use Rattle.auc_market.specs.Bids.{AreMadeWithin, State}
 use Rattle.auc_market.specs.Eps.{IsEpsOf}
-use Rattle.auc_market.specs.Market.{HaveObjects, Stands, own_at}
+use Rattle.auc_market.specs.Market.{Stands, own_at}
 
 -- a phase of at most so many bids, whole or in part
 pub record IsPhase (r : FlatTable) (bids : ℕ) (s t : State) : Type 0 where

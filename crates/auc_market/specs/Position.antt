@@ -9,11 +9,11 @@ use Rattle.auc_market.specs.declared.holdings.TheConstants.{NOBODY}
 use Rattle.auc_market.specs.declared.incumbent.Incumbent.{Incumbent}
 use Rattle.auc_market.specs.declared.shortlist.Shortlist.{Shortlist}
 use Rattle.auc_market.specs.Bids.{AreCounted, AreSpent, IsBidMade, State, state}
-use Rattle.auc_market.specs.Endings.{IsEnding, IsLeft, IsSold, IsStopped, IsToldOr}
+use Rattle.auc_market.specs.Endings.{IsEnding, IsSold, IsToldOr}
 use Rattle.auc_market.specs.Eps.{IsEpsOf}
 use Rattle.auc_market.specs.Incumbent.{IsIncumbent}
 use Rattle.auc_market.specs.Market.{HaveAllBut, HaveObjects, IsAbove, IsAwarded, Stands, own_at}
-use Rattle.auc_market.specs.Phases.{ArePhases, IsOpened, IsPhase, IsRefined}
+use Rattle.auc_market.specs.Phases.{IsOpened, IsPhase, IsRefined}
 use Rattle.auc_market.specs.Shortlist.{Kept}
 use Rattle.auc_market.specs.Way.{IsWay}
 

@@ -17,23 +17,6 @@ pub(crate) struct Incumbent {
     pub(crate) is_whole: bool,
 }
 
-impl Incumbent {
-    /// There is none yet.
-    pub(crate) fn new(alloc: Global, persons: u32, objects: u32) -> Result<Incumbent, AllocError>
-        ensures holders { IfOk result (λ i. length i.holders.items ≡ objects) }
-        ensures owns { IfOk result (λ i. length i.owns.items ≡ persons) }
-        ensures none { IfOk result (λ i. i.is_whole ≡ false) }
-    {
-        let holders = vec![in alloc; NOBODY; objects as usize]?;
-        let owns = vec![in alloc; NO_OWN; persons as usize]?;
-        Ok(Incumbent {
-            holders,
-            owns,
-            is_whole: false,
-        })
-    }
-}
-
 impl Holdings {
     /// Where each person has an object, what they hold is the incumbent from now on, and these holdings are to be opened.
     pub(crate) fn set_aside(&mut self, incumbent: &mut Incumbent)

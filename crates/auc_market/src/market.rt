@@ -22,17 +22,21 @@ ghost use Rattle.auc_market.specs.Halts.{IsHalt};
 ghost use Rattle.auc_market.specs.Market.{IsAbove, Stands, own_at};
 ghost use Rattle.auc_market.specs.Position.{AreHandedOn, Begins, IsBegun, IsBid, IsFree, IsMove, IsRefinedWhole, IsRefinement, Law, position};
 
+use crate::bid::scaled_spread;
 use crate::ending::Ending;
-use crate::eps::{LAST_EPS, spread_of};
 use crate::halt::Halt;
-use crate::holdings::{Holdings, NOBODY};
+use crate::holdings::{Holdings, NO_OWN, NOBODY};
 use crate::incumbent::Incumbent;
 use crate::lists::Lists;
+use crate::scan::worth_of;
 use crate::search::Search;
 use crate::way::Way;
 use auc_rows::FlatRows;
 use std::alloc::{AllocError, Global};
 use std::marker::Model;
+
+/// The last eps: prices within 1 of slackness in scaled costs show that a cost is least.
+pub const LAST_EPS: i64 = 1;
 
 /// The rows; eps, in scaled costs; prices, holders and arcs; candidate lists; and room for searches.
 #[derive(Drop)]
@@ -88,7 +92,13 @@ impl<'a> Market<'a> {
         ensures prices { IfOk result (λ m. m.prices ≡ holdings.prices.items) }
     {
         let lists = Lists::new(alloc, rows)?;
-        let incumbent = Incumbent::new(alloc, rows.persons(), rows.objects())?;
+        let holders = vec![in alloc; NOBODY; rows.objects() as usize]?;
+        let owns = vec![in alloc; NO_OWN; rows.persons() as usize]?;
+        let incumbent = Incumbent {
+            holders,
+            owns,
+            is_whole: false,
+        };
         Ok(Market {
             alloc,
             rows,
@@ -140,7 +150,26 @@ impl<'a> Market<'a> {
         ensures { IsEpsOf self.now.table result }
     {
         let rows = self.rows;
-        spread_of(rows, self.holdings.prices.as_slice(), sample)
+        let scale = rows.scale();
+        let apart = rows.persons().checked_div(sample).unwrap_or(1).max(1);
+        let mut sum = 0i64;
+        let mut looked = 0i64;
+        for person in 0..rows.persons() {
+            if person % apart != 0 {
+                continue;
+            }
+            let mut low = i64::MAX;
+            let mut high = i64::MIN;
+            for arc in rows.row(person) {
+                let value = worth_of(scale, *arc, self.holdings.prices.as_slice());
+                low = low.min(value);
+                high = high.max(value);
+            }
+            sum = sum.saturating_add(high.saturating_sub(low).max(0));
+            looked = looked.saturating_add(1);
+        }
+        let mean = sum.checked_div(looked).unwrap_or(0);
+        mean.min(scaled_spread(rows)).max(LAST_EPS)
     }
 
     /// The first person from here on, below `until`, who holds no object and is neither of these two; `until` where there is none.

@@ -1,9 +1,7 @@
 //! How long a phase bids before it searches. It sees numbers of bids and of arcs alone, so no answer depends on it.
 
-ghost use Rattle.std.specs.Prelude.{◌≤◌};
-
-use crate::eps::LAST_EPS;
 use crate::lists::LONG;
+use crate::market::LAST_EPS;
 use crate::shortlist::ROOM;
 use auc_rows::FlatRows;
 
@@ -18,16 +16,21 @@ pub struct Pacing {
     pub slice: u64,
 }
 
-/// How many arcs a bid looks at, about; how many bids take as long as a search; whether the last phase is at hand; after how many bids in a row that each displace somebody a path is looked for; how many there
-/// were up to now, after the last search; and how many bids the phase at hand has made.
+/// How long chains bid before they search, in the phase at hand.
 #[derive(Clone, Copy)]
 pub struct Pace {
     pacing: Pacing,
+    // How many arcs a bid looks at, about; and how many bids take as long as a search.
     arcs_a_bid: u64,
     search: u64,
-    is_last: bool,
+    // How many times as long as a search a chain may take; and so many bids, each of which displaces somebody, are they.
+    times: u64,
     pub(crate) patience: u64,
+    // How many there were since the last search, where a slice of a phase has ended.
     pub(crate) walked: u64,
+    // How many bids a phase makes between two questions to a watch.
+    pub(crate) slice: u64,
+    /// How many bids the phase has made.
     pub made: u64,
 }
 
@@ -44,24 +47,23 @@ impl Pace {
             pacing,
             arcs_a_bid,
             search: arcs.checked_div(arcs_a_bid).unwrap_or(1),
-            is_last: false,
+            times: pacing.early,
+            slice: pacing.slice.checked_div(arcs_a_bid).unwrap_or(1),
             patience: 1,
             walked: 0,
             made: 0,
         }
     }
 
-    /// After how many bids in a row a path is looked for.
-    fn wait(&mut self) {
-        let times = if self.is_last { 1 } else { self.pacing.early };
-        self.patience = self.search.saturating_mul(times).max(1);
-    }
-
     /// A phase begins at this eps.
     pub(crate) fn begin(&mut self, eps: i64) {
         self.made = 0;
-        self.is_last = eps <= LAST_EPS;
-        self.wait();
+        self.times = if eps <= LAST_EPS {
+            1
+        } else {
+            self.pacing.early
+        };
+        self.patience = self.search.saturating_mul(self.times).max(1);
     }
 
     /// A search has looked at so many arcs: half of what was known of searches before it counts, and half of what it took.
@@ -71,17 +73,6 @@ impl Pace {
             .checked_div(self.arcs_a_bid)
             .unwrap_or(1);
         self.search = (self.search / 2).saturating_add(bids / 2);
-        self.wait();
-    }
-
-    /// How many bids a phase makes between two questions to a watch.
-    pub(crate) fn slice(&self) -> u64
-        ensures { 1 ≤ result }
-    {
-        self.pacing
-            .slice
-            .checked_div(self.arcs_a_bid)
-            .unwrap_or(1)
-            .max(1)
+        self.patience = self.search.saturating_mul(self.times).max(1);
     }
 }

@@ -78,7 +78,7 @@ impl<'a> Market<'a> {
             if !may_go_on(watch, progress) {
                 return Ok(Ending::Stopped(Reason::Bids));
             }
-            let slice = left.min(pace.slice());
+            let slice = left.min(pace.slice.max(1));
             let ending = self.play_slice(slice, pace)?;
             if !ran_out(ending) {
                 return Ok(ending);

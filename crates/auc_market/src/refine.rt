@@ -15,9 +15,9 @@ ghost use Rattle.auc_market.specs.Market.{HaveObjects, IsLifted, Stands};
 ghost use Rattle.auc_market.specs.Shortlist.{Kept};
 ghost use Rattle.auc_market.specs.Starts.{ArePricesOf, any_eps};
 
-use crate::eps::LAST_EPS;
 use crate::holdings::{Holdings, NOBODY};
 use crate::lists::Lists;
+use crate::market::LAST_EPS;
 use crate::queue::Queue;
 use auc_graph::MOST_PRICE;
 use auc_rows::FlatRows;

@@ -10,9 +10,8 @@ ghost use Rattle.auc_market.specs.Position.{Begins};
 ghost use Rattle.auc_market.specs.Starts.{AreKept, AreOpened, ArePricesOf, AreSeated, any_eps};
 
 use crate::bid::Bid;
-use crate::eps::LAST_EPS;
 use crate::holdings::{Holdings, NOBODY};
-use crate::market::Market;
+use crate::market::{LAST_EPS, Market};
 use crate::scan::worth_of;
 use auc_rows::FlatRows;
 use std::alloc::{AllocError, Global};

@@ -1,4 +1,4 @@
-use Rattle.std.proofs.Common.{◌≡◌, inr, length, pos, refl}
+use Rattle.std.proofs.Common.{◌≡◌, inr, pos, refl}
 use Rattle.auc_graph.specs.Assignment.{total}
 use Rattle.auc_market.specs.Endings.{IsStart}
 use Rattle.auc_market.specs.Halts.{IsHalt}

@@ -1,4 +1,4 @@
-use Rattle.std.proofs.Common.{◌≡◌, length, sym}
+use Rattle.std.proofs.Common.{◌≡◌, length}
 use Rattle.auc_market.specs.Position.{Position}
 use Rattle.auc_market.specs.Starts.{AreOpened}
 use Rattle.auc_market.proofs.Moving.{on_ok}

@@ -69,6 +69,8 @@ impl<'a, R: Clock + Eprint> Timer<'a, R> {
 impl<R: Clock + Eprint> Watch for Timer<'_, R> {
     ghost has_stopped = { λ timer. timer.has_stopped };
 
+    ghost was_asked = { λ _. true };
+
     fn has_said_no(&self) -> bool {
         self.has_stopped
     }

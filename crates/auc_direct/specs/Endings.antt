@@ -21,7 +21,8 @@ use Rattle.auc_market.specs.Starts.{AreOpened}
 use Rattle.auc_market.specs.Endings.{IsLeft, IsLimit, IsStart, IsStopped, IsToldOr}
 
 -- What a run comes to that began with these prices: only a limit has stopped it, or who watched it.
-pub record IsOutcome (r : FlatTable) (bids : ℕ) (begun : List ℤ) (before after : Bool) (ending : Ending) (prices : List ℤ) (holders : List ℕ) (owns : List ShortArc) : Type 0 where
+pub record IsOutcome (r : FlatTable) (bids : ℕ) (begun : List ℤ) (before after : Bool) (ending : Ending)
+    (prices : List ℤ) (holders : List ℕ) (owns : List ShortArc) : Type 0 where
   pub left : IsLeft r ending prices holders owns
   pub stopped : IsToldOr before after ending ((first : State) × (first.prices ≡ begun) × IsStopped r bids first ending prices)
   pub run : HasRun r bids begun ending prices
@@ -29,7 +30,9 @@ pub record IsOutcome (r : FlatTable) (bids : ℕ) (begun : List ℤ) (before aft
 abbrev pub IsLimitedBy : Problem → ℕ → ℤ → CertParts → Type 0
 IsLimitedBy p bids begun (CertParts.Optimal cost choice prices) = Unit {0}
 IsLimitedBy p bids begun (CertParts.Infeasible persons objects) = Unit {0}
-IsLimitedBy p bids begun (CertParts.Bracket reason lower cost choice prices) = (t : Table) × (r : FlatTable) × (first : State) × IsTableOf p t × AreSameRows t r × (begun ≤ℤ total first.prices) × IsLimit r bids first reason prices
+IsLimitedBy p bids begun (CertParts.Bracket reason lower cost choice prices) =
+    (t : Table) × (r : FlatTable) × (first : State) × IsTableOf p t × AreSameRows t r × (begun ≤ℤ total first.prices)
+    × IsLimit r bids first reason prices
 
 -- a bracket is answered only where a limit has stopped a phase of a run that began with prices of this sum
 abbrev pub IsLimited : Problem → ℕ → ℤ → Answer → Type 0
@@ -49,14 +52,16 @@ HasReason reason (CertParts.Optimal cost choice prices) = ⊥
 HasReason reason (CertParts.Infeasible persons objects) = ⊥
 HasReason reason (CertParts.Bracket told lower cost choice prices) = told ≡ reason
 
--- what is answered where who watches a run has stopped it: a bracket, with the reason that bids ran out; or that there is no assignment
+-- what is answered where who watches a run has stopped it: a bracket, with the reason that bids ran out; or that there
+-- is no assignment
 abbrev pub IsStopTold : Answer → Type 0
 IsStopTold (Answer.Optimal cert) = ⊥
 IsStopTold (Answer.Infeasible cert) = Unit {0}
 IsStopTold (Answer.Bracket cert) = HasReason Reason.Bids cert
 IsStopTold (Answer.Broken guard) = ⊥
 
--- What is answered of a run that somebody watches: he has said no, and that is told; or he has said no more than before the call, and this holds.
+-- What is answered of a run that somebody watches: he has said no, and that is told; or he has said no more than before
+-- the call, and this holds.
 abbrev pub IsLimitedUnless : Bool → Bool → Answer → Type 0 → Type 0
 IsLimitedUnless before after answer Holds = ((after ≡ true) × IsStopTold answer) ⊎ ((after ≡ before) × Holds)
 
@@ -90,23 +95,28 @@ IsClaimOfRun p bids begun (CertParts.Optimal cost choice prices) = AreOfRun p bi
 IsClaimOfRun p bids begun (CertParts.Infeasible persons objects) = Unit {0}
 IsClaimOfRun p bids begun (CertParts.Bracket reason lower cost choice prices) = AreOfRun p bids begun prices
 
--- No phase of the run that an answer comes from has made more bids than it may: the answer's prices are what such phases come to, or those of a full table that was searched as one. Where there is no assignment nothing is said of phases.
+-- No phase of the run that an answer comes from has made more bids than it may: the answer's prices are what such
+-- phases come to, or those of a full table that was searched as one. Where there is no assignment nothing is said of
+-- phases.
 abbrev pub IsOfPhases : Problem → ℕ → List ℤ → Answer → Type 0
 IsOfPhases p bids begun (Answer.Optimal cert) = IsClaimOfRun p bids begun cert
 IsOfPhases p bids begun (Answer.Infeasible cert) = Unit {0}
 IsOfPhases p bids begun (Answer.Bracket cert) = IsClaimOfRun p bids begun cert
 IsOfPhases p bids begun (Answer.Broken guard) = Unit {0}
 
--- prices that a run without a start may begin with: one for each object, and none above 0 with more objects than persons
+-- prices that a run without a start may begin with: one for each object, and none above 0 with more objects than
+-- persons
 pub record AreFirst (p : Problem) (prices : List ℤ) : Type 0 where
   pub each : length prices ≡ p.objects
   pub within : All IsPrice prices
   pub spare : (p.objects ≡ p.persons) ⊎ ((j : ℕ) → price_at prices j ≡ pos 0)
 
 abbrev pub IsClaimOfFirst : Problem → ℕ → CertParts → Type 0
-IsClaimOfFirst p bids (CertParts.Optimal cost choice prices) = ((begun : List ℤ) × AreFirst p begun × AreOfRun p bids begun prices) ⊎ AreAdopted p prices
+IsClaimOfFirst p bids (CertParts.Optimal cost choice prices) =
+    ((begun : List ℤ) × AreFirst p begun × AreOfRun p bids begun prices) ⊎ AreAdopted p prices
 IsClaimOfFirst p bids (CertParts.Infeasible persons objects) = Unit {0}
-IsClaimOfFirst p bids (CertParts.Bracket reason lower cost choice prices) = (begun : List ℤ) × AreFirst p begun × AreOfRun p bids begun prices
+IsClaimOfFirst p bids (CertParts.Bracket reason lower cost choice prices) =
+    (begun : List ℤ) × AreFirst p begun × AreOfRun p bids begun prices
 
 -- the same of a run without a start
 abbrev pub IsOfFirstPhases : Problem → ℕ → Answer → Type 0

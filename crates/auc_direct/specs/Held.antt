@@ -22,12 +22,16 @@ pub record AreHolders (p : Problem) (holders : List ℕ) (owns : List ShortArc) 
 
 -- each arc by which somebody holds is one of the problem's list
 abbrev pub AreListed : Problem → List ℕ → List ShortArc → Type 0
-AreListed p holders owns = (j : ℕ) → holder_at holders j ≢ NOBODY → Contains p.arcs (arc_by (holder_at holders j) (own_at owns (holder_at holders j)))
+AreListed p holders owns =
+    (j : ℕ) → holder_at holders j ≢ NOBODY
+    → Contains p.arcs (arc_by (holder_at holders j) (own_at owns (holder_at holders j)))
 
 -- nobody holds the object; or its holder does by the arc that he has, which stands there in the problem's list
 abbrev pub IsHeld : Problem → List ℕ → List ShortArc → ℕ → Option Held → Type 0
 IsHeld p holders owns j None = holder_at holders j ≡ NOBODY
-IsHeld p holders owns j (Some h) = (holder_at holders j ≡ h.person) × (h.person ≢ NOBODY) × (slice_get p.arcs h.arc ≡ Some (arc_by h.person (own_at owns h.person)))
+IsHeld p holders owns j (Some h) =
+    (holder_at holders j ≡ h.person) × (h.person ≢ NOBODY)
+    × (slice_get p.arcs h.arc ≡ Some (arc_by h.person (own_at owns h.person)))
 
 abbrev pub AreHeld : Problem → List ℕ → List ShortArc → List (Option Held) → Type 0
 AreHeld p holders owns held = (j : ℕ) → IsHeld p holders owns j (held_at held j)

@@ -1,4 +1,5 @@
-//! A full table, solved by a search over its costs of which nothing is proved: persons try what it proposes before they take it.
+//! A full table, solved by a search over its costs of which nothing is proved: persons try what it proposes before they
+//! take it.
 
 ghost use Rattle.std.specs.Prelude.{pos, length, IfOk, IfSome};
 ghost use Rattle.auc_direct.specs.Adopted.{IsFullTable};
@@ -10,10 +11,12 @@ use auc_rows::FlatRows;
 use auc_table::{Proposal, Table, propose};
 use std::alloc::{AllocError, Global};
 
-/// The highest price that is taken, in costs of the table: scaled by persons + 1 it is below 2^61. Those of a least assignment need not be above 10,000 times the spread of the costs.
+/// The highest price that is taken, in costs of the table: scaled by persons + 1 it is below 2^61. Those of a least
+/// assignment need not be above 10,000 times the spread of the costs.
 const HIGHEST: i64 = 200_000_000_000_000;
 
-/// The costs of all rows, one row after another. None where the rows aren't a full table: no clause of theirs says that they are, so each arc is looked at.
+/// The costs of all rows, one row after another. None where the rows aren't a full table: no clause of theirs says that
+/// they are, so each arc is looked at.
 fn costs_of(alloc: Global, rows: &FlatRows) -> Result<Option<Vec<i64>>, AllocError>
     ensures { IfOk result (λ o. IfSome o (λ costs. IsFullTable rows.now)) }
 {
@@ -53,8 +56,9 @@ fn scaled_prices(rows: &FlatRows, mut prices: Vec<i64>) -> Option<Vec<i64>>
     Some(prices)
 }
 
-/// Solves a full table by a search that may look at so many costs, and tries what it proposes. None where the rows aren't a full table, or where that doesn't show a least assignment.
-/// Takes O(persons * objects) time and 8 bytes of memory an arc beside the search.
+/// Solves a full table by a search that may look at so many costs, and tries what it proposes. None where the rows
+/// aren't a full table, or where that doesn't show a least assignment. Takes O(persons * objects) time and 8 bytes of
+/// memory an arc beside the search.
 ///
 /// # Errors
 ///

@@ -35,7 +35,8 @@ fn root_of(number: i64) -> i64
     142
 }
 
-/// The mean spread of a row, divided by the mean number of its arcs, and at least 1: where costs are drawn at random, how much neighbours differ.
+/// The mean spread of a row, divided by the mean number of its arcs, and at least 1: where costs are drawn at random,
+/// how much neighbours differ.
 pub(crate) fn fine_eps(rows: &FlatRows, spread: i64) -> i64
     requires { IsEpsOf rows.now spread }
     ensures { IsEpsOf rows.now result }
@@ -43,7 +44,8 @@ pub(crate) fn fine_eps(rows: &FlatRows, spread: i64) -> i64
     (spread / mean_arcs(rows)).max(LAST_EPS)
 }
 
-/// The mean spread of a row, divided by the root of the mean number of its arcs, and at least 1: where the other one was too fine.
+/// The mean spread of a row, divided by the root of the mean number of its arcs, and at least 1: where the other one
+/// was too fine.
 pub(crate) fn coarse_eps(rows: &FlatRows, spread: i64) -> i64
     requires { IsEpsOf rows.now spread }
     ensures { IsEpsOf rows.now result }

@@ -22,7 +22,8 @@ fn is_own(owns: &[ShortArc], arc: &Arc) -> bool
     own.object == arc.object && i64::from(own.cost) == arc.cost
 }
 
-/// Where the arc of a person to an object stands in the problem's list, if that has the order of the rows, and his row rises. Who asks looks whether it does.
+/// Where the arc of a person to an object stands in the problem's list, if that has the order of the rows, and his row
+/// rises. Who asks looks whether it does.
 #[inline(always)]
 fn place_of(rows: &FlatRows, person: u32, object: u32) -> usize
     requires { person < length rows.now.rows }
@@ -31,7 +32,8 @@ fn place_of(rows: &FlatRows, person: u32, object: u32) -> usize
     rows.start(person).saturating_add(before)
 }
 
-/// Who holds each object by which arc, where each such arc stands where the rows let guess; else none. O(persons * log arcs of a person).
+/// Who holds each object by which arc, where each such arc stands where the rows let guess; else none. O(persons * log
+/// arcs of a person).
 fn guessed(
     alloc: Global,
     problem: &ArcList,
@@ -85,7 +87,8 @@ fn passed(
     Ok(holders)
 }
 
-/// Who holds each object by which arc, and the prices. Rows have no places of arcs, so these are guessed, and where a guess is wrong looked for in one pass over the problem's list.
+/// Who holds each object by which arc, and the prices. Rows have no places of arcs, so these are guessed, and where a
+/// guess is wrong looked for in one pass over the problem's list.
 ///
 /// # Errors
 ///

@@ -1,4 +1,5 @@
-//! What a run with as many objects as persons begins with: prices at which the cheapest arc of each column is worth the same.
+//! What a run with as many objects as persons begins with: prices at which the cheapest arc of each column is worth the
+//! same.
 
 ghost use Rattle.std.specs.Prelude.{ℤ, ◌≡◌, ◌⊎◌, pos, ◌≤ℤ◌, length, All, IfOk};
 ghost use Rattle.auc_graph.specs.Price.{IsPrice};
@@ -19,7 +20,8 @@ fn greatest_of(rows: &FlatRows) -> i32 {
     greatest
 }
 
-/// The price at which an arc of one cost is worth as much as one of another at price 0; and 0 where that one costs less.
+/// The price at which an arc of one cost is worth as much as one of another at price 0; and 0 where that one costs
+/// less.
 fn price_between(scale: i64, cost: i32, greatest: i32) -> i64
     requires { IsScale scale }
     ensures { IsPrice result }
@@ -28,8 +30,9 @@ fn price_between(scale: i64, cost: i32, greatest: i32) -> i64
     if more <= 0 { 0 } else { scale * more }
 }
 
-/// Prices that a run may begin with, by column reduction (Jonker and Volgenant, 1987). With as many objects as persons these are so that the cheapest arc of each object is worth as
-/// much as that of any other, and the object whose cheapest arc costs most, and any that nobody knows, have price 0; else all are 0. O(objects).
+/// Prices that a run may begin with, by column reduction (Jonker and Volgenant, 1987). With as many objects as persons
+/// these are so that the cheapest arc of each object is worth as much as that of any other, and the object whose
+/// cheapest arc costs most, and any that nobody knows, have price 0; else all are 0. O(objects).
 pub(crate) fn start_prices(alloc: Global, rows: &FlatRows) -> Result<Vec<i64>, AllocError>
     ensures { (eps : ℤ) → (rows.now.objects ≡ length rows.now.rows) ⊎ (eps ≡ pos 1) → IfOk result (λ v. IsStart rows.now eps v.items) }
 {

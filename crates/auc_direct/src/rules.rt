@@ -1,21 +1,30 @@
 //! The rules by which a run chooses its phases. They see numbers of bids and arcs alone, so no answer depends on them.
 //!
-//! 1. **Scaled costs.** Costs count one more than there are persons times. Who is within 1 of his best at the end shows that nothing costs less.
-//! 2. **A bid is an award** (Gauss-Seidel). A person without an object takes his best one at once, and whom he displaces bids next. Two such chains take turns.
-//! 3. **Bid or search** (`auc_market`, `Pace`). In the last phase a chain that has taken as long as searches did lately ends by a shortest augmenting path; before it, where chains mostly end by themselves, one that has taken some times
+//! 1. **Scaled costs.** Costs count one more than there are persons times. Who is within 1 of his best at the end shows
+//!    that nothing costs less.
+//! 2. **A bid is an award** (Gauss-Seidel). A person without an object takes his best one at once, and whom he
+//!    displaces bids next. Two such chains take turns.
+//! 3. **Bid or search** (`auc_market`, `Pace`). In the last phase a chain that has taken as long as searches did lately
+//!    ends by a shortest augmenting path; before it, where chains mostly end by themselves, one that has taken some
+//!    times
 //!    as long. Where no free object is in reach, those who were reached know too few objects.
-//! 4. **Phases.** Columns are reduced; eps begins at the mean spread of a row by the mean number of its arcs, and falls by eighths. Prices stay, and nobody keeps what he holds.
-//! 5. **Too fine, or calm.** A first phase is given up once it has made more bids for each person than eps can be halved before it is 1. Eps then begins anew, at the mean spread of a row divided by the root of the
+//! 4. **Phases.** Columns are reduced; eps begins at the mean spread of a row by the mean number of its arcs, and falls
+//!    by eighths. Prices stay, and nobody keeps what he holds.
+//! 5. **Too fine, or calm.** A first phase is given up once it has made more bids for each person than eps can be
+//!    halved before it is 1. Eps then begins anew, at the mean spread of a row divided by the root of the
 //!    mean number of its arcs. After a phase of fewer than two bids a person the last phase is tried at once; it may make a bid a person for each phase that lies ahead. So it is after two phases in a row that
 //!    made about as many bids as the one before each; it may make as many.
-//! 6. **Refinement.** Where phases take no fewer bids than before at an eps that whole costs hardly tell, prices are refined, for as long as two bids of that phase each.
-//! 7. **More objects than persons.** One phase at the last eps, from prices of 0, as what is left over may have no price.
+//! 6. **Refinement.** Where phases take no fewer bids than before at an eps that whole costs hardly tell, prices are
+//!    refined, for as long as two bids of that phase each.
+//! 7. **More objects than persons.** One phase at the last eps, from prices of 0, as what is left over may have no
+//!    price.
 
 use crate::tuning::{CALM, LOOKS, PART, STARTED, STEADY, TABLE};
 use auc_market::LAST_EPS;
 use auc_rows::FlatRows;
 
-/// What the rules know of a problem; how many bids the last phase has made; and how many phases in a row took as many bids as the one before.
+/// What the rules know of a problem; how many bids the last phase has made; and how many phases in a row took as many
+/// bids as the one before.
 #[derive(Clone, Copy)]
 pub(crate) struct Rules {
     persons: u64,
@@ -24,7 +33,8 @@ pub(crate) struct Rules {
     steady: u8,
 }
 
-/// What may come between two phases: a refinement with so many looks, and the last phase with so many bids; none of what isn't tried.
+/// What may come between two phases: a refinement with so many looks, and the last phase with so many bids; none of
+/// what isn't tried.
 #[derive(Clone, Copy)]
 pub(crate) struct Between {
     pub(crate) looks: u64,
@@ -94,7 +104,8 @@ impl Rules {
     }
 }
 
-/// How many bids a run from start prices may make at the last eps before it begins as any other. With more objects than persons it may not: any number.
+/// How many bids a run from start prices may make at the last eps before it begins as any other. With more objects than
+/// persons it may not: any number.
 pub(crate) fn bids_from_start(rows: &FlatRows) -> u64 {
     if rows.persons() < rows.objects() {
         return u64::MAX;
@@ -102,7 +113,8 @@ pub(crate) fn bids_from_start(rows: &FlatRows) -> u64 {
     STARTED.saturating_mul(u64::from(rows.persons()))
 }
 
-/// How many entries of a full table its own search may look at: any number with more objects than persons, where one phase at the last eps would take far longer.
+/// How many entries of a full table its own search may look at: any number with more objects than persons, where one
+/// phase at the last eps would take far longer.
 pub(crate) fn looks_at_table(rows: &FlatRows) -> u64 {
     if rows.persons() < rows.objects() {
         return u64::MAX;

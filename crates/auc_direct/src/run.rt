@@ -23,7 +23,8 @@ pub(crate) struct Outcome {
     pub(crate) holdings: Holdings,
 }
 
-/// A phase in which nobody keeps what he holds, tried with `few` bids where a run may make more. None where these have run out, or there are none of them.
+/// A phase in which nobody keeps what he holds, tried with `few` bids where a run may make more. None where these have
+/// run out, or there are none of them.
 fn play_anew<W: Watch>(
     market: &mut Market<'_>,
     eps: i64,
@@ -35,7 +36,8 @@ fn play_anew<W: Watch>(
     requires square { market.old.table.objects ≡ length market.old.table.rows }
     requires eps { IsEpsOf market.old.table eps }
     ensures plays { OnOk result (Plays bids market.old market.new) }
-    ensures played { IfOk result (λ o. IfSome o (λ e. IsPlayedAt eps bids (W.has_stopped watch.old) (W.has_stopped watch.new) e market.old market.new)) }
+    ensures played { IfOk result
+        (λ o. IfSome o (λ e. IsPlayedAt eps bids (W.has_stopped watch.old) (W.has_stopped watch.new) e market.old market.new)) }
     ensures going { IfOk result (λ o. IfNone o (W.has_stopped watch.new ≡ W.has_stopped watch.old)) }
     ensures asked { IfOk result (λ o. IfSome o (λ e. W.was_asked watch.new ≡ true)) }
     ensures few { IfOk result (λ o. IfNone o (few < 2 ^ 64 - 1)) }
@@ -48,8 +50,9 @@ fn play_anew<W: Watch>(
     market.try_phase(bids, few, pace, watch)
 }
 
-/// A phase from the prices of the market, in which nobody keeps what he holds, and others after it, each from the prices of the one before: up to the last one, the first that a limit stops, or the one after
-/// which prices are refined until what persons hold is seen to cost least. Each may make so many bids.
+/// A phase from the prices of the market, in which nobody keeps what he holds, and others after it, each from the
+/// prices of the one before: up to the last one, the first that a limit stops, or the one after which prices are
+/// refined until what persons hold is seen to cost least. Each may make so many bids.
 fn play_phases<W: Watch>(
     market: &mut Market<'_>,
     rows: &FlatRows,
@@ -96,8 +99,9 @@ fn play_phases<W: Watch>(
     }
 }
 
-/// A run from what persons hold in a market at the last eps. The last phase is tried with `few` bids before anything else, in which those who hold something keep it: that is for a start. A full table is searched as
-/// one then, and with more objects than persons there is one phase.
+/// A run from what persons hold in a market at the last eps. The last phase is tried with `few` bids before anything
+/// else, in which those who hold something keep it: that is for a start. A full table is searched as one then, and with
+/// more objects than persons there is one phase.
 pub(crate) fn run<W: Watch>(
     alloc: Global,
     rows: &FlatRows,
@@ -107,7 +111,9 @@ pub(crate) fn run<W: Watch>(
     watch: &mut W,
 ) -> Result<Outcome, Halt>
     requires begins { Begins rows.now market }
-    ensures outcome { IfOk result (λ o. IsOutcome rows.now bids market.entry.prices (W.has_stopped watch.old) (W.has_stopped watch.new) o.ending o.holdings.prices.items o.holdings.holders.items o.holdings.owns.items) }
+    ensures outcome { IfOk result
+        (λ o. IsOutcome rows.now bids market.entry.prices (W.has_stopped watch.old) (W.has_stopped watch.new)
+        o.ending o.holdings.prices.items o.holdings.holders.items o.holdings.owns.items) }
     ensures asked { IfOk result (λ o. (W.was_asked watch.new ≡ true) ⊎ IsFullTable rows.now) }
     ensures halt { IfErr result (λ h. IsHalt rows.now h × (W.has_stopped watch.new ≡ W.has_stopped watch.old)) }
 {

@@ -35,7 +35,8 @@ pub struct DirectLimits {
     pub bids: u64,
 }
 
-/// Whether a solve of a problem may start from these prices: one for each object, from 0 to 2^60. Takes one pass over them.
+/// Whether a solve of a problem may start from these prices: one for each object, from 0 to 2^60. Takes one pass over
+/// them.
 pub fn may_start(problem: &ArcList, start: &[i64]) -> bool
     ensures { IsTrue result ↔ AreStartPrices problem.now start.now }
 {
@@ -60,7 +61,8 @@ fn answered(alloc: Global, problem: &ArcList, flat: &FlatRows) -> Result<Option<
     }
 }
 
-/// The answer of a run that a limit has stopped: a bracket, or that there is no assignment. Only it wants the rows with their places, so they are laid out for it alone.
+/// The answer of a run that a limit has stopped: a bracket, or that there is no assignment. Only it wants the rows with
+/// their places, so they are laid out for it alone.
 fn bracketed(
     alloc: Global,
     problem: &ArcList,
@@ -70,7 +72,9 @@ fn bracketed(
     requires holders { length gathered.holders.items ≡ problem.now.objects }
     requires prices { length gathered.prices.items ≡ problem.now.objects }
     requires within { All IsPrice gathered.prices.items }
-    ensures { IfOk result (λ a. IsInfeasibleAnswer problem.now a ⊎ (HasAssignment problem.now × IsBracketAnswer problem.now reason gathered.holders.items gathered.prices.items a)) }
+    ensures { IfOk result
+        (λ a. IsInfeasibleAnswer problem.now a ⊎ (HasAssignment problem.now × IsBracketAnswer problem.now reason
+        gathered.holders.items gathered.prices.items a)) }
 {
     match prepare(alloc, problem)? {
         Prepared::Answered(answer) => Ok(answer),
@@ -92,9 +96,12 @@ fn answer_of(
     requires sound { IsFlatTable flat }
     requires left { IsLeft flat outcome.ending outcome.holdings.prices.items outcome.holdings.holders.items outcome.holdings.owns.items }
     ensures is { IfOk result (IsAnswer problem.now) }
-    ensures limit { (bids : ℕ) (begun : State) → IsStopped flat bids begun outcome.ending outcome.holdings.prices.items → IfOk result (IsLimited problem.now bids (total begun.prices)) }
+    ensures limit { (bids : ℕ) (begun : State)
+        → IsStopped flat bids begun outcome.ending outcome.holdings.prices.items
+        → IfOk result (IsLimited problem.now bids (total begun.prices)) }
     ensures told { outcome.ending ≡ Ending.Stopped Reason.Bids → IfOk result IsStopTold }
-    ensures run { (bids : ℕ) (begun : List ℤ) → HasRun flat bids begun outcome.ending outcome.holdings.prices.items → IfOk result (IsOfPhases problem.now bids begun) }
+    ensures run { (bids : ℕ) (begun : List ℤ) → HasRun flat bids begun outcome.ending outcome.holdings.prices.items
+        → IfOk result (IsOfPhases problem.now bids begun) }
 {
     // Read here, so that the proof knows what every problem keeps.
     let _ = problem.arcs();
@@ -146,8 +153,15 @@ fn concluded(
     requires left { IfOk ended (λ o. IsLeft flat o.ending o.holdings.prices.items o.holdings.holders.items o.holdings.owns.items) }
     requires halt { IfErr ended (IsHalt flat) }
     ensures is { IfOk result (IsAnswer problem.now) }
-    ensures limit { (bids : ℕ) (begun : List ℤ) (before after : Bool) → IfOk ended (λ o. IsOutcome flat bids begun before after o.ending o.holdings.prices.items o.holdings.holders.items o.holdings.owns.items) → IfErr ended (λ h. after ≡ before) → IfOk result (λ a. IsLimitedUnless before after a (IsLimited problem.now bids (total begun) a)) }
-    ensures run { (bids : ℕ) (begun : List ℤ) (before after : Bool) → IfOk ended (λ o. IsOutcome flat bids begun before after o.ending o.holdings.prices.items o.holdings.holders.items o.holdings.owns.items) → IfOk result (IsOfPhases problem.now bids begun) }
+    ensures limit { (bids : ℕ) (begun : List ℤ) (before after : Bool)
+        → IfOk ended
+        (λ o. IsOutcome flat bids begun before after o.ending o.holdings.prices.items o.holdings.holders.items o.holdings.owns.items)
+        → IfErr ended (λ h. after ≡ before)
+        → IfOk result (λ a. IsLimitedUnless before after a (IsLimited problem.now bids (total begun) a)) }
+    ensures run { (bids : ℕ) (begun : List ℤ) (before after : Bool)
+        → IfOk ended
+        (λ o. IsOutcome flat bids begun before after o.ending o.holdings.prices.items o.holdings.holders.items o.holdings.owns.items)
+        → IfOk result (IsOfPhases problem.now bids begun) }
     ensures asked { (asked : Bool) → IfOk ended (λ o. (asked ≡ true) ⊎ IsFullTable flat) → IfOk result (IsAsked asked problem.now) }
 {
     match ended {
@@ -156,20 +170,28 @@ fn concluded(
     }
 }
 
-/// Solves a problem: an arc for each person, no object twice, of the least cost together; or persons who together know fewer objects than they number; or, where
-/// a phase would take more than so many bids or a price above 2^61, an assignment and a bound on what any costs. The checker finds no fault in any claim: of a least assignment that is proved,
-/// and the others pass it here. `Broken` is never answered. No phase makes more bids than `limits` says: clause `run`.
+/// Solves a problem: an arc for each person, no object twice, of the least cost together; or persons who together know
+/// fewer objects than they number; or, where a phase would take more than so many bids or a price above 2^61, an
+/// assignment and a bound on what any costs. The checker finds no fault in any claim: of a least assignment that is
+/// proved, and the others pass it here. `Broken` is never answered. No phase makes more bids than `limits` says: clause
+/// `run`.
 ///
 /// The answer is right as that of `auc_world::solve_serial` is, but of several least assignments it may be another one.
 ///
-/// Takes the time of the bids, each O(arcs of the person), or O(1) where the list of a long row tells it, of the paths, each at most O(arcs * log arcs), and of one check of what is no least assignment. A full
-/// table is searched as one first ([`auc_table::propose`]), which takes no bids. A search for an assignment of any cost ([`auc_hall::complete`]) is made where somebody has no arc, and for a bracket before the
-/// first phase has come to its end; it takes 12 bytes of memory an arc. Else 8 bytes an arc and some 60 an object are taken beside the problem's own, 176 a person where most arcs stand in rows of 48 and more, 8 an arc more while a full table is
-/// searched, and 16 for each label that waits in a search for a path, of which there are at most as many as arcs. That paths are taken at all no clause says, nor that lists are.
+/// Takes the time of the bids, each O(arcs of the person), or O(1) where the list of a long row tells it, of the paths,
+/// each at most O(arcs * log arcs), and of one check of what is no least assignment. A full table is searched as one
+/// first ([`auc_table::propose`]), which takes no bids. A search for an assignment of any cost ([`auc_hall::complete`])
+/// is made where somebody has no arc, and for a bracket before the first phase has come to its end; it takes 12 bytes
+/// of memory an arc. Else 8 bytes an arc and some 60 an object are taken beside the problem's own, 176 a person where
+/// most arcs stand in rows of 48 and more, 8 an arc more while a full table is searched, and 16 for each label that
+/// waits in a search for a path, of which there are at most as many as arcs. That paths are taken at all no clause
+/// says, nor that lists are.
 ///
-/// The method is the auction with epsilon scaling (Bertsekas, 1979; Bertsekas and Eckstein, 1988), in two chains that take turns, of each of which whoever is displaced bids next, and successive shortest paths
-/// (Edmonds and Karp, 1972) where that goes far; who is reached where no free object is knows too few. Columns are reduced before (Jonker and Volgenant, 1987), and price refinement (Goldberg and Kennedy, 1995)
-/// spares the last phases where what persons hold costs least before them. The rules stand in `rules.rt`.
+/// The method is the auction with epsilon scaling (Bertsekas, 1979; Bertsekas and Eckstein, 1988), in two chains that
+/// take turns, of each of which whoever is displaced bids next, and successive shortest paths (Edmonds and Karp, 1972)
+/// where that goes far; who is reached where no free object is knows too few. Columns are reduced before (Jonker and
+/// Volgenant, 1987), and price refinement (Goldberg and Kennedy, 1995) spares the last phases where what persons hold
+/// costs least before them. The rules stand in `rules.rt`.
 ///
 /// # Errors
 ///
@@ -186,18 +208,22 @@ pub fn solve_direct(
     solve_direct_watched(alloc, problem, limits, &mut Onward)
 }
 
-/// Solves a problem as [`solve_direct`] does, but from start prices, in a phase at the last eps: those of an old certificate, say. They are scaled costs,
-/// indexed by object, from 0 to 2^60; there may be more objects than persons.
+/// Solves a problem as [`solve_direct`] does, but from start prices, in a phase at the last eps: those of an old
+/// certificate, say. They are scaled costs, indexed by object, from 0 to 2^60; there may be more objects than persons.
 ///
-/// Each person in order keeps an object that is within 1 of his best at the start prices, and that nobody before him has kept; the others bid. Where there are
-/// more objects than persons, what nobody has kept begins at price 0, and who has kept an object and would now lose more than 1 by it leaves it, and its price is 0
-/// too. Where that doesn't end within a few passes over all persons, the run begins with no prices.
+/// Each person in order keeps an object that is within 1 of his best at the start prices, and that nobody before him
+/// has kept; the others bid. Where there are more objects than persons, what nobody has kept begins at price 0, and who
+/// has kept an object and would now lose more than 1 by it leaves it, and its price is 0 too. Where that doesn't end
+/// within a few passes over all persons, the run begins with no prices.
 ///
-/// A limit on bids counts from the prices that are left then: clause `limit`. With as many objects as persons these are the start's.
+/// A limit on bids counts from the prices that are left then: clause `limit`. With as many objects as persons these are
+/// the start's.
 ///
-/// With as many objects as persons, where four bids a person don't give everybody an object, the run goes on from there as one without a start does, in phases.
+/// With as many objects as persons, where four bids a person don't give everybody an object, the run goes on from there
+/// as one without a start does, in phases.
 ///
-/// Takes two passes over the arcs for what persons keep, and with more objects than persons up to eight more; beside that the time and memory of [`solve_direct`].
+/// Takes two passes over the arcs for what persons keep, and with more objects than persons up to eight more; beside
+/// that the time and memory of [`solve_direct`].
 ///
 /// # Errors
 ///
@@ -216,12 +242,16 @@ pub fn solve_direct_from(
     solve_direct_watched_from(alloc, problem, limits, start, &mut Onward)
 }
 
-/// Solves a problem as [`solve_direct`] does, and asks between bids whether the run goes on: before each phase, and after as many bids of one as look at some four million arcs. Where it doesn't, the answer is
-/// a bracket with the reason `Bids`, or that there is no assignment; where it has said no more than before the call, a bracket stands only after a limit: clause `limit`. The bracket has the pairs of the last whole
-/// phase, if there was one. Who has said no isn't asked again; that somebody was asked at all, but for a full table or where there is no assignment, is clause `asked`. To ask takes O(persons) time, and that of `goes_on`.
+/// Solves a problem as [`solve_direct`] does, and asks between bids whether the run goes on: before each phase, and
+/// after as many bids of one as look at some four million arcs. Where it doesn't, the answer is a bracket with the
+/// reason `Bids`, or that there is no assignment; where it has said no more than before the call, a bracket stands only
+/// after a limit: clause `limit`. The bracket has the pairs of the last whole phase, if there was one. Who has said no
+/// isn't asked again; that somebody was asked at all, but for a full table or where there is no assignment, is clause
+/// `asked`. To ask takes O(persons) time, and that of `goes_on`.
 ///
-/// Nothing is asked before the rows are laid out, within a search for a path, while a full table is searched, while prices are refined, which takes at most the time of some twice the bids of the phase before
-/// it, or after a no, while a bracket is made and checked.
+/// Nothing is asked before the rows are laid out, within a search for a path, while a full table is searched, while
+/// prices are refined, which takes at most the time of some twice the bids of the phase before it, or after a no, while
+/// a bracket is made and checked.
 ///
 /// # Errors
 ///
@@ -233,7 +263,8 @@ pub fn solve_direct_watched<W: Watch>(
     watch: &mut W,
 ) -> Result<Answer, AllocError>
     ensures is { IfOk result (IsAnswer problem.now) }
-    ensures limit { IfOk result (λ a. IsLimitedUnless (W.has_stopped watch.old) (W.has_stopped watch.new) a (IsLimited problem.now limits.now.bids (pos 0) a)) }
+    ensures limit { IfOk result
+        (λ a. IsLimitedUnless (W.has_stopped watch.old) (W.has_stopped watch.new) a (IsLimited problem.now limits.now.bids (pos 0) a)) }
     ensures run { IfOk result (IsOfFirstPhases problem.now limits.now.bids) }
     ensures asked { IfOk result (IsAsked (W.was_asked watch.new) problem.now) }
 {
@@ -261,7 +292,9 @@ pub fn solve_direct_watched_from<W: Watch>(
 ) -> Result<Answer, AllocError>
     requires start { AreStartPrices problem.now start.now }
     ensures is { IfOk result (IsAnswer problem.now) }
-    ensures limit { IfOk result (λ a. IsLimitedUnless (W.has_stopped watch.old) (W.has_stopped watch.new) a (IsLimitedFrom problem.now limits.now.bids start.now a)) }
+    ensures limit { IfOk result
+        (λ a. IsLimitedUnless (W.has_stopped watch.old) (W.has_stopped watch.new) a (IsLimitedFrom problem.now
+        limits.now.bids start.now a)) }
     ensures run { IfOk result (IsOfPhasesFrom problem.now limits.now.bids start.now) }
     ensures asked { IfOk result (IsAsked (W.was_asked watch.new) problem.now) }
 {

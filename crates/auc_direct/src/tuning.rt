@@ -1,4 +1,5 @@
-//! The numbers by which a run is steered. Speed alone depends on them. How long candidate lists are stands in `auc_market`.
+//! The numbers by which a run is steered. Speed alone depends on them. How long candidate lists are stands in
+//! `auc_market`.
 
 use auc_market::Pacing;
 
@@ -8,7 +9,8 @@ pub(crate) const STEP: i64 = 8;
 /// Of how many persons the spread of a row is looked at, at least, where there are as many.
 pub(crate) const SAMPLE: u32 = 512;
 
-/// How many bids a person a phase may take for the last phase to be tried next: with fewer, not everybody was displaced even once.
+/// How many bids a person a phase may take for the last phase to be tried next: with fewer, not everybody was displaced
+/// even once.
 pub(crate) const CALM: u64 = 2;
 
 /// Two phases take as many bids where these differ by less than such a part.
@@ -23,7 +25,8 @@ pub(crate) const PACING: Pacing = Pacing {
     slice: 4_194_304,
 };
 
-/// In which part of the cost of 1 the next eps has to lie for prices to be refined: where costs are whole numbers, a phase at eight times as much has mostly found a least assignment.
+/// In which part of the cost of 1 the next eps has to lie for prices to be refined: where costs are whole numbers, a
+/// phase at eight times as much has mostly found a least assignment.
 pub(crate) const PART: i64 = 80;
 
 /// How many looks a refinement may take for each bid of the phase before it.

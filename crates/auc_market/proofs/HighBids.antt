@@ -1,4 +1,5 @@
--- Nobody's bid is above all prices by more than costs and eps allow: where prices are low, no limit on prices can be told.
+-- Nobody's bid is above all prices by more than costs and eps allow: where prices are low, no limit on prices can be
+-- told.
 use Rattle.std.proofs.Common.{◌≡◌, ℕ, zero, suc, ◌*◌, ◌^◌, ◌<◌, ◌≤◌, inl, inr, List, length, get_or, ap, ◌∙◌, arith}
 use Rattle.std.specs.Prelude.{ℤ, pos, ◌+ℤ◌, ◌*ℤ◌, ◌≤ℤ◌, ◌<ℤ◌, ◌⊎◌, All, unsigned_abs}
 use Rattle.std.proofs.lemmas.Bool.{cases_eq}

@@ -84,7 +84,8 @@ lowered_by f v place r ordered value second wins stays = record {
   stays = λ ge over. same_found r f.value f.second f.place (omega (arith, ints, clamps, value, ge)) (let e : int_max f.value v ≡ v = omega (arith, ints, clamps, ge) in omega (arith, ints, clamps, second, e, over)) (stays ge);
 }
 
--- The two values are held against each other first: the lesser against the value, and what goes of these two, and the greater, against the second.
+-- The two values are held against each other first: the lesser against the value, and what goes of these two, and the
+-- greater, against the second.
 module _ (f : Found) (one other : ℤ) (place : ℕ) (r : Found) (lesser greater rest gone : ℤ) (ordered : f.value ≤ℤ f.second) (lesser_is : lesser ≡ int_min one other) (greater_is : greater ≡ int_max one other) (rest_is : rest ≡ int_min f.second greater) (gone_is : gone ≡ int_max f.value lesser) (value : r.value ≡ int_min f.value lesser) (second : r.second ≡ int_min rest gone) (stays : f.value ≤ℤ lesser → r.place ≡ f.place) (first : lesser <ℤ f.value → one ≤ℤ other → r.place ≡ place) (next : lesser <ℤ f.value → other <ℤ one → r.place ≡ place + 1) where
   -- the first of the two is less than the value
   past_first : one <ℤ f.value → LoweredTwice f one other place r

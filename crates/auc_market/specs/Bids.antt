@@ -23,7 +23,8 @@ state p h o = record { prices = p; holders = h; owns = o }
 abbrev pub state_of : Holdings → State
 state_of m = state m.prices.items m.holders.items m.owns.items
 
--- One bid: a person who has no object offers by the rule, the object is his, the amount is its price, and who has held it has none.
+-- One bid: a person who has no object offers by the rule, the object is his, the amount is its price, and who has held
+-- it has none.
 pub record IsBidMade (r : FlatTable) (eps : ℤ) (s t : State) : Type 0 where
   pub person : ℕ
   pub known : person < length r.rows

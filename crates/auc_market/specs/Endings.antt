@@ -28,8 +28,9 @@ pub record HaveRunOut (r : FlatTable) (bids : ℕ) (begun : State) (prices : Lis
   pub run : AreMade r eps first bids last
   pub prices_are : prices ≡ last.prices
 
--- Why a phase may be stopped: it has made as many bids as it may, and the prices add up to more than those that the run began with, by no less than the bids that a phase may
--- take, each of which has raised one; or somebody's bid, at an eps of a phase, would be more than the greatest price.
+-- Why a phase may be stopped: it has made as many bids as it may, and the prices add up to more than those that the run
+-- began with, by no less than the bids that a phase may take, each of which has raised one; or somebody's bid, at an
+-- eps of a phase, would be more than the greatest price.
 abbrev pub IsLimit : FlatTable → ℕ → State → Reason → List ℤ → Type 0
 IsLimit r bids begun Reason.Bids prices = HaveRunOut r bids begun prices × ((total begun.prices +ℤ pos bids) ≤ℤ total prices)
 IsLimit r bids begun Reason.Ceiling prices = (eps : ℤ) × IsEpsOf r eps × IsAbove r eps prices
@@ -71,6 +72,7 @@ abbrev pub IsStopped : FlatTable → ℕ → State → Ending → List ℤ → T
 IsStopped r bids begun Ending.Sold prices = Unit {0}
 IsStopped r bids begun (Ending.Stopped reason) prices = IsLimit r bids begun reason prices
 
--- What a run comes to that somebody watches, of whom it is known whether he had said no before it and has said no after it: he has said no, and it ends as one whose bids have run out; or he has said no more than before, and this holds.
+-- What a run comes to that somebody watches, of whom it is known whether he had said no before it and has said no after
+-- it: he has said no, and it ends as one whose bids have run out; or he has said no more than before, and this holds.
 abbrev pub IsToldOr : Bool → Bool → Ending → Type 0 → Type 0
 IsToldOr before after ending Holds = ((after ≡ true) × (ending ≡ Ending.Stopped Reason.Bids)) ⊎ ((after ≡ before) × Holds)

@@ -21,4 +21,7 @@ pub record IsIncumbent (r : FlatTable) (i : Incumbent) : Type 0 where
 
 -- nothing has changed; or the incumbent is what was held
 abbrev pub AreSetAside : Holdings → Incumbent → Holdings → Incumbent → Type 0
-AreSetAside old before new after = ((new ≡ old) × (after ≡ before)) ⊎ ((after.holders ≡ old.holders) × (after.owns ≡ old.owns) × (new.holders ≡ before.holders) × (new.owns ≡ before.owns))
+AreSetAside old before new after =
+    ((new ≡ old) × (after ≡ before))
+    ⊎
+    ((after.holders ≡ old.holders) × (after.owns ≡ old.owns) × (new.holders ≡ before.holders) × (new.owns ≡ before.owns))

@@ -53,7 +53,8 @@ pub record IsLifted (prices new : List ℤ) (holders held : List ℕ) (owns had 
 abbrev pub HaveObjects : ℕ → List ShortArc → Type 0
 HaveObjects n owns = (i : ℕ) → i < n → (own_at owns i).object ≢ NOBODY
 
--- Each of the first n persons has an object, but for two, who have none and are not the same: who bids next, and who waits for his turn. NOBODY stands for one where there is none.
+-- Each of the first n persons has an object, but for two, who have none and are not the same: who bids next, and who
+-- waits for his turn. NOBODY stands for one where there is none.
 pub record HaveAllBut (n : ℕ) (owns : List ShortArc) (person other : ℕ) : Type 0 where
   pub none : (own_at owns person).object ≡ NOBODY
   pub waits : (own_at owns other).object ≡ NOBODY
@@ -74,7 +75,8 @@ abbrev pub AreHigher : List ℤ → List ℤ → Type 0
 AreHigher prices new = (k : ℕ) → price_at prices k ≤ℤ price_at new k
 
 -- What a bid that was awarded comes to: the bidder has an object, and who has held it has none.
-pub record IsAwarded (r : FlatTable) (eps : ℤ) (person : ℕ) (prices new : List ℤ) (sold : List ℕ) (owns left : List ShortArc) (displaced : ℕ) : Type 0 where
+pub record IsAwarded (r : FlatTable) (eps : ℤ) (person : ℕ) (prices new : List ℤ) (sold : List ℕ)
+    (owns left : List ShortArc) (displaced : ℕ) : Type 0 where
   pub stands : Stands r eps new sold left
   pub more : (total prices +ℤ pos 1) ≤ℤ total new
   pub none : (own_at left displaced).object ≡ NOBODY

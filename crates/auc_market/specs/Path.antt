@@ -20,7 +20,9 @@ AreRises prices holders rises = All (IsRise prices holders) rises
 
 -- a price is what it was, or has risen to one of these amounts
 abbrev pub HasRisen : List ℤ → List ℤ → List Rise → ℕ → Type 0
-HasRisen prices new rises k = (price_at new k ≡ price_at prices k) ⊎ ((rise : Rise) × Contains rises rise × (rise.object ≡ k) × (price_at new k ≡ rise.amount))
+HasRisen prices new rises k =
+    (price_at new k ≡ price_at prices k)
+    ⊎ ((rise : Rise) × Contains rises rise × (rise.object ≡ k) × (price_at new k ≡ rise.amount))
 
 pub record AreRaised (prices new : List ℤ) (rises : List Rise) : Type 0 where
   pub many : length new ≡ length prices
@@ -34,7 +36,8 @@ IsWithin r eps prices owns i = (own_at owns i).object ≢ NOBODY → IsSlack r e
 abbrev pub AreWithin : FlatTable → ℤ → List ℤ → List ℕ → List ShortArc → List Rise → Type 0
 AreWithin r eps prices holders owns rises = All (λ (rise : Rise). IsWithin r eps prices owns (holder_at holders rise.object)) rises
 
--- While prices are taken back: each is what it was before, or what it had risen to; and the former holds of the objects of the first n of these.
+-- While prices are taken back: each is what it was before, or what it had risen to; and the former holds of the objects
+-- of the first n of these.
 pub record AreTakenBack (prices raised now : List ℤ) (rises : List Rise) (n : ℕ) : Type 0 where
   pub many : length now ≡ length raised
   pub either : (k : ℕ) → (price_at now k ≡ price_at raised k) ⊎ (price_at now k ≡ price_at prices k)

@@ -17,7 +17,8 @@ use Rattle.auc_market.specs.Phases.{IsOpened, IsPhase, IsRefined}
 use Rattle.auc_market.specs.Shortlist.{Kept}
 use Rattle.auc_market.specs.Way.{IsWay}
 
--- the rows, eps, the prices, who holds each object, by which arc each person holds his; and whether each had one once, by which arcs then
+-- the rows, eps, the prices, who holds each object, by which arc each person holds his; and whether each had one once,
+-- by which arcs then
 pub record Position : Type 0 where
   pub table : FlatTable
   pub eps : ℤ
@@ -123,7 +124,8 @@ pub record IsPlayed (bids : ℕ) (before after : Bool) (ending : Ending) (old ne
   pub sold : IsSold old.table ending new.owns
   pub ended : IsToldOr before after ending (IsEnding old.table bids (state_at old) ending new.prices new.owns)
 
--- The next phase begins at this eps: the prices stay, and nobody holds anything. What persons held is the incumbent, where each had an object.
+-- The next phase begins at this eps: the prices stay, and nobody holds anything. What persons held is the incumbent,
+-- where each had an object.
 pub record IsBegun (eps : ℤ) (old new : Position) : Type 0 where
   pub table : new.table ≡ old.table
   pub eps_is : new.eps ≡ eps
@@ -144,7 +146,10 @@ pub record IsRefinedWhole (new : Position) : Type 0 where
   pub eps_is : new.eps ≡ pos 1
   pub have : HaveObjects (length new.table.rows) new.owns
 
--- what such a market is given up for: what each person holds, where all have one; else that, or the incumbent, at the same prices
+-- what such a market is given up for: what each person holds, where all have one; else that, or the incumbent, at the
+-- same prices
 abbrev pub AreHandedOn : Ending → Position → List ℤ → List ℕ → List ShortArc → Type 0
 AreHandedOn Ending.Sold p prices holders owns = (prices ≡ p.prices) × (holders ≡ p.holders) × (owns ≡ p.owns)
-AreHandedOn (Ending.Stopped reason) p prices holders owns = (prices ≡ p.prices) × ((eps : ℤ) × Stands p.table eps prices holders owns) × (p.has_incumbent ≡ true → owns ≡ p.incumbent)
+AreHandedOn (Ending.Stopped reason) p prices holders owns =
+    (prices ≡ p.prices) × ((eps : ℤ) × Stands p.table eps prices holders owns)
+    × (p.has_incumbent ≡ true → owns ≡ p.incumbent)

@@ -29,7 +29,8 @@ no_list = record { bound = pos 0; arcs = record { items = [] } }
 abbrev pub SaysNothing : Shortlist → Type 0
 SaysNothing l = l.arcs.items ≡ []
 
--- what a list says of the arcs that were seen: its arcs are among them, and each other one is worth no less than the bound
+-- what a list says of the arcs that were seen: its arcs are among them, and each other one is worth no less than the
+-- bound
 pub record Gathered (val : ShortArc → ℤ) (seen : List ShortArc) (l : Shortlist) : Type 0 where
   pub members : All (Contains seen) l.arcs.items
   pub rest : All (λ b. Contains l.arcs.items b ⊎ (l.bound ≤ℤ val b)) seen

@@ -17,7 +17,8 @@ pub record ArePricesOf (r : FlatTable) (prices : List ℤ) : Type 0 where
 abbrev pub AreKept : List ℤ → List ℤ → Type 0
 AreKept prices new = (j : ℕ) → (price_at new j ≡ price_at prices j) ⊎ (price_at new j ≡ pos 0)
 
--- What an opening leaves of start prices: all of them where there are as many objects as persons; else each price of the start, or 0.
+-- What an opening leaves of start prices: all of them where there are as many objects as persons; else each price of
+-- the start, or 0.
 pub record AreOpened (objects persons : ℕ) (start begun : List ℤ) : Type 0 where
   pub each : length begun ≡ length start
   pub same : objects ≡ persons → begun ≡ start
@@ -27,7 +28,8 @@ pub record AreOpened (objects persons : ℕ) (start begun : List ℤ) : Type 0 w
 abbrev pub any_eps : ℤ
 any_eps = pos (2 ^ 62)
 
--- While persons take objects at start prices: each price is the start's, or 0, and with as many objects as persons the former; of slackness nothing is known.
+-- While persons take objects at start prices: each price is the start's, or 0, and with as many objects as persons the
+-- former; of slackness nothing is known.
 pub record AreSeated (r : FlatTable) (start prices : List ℤ) (holders : List ℕ) (owns : List ShortArc) : Type 0 where
   pub stands : Stands r any_eps prices holders owns
   pub kept : AreKept start prices

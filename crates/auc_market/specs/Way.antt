@@ -5,8 +5,10 @@ use Rattle.auc_rows.specs.Rows.{FlatTable}
 use Rattle.auc_market.specs.declared.holdings.TheConstants.{NOBODY}
 use Rattle.auc_market.specs.Market.{AreHigher, HaveAllBut, Stands, own_at}
 
--- What a path of a free person comes to, whole or in part: what holds between two bids holds, no price has fallen, and one person is free in his place, or none.
-pub record IsWay (r : FlatTable) (eps : ℤ) (person : ℕ) (prices new : List ℤ) (sold : List ℕ) (owns left : List ShortArc) (free : ℕ) : Type 0 where
+-- What a path of a free person comes to, whole or in part: what holds between two bids holds, no price has fallen, and
+-- one person is free in his place, or none.
+pub record IsWay (r : FlatTable) (eps : ℤ) (person : ℕ) (prices new : List ℤ) (sold : List ℕ)
+    (owns left : List ShortArc) (free : ℕ) : Type 0 where
   pub stands : Stands r eps new sold left
   pub higher : AreHigher prices new
   pub none : (own_at left free).object ≡ NOBODY

@@ -9,7 +9,8 @@ ghost use Rattle.auc_market.specs.Shortlist.{IsBest};
 use crate::scan::scan;
 use auc_rows::ShortArc;
 
-/// What a person's best arc is worth, what no other one of his is worth less than (the greatest number where he has no other), and the arc.
+/// What a person's best arc is worth, what no other one of his is worth less than (the greatest number where he has no
+/// other), and the arc.
 #[derive(Clone, Copy)]
 pub(crate) struct Best {
     pub(crate) value: i64,

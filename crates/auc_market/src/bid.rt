@@ -40,7 +40,8 @@ pub(crate) fn scaled_spread(rows: &FlatRows) -> i64
     rows.scale() * rows.spread()
 }
 
-/// How much more the second arc of a row is worth than its best one; the scaled spread of all costs where there is no second.
+/// How much more the second arc of a row is worth than its best one; the scaled spread of all costs where there is no
+/// second.
 #[inline(always)]
 fn lead_of(rows: &FlatRows, best: Best) -> i64
     requires value { IsValue best.value }
@@ -70,7 +71,8 @@ fn amount_of(price: i64, lead: i64, eps: i64) -> i64
     price + lead + eps
 }
 
-/// What a person bids at these prices, indexed by object: on his best arc, and so much that it is then worth eps more than his second. `eps` and `prices` are in scaled costs.
+/// What a person bids at these prices, indexed by object: on his best arc, and so much that it is then worth eps more
+/// than his second. `eps` and `prices` are in scaled costs.
 ///
 /// O(1): the best arc is found before. The method is the bid of the auction algorithm (Bertsekas, 1979).
 #[inline(always)]

@@ -13,8 +13,8 @@ use crate::pace::Pace;
 
 /// How many bids were left where a chain ended last, after one more bid.
 ///
-/// LLVM makes a select of it: a branch would be guessed wrongly where a chain ends. Were the bids of a chain counted, with 0 where it ends, it would make a branch of that all the same, since after 0
-/// bids no path is asked for.
+/// LLVM makes a select of it: a branch would be guessed wrongly where a chain ends. Were the bids of a chain counted,
+/// with 0 where it ends, it would make a branch of that all the same, since after 0 bids no path is asked for.
 #[inline(always)]
 fn ended_at(ended: u64, left: u64, displaced: u32) -> u64
     ensures { displaced ≡ NOBODY → result ≡ left }
@@ -23,8 +23,8 @@ fn ended_at(ended: u64, left: u64, displaced: u32) -> u64
 }
 
 impl<'a> Market<'a> {
-    /// Who is free after a bid, with so many left: the displaced person, or, where the last `pace.patience` bids have each displaced somebody, whoever is free after a search for a path, which is no bid.
-    /// NOBODY where nobody is.
+    /// Who is free after a bid, with so many left: the displaced person, or, where the last `pace.patience` bids have
+    /// each displaced somebody, whoever is free after a search for a path, which is no bid. NOBODY where nobody is.
     #[inline(always)]
     pub(crate) fn freed_by(
         &mut self,
@@ -49,7 +49,8 @@ impl<'a> Market<'a> {
         Ok(way.free)
     }
 
-    /// A person bids, then whoever is displaced, and so on, until nobody is. `left` is how many bids the phase may still make. After each `pace.patience` bids a path is looked for.
+    /// A person bids, then whoever is displaced, and so on, until nobody is. `left` is how many bids the phase may
+    /// still make. After each `pace.patience` bids a path is looked for.
     pub(crate) fn chain(
         &mut self,
         first: u32,

@@ -2,7 +2,8 @@
 
 use auc_claim::Reason;
 
-/// How a chain of bids has ended, each after the first by the person whom the one before has displaced; or two such chains that take turns.
+/// How a chain of bids has ended, each after the first by the person whom the one before has displaced; or two such
+/// chains that take turns.
 #[derive(Clone, Copy, Debug, PartialEq, Eq)]
 pub(crate) enum Chain {
     /// Nobody was displaced.

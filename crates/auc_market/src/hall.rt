@@ -1,4 +1,5 @@
-//! Persons who together know fewer objects than they number, by flags of the persons. Who made the flags proves nothing of them: what they come to is counted.
+//! Persons who together know fewer objects than they number, by flags of the persons. Who made the flags proves nothing
+//! of them: what they come to is counted.
 
 ghost use Rattle.std.specs.Prelude.{◌≡◌, ◌<◌, ◌^◌, All, length, IfOk, IfSome};
 ghost use Rattle.auc_hall.specs.Chosen.{places};

@@ -91,11 +91,13 @@ impl Holdings {
         requires price { bid.arc.object < length self.old.prices.items }
         requires holder { bid.arc.object < length self.old.holders.items }
         requires person { person < length self.old.owns.items }
-        requires earlier { holder_at self.old.holders.items bid.arc.object ≢ NOBODY → holder_at self.old.holders.items bid.arc.object < length self.old.owns.items }
+        requires earlier { holder_at self.old.holders.items bid.arc.object ≢ NOBODY
+            → holder_at self.old.holders.items bid.arc.object < length self.old.owns.items }
         requires few { length self.old.owns.items < NOBODY }
         ensures prices { self.new.prices.items ≡ set self.old.prices.items bid.arc.object bid.amount }
         ensures holders { self.new.holders.items ≡ set self.old.holders.items bid.arc.object person }
-        ensures owns { self.new.owns.items ≡ set (set self.old.owns.items person bid.arc) (holder_at self.old.holders.items bid.arc.object) no_own }
+        ensures owns { self.new.owns.items ≡ set (set self.old.owns.items person bid.arc)
+            (holder_at self.old.holders.items bid.arc.object) no_own }
         ensures earlier { result ≡ holder_at self.old.holders.items bid.arc.object }
     {
         let object = bid.arc.object as usize;
@@ -103,7 +105,8 @@ impl Holdings {
         self.prices[object] = bid.amount;
         self.holders[object] = person;
         self.owns[person as usize] = bid.arc;
-        // Where nobody has held it the bidder's own arc is written again, so that there is no branch: it would be guessed wrongly where a chain of bids ends.
+        // Where nobody has held it the bidder's own arc is written again, so that there is no branch: it would be
+        // guessed wrongly where a chain of bids ends.
         let (last, own) = if earlier == NOBODY {
             (person, bid.arc)
         } else {
@@ -113,7 +116,8 @@ impl Holdings {
         earlier
     }
 
-    /// The first person from here on, below `until`, who has no object and is neither of these two; `until` where there is none.
+    /// The first person from here on, below `until`, who has no object and is neither of these two; `until` where there
+    /// is none.
     #[inline(always)]
     pub(crate) fn free_from(&self, from: u32, until: u32, person: u32, other: u32) -> u32
         requires from { from ≤ until }

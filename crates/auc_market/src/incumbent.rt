@@ -1,4 +1,5 @@
-//! The incumbent: what persons held when each had an object last. A run that is stopped answers with it, at the prices of the stop.
+//! The incumbent: what persons held when each had an object last. A run that is stopped answers with it, at the prices
+//! of the stop.
 
 ghost use Rattle.std.specs.Prelude.{◌≡◌, false, true, length, IfOk};
 ghost use Rattle.auc_market.specs.Incumbent.{AreSetAside};
@@ -9,7 +10,8 @@ use auc_rows::ShortArc;
 use std::alloc::{AllocError, Global};
 use std::mem;
 
-/// Who held each object, indexed by object; by which arc each person held his, indexed by person; and whether each person had one.
+/// Who held each object, indexed by object; by which arc each person held his, indexed by person; and whether each
+/// person had one.
 #[derive(Drop)]
 pub(crate) struct Incumbent {
     pub(crate) holders: Vec<u32>,
@@ -18,10 +20,12 @@ pub(crate) struct Incumbent {
 }
 
 impl Holdings {
-    /// Where each person has an object, what they hold is the incumbent from now on, and these holdings are to be opened.
+    /// Where each person has an object, what they hold is the incumbent from now on, and these holdings are to be
+    /// opened.
     pub(crate) fn set_aside(&mut self, incumbent: &mut Incumbent)
         ensures prices { self.new.prices ≡ self.old.prices }
-        ensures whole { HaveObjects (length self.old.owns.items) self.old.owns.items → (incumbent.new.is_whole ≡ true) × (incumbent.new.owns.items ≡ self.old.owns.items) }
+        ensures whole { HaveObjects (length self.old.owns.items) self.old.owns.items → (incumbent.new.is_whole ≡ true)
+            × (incumbent.new.owns.items ≡ self.old.owns.items) }
         ensures aside { AreSetAside self.old incumbent.old self.new incumbent.new }
     {
         if !self.all_have() {

@@ -1,10 +1,13 @@
-//! The market: prices, who holds what, and all moves that change them. A bid is an award at once (Gauss-Seidel), and what always holds is said once, on [`Market`].
+//! The market: prices, who holds what, and all moves that change them. A bid is an award at once (Gauss-Seidel), and
+//! what always holds is said once, on [`Market`].
 //!
-//! Which moves are made, and when, is the caller's: no law depends on it. Nothing outside of this crate changes a price, or who holds an object, but by these moves. What a market has come to is handed out as
-//! [`Holdings`], which nothing takes back.
+//! Which moves are made, and when, is the caller's: no law depends on it. Nothing outside of this crate changes a
+//! price, or who holds an object, but by these moves. What a market has come to is handed out as [`Holdings`], which
+//! nothing takes back.
 //!
-//! `market.rt` has the laws and the moves between phases, `phase.rt` a phase. Below it are `turns.rt` and `chain.rt` (chains of bids, which `pace.rt` ends by a search), `step.rt` (a bid), `path.rt` (an augmenting
-//! path) and `refine.rt` (price refinement); `starts.rt` seats persons at start prices before there is a market.
+//! `market.rt` has the laws and the moves between phases, `phase.rt` a phase. Below it are `turns.rt` and `chain.rt`
+//! (chains of bids, which `pace.rt` ends by a search), `step.rt` (a bid), `path.rt` (an augmenting path) and
+//! `refine.rt` (price refinement); `starts.rt` seats persons at start prices before there is a market.
 #![tactic(auto)]
 
 mod best;

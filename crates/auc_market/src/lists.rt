@@ -11,10 +11,12 @@ use crate::shortlist::{ROOM, Shortlist, Values};
 use auc_rows::FlatRows;
 use std::alloc::{AllocError, Global};
 
-/// With so many arcs and more a row has a list of its best ones: with fewer a branch that is guessed wrongly takes as long as the list spares.
+/// With so many arcs and more a row has a list of its best ones: with fewer a branch that is guessed wrongly takes as
+/// long as the list spares.
 pub const LONG: usize = 48;
 
-/// A list for each person, indexed by person, where most arcs stand in long rows; else none. And what they are made with.
+/// A list for each person, indexed by person, where most arcs stand in long rows; else none. And what they are made
+/// with.
 #[derive(Drop)]
 pub(crate) struct Lists {
     pub(crate) lists: Vec<Shortlist>,
@@ -22,7 +24,8 @@ pub(crate) struct Lists {
 }
 
 impl Lists {
-    /// Lists with no arc, which say nothing. 176 bytes a person where most arcs stand in long rows. Where fewer do, lists take more memory than they are worth: each person would have one.
+    /// Lists with no arc, which say nothing. 176 bytes a person where most arcs stand in long rows. Where fewer do,
+    /// lists take more memory than they are worth: each person would have one.
     pub(crate) fn new(alloc: Global, rows: &FlatRows) -> Result<Lists, AllocError>
         ensures { IfOk result (λ l. (prices : List ℤ) → Kept rows.now prices l.lists.items) }
     {
@@ -45,7 +48,8 @@ impl Lists {
         })
     }
 
-    /// The best arc of a person at these prices: by his list where he has one and his row is long, and else by a pass over the row.
+    /// The best arc of a person at these prices: by his list where he has one and his row is long, and else by a pass
+    /// over the row.
     #[inline(always)]
     pub(crate) fn best(&mut self, rows: &FlatRows, scale: i64, person: u32, prices: &[i64]) -> Best
         requires person { person < length rows.now.rows }

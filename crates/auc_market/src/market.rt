@@ -1,4 +1,5 @@
-//! The market: rows, eps, prices and who holds what, and all moves that change them. What always holds of it is said here, once, on its type:
+//! The market: rows, eps, prices and who holds what, and all moves that change them. What always holds of it is said
+//! here, once, on its type:
 //!
 //! 1. Each object has one price and one place for a holder, and each person has one place for an arc.
 //! 2. A price is from 0 to 2^61.
@@ -10,8 +11,10 @@
 //! 8. Eps is from 1 to the scaled spread of the costs, or 1; and each person has an arc.
 //! 9. Each candidate list is right: no arc that it leaves out is worth less than its bound.
 //!
-//! A move takes the market from one such position to another: [`Market::bid`] (a bid is an award, as in Gauss-Seidel), [`Market::path`] (a shortest augmenting path, or the Hall violator that it has reached),
-//! [`Market::refine`] (price refinement) and [`Market::open`] (the next eps). When each is made is strategy, and no answer depends on it. Starts are seated before there is a market (`starts.rt`, `adopt.rt`).
+//! A move takes the market from one such position to another: [`Market::bid`] (a bid is an award, as in Gauss-Seidel),
+//! [`Market::path`] (a shortest augmenting path, or the Hall violator that it has reached), [`Market::refine`] (price
+//! refinement) and [`Market::open`] (the next eps). When each is made is strategy, and no answer depends on it. Starts
+//! are seated before there is a market (`starts.rt`, `adopt.rt`).
 
 ghost use Rattle.std.specs.Prelude.{true, ◌≡◌, ◌≢◌, ◌≤◌, ◌<◌, ℕ, ℤ, pos, length, IfErr, IfNone, IfOk, IfSome, OnOk};
 ghost use Rattle.auc_rows.specs.Rows.{EachHasArc};
@@ -145,7 +148,8 @@ impl<'a> Market<'a> {
         held
     }
 
-    /// The mean spread of the rows of at least so many persons, or of all, at the present prices, in scaled costs, and at least 1: eps of a phase may be as great.
+    /// The mean spread of the rows of at least so many persons, or of all, at the present prices, in scaled costs, and
+    /// at least 1: eps of a phase may be as great.
     pub fn spread(&self, sample: u32) -> i64
         ensures { IsEpsOf self.now.table result }
     {
@@ -172,7 +176,8 @@ impl<'a> Market<'a> {
         mean.min(scaled_spread(rows)).max(LAST_EPS)
     }
 
-    /// The first person from here on, below `until`, who holds no object and is neither of these two; `until` where there is none.
+    /// The first person from here on, below `until`, who holds no object and is neither of these two; `until` where
+    /// there is none.
     #[inline(always)]
     pub(crate) fn free_from(&self, from: u32, until: u32, person: u32, other: u32) -> u32
         requires from { from ≤ until }
@@ -186,7 +191,8 @@ impl<'a> Market<'a> {
         self.holdings.free_from(from, until, person, other)
     }
 
-    /// A free person bids, and has the object; gives who has held it, or NOBODY. None where the bid would be above the greatest price: nothing has changed then.
+    /// A free person bids, and has the object; gives who has held it, or NOBODY. None where the bid would be above the
+    /// greatest price: nothing has changed then.
     #[inline(always)]
     pub(crate) fn bid(&mut self, person: u32) -> Option<u32>
         requires { IsFree self.old person }
@@ -198,7 +204,8 @@ impl<'a> Market<'a> {
         self.holdings.step(rows, self.eps, person, lists)
     }
 
-    /// A free person goes by a shortest augmenting path where there is one; gives who is free then, and how many arcs were looked at.
+    /// A free person goes by a shortest augmenting path where there is one; gives who is free then, and how many arcs
+    /// were looked at.
     ///
     /// # Errors
     ///
@@ -214,8 +221,9 @@ impl<'a> Market<'a> {
             .find_way(self.alloc, rows, self.eps, person, search)
     }
 
-    /// Raises prices, with so many looks at persons, until each is within 1 of his best: then nothing costs less than what persons hold, and eps is the last one. Gives whether that came to its end; where it
-    /// was begun and hasn't, nobody holds anything any more.
+    /// Raises prices, with so many looks at persons, until each is within 1 of his best: then nothing costs less than
+    /// what persons hold, and eps is the last one. Gives whether that came to its end; where it was begun and hasn't,
+    /// nobody holds anything any more.
     pub fn refine(&mut self, looks: u64) -> Result<bool, AllocError>
         requires square { self.old.table.objects ≡ length self.old.table.rows }
         ensures refined { OnOk result (IsRefinement self.old self.new) }

@@ -10,7 +10,8 @@ use auc_rows::FlatRows;
 pub struct Pacing {
     /// How many arcs of a bid an arc of a search for a path takes the time of.
     pub search: u64,
-    /// How many times as long as a search a chain may take before the last phase; and which part of all arcs the first search is taken to look at.
+    /// How many times as long as a search a chain may take before the last phase; and which part of all arcs the first
+    /// search is taken to look at.
     pub early: u64,
     /// How many arcs are looked at between two questions to a watch, about.
     pub slice: u64,
@@ -23,7 +24,8 @@ pub struct Pace {
     // How many arcs a bid looks at, about; and how many bids take as long as a search.
     arcs_a_bid: u64,
     search: u64,
-    // How many times as long as a search a chain may take; and so many bids, each of which displaces somebody, are they.
+    // How many times as long as a search a chain may take; and so many bids, each of which displaces somebody, are
+    // they.
     times: u64,
     pub(crate) patience: u64,
     // How many there were since the last search, where a slice of a phase has ended.
@@ -66,7 +68,8 @@ impl Pace {
         self.patience = self.search.saturating_mul(self.times).max(1);
     }
 
-    /// A search has looked at so many arcs: half of what was known of searches before it counts, and half of what it took.
+    /// A search has looked at so many arcs: half of what was known of searches before it counts, and half of what it
+    /// took.
     pub(crate) fn learn(&mut self, looked: u64) {
         let bids = looked
             .saturating_mul(self.pacing.search)

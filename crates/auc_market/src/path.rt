@@ -1,4 +1,5 @@
-//! A free person goes by an augmenting path that a search has proposed. What it proposes is tried: prices rise only where each holder stays within eps of his best, and a person takes an object only where he is.
+//! A free person goes by an augmenting path that a search has proposed. What it proposes is tried: prices rise only
+//! where each holder stays within eps of his best, and a person takes an object only where he is.
 
 ghost use Rattle.std.specs.Prelude.{◌≡◌, ◌≢◌, ◌<◌, ℤ, List, IsTrue, false, length};
 ghost use Rattle.auc_letters.specs.Price.{IsEps};
@@ -17,7 +18,8 @@ use auc_graph::MOST_PRICE;
 use auc_rows::FlatRows;
 
 impl Holdings {
-    /// Notes the prices as they are. Gives whether each of these objects has a holder, and none of their prices would fall, or pass the greatest.
+    /// Notes the prices as they are. Gives whether each of these objects has a holder, and none of their prices would
+    /// fall, or pass the greatest.
     fn may_rise(&self, rises: &mut [Rise]) -> bool
         ensures { IsTrue result → AreRises self.now.prices.items self.now.holders.items rises.new }
     {
@@ -53,7 +55,8 @@ impl Holdings {
 
     /// The prices are what they were before they rose.
     fn take_back(&mut self, rises: &[Rise])
-        ensures prices { (prices : List ℤ) → AreRises prices self.old.holders.items rises.now → AreRaised prices self.old.prices.items rises.now → self.new.prices.items ≡ prices }
+        ensures prices { (prices : List ℤ) → AreRises prices self.old.holders.items rises.now
+            → AreRaised prices self.old.prices.items rises.now → self.new.prices.items ≡ prices }
         ensures holders { self.new.holders.items ≡ self.old.holders.items }
         ensures owns { self.new.owns.items ≡ self.old.owns.items }
     {
@@ -93,7 +96,8 @@ impl Holdings {
         true
     }
 
-    /// Prices rise as a search proposes, where each person stays within eps of his best; else nothing changes. Gives whether they have.
+    /// Prices rise as a search proposes, where each person stays within eps of his best; else nothing changes. Gives
+    /// whether they have.
     fn rise(&mut self, rows: &FlatRows, eps: i64, rises: &mut [Rise]) -> bool
         requires eps { IsEps eps }
         requires sound { IsFlatTable rows.now }
@@ -113,14 +117,16 @@ impl Holdings {
         false
     }
 
-    /// A free person takes the object of an arc of his row, at its price, where he is within eps of his best by it. Gives who is free then: whoever has held it, NOBODY where nobody has; himself where he may not.
+    /// A free person takes the object of an arc of his row, at its price, where he is within eps of his best by it.
+    /// Gives who is free then: whoever has held it, NOBODY where nobody has; himself where he may not.
     fn take_at_price(&mut self, rows: &FlatRows, eps: i64, person: u32, place: u32) -> u32
         requires eps { IsEps eps }
         requires sound { IsFlatTable rows.now }
         requires person { person < length rows.now.rows }
         requires stands { Stands rows.now eps self.old.prices.items self.old.holders.items self.old.owns.items }
         requires none { (own_at self.old.owns.items person).object ≡ NOBODY }
-        ensures { IsWay rows.now eps person self.old.prices.items self.new.prices.items self.new.holders.items self.old.owns.items self.new.owns.items result }
+        ensures { IsWay rows.now eps person self.old.prices.items self.new.prices.items self.new.holders.items
+            self.old.owns.items self.new.owns.items result }
     {
         let row = rows.row(person);
         if place as usize >= row.len() {
@@ -148,7 +154,8 @@ impl Holdings {
         requires person { person < length rows.now.rows }
         requires stands { Stands rows.now eps self.old.prices.items self.old.holders.items self.old.owns.items }
         requires none { (own_at self.old.owns.items person).object ≡ NOBODY }
-        ensures { IsWay rows.now eps person self.old.prices.items self.new.prices.items self.new.holders.items self.old.owns.items self.new.owns.items result }
+        ensures { IsWay rows.now eps person self.old.prices.items self.new.prices.items self.new.holders.items
+            self.old.owns.items self.new.owns.items result }
     {
         if !self.rise(rows, eps, rises) {
             return person;

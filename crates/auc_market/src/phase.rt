@@ -1,4 +1,5 @@
-//! A phase: the persons who have no object begin in order, and bid, two in turn, until each has one. It goes in slices, before each of which somebody is asked whether it goes on.
+//! A phase: the persons who have no object begin in order, and bid, two in turn, until each has one. It goes in slices,
+//! before each of which somebody is asked whether it goes on.
 
 ghost use Rattle.std.specs.Prelude.{Bool, ℕ, ℤ, List, true, false, ◌≡◌, ◌-◌, ◌<◌, ◌^◌, IfErr, IfOk, IfNone, IfSome, OnOk};
 ghost use Rattle.auc_claim.specs.declared.reason.Reason.{Reason};
@@ -20,7 +21,9 @@ use auc_claim::Reason;
 /// Whether bids have run out. Any other ending of a slice is one of its phase.
 fn ran_out(ending: Ending) -> bool
     ensures yes { result ≡ true → ending ≡ Ending.Stopped Reason.Bids }
-    ensures no { result ≡ false → (r : FlatTable) (bids other : ℕ) (begun before : State) (prices : List ℤ) (owns : List ShortArc) → IsEnding r bids begun ending prices owns → IsEnding r other before ending prices owns }
+    ensures no { result ≡ false
+        → (r : FlatTable) (bids other : ℕ) (begun before : State) (prices : List ℤ) (owns : List ShortArc)
+        → IsEnding r bids begun ending prices owns → IsEnding r other before ending prices owns }
 {
     match ending {
         Ending::Sold => false,
@@ -54,7 +57,8 @@ impl<'a> Market<'a> {
         Ok(Ending::Sold)
     }
 
-    /// Plays a phase of at most so many bids, in which those bid who hold nothing yet. Where the watch says no, it ends as one whose bids have run out.
+    /// Plays a phase of at most so many bids, in which those bid who hold nothing yet. Where the watch says no, it ends
+    /// as one whose bids have run out.
     pub fn play<W: Watch>(
         &mut self,
         bids: u64,
@@ -90,7 +94,8 @@ impl<'a> Market<'a> {
         }
     }
 
-    /// The same of a phase that is tried with `few` bids: none where these have run out, though a phase may make more, or there are none of them.
+    /// The same of a phase that is tried with `few` bids: none where these have run out, though a phase may make more,
+    /// or there are none of them.
     pub fn try_phase<W: Watch>(
         &mut self,
         bids: u64,
@@ -98,7 +103,8 @@ impl<'a> Market<'a> {
         pace: &mut Pace,
         watch: &mut W,
     ) -> Result<Option<Ending>, Halt>
-        ensures played { IfOk result (λ o. IfSome o (λ e. IsPlayed bids (W.has_stopped watch.old) (W.has_stopped watch.new) e self.old self.new)) }
+        ensures played { IfOk result
+            (λ o. IfSome o (λ e. IsPlayed bids (W.has_stopped watch.old) (W.has_stopped watch.new) e self.old self.new)) }
         ensures tried { IfOk result (λ o. IfNone o (IsTried bids self.old self.new)) }
         ensures going { IfOk result (λ o. IfNone o (W.has_stopped watch.new ≡ W.has_stopped watch.old)) }
         ensures asked { IfOk result (λ o. IfSome o (λ e. W.was_asked watch.new ≡ true)) }

@@ -3,8 +3,9 @@
 use crate::holdings::NOBODY;
 use std::alloc::{AllocError, Global};
 
-/// A linked list in one vector: for each person who waits who comes after him, or himself where he is the last, and NOBODY for one who doesn't wait; and who is the first and the last one. The first
-/// is NOBODY where nobody waits. A `VecDeque` with a flag for each person took 1.1 of the instructions of a whole run that refines.
+/// A linked list in one vector: for each person who waits who comes after him, or himself where he is the last, and
+/// NOBODY for one who doesn't wait; and who is the first and the last one. The first is NOBODY where nobody waits. A
+/// `VecDeque` with a flag for each person took 1.1 of the instructions of a whole run that refines.
 #[derive(Drop)]
 pub(crate) struct Queue {
     next: Vec<u32>,

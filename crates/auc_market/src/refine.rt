@@ -1,10 +1,14 @@
-//! Price refinement: whether what persons hold after a phase costs least already. Prices rise until each person is within 1 of his best, and nobody gets or leaves an object: where that comes to its
-//! end, what they hold costs least, and the phases that are left aren't played.
+//! Price refinement: whether what persons hold after a phase costs least already. Prices rise until each person is
+//! within 1 of his best, and nobody gets or leaves an object: where that comes to its end, what they hold costs least,
+//! and the phases that are left aren't played.
 //!
-//! A person who would do better with another object, by more than 1, raises its price until he wouldn't, and then whoever holds it is looked at again. Where what they hold costs more than need be, that
-//! goes round in circles, so it is given up after some time. It is a step between two phases of Goldberg and Kennedy (1995), by labels that are corrected first come, first served (Bellman, 1958; Moore, 1959).
+//! A person who would do better with another object, by more than 1, raises its price until he wouldn't, and then
+//! whoever holds it is looked at again. Where what they hold costs more than need be, that goes round in circles, so it
+//! is given up after some time. It is a step between two phases of Goldberg and Kennedy (1995), by labels that are
+//! corrected first come, first served (Bellman, 1958; Moore, 1959).
 //!
-//! Of who waits nothing is proved: prices rise and stay within range, and at the end each person is looked at once more.
+//! Of who waits nothing is proved: prices rise and stay within range, and at the end each person is looked at once
+//! more.
 
 ghost use Rattle.std.specs.Prelude.{true, false, ◌≡◌, ◌<◌, pos, ◌≤ℤ◌, All, IsTrue, length, IfOk, OnErr, OnOk};
 ghost use Rattle.auc_graph.specs.Assignment.{total};
@@ -51,12 +55,13 @@ impl Holdings {
         true
     }
 
-    /// The price of an object that a person would rather have rises by so much, and whoever holds it waits. Gives whether that can be: not where he holds it himself, by another arc, nor where the price would pass the
-    /// greatest.
+    /// The price of an object that a person would rather have rises by so much, and whoever holds it waits. Gives
+    /// whether that can be: not where he holds it himself, by another arc, nor where the price would pass the greatest.
     #[inline(always)]
     fn lift(&mut self, person: u32, object: u32, more: i64, queue: &mut Queue) -> bool
         requires { All IsPrice self.old.prices.items }
-        ensures { IsLifted self.old.prices.items self.new.prices.items self.old.holders.items self.new.holders.items self.old.owns.items self.new.owns.items }
+        ensures { IsLifted self.old.prices.items self.new.prices.items self.old.holders.items self.new.holders.items
+            self.old.owns.items self.new.owns.items }
     {
         let holder = self.holder_of(object);
         if holder == person || object as usize >= self.prices.len() {
@@ -72,14 +77,16 @@ impl Holdings {
         true
     }
 
-    /// Looks at the person who waits first. Where his best arc is worth less to him than his own one less 1, the price of its object rises until it isn't. Gives whether it goes on.
+    /// Looks at the person who waits first. Where his best arc is worth less to him than his own one less 1, the price
+    /// of its object rises until it isn't. Gives whether it goes on.
     #[inline(always)]
     fn look(&mut self, rows: &FlatRows, person: u32, lists: &mut Lists, queue: &mut Queue) -> bool
         requires person { person < length rows.now.rows }
         requires arcs { EachHasArc rows.now }
         requires priced { ArePricesOf rows.now self.old.prices.items }
         requires kept { Kept rows.now self.old.prices.items lists.old.lists.items }
-        ensures lifted { IsLifted self.old.prices.items self.new.prices.items self.old.holders.items self.new.holders.items self.old.owns.items self.new.owns.items }
+        ensures lifted { IsLifted self.old.prices.items self.new.prices.items self.old.holders.items
+            self.new.holders.items self.old.owns.items self.new.owns.items }
         ensures kept { Kept rows.now self.new.prices.items lists.new.lists.items }
     {
         let scale = rows.scale();
@@ -110,7 +117,8 @@ impl Holdings {
         requires arcs { EachHasArc rows.now }
         requires priced { ArePricesOf rows.now self.old.prices.items }
         requires kept { Kept rows.now self.old.prices.items lists.old.lists.items }
-        ensures lifted { IsLifted self.old.prices.items self.new.prices.items self.old.holders.items self.new.holders.items self.old.owns.items self.new.owns.items }
+        ensures lifted { IsLifted self.old.prices.items self.new.prices.items self.old.holders.items
+            self.new.holders.items self.old.owns.items self.new.owns.items }
         ensures kept { Kept rows.now self.new.prices.items lists.new.lists.items }
     {
         let persons = rows.persons();
@@ -126,7 +134,8 @@ impl Holdings {
         queue.first == NOBODY
     }
 
-    /// Raises prices, with so many looks at persons, until each is within 1 of his best; gives whether that came to its end, and each has an object.
+    /// Raises prices, with so many looks at persons, until each is within 1 of his best; gives whether that came to its
+    /// end, and each has an object.
     pub(crate) fn refine(
         &mut self,
         alloc: Global,
@@ -139,7 +148,8 @@ impl Holdings {
         requires stands { Stands rows.now any_eps self.old.prices.items self.old.holders.items self.old.owns.items }
         requires kept { Kept rows.now self.old.prices.items lists.old.lists.items }
         ensures stands { OnOk result (Stands rows.now any_eps self.new.prices.items self.new.holders.items self.new.owns.items) }
-        ensures slack { IfOk result (λ b. b ≡ true → Stands rows.now (pos 1) self.new.prices.items self.new.holders.items self.new.owns.items) }
+        ensures slack { IfOk result
+            (λ b. b ≡ true → Stands rows.now (pos 1) self.new.prices.items self.new.holders.items self.new.owns.items) }
         ensures have { IfOk result (λ b. b ≡ true → HaveObjects (length rows.now.rows) self.new.owns.items) }
         ensures owns { OnOk result (self.new.owns.items ≡ self.old.owns.items) }
         ensures risen { OnOk result (total self.old.prices.items ≤ℤ total self.new.prices.items) }

@@ -7,8 +7,8 @@ ghost use Rattle.auc_market.specs.Scan.{IsFound, IsPricedRow, IsScale, IsValue, 
 
 use auc_rows::ShortArc;
 
-/// What a pass has found: the least value, the least one of the other arcs (the greatest number where there is none), and where the arc of the least
-/// value stands in the row.
+/// What a pass has found: the least value, the least one of the other arcs (the greatest number where there is none),
+/// and where the arc of the least value stands in the row.
 #[derive(Clone, Copy)]
 pub(crate) struct Found {
     pub(crate) value: i64,
@@ -23,7 +23,8 @@ impl Found {
         ensures { Lowered self value place result }
     {
         let is_less = value < self.value;
-        // Each number is chosen apart, so that LLVM makes selects of them; by one branch for all three it would make a branch.
+        // Each number is chosen apart, so that LLVM makes selects of them; by one branch for all three it would make a
+        // branch.
         let second = if is_less {
             self.value
         } else if value < self.second {
@@ -40,8 +41,9 @@ impl Found {
         }
     }
 
-    /// With two values more, of the arc that stands here in the row and of the next one. They are held against each other first: so a pair waits for two comparisons of the pair before
-    /// it, where one by one each value waits for three.
+    /// With two values more, of the arc that stands here in the row and of the next one. They are held against each
+    /// other first: so a pair waits for two comparisons of the pair before it, where one by one each value waits for
+    /// three.
     #[inline(always)]
     fn with_two(self, one: i64, other: i64, place: usize) -> Found
         requires next { place + 1 < 2 ^ 64 }

@@ -1,6 +1,8 @@
-//! The search for a shortest augmenting path, from a free person to an object that nobody holds: Dijkstra's, over the rows of those who are reached. A hop is as long as the reduced cost of its arc.
+//! The search for a shortest augmenting path, from a free person to an object that nobody holds: Dijkstra's, over the
+//! rows of those who are reached. A hop is as long as the reduced cost of its arc.
 //!
-//! Nothing is proved of what it finds, but that it ends: the market tries it before it goes by it (`path.rt`). So sums may wrap here.
+//! Nothing is proved of what it finds, but that it ends: the market tries it before it goes by it (`path.rt`). So sums
+//! may wrap here.
 
 use crate::holdings::{Holdings, NOBODY};
 use crate::scan::worth;
@@ -11,7 +13,8 @@ use std::collections::BinaryHeap;
 /// How near the free person is to himself. How near an object is, is this less the length of the path to it.
 const NEAREST: u64 = 4_611_686_018_427_387_904;
 
-/// What the search of this number knows of an object: how near it is; by which arc of his row its taker would take it; and the object that he would leave for it, NOBODY where he is the free person.
+/// What the search of this number knows of an object: how near it is; by which arc of his row its taker would take it;
+/// and the object that he would leave for it, NOBODY where he is the free person.
 #[derive(Clone, Copy)]
 struct Label {
     near: u64,
@@ -57,8 +60,10 @@ struct Taker {
     before: u32,
 }
 
-/// Room for searches: labels of all objects, with the number of the search at hand; the held objects that wait, the nearest first out; the nearest object that nobody holds; those that are settled, in order; how
-/// many arcs were looked at. And what it proposes: prices that rise, and by which arcs objects are taken, each by its place in the row of its taker.
+/// Room for searches: labels of all objects, with the number of the search at hand; the held objects that wait, the
+/// nearest first out; the nearest object that nobody holds; those that are settled, in order; how many arcs were looked
+/// at. And what it proposes: prices that rise, and by which arcs objects are taken, each by its place in the row of its
+/// taker.
 #[derive(Drop)]
 pub(crate) struct Search {
     labels: Vec<Label>,
@@ -86,7 +91,8 @@ impl Search {
         }
     }
 
-    /// Labels the objects of a taker's row that are nearer by him than before. None that is no nearer than the nearest object that nobody holds: no path goes by it.
+    /// Labels the objects of a taker's row that are nearer by him than before. None that is no nearer than the nearest
+    /// object that nobody holds: no path goes by it.
     fn relax(
         &mut self,
         rows: &FlatRows,
@@ -140,7 +146,8 @@ impl Search {
         Ok(())
     }
 
-    /// Searches from a free person on, the nearest object first, up to the nearest one that nobody holds. Gives whether there is one in reach: what is to be done then say `rises` and `route`.
+    /// Searches from a free person on, the nearest object first, up to the nearest one that nobody holds. Gives whether
+    /// there is one in reach: what is to be done then say `rises` and `route`.
     pub(crate) fn find(
         &mut self,
         rows: &FlatRows,
@@ -199,7 +206,8 @@ impl Search {
         None
     }
 
-    /// The price of each settled object is to rise by as much as it is nearer than the end. The route goes by the labels from the end back to the free person.
+    /// The price of each settled object is to rise by as much as it is nearer than the end. The route goes by the
+    /// labels from the end back to the free person.
     fn propose(&mut self, holdings: &Holdings) -> Result<(), AllocError> {
         for settled in &self.settled {
             let place = settled.object as usize;

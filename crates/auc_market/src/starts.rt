@@ -19,7 +19,8 @@ use std::alloc::{AllocError, Global};
 /// How often all persons are passed over before the start prices are given up.
 const PASSES: u32 = 8;
 
-/// The prices before anybody holds anything: those of the start where there are as many objects as persons, and else none.
+/// The prices before anybody holds anything: those of the start where there are as many objects as persons, and else
+/// none.
 fn prices_before(alloc: Global, rows: &FlatRows, start: &[i64]) -> Result<Vec<i64>, AllocError>
     requires start { ArePricesOf rows.now start.now }
     ensures start { IfOk result (λ v. IsStart rows.now (pos 1) v.items) }
@@ -35,7 +36,8 @@ fn prices_before(alloc: Global, rows: &FlatRows, start: &[i64]) -> Result<Vec<i6
 }
 
 impl Holdings {
-    /// At which place of a person's row the first arc stands that leads to an object that nobody holds, and is within eps of his best at the start prices; past the row where there is none. Nothing is proved of it.
+    /// At which place of a person's row the first arc stands that leads to an object that nobody holds, and is within
+    /// eps of his best at the start prices; past the row where there is none. Nothing is proved of it.
     fn free_within(&self, rows: &FlatRows, eps: i64, start: &[i64], person: u32) -> u32
         requires { person < length rows.now.rows }
     {
@@ -55,14 +57,16 @@ impl Holdings {
         place
     }
 
-    /// A person takes the object of the arc that stands here in his row, which has its start price then. Not where somebody holds it, nor past the row.
+    /// A person takes the object of the arc that stands here in his row, which has its start price then. Not where
+    /// somebody holds it, nor past the row.
     fn seat(&mut self, rows: &FlatRows, start: &[i64], person: u32, place: u32)
         requires person { person < length rows.now.rows }
         requires start { ArePricesOf rows.now start.now }
         requires seated { AreSeated rows.now start.now self.old.prices.items self.old.holders.items self.old.owns.items }
         requires none { (own_at self.old.owns.items person).object ≡ NOBODY }
         ensures seated { AreSeated rows.now start.now self.new.prices.items self.new.holders.items self.new.owns.items }
-        ensures none { (i : ℕ) → i ≢ person → (own_at self.old.owns.items i).object ≡ NOBODY → (own_at self.new.owns.items i).object ≡ NOBODY }
+        ensures none { (i : ℕ) → i ≢ person → (own_at self.old.owns.items i).object ≡ NOBODY
+            → (own_at self.new.owns.items i).object ≡ NOBODY }
     {
         let row = rows.row(person);
         if place as usize >= row.len() {
@@ -76,7 +80,8 @@ impl Holdings {
         self.award(person, Bid { amount, arc });
     }
 
-    /// Each person in order whose object isn't within eps of his best leaves it, and it has no price then; gives whether anybody has.
+    /// Each person in order whose object isn't within eps of his best leaves it, and it has no price then; gives
+    /// whether anybody has.
     fn release(&mut self, rows: &FlatRows, eps: i64) -> bool
         requires arcs { EachHasArc rows.now }
         requires eps { IsEps eps }
@@ -96,7 +101,8 @@ impl Holdings {
         released
     }
 
-    /// Persons leave objects until each who has one is within eps of his best. Nobody keeps anything where that takes too long.
+    /// Persons leave objects until each who has one is within eps of his best. Nobody keeps anything where that takes
+    /// too long.
     fn settle(&mut self, rows: &FlatRows, eps: i64)
         requires arcs { EachHasArc rows.now }
         requires eps { IsEps eps }
@@ -112,8 +118,9 @@ impl Holdings {
         self.empty();
     }
 
-    /// Opens a market in which nobody holds anything, at start prices: persons keep what is within eps of their best at them. Where there are more objects than
-    /// persons, nothing that nobody keeps has a price, so some of those who keep one at the start prices may yet leave it.
+    /// Opens a market in which nobody holds anything, at start prices: persons keep what is within eps of their best at
+    /// them. Where there are more objects than persons, nothing that nobody keeps has a price, so some of those who
+    /// keep one at the start prices may yet leave it.
     fn open_at(&mut self, rows: &FlatRows, eps: i64, start: &[i64])
         requires arcs { EachHasArc rows.now }
         requires eps { IsEps eps }
@@ -139,7 +146,8 @@ impl Holdings {
 }
 
 impl<'a> Market<'a> {
-    /// A market at start prices, at the last eps: with as many objects as persons, and else at no prices but those of what persons keep of them. They hold what they keep.
+    /// A market at start prices, at the last eps: with as many objects as persons, and else at no prices but those of
+    /// what persons keep of them. They hold what they keep.
     pub fn from_start(
         alloc: Global,
         rows: &'a FlatRows,
@@ -157,8 +165,9 @@ impl<'a> Market<'a> {
     }
 }
 
-/// What persons hold where each takes the object of the arc that is proposed for him, by its place in his row, at its proposed price. None where somebody has no object so, or isn't within the last eps of his best.
-/// What nobody takes has no price where there are more objects than persons.
+/// What persons hold where each takes the object of the arc that is proposed for him, by its place in his row, at its
+/// proposed price. None where somebody has no object so, or isn't within the last eps of his best. What nobody takes
+/// has no price where there are more objects than persons.
 ///
 /// # Errors
 ///

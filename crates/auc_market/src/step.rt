@@ -29,9 +29,13 @@ impl Holdings {
         requires stands { Stands rows.now eps self.old.prices.items self.old.holders.items self.old.owns.items }
         requires none { (own_at self.old.owns.items person).object ≡ NOBODY }
         requires kept { Kept rows.now self.old.prices.items lists.old.lists.items }
-        ensures awarded { IfSome result (IsAwarded rows.now eps person self.old.prices.items self.new.prices.items self.new.holders.items self.old.owns.items self.new.owns.items) }
+        ensures awarded { IfSome result
+            (IsAwarded rows.now eps person self.old.prices.items self.new.prices.items self.new.holders.items
+            self.old.owns.items self.new.owns.items) }
         ensures made { IfSome result (λ d. IsBidMade rows.now eps (state_of self.old) (state_of self.new)) }
-        ensures high { IfNone result (IsTooHigh rows.now eps self.old.prices.items self.new.prices.items self.old.holders.items self.new.holders.items self.old.owns.items self.new.owns.items) }
+        ensures high { IfNone result
+            (IsTooHigh rows.now eps self.old.prices.items self.new.prices.items self.old.holders.items
+            self.new.holders.items self.old.owns.items self.new.owns.items) }
         ensures kept { Kept rows.now self.new.prices.items lists.new.lists.items }
     {
         let prices = self.prices.as_slice();

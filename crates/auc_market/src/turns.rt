@@ -1,5 +1,6 @@
-//! Two chains of bids that take turns, and persons who begin as chains end. A bid waits for memory: for who holds the object, where his row begins, and the row. While the bid of one chain waits, the
-//! processor goes on with that of the other one, which needs nothing of it.
+//! Two chains of bids that take turns, and persons who begin as chains end. A bid waits for memory: for who holds the
+//! object, where his row begins, and the row. While the bid of one chain waits, the processor goes on with that of the
+//! other one, which needs nothing of it.
 
 ghost use Rattle.std.specs.Prelude.{◌≡◌, ◌≢◌, ◌+◌, ◌<◌, ◌≤◌, length, true, false, IfErr, IfOk, OnOk};
 ghost use Rattle.auc_market.specs.declared.holdings.TheConstants.{NOBODY};
@@ -13,8 +14,8 @@ use crate::holdings::NOBODY;
 use crate::market::Market;
 use crate::pace::Pace;
 
-/// Who takes a turn in place of one who has bid, and who begins next: whoever is free then, or, where nobody is, who would have begun next. LLVM makes selects of it: a branch would be guessed wrongly
-/// where a chain ends.
+/// Who takes a turn in place of one who has bid, and who begins next: whoever is free then, or, where nobody is, who
+/// would have begun next. LLVM makes selects of it: a branch would be guessed wrongly where a chain ends.
 #[inline(always)]
 fn turn(freed: u32, fresh: u32) -> (u32, u32)
     requires few { fresh < NOBODY }
@@ -38,8 +39,9 @@ fn is_over(freed: u32, fresh: u32, until: u32) -> bool
 }
 
 impl<'a> Market<'a> {
-    /// The person who waits, and the next one who has no object, bid in turn, each time then whoever the bid has displaced; where that is nobody, the next person begins. That ends where nobody begins any more
-    /// of those from `begun` up to `until`, and one of the two is free still: he waits then.
+    /// The person who waits, and the next one who has no object, bid in turn, each time then whoever the bid has
+    /// displaced; where that is nobody, the next person begins. That ends where nobody begins any more of those from
+    /// `begun` up to `until`, and one of the two is free still: he waits then.
     pub(crate) fn serve(
         &mut self,
         begun: u32,

@@ -23,7 +23,8 @@ pub(crate) struct Way {
 }
 
 impl Holdings {
-    /// The Hall set that a search has reached which found no free object: the person from whom it began, and who hold what it has settled. None where they know no fewer objects than they are.
+    /// The Hall set that a search has reached which found no free object: the person from whom it began, and who hold
+    /// what it has settled. None where they know no fewer objects than they are.
     fn reached(
         &self,
         alloc: Global,
@@ -64,7 +65,9 @@ impl Holdings {
         requires none { (own_at self.old.owns.items person).object ≡ NOBODY }
         ensures stands { Stands rows.now eps self.new.prices.items self.new.holders.items self.new.owns.items }
         ensures higher { AreHigher self.old.prices.items self.new.prices.items }
-        ensures way { IfOk result (λ w. IsWay rows.now eps person self.old.prices.items self.new.prices.items self.new.holders.items self.old.owns.items self.new.owns.items w.free) }
+        ensures way { IfOk result
+            (λ w. IsWay rows.now eps person self.old.prices.items self.new.prices.items self.new.holders.items
+            self.old.owns.items self.new.owns.items w.free) }
         ensures halt { IfErr result (IsHalt rows.now) }
     {
         // Read here, so that the proof knows what all rows keep.

@@ -1,5 +1,5 @@
-//! Pools of nodes, mails and scripts of calls, mails that threads share, their seats and trails: tests of `auc_nodes`, `auc_mail` and `auc_book` by their public calls
-//! alone.
+//! Pools of nodes, mails and scripts of calls, mails that threads share, their seats and trails: tests of `auc_nodes`,
+//! `auc_mail` and `auc_book` by their public calls alone.
 #![tactic(auto)]
 
 #[cfg(test)]

@@ -1,4 +1,5 @@
-//! Numbers above the limits, and the order in which they are refused. Several of these numbers have more than one cause.
+//! Numbers above the limits, and the order in which they are refused. Several of these numbers have more than one
+//! cause.
 
 ghost use Rattle.std.specs.Prelude.{◌≡◌, ◌<◌};
 

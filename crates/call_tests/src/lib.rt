@@ -1,4 +1,5 @@
-//! The calls for C, made from Rattle: each status once, with ample memory. What a C program sees of them is tried by `c/test`.
+//! The calls for C, made from Rattle: each status once, with ample memory. What a C program sees of them is tried by
+//! `c/test`.
 #![tactic(auto)]
 
 #[cfg(test)]

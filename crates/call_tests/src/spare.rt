@@ -118,7 +118,8 @@ fn least_from_any_start(rt: HostRuntime) {
     }
 }
 
-/// Where bids run out: an assignment and a bound, and which limit it was. The last arc is left out, which no least assignment has: a full table would be searched without bids.
+/// Where bids run out: an assignment and a bound, and which limit it was. The last arc is left out, which no least
+/// assignment has: a full table would be searched without bids.
 #[test]
 fn no_bids(rt: HostRuntime) {
     let none: &[i64] = &[];

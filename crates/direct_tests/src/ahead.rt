@@ -1,4 +1,5 @@
-//! The last phase before its turn: where the first phase took few bids it ends the run, or is given up. And a run that ends before it comes, since prices were refined.
+//! The last phase before its turn: where the first phase took few bids it ends the run, or is given up. And a run that
+//! ends before it comes, since prices were refined.
 
 ghost use Rattle.std.specs.Prelude.{false, true, ◌≤◌};
 
@@ -51,8 +52,10 @@ fn listening() -> Ear {
     }
 }
 
-/// Groups of three, of whom each has two objects for nothing and the third one for 10, and others who have their own for nothing, the next one for 100, and the third one of a group for 1, so that
-/// its price isn't made up for before the first phase: that gives the third object away at a great eps, and the last one would take many small steps up to that price.
+/// Groups of three, of whom each has two objects for nothing and the third one for 10, and others who have their own
+/// for nothing, the next one for 100, and the third one of a group for 1, so that its price isn't made up for before
+/// the first phase: that gives the third object away at a great eps, and the last one would take many small steps up to
+/// that price.
 fn groups(rt: &HostRuntime, groups: u32, others: u32) -> Result<ArcList, Fail>
     requires some { 1 ≤ groups }
     requires groups { groups ≤ 1000 }
@@ -102,7 +105,8 @@ fn two_levels(rt: HostRuntime) -> Result<(), Fail> {
     Ok(())
 }
 
-/// The last phase is tried after the first, and given up, so others follow. As these take no fewer bids, prices are refined, and no other phase at the last eps comes.
+/// The last phase is tried after the first, and given up, so others follow. As these take no fewer bids, prices are
+/// refined, and no other phase at the last eps comes.
 #[test]
 fn given_up_and_refined(rt: HostRuntime) -> Result<(), Fail> {
     for (many, others, claim) in [

@@ -4,10 +4,10 @@ ghost use Rattle.std.specs.Prelude.{IfOk};
 ghost use Rattle.auc_phases.specs.Limits.{AreLimits};
 
 use crate::texts::{AMPLE, answered, text_of};
-use auc_phases::Limits;
 use auc_graph::{Arc, ArcList};
 use auc_letters::MOST_SHARDS;
 use auc_mail::MOST_NODES;
+use auc_phases::Limits;
 use auc_world::solve_serial;
 use std::test::*;
 
@@ -28,7 +28,8 @@ impl Dice {
     }
 }
 
-/// How many problems are drawn, of how many persons at least, of how many more objects, how many costs there are, and whether these lie far apart.
+/// How many problems are drawn, of how many persons at least, of how many more objects, how many costs there are, and
+/// whether these lie far apart.
 #[derive(Clone, Copy)]
 struct Shape {
     problems: u32,
@@ -77,7 +78,8 @@ fn problem_of(rt: &HostRuntime, dice: &mut Dice, shape: Shape) -> Result<ArcList
     ArcList::from_arcs(persons, objects, arcs).map_err(|_| Fail::new("no problem"))
 }
 
-/// A price war: all want the same objects in the same order, and know nearly all, each some 15 of 16. So many lists of a person are made.
+/// A price war: all want the same objects in the same order, and know nearly all, each some 15 of 16. So many lists of
+/// a person are made.
 fn war(rt: &HostRuntime) -> Result<ArcList, Fail> {
     let persons = 300;
     let mut arcs = Vec::new(rt.alloc());

@@ -1,4 +1,5 @@
-//! Where bids at eps 1 would go on for billions, since many want few objects: paths end that within a few. With objects to spare there is no other phase, so these tests tell.
+//! Where bids at eps 1 would go on for billions, since many want few objects: paths end that within a few. With objects
+//! to spare there is no other phase, so these tests tell.
 
 use crate::texts::{AMPLE, answered, problem_of, text_of};
 use auc_cert::read_cert;
@@ -7,7 +8,8 @@ use auc_direct::{DirectLimits, solve_direct_from};
 use auc_graph::{Arc, ArcList};
 use std::test::*;
 
-/// Three persons, of whom each has one of two objects for nothing, and else pays the greatest cost; the last one can't, so it is no full table, which would be searched without bids.
+/// Three persons, of whom each has one of two objects for nothing, and else pays the greatest cost; the last one can't,
+/// so it is no full table, which would be searched without bids.
 const THREE: &str = "3\n1 1 0 1 2 0 1 3 1000000000\n2 1 0 2 2 0 2 3 1000000000\n3 1 0 3 2 0\n";
 
 /// A certificate of another problem, at prices of 0.
@@ -17,7 +19,8 @@ const NO_PRICES: &str =
 /// Far fewer bids than the greatest cost is steps of eps.
 const FEW: DirectLimits = DirectLimits { bids: 1_000 };
 
-/// Each person has each object; the first ones for nothing, and the others for a penalty. Where it is to be no full table, the last person doesn't have the last object.
+/// Each person has each object; the first ones for nothing, and the others for a penalty. Where it is to be no full
+/// table, the last person doesn't have the last object.
 fn crowd(
     rt: &HostRuntime,
     persons: u32,

@@ -74,7 +74,8 @@ fn prices_of_a_solve(rt: HostRuntime) -> Result<(), Fail> {
     Ok(())
 }
 
-/// Where each person's own object is best by more than 1, everybody keeps it and no bid is needed; what nobody keeps has no price.
+/// Where each person's own object is best by more than 1, everybody keeps it and no bid is needed; what nobody keeps
+/// has no price.
 #[test]
 fn all_keep(rt: HostRuntime) -> Result<(), Fail> {
     let old = problem_of(&rt, OLD, 6)?;

@@ -53,7 +53,8 @@ const FIVE: [&str; 2] = [
     "5\n1 1 13 1 2 24 1 3 20 1 4 6 1 5 31\n2 1 21 2 3 -3 2 4 -9 2 5 17\n3 1 15 3 2 -5 3 3 30 3 4 -1 3 5 -9\n4 1 4 4 3 1 4 4 3 4 5 4\n5 1 3 5 4 14 5 5 0\n",
 ];
 
-/// From the prices of a solve, of the same problem, and of the one before. The costs are those that trying all assignments gives.
+/// From the prices of a solve, of the same problem, and of the one before. The costs are those that trying all
+/// assignments gives.
 #[test]
 fn prices_of_a_solve(rt: HostRuntime) -> Result<(), Fail> {
     let old = problem_of(&rt, FIVE[0], 0)?;
@@ -74,7 +75,8 @@ fn prices_of_a_solve(rt: HostRuntime) -> Result<(), Fail> {
     Ok(())
 }
 
-/// Where there is no assignment, a run from start prices says so: an arc is missing; or each person has one, and too few objects are known, so that a search for a path finds none.
+/// Where there is no assignment, a run from start prices says so: an arc is missing; or each person has one, and too
+/// few objects are known, so that a search for a path finds none.
 #[test]
 fn no_assignment_from_prices(rt: HostRuntime) -> Result<(), Fail> {
     let problem = problem_of(&rt, "2\n1 1 1\n", 0)?;

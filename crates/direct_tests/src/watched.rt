@@ -49,7 +49,8 @@ fn going_on(left: u32) -> Patience {
     }
 }
 
-/// A no ends the run before the next phase, with a bracket; who never says no has the answer of all phases, and was asked in each.
+/// A no ends the run before the next phase, with a bracket; who never says no has the answer of all phases, and was
+/// asked in each.
 #[test]
 fn stops(rt: HostRuntime) -> Result<(), Fail> {
     let problem = problem_of(&rt, THREE, 0)?;
@@ -68,7 +69,8 @@ fn stops(rt: HostRuntime) -> Result<(), Fail> {
     Ok(())
 }
 
-/// A no after the first phase has what that has come to: the cheap arcs. Nothing is held then, and an assignment that is completed from nothing has the dear ones, at a thousand times the cost.
+/// A no after the first phase has what that has come to: the cheap arcs. Nothing is held then, and an assignment that
+/// is completed from nothing has the dear ones, at a thousand times the cost.
 #[test]
 fn keeps_the_last_assignment(rt: HostRuntime) -> Result<(), Fail> {
     let problem = problem_of(&rt, DEAR_FIRST, 0)?;

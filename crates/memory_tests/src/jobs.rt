@@ -47,7 +47,8 @@ fn run<R: Threads + Wait + Sync>(
     )
 }
 
-/// Whether a job writes a text that begins so, with this status: at once, or again where memory was refused, or with workers a thread.
+/// Whether a job writes a text that begins so, with this status: at once, or again where memory was refused, or with
+/// workers a thread.
 fn answers<R: Threads + Wait + Sync>(
     rt: &R,
     alloc: Global,

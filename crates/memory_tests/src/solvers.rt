@@ -76,7 +76,8 @@ fn without_threads(rt: HostRuntime) -> Result<(), Fail> {
     Ok(())
 }
 
-/// Whether a solve from the prices of a certificate gives the answer that it gives with ample memory: at once, or again where memory was refused.
+/// Whether a solve from the prices of a certificate gives the answer that it gives with ample memory: at once, or again
+/// where memory was refused.
 fn solves_from(alloc: Global) -> Result<bool, Fail> {
     let problem = problem_of(alloc, THREE)?;
     let limits = limits_of(1, 0)?;
@@ -99,7 +100,8 @@ fn without_threads_from_a_start(rt: HostRuntime) -> Result<(), Fail> {
     Ok(())
 }
 
-/// Whether a new world goes on and has the prices that it was made with. Where memory is refused once it is made, the same world is gathered again.
+/// Whether a new world goes on and has the prices that it was made with. Where memory is refused once it is made, the
+/// same world is gathered again.
 fn gathers(alloc: Global, rows: &Rows, limits: &Limits, prices: &[i64]) -> Result<bool, AllocError>
     requires limits { AreThreadLimits limits.now }
     requires prices { ArePrices rows.now prices.now }

@@ -112,7 +112,8 @@ fn seated<O: MailBrand, P: MailBrand, H: MailBrand>(
     Ok(seats.len())
 }
 
-/// The mails of one shard of each kind, whose three workers have a part of each ledger. Where memory was refused, they are made anew.
+/// The mails of one shard of each kind, whose three workers have a part of each ledger. Where memory was refused, they
+/// are made anew.
 #[test]
 fn three_mails(rt: HostRuntime) -> Result<(), Fail> {
     let limits = limits_of(1, 7)?;

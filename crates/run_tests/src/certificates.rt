@@ -4,7 +4,10 @@ use crate::fakes::{Full, Picky};
 use crate::said::{ONE_OBJECT, ONE_OBJECT_CERT, TWO, TWO_BEST, TWO_BRACKET};
 use crate::same::assert_same;
 use auc_cert::{CertTextError, WriteFault, read_cert, write_cert};
-use auc_claim::{Cert, CertParts, CertRefused, Pick, Picks, Prices, Reason, assignments_pass, brackets_pass, check, hall_sets_pass};
+use auc_claim::{
+    Cert, CertParts, CertRefused, Pick, Picks, Prices, Reason, assignments_pass, brackets_pass,
+    check, hall_sets_pass,
+};
 use auc_graph::{Indices, ReadLimits, read_arcs};
 use std::test::*;
 
@@ -160,8 +163,8 @@ fn fault_of(rt: &HostRuntime, room: usize, fails: bool) -> Result<Option<WriteFa
     Ok(write_cert(&mut Full { room, fails }, &cert).err())
 }
 
-/// A writer that takes nothing stops a certificate, and one that fails makes the writing fail: before the text, between two
-/// lines and inside a line.
+/// A writer that takes nothing stops a certificate, and one that fails makes the writing fail: before the text, between
+/// two lines and inside a line.
 #[test]
 fn unwritten_certificates(rt: HostRuntime) -> Result<(), Fail> {
     for room in [0, 10, 14] {
@@ -171,8 +174,8 @@ fn unwritten_certificates(rt: HostRuntime) -> Result<(), Fail> {
     Ok(())
 }
 
-/// What keeps the certificate of one person, 47 bytes, from being written byte by byte, where a write fails or takes nothing after
-/// so many; and how many bytes were written.
+/// What keeps the certificate of one person, 47 bytes, from being written byte by byte, where a write fails or takes
+/// nothing after so many; and how many bytes were written.
 fn cut_at(rt: &HostRuntime, good: usize, fails: bool) -> Result<(Option<WriteFault>, usize), Fail> {
     let text = b"auction 1\noptimal 1 -7\nassign 1 1 -7\nprice 1 1\n";
     let cert = read_cert(rt.alloc(), text.as_slice())?;

@@ -56,8 +56,8 @@ impl<'a> Read for Flaky<'a> {
     }
 }
 
-/// A writer that waits for a text, takes one byte of it at each write, and once, after so many writes, fails or takes nothing. It
-/// takes nothing else than the text.
+/// A writer that waits for a text, takes one byte of it at each write, and once, after so many writes, fails or takes
+/// nothing. It takes nothing else than the text.
 #[derive(Drop)]
 pub struct Picky<'a> {
     pub rest: &'a [u8],

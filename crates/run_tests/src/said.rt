@@ -59,8 +59,8 @@ fn status_with_room(
     run_plain(rt.alloc(), job, &mut first, &mut second, &mut full)
 }
 
-/// Whether the job, whose text is longer than 9 bytes, has the status of what could not be written: where the writer takes nothing or fails
-/// before the text, and inside it.
+/// Whether the job, whose text is longer than 9 bytes, has the status of what could not be written: where the writer
+/// takes nothing or fails before the text, and inside it.
 pub fn is_unwritten(rt: &HostRuntime, job: &Job, first: &str, second: &str) -> bool
     requires range { IsInRange job.now }
     requires plain { IsPlain job.now }

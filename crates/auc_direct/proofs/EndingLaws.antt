@@ -1,17 +1,11 @@
 -- What a run has come to is told of its answer.
-use Rattle.std.proofs.Common.{Bool, Err, Ok, Result, inl, inr, ℕ, ℤ, pos, ◌≡◌, ◌∙◌, refl, arith, List, subst}
-use Rattle.std.specs.Prelude.{IfErr, IfOk, ◌≤ℤ◌}
+use Rattle.std.proofs.Common.{Bool, Err, Ok, Result, inl, inr, ℕ, ℤ, arith}
+use Rattle.std.specs.Prelude.{IfErr, ◌≤ℤ◌}
 use Rattle.std.proofs.lemmas.Int.{ints}
-use Rattle.auc_claim.specs.declared.reason.Reason.{Reason}
-use Rattle.auc_rows.specs.declared.arc.ShortArc.{ShortArc}
-use Rattle.auc_rows.specs.Rows.{FlatTable}
-use Rattle.auc_market.specs.declared.ending.Ending.{Ending}
 use Rattle.auc_claim.specs.declared.cert.CertParts.{CertParts}
 use Rattle.auc_graph.specs.Problem.{Problem}
 use Rattle.auc_answers.specs.declared.answer.Answer.{Answer}
-use Rattle.auc_market.specs.Endings.{IsEnding, IsLeft, IsLimit, IsSold, IsStopped, IsToldOr}
 use Rattle.auc_direct.specs.Endings.{IsLimited, IsLimitedBy, IsLimitedUnless}
-use Rattle.auc_market.specs.Market.{Stands}
 
 limited_by : (p : Problem) (bids : ℕ) (begun after : ℤ) (cert : CertParts) → begun ≤ℤ after → IsLimitedBy p bids after cert → IsLimitedBy p bids begun cert
 limited_by p bids begun after (CertParts.Optimal cost choice prices) le h = tt

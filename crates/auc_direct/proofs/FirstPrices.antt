@@ -1,23 +1,17 @@
 -- Prices that a run begins with.
-use Rattle.std.proofs.Common.{ℕ, ℤ, pos, w64, zero, suc, refl, ◌<◌, ◌≤◌, ◌≡◌, arith, List, length, get_or, replicate, inl, inr, ap, sym, subst, ◌∙◌}
-use Rattle.std.specs.Prelude.{All, FitsSigned, ◌⊎◌, ◌*◌, ◌^◌, ◌*ℤ◌, ◌<ℤ◌, ◌≤ℤ◌, unsigned_abs}
+use Rattle.std.proofs.Common.{ℤ, pos, w64, ◌≤◌, ◌≡◌, arith, List, length, inl, ◌∙◌}
+use Rattle.std.specs.Prelude.{All, FitsSigned, ◌*◌, ◌^◌, ◌*ℤ◌, ◌<ℤ◌, ◌≤ℤ◌, unsigned_abs}
 use Rattle.std.proofs.lemmas.Int.{ints}
-use Rattle.std.proofs.lemmas.List.{get_or-replicate, get_or_default, length-replicate, same_lists}
-use Rattle.std.proofs.lemmas.List.Elements.{All-replicate, All-weaker}
+use Rattle.std.proofs.lemmas.List.Elements.{All-weaker}
 use Rattle.auc_claim.specs.Start.{IsStartPrice}
 use Rattle.auc_graph.specs.Assignment.{total}
-use Rattle.auc_graph.specs.Dual.{price_at}
 use Rattle.auc_graph.specs.Problem.{Problem}
 use Rattle.auc_graph.specs.Table.{IsTableOf, Table}
 use Rattle.auc_graph.specs.Price.{IsPrice}
-use Rattle.auc_answers.proofs.Replicated.{replicate_default}
-use Rattle.auc_rows.specs.declared.arc.ShortArc.{ShortArc}
 use Rattle.auc_rows.specs.Rows.{AreSameRows, FlatTable}
-use Rattle.auc_market.specs.declared.holdings.TheConstants.{NOBODY}
 use Rattle.auc_market.proofs.Bounds.{product_abs, product_low}
 use Rattle.auc_market.proofs.MarketLaws.{total_low}
 use Rattle.auc_market.specs.Endings.{IsStart}
-use Rattle.auc_market.specs.Market.{AreSpare, Stands, holder_at, no_own, own_at}
 use Rattle.auc_market.specs.Starts.{ArePricesOf}
 use Rattle.auc_direct.specs.Starts.{AreStartPrices}
 

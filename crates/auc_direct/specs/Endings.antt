@@ -1,5 +1,5 @@
 -- What a run comes to, and its answer.
-use Rattle.std.specs.Prelude.{Bool, true, false, ℕ, ℤ, pos, ◌≡◌, ◌⊎◌, ◌+ℤ◌, ◌≤ℤ◌, List, length, All}
+use Rattle.std.specs.Prelude.{Bool, true, false, ℕ, ℤ, pos, ◌≡◌, ◌⊎◌, ◌≤ℤ◌, List, length, All}
 use Rattle.auc_claim.specs.declared.cert.CertParts.{CertParts}
 use Rattle.auc_claim.specs.declared.reason.Reason.{Reason}
 use Rattle.auc_graph.specs.Assignment.{total}
@@ -12,13 +12,11 @@ use Rattle.auc_rows.specs.declared.arc.ShortArc.{ShortArc}
 use Rattle.auc_rows.specs.Rows.{AreRowsOf, AreSameRows, FlatTable}
 use Rattle.auc_market.specs.declared.ending.Ending.{Ending}
 use Rattle.auc_market.specs.Bids.{State}
-use Rattle.auc_market.specs.Eps.{IsEpsOf}
 use Rattle.auc_direct.specs.Adopted.{IsFullTable}
 use Rattle.auc_direct.specs.Phases.{HasRun, IsAdopted}
 use Rattle.auc_market.specs.Phases.{IsRun}
-use Rattle.auc_market.specs.Market.{HaveObjects, IsAbove, Stands}
 use Rattle.auc_market.specs.Starts.{AreOpened}
-use Rattle.auc_market.specs.Endings.{IsLeft, IsLimit, IsStart, IsStopped, IsToldOr}
+use Rattle.auc_market.specs.Endings.{IsLeft, IsLimit, IsStopped, IsToldOr}
 
 -- What a run comes to that began with these prices: only a limit has stopped it, or who watched it.
 pub record IsOutcome (r : FlatTable) (bids : ℕ) (begun : List ℤ) (before after : Bool) (ending : Ending)

@@ -1,13 +1,11 @@
 -- What a phase's ending says of the run.
-use Rattle.std.proofs.Common.{Bool, Err, Ok, Result, inl, inr, ℕ, ℤ, pos, ◌≡◌, ◌∙◌, refl, arith, List, subst}
-use Rattle.std.specs.Prelude.{IfErr, IfOk, ◌≤ℤ◌}
+use Rattle.std.proofs.Common.{Bool, inl, inr, ℕ, ℤ, pos, ◌≡◌, ◌∙◌, refl, arith, List, subst}
+use Rattle.std.specs.Prelude.{◌≤ℤ◌}
 use Rattle.std.proofs.lemmas.Int.{ints}
 use Rattle.auc_claim.specs.declared.reason.Reason.{Reason}
 use Rattle.auc_rows.specs.declared.arc.ShortArc.{ShortArc}
 use Rattle.auc_rows.specs.Rows.{FlatTable}
 use Rattle.auc_market.specs.declared.ending.Ending.{Ending}
-use Rattle.auc_claim.specs.declared.cert.CertParts.{CertParts}
-use Rattle.auc_graph.specs.Problem.{Problem}
 use Rattle.auc_market.specs.Endings.{IsEnding, IsLeft, IsLimit, IsSold, IsStopped, IsToldOr}
 use Rattle.auc_graph.specs.Assignment.{total}
 use Rattle.auc_market.specs.Bids.{State}

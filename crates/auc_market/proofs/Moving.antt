@@ -1,25 +1,21 @@
 -- Moves of a market, one after another.
-use Rattle.std.proofs.Common.{Bool, Err, Ok, Result, ap, ℕ, ℤ, pos, refl, ◌+◌, ◌-◌, ◌^◌, ◌≤◌, ◌≡◌, ◌∙◌, arith, List, inl, inr, length, sym, subst}
+use Rattle.std.proofs.Common.{Err, Ok, Result, ℕ, ℤ, pos, refl, ◌+◌, ◌-◌, ◌^◌, ◌≤◌, ◌≡◌, ◌∙◌, arith, inl, inr, sym, subst}
 use Rattle.std.specs.Prelude.{IfOk, ◌⊎◌, ◌*ℤ◌, ◌≤ℤ◌}
 use Rattle.std.proofs.lemmas.Int.{ints}
 use Rattle.auc_claim.specs.declared.reason.Reason.{Reason}
-use Rattle.auc_graph.specs.Assignment.{total}
 use Rattle.auc_letters.specs.Price.{IsEps}
-use Rattle.auc_rows.specs.declared.arc.ShortArc.{ShortArc}
 use Rattle.auc_rows.specs.Rows.{FlatTable, IsFlatTable, scale_in}
 use Rattle.auc_market.specs.declared.ending.Ending.{Ending}
-use Rattle.auc_market.specs.Bids.{AreCounted, AreSpent, IsBidMade, State}
-use Rattle.auc_market.specs.Endings.{IsEnding, IsLeft, IsSold, IsStopped, IsToldOr}
+use Rattle.auc_market.specs.Bids.{AreCounted, AreSpent, IsBidMade}
+use Rattle.auc_market.specs.Endings.{IsEnding}
 use Rattle.auc_market.specs.Eps.{IsEpsOf}
-use Rattle.auc_market.specs.Market.{HaveObjects, IsAbove, Stands}
-use Rattle.auc_market.specs.Phases.{ArePhases, IsOpened, IsPhase, IsRun}
-use Rattle.auc_market.specs.Phases.ArePhases.{begins, opens, refines}
-use Rattle.auc_market.specs.Position.{AreHandedOn, IsBegun, IsBid, IsMove, IsPlayed, IsRefinedWhole, IsRefinement, IsSlice, IsTried, Law, Position, Spends, state_at}
+use Rattle.auc_market.specs.Market.{IsAbove}
+use Rattle.auc_market.specs.Phases.ArePhases.{begins}
+use Rattle.auc_market.specs.Position.{IsBid, IsMove, IsRefinement, IsSlice, IsTried, Law, Position, Spends, state_at}
 use Rattle.auc_market.specs.Way.{IsWay}
 use Rattle.auc_market.proofs.BidsLaws.{made_all, made_more, made_none, made_on, made_raises, made_risen, made_slice, made_within}
 use Rattle.auc_market.proofs.Bounds.{scaled_abs}
-use Rattle.auc_market.proofs.EndingLaws.{sold_left, stopped_before, watched_stopped}
-use Rattle.auc_market.proofs.PhasesLaws.{counted_within, one_phase, opened_phase, phase_more, phases_on, within_slice}
+use Rattle.auc_market.proofs.PhasesLaws.{counted_within, phase_more, within_slice}
 
 -- a bid at it fits
 pub eps_fits : (r : FlatTable) (eps : ℤ) → IsFlatTable r → IsEpsOf r eps → IsEps eps

@@ -1,21 +1,16 @@
 -- What a chain of bids, a phase and a run come to.
 use Rattle.std.specs.Prelude.{Bool, true, ℕ, ℤ, pos, ◌≡◌, ◌⊎◌, ◌+ℤ◌, ◌≤ℤ◌, List, length, All}
-use Rattle.auc_claim.specs.declared.cert.CertParts.{CertParts}
 use Rattle.auc_claim.specs.declared.reason.Reason.{Reason}
 use Rattle.auc_graph.specs.Assignment.{total}
 use Rattle.auc_graph.specs.Dual.{price_at}
-use Rattle.auc_graph.specs.Problem.{Problem}
-use Rattle.auc_graph.specs.Table.{IsTableOf, Table}
 use Rattle.auc_graph.specs.Price.{IsPrice}
 use Rattle.auc_rows.specs.declared.arc.ShortArc.{ShortArc}
-use Rattle.auc_rows.specs.Rows.{AreRowsOf, AreSameRows, FlatTable}
+use Rattle.auc_rows.specs.Rows.{FlatTable}
 use Rattle.auc_market.specs.declared.ending.Ending.{Ending}
 use Rattle.auc_market.specs.Bids.{AreMade, State}
 use Rattle.auc_market.specs.Phases.{ArePhases}
 use Rattle.auc_market.specs.Eps.{IsEpsOf}
-use Rattle.auc_market.specs.Phases.{IsRun}
 use Rattle.auc_market.specs.Market.{HaveObjects, IsAbove, Stands}
-use Rattle.auc_market.specs.Starts.{AreOpened}
 
 -- As many bids as a phase may make lead to these prices, from a state to which the phases of a run have led.
 pub record HaveRunOut (r : FlatTable) (bids : ℕ) (begun : State) (prices : List ℤ) : Type 0 where

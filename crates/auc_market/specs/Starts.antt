@@ -1,8 +1,6 @@
 -- What a run may start from, and what its opening leaves.
 use Rattle.std.specs.Prelude.{ℕ, ℤ, pos, ◌≡◌, ◌⊎◌, ◌^◌, List, length, All}
-use Rattle.auc_claim.specs.Start.{IsStartPrice}
 use Rattle.auc_graph.specs.Dual.{price_at}
-use Rattle.auc_graph.specs.Problem.{Problem}
 use Rattle.auc_graph.specs.Price.{IsPrice}
 use Rattle.auc_rows.specs.declared.arc.ShortArc.{ShortArc}
 use Rattle.auc_rows.specs.Rows.{FlatTable}

@@ -6,10 +6,9 @@ ghost use Rattle.auc_cert.specs.Writing.{Writes};
 ghost use Rattle.auc_run.specs.Completions.{IsFound, IsFoundIn, IsSmall, found_text};
 
 use crate::found::Found;
-use crate::lines::write_counted;
 use crate::problem::problem_of;
 use crate::refusal::Refusal;
-use auc_cert::{WriteFault, write_cert, write_picks};
+use auc_cert::{WriteFault, write_cert, write_counted, write_picks};
 use auc_claim::{Cert, CertParts, Picks};
 use auc_graph::{ArcList, Indices, Rows};
 use auc_hall::{Matching, Partial, complete};

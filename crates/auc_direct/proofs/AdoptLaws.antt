@@ -1,15 +1,11 @@
 -- What is adopted of a proposal.
-use Rattle.std.proofs.Common.{ℕ, ℤ, pos, w64, ◌+◌, ◌<◌, ◌≤◌, ◌≡◌, arith, List, length, get_or, set, inl, inr, ap, sym, subst, ◌∙◌}
+use Rattle.std.proofs.Common.{ℕ, ℤ, pos, w64, ◌+◌, ◌<◌, ◌≤◌, arith, List, length, get_or, set, inl, inr, ap, sym, subst, ◌∙◌}
 use Rattle.std.specs.Prelude.{All, FitsSigned, ◌*◌, ◌^◌, ◌*ℤ◌, ◌≤ℤ◌, unsigned_abs}
 use Rattle.std.proofs.lemmas.Bool.{cases_eq}
 use Rattle.std.proofs.lemmas.Int.{ints}
 use Rattle.std.proofs.lemmas.List.{get_or_default, get_or-set_same, get_or-set_other}
 use Rattle.auc_graph.specs.Dual.{price_at}
 use Rattle.auc_graph.specs.Price.{IsPrice}
-use Rattle.auc_rows.specs.declared.arc.ShortArc.{ShortArc}
-use Rattle.auc_rows.specs.Rows.{FlatTable, flat_row_of}
-use Rattle.auc_direct.specs.Adopted.{IsFullRow}
-use Rattle.auc_market.specs.Scan.{no_arc}
 use Rattle.auc_market.proofs.Bounds.{product_abs, product_low}
 
 -- a price in costs of the table that is not too high, scaled
@@ -18,18 +14,6 @@ scaled_price s d a b plain most =
     let h : unsigned_abs (s *ℤ d) ≤ 10001 * (2 * 10 ^ 14) = product_abs s d 10001 (2 * 10 ^ 14) (omega (arith, ints)) (omega (arith, ints)) in
     let low : pos 0 ≤ℤ (s *ℤ d) = product_low s d (omega (arith, ints)) (omega (arith, ints)) in
     (record { low = low; high = omega (arith, ints, h) }, omega (arith, ints, h))
-
--- one row more of a full table
-pub full_next : (r : FlatTable) (n : ℕ) → ((i : ℕ) → i < n → IsFullRow r.objects (flat_row_of r i)) → IsFullRow r.objects (flat_row_of r n) → (i : ℕ) → i < n + 1 → IsFullRow r.objects (flat_row_of r i)
-full_next r n below here i lt =
-    elim (cases_eq i n) [
-      | inl e ↦ subst (λ (m : ℕ). IsFullRow r.objects (flat_row_of r m)) (sym e) here
-      | inr ne ↦ below i (grind (arith, lt, ne))
-    ]
-
--- a row that is found to be full
-pub full_row : (r : FlatTable) (n : ℕ) (row : List ShortArc) → row ≡ flat_row_of r n → length row ≡ r.objects → ((k : ℕ) → k < length row → (get_or row k no_arc).object ≡ k) → IsFullRow r.objects (flat_row_of r n)
-full_row r n row same many each = subst (IsFullRow r.objects) same (record { many = many; each = λ k lt. each k (omega (arith, lt, many)) })
 
 -- one price more
 pub price_next : (prices : List ℤ) (n : ℕ) (amount : ℤ) → n < length prices → IsPrice amount → ((k : ℕ) → k < n → IsPrice (price_at prices k)) → (k : ℕ) → k < n + 1 → IsPrice (price_at (set prices n amount) k)

@@ -35,7 +35,7 @@ same_value : (price : ℕ → ℤ) (m n : ℕ) (c : ℤ) (j : ℕ) → m ≡ n �
 same_value price m n c j e = ap (λ (k : ℕ). pos (k + 1) *ℤ c +ℤ price j) e
 
 -- what is listed among the short arcs of a row is short of one of them
-in_map : (xs : List RowArc) (a : RowArc) → Contains xs a → Contains (map short xs) (short a)
+pub in_map : (xs : List RowArc) (a : RowArc) → Contains xs a → Contains (map short xs) (short a)
 in_map xs a (k, l, e) = (k, (let m = length-map xs short in omega (arith, l, m)), get_or-map short xs k a (short a) l ∙ ap short e)
 
 module _ (p : Problem) (t : Table) (r : FlatTable) (eps : ℤ) (prices : List ℤ) (holders : List ℕ) (owns : List ShortArc) (held : List (Option Held)) (its : IsTableOf p t) (same : AreSameRows t r) (sound : IsFlatTable r) (stands : Stands r eps prices holders owns) (are : AreHeld p holders owns held) where

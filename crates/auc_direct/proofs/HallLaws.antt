@@ -11,6 +11,7 @@ use Rattle.auc_hall.proofs.ProblemLaws.{hall_set_of}
 use Rattle.auc_rows.specs.declared.arc.ShortArc.{ShortArc}
 use Rattle.auc_rows.specs.Rows.{AreRowsOf, AreSameRows, FlatTable, short}
 use Rattle.auc_market.specs.Hall.{IsShortHallSet}
+use Rattle.auc_direct.proofs.Choices.{in_map}
 
 -- ---- of the problem
 
@@ -22,10 +23,6 @@ long row s (n, lt, e) =
     let is : short (get_or row n none) ≡ s = sym (get_or-map short row n none s in_row) ∙ e in
     (get_or row n none, Contains-get_or row n none in_row, ap (λ (x : ShortArc). x.object) is)
 
--- and the other way round
-short_one : (row : List RowArc) (a : RowArc) → Contains row a → Contains (map short row) (short a)
-short_one row a (n, lt, e) = (n, (let m = length-map row short in omega (arith, lt, m)), get_or-map short row n a (short a) lt ∙ ap short e)
-
 row_hall_set : (t : Table) (r : FlatTable) (persons objects : List ℕ) → AreSameRows t r → IsShortHallSet r persons objects → IsRowHallSet t persons objects
 row_hall_set t r persons objects same h =
     let within : (i : ℕ) → Contains persons i → i < length t.rows = λ i c. (let lt = h.within i c in let m = same.persons in omega (arith, lt, m)) in
@@ -33,7 +30,7 @@ row_hall_set t r persons objects same h =
       within = within;
       persons_rise = h.persons_rise;
       objects_rise = h.objects_rise;
-      all = λ i j c knows. h.all i j c (short knows.0, subst (λ (row : List ShortArc). Contains row (short knows.0)) (sym (same.rows i (within i c))) (short_one (row_of t i) knows.0 knows.1), knows.2);
+      all = λ i j c knows. h.all i j c (short knows.0, subst (λ (row : List ShortArc). Contains row (short knows.0)) (sym (same.rows i (within i c))) (in_map (row_of t i) knows.0 knows.1), knows.2);
       only = λ j c.
           let x = h.only j c in
           let a = long (row_of t x.0) x.2.0 (subst (λ (row : List ShortArc). Contains row x.2.0) (same.rows x.0 (within x.0 x.1)) x.2.1) in

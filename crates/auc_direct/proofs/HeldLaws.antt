@@ -25,9 +25,6 @@ module _ (p : Problem) (holders : List ℕ) (owns : List ShortArc) where
   abbrev pub AreMet : ℕ → List (Option Held) → Type 0
   AreMet n held = (j : ℕ) → IsMet n j (held_at held j)
 
-  pub met_none : (held : List (Option Held)) → ((j : ℕ) → held_at held j ≡ None) → AreMet 0 held
-  met_none held nobody j = subst (IsMet 0 j) (sym (nobody j)) (λ m lt some e. absurd (omega (arith, lt)))
-
   -- one arc more, by which the object's holder doesn't hold it
   other : (n j : ℕ) (o : Option Held) → (holder_at holders j ≢ NOBODY → IsOwn (get_or p.arcs n none) (holder_at holders j) → ⊥) → IsMet n j o → IsMet (n + 1) j o
   other n j None differs met = λ m lt some e. elim (cases_eq m n) [
@@ -84,9 +81,6 @@ module _ (p : Problem) (holders : List ℕ) (owns : List ShortArc) where
 
   abbrev pub AreSeen : ℕ → List (Option Held) → Type 0
   AreSeen n held = (j : ℕ) → IsSeen n j (held_at held j)
-
-  pub seen_none : (held : List (Option Held)) → ((j : ℕ) → held_at held j ≡ None) → AreSeen 0 held
-  seen_none held nobody j = subst (IsSeen 0 j) (sym (nobody j)) (λ some. omega arith)
 
   -- one person more, who holds no such object
   seen_later : (n j : ℕ) (o : Option Held) → (holder_at holders j ≢ NOBODY → holder_at holders j ≡ n → ⊥) → IsSeen n j o → IsSeen (n + 1) j o

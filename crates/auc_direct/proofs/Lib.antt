@@ -5,4 +5,3 @@ mod EndingLaws
 mod Answering
 mod Running
 mod AdoptLaws
-mod FirstPrices

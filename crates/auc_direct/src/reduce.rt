@@ -1,7 +1,7 @@
 //! What a run with as many objects as persons begins with: prices at which the cheapest arc of each column is worth the
 //! same.
 
-ghost use Rattle.std.specs.Prelude.{ℤ, ◌≡◌, ◌⊎◌, pos, ◌≤ℤ◌, length, All, IfOk};
+ghost use Rattle.std.specs.Prelude.{ℤ, ◌≡◌, ◌⊎◌, pos, length, IfOk};
 ghost use Rattle.auc_graph.specs.Price.{IsPrice};
 ghost use Rattle.auc_market.specs.Endings.{IsStart};
 ghost use Rattle.auc_market.specs.Scan.{IsScale};

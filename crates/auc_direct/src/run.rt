@@ -1,6 +1,6 @@
 //! A run: its phases one after another, as the rules choose them. This is epsilon scaling.
 
-ghost use Rattle.std.specs.Prelude.{true, ◌≡◌, ◌⊎◌, ◌<◌, ◌-◌, ◌^◌, pos, length, IfErr, IfNone, IfOk, IfSome, OnOk};
+ghost use Rattle.std.specs.Prelude.{true, ◌≡◌, ◌⊎◌, ◌<◌, ◌-◌, ◌^◌, length, IfErr, IfNone, IfOk, IfSome, OnOk};
 ghost use Rattle.auc_market.specs.Eps.{IsEpsOf};
 ghost use Rattle.auc_market.specs.Halts.{IsHalt};
 ghost use Rattle.auc_market.specs.Position.{Begins};

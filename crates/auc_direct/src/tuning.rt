@@ -37,6 +37,3 @@ pub(crate) const STARTED: u64 = 4;
 
 /// How many looks the search of a full table may take for each entry, with as many objects as persons.
 pub(crate) const TABLE: u64 = 8;
-
-/// How many arcs are looked at between two questions to a watch, about: some milliseconds.
-const SLICE: u64 = 4_194_304;

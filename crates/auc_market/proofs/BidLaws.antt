@@ -46,12 +46,6 @@ module _ (scale eps : ℤ) (prices : List ℤ) (row : List ShortArc) (b : Best) 
   unfolding IsLead
   up = let l = is.0 in omega (arith, ints, sum, l, some)
 
-  here : price_at new arc.object ≡ amount
-  here = get_or-set_same prices arc.object amount (pos 0) within
-
-  own : short_value scale new arc ≡ ((b.value +ℤ lead) +ℤ eps)
-  own = let e = here in let i = h.is in omega (arith, ints, e, i, sum)
-
   -- he himself
   itself : (a : ShortArc) → a ≡ arc → short_value scale new arc ≤ℤ (short_value scale new a +ℤ eps)
   itself a same = let e = ap (short_value scale new) same in omega (arith, ints, e, some)
@@ -59,8 +53,9 @@ module _ (scale eps : ℤ) (prices : List ℤ) (row : List ShortArc) (b : Best) 
   other : (a : ShortArc) → b.second ≤ℤ short_value scale prices a → lead ≡ (b.second -ℤ b.value) → short_value scale new arc ≤ℤ (short_value scale new a +ℤ eps)
   other a above e =
       let r = risen prices arc.object amount within up a.object in
-      let m = own in
-      omega (arith, ints, above, r, m, e)
+      let own = get_or-set_same prices arc.object amount (pos 0) within in
+      let i = h.is in
+      omega (arith, ints, above, r, own, i, sum, e)
 
   no_better : (a : ShortArc) (k : ℕ) → k < length row → get_or row k arc ≡ a → (a ≡ arc) ⊎ (b.second ≤ℤ short_value scale prices a) → (All (λ c. c ≡ arc) row) ⊎ (lead ≡ (b.second -ℤ b.value)) → short_value scale new arc ≤ℤ (short_value scale new a +ℤ eps)
   no_better a k lt at (inl same) by = itself a same

@@ -1,6 +1,6 @@
 -- How large the values are.
 use Rattle.std.proofs.Common.{◌≡◌, ℕ, ◌+◌, ◌*◌, ◌≤◌, ◌^◌, arith, length, List, subst, sym, w64, pos, negsuc}
-use Rattle.std.specs.Prelude.{All, ℤ, ◌+ℤ◌, ◌-ℤ◌, ◌*ℤ◌, ◌≤ℤ◌, neg_ℤ, FitsSigned, unsigned_abs}
+use Rattle.std.specs.Prelude.{All, ℤ, ◌+ℤ◌, ◌*ℤ◌, ◌≤ℤ◌, neg_ℤ, FitsSigned, unsigned_abs}
 use Rattle.std.proofs.lemmas.Int.{ints, unsigned_abs-mul}
 use Rattle.std.proofs.lemmas.List.Elements.{All-get_or}
 use Rattle.std.proofs.Math.IntN.{pos-*ℤ-pos}
@@ -41,24 +41,9 @@ value_high s c p h i = omega (arith, ints, h, i.low, i.high)
 pub scaled_abs : (s w : ℤ) → pos 1 ≤ℤ s → s ≤ℤ pos 10001 → pos 0 ≤ℤ w → w ≤ℤ pos (2 * 10 ^ 9) → unsigned_abs (s *ℤ w) ≤ 10001 * (2 * 10 ^ 9)
 scaled_abs s w a b d e = product_abs s w 10001 (2 * 10 ^ 9) (omega (arith, ints)) (omega (arith, ints))
 
-pub scaled_fits : (s w : ℤ) → unsigned_abs (s *ℤ w) ≤ 10001 * (2 * 10 ^ 9) → FitsSigned w64 (s *ℤ w)
-scaled_fits s w h = omega (arith, ints, h)
-
-pub scaled_high : (s w : ℤ) → unsigned_abs (s *ℤ w) ≤ 10001 * (2 * 10 ^ 9) → (s *ℤ w) ≤ℤ pos (2 ^ 45)
-scaled_high s w h = omega (arith, ints, h)
-
 -- the spread of all costs, scaled
 pub scaled_low : (r : FlatTable) → IsFlatTable r → pos 0 ≤ℤ (scale_in r *ℤ r.spread)
 scaled_low r sound = product_low (scale_in r) r.spread (omega (arith, ints)) sound.low
-
-pub diff_fits : (b a : ℤ) → IsValue b → IsValue a → FitsSigned w64 (b -ℤ a)
-diff_fits b a i j = omega (arith, ints, i.low, i.high, j.low, j.high)
-
-pub part_fits : (p b a : ℤ) → IsPrice p → IsValue b → IsValue a → FitsSigned w64 (p +ℤ (b -ℤ a))
-part_fits p b a h i j = omega (arith, ints, h.low, h.high, i.low, i.high, j.low, j.high)
-
-pub next_fits : (p b a e : ℤ) → IsPrice p → IsValue b → IsValue a → pos 1 ≤ℤ e → e ≤ℤ pos (2 ^ 60) → FitsSigned w64 (p +ℤ (b -ℤ a) +ℤ e)
-next_fits p b a e h i j k l = omega (arith, ints, h.low, h.high, i.low, i.high, j.low, j.high)
 
 pub price_fits : (p : ℤ) → IsPrice p → FitsSigned w64 p
 price_fits p h = omega (arith, ints, h.low, h.high)

@@ -1,14 +1,12 @@
 -- Persons who have a flag, and the objects that they know, are a Hall set of the rows where the objects are fewer.
-use Rattle.std.proofs.Common.{◌≡◌, ℕ, zero, suc, ◌+◌, ◌<◌, ◌≤◌, Bool, true, false, List, [], ◌∷◌, ◌++◌, length, get_or, set, drop, Some, refl, sym, ap, subst, ◌∙◌, arith, inl, inr, Contains, append_assoc, replicate}
-use Rattle.std.specs.List.{slice_get}
+use Rattle.std.proofs.Common.{◌≡◌, ℕ, zero, suc, ◌+◌, ◌<◌, ◌≤◌, Bool, true, false, List, [], ◌∷◌, length, get_or, refl, subst, ◌∙◌, arith, inl, inr, Contains}
 use Rattle.std.proofs.lemmas.Bool.{both_ways, cases_eq, cases_lt, false≢true}
-use Rattle.std.proofs.lemmas.List.{drop_more, get_or-set_other, get_or-set_same, get_or_past, length-replicate, length-set}
-use Rattle.std.proofs.lemmas.Option.{same_Some, slice_get_within}
+use Rattle.std.proofs.lemmas.List.{get_or_past}
+use Rattle.std.proofs.lemmas.Option.{slice_get_within}
 use Rattle.auc_graph.specs.Rising.{IsRising}
 use Rattle.auc_hall.specs.Chosen.{places}
 use Rattle.auc_hall.specs.Search.{WasSeen}
-use Rattle.auc_hall.proofs.Membership.{behind, contains_at, first_or_behind, nothing, place_of}
-use Rattle.auc_rows.specs.declared.arc.ShortArc.{ShortArc}
+use Rattle.auc_hall.proofs.Membership.{behind, first_or_behind, nothing, place_of}
 use Rattle.auc_rows.specs.Rows.{FlatTable, flat_row_of}
 use Rattle.auc_market.specs.Hall.{AreAdded, AreKnownTo, IsShortHallSet, KnowsShort}
 
@@ -42,64 +40,9 @@ places_rise k (true ∷ flags) zero (suc m) d lt in_list = omega (arith, places_
 places_rise k (true ∷ flags) (suc i) (suc m) d lt in_list = places_rise (k + 1) flags i m d (omega arith) (omega arith)
 places_rise k (false ∷ flags) i m d lt in_list = places_rise (k + 1) flags i m d lt in_list
 
-places_true : (i : ℕ) (b : Bool) (rest : List Bool) → b ≡ true → places i (b ∷ rest) ≡ i ∷ places (i + 1) rest
-places_true i true rest h = refl
-places_true i false rest h = absurd (false≢true h)
-
-places_false : (i : ℕ) (b : Bool) (rest : List Bool) → b ≡ false → places i (b ∷ rest) ≡ places (i + 1) rest
-places_false i false rest h = refl
-places_false i true rest h = absurd (false≢true (sym h))
-
-pub place_more : (out : List ℕ) (flags : List Bool) (all : List ℕ) (i : ℕ) → i < length flags → get_or flags i false ≡ true → out ++ places i (drop i flags) ≡ all → (out ++ i ∷ []) ++ places (i + 1) (drop (i + 1) flags) ≡ all
-place_more out flags all i lt h told =
-    append_assoc out (i ∷ []) (places (i + 1) (drop (i + 1) flags))
-    ∙ ap (λ (x : List ℕ). out ++ x) (sym (ap (places i) (drop_more flags i false lt) ∙ places_true i (get_or flags i false) (drop (i + 1) flags) h)) ∙ told
-
-pub place_past : (out : List ℕ) (flags : List Bool) (all : List ℕ) (i : ℕ) → i < length flags → get_or flags i false ≡ false → out ++ places i (drop i flags) ≡ all → out ++ places (i + 1) (drop (i + 1) flags) ≡ all
-place_past out flags all i lt h told =
-    ap (λ (x : List ℕ). out ++ x) (sym (ap (places i) (drop_more flags i false lt) ∙ places_false i (get_or flags i false) (drop (i + 1) flags) h)) ∙ told
-
 -- ---- the objects that persons with a flag know
 
-kept : (seen : List Bool) (j k : ℕ) → j < length seen → WasSeen seen k → WasSeen (set seen j true) k
-kept seen j k lt h = elim (cases_eq k j) [
-  | inl e ↦ ap (λ (n : ℕ). get_or (set seen j true) n false) e ∙ get_or-set_same seen j true false lt
-  | inr n ↦ get_or-set_other seen j k true false n ∙ h
-]
-
-unset : (n j : ℕ) → get_or (replicate n false) j false ≡ false
-unset zero j = refl
-unset (suc n) zero = refl
-unset (suc n) (suc j) = unset n j
-
-pub none_added : (row : List ShortArc) (seen : List Bool) → AreAdded row 0 seen seen
-none_added row seen = record { size = refl; stay = λ j h. h; each = λ k s lt e. absurd (omega arith); only = λ j h. inl h }
-
--- one more arc of a row
-pub one_added : (row : List ShortArc) (n : ℕ) (old seen : List Bool) (a : ShortArc) → AreAdded row n old seen → slice_get row n ≡ Some a → a.object < length seen → AreAdded row (n + 1) old (set seen a.object true)
-one_added row n old seen a h here lt = record {
-  size = length-set seen a.object true ∙ h.size;
-  stay = λ j was. kept seen a.object j lt (h.stay j was);
-  each = λ k s l e. elim (cases_eq k n) [
-    | inl is ↦
-        let same : a ≡ s = same_Some a s (sym here ∙ ap (slice_get row) (sym is) ∙ e) in
-        subst (λ (x : ShortArc). WasSeen (set seen a.object true) x.object) same (get_or-set_same seen a.object true false lt)
-    | inr not ↦ kept seen a.object s.object lt (h.each k s (omega (arith, l, not)) e)
-  ];
-  only = λ j was. elim (cases_eq j a.object) [
-    | inl is ↦ inr (a, contains_at row n a here, sym is)
-    | inr not ↦ h.only j (sym (get_or-set_other seen a.object j true false not) ∙ was)
-  ];
-}
-
 module _ (r : FlatTable) (is_in : List Bool) where
-  pub none_known : (seen : List Bool) → seen ≡ replicate r.objects false → AreKnownTo r is_in 0 seen
-  none_known seen is = record {
-    size = ap length is ∙ length-replicate r.objects false;
-    all = λ i j lt has knows. absurd (omega arith);
-    only = λ j was. absurd (both_ways (get_or seen j false) (ap (λ (x : List Bool). get_or x j false) is ∙ unset r.objects j) was);
-  }
-
   -- the row of one more person who has a flag
   pub row_known : (i : ℕ) (seen new : List Bool) → AreKnownTo r is_in i seen → WasSeen is_in i → AreAdded (flat_row_of r i) (length (flat_row_of r i)) seen new → AreKnownTo r is_in (i + 1) new
   row_known i seen new h has added = record {

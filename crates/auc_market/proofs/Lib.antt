@@ -11,7 +11,6 @@ pub mod Ways
 mod ScanLaws
 mod Shortlists
 mod BidLaws
-mod HighBids
 mod Incumbents
 mod Example
 mod StartLaws

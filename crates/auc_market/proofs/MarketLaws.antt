@@ -92,12 +92,6 @@ module _ (r : FlatTable) (eps : ℤ) (prices : List ℤ) (holders : List ℕ) (o
   pub price_in : j < length prices
   price_in = let e = stands.prices_are in let l = object_in in omega (arith, e, l)
 
-  pub holder_in : j < length holders
-  holder_in = let e = stands.holders_are in let l = object_in in omega (arith, e, l)
-
-  pub own_in : i < length owns
-  own_in = let e = stands.owns_are in omega (arith, e, known)
-
   abbrev new : List ℤ
   new = set prices j amount
 
@@ -126,7 +120,7 @@ module _ (r : FlatTable) (eps : ℤ) (prices : List ℤ) (holders : List ℕ) (o
   price_off k ne = get_or-set_other prices j k amount (pos 0) ne
 
   holder_here : holder_at sold j ≡ i
-  holder_here = get_or-set_same holders j i NOBODY holder_in
+  holder_here = get_or-set_same holders j i NOBODY (let e = stands.holders_are in let l = object_in in omega (arith, e, l))
 
   holder_off : (k : ℕ) → k ≢ j → holder_at sold k ≡ holder_at holders k
   holder_off k ne = get_or-set_other holders j k i NOBODY ne
@@ -140,7 +134,7 @@ module _ (r : FlatTable) (eps : ℤ) (prices : List ℤ) (holders : List ℕ) (o
       ]
 
   pub own_new : own_at left i ≡ s
-  own_new = get_or-set_other had d i no_own no_own apart ∙ get_or-set_same owns i s no_own own_in
+  own_new = get_or-set_other had d i no_own no_own apart ∙ get_or-set_same owns i s no_own (let e = stands.owns_are in omega (arith, e, known))
 
   pub own_off : (k : ℕ) → k ≢ i → k ≢ d → own_at left k ≡ own_at owns k
   own_off k ni nd = get_or-set_other had d k no_own no_own nd ∙ get_or-set_other owns i k s no_own ni
@@ -226,13 +220,6 @@ module _ (r : FlatTable) (eps : ℤ) (prices : List ℤ) (holders : List ℕ) (o
       slack = slack_after;
     }
 
-  pub displaced_below : d ≢ NOBODY → d < length r.rows
-  displaced_below some = holder_below r eps prices holders owns sound stands j some
-
-  -- the bidder is a person
-  somebody : i ≢ NOBODY
-  somebody e = let m = sound.most in omega (arith, e, known, m)
-
   -- who waits has nothing still
   waits_still : (other : ℕ) → other ≢ i → (own_at owns other).object ≡ NOBODY → (own_at left other).object ≡ NOBODY
   waits_still other ni free =
@@ -245,7 +232,7 @@ module _ (r : FlatTable) (eps : ℤ) (prices : List ℤ) (holders : List ℕ) (o
   pub all_but : (n other : ℕ) → HaveAllBut n owns i other → HaveAllBut n left d other
   all_but n other h = record {
     none = gone;
-    waits = waits_still other (λ e. h.apart somebody (sym e)) h.waits;
+    waits = waits_still other (λ e. h.apart (λ z. (let m = sound.most in omega (arith, z, known, m))) (sym e)) h.waits;
     apart = λ some e. holder_has r eps prices holders owns sound stands j some (ap (λ (m : ℕ). (own_at owns m).object) e ∙ h.waits);
     others = λ k l nd no. elim (cases_eq k i) [
       | inl e ↦ subst (λ (m : ℕ). (own_at left m).object ≢ NOBODY) (sym e) new_has
@@ -269,7 +256,7 @@ way_taken r eps person prices new holders sold owns left d s amount sound stands
       stands = stands_by r eps (set prices s.object amount) new (set holders s.object person) sold (set (set owns person s) (holder_at holders s.object) no_own) left e f g (stands_after r eps prices holders owns person s amount sound stands known none up fits high);
       none = subst (λ (os : List ShortArc). (own_at os d).object ≡ NOBODY) (sym g) (subst (λ (m : ℕ). (own_at (set (set owns person s) (holder_at holders s.object) no_own) m).object ≡ NOBODY) (sym h) (gone r eps prices holders owns person s amount sound stands known none up fits));
       but = λ n other b. subst (λ (os : List ShortArc). HaveAllBut n os d other) (sym g) (subst (λ (m : ℕ). HaveAllBut n (set (set owns person s) (holder_at holders s.object) no_own) m other) (sym h) (all_but r eps prices holders owns person s amount sound stands known none up fits n other b));
-      below = λ some. (let l = displaced_below r eps prices holders owns person s amount sound stands known none up fits (λ z. some (h ∙ z)) in omega (arith, l, h));
+      below = λ some. (let l = holder_below r eps prices holders owns sound stands s.object (λ z. some (h ∙ z)) in omega (arith, l, h));
       higher = λ k. (let up_k = rise r eps prices holders owns person s amount sound stands known none up fits k in rw e up_k);
     }
 

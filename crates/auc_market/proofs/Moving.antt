@@ -15,7 +15,7 @@ use Rattle.auc_market.specs.Position.{IsBid, IsMove, IsRefinement, IsSlice, IsTr
 use Rattle.auc_market.specs.Way.{IsWay}
 use Rattle.auc_market.proofs.BidsLaws.{made_all, made_more, made_none, made_on, made_raises, made_risen, made_slice, made_within}
 use Rattle.auc_market.proofs.Bounds.{scaled_abs}
-use Rattle.auc_market.proofs.PhasesLaws.{counted_within, phase_more, within_slice}
+use Rattle.auc_market.proofs.PhasesLaws.{counted_within, within_slice}
 
 -- a bid at it fits
 pub eps_fits : (r : FlatTable) (eps : ℤ) → IsFlatTable r → IsEpsOf r eps → IsEps eps
@@ -27,11 +27,6 @@ eps_fits r eps sound is = record { low = is.low; high = by is.high }
 
 pub eps_one : (r : FlatTable) → IsEpsOf r (pos 1)
 eps_one r = record { low = omega (arith, ints); high = inl refl }
-
--- the spread of the costs, or less, and at least 1
-pub eps_within : (r : FlatTable) (most spread eps : ℤ) → most ≡ (scale_in r *ℤ r.spread) → spread ≤ℤ most → (eps ≡ pos 1) ⊎ (eps ≡ spread) → pos 1 ≤ℤ eps → IsEpsOf r eps
-eps_within r most spread eps is few (inl one) low = record { low = low; high = inl one }
-eps_within r most spread eps is few (inr same) low = record { low = low; high = inr (omega (arith, ints, is, few, same)) }
 
 -- a lesser one
 pub eps_below : (r : FlatTable) (eps next : ℤ) → IsEpsOf r eps → pos 1 ≤ℤ next → next ≤ℤ eps → IsEpsOf r next
@@ -109,9 +104,6 @@ pub all_spent : (most left : ℕ) (a b : Position) → Law a → left ≡ 0 → 
 all_spent most left a b law none s =
     let all = made_all a.table a.eps most left (state_at a) (state_at b) none s.spent in
     (record { eps = a.eps; is_eps = law.eps; first = state_at a; before = begins (state_at a) refl; stands = law.stands; last = state_at b; run = all; prices_are = refl }, (made_raises a.table a.eps (state_at a) (state_at b) most law.sound law.eps.low law.stands.prices_are all).1)
-
-pub tried_more : (few bids : ℕ) (a b : Position) → few ≤ bids → IsTried few a b → IsTried bids a b
-tried_more few bids a b le is = record { table = is.table; eps = is.eps; phase = phase_more a.table few bids (state_at a) (state_at b) le is.phase; risen = is.risen }
 
 pub no_refinement : (p : Position) → IsRefinement p p
 no_refinement p = record { table = refl; refined = state_at p; is = record { owns = refl; risen = omega (arith, ints) }; after = inl refl; risen = omega (arith, ints) }

@@ -44,14 +44,11 @@ stands_opened r first eps prices holders owns n m start objects persons nobody n
 
 -- ---- what a run begins with
 
-zero_price : IsPrice (pos 0)
-zero_price = record { low = omega (arith, ints); high = omega (arith, ints) }
-
 -- no price at all
 pub start_none : (r : FlatTable) (eps : ℤ) (n : ℕ) (prices : List ℤ) → n ≡ r.objects → prices ≡ replicate n (pos 0) → (r.objects ≡ length r.rows) ⊎ (eps ≡ pos 1) → IsStart r eps prices
 start_none r eps n prices many zeros start = record {
   each = ap length zeros ∙ length-replicate n (pos 0) ∙ many;
-  within = subst (All IsPrice) (sym zeros) (All-replicate IsPrice n (pos 0) zero_price);
+  within = subst (All IsPrice) (sym zeros) (All-replicate IsPrice n (pos 0) (record { low = omega (arith, ints); high = omega (arith, ints) }));
   spare = by start;
 }
   where

@@ -6,10 +6,8 @@ use Rattle.auc_rows.specs.Rows.{FlatTable}
 use Rattle.auc_market.proofs.MarketLaws.{replicate_default}
 use Rattle.auc_market.specs.declared.ending.Ending.{Ending}
 use Rattle.auc_market.specs.Bids.{AreCounted, AreMadeWithin, AreSpent, State}
-use Rattle.auc_market.specs.Bids.AreMade.{opens as begins_at}
-use Rattle.auc_market.specs.Eps.{IsEpsOf}
-use Rattle.auc_market.specs.Market.{Stands, no_own, own_at}
-use Rattle.auc_market.specs.Phases.{ArePhases, IsOpened, IsPhase, IsRefined}
+use Rattle.auc_market.specs.Market.{no_own, own_at}
+use Rattle.auc_market.specs.Phases.{ArePhases, IsOpened, IsPhase}
 use Rattle.auc_market.specs.Phases.ArePhases.{begins, opens, plays, refines}
 use Rattle.auc_market.proofs.BidsLaws.{makes_on}
 
@@ -39,9 +37,6 @@ within_slice r eps most left slice s t u spent le made = record {
 pub within_more : (r : FlatTable) (eps : ℤ) (most more : ℕ) (s t : State) → most ≤ more → AreMadeWithin r eps most s t → AreMadeWithin r eps more s t
 within_more r eps most more s t le made = record { made = made.made; few = (let a = made.few in omega (arith, a, le)); run = made.run }
 
-pub no_phase : (r : FlatTable) (eps : ℤ) (bids : ℕ) (s : State) → IsEpsOf r eps → Stands r eps s.prices s.holders s.owns → IsPhase r bids s s
-no_phase r eps bids s is stands = record { eps = eps; is_eps = is; stands = stands; made = record { made = 0; few = omega arith; run = begins_at 0 s refl refl } }
-
 pub one_phase : (r : FlatTable) (bids : ℕ) (s t : State) → IsPhase r bids s t → ArePhases r bids s t
 one_phase r bids s t phase = plays s t (begins s refl) phase
 
@@ -53,6 +48,3 @@ opened_is s t n prices owns = record { prices = prices; none = λ i. ap (λ (xs 
 
 pub opened_phase : (r : FlatTable) (few bids : ℕ) (s t u : State) → IsOpened s t → few ≤ bids → IsPhase r few t u → ArePhases r bids s u
 opened_phase r few bids s t u opened le phase = plays t u (opens s t (begins s refl) opened) (phase_more r few bids t u le phase)
-
-pub tried : (r : FlatTable) (bids : ℕ) (s t u v : State) → ArePhases r bids s t → IsRefined t u → ArePhases r bids u v → ArePhases r bids s v
-tried r bids s t u v run refined ahead = phases_on r bids s u v (refines t u run refined) ahead

@@ -17,17 +17,13 @@ nobody_has owns few = ap (λ (s : ShortArc). s.object) (get_or_past owns NOBODY 
 pub two_free : (owns : List ShortArc) (person other : ℕ) → (own_at owns person).object ≡ NOBODY → (own_at owns other).object ≡ NOBODY → person ≢ other → HaveAllBut 0 owns person other
 two_free owns person other none waits apart = record { none = none; waits = waits; apart = λ _. apart; others = λ i l. absurd (omega (arith, l)) }
 
--- one who is free, where all others of the first n have objects
-pub one_free : (n : ℕ) (owns : List ShortArc) (person : ℕ) → length owns ≤ MOST_PERSONS → (own_at owns person).object ≡ NOBODY → ((i : ℕ) → i < n → i ≢ person → (own_at owns i).object ≢ NOBODY) → HaveAllBut n owns person NOBODY
-one_free n owns person few none others = record { none = none; waits = nobody_has owns few; apart = λ some. some; others = λ i l np _. others i l np }
-
 -- nobody is free
 pub all_have : (n : ℕ) (owns : List ShortArc) (person other : ℕ) → person ≡ NOBODY → other ≡ NOBODY → n ≤ MOST_PERSONS → HaveAllBut n owns person other → HaveObjects n owns
 all_have n owns person other e f few h i l = h.others i l (λ z. omega (arith, l, e, z, few)) (λ z. omega (arith, l, f, z, few))
 
 -- one who waits, as one who bids
 pub alone : (n : ℕ) (owns : List ShortArc) (waits : ℕ) → n ≤ MOST_PERSONS → length owns ≤ MOST_PERSONS → HaveAllBut n owns NOBODY waits → HaveAllBut n owns waits NOBODY
-alone n owns waits few many h = one_free n owns waits many h.waits (λ i l nw. h.others i l (λ z. omega (arith, l, z, few)) nw)
+alone n owns waits few many h = record { none = h.waits; waits = nobody_has owns many; apart = λ some. some; others = λ i l nw _. h.others i l (λ z. omega (arith, l, z, few)) nw }
 
 -- persons who have objects, or are one of the two
 pub passed_have : (from to : ℕ) (owns : List ShortArc) (person other : ℕ) → ((i : ℕ) → from ≤ i → i < to → i ≢ person → i ≢ other → (own_at owns i).object ≢ NOBODY) → HaveAllBut from owns person other → HaveAllBut to owns person other

@@ -13,7 +13,7 @@ use Rattle.auc_market.proofs.MarketLaws.{replicate_default}
 use Rattle.auc_market.specs.declared.holdings.TheConstants.{NOBODY}
 use Rattle.auc_market.specs.Endings.{IsStart}
 use Rattle.auc_market.specs.Market.{AreSpare, IsSlack, Stands, holder_at, no_own, own_at}
-use Rattle.auc_market.specs.Starts.{AreKept, AreOpened, ArePricesOf, AreSeated, any_eps}
+use Rattle.auc_market.specs.Starts.{AreKept, ArePricesOf, AreSeated, any_eps}
 use Rattle.auc_market.proofs.Bounds.{value_in}
 use Rattle.auc_market.proofs.MarketLaws as market
 use Rattle.auc_market.proofs.Opening.{stands_opened}
@@ -135,17 +135,11 @@ module _ (r : FlatTable) (prices : List ℤ) (holders : List ℕ) (owns : List S
   abbrev rest : List ShortArc
   rest = set owns i no_own
 
-  pub leaver_below : i < length r.rows
-  leaver_below = market.owner_below r any_eps prices holders owns sound stands i some
-
   pub left_below : j < r.objects
   left_below = market.own_below r any_eps prices holders owns sound stands i some
 
-  his : holder_at holders j ≡ i
-  his = stands.holds i some
-
   rest_here : own_at rest i ≡ no_own
-  rest_here = get_or-set_same owns i no_own no_own (let l = leaver_below in let e = stands.owns_are in omega (arith, l, e))
+  rest_here = get_or-set_same owns i no_own no_own (let l = market.owner_below r any_eps prices holders owns sound stands i some in let e = stands.owns_are in omega (arith, l, e))
 
   rest_off : (k : ℕ) → k ≢ i → own_at rest k ≡ own_at owns k
   rest_off k ne = get_or-set_other owns i k no_own no_own ne
@@ -184,7 +178,7 @@ module _ (r : FlatTable) (prices : List ℤ) (holders : List ℕ) (owns : List S
   holds_left : (k : ℕ) → (own_at rest k).object ≢ NOBODY → holder_at free (own_at rest k).object ≡ k
   holds_left k has =
       let h = had k has in
-      let apart : (own_at owns k).object ≢ j = λ e. h.0 (sym (stands.holds k h.2) ∙ ap (holder_at holders) e ∙ his) in
+      let apart : (own_at owns k).object ≢ j = λ e. h.0 (sym (stands.holds k h.2) ∙ ap (holder_at holders) e ∙ stands.holds i some) in
       ap (λ (s : ShortArc). holder_at free s.object) h.1 ∙ free_off (own_at owns k).object apart ∙ stands.holds k h.2
 
   within_left : All IsPrice lower
@@ -233,9 +227,3 @@ within_next r eps prices owns n below here i lt =
       | inl e ↦ subst (λ (m : ℕ). (own_at owns m).object ≢ NOBODY → IsSlack r eps prices m (own_at owns m)) (sym e) here
       | inr ne ↦ below i (grind (arith, lt, ne))
     ]
-
-pub opened_same : (r : FlatTable) (start prices : List ℤ) → r.objects ≡ length r.rows → prices ≡ start → AreOpened r.objects (length r.rows) start prices
-opened_same r start prices square e = record { each = ap length e; same = λ s. e; kept = kept_all start prices e }
-
-pub opened_spare : (r : FlatTable) (start prices : List ℤ) → length r.rows < r.objects → length prices ≡ length start → AreKept start prices → AreOpened r.objects (length r.rows) start prices
-opened_spare r start prices more each kept = record { each = each; same = λ s. absurd (omega (arith, more, s)); kept = kept }

@@ -1,11 +1,10 @@
 -- What is left of a path that a search has proposed, once it was tried.
-use Rattle.std.proofs.Common.{ℕ, ℤ, pos, ◌+◌, ◌<◌, ◌≤◌, ◌≡◌, ◌≢◌, refl, arith, Contains, List, length, get_or, set, inl, inr, ap, sym, subst, ◌∙◌}
+use Rattle.std.proofs.Common.{ℕ, ℤ, pos, ◌+◌, ◌<◌, ◌≤◌, ◌≡◌, ◌≢◌, arith, Contains, List, length, get_or, set, inl, inr, ap, sym, subst, ◌∙◌}
 use Rattle.std.specs.Prelude.{All, ◌⊎◌, ◌-ℤ◌, ◌≤ℤ◌}
 use Rattle.std.proofs.lemmas.Bool.{cases_eq}
 use Rattle.std.proofs.lemmas.Int.{ints}
 use Rattle.std.proofs.lemmas.List.{get_or_default, get_or-set_same, get_or-set_other, length-set, same_lists, set-get_or}
 use Rattle.std.proofs.lemmas.List.Elements.{All-contains, All-from_get_or, All-get_or}
-use Rattle.auc_graph.specs.Assignment.{total}
 use Rattle.auc_graph.specs.Dual.{price_at}
 use Rattle.auc_graph.specs.Price.{IsPrice}
 use Rattle.auc_rows.specs.declared.arc.ShortArc.{ShortArc}
@@ -17,7 +16,7 @@ use Rattle.auc_market.specs.Path.{AreRaised, AreRises, AreTakenBack, AreWithin, 
 use Rattle.auc_market.specs.Scan.{short_value}
 use Rattle.auc_market.specs.Starts.{any_eps}
 use Rattle.auc_market.specs.Way.{IsWay}
-use Rattle.auc_market.proofs.MarketLaws.{slack_rises, total_rises, way_taken}
+use Rattle.auc_market.proofs.MarketLaws.{slack_rises, way_taken}
 use Rattle.auc_market.proofs.StartLaws.{any_slack}
 
 -- by a pass over his row that found nothing worth less than this
@@ -39,27 +38,9 @@ noted_more prices holders rises n rise room below is m d lt =
 
 -- ---- prices rise
 
-pub raised_none : (prices : List ℤ) (rises : List Rise) → AreRaised prices prices rises
-raised_none prices rises = record { many = refl; each = λ k. inl refl }
-
 module _ (prices : List ℤ) (holders : List ℕ) (rises : List Rise) (are : AreRises prices holders rises) where
   is_rise : (rise : Rise) → Contains rises rise → IsRise prices holders rise
   is_rise rise listed = All-contains (IsRise prices holders) rises rise are listed
-
-  -- one more does
-  pub raised_more : (now : List ℤ) (rise : Rise) → Contains rises rise → AreRaised prices now rises → AreRaised prices (set now rise.object rise.amount) rises
-  raised_more now rise listed raised =
-      record {
-        many = length-set now rise.object rise.amount ∙ raised.many;
-        each = λ k. elim (cases_eq k rise.object) [
-          | inl e ↦ inr (rise, listed, sym e, ap (price_at (set now rise.object rise.amount)) e ∙ get_or-set_same now rise.object rise.amount (pos 0) (let l = (is_rise rise listed).known in let m = raised.many in omega (arith, l, m)))
-          | inr ne ↦ off k (get_or-set_other now rise.object k rise.amount (pos 0) ne) (raised.each k)
-        ];
-      }
-    where
-      off : (k : ℕ) → price_at (set now rise.object rise.amount) k ≡ price_at now k → HasRisen prices now rises k → HasRisen prices (set now rise.object rise.amount) rises k
-      off k e (inl same) = inl (e ∙ same)
-      off k e (inr x) = inr (x.0, x.1, x.2, e ∙ x.3)
 
   module _ (r : FlatTable) (eps : ℤ) (new : List ℤ) (owns : List ShortArc) (sound : IsFlatTable r) (stands : Stands r eps prices holders owns) (raised : AreRaised prices new rises) where
     pub raised_higher : AreHigher prices new
@@ -121,9 +102,6 @@ module _ (prices : List ℤ) (holders : List ℕ) (rises : List Rise) (are : Are
 
 -- ---- and are taken back
 
-pub back_none : (prices raised : List ℤ) (rises : List Rise) → AreTakenBack prices raised raised rises 0
-back_none prices raised rises = record { many = refl; either = λ k. inl refl; done = λ m d lt. absurd (omega (arith, lt)) }
-
 module _ (prices raised now : List ℤ) (holders : List ℕ) (rises : List Rise) (n : ℕ) (are : AreRises prices holders rises) (risen : AreRaised prices raised rises) (back : AreTakenBack prices raised now rises n) where
   -- one more is
   module _ (rise : Rise) (lt : n < length rises) (here : (d : Rise) → get_or rises n d ≡ rise) where
@@ -184,10 +162,6 @@ module _ (prices raised now : List ℤ) (holders : List ℕ) (rises : List Rise)
 
 -- ---- ways
 
--- a person who stays where he is while prices rise
-pub way_stayed : (r : FlatTable) (eps : ℤ) (person : ℕ) (prices new : List ℤ) (holders : List ℕ) (owns : List ShortArc) → person < length r.rows → Stands r eps new holders owns → AreHigher prices new → (own_at owns person).object ≡ NOBODY → IsWay r eps person prices new holders owns owns person
-way_stayed r eps person prices new holders owns known stands up none = record { stands = stands; higher = up; none = none; below = λ _. known; but = λ n other h. h }
-
 pub higher_same : (prices : List ℤ) → AreHigher prices prices
 higher_same prices k = omega (arith, ints)
 
@@ -211,7 +185,3 @@ way_at_price r eps person prices new holders sold owns left d s amount sound sta
     let high = price.high in
     let same : set prices s.object amount ≡ prices = ap (set prices s.object) is ∙ set-get_or prices s.object (pos 0) in
     way_taken r eps person prices new holders sold owns left d s amount sound stands known none (omega (arith, ints, is)) (omega (arith, ints, is, high)) (subst (λ (ps : List ℤ). IsSlack r eps ps person s) (sym same) slack) e f g h
-
--- the sum of prices doesn't fall
-pub way_total : (r : FlatTable) (eps other : ℤ) (person free : ℕ) (prices new : List ℤ) (holders sold : List ℕ) (owns left these : List ShortArc) → Stands r other prices holders these → IsWay r eps person prices new sold owns left free → total prices ≤ℤ total new
-way_total r eps other person free prices new holders sold owns left these stands way = total_rises prices new (let a = stands.prices_are in let b = way.stands.prices_are in omega (arith, a, b)) way.higher

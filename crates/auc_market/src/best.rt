@@ -1,8 +1,6 @@
 //! A person's best arc, and what his other arcs are worth at least.
 
-ghost use Rattle.std.specs.Prelude.{◌<◌, pos, ◌≤ℤ◌, All, length};
-ghost use Rattle.auc_graph.specs.Price.{IsPrice};
-ghost use Rattle.auc_rows.specs.Rows.{IsShort};
+ghost use Rattle.std.specs.Prelude.{◌<◌, length};
 ghost use Rattle.auc_market.specs.Scan.{IsPricedRow, short_value};
 ghost use Rattle.auc_market.specs.Shortlist.{IsBest};
 

@@ -1,13 +1,12 @@
 //! The incumbent: what persons held when each had an object last. A run that is stopped answers with it, at the prices
 //! of the stop.
 
-ghost use Rattle.std.specs.Prelude.{◌≡◌, false, true, length, IfOk};
+ghost use Rattle.std.specs.Prelude.{◌≡◌, true, length};
 ghost use Rattle.auc_market.specs.Incumbent.{AreSetAside};
 ghost use Rattle.auc_market.specs.Market.{HaveObjects};
 
-use crate::holdings::{Holdings, NO_OWN, NOBODY};
+use crate::holdings::Holdings;
 use auc_rows::ShortArc;
-use std::alloc::{AllocError, Global};
 use std::mem;
 
 /// Who held each object, indexed by object; by which arc each person held his, indexed by person; and whether each

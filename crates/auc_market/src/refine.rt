@@ -14,7 +14,7 @@ ghost use Rattle.std.specs.Prelude.{true, false, ◌≡◌, ◌<◌, pos, ◌≤
 ghost use Rattle.auc_graph.specs.Assignment.{total};
 ghost use Rattle.auc_graph.specs.Price.{IsPrice};
 ghost use Rattle.auc_letters.specs.Price.{IsEps};
-ghost use Rattle.auc_rows.specs.Rows.{EachHasArc, scale_in};
+ghost use Rattle.auc_rows.specs.Rows.{EachHasArc};
 ghost use Rattle.auc_market.specs.Market.{HaveObjects, IsLifted, Stands};
 ghost use Rattle.auc_market.specs.Shortlist.{Kept};
 ghost use Rattle.auc_market.specs.Starts.{ArePricesOf, any_eps};

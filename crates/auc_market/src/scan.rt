@@ -1,6 +1,6 @@
 //! A person's best arc, in one pass over his row that has no branch by the values.
 
-ghost use Rattle.std.specs.Prelude.{◌≡◌, ◌<◌, ◌+◌, ◌^◌, pos, neg_ℤ, ◌+ℤ◌, ◌*ℤ◌, ◌≤ℤ◌, All, length};
+ghost use Rattle.std.specs.Prelude.{◌≡◌, ◌<◌, ◌+◌, ◌^◌, ◌≤ℤ◌, All, length};
 ghost use Rattle.auc_graph.specs.Price.{IsPrice};
 ghost use Rattle.auc_rows.specs.Rows.{IsShort};
 ghost use Rattle.auc_market.specs.Scan.{IsFound, IsPricedRow, IsScale, IsValue, Lowered, LoweredTwice, short_value};

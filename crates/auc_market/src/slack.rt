@@ -1,10 +1,10 @@
 //! Whether an arc of a person is within eps of his best, by a pass that ends at the first one that is better.
 
-ghost use Rattle.std.specs.Prelude.{◌≡◌, ◌<◌, pos, ◌≤ℤ◌, All, Contains, IsTrue, length};
+ghost use Rattle.std.specs.Prelude.{◌≡◌, ◌<◌, ◌≤ℤ◌, All, Contains, IsTrue, length};
 ghost use Rattle.auc_graph.specs.Price.{IsPrice};
 ghost use Rattle.auc_letters.specs.Price.{IsEps};
 ghost use Rattle.auc_rows.specs.declared.arc.ShortArc.{ShortArc};
-ghost use Rattle.auc_rows.specs.Rows.{IsShort, flat_row_of};
+ghost use Rattle.auc_rows.specs.Rows.{flat_row_of};
 ghost use Rattle.auc_market.specs.Market.{IsSlack};
 ghost use Rattle.auc_market.specs.Scan.{IsPricedRow, short_value};
 

@@ -5,7 +5,7 @@ use Rattle.auc_market.specs.Halts.{IsHalt}
 use Rattle.auc_direct.specs.Endings.{IsLimited, IsLimitedUnless, IsOfFirstPhases, IsOfPhases}
 use Rattle.auc_direct.proofs.Answering.{none_asked, first_prices, of_answers, of_first}
 use Rattle.auc_direct.proofs.EndingLaws.{limited_earlier_unless, of_halts}
-use Rattle.auc_direct.proofs.FirstPrices.{start_low}
+use Rattle.auc_market.proofs.MarketLaws.{total_low}
 use Rattle.auc_direct.proofs.solving.solve_direct_watched.Goals as goal
 
 pub new-requires-clause-start : goal.new-requires-clause-start
@@ -20,7 +20,7 @@ returns-clause-limit g c =
     let after = g.W.Watch.has_stopped c.run-ended.new.watch in
     let begun : IsStart c.in_ok-flat.flat (pos 1) prices = rw c.in_ok-market.ensures.prices (c.in_ok-prices.ensures (pos 1) (inr refl)) in
     of_answers (λ a. IsLimitedUnless before after a (IsLimited p bids (total prices) a)) (λ a. IsLimitedUnless before after a (IsLimited p bids (pos 0) a)) c.concluded.result
-    (λ a h. limited_earlier_unless before after p bids (pos 0) (total prices) a (start_low c.in_ok-flat.flat (pos 1) prices begun) h)
+    (λ a h. limited_earlier_unless before after p bids (pos 0) (total prices) a (total_low prices begun.within) h)
     (c.concluded.ensures.limit bids prices before after c.run-ended.ensures.outcome (of_halts (λ h. IsHalt c.in_ok-flat.flat h × (after ≡ before)) (λ h. after ≡ before) c.run-ended.result (λ h x. x.1) c.run-ended.ensures.halt))
 
 pub returns-clause-run : goal.returns-clause-run

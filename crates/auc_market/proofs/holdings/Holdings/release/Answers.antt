@@ -4,9 +4,6 @@ use Rattle.std.proofs.lemmas.Int.{to_z-of_z}
 use Rattle.auc_market.proofs.StartLaws.{kept_left, kept_on, stands_left, stands_within, within_next}
 use Rattle.auc_market.proofs.holdings.Holdings.release.Goals as goal
 
-not_so : true ≡ false → ⊥
-not_so e = cc
-
 pub loop-person-preserved-then-is_within : goal.loop-person-preserved-then-is_within
 loop-person-preserved-then-is_within c =
     let f1 : FitsSigned w64 c.args.eps = c.ranges.eps in
@@ -26,7 +23,7 @@ loop-person-preserved c =
     rw (c.leave.ensures.prices, c.leave.ensures.holders, c.leave.ensures.owns) (record {
       stands = stands_left c.args.rows.now c.loop-person.self.prices.items c.loop-person.self.holders.items c.loop-person.self.owns.items c.loop-person.person sound inv.stands some;
       kept = kept_on c.args.self.now.prices.items c.loop-person.self.prices.items _ inv.kept (kept_left c.args.rows.now c.loop-person.self.prices.items c.loop-person.self.holders.items c.loop-person.self.owns.items c.loop-person.person sound inv.stands some);
-      within = λ e. absurd (not_so e);
+      within = λ e. absurd (let no : true ≡ false = e in cc);
     })
 
 pub returns-clause-nobody : goal.returns-clause-nobody

@@ -24,17 +24,17 @@ use Rattle.auc_letters.specs.declared.state.Held.{Held}
 use Rattle.auc_model.proofs.Chosen.{Found, row_arc_listed}
 use Rattle.auc_answers.specs.declared.answer.Answer.{Answer}
 use Rattle.auc_answers.specs.Answers.{HasAssignment, IsAnswer, IsBracketAnswer, IsBracketOf, IsCertified, IsInfeasibleAnswer, IsOptimalAnswer}
-use Rattle.auc_answers.specs.Claims.{BoundFits, IsBracketBy, IsChoiceOf, claim_of}
+use Rattle.auc_answers.specs.Claims.{BoundFits, IsChoiceOf, claim_of}
 use Rattle.auc_answers.specs.Prepared.{NobodyStuck}
 use Rattle.auc_answers.proofs.BracketLaws.{bound_fits, holders_price_few}
 use Rattle.auc_rows.specs.declared.arc.ShortArc.{ShortArc}
 use Rattle.auc_rows.specs.Rows.{AreRowsOf, AreSameRows, EachHasArc, FlatTable, IsFlatTable, flat_row_of, short, short_row}
 use Rattle.auc_market.specs.declared.ending.Ending.{Ending}
 use Rattle.auc_direct.specs.Adopted.{IsFullTable}
-use Rattle.auc_direct.specs.Endings.{IsAsked, AreAdopted, AreFirst, AreOfRun, HasReason, IsClaimOfFirst, IsClaimOfRun, IsLimited, IsLimitedBy, IsLimitedFrom, IsLimitedUnless, IsOfFirstPhases, IsOfPhases, IsOfPhasesFrom, IsStopTold}
-use Rattle.auc_market.specs.Endings.{IsLeft, IsLimit, IsStart, IsToldOr}
-use Rattle.auc_direct.specs.Phases.{HasRun, IsAdopted}
-use Rattle.auc_market.specs.Phases.{IsRun}
+use Rattle.auc_direct.specs.Endings.{IsAsked, AreAdopted, AreFirst, AreOfRun, HasReason, IsClaimOfFirst, IsClaimOfRun, IsLimited, IsLimitedBy, IsLimitedFrom, IsLimitedUnless, IsOfFirstPhases, IsOfPhases, IsOfPhasesFrom}
+use Rattle.auc_direct.specs.Told.{IsTold}
+use Rattle.auc_market.specs.Endings.{IsLeft, IsStart, IsStopped, IsToldOr}
+use Rattle.auc_direct.specs.Phases.{HasRun}
 use Rattle.auc_direct.specs.Held.{AreHeld, AreHolders, AreListed, arc_by}
 use Rattle.auc_direct.specs.Held.{EachHasRow}
 use Rattle.auc_market.specs.Bids.{State}
@@ -43,91 +43,8 @@ use Rattle.auc_market.specs.Starts.{AreOpened}
 use Rattle.auc_direct.proofs.Choices as choices
 use Rattle.auc_market.proofs.MarketLaws.{holder_has, owner_below}
 
-module _ (p : Problem) (t : Table) (r : FlatTable) (prices : List ℤ) (holders : List ℕ) (owns : List ShortArc) (held : List (Option Held)) (is : IsProblem p) (its : IsTableOf p t) (same : AreSameRows t r) (sound : IsFlatTable r) (are : AreHeld p holders owns held) where
-  -- ---- each person has an object
+-- ---- there is no assignment
 
-  module _ (stands : Stands r (pos 1) prices holders owns) (all : HaveObjects (length r.rows) owns) where
-    abbrev choice : List Arc
-    choice = choices.arcs p t r (pos 1) prices holders owns held its same sound stands are all
-
-    certified : IsCertified p (claim_of choice prices)
-    certified =
-        let given = choices.assigned p t r (pos 1) prices holders owns held its same sound stands are all in
-        let many = choices.many_prices p t r (pos 1) prices holders owns held its same sound stands are in
-        let spelled = assignment_spelled p choice prices is given many stands.within in
-        let faultless = slack_right_faultless p choice given prices many (total_cost choice) refl (choices.slack_all p t r (pos 1) prices holders owns held its same sound stands are all) (choices.no_price_left p t r (pos 1) prices holders owns held its same sound stands are all is) in
-        record { spelled = spelled; faultless = faultless; allowed = faultless_is_allowed p (claim_of choice prices) is spelled faultless }
-
-    -- what is claimed of these prices and holders passes the checker
-    pub sold_passes : (arcs : List Arc) × IsChoiceOf p held arcs × IsCertified p (claim_of arcs prices)
-    sold_passes = (choice, choices.is_choice p t r (pos 1) prices holders owns held its same sound stands are all, certified)
-
-    pub sold_is_answer : (answer : Answer) → IsOptimalAnswer p held prices answer → IsAnswer p answer
-    sold_is_answer (Answer.Optimal cert) h = record { cost = total_cost h.0; choice = map pick_of h.0; prices = prices; is = h.2; certified = h.3 }
-    sold_is_answer (Answer.Infeasible cert) h = absurd h
-    sold_is_answer (Answer.Bracket cert) h = absurd h
-    sold_is_answer (Answer.Broken guard) h = absurd (h.1 choice (choices.is_choice p t r (pos 1) prices holders owns held its same sound stands are all) certified)
-
-  -- ---- a limit has stopped the phase
-
-  module _ (eps : ℤ) (reason : Reason) (stands : Stands r eps prices holders owns) (has : HasAssignment p) where
-    fits : BoundFits p prices
-    fits =
-        let many = choices.many_prices p t r eps prices holders owns held its same sound stands are in
-        bound_fits p reason prices is many stands.within (holders_price_few p held prices is (choices.placeable p t r eps prices holders owns held its same sound stands are) many (choices.spare p t r eps prices holders owns held its same sound stands are)) has
-
-    pub stopped_is_answer : (answer : Answer) → IsBracketAnswer p reason held prices answer → IsAnswer p answer
-    stopped_is_answer (Answer.Optimal cert) h = absurd h
-    stopped_is_answer (Answer.Infeasible cert) h = h
-    stopped_is_answer (Answer.Bracket cert) h = let by = h.1 in record { reason = reason; lower = by.lower; cost = total_cost by.choice; choice = map pick_of by.choice; prices = prices; is = by.is; certified = h.2 }
-    stopped_is_answer (Answer.Broken guard) h = absurd (h.1 (choices.placeable p t r eps prices holders owns held its same sound stands are) fits)
-
-  -- ---- the same where each person has an object
-
-  module _ (eps : ℤ) (reason : Reason) (stands : Stands r eps prices holders owns) (all : HaveObjects (length r.rows) owns) where
-    pub whole_choice : (arcs : List Arc) × IsChoiceOf p held arcs × IsAssignment p arcs
-    whole_choice = (choices.arcs p t r eps prices holders owns held its same sound stands are all, choices.is_choice p t r eps prices holders owns held its same sound stands are all, choices.assigned p t r eps prices holders owns held its same sound stands are all)
-
-    pub whole_prices : length prices ≡ p.objects
-    whole_prices = choices.many_prices p t r eps prices holders owns held its same sound stands are
-
-    pub whole_fits : BoundFits p prices
-    whole_fits = fits eps reason stands (whole_choice.0, whole_choice.2)
-
--- an assignment with a bound
-pub whole_is_answer : (p : Problem) (reason : Reason) (prices : List ℤ) (answer : Answer) → IsBracketOf p reason prices answer → IsAnswer p answer
-whole_is_answer p reason prices (Answer.Optimal cert) h = absurd h
-whole_is_answer p reason prices (Answer.Infeasible cert) h = absurd h
-whole_is_answer p reason prices (Answer.Bracket cert) h = let by = h.0 in record { reason = reason; lower = by.lower; cost = total_cost by.choice; choice = map pick_of by.choice; prices = prices; is = by.is; certified = h.1 }
-whole_is_answer p reason prices (Answer.Broken guard) h = absurd h
-
-pub whole_is_limited : (p : Problem) (r : FlatTable) (rows : AreRowsOf p r) (bids : ℕ) (begun : State) (reason : Reason) (prices : List ℤ) → IsLimit r bids begun reason prices → (answer : Answer) → IsBracketOf p reason prices answer → IsLimited p bids (total begun.prices) answer
-whole_is_limited p r rows bids begun reason prices limit (Answer.Optimal cert) h = tt
-whole_is_limited p r rows bids begun reason prices limit (Answer.Infeasible cert) h = tt
-whole_is_limited p r rows bids begun reason prices limit (Answer.Bracket cert) h = subst (IsLimitedBy p bids (total begun.prices)) (sym h.0.is) (rows.table, r, begun, rows.of, rows.same, omega (arith, ints), limit)
-whole_is_limited p r rows bids begun reason prices limit (Answer.Broken guard) h = tt
-
-pub whole_told : (p : Problem) (prices : List ℤ) (answer : Answer) → IsBracketOf p Reason.Bids prices answer → IsStopTold answer
-whole_told p prices (Answer.Optimal cert) h = absurd h
-whole_told p prices (Answer.Infeasible cert) h = tt
-whole_told p prices (Answer.Bracket cert) h = subst (HasReason Reason.Bids) (sym h.0.is) refl
-whole_told p prices (Answer.Broken guard) h = absurd h
-
--- ---- a bracket is answered only where a limit has stopped a phase
-
-pub sold_is_limited : (p : Problem) (bids : ℕ) (begun : ℤ) (held : List (Option Held)) (prices : List ℤ) (answer : Answer) → IsOptimalAnswer p held prices answer → IsLimited p bids begun answer
-sold_is_limited p bids begun held prices (Answer.Optimal cert) h = tt
-sold_is_limited p bids begun held prices (Answer.Infeasible cert) h = tt
-sold_is_limited p bids begun held prices (Answer.Bracket cert) h = absurd h
-sold_is_limited p bids begun held prices (Answer.Broken guard) h = tt
-
-pub stopped_is_limited : (p : Problem) (t : Table) (r : FlatTable) (bids : ℕ) (begun : State) (reason : Reason) (held : List (Option Held)) (prices : List ℤ) → IsTableOf p t → AreSameRows t r → IsLimit r bids begun reason prices → (answer : Answer) → IsBracketAnswer p reason held prices answer → IsLimited p bids (total begun.prices) answer
-stopped_is_limited p t r bids begun reason held prices its same limit (Answer.Optimal cert) h = tt
-stopped_is_limited p t r bids begun reason held prices its same limit (Answer.Infeasible cert) h = tt
-stopped_is_limited p t r bids begun reason held prices its same limit (Answer.Bracket cert) h = subst (IsLimitedBy p bids (total begun.prices)) (sym h.1.is) (t, r, begun, its, same, omega (arith, ints), limit)
-stopped_is_limited p t r bids begun reason held prices its same limit (Answer.Broken guard) h = tt
-
--- one that stands before any phase is no bracket
 pub none_is_answer : (p : Problem) (answer : Answer) → IsInfeasibleAnswer p answer → IsAnswer p answer
 none_is_answer p (Answer.Optimal cert) h = absurd h
 none_is_answer p (Answer.Infeasible cert) h = h
@@ -140,18 +57,97 @@ none_is_limited p bids begun (Answer.Infeasible cert) h = tt
 none_is_limited p bids begun (Answer.Bracket cert) h = absurd h
 none_is_limited p bids begun (Answer.Broken guard) h = tt
 
--- an answer that there is no assignment is right, and after a limit one of the bracket is
-pub either_is_answer : (p : Problem) (r : FlatTable) (rows : AreRowsOf p r) (prices : List ℤ) (holders : List ℕ) (owns : List ShortArc) (held : List (Option Held)) → IsProblem p → IsFlatTable r → AreHeld p holders owns held → (eps : ℤ) (reason : Reason) → Stands r eps prices holders owns
-    → (answer : Answer) → IsInfeasibleAnswer p answer ⊎ (HasAssignment p × IsBracketAnswer p reason held prices answer) → IsAnswer p answer
-either_is_answer p r rows prices holders owns held is sound are eps reason stands (Answer.Optimal cert) (inl h) = absurd h
-either_is_answer p r rows prices holders owns held is sound are eps reason stands (Answer.Infeasible cert) (inl h) = h
-either_is_answer p r rows prices holders owns held is sound are eps reason stands (Answer.Bracket cert) (inl h) = absurd h
-either_is_answer p r rows prices holders owns held is sound are eps reason stands (Answer.Broken guard) (inl h) = absurd h
-either_is_answer p r rows prices holders owns held is sound are eps reason stands answer (inr h) = stopped_is_answer p rows.table r prices holders owns held is rows.of rows.same sound are eps reason stands h.0 answer h.1
+pub none_of_phases : (p : Problem) (bids : ℕ) (begun : List ℤ) (answer : Answer) → IsInfeasibleAnswer p answer → IsOfPhases p bids begun answer
+none_of_phases p bids begun (Answer.Optimal cert) h = absurd h
+none_of_phases p bids begun (Answer.Infeasible cert) h = tt
+none_of_phases p bids begun (Answer.Bracket cert) h = absurd h
+none_of_phases p bids begun (Answer.Broken guard) h = tt
 
-pub either_is_limited : (p : Problem) (r : FlatTable) (rows : AreRowsOf p r) (bids : ℕ) (begun : State) (reason : Reason) (held : List (Option Held)) (prices : List ℤ) → IsLimit r bids begun reason prices → (answer : Answer) → IsInfeasibleAnswer p answer ⊎ (HasAssignment p × IsBracketAnswer p reason held prices answer) → IsLimited p bids (total begun.prices) answer
-either_is_limited p r rows bids begun reason held prices limit answer (inl h) = none_is_limited p bids (total begun.prices) answer h
-either_is_limited p r rows bids begun reason held prices limit answer (inr h) = stopped_is_limited p rows.table r bids begun reason held prices rows.of rows.same limit answer h.1
+module _ (p : Problem) (r : FlatTable) (rows : AreRowsOf p r) (prices : List ℤ) where
+  -- ---- phases have led to these prices
+
+  sold_by : (bids : ℕ) (begun : List ℤ) → HasRun r bids begun Ending.Sold prices → AreOfRun p bids begun prices ⊎ AreAdopted p prices
+  sold_by bids begun run = elim run.2 [ inl by ↦ inl (r, run.0, rows, run.1, by) | inr is ↦ inr (r, run.0, rows, run.1, is) ]
+
+  none_told : (ending : Ending) (answer : Answer) → IsInfeasibleAnswer p answer → IsTold p r ending prices answer
+  none_told ending (Answer.Optimal cert) h = absurd h
+  none_told ending (Answer.Infeasible cert) h = record { is = h; limited = λ bids begun stopped. tt; told = λ stopped. tt; run = λ bids begun run. tt }
+  none_told ending (Answer.Bracket cert) h = absurd h
+  none_told ending (Answer.Broken guard) h = absurd h
+
+  -- a limit has stopped the phase, and each person has an object
+  pub whole_told : (reason : Reason) (answer : Answer) → IsBracketOf p reason prices answer → IsTold p r (Ending.Stopped reason) prices answer
+  whole_told reason (Answer.Optimal cert) h = absurd h
+  whole_told reason (Answer.Infeasible cert) h = absurd h
+  whole_told reason (Answer.Bracket cert) h =
+      let by = h.0 in
+      record {
+        is = record { reason = reason; lower = by.lower; cost = total_cost by.choice; choice = map pick_of by.choice; prices = prices; is = by.is; certified = h.1 };
+        limited = λ bids begun limit. subst (IsLimitedBy p bids (total begun.prices)) (sym by.is) (rows.table, r, begun, rows.of, rows.same, omega (arith, ints), limit);
+        told = λ stopped. subst (HasReason Reason.Bids) (sym by.is) (let e : Ending.Stopped reason ≡ Ending.Stopped Reason.Bids = stopped in cc);
+        run = λ bids begun run. subst (IsClaimOfRun p bids begun) (sym by.is) (r, run.0, rows, run.1, run.2);
+      }
+  whole_told reason (Answer.Broken guard) h = absurd h
+
+  module _ (holders : List ℕ) (owns : List ShortArc) (held : List (Option Held)) (is : IsProblem p) (sound : IsFlatTable r) (are : AreHeld p holders owns held) where
+    -- ---- each person has an object
+
+    module _ (stands : Stands r (pos 1) prices holders owns) (all : HaveObjects (length r.rows) owns) where
+      abbrev choice : List Arc
+      choice = choices.arcs p rows.table r (pos 1) prices holders owns held rows.of rows.same sound stands are all
+
+      certified : IsCertified p (claim_of choice prices)
+      certified =
+          let given = choices.assigned p rows.table r (pos 1) prices holders owns held rows.of rows.same sound stands are all in
+          let many = choices.many_prices p rows.table r (pos 1) prices holders owns held rows.of rows.same sound stands are in
+          let spelled = assignment_spelled p choice prices is given many stands.within in
+          let faultless = slack_right_faultless p choice given prices many (total_cost choice) refl (choices.slack_all p rows.table r (pos 1) prices holders owns held rows.of rows.same sound stands are all) (choices.no_price_left p rows.table r (pos 1) prices holders owns held rows.of rows.same sound stands are all is) in
+          record { spelled = spelled; faultless = faultless; allowed = faultless_is_allowed p (claim_of choice prices) is spelled faultless }
+
+      -- what is claimed of these prices and holders passes the checker
+      pub sold_passes : (arcs : List Arc) × IsChoiceOf p held arcs × IsCertified p (claim_of arcs prices)
+      sold_passes = (choice, choices.is_choice p rows.table r (pos 1) prices holders owns held rows.of rows.same sound stands are all, certified)
+
+      pub sold_told : (answer : Answer) → IsOptimalAnswer p held prices answer → IsTold p r Ending.Sold prices answer
+      sold_told (Answer.Optimal cert) h = record {
+        is = record { cost = total_cost h.0; choice = map pick_of h.0; prices = prices; is = h.2; certified = h.3 };
+        limited = λ bids begun stopped. tt;
+        told = λ stopped. absurd (let e : Ending.Sold ≡ Ending.Stopped Reason.Bids = stopped in cc);
+        run = λ bids begun run. subst (IsClaimOfRun p bids begun) (sym h.2) (sold_by bids begun run);
+      }
+      sold_told (Answer.Infeasible cert) h = absurd h
+      sold_told (Answer.Bracket cert) h = absurd h
+      sold_told (Answer.Broken guard) h = absurd (h.1 choice (choices.is_choice p rows.table r (pos 1) prices holders owns held rows.of rows.same sound stands are all) certified)
+
+    -- ---- a limit has stopped the phase
+
+    module _ (eps : ℤ) (reason : Reason) (stands : Stands r eps prices holders owns) where
+      fits : HasAssignment p → BoundFits p prices
+      fits has =
+          let many = choices.many_prices p rows.table r eps prices holders owns held rows.of rows.same sound stands are in
+          bound_fits p reason prices is many stands.within (holders_price_few p held prices is (choices.placeable p rows.table r eps prices holders owns held rows.of rows.same sound stands are) many (choices.spare p rows.table r eps prices holders owns held rows.of rows.same sound stands are)) has
+
+      stopped_told : (answer : Answer) → HasAssignment p → IsBracketAnswer p reason held prices answer → IsTold p r (Ending.Stopped reason) prices answer
+      stopped_told (Answer.Optimal cert) has h = absurd h
+      stopped_told (Answer.Infeasible cert) has h = none_told (Ending.Stopped reason) (Answer.Infeasible cert) h
+      stopped_told (Answer.Bracket cert) has h = whole_told reason (Answer.Bracket cert) (h.1, h.2)
+      stopped_told (Answer.Broken guard) has h = absurd (h.1 (choices.placeable p rows.table r eps prices holders owns held rows.of rows.same sound stands are) (fits has))
+
+      -- a bracket, or that there is no assignment
+      pub either_told : (answer : Answer) → IsInfeasibleAnswer p answer ⊎ (HasAssignment p × IsBracketAnswer p reason held prices answer) → IsTold p r (Ending.Stopped reason) prices answer
+      either_told answer (inl h) = none_told (Ending.Stopped reason) answer h
+      either_told answer (inr h) = stopped_told answer h.0 h.1
+
+      -- each person has an object
+      module _ (all : HaveObjects (length r.rows) owns) where
+        pub whole_choice : (arcs : List Arc) × IsChoiceOf p held arcs × IsAssignment p arcs
+        whole_choice = (choices.arcs p rows.table r eps prices holders owns held rows.of rows.same sound stands are all, choices.is_choice p rows.table r eps prices holders owns held rows.of rows.same sound stands are all, choices.assigned p rows.table r eps prices holders owns held rows.of rows.same sound stands are all)
+
+        pub whole_prices : length prices ≡ p.objects
+        whole_prices = choices.many_prices p rows.table r eps prices holders owns held rows.of rows.same sound stands are
+
+        pub whole_fits : BoundFits p prices
+        whole_fits = fits (whole_choice.0, whole_choice.2)
 
 -- what is opened for the rows of a problem is opened for the problem
 pub limited_from : (p : Problem) (t : Table) (r : FlatTable) (bids : ℕ) (start begun : List ℤ) → IsTableOf p t → AreSameRows t r → AreOpened r.objects (length r.rows) start begun → (answer : Answer) → IsLimited p bids (total begun) answer → IsLimitedFrom p bids start answer
@@ -235,9 +231,9 @@ module _ (p : Problem) (r : FlatTable) (rows : AreRowsOf p r) where
 -- ---- where somebody watches
 
 -- an answer that tells of a stop, where who watched has said no; and else one that a limit explains
-pub limit_or_told : {E : Type 0} (before after : Bool) (ending : Ending) (Q : Answer → Type 0) (S : Type 0) (r : Result Answer E) → IsToldOr before after ending S → (ending ≡ Ending.Stopped Reason.Bids → IfOk r IsStopTold) → (S → IfOk r Q) → IfOk r (λ a. IsLimitedUnless before after a (Q a))
-limit_or_told before after ending Q S r (inl told) stop limit = of_answers IsStopTold (λ a. IsLimitedUnless before after a (Q a)) r (λ a t. inl (told.0, t)) (stop told.1)
-limit_or_told before after ending Q S r (inr is) stop limit = of_answers Q (λ a. IsLimitedUnless before after a (Q a)) r (λ a q. inr (is.0, q)) (limit is.1)
+pub limit_or_told : (before after : Bool) (p : Problem) (r : FlatTable) (bids : ℕ) (begun : List ℤ) (ending : Ending) (prices : List ℤ) (answer : Answer) → IsToldOr before after ending ((first : State) × (first.prices ≡ begun) × IsStopped r bids first ending prices) → IsTold p r ending prices answer → IsLimitedUnless before after answer (IsLimited p bids (total begun) answer)
+limit_or_told before after p r bids begun ending prices answer (inl stop) told = inl (stop.0, told.told stop.1)
+limit_or_told before after p r bids begun ending prices answer (inr is) told = inr (is.0, subst (λ (zs : List ℤ). IsLimited p bids (total zs) answer) is.1.1 (told.limited bids is.1.0 is.1.2))
 
 not_told : (P : Answer → Type 0) (a : Answer) → IsLimitedUnless false false a (P a) → P a
 not_told P a (inl told) = absurd (false≢true told.0)
@@ -263,63 +259,6 @@ none_asked false p (Answer.Optimal cert) h = absurd h
 none_asked false p (Answer.Infeasible cert) h = tt
 none_asked false p (Answer.Bracket cert) h = absurd h
 none_asked false p (Answer.Broken guard) h = absurd h
-
--- ---- a stop is told
-
-has_reason : (p : Problem) (reason : Reason) (prices : List ℤ) (cert : CertParts) → IsBracketBy p reason prices cert → HasReason reason cert
-has_reason p reason prices cert by = subst (HasReason reason) (sym by.is) refl
-
-pub stop_told : (p : Problem) (r : FlatTable) (rows : AreRowsOf p r) (prices : List ℤ) (holders : List ℕ) (owns : List ShortArc) (held : List (Option Held)) → IsProblem p → IsFlatTable r → AreHeld p holders owns held → (eps : ℤ) → Stands r eps prices holders owns
-    → (answer : Answer) → IsInfeasibleAnswer p answer ⊎ (HasAssignment p × IsBracketAnswer p Reason.Bids held prices answer) → IsStopTold answer
-stop_told p r rows prices holders owns held is sound are eps stands (Answer.Optimal cert) (inl h) = absurd h
-stop_told p r rows prices holders owns held is sound are eps stands (Answer.Optimal cert) (inr h) = absurd h.1
-stop_told p r rows prices holders owns held is sound are eps stands (Answer.Infeasible cert) h = tt
-stop_told p r rows prices holders owns held is sound are eps stands (Answer.Bracket cert) (inl h) = absurd h
-stop_told p r rows prices holders owns held is sound are eps stands (Answer.Bracket cert) (inr h) = has_reason p Reason.Bids prices cert h.1.1
-stop_told p r rows prices holders owns held is sound are eps stands (Answer.Broken guard) h = absurd (either_is_answer p r rows prices holders owns held is sound are eps Reason.Bids stands (Answer.Broken guard) h)
-
--- ---- phases have led to an answer
-
-module _ (p : Problem) (r : FlatTable) (rows : AreRowsOf p r) (bids : ℕ) (begun : List ℤ) (held : List (Option Held)) (prices : List ℤ) (run : HasRun r bids begun Ending.Sold prices) where
-  either : IsRun r bids begun run.0 ⊎ IsAdopted r run.0 → AreOfRun p bids begun prices ⊎ AreAdopted p prices
-  either (inl by) = inl (r, run.0, rows, run.1, by)
-  either (inr is) = inr (r, run.0, rows, run.1, is)
-
-  pub sold_of_run : (answer : Answer) → IsOptimalAnswer p held prices answer → IsOfPhases p bids begun answer
-  sold_of_run (Answer.Optimal cert) h = subst (IsClaimOfRun p bids begun) (sym h.2) (either run.2)
-  sold_of_run (Answer.Infeasible cert) h = tt
-  sold_of_run (Answer.Bracket cert) h = absurd h
-  sold_of_run (Answer.Broken guard) h = tt
-
-module _ (p : Problem) (r : FlatTable) (rows : AreRowsOf p r) (bids : ℕ) (begun : List ℤ) (held : List (Option Held)) (prices : List ℤ) (run : HasRun r bids begun (Ending.Stopped Reason.Bids) prices) where
-  of_run : AreOfRun p bids begun prices
-  of_run = (r, run.0, rows, run.1, run.2)
-
-  pub stopped_of_run : (reason : Reason) (answer : Answer) → IsInfeasibleAnswer p answer ⊎ (HasAssignment p × IsBracketAnswer p reason held prices answer) → IsOfPhases p bids begun answer
-  stopped_of_run reason (Answer.Optimal cert) (inl h) = absurd h
-  stopped_of_run reason (Answer.Optimal cert) (inr h) = absurd h.1
-  stopped_of_run reason (Answer.Infeasible cert) h = tt
-  stopped_of_run reason (Answer.Bracket cert) (inl h) = absurd h
-  stopped_of_run reason (Answer.Bracket cert) (inr h) = subst (IsClaimOfRun p bids begun) (sym h.1.1.is) of_run
-  stopped_of_run reason (Answer.Broken guard) h = tt
-
-  pub whole_of_run : (reason : Reason) (answer : Answer) → IsBracketOf p reason prices answer → IsOfPhases p bids begun answer
-  whole_of_run reason (Answer.Optimal cert) h = absurd h
-  whole_of_run reason (Answer.Infeasible cert) h = tt
-  whole_of_run reason (Answer.Bracket cert) h = subst (IsClaimOfRun p bids begun) (sym h.0.is) of_run
-  whole_of_run reason (Answer.Broken guard) h = tt
-
-pub none_of_phases : (p : Problem) (bids : ℕ) (begun : List ℤ) (answer : Answer) → IsInfeasibleAnswer p answer → IsOfPhases p bids begun answer
-none_of_phases p bids begun (Answer.Optimal cert) h = absurd h
-none_of_phases p bids begun (Answer.Infeasible cert) h = tt
-none_of_phases p bids begun (Answer.Bracket cert) h = absurd h
-none_of_phases p bids begun (Answer.Broken guard) h = tt
-
-pub none_of_first : (p : Problem) (bids : ℕ) (answer : Answer) → IsInfeasibleAnswer p answer → IsOfFirstPhases p bids answer
-none_of_first p bids (Answer.Optimal cert) h = absurd h
-none_of_first p bids (Answer.Infeasible cert) h = tt
-none_of_first p bids (Answer.Bracket cert) h = absurd h
-none_of_first p bids (Answer.Broken guard) h = tt
 
 first_claim : (p : Problem) (bids : ℕ) (begun : List ℤ) (cert : CertParts) → AreFirst p begun → IsClaimOfRun p bids begun cert → IsClaimOfFirst p bids cert
 first_claim p bids begun (CertParts.Optimal cost choice prices) first (inl run) = inl (begun, first, run)

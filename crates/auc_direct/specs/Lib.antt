@@ -4,3 +4,4 @@ pub mod Starts
 pub mod Endings
 pub mod Runs
 pub mod Held
+pub mod Told

@@ -3,17 +3,16 @@
 ghost use Rattle.std.specs.Prelude.{Bool, ◌↔◌, IsTrue, ℕ, ℤ, List, true, ◌≡◌, ◌⊎◌, pos, All, length, IfErr, IfOk, IfSome, IfNone};
 ghost use Rattle.auc_graph.specs.Assignment.{total};
 ghost use Rattle.auc_graph.specs.Price.{IsPrice};
-ghost use Rattle.auc_market.specs.Bids.{State};
 ghost use Rattle.auc_market.specs.Halts.{IsHalt};
 ghost use Rattle.auc_answers.specs.Answers.{HasAssignment, IsAnswer, IsBracketAnswer, IsInfeasibleAnswer};
 ghost use Rattle.auc_rows.specs.Rows.{AreRowsOf, EachHasArc, IsFlatTable};
-ghost use Rattle.auc_market.specs.Endings.{IsLeft, IsStopped};
+ghost use Rattle.auc_market.specs.Endings.{IsLeft};
 ghost use Rattle.auc_direct.specs.Adopted.{IsFullTable};
-ghost use Rattle.auc_direct.specs.Endings.{IsAsked, IsLimited, IsLimitedFrom, IsLimitedUnless, IsOfFirstPhases, IsOfPhases, IsOfPhasesFrom, IsOutcome, IsStopTold};
+ghost use Rattle.auc_direct.specs.Endings.{IsAsked, IsLimited, IsLimitedFrom, IsLimitedUnless, IsOfFirstPhases, IsOfPhases, IsOfPhasesFrom, IsOutcome};
 ghost use Rattle.auc_claim.specs.declared.reason.Reason.{Reason};
 ghost use Rattle.auc_market.specs.declared.ending.Ending.{Ending};
-ghost use Rattle.auc_direct.specs.Phases.{HasRun};
 ghost use Rattle.auc_direct.specs.Starts.{AreStartPrices};
+ghost use Rattle.auc_direct.specs.Told.{IsTold};
 
 use crate::gathering::gather;
 use crate::onward::Onward;
@@ -95,13 +94,7 @@ fn answer_of(
     requires rows { AreRowsOf problem.now flat }
     requires sound { IsFlatTable flat }
     requires left { IsLeft flat outcome.ending outcome.holdings.prices.items outcome.holdings.holders.items outcome.holdings.owns.items }
-    ensures is { IfOk result (IsAnswer problem.now) }
-    ensures limit { (bids : ℕ) (begun : State)
-        → IsStopped flat bids begun outcome.ending outcome.holdings.prices.items
-        → IfOk result (IsLimited problem.now bids (total begun.prices)) }
-    ensures told { outcome.ending ≡ Ending.Stopped Reason.Bids → IfOk result IsStopTold }
-    ensures run { (bids : ℕ) (begun : List ℤ) → HasRun flat bids begun outcome.ending outcome.holdings.prices.items
-        → IfOk result (IsOfPhases problem.now bids begun) }
+    ensures { IfOk result (IsTold problem.now flat outcome.ending outcome.holdings.prices.items) }
 {
     // Read here, so that the proof knows what every problem keeps.
     let _ = problem.arcs();

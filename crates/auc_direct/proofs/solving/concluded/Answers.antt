@@ -1,9 +1,8 @@
-use Rattle.auc_market.specs.Bids.{State}
 use Rattle.std.proofs.Common.{◌≡◌, inr}
 use Rattle.auc_answers.specs.Answers.{IsAnswer, IsInfeasibleAnswer}
 use Rattle.auc_graph.specs.Assignment.{total}
 use Rattle.auc_direct.specs.Endings.{IsAsked, IsLimited, IsLimitedUnless, IsOfPhases}
-use Rattle.auc_market.specs.Endings.{IsStopped}
+use Rattle.auc_direct.specs.Told.{IsTold}
 use Rattle.auc_direct.proofs.Answering.{is_asked, none_asked, limit_or_told, none_is_answer, none_is_limited, none_of_phases, of_answers}
 use Rattle.auc_direct.proofs.solving.concluded.Goals as goal
 
@@ -25,17 +24,25 @@ returns-in-Err-clause-limit c = λ bids begun before after _ same. (
 pub returns-in-Err-clause-run : goal.returns-in-Err-clause-run
 returns-in-Err-clause-run c = λ bids begun before after _. of_answers (IsInfeasibleAnswer c.args.problem.now) (IsOfPhases c.args.problem.now bids begun) c.halted.result (none_of_phases c.args.problem.now bids begun) c.halted.ensures
 
+pub returns-in-Ok-clause-is : goal.returns-in-Ok-clause-is
+returns-in-Ok-clause-is c =
+    let o = c.in-Ok.outcome in
+    of_answers (IsTold c.args.problem.now c.args.flat o.ending o.holdings.prices.items) (IsAnswer c.args.problem.now) c.answer_of.result (λ a told. told.is) c.answer_of.ensures
+
 pub returns-in-Ok-clause-limit : goal.returns-in-Ok-clause-limit
 returns-in-Ok-clause-limit c = λ bids begun before after ended _. (
-    let o = rw c.in-Ok.is at ended in
-    let outcome = c.in-Ok.outcome in
-    limit_or_told before after outcome.ending (IsLimited c.args.problem.now bids (total begun)) ((first : State) × (first.prices ≡ begun) × IsStopped c.args.flat bids first outcome.ending outcome.holdings.prices.items) c.answer_of.result o.stopped c.answer_of.ensures.told (λ s. rw s.1 at (c.answer_of.ensures.limit bids s.0 s.2))
+    let p = c.args.problem.now in
+    let o = c.in-Ok.outcome in
+    let stopped = (rw c.in-Ok.is at ended).stopped in
+    of_answers (IsTold p c.args.flat o.ending o.holdings.prices.items) (λ a. IsLimitedUnless before after a (IsLimited p bids (total begun) a)) c.answer_of.result
+    (λ a told. limit_or_told before after p c.args.flat bids begun o.ending o.holdings.prices.items a stopped told) c.answer_of.ensures
     )
 
 pub returns-in-Ok-clause-run : goal.returns-in-Ok-clause-run
 returns-in-Ok-clause-run c = λ bids begun before after ended. (
-    let o = rw c.in-Ok.is at ended in
-    c.answer_of.ensures.run bids begun o.run
+    let o = c.in-Ok.outcome in
+    let run = (rw c.in-Ok.is at ended).run in
+    of_answers (IsTold c.args.problem.now c.args.flat o.ending o.holdings.prices.items) (IsOfPhases c.args.problem.now bids begun) c.answer_of.result (λ a told. told.run bids begun run) c.answer_of.ensures
     )
 
 pub returns-in-Err-clause-asked : goal.returns-in-Err-clause-asked
@@ -44,5 +51,6 @@ returns-in-Err-clause-asked c = λ asked _. of_answers (IsInfeasibleAnswer c.arg
 pub returns-in-Ok-clause-asked : goal.returns-in-Ok-clause-asked
 returns-in-Ok-clause-asked c = λ asked ended. (
     let p = c.args.problem.now in
-    of_answers (IsAnswer p) (IsAsked asked p) c.answer_of.result (λ a _. is_asked asked p c.args.flat c.requires.rows (rw c.in-Ok.is at ended) a) c.answer_of.ensures.is
+    let o = c.in-Ok.outcome in
+    of_answers (IsTold p c.args.flat o.ending o.holdings.prices.items) (IsAsked asked p) c.answer_of.result (λ a _. is_asked asked p c.args.flat c.requires.rows (rw c.in-Ok.is at ended) a) c.answer_of.ensures
     )

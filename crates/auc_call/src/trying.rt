@@ -9,19 +9,15 @@ ghost use Rattle.auc_call.specs.Tried.{AreBest, AreHeldApart, AreOthersFree, IsB
 use crate::table::row_of;
 use auc_claim::Pick;
 use auc_graph::MOST_COST;
-use auc_table::Proposal;
+use auc_table::{HIGHEST_TAKEN, Proposal};
 use std::alloc::{AllocError, Global};
-
-/// The highest price that is taken, in costs of the table: scaled by persons + 1, it is below 2^61. Those of a least
-/// assignment need not be above 10,000 times the spread of the costs.
-const HIGHEST: i64 = 200_000_000_000_000;
 
 /// Whether all prices are from 0 to the highest.
 fn are_plain(prices: &[i64]) -> bool
     ensures { IsTrue result → All IsPlainPrice prices.now }
 {
     for price in prices {
-        if *price < 0 || HIGHEST < *price {
+        if *price < 0 || HIGHEST_TAKEN < *price {
             return false;
         }
     }

@@ -8,12 +8,8 @@ ghost use Rattle.auc_market.specs.Starts.{ArePricesOf};
 
 use auc_market::{Holdings, tried};
 use auc_rows::FlatRows;
-use auc_table::{Proposal, Table, propose};
+use auc_table::{HIGHEST_TAKEN, Proposal, Table, propose};
 use std::alloc::{AllocError, Global};
-
-/// The highest price that is taken, in costs of the table: scaled by persons + 1 it is below 2^61. Those of a least
-/// assignment need not be above 10,000 times the spread of the costs.
-const HIGHEST: i64 = 200_000_000_000_000;
 
 /// The costs of all rows, one row after another. None where the rows aren't a full table: no clause of theirs says that
 /// they are, so each arc is looked at.
@@ -48,7 +44,7 @@ fn scaled_prices(rows: &FlatRows, mut prices: Vec<i64>) -> Option<Vec<i64>>
     let scale = rows.scale();
     for object in 0..prices.len() {
         let price = prices[object];
-        if price < 0 || HIGHEST < price {
+        if price < 0 || HIGHEST_TAKEN < price {
             return None;
         }
         prices[object] = scale * price;

@@ -6,20 +6,14 @@ use std::alloc::{AllocError, Global};
 /// The cost of a gap: above all that an assignment without one may cost more than another.
 const GAP_COST: i64 = 70_368_744_177_664;
 
-/// Puts a row after the others.
-fn push_row(costs: &mut Vec<i64>, row: &[i64], gap: i64) -> Result<(), AllocError> {
-    for cost in row {
-        costs.push(if *cost == gap { GAP_COST } else { *cost })?;
-    }
-    Ok(())
-}
-
 /// The rows of a table one after another, with a great cost for each entry that equals `gap`.
 pub(crate) fn fill_gaps(alloc: Global, table: &Table, gap: i64) -> Result<Vec<i64>, AllocError> {
     let many = (table.persons as usize).saturating_mul(table.objects as usize);
     let mut costs = Vec::with_capacity(alloc, many.min(table.costs.len()))?;
     for person in 0..table.persons {
-        push_row(&mut costs, row_of(table, person), gap)?;
+        for cost in row_of(table, person) {
+            costs.push(if *cost == gap { GAP_COST } else { *cost })?;
+        }
     }
     Ok(costs)
 }

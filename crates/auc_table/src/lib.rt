@@ -13,5 +13,5 @@ mod paths;
 mod proposal;
 mod table;
 
-pub use proposal::{Proposal, propose};
+pub use proposal::{HIGHEST_TAKEN, Proposal, propose};
 pub use table::Table;

@@ -10,12 +10,12 @@ pub(crate) const NOBODY: u32 = 4_294_967_295;
 /// How many bids a chain of displaced persons makes; who is displaced by the last one goes by a path.
 const CHAIN: u32 = 4;
 
-/// The object that is best for a person, its worth, and the least worth of another one.
+/// The object that is best for a person, and how much dearer it may be till another one is as good; nothing where there
+/// is no other one.
 #[derive(Clone, Copy)]
 struct Best {
     object: usize,
-    worth: i64,
-    second: i64,
+    rise: i64,
 }
 
 /// What is best of a row; none of an empty one.
@@ -23,20 +23,14 @@ fn best_of(row: &[i64], keys: &[i64]) -> Option<Best> {
     let worth = least_worth(row, keys);
     let object = object_of_worth(row, keys, worth)?;
     let before = least_worth(&row[..object], &keys[..object]);
-    let behind = least_worth(&row[object + 1..], &keys[object + 1..]);
-    Some(Best {
-        object,
-        worth,
-        second: before.min(behind),
-    })
-}
-
-/// How much dearer the best object may be till another one is as good; nothing where there is no other one.
-fn rise_of(best: Best) -> i64 {
-    if best.second == i64::MAX {
-        return 0;
-    }
-    (best.second >> 1).wrapping_sub(best.worth >> 1)
+    let after = least_worth(&row[object + 1..], &keys[object + 1..]);
+    let second = before.min(after);
+    let rise = if second == i64::MAX {
+        0
+    } else {
+        (second >> 1).wrapping_sub(worth >> 1)
+    };
+    Some(Best { object, rise })
 }
 
 /// The keys and the holders of the objects, and the object of each person. `looked` counts the entries that were looked
@@ -79,30 +73,21 @@ impl Market {
         earlier
     }
 
-    /// The object of a person is dearer by this much, and somebody holds it.
-    fn raise(&mut self, object: usize, rise: i64, earlier: u32) {
-        if object < self.keys.len() {
-            let key = self.keys[object].wrapping_add(rise.wrapping_mul(2));
-            self.keys[object] = if earlier == NOBODY {
-                key.wrapping_add(1)
-            } else {
-                key
-            };
-        }
-    }
-
     /// A person takes what is best for him, and pays for it as much as it is better than the next best; gives whom he
     /// displaces. Where another one is as good as an object that somebody holds, he takes nothing.
     fn bid(&mut self, table: &Table, person: u32) -> Option<u32> {
         let row = row_of(table, person);
         self.looked = self.looked.saturating_add(row.len() as u64);
-        let best = best_of(row, self.keys.as_slice())?;
-        let rise = rise_of(best);
-        if rise == 0 && self.holder_of(best.object).is_some() {
+        let Best { object, rise } = best_of(row, self.keys.as_slice())?;
+        if rise == 0 && self.holder_of(object).is_some() {
             return None;
         }
-        let earlier = self.hand_over(person, best.object);
-        self.raise(best.object, rise, earlier);
+        let earlier = self.hand_over(person, object);
+        if object < self.keys.len() {
+            let first = if earlier == NOBODY { 1 } else { 0 };
+            let more = rise.wrapping_mul(2).wrapping_add(first);
+            self.keys[object] = self.keys[object].wrapping_add(more);
+        }
         if earlier as usize >= self.owns.len() {
             return None;
         }

@@ -82,10 +82,3 @@ pub(crate) fn object_as_far(fars: &[i64], far: i64) -> Option<usize>
     }
     None
 }
-
-/// Nobody has come to any object.
-pub(crate) fn forget(fars: &mut [i64]) {
-    for object in 0..fars.len() {
-        fars[object] = FAR;
-    }
-}

@@ -5,7 +5,7 @@
 //! object anyway.
 
 use crate::market::{Market, NOBODY};
-use crate::passes::{FAR, come_nearer, forget, object_as_far};
+use crate::passes::{FAR, come_nearer, object_as_far};
 use crate::table::{Table, row_of};
 use std::alloc::{AllocError, Global};
 
@@ -150,7 +150,9 @@ impl Search {
         market: &mut Market,
         start: u32,
     ) -> Result<bool, AllocError> {
-        forget(self.fars.as_mut_slice());
+        for object in 0..self.fars.len() {
+            self.fars[object] = FAR;
+        }
         self.line.clear();
         let Some(end) = self.find(table, market, start)? else {
             return Ok(false);

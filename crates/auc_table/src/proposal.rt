@@ -6,6 +6,10 @@ use crate::paths::Search;
 use crate::table::Table;
 use std::alloc::{AllocError, Global};
 
+/// The highest price of a proposal that is taken, in costs of the table: scaled by persons + 1 it is below 2^61. Those
+/// of a least assignment need not be above 10,000 times the spread of the costs.
+pub const HIGHEST_TAKEN: i64 = 200_000_000_000_000;
+
 /// An assignment, and prices that should show that none costs less.
 #[derive(Drop)]
 pub struct Proposal {
@@ -46,8 +50,13 @@ fn assign_all(
     Ok(true)
 }
 
-/// What a market comes to.
-fn proposal_of(market: Market) -> Proposal {
+/// Searches a table without gaps.
+fn propose_full(alloc: Global, table: &Table, looks: u64) -> Result<Option<Proposal>, AllocError> {
+    let mut market = Market::new(alloc, table.persons, table.objects)?;
+    let mut search = Search::new(alloc, table.objects)?;
+    if !assign_all(table, &mut market, &mut search, looks)? {
+        return Ok(None);
+    }
     let Market {
         keys,
         holders,
@@ -58,21 +67,11 @@ fn proposal_of(market: Market) -> Proposal {
     for object in 0..prices.len() {
         prices[object] = prices[object] >> 1;
     }
-    Proposal {
+    Ok(Some(Proposal {
         objects: owns,
         holders,
         prices,
-    }
-}
-
-/// Searches a table without gaps.
-fn propose_full(alloc: Global, table: &Table, looks: u64) -> Result<Option<Proposal>, AllocError> {
-    let mut market = Market::new(alloc, table.persons, table.objects)?;
-    let mut search = Search::new(alloc, table.objects)?;
-    if !assign_all(table, &mut market, &mut search, looks)? {
-        return Ok(None);
-    }
-    Ok(Some(proposal_of(market)))
+    }))
 }
 
 /// Searches a least assignment of a table, where an entry that equals `gap` is none. It looks at some more than so many

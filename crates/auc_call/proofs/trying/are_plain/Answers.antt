@@ -10,7 +10,7 @@ pub loop-price-preserved : goal.loop-price-preserved
 loop-price-preserved c =
     let fits : FitsSigned w64 (get_or c.args.prices.now c.loop-price.price-index (pos 0)) = search rules in
     let low = simp to_z-of_z at c.if-price-lt0.false in
-    let high = simp to_z-of_z at c.if-price-gt-HIGHEST.false in
+    let high = simp to_z-of_z at c.if-price-gt-HIGHEST_TAKEN.false in
     All-more IsPlainPrice c.args.prices.now c.loop-price.price-index (pos 0) c.loop-price-test.true c.loop-price.invariant (record { low = omega (arith, ints, low); high = omega (arith, ints, high) })
 
 pub returns : goal.returns

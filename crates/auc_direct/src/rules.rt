@@ -87,17 +87,13 @@ impl Rules {
         if self.steady == 2 { made } else { 0 }
     }
 
-    /// How many looks a refinement may take there.
-    fn looks(self, made: u64, eps: i64) -> u64 {
-        if made < self.before || eps > self.scale / PART {
-            return 0;
-        }
-        made.saturating_mul(LOOKS).saturating_add(self.persons)
-    }
-
     /// What comes after a phase of so many bids, and before one at this eps.
     pub(crate) fn after(&mut self, made: u64, eps: i64) -> Between {
-        let looks = self.looks(made, eps);
+        let looks = if made < self.before || eps > self.scale / PART {
+            0
+        } else {
+            made.saturating_mul(LOOKS).saturating_add(self.persons)
+        };
         let bids = self.bids_ahead(made, eps);
         self.before = made;
         Between { looks, bids }

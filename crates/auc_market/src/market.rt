@@ -16,14 +16,14 @@
 //! refinement) and [`Market::open`] (the next eps). When each is made is strategy, and no answer depends on it. Starts
 //! are seated before there is a market (`starts.rt`, `adopt.rt`).
 
-ghost use Rattle.std.specs.Prelude.{true, ◌≡◌, ◌≢◌, ◌≤◌, ◌<◌, ℕ, ℤ, pos, length, IfErr, IfNone, IfOk, IfSome, OnOk};
+ghost use Rattle.std.specs.Prelude.{true, ◌≡◌, ◌≢◌, ◌≤◌, ◌<◌, ℕ, pos, length, IfErr, IfNone, IfOk, IfSome, OnOk};
 ghost use Rattle.auc_rows.specs.Rows.{EachHasArc};
 ghost use Rattle.auc_market.specs.declared.holdings.TheConstants.{NOBODY};
 ghost use Rattle.auc_market.specs.Endings.{IsStart};
 ghost use Rattle.auc_market.specs.Eps.{IsEpsOf};
 ghost use Rattle.auc_market.specs.Halts.{IsHalt};
 ghost use Rattle.auc_market.specs.Market.{IsAbove, Stands, own_at};
-ghost use Rattle.auc_market.specs.Position.{AreHandedOn, Begins, IsBegun, IsBid, IsFree, IsMove, IsRefinedWhole, IsRefinement, Law, position};
+ghost use Rattle.auc_market.specs.Position.{AreHandedOn, Begins, IsBegun, IsBid, IsFree, IsMove, IsRefinedWhole, IsRefinement, Law};
 
 use crate::bid::scaled_spread;
 use crate::ending::Ending;
@@ -46,7 +46,7 @@ pub const LAST_EPS: i64 = 1;
 pub struct Market<'a> {
     alloc: Global,
     rows: &'a FlatRows,
-    eps: i64,
+    pub(crate) eps: i64,
     holdings: Holdings,
     lists: Lists,
     search: Search,
@@ -128,13 +128,6 @@ impl<'a> Market<'a> {
     {
         let rows = self.rows;
         rows.persons()
-    }
-
-    /// Eps, in scaled costs.
-    pub fn eps(&self) -> i64
-        ensures { result ≡ self.now.eps }
-    {
-        self.eps
     }
 
     /// How many persons hold an object. O(persons).

@@ -1,7 +1,7 @@
 //! A phase: the persons who have no object begin in order, and bid, two in turn, until each has one. It goes in slices,
 //! before each of which somebody is asked whether it goes on.
 
-ghost use Rattle.std.specs.Prelude.{Bool, ℕ, ℤ, List, true, false, ◌≡◌, ◌-◌, ◌<◌, ◌^◌, IfErr, IfOk, IfNone, IfSome, OnOk};
+ghost use Rattle.std.specs.Prelude.{ℕ, ℤ, List, true, false, ◌≡◌, ◌-◌, ◌<◌, ◌^◌, IfErr, IfOk, IfNone, IfSome};
 ghost use Rattle.auc_claim.specs.declared.reason.Reason.{Reason};
 ghost use Rattle.auc_rows.specs.declared.arc.ShortArc.{ShortArc};
 ghost use Rattle.auc_rows.specs.Rows.{FlatTable};
@@ -70,7 +70,7 @@ impl<'a> Market<'a> {
         ensures halt { IfErr result (λ h. IsHalt self.old.table h × (W.has_stopped watch.new ≡ W.has_stopped watch.old)) }
     {
         self.law();
-        let eps = self.eps();
+        let eps = self.eps;
         pace.begin(eps);
         let mut left = bids;
         loop {

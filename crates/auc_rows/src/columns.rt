@@ -4,12 +4,12 @@ use crate::arc::ShortArc;
 use std::alloc::{AllocError, Global};
 
 /// Of an object that nobody knows: above all costs.
-const UNKNOWN: i32 = 2_147_483_647;
+pub(crate) const UNKNOWN: i32 = 2_147_483_647;
 
 /// For each object the least cost of the arcs that lead to it.
 #[derive(Drop)]
 pub(crate) struct Columns {
-    least: Vec<i32>,
+    pub(crate) least: Vec<i32>,
 }
 
 impl Columns {
@@ -35,11 +35,5 @@ impl Columns {
         if object < self.least.len() && arc.cost < self.least[object] {
             self.least[object] = arc.cost;
         }
-    }
-
-    /// The least cost of an object's arcs; none where it has no arc.
-    pub fn least(&self, object: u32) -> Option<i32> {
-        let least = *self.least.get(object as usize)?;
-        if least == UNKNOWN { None } else { Some(least) }
     }
 }

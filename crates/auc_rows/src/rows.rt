@@ -1,13 +1,13 @@
 //! The rows of a problem, in arcs of eight bytes.
 
-ghost use Rattle.std.specs.Prelude.{◌≡◌, ◌<◌, ◌≤◌, ◌*◌, ◌^◌, ◌++◌, pos, ◌≤ℤ◌, All, length, map, IfOk, OnOk};
+ghost use Rattle.std.specs.Prelude.{◌≡◌, ◌<◌, ◌≤◌, ◌*◌, ◌^◌, pos, ◌≤ℤ◌, All, length, IfOk};
 ghost use Rattle.auc_rows.specs.Rows.{AreRowsOf, IsShort, flat_row_of};
 ghost use Rattle.auc_rows.specs.Layout.{IsLaidOut, part};
 
 use crate::arc::ShortArc;
-use crate::columns::Columns;
+use crate::columns::{Columns, UNKNOWN};
 use crate::layout::{LaidOut, laid_out};
-use auc_graph::{ArcList, MOST_PERSONS};
+use auc_graph::ArcList;
 use std::alloc::{AllocError, Global};
 use std::marker::Model;
 
@@ -142,7 +142,8 @@ impl FlatRows {
     /// clause says which it is: prices of any kind serve to begin with. O(1).
     #[inline]
     pub fn least_cost(&self, object: u32) -> Option<i32> {
-        self.columns.least(object)
+        let least = *self.columns.least.get(object as usize)?;
+        if least == UNKNOWN { None } else { Some(least) }
     }
 
     /// The number of all arcs.

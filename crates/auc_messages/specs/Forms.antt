@@ -13,6 +13,7 @@ use Rattle.auc_messages.specs.declared.forms.Form.TheVariants.{Gzip, Packed, Zip
 use Rattle.auc_messages.specs.Pages.{is_word}
 use Rattle.auc_messages.specs.Phrases.{phrase_for}
 use Rattle.auc_messages.specs.Remarks.{told_reason, told_refusal}
+use Rattle.auc_messages.specs.declared.texts.TheConstants.{GZIP, PACKED, ZIP, UTF16, MARKED, MATRIX_MARKET, DIMACS, CERTIFICATE, SCRIPT, JSON, SEPARATED}
 
 abbrev pub begins : List ℕ → List ℕ → Bool
 begins bytes signature = starts_with nat_eq bytes signature
@@ -58,17 +59,17 @@ form_of number bytes =
 
 -- what each is, and what to do
 unfoldable pub phrase_of_form : Form → List ℕ
-phrase_of_form Gzip = codes "this file is packed by gzip; unpack it first, as by gzip -dc FILE | auction solve"
-phrase_of_form Packed = codes "this file is packed by bzip2, xz or zstd; unpack it first"
-phrase_of_form Zip = codes "this is a workbook (.xlsx, .ods) or a zip archive; tables in workbooks are for auction-plan (./plan in a clone), and an archive wants unpacking"
-phrase_of_form Utf16 = codes "this text is encoded as UTF-16; save it as UTF-8, as by iconv -f UTF-16 -t UTF-8 FILE | auction solve"
-phrase_of_form Marked = codes "a byte order mark stands in front of this text; save it without, as by tail -c +4 FILE | auction solve"
-phrase_of_form MatrixMarket = codes "this is a MatrixMarket file; leave out the lines that begin with %, write its rows alone on the first line, and its columns after --objects"
-phrase_of_form Dimacs = codes "this is a DIMACS file; write the number of persons alone, then person, object and cost of each line a, with objects numbered from 1"
-phrase_of_form Certificate = codes "this is a certificate; name the problem first, and after it the certificate"
-phrase_of_form Script = codes "this is a script of a mail; auction mail makes its calls"
-phrase_of_form Json = codes "this is JSON; tables of names are for auction-plan (./plan in a clone), and a problem is whole numbers with white space between them"
-phrase_of_form Separated = codes "this looks like a table (CSV), for auction-plan (./plan in a clone); a problem is whole numbers with white space between them"
+phrase_of_form Gzip = GZIP.now
+phrase_of_form Packed = PACKED.now
+phrase_of_form Zip = ZIP.now
+phrase_of_form Utf16 = UTF16.now
+phrase_of_form Marked = MARKED.now
+phrase_of_form MatrixMarket = MATRIX_MARKET.now
+phrase_of_form Dimacs = DIMACS.now
+phrase_of_form Certificate = CERTIFICATE.now
+phrase_of_form Script = SCRIPT.now
+phrase_of_form Json = JSON.now
+phrase_of_form Separated = SEPARATED.now
 
 -- the token that is no number, where a problem was refused for it
 abbrev pub bad_number_in : ReadError → Option ℕ

@@ -1,5 +1,5 @@
 -- The words of each refusal, and of each status without one: what was wrong or wanted, and what to do.
-use Rattle.std.specs.Prelude.{ℕ, ◌==◌, if◌then◌else◌, List, codes, Option, Some, None}
+use Rattle.std.specs.Prelude.{ℕ, ◌==◌, if◌then◌else◌, List, Option, Some, None}
 use Rattle.auc_graph.specs.declared.read_error.ReadError.{ReadError}
 use Rattle.auc_graph.specs.declared.read_error.ReadError.TheVariants.{Empty, BadNumber, CountRange, TooManyArcs, PersonRange, ObjectRange, CostRange, Cut, NoMemory, ReadFault, TooManyReads, TooFewObjects}
 use Rattle.auc_claim.specs.declared.reason.Reason.{Reason}
@@ -15,63 +15,55 @@ use Rattle.auc_run.specs.declared.refusal.Refusal.{Refusal}
 use Rattle.auc_run.specs.declared.refusal.Refusal.TheVariants.{NotRead, NoProblem, NoCertificate, Invalid, NoStart, NoScript, NoMemory as NoMemoryForJob, NoThreads}
 use Rattle.auc_script.specs.declared.script_error.ScriptError.{ScriptError}
 use Rattle.auc_script.specs.declared.script_error.ScriptError.TheVariants.{Word, Range, Cut as CutScript, TooManyCalls, NoMemory as NoMemoryForScript}
-
-unfoldable pub out_of_memory : List ℕ
-out_of_memory = codes "memory ran out; end other programs, or take a smaller input"
-
-unfoldable pub read_failed : List ℕ
-read_failed = codes "it can't be read to its end: it is a folder, closed, or gives no bytes when asked; name a file"
-
-unfoldable pub too_many_reads : List ℕ
-too_many_reads = codes "it doesn't end within 1073741824 reads; name a file, or an input that ends"
+use Rattle.auc_messages.specs.declared.texts.TheConstants.{OUT_OF_MEMORY, READ_FAILED, TOO_MANY_READS, EMPTY, BAD_NUMBER, COUNT_RANGE, TOO_FEW_OBJECTS, TOO_MANY_ARCS, PERSON_RANGE, OBJECT_RANGE, COST_RANGE, CUT_PROBLEM, CERTIFICATE_LINE, WRONG_SIZE, NO_SUCH_ARC, OBJECT_TWICE, WRONG_COST, SLACK, LEFT_OVER, NOT_HALL, WRONG_BOUND, NOT_SQUARE, NO_PRICES, OTHER_SIZE, TOO_HIGH, SCRIPT_WORD, SCRIPT_RANGE, CUT_SCRIPT, TOO_MANY_CALLS, NO_THREADS, BIDS_RAN_OUT, CEILING_PASSED, POSTS_RAN_OUT, TRAIL_FULL, MAIL_FULL, NO_ASSIGNMENT, BRACKET_ALONE, GUARD_HIT, NOT_WRITTEN, INPUT_REFUSED, NO_COMMAND, STATUS_ALONE}
 
 unfoldable pub phrase_of_problem : ReadError → List ℕ
-phrase_of_problem Empty = codes "nothing stands in it; a problem is its number of persons, and then person, object and cost of each arc"
-phrase_of_problem (BadNumber token) = codes "this is no whole number; write persons, objects and costs as whole numbers with white space between them"
-phrase_of_problem CountRange = codes "a problem begins with its number of persons, from 1 to 10000; put it in front of the arcs"
-phrase_of_problem TooFewObjects = codes "there are more persons than objects; give --objects the number of objects, at least that of the persons"
-phrase_of_problem TooManyArcs = codes "a problem has at most 33554432 arcs; leave out this one and those after it"
-phrase_of_problem (PersonRange arc) = codes "the problem has no such person; persons are numbered from 1 to the number that the problem begins with"
-phrase_of_problem (ObjectRange arc) = codes "the problem has no such object; objects are numbered from 1 to the number of persons, or to that of --objects"
-phrase_of_problem (CostRange arc) = codes "this cost is out of range; costs are from -1000000000 to 1000000000, so take a greater unit"
-phrase_of_problem (Cut tokens) = codes "the problem ends after this, inside an arc; an arc is a person, an object and a cost, so add what is missing"
-phrase_of_problem NoMemory = out_of_memory
-phrase_of_problem ReadFault = read_failed
-phrase_of_problem TooManyReads = too_many_reads
+phrase_of_problem Empty = EMPTY.now
+phrase_of_problem (BadNumber token) = BAD_NUMBER.now
+phrase_of_problem CountRange = COUNT_RANGE.now
+phrase_of_problem TooFewObjects = TOO_FEW_OBJECTS.now
+phrase_of_problem TooManyArcs = TOO_MANY_ARCS.now
+phrase_of_problem (PersonRange arc) = PERSON_RANGE.now
+phrase_of_problem (ObjectRange arc) = OBJECT_RANGE.now
+phrase_of_problem (CostRange arc) = COST_RANGE.now
+phrase_of_problem (Cut tokens) = CUT_PROBLEM.now
+phrase_of_problem NoMemory = OUT_OF_MEMORY.now
+phrase_of_problem ReadFault = READ_FAILED.now
+phrase_of_problem TooManyReads = TOO_MANY_READS.now
 
 unfoldable pub phrase_of_input : InputFault → List ℕ
-phrase_of_input Failed = read_failed
-phrase_of_input TooManyInputReads = too_many_reads
-phrase_of_input NoMemoryToRead = out_of_memory
+phrase_of_input Failed = READ_FAILED.now
+phrase_of_input TooManyInputReads = TOO_MANY_READS.now
+phrase_of_input NoMemoryToRead = OUT_OF_MEMORY.now
 
 unfoldable pub phrase_of_certificate : CertTextError → List ℕ
-phrase_of_certificate (Line line) = codes "no certificate has this line here; write it anew by auction solve, or see what docs/FORMATS.md wants here"
-phrase_of_certificate NoMemoryForText = out_of_memory
+phrase_of_certificate (Line line) = CERTIFICATE_LINE.now
+phrase_of_certificate NoMemoryForText = OUT_OF_MEMORY.now
 
 unfoldable pub phrase_of_claim : CertRefused → List ℕ
-phrase_of_claim WrongSize = codes "it is of a problem with other numbers of persons or objects; check it with the problem it was made for, and the same --objects"
-phrase_of_claim (NoSuchArc person) = codes "what it picks for this person is no arc of the problem; check it with the problem it was made for"
-phrase_of_claim (ObjectTwice object) = codes "it picks this object for two persons; an assignment takes each object at most once, so don't use it"
-phrase_of_claim WrongCost = codes "its cost is not the sum of its picks; the picks may be used, and the cost may not"
-phrase_of_claim (Slack person) = codes "at its prices this person has a better arc than the one picked, so a least cost isn't shown; solve anew"
-phrase_of_claim (LeftOver object) = codes "it gives a price to this object, which nobody takes, so a least cost isn't shown; solve anew"
-phrase_of_claim NotHall = codes "the persons it names don't know fewer objects than they are, so an assignment isn't ruled out; solve anew"
-phrase_of_claim WrongBound = codes "its lower bound is not that of its prices; solve anew"
-phrase_of_claim NoMemoryToCheck = out_of_memory
+phrase_of_claim WrongSize = WRONG_SIZE.now
+phrase_of_claim (NoSuchArc person) = NO_SUCH_ARC.now
+phrase_of_claim (ObjectTwice object) = OBJECT_TWICE.now
+phrase_of_claim WrongCost = WRONG_COST.now
+phrase_of_claim (Slack person) = SLACK.now
+phrase_of_claim (LeftOver object) = LEFT_OVER.now
+phrase_of_claim NotHall = NOT_HALL.now
+phrase_of_claim WrongBound = WRONG_BOUND.now
+phrase_of_claim NoMemoryToCheck = OUT_OF_MEMORY.now
 
 unfoldable pub phrase_of_start : StartError → List ℕ
-phrase_of_start NotSquare = codes "a solve starts from old prices only with as many objects as persons; leave out --from, or add --direct"
-phrase_of_start NoPrices = codes "it names persons who know too few objects, and has no prices to start from; leave out --from"
-phrase_of_start OtherSize = codes "it is of a problem with another number of persons or objects; leave out --from, or name that of an equal number"
-phrase_of_start (TooHigh object) = codes "the price of this object is above 1152921504606846976, too high to start from; leave out --from"
-phrase_of_start NoMemoryToStart = out_of_memory
+phrase_of_start NotSquare = NOT_SQUARE.now
+phrase_of_start NoPrices = NO_PRICES.now
+phrase_of_start OtherSize = OTHER_SIZE.now
+phrase_of_start (TooHigh object) = TOO_HIGH.now
+phrase_of_start NoMemoryToStart = OUT_OF_MEMORY.now
 
 unfoldable pub phrase_of_script : ScriptError → List ℕ
-phrase_of_script (Word token) = codes "this may not stand here; a script is mail BOXES SENDERS NODES MOST, and then post, take and close with their numbers"
-phrase_of_script (Range token) = codes "this number is out of its range; docs/FORMATS.md has the range of each number of a script"
-phrase_of_script (CutScript tokens) = codes "the script ends inside a command, or has none; add what is missing, or begin with mail BOXES SENDERS NODES MOST"
-phrase_of_script TooManyCalls = codes "a script has at most 1000000 calls; leave out those after them"
-phrase_of_script NoMemoryForScript = out_of_memory
+phrase_of_script (Word token) = SCRIPT_WORD.now
+phrase_of_script (Range token) = SCRIPT_RANGE.now
+phrase_of_script (CutScript tokens) = CUT_SCRIPT.now
+phrase_of_script TooManyCalls = TOO_MANY_CALLS.now
+phrase_of_script NoMemoryForScript = OUT_OF_MEMORY.now
 
 unfoldable pub phrase_of_refusal : Refusal → List ℕ
 phrase_of_refusal (NotRead fault) = phrase_of_input fault
@@ -80,28 +72,28 @@ phrase_of_refusal (NoCertificate error) = phrase_of_certificate error
 phrase_of_refusal (Invalid error) = phrase_of_claim error
 phrase_of_refusal (NoStart error) = phrase_of_start error
 phrase_of_refusal (NoScript error) = phrase_of_script error
-phrase_of_refusal NoMemoryForJob = out_of_memory
-phrase_of_refusal NoThreads = codes "a thread couldn't be started; give --workers a smaller number, or leave it out"
+phrase_of_refusal NoMemoryForJob = OUT_OF_MEMORY.now
+phrase_of_refusal NoThreads = NO_THREADS.now
 
 -- of a limit that ended a search, with what to do against it
 unfoldable pub phrase_of_reason : Reason → List ℕ
-phrase_of_reason Reason.Bids = codes "a limit ended the search: the answer is an assignment, and a bound below which none costs; for a least cost raise --bids, or --seconds where it is given"
-phrase_of_reason Reason.Ceiling = codes "a price would have passed the greatest one: the answer is an assignment, and a bound below which none costs; for a least cost use a greater unit, so that costs differ by less"
-phrase_of_reason Reason.Posts = codes "a mail has had as many letters as it may have: the answer is an assignment, and a bound below which none costs; for a least cost leave out --workers, or say --direct in its place"
-phrase_of_reason Reason.Trail = codes "a trail of --audit was full: the answer is an assignment, and a bound below which none costs; for a least cost raise --audit, or leave it out"
-phrase_of_reason Reason.Mail = codes "a mail had no room left: the answer is an assignment, and a bound below which none costs; for a least cost leave out --workers, or say --direct in its place"
+phrase_of_reason Reason.Bids = BIDS_RAN_OUT.now
+phrase_of_reason Reason.Ceiling = CEILING_PASSED.now
+phrase_of_reason Reason.Posts = POSTS_RAN_OUT.now
+phrase_of_reason Reason.Trail = TRAIL_FULL.now
+phrase_of_reason Reason.Mail = MAIL_FULL.now
 
 -- without a refusal or a limit: 3 no assignment, 4 a bracket, 7 a guard, 8 not written, 6 no memory, 5 a refused input,
 -- 2 usage, and any other
 unfoldable pub phrase_of_status : ℕ → List ℕ
 phrase_of_status status =
-    if status == 3 then codes "there is no assignment: the persons that the answer names know fewer objects than they are; give them more arcs, or leave some out" else
-    (if status == 4 then codes "a limit ended the search: the answer is an assignment, and a bound below which none costs" else
-    (if status == 7 then codes "a guard of the solver was hit, and there is no answer; solve without --workers" else
-    (if status == 8 then codes "standard output was not written, or not all of it; see that its disk has room, and that its reader reads on" else
-    (if status == 6 then out_of_memory else
-    (if status == 5 then codes "an input was refused; see standard output" else
-    (if status == 2 then codes "the words are no command; see auction --help" else codes "the job has ended with this status alone; see standard output"))))))
+    if status == 3 then NO_ASSIGNMENT.now else
+    (if status == 4 then BRACKET_ALONE.now else
+    (if status == 7 then GUARD_HIT.now else
+    (if status == 8 then NOT_WRITTEN.now else
+    (if status == 6 then OUT_OF_MEMORY.now else
+    (if status == 5 then INPUT_REFUSED.now else
+    (if status == 2 then NO_COMMAND.now else STATUS_ALONE.now))))))
 
 -- a limit is told by its own words, and where none ended the search, the status
 abbrev pub phrase_of_end : ℕ → Option Reason → List ℕ

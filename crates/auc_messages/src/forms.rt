@@ -7,6 +7,7 @@ ghost use Rattle.auc_messages.specs.Forms.{bad_number, form_of, form_told, mark_
 ghost use Rattle.auc_messages.specs.Sentences.{is_phrase};
 
 use crate::remark::told_refusal;
+use crate::texts;
 use auc_graph::ReadError;
 use auc_place::Place;
 use auc_run::{Ending, Refusal};
@@ -154,32 +155,16 @@ pub(crate) fn of_form(form: Form) -> &'static [u8]
     ensures phrase { IsTrue (is_phrase result.now) }
 {
     match form {
-        Form::Gzip =>
-            b"this file is packed by gzip; unpack it first, as by gzip -dc FILE | auction solve",
-        Form::Packed => b"this file is packed by bzip2, xz or zstd; unpack it first",
-        Form::Zip => {
-            b"this is a workbook (.xlsx, .ods) or a zip archive; tables in workbooks are for auction-plan (./plan in a clone), and an archive wants unpacking"
-        }
-        Form::Utf16 => {
-            b"this text is encoded as UTF-16; save it as UTF-8, as by iconv -f UTF-16 -t UTF-8 FILE | auction solve"
-        }
-        Form::Marked => {
-            b"a byte order mark stands in front of this text; save it without, as by tail -c +4 FILE | auction solve"
-        }
-        Form::MatrixMarket => {
-            b"this is a MatrixMarket file; leave out the lines that begin with %, write its rows alone on the first line, and its columns after --objects"
-        }
-        Form::Dimacs => {
-            b"this is a DIMACS file; write the number of persons alone, then person, object and cost of each line a, with objects numbered from 1"
-        }
-        Form::Certificate =>
-            b"this is a certificate; name the problem first, and after it the certificate",
-        Form::Script => b"this is a script of a mail; auction mail makes its calls",
-        Form::Json => {
-            b"this is JSON; tables of names are for auction-plan (./plan in a clone), and a problem is whole numbers with white space between them"
-        }
-        Form::Separated => {
-            b"this looks like a table (CSV), for auction-plan (./plan in a clone); a problem is whole numbers with white space between them"
-        }
+        Form::Gzip => texts::GZIP,
+        Form::Packed => texts::PACKED,
+        Form::Zip => texts::ZIP,
+        Form::Utf16 => texts::UTF16,
+        Form::Marked => texts::MARKED,
+        Form::MatrixMarket => texts::MATRIX_MARKET,
+        Form::Dimacs => texts::DIMACS,
+        Form::Certificate => texts::CERTIFICATE,
+        Form::Script => texts::SCRIPT,
+        Form::Json => texts::JSON,
+        Form::Separated => texts::SEPARATED,
     }
 }

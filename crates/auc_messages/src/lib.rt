@@ -10,6 +10,7 @@ mod phrases;
 mod remark;
 mod shown;
 mod spot;
+mod texts;
 mod writing;
 
 pub use naming::write_name;

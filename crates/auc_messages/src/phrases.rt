@@ -2,38 +2,15 @@
 //! stands before it, and the quoted token.
 
 ghost use Rattle.std.specs.Prelude.{◌≡◌, IsTrue};
-ghost use Rattle.auc_messages.specs.Phrases.{out_of_memory, phrase_of_certificate, phrase_of_claim, phrase_of_end, phrase_of_input, phrase_of_problem, phrase_of_reason, phrase_of_refusal, phrase_of_script, phrase_of_start, phrase_of_status, read_failed, too_many_reads};
+ghost use Rattle.auc_messages.specs.Phrases.{phrase_of_certificate, phrase_of_claim, phrase_of_end, phrase_of_input, phrase_of_problem, phrase_of_reason, phrase_of_refusal, phrase_of_script, phrase_of_start, phrase_of_status};
 ghost use Rattle.auc_messages.specs.Sentences.{is_phrase};
 
+use crate::texts;
 use auc_cert::CertTextError;
 use auc_claim::{CertRefused, Reason, StartError};
 use auc_graph::ReadError;
 use auc_run::status::{BRACKET, BROKEN, INFEASIBLE, NO_MEMORY, REFUSED, UNWRITTEN, USAGE};
 use auc_run::{ReadFault, Refusal, ScriptError};
-
-#[tactic(auto, unfolding(crate::specs::Phrases::out_of_memory))]
-fn out_of_memory() -> &'static [u8]
-    ensures words { result.now ≡ out_of_memory }
-    ensures phrase { IsTrue (is_phrase result.now) }
-{
-    b"memory ran out; end other programs, or take a smaller input"
-}
-
-#[tactic(auto, unfolding(crate::specs::Phrases::read_failed))]
-fn read_failed() -> &'static [u8]
-    ensures words { result.now ≡ read_failed }
-    ensures phrase { IsTrue (is_phrase result.now) }
-{
-    b"it can't be read to its end: it is a folder, closed, or gives no bytes when asked; name a file"
-}
-
-#[tactic(auto, unfolding(crate::specs::Phrases::too_many_reads))]
-fn too_many_reads() -> &'static [u8]
-    ensures words { result.now ≡ too_many_reads }
-    ensures phrase { IsTrue (is_phrase result.now) }
-{
-    b"it doesn't end within 1073741824 reads; name a file, or an input that ends"
-}
 
 /// Of a problem.
 #[tactic(auto, unfolding(crate::specs::Phrases::phrase_of_problem))]
@@ -42,35 +19,18 @@ fn of_problem(error: ReadError) -> &'static [u8]
     ensures phrase { IsTrue (is_phrase result.now) }
 {
     match error {
-        ReadError::Empty => {
-            b"nothing stands in it; a problem is its number of persons, and then person, object and cost of each arc"
-        }
-        ReadError::BadNumber { .. } => {
-            b"this is no whole number; write persons, objects and costs as whole numbers with white space between them"
-        }
-        ReadError::CountRange => {
-            b"a problem begins with its number of persons, from 1 to 10000; put it in front of the arcs"
-        }
-        ReadError::TooFewObjects => {
-            b"there are more persons than objects; give --objects the number of objects, at least that of the persons"
-        }
-        ReadError::TooManyArcs =>
-            b"a problem has at most 33554432 arcs; leave out this one and those after it",
-        ReadError::PersonRange { .. } => {
-            b"the problem has no such person; persons are numbered from 1 to the number that the problem begins with"
-        }
-        ReadError::ObjectRange { .. } => {
-            b"the problem has no such object; objects are numbered from 1 to the number of persons, or to that of --objects"
-        }
-        ReadError::CostRange { .. } => {
-            b"this cost is out of range; costs are from -1000000000 to 1000000000, so take a greater unit"
-        }
-        ReadError::Cut { .. } => {
-            b"the problem ends after this, inside an arc; an arc is a person, an object and a cost, so add what is missing"
-        }
-        ReadError::NoMemory => out_of_memory(),
-        ReadError::ReadFault => read_failed(),
-        ReadError::TooManyReads => too_many_reads(),
+        ReadError::Empty => texts::EMPTY,
+        ReadError::BadNumber { .. } => texts::BAD_NUMBER,
+        ReadError::CountRange => texts::COUNT_RANGE,
+        ReadError::TooFewObjects => texts::TOO_FEW_OBJECTS,
+        ReadError::TooManyArcs => texts::TOO_MANY_ARCS,
+        ReadError::PersonRange { .. } => texts::PERSON_RANGE,
+        ReadError::ObjectRange { .. } => texts::OBJECT_RANGE,
+        ReadError::CostRange { .. } => texts::COST_RANGE,
+        ReadError::Cut { .. } => texts::CUT_PROBLEM,
+        ReadError::NoMemory => texts::OUT_OF_MEMORY,
+        ReadError::ReadFault => texts::READ_FAILED,
+        ReadError::TooManyReads => texts::TOO_MANY_READS,
     }
 }
 
@@ -81,9 +41,9 @@ fn of_input(fault: ReadFault) -> &'static [u8]
     ensures phrase { IsTrue (is_phrase result.now) }
 {
     match fault {
-        ReadFault::Failed => read_failed(),
-        ReadFault::TooManyReads => too_many_reads(),
-        ReadFault::NoMemory => out_of_memory(),
+        ReadFault::Failed => texts::READ_FAILED,
+        ReadFault::TooManyReads => texts::TOO_MANY_READS,
+        ReadFault::NoMemory => texts::OUT_OF_MEMORY,
     }
 }
 
@@ -94,10 +54,8 @@ fn of_certificate(error: CertTextError) -> &'static [u8]
     ensures phrase { IsTrue (is_phrase result.now) }
 {
     match error {
-        CertTextError::Line { .. } => {
-            b"no certificate has this line here; write it anew by auction solve, or see what docs/FORMATS.md wants here"
-        }
-        CertTextError::NoMemory => out_of_memory(),
+        CertTextError::Line { .. } => texts::CERTIFICATE_LINE,
+        CertTextError::NoMemory => texts::OUT_OF_MEMORY,
     }
 }
 
@@ -108,28 +66,15 @@ fn of_claim(error: CertRefused) -> &'static [u8]
     ensures phrase { IsTrue (is_phrase result.now) }
 {
     match error {
-        CertRefused::WrongSize => {
-            b"it is of a problem with other numbers of persons or objects; check it with the problem it was made for, and the same --objects"
-        }
-        CertRefused::NoSuchArc { .. } => {
-            b"what it picks for this person is no arc of the problem; check it with the problem it was made for"
-        }
-        CertRefused::ObjectTwice { .. } => {
-            b"it picks this object for two persons; an assignment takes each object at most once, so don't use it"
-        }
-        CertRefused::WrongCost =>
-            b"its cost is not the sum of its picks; the picks may be used, and the cost may not",
-        CertRefused::Slack { .. } => {
-            b"at its prices this person has a better arc than the one picked, so a least cost isn't shown; solve anew"
-        }
-        CertRefused::LeftOver { .. } => {
-            b"it gives a price to this object, which nobody takes, so a least cost isn't shown; solve anew"
-        }
-        CertRefused::NotHall => {
-            b"the persons it names don't know fewer objects than they are, so an assignment isn't ruled out; solve anew"
-        }
-        CertRefused::WrongBound => b"its lower bound is not that of its prices; solve anew",
-        CertRefused::NoMemory => out_of_memory(),
+        CertRefused::WrongSize => texts::WRONG_SIZE,
+        CertRefused::NoSuchArc { .. } => texts::NO_SUCH_ARC,
+        CertRefused::ObjectTwice { .. } => texts::OBJECT_TWICE,
+        CertRefused::WrongCost => texts::WRONG_COST,
+        CertRefused::Slack { .. } => texts::SLACK,
+        CertRefused::LeftOver { .. } => texts::LEFT_OVER,
+        CertRefused::NotHall => texts::NOT_HALL,
+        CertRefused::WrongBound => texts::WRONG_BOUND,
+        CertRefused::NoMemory => texts::OUT_OF_MEMORY,
     }
 }
 
@@ -140,19 +85,11 @@ fn of_start(error: StartError) -> &'static [u8]
     ensures phrase { IsTrue (is_phrase result.now) }
 {
     match error {
-        StartError::NotSquare => {
-            b"a solve starts from old prices only with as many objects as persons; leave out --from, or add --direct"
-        }
-        StartError::NoPrices => {
-            b"it names persons who know too few objects, and has no prices to start from; leave out --from"
-        }
-        StartError::OtherSize => {
-            b"it is of a problem with another number of persons or objects; leave out --from, or name that of an equal number"
-        }
-        StartError::TooHigh { .. } => {
-            b"the price of this object is above 1152921504606846976, too high to start from; leave out --from"
-        }
-        StartError::NoMemory => out_of_memory(),
+        StartError::NotSquare => texts::NOT_SQUARE,
+        StartError::NoPrices => texts::NO_PRICES,
+        StartError::OtherSize => texts::OTHER_SIZE,
+        StartError::TooHigh { .. } => texts::TOO_HIGH,
+        StartError::NoMemory => texts::OUT_OF_MEMORY,
     }
 }
 
@@ -163,18 +100,11 @@ fn of_script(error: ScriptError) -> &'static [u8]
     ensures phrase { IsTrue (is_phrase result.now) }
 {
     match error {
-        ScriptError::Word { .. } => {
-            b"this may not stand here; a script is mail BOXES SENDERS NODES MOST, and then post, take and close with their numbers"
-        }
-        ScriptError::Range { .. } => {
-            b"this number is out of its range; docs/FORMATS.md has the range of each number of a script"
-        }
-        ScriptError::Cut { .. } => {
-            b"the script ends inside a command, or has none; add what is missing, or begin with mail BOXES SENDERS NODES MOST"
-        }
-        ScriptError::TooManyCalls =>
-            b"a script has at most 1000000 calls; leave out those after them",
-        ScriptError::NoMemory => out_of_memory(),
+        ScriptError::Word { .. } => texts::SCRIPT_WORD,
+        ScriptError::Range { .. } => texts::SCRIPT_RANGE,
+        ScriptError::Cut { .. } => texts::CUT_SCRIPT,
+        ScriptError::TooManyCalls => texts::TOO_MANY_CALLS,
+        ScriptError::NoMemory => texts::OUT_OF_MEMORY,
     }
 }
 
@@ -191,10 +121,8 @@ pub(crate) fn of_refusal(refusal: Refusal) -> &'static [u8]
         Refusal::Invalid(error) => of_claim(error),
         Refusal::NoStart(error) => of_start(error),
         Refusal::NoScript(error) => of_script(error),
-        Refusal::NoMemory => out_of_memory(),
-        Refusal::NoThreads => {
-            b"a thread couldn't be started; give --workers a smaller number, or leave it out"
-        }
+        Refusal::NoMemory => texts::OUT_OF_MEMORY,
+        Refusal::NoThreads => texts::NO_THREADS,
     }
 }
 
@@ -205,21 +133,11 @@ fn of_reason(reason: Reason) -> &'static [u8]
     ensures phrase { IsTrue (is_phrase result.now) }
 {
     match reason {
-        Reason::Bids => {
-            b"a limit ended the search: the answer is an assignment, and a bound below which none costs; for a least cost raise --bids, or --seconds where it is given"
-        }
-        Reason::Ceiling => {
-            b"a price would have passed the greatest one: the answer is an assignment, and a bound below which none costs; for a least cost use a greater unit, so that costs differ by less"
-        }
-        Reason::Posts => {
-            b"a mail has had as many letters as it may have: the answer is an assignment, and a bound below which none costs; for a least cost leave out --workers, or say --direct in its place"
-        }
-        Reason::Trail => {
-            b"a trail of --audit was full: the answer is an assignment, and a bound below which none costs; for a least cost raise --audit, or leave it out"
-        }
-        Reason::Mail => {
-            b"a mail had no room left: the answer is an assignment, and a bound below which none costs; for a least cost leave out --workers, or say --direct in its place"
-        }
+        Reason::Bids => texts::BIDS_RAN_OUT,
+        Reason::Ceiling => texts::CEILING_PASSED,
+        Reason::Posts => texts::POSTS_RAN_OUT,
+        Reason::Trail => texts::TRAIL_FULL,
+        Reason::Mail => texts::MAIL_FULL,
     }
 }
 
@@ -230,20 +148,14 @@ fn of_status(status: u8) -> &'static [u8]
     ensures phrase { IsTrue (is_phrase result.now) }
 {
     match status {
-        INFEASIBLE => {
-            b"there is no assignment: the persons that the answer names know fewer objects than they are; give them more arcs, or leave some out"
-        }
-        BRACKET => {
-            b"a limit ended the search: the answer is an assignment, and a bound below which none costs"
-        }
-        BROKEN => b"a guard of the solver was hit, and there is no answer; solve without --workers",
-        UNWRITTEN => {
-            b"standard output was not written, or not all of it; see that its disk has room, and that its reader reads on"
-        }
-        NO_MEMORY => out_of_memory(),
-        REFUSED => b"an input was refused; see standard output",
-        USAGE => b"the words are no command; see auction --help",
-        _ => b"the job has ended with this status alone; see standard output",
+        INFEASIBLE => texts::NO_ASSIGNMENT,
+        BRACKET => texts::BRACKET_ALONE,
+        BROKEN => texts::GUARD_HIT,
+        UNWRITTEN => texts::NOT_WRITTEN,
+        NO_MEMORY => texts::OUT_OF_MEMORY,
+        REFUSED => texts::INPUT_REFUSED,
+        USAGE => texts::NO_COMMAND,
+        _ => texts::STATUS_ALONE,
     }
 }
 

@@ -18,8 +18,8 @@ use Rattle.auc_threads.specs.declared.calls.Step.{Step}
 use Rattle.auc_threads.specs.Calling.{lines_made}
 use Rattle.auc_threads.specs.Taking.{AfterTake, AfterTakes, Answer, Takes, letter_of}
 use Rattle.auc_threads.specs.Posting.{Posts, PostsAt, calls_sent, first_step}
-use Rattle.auc_threads.specs.Buying.{Act, AfterActs, AfterAsks, Asks, Buys, Hear, Listens, ListensTo, Make, Plays, heard_in, made_in}
-use Rattle.auc_threads.specs.Worker.{Rooms, Worker, with_hub}
+use Rattle.auc_threads.specs.Buying.{Act, AfterActs, AfterAsks, Asks, Buys, Hear, Listens, ListensTo, Make, Plays, asker, heard_in, made_in}
+use Rattle.auc_threads.specs.Worker.{Rooms, Worker, box, round, taker, with_hub}
 use Rattle.auc_threads.proofs.TakingLaws.{after_one, after_then, took_as, took_nil, took_take, took_then}
 use Rattle.auc_threads.proofs.PostingLaws.{at_none, at_then, posts_long, sent_full, sent_long}
 use Rattle.auc_threads.proofs.StepLaws.{posts_bids}
@@ -72,12 +72,12 @@ plays_bids t eps s n (Make o ∷ acts) f =
     omega (arith, plays_bids t eps f.0 n acts f.2, some, used)
 
 -- where the worker had made no call of that mail, its seat there counts no more bids than it made
-pub bids_made : (t : Table) (eps : ℤ) (r : Rooms) (at : ℕ) (old new : Worker Persons) (step : Step) → (f : Buys t eps r at old new step) → old.seats.objects.count ≡ 0 → new.seats.objects.count ≤ length (made_in f.acts)
+pub bids_made : (t : Table) (eps : ℤ) (r : Rooms) (at : ℕ) (old new : Worker Persons) (step : Step) → (f : Buys (round t eps) r at old new step) → old.seats.objects.count ≡ 0 → new.seats.objects.count ≤ length (made_in f.acts)
 bids_made t eps r at old new step f none =
     omega (arith, none, f.posts.makes.counted, sent_long old.seats.objects.worker f.posts.posts, posts_long (made_in f.acts) f.posts.posts f.posts_step f.posts.posted)
 
 -- and so no more than are allowed
-pub bids_few : (t : Table) (eps : ℤ) (r : Rooms) (at : ℕ) (old new : Worker Persons) (step : Step) → Buys t eps r at old new step → old.seats.objects.count ≡ 0 → new.seats.objects.count ≤ old.shard.bids
+pub bids_few : (t : Table) (eps : ℤ) (r : Rooms) (at : ℕ) (old new : Worker Persons) (step : Step) → Buys (round t eps) r at old new step → old.seats.objects.count ≡ 0 → new.seats.objects.count ≤ old.shard.bids
 bids_few t eps r at old new step f none =
     omega (arith, bids_made t eps r at old new step f none, plays_bids t eps old.shard new.shard f.acts f.plays)
 
@@ -102,7 +102,7 @@ none_left t eps n fault h =
     no_fault PersonFault.Fell e = cc
 
 -- and just so many where they ended it
-pub bids_spent : (t : Table) (eps : ℤ) (r : Rooms) (at : ℕ) (old new : Worker Persons) (step : Step) → Buys t eps r at old new step → old.seats.objects.count ≡ 0 → step ≡ Step.Stop Why.Bids → new.seats.objects.count ≡ old.shard.bids
+pub bids_spent : (t : Table) (eps : ℤ) (r : Rooms) (at : ℕ) (old new : Worker Persons) (step : Step) → Buys (round t eps) r at old new step → old.seats.objects.count ≡ 0 → step ≡ Step.Stop Why.Bids → new.seats.objects.count ≡ old.shard.bids
 bids_spent t eps r at old new step f none stop =
     let both = bids_stop f.posts_step f.acts_step (sym stop ∙ f.is) (posts_bids (made_in f.acts) f.posts.posts f.posts_step f.posts.posted) in
     let posted : Posts (made_in f.acts) f.posts.posts Step.On = subst (λ (x : Step). Posts (made_in f.acts) f.posts.posts x) both.0 f.posts.posted in
@@ -110,7 +110,7 @@ bids_spent t eps r at old new step f none stop =
     omega (arith, none, f.posts.makes.counted, sent_full old.seats.objects.worker (made_in f.acts) f.posts.posts posted, plays_bids t eps old.shard new.shard f.acts f.plays, left)
 
 -- where there is room for lines, each call has its line
-pub bids_noted : (t : Table) (eps : ℤ) (r : Rooms) (at : ℕ) (old new : Worker Persons) (step : Step) → Buys t eps r at old new step → 0 < r.objects → old.seats.objects.count ≡ 0 → old.seats.objects.lines ≡ []
+pub bids_noted : (t : Table) (eps : ℤ) (r : Rooms) (at : ℕ) (old new : Worker Persons) (step : Step) → Buys (round t eps) r at old new step → 0 < r.objects → old.seats.objects.count ≡ 0 → old.seats.objects.lines ≡ []
     → length new.seats.objects.lines ≡ new.seats.objects.count
 bids_noted t eps r at old new step f some fresh none =
     let a = old.seats.objects in
@@ -121,10 +121,10 @@ bids_noted t eps r at old new step f some fresh none =
 -- ---- asking
 
 -- it goes on to ask, and nothing more comes of it
-pub asks_end : (t : Table) (eps : ℤ) (s m n : Persons) (old bids : List Out) (step : Step) → Asks t eps s old m bids Step.On → n ≡ m → AfterAsks t eps n step → Asks t eps s old n bids step
+pub asks_end : (t : Table) (eps : ℤ) (s m n : Persons) (old bids : List Out) (step : Step) → Asks (round t eps) (asker s old) (asker m bids) Step.On → n ≡ m → AfterAsks t eps n step → Asks (round t eps) (asker s old) (asker n bids) step
 asks_end t eps s m n old bids step f e after = record { acts = f.acts; plays = subst (λ (z : Persons). Plays t eps s f.acts z) (sym e) f.plays; heard = f.heard; made = f.made; after = after }
 
-pub asks_more : (t : Table) (eps : ℤ) (s m n : Persons) (old bids new : List Out) (o : Out) → Asks t eps s old m bids Step.On → NextBid t eps m (Bidding.Out o) n → new ≡ bids ++ o ∷ [] → Asks t eps s old n new Step.On
+pub asks_more : (t : Table) (eps : ℤ) (s m n : Persons) (old bids new : List Out) (o : Out) → Asks (round t eps) (asker s old) (asker m bids) Step.On → NextBid t eps m (Bidding.Out o) n → new ≡ bids ++ o ∷ [] → Asks (round t eps) (asker s old) (asker n new) Step.On
 asks_more t eps s m n old bids new o f next pushed =
     let one : Plays t eps m (Make o ∷ []) n = (n, next, refl) in
     record {
@@ -137,10 +137,10 @@ asks_more t eps s m n old bids new o f next pushed =
 
 -- ---- listening
 
-pub listens_ok : (t : Table) (eps : ℤ) (s n : Persons) (x : Letter) (u : Unit {0}) → OnLetter s x (Ok u) n → ListensTo t eps s (x ∷ []) n Step.On
+pub listens_ok : (t : Table) (eps : ℤ) (s n : Persons) (x : Letter) (u : Unit {0}) → OnLetter s x (Ok u) n → ListensTo (round t eps) s (x ∷ []) n Step.On
 listens_ok t eps s n x u on = record { acts = Hear x ∷ []; fault = []; plays = (n, on, refl); made = refl; letters_are = refl; after = refl }
 
-pub listens_fault : (t : Table) (eps : ℤ) (s n : Persons) (x : Letter) (f : PersonFault) (why : Why) → OnLetter s x (Err f) n → n ≡ s → why ≡ reason_for f → ListensTo t eps s (x ∷ []) n (Step.Stop why)
+pub listens_fault : (t : Table) (eps : ℤ) (s n : Persons) (x : Letter) (f : PersonFault) (why : Why) → OnLetter s x (Err f) n → n ≡ s → why ≡ reason_for f → ListensTo (round t eps) s (x ∷ []) n (Step.Stop why)
 listens_fault t eps s n x f why on e is = record {
   acts = [];
   fault = x ∷ [];
@@ -150,7 +150,7 @@ listens_fault t eps s n x f why on e is = record {
   after = inr (inr (x, f, refl, is, subst (λ (z : Persons). OnLetter z x (Err f) n) (sym e) on));
 }
 
-pub listens_then : (t : Table) (eps : ℤ) (s m n : Persons) (xs ys : List Letter) (step : Step) → ListensTo t eps s xs m Step.On → ListensTo t eps m ys n step → ListensTo t eps s (xs ++ ys) n step
+pub listens_then : (t : Table) (eps : ℤ) (s m n : Persons) (xs ys : List Letter) (step : Step) → ListensTo (round t eps) s xs m Step.On → ListensTo (round t eps) m ys n step → ListensTo (round t eps) s (xs ++ ys) n step
 listens_then t eps s m n xs ys step f g =
     let first : xs ≡ heard_in f.acts = f.letters_are ∙ (ap (λ w. heard_in f.acts ++ w) f.after ∙ append-nil (heard_in f.acts)) in
     record {
@@ -164,11 +164,11 @@ listens_then t eps s m n xs ys step f g =
       after = g.after;
     }
 
-pub listens_none : (t : Table) (eps : ℤ) (room at : ℕ) (s : Persons) (a : Account Letter) → Listens t eps room at s a s a Step.On
+pub listens_none : (t : Table) (eps : ℤ) (room at : ℕ) (s : Persons) (a : Account Letter) → Listens (round t eps) (box room at) (taker s a) (taker s a) Step.On
 listens_none t eps room at s a = record { letters = []; took = took_nil room at a; listens = record { acts = []; fault = []; plays = refl; made = refl; letters_are = refl; after = refl }; taken = ((λ e. cc), (λ e. cc)) }
 
 pub listens_more : (t : Table) (eps : ℤ) (room at : ℕ) (s m n : Persons) (a b c : Account Letter) (r : Answer) (step : Step)
-    → Listens t eps room at s a m b Step.On → SeatCalls room b (Call.Take at) (take_reply r) c → ListensTo t eps m (letter_of r) n step → AfterTake r step → Listens t eps room at s a n c step
+    → Listens (round t eps) (box room at) (taker s a) (taker m b) Step.On → SeatCalls room b (Call.Take at) (take_reply r) c → ListensTo (round t eps) m (letter_of r) n step → AfterTake r step → Listens (round t eps) (box room at) (taker s a) (taker n c) step
 listens_more t eps room at s m n a b c r step f call g after = record {
   letters = f.letters ++ letter_of r;
   took = took_then room at a b c f.letters (letter_of r) f.took (took_take room at b c r call);
@@ -177,14 +177,14 @@ listens_more t eps room at s m n a b c r step f call g after = record {
 }
 
 pub listens_empty : (t : Table) (eps : ℤ) (room at : ℕ) (s m : Persons) (a b c : Account Letter) (r : Answer)
-    → Listens t eps room at s a m b Step.On → SeatCalls room b (Call.Take at) (take_reply r) c → r ≡ Ok Taken.Empty → Listens t eps room at s a m c Step.On
+    → Listens (round t eps) (box room at) (taker s a) (taker m b) Step.On → SeatCalls room b (Call.Take at) (take_reply r) c → r ≡ Ok Taken.Empty → Listens (round t eps) (box room at) (taker s a) (taker m c) Step.On
 listens_empty t eps room at s m a b c r f call e =
-    let none : ListensTo t eps m [] m Step.On = record { acts = []; fault = []; plays = refl; made = refl; letters_are = refl; after = refl } in
-    listens_more t eps room at s m m a b c r Step.On f call (subst (λ (q : Answer). ListensTo t eps m (letter_of q) m Step.On) (sym e) none) (subst (λ (q : Answer). AfterTake q Step.On) (sym e) refl)
+    let none : ListensTo (round t eps) m [] m Step.On = record { acts = []; fault = []; plays = refl; made = refl; letters_are = refl; after = refl } in
+    listens_more t eps room at s m m a b c r Step.On f call (subst (λ (q : Answer). ListensTo (round t eps) m (letter_of q) m Step.On) (sym e) none) (subst (λ (q : Answer). AfterTake q Step.On) (sym e) refl)
 
 -- ---- bidding and hearing
 
-pub buys_none : (t : Table) (eps : ℤ) (r : Rooms) (at : ℕ) (w : Worker Persons) → Buys t eps r at w w Step.On
+pub buys_none : (t : Table) (eps : ℤ) (r : Rooms) (at : ℕ) (w : Worker Persons) → Buys (round t eps) r at w w Step.On
 buys_none t eps r at w = record { acts = []; fault = []; posts_step = Step.On; acts_step = Step.On; plays = refl; posts = at_none r.objects w.seats.objects; took = took_nil r.persons at w.seats.persons; after = refl; taken = ((λ e. cc), (λ e. cc)); is = refl }
 
 asked_after : (t : Table) (eps : ℤ) (n : Persons) (step : Step) → AfterAsks t eps n step → AfterActs t eps n [] step
@@ -205,7 +205,7 @@ none_taken t eps n (Step.Stop why) h = ((λ e. cc), (λ e. stops why (why_same e
     stops y e s = subst (λ (z : Why). Stops t eps n (first_idle n) z) e s
 
 -- bids were made and posted, and nothing was heard after them
-module _ (t : Table) (eps : ℤ) (r : Rooms) (at : ℕ) (x : Worker Persons) (m : Persons) (b : Account Letter) (old bids sliced : List Out) (asked posted : Step) (f : Asks t eps x.shard old m bids asked) (none : old ≡ []) (same : sliced ≡ bids) (g : PostsAt r.objects x.seats.objects sliced b posted) where
+module _ (t : Table) (eps : ℤ) (r : Rooms) (at : ℕ) (x : Worker Persons) (m : Persons) (b : Account Letter) (old bids sliced : List Out) (asked posted : Step) (f : Asks (round t eps) (asker x.shard old) (asker m bids) asked) (none : old ≡ []) (same : sliced ≡ bids) (g : PostsAt r.objects x.seats.objects sliced b posted) where
   made_posts : PostsAt r.objects x.seats.objects (made_in f.acts) b posted
   made_posts = subst (λ w. PostsAt r.objects x.seats.objects w b posted) (same ∙ (f.made ∙ ap (λ w. w ++ made_in f.acts) none)) g
 
@@ -216,11 +216,11 @@ module _ (t : Table) (eps : ℤ) (r : Rooms) (at : ℕ) (x : Worker Persons) (m 
   abbrev left_by : Persons → Account Letter → Worker Persons
   left_by n q = record { shard = n; seats = record { objects = b; persons = q; hub = x.seats.hub } }
 
-  pub buys_asked : (step : Step) → step ≡ first_step posted asked → Buys t eps r at x (left_by m x.seats.persons) step
+  pub buys_asked : (step : Step) → step ≡ first_step posted asked → Buys (round t eps) r at x (left_by m x.seats.persons) step
   buys_asked step is = record { acts = f.acts; fault = []; posts_step = posted; acts_step = asked; plays = f.plays; posts = made_posts; took = none_heard; after = asked_after t eps m asked f.after; taken = none_taken t eps m asked f.after; is = is }
 
   -- or letters were
-  pub buys_heard : (n : Persons) (q : Account Letter) (step : Step) → posted ≡ Step.On → Listens t eps r.persons at m x.seats.persons n q step → Buys t eps r at x (left_by n q) step
+  pub buys_heard : (n : Persons) (q : Account Letter) (step : Step) → posted ≡ Step.On → Listens (round t eps) (box r.persons at) (taker m x.seats.persons) (taker n q) step → Buys (round t eps) r at x (left_by n q) step
   buys_heard n q step on l =
       let acts : List Act = f.acts ++ l.listens.acts in
       let made : made_in acts ≡ made_in f.acts = made_append f.acts l.listens.acts ∙ (ap (λ w. made_in f.acts ++ w) l.listens.made ∙ append-nil (made_in f.acts)) in
@@ -239,7 +239,7 @@ module _ (t : Table) (eps : ℤ) (r : Rooms) (at : ℕ) (x : Worker Persons) (m 
       }
 
 -- the hub's mail is no part of it
-pub buys_apart : (t : Table) (eps : ℤ) (r : Rooms) (at : ℕ) (x y : Worker Persons) (h : Account Letter) (step : Step) → Buys t eps r at x y step → Buys t eps r at x (with_hub y h) step
+pub buys_apart : (t : Table) (eps : ℤ) (r : Rooms) (at : ℕ) (x y : Worker Persons) (h : Account Letter) (step : Step) → Buys (round t eps) r at x y step → Buys (round t eps) r at x (with_hub y h) step
 buys_apart t eps r at x y h step f = record { acts = f.acts; fault = f.fault; posts_step = f.posts_step; acts_step = f.acts_step; plays = f.plays; posts = f.posts; took = f.took; after = f.after; taken = f.taken; is = f.is }
 
 on_both : (x y : Step) → Step.On ≡ first_step x y → (x ≡ Step.On) × (y ≡ Step.On)
@@ -247,7 +247,7 @@ on_both Step.On y e = (refl, sym e)
 on_both Step.Over y e = absurd cc
 on_both (Step.Stop why) y e = absurd cc
 
-pub buys_then : (t : Table) (eps : ℤ) (r : Rooms) (at : ℕ) (x y z : Worker Persons) (step : Step) → Buys t eps r at x y Step.On → Buys t eps r at y z step → Buys t eps r at x z step
+pub buys_then : (t : Table) (eps : ℤ) (r : Rooms) (at : ℕ) (x y z : Worker Persons) (step : Step) → Buys (round t eps) r at x y Step.On → Buys (round t eps) r at y z step → Buys (round t eps) r at x z step
 buys_then t eps r at x y z step f g =
     let ro = r.objects in
     let rp = r.persons in

@@ -8,7 +8,7 @@ use Rattle.auc_mail.specs.declared.call.Call.{Call}
 use Rattle.auc_mail.specs.declared.call.Reply.{Reply}
 use Rattle.auc_book.specs.declared.line.TrailLine.{TrailLine}
 use Rattle.auc_book.specs.Seat.{Account, SeatCalls, one_more}
-use Rattle.auc_threads.specs.Calling.{Called, IsMore, Makes, lines_by, lines_made, turned_in}
+use Rattle.auc_threads.specs.Calling.{Called, IsMore, Makes, lines_by, lines_made, turned_by, turned_in}
 
 -- ---- counts of calls that were turned away
 
@@ -79,3 +79,16 @@ makes_then room a b c xs ys f g =
 
 pub makes_as : (room : ℕ) (a b : Account Letter) (xs ys : List Called) → xs ≡ ys → Makes room a xs b → Makes room a ys b
 makes_as room a b xs ys e f = subst (λ cs. Makes room a cs b) e f
+
+-- ---- a call shows
+
+-- Whose account hasn't changed made no call; or the number of calls that were turned away stands at its last value. So
+-- no body can claim calls that it doesn't make.
+pub calls_show : (room : ℕ) (a : Account Letter) (calls : List Called) → Makes room a calls a → (calls ≡ []) ⊎ (18446744073709551615 ≤ a.turned_away)
+calls_show room a [] f = inl refl
+calls_show room a (c ∷ cs) f = inr (by c.reply f.counted f.turned)
+  where
+    by : (r : Option (Reply Letter)) → a.count ≡ a.count + length (lines_by a.worker c.call r ++ lines_made a.worker cs) → IsMore a.turned_away (turned_by r + turned_in cs) a.turned_away → 18446744073709551615 ≤ a.turned_away
+    by None counted (inl e) = absurd (omega (arith, e))
+    by None counted (inr e) = e.0
+    by (Some r) counted turned = absurd (omega (arith, counted))

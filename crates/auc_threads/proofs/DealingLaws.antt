@@ -24,7 +24,7 @@ use Rattle.auc_threads.specs.declared.calls.Step.{Step}
 use Rattle.auc_threads.specs.Taking.{AfterTake, AfterTakes, Answer, Takes, letter_of}
 use Rattle.auc_threads.specs.Posting.{Says, first_step}
 use Rattle.auc_threads.specs.Dealing.{AfterLetters, Deals, DealsWith, Fits, Serves, after_bids, others, prices_told, says, says_all}
-use Rattle.auc_threads.specs.Worker.{Rooms, Worker}
+use Rattle.auc_threads.specs.Worker.{Rooms, Worker, box, taker}
 use Rattle.auc_threads.proofs.TakingLaws.{after_one, after_then, took_nil, took_take, took_then}
 use Rattle.auc_threads.proofs.PostingLaws.{says_none, says_then}
 
@@ -175,7 +175,7 @@ with_shape eps s t letters said step f = subst (λ (z : Objects). SameShape s z)
 
 -- ---- with what the seat tells
 
-pub takes_none : (eps : ℤ) (room at : ℕ) (s : Objects) (a : Account Letter) (said : List Out) → said ≡ [] → Deals eps room at s a said s a Step.On
+pub takes_none : (eps : ℤ) (room at : ℕ) (s : Objects) (a : Account Letter) (said : List Out) → said ≡ [] → Deals eps (box room at) (taker s a) said (taker s a) Step.On
 takes_none eps room at s a said none = record {
   letters = [];
   took = took_nil room at a;
@@ -184,7 +184,7 @@ takes_none eps room at s a said none = record {
 }
 
 pub deals_more : (eps : ℤ) (room at : ℕ) (s t u : Objects) (a b c : Account Letter) (said new more : List Out) (letters : List Letter) (step : Step)
-    → Deals eps room at s a said t b Step.On → (took : Takes room at b letters c) → new ≡ said ++ more → DealsWith eps t letters more u step → AfterTakes took.answers step → Deals eps room at s a new u c step
+    → Deals eps (box room at) (taker s a) said (taker t b) Step.On → (took : Takes room at b letters c) → new ≡ said ++ more → DealsWith eps t letters more u step → AfterTakes took.answers step → Deals eps (box room at) (taker s a) new (taker u c) step
 deals_more eps room at s t u a b c said new more letters step f took e g after = record {
   letters = f.letters ++ letters;
   took = took_then room at a b c f.letters letters f.took took;
@@ -193,11 +193,11 @@ deals_more eps room at s t u a b c said new more letters step f took e g after =
 }
 
 pub takes_more : (eps : ℤ) (room at : ℕ) (s t u : Objects) (a b c : Account Letter) (said new more : List Out) (r : Answer) (step : Step)
-    → Deals eps room at s a said t b Step.On → SeatCalls room b (Call.Take at) (take_reply r) c → new ≡ said ++ more → DealsWith eps t (letter_of r) more u step → AfterTake r step → Deals eps room at s a new u c step
+    → Deals eps (box room at) (taker s a) said (taker t b) Step.On → SeatCalls room b (Call.Take at) (take_reply r) c → new ≡ said ++ more → DealsWith eps t (letter_of r) more u step → AfterTake r step → Deals eps (box room at) (taker s a) new (taker u c) step
 takes_more eps room at s t u a b c said new more r step f call e g after = deals_more eps room at s t u a b c said new more (letter_of r) step f (took_take room at b c r call) e g (after_one r step after)
 
 pub takes_empty : (eps : ℤ) (room at : ℕ) (s t : Objects) (a b c : Account Letter) (said : List Out) (r : Answer)
-    → Deals eps room at s a said t b Step.On → SeatCalls room b (Call.Take at) (take_reply r) c → r ≡ Ok Taken.Empty → Deals eps room at s a said t c Step.On
+    → Deals eps (box room at) (taker s a) said (taker t b) Step.On → SeatCalls room b (Call.Take at) (take_reply r) c → r ≡ Ok Taken.Empty → Deals eps (box room at) (taker s a) said (taker t c) Step.On
 takes_empty eps room at s t a b c said r f call e =
     takes_more eps room at s t t a b c said said [] r Step.On f call (sym (append-nil said))
     (subst (λ (q : Answer). DealsWith eps t (letter_of q) [] t Step.On) (sym e) (deals_none eps t [] Step.On refl refl))
@@ -226,10 +226,10 @@ pub all_reach : (n : ℕ) (eps : ℤ) (s : Objects) (bids : List Bid) → s.pers
 all_reach n eps s [] e some = All-nil (Reaches n)
 all_reach n eps s (b ∷ bs) e some = All-append (Reaches n) (says eps s b) (says_all eps (after_bid s eps b) bs) (says_reach n eps s b e some) (all_reach n eps (after_bid s eps b) bs e some)
 
-pub deals_reach : (n : ℕ) (eps : ℤ) (room at : ℕ) (s t : Objects) (a b : Account Letter) (said : List Out) (step : Step) → s.person_shards ≡ n → 0 < n → Deals eps room at s a said t b step → All (Reaches n) said
+pub deals_reach : (n : ℕ) (eps : ℤ) (room at : ℕ) (s t : Objects) (a b : Account Letter) (said : List Out) (step : Step) → s.person_shards ≡ n → 0 < n → Deals eps (box room at) (taker s a) said (taker t b) step → All (Reaches n) said
 deals_reach n eps room at s t a b said step e some f = subst (λ w. All (Reaches n) w) (sym f.dealt.said_are) (all_reach n eps s f.dealt.bids e some)
 
-pub deals_shape : (eps : ℤ) (room at : ℕ) (s t : Objects) (a b : Account Letter) (said : List Out) (step : Step) → Deals eps room at s a said t b step → SameShape s t
+pub deals_shape : (eps : ℤ) (room at : ℕ) (s t : Objects) (a b : Account Letter) (said : List Out) (step : Step) → Deals eps (box room at) (taker s a) said (taker t b) step → SameShape s t
 deals_shape eps room at s t a b said step f = subst (λ (z : Objects). SameShape s z) (sym f.dealt.left) (shape_after eps s f.dealt.bids)
 
 -- ---- and posted
@@ -256,7 +256,7 @@ serves_then eps r at x y z step f g =
     let b = y.seats in
     let c = z.seats in
     let on = on_first f.said_step f.took_step f.is in
-    let deals : Deals eps r.objects at x.shard a.objects f.said y.shard b.objects Step.On = subst (λ (s : Step). Deals eps r.objects at x.shard a.objects f.said y.shard b.objects s) on.1 f.deals in
+    let deals : Deals eps (box r.objects at) (taker x.shard a.objects) f.said (taker y.shard b.objects) Step.On = subst (λ (s : Step). Deals eps (box r.objects at) (taker x.shard a.objects) f.said (taker y.shard b.objects) s) on.1 f.deals in
     let posts : Says r a f.said b Step.On = subst (λ (s : Step). Says r a f.said b s) on.0 f.posts in
     record {
       said = f.said ++ g.said;

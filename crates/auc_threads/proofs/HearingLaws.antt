@@ -14,6 +14,7 @@ use Rattle.auc_book.specs.Seat.{Account}
 use Rattle.auc_phases.specs.Reasons.{reason_for}
 use Rattle.auc_threads.specs.Taking.{Takes}
 use Rattle.auc_threads.specs.Hearing.{Falls, Hears, HearsOf, IsTold, Tells}
+use Rattle.auc_threads.specs.Worker.{box, taker}
 use Rattle.auc_threads.proofs.TakingLaws.{took_then}
 
 rises_equal : (q r : List ℤ) → r ≡ q → NeverFall q r
@@ -68,21 +69,21 @@ hears_of_then s t u xs ys first fell f g = record {
   falls = λ x. falls_later s t xs ys f.heard (g.falls x);
 }
 
-pub hears_then : (room at : ℕ) (s t u : Persons) (a b c : Account Letter) (first fell : Type 0) → Hears room at s a t b first → Hears room at t b u c fell → Hears room at s a u c fell
+pub hears_then : (room at : ℕ) (s t u : Persons) (a b c : Account Letter) (first fell : Type 0) → Hears (box room at) (taker s a) (taker t b) first → Hears (box room at) (taker t b) (taker u c) fell → Hears (box room at) (taker s a) (taker u c) fell
 hears_then room at s t u a b c first fell f g = record {
   letters = f.letters ++ g.letters;
   took = took_then room at a b c f.letters g.letters f.took g.took;
   hears = hears_of_then s t u f.letters g.letters first fell f.hears g.hears;
 }
 
-pub hears_nothing : (room at : ℕ) (s t : Persons) (a b : Account Letter) (fell : Type 0) → Takes room at a [] b → t.copies ≡ s.copies → (fell → ⊥) → Hears room at s a t b fell
+pub hears_nothing : (room at : ℕ) (s t : Persons) (a b : Account Letter) (fell : Type 0) → Takes room at a [] b → t.copies ≡ s.copies → (fell → ⊥) → Hears (box room at) (taker s a) (taker t b) fell
 hears_nothing room at s t a b fell took e never = record { letters = []; took = took; hears = hears_none s t fell e never }
 
-pub hears_taken : (room at : ℕ) (s t : Persons) (a b : Account Letter) (letters : List Letter) (fell : Type 0) → Takes room at a letters b → HearsOf s letters t fell → Hears room at s a t b fell
+pub hears_taken : (room at : ℕ) (s t : Persons) (a b : Account Letter) (letters : List Letter) (fell : Type 0) → Takes room at a letters b → HearsOf s letters t fell → Hears (box room at) (taker s a) (taker t b) fell
 hears_taken room at s t a b letters fell took heard = record { letters = letters; took = took; hears = heard }
 
 -- where it went on, what comes of it is told by what follows
-pub hears_first : (room at : ℕ) (s t : Persons) (a b : Account Letter) (first fell : Type 0) → (fell → first) → Hears room at s a t b first → Hears room at s a t b fell
+pub hears_first : (room at : ℕ) (s t : Persons) (a b : Account Letter) (first fell : Type 0) → (fell → first) → Hears (box room at) (taker s a) (taker t b) first → Hears (box room at) (taker s a) (taker t b) fell
 hears_first room at s t a b first fell f h = record { letters = h.letters; took = h.took; hears = record { heard = h.hears.heard; rise = h.hears.rise; falls = λ x. h.hears.falls (f x) } }
 
 -- the one letter that was taken tells a fall

@@ -1,6 +1,7 @@
 pub mod CallingLaws
 pub mod TakingLaws
 pub mod PostingLaws
+pub mod ShownLaws
 pub mod StepLaws
 pub mod SalesLaws
 pub mod DealingLaws

@@ -19,6 +19,7 @@ use Rattle.auc_book.specs.Seat.{Account}
 use Rattle.auc_threads.specs.declared.calls.Step.{Step}
 use Rattle.auc_threads.specs.Dealing.{AfterLetters, Deals, Fits, after_bids}
 use Rattle.auc_threads.specs.Sales.{Sells}
+use Rattle.auc_threads.specs.Worker.{box, taker}
 use Rattle.auc_threads.proofs.DealingLaws.{deals_shape}
 
 owns_then : (s t : Objects) (j : ℕ) → SameShape s t → Owns s j → Owns t j
@@ -70,7 +71,7 @@ no_bids t stray (Step.Stop Why.Posts) j after own = absurd after
 no_bids t stray (Step.Stop Why.Mail) j after own = absurd after
 no_bids t stray (Step.Stop Why.Fell) j after own = absurd after
 
-pub sells_of : (eps : ℤ) (room : ℕ) (s t : Objects) (a b : Account Letter) (said : List Out) (step : Step) → length s.holders ≡ length s.prices → Deals eps room s.shard s a said t b step → Sells eps room s a t b
+pub sells_of : (eps : ℤ) (room : ℕ) (s t : Objects) (a b : Account Letter) (said : List Out) (step : Step) → length s.holders ≡ length s.prices → Deals eps (box room s.shard) (taker s a) said (taker t b) step → Sells eps room (taker s a) (taker t b)
 sells_of eps room s t a b said step each f =
     let shape : SameShape s t = deals_shape eps room s.shard s t a b said step f in
     let d = f.dealt in

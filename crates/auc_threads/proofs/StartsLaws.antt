@@ -15,7 +15,7 @@ use Rattle.auc_threads.specs.declared.object_threads.Sold.{Sold}
 use Rattle.auc_threads.specs.declared.person_threads.Bought.{Bought}
 use Rattle.auc_threads.specs.Dealing.{AfterLetters}
 use Rattle.auc_threads.specs.Starts.{IsObjectPromise, IsObjectResult, IsObjectWork, IsPersonPromise, IsPersonResult, IsPersonStart, IsPersonWork}
-use Rattle.auc_threads.specs.Worker.{Accounts, AreNewSeats, Rooms, Setting, Worker, buyer_of, new_accounts, new_buyer, new_seller, seller_of}
+use Rattle.auc_threads.specs.Worker.{Accounts, AreNewSeats, Rooms, Setting, Worker, buyer_of, new_accounts, new_buyer, new_seller, round, seller_of}
 use Rattle.auc_threads.proofs.SalesLaws.{sells_of}
 use Rattle.auc_threads.proofs.StepLaws.{GuardFree, free_bids, free_first, free_posts, free_why}
 
@@ -70,15 +70,15 @@ person_shard g k w each start =
     subst (λ (x : Persons). IsPersonShard g.table g.limits.shards k x) (sym start.shard) (new_persons_are g.table g.limits.shards g.limits.bids g.prices k each)
 
 pub person_result : {O P H : Type 0} (g : Setting) (r : Rooms) (k : ℕ) (p : Bought O P H) (w : Worker Persons) (why : Option Why)
-    → IsPersonPromise g k p → IsPersonWork p.rows.value p.eps r (buyer_of p.start.value) w why → IsPersonResult g r k w why
+    → IsPersonPromise g k p → IsPersonWork (round p.rows.value p.eps) r (buyer_of p.start.value) w why → IsPersonResult g r k w why
 person_result g r k p w why promise work =
     let begun = new_buyer g k in
     let start = buyer_of p.start.value in
     let begins : start ≡ begun = new_worker start begun.shard k promise.begins.shard promise.begins.seats in
-    let done : IsPersonWork g.table g.eps r begun w why =
-    subst (λ (z : Table). IsPersonWork z g.eps r begun w why) promise.same_table
-    (subst (λ (z : ℤ). IsPersonWork p.rows.value z r begun w why) promise.at_eps
-    (subst (λ (x : Worker Persons). IsPersonWork p.rows.value p.eps r x w why) begins work)) in
+    let done : IsPersonWork (round g.table g.eps) r begun w why =
+    subst (λ (z : Table). IsPersonWork (round z g.eps) r begun w why) promise.same_table
+    (subst (λ (z : ℤ). IsPersonWork (round p.rows.value z) r begun w why) promise.at_eps
+    (subst (λ (x : Worker Persons). IsPersonWork (round p.rows.value p.eps) r x w why) begins work)) in
     record {
       seats = record {
         objects_seat = done.buys.posts.makes.worker;

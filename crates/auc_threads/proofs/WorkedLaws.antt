@@ -14,7 +14,7 @@ use Rattle.auc_threads.specs.declared.person_worker.PersonWork.{PersonWork}
 use Rattle.auc_threads.specs.declared.settling.Trails.{Trails}
 use Rattle.auc_threads.specs.Starts.{HaveBought, HaveSold, IsObjectResult, IsObjectWork, IsPersonResult, IsPersonWork}
 use Rattle.auc_threads.specs.Worked.{AreNoted, IsBuyer, IsSeller, IsNoted, audited, end_by, first_some}
-use Rattle.auc_threads.specs.Worker.{Accounts, AreSeatsOf, Rooms, Setting, accounts_of, bought_of, new_buyer, new_seller, sold_of}
+use Rattle.auc_threads.specs.Worker.{Accounts, AreSeatsOf, Rooms, Setting, accounts_of, bought_of, new_buyer, new_seller, round, sold_of}
 use Rattle.auc_threads.proofs.BuyingLaws.{bids_few, bids_noted, bids_spent}
 use Rattle.auc_threads.proofs.PlacedLaws.{placed_some}
 use Rattle.auc_threads.proofs.StepLaws.{why_stop}
@@ -149,7 +149,7 @@ module _ {O P H : Type 0} (g : Setting) (r : Rooms) (e : r ≡ audited g.limits)
         let adds : length w.seats.objects.lines ≡ w.seats.objects.count = bids_noted g.table g.eps r k begun w got.work.step got.work.buys some refl refl in
         record {
           left = w;
-          work = subst (λ (o : Option Why). IsPersonWork g.table g.eps (audited g.limits) begun w o) is (subst (λ (q : Rooms). IsPersonWork g.table g.eps q begun w x.why) e got.work);
+          work = subst (λ (o : Option Why). IsPersonWork (round g.table g.eps) (audited g.limits) begun w o) is (subst (λ (q : Rooms). IsPersonWork (round g.table g.eps) q begun w x.why) e got.work);
           noted = noted_at (λ y. accounts_of y.seats) g.limits.audit trails xs k x k true known at.2 got.seats;
           counted = adds ∙ (value_at (λ y. y.seats.objects.count) 0 xs k x known at.2 ∙ ap (λ ns. get_or ns k 0) (sym counted));
           few = omega (arith, adds, few);

@@ -7,12 +7,11 @@ use Rattle.auc_letters.specs.declared.out.Out.{Out}
 use Rattle.auc_persons.specs.declared.bidding.Bidding.{Bidding}
 use Rattle.auc_persons.specs.declared.bidding.PersonFault.{PersonFault}
 use Rattle.auc_persons.specs.Persons.{NextBid, OnLetter, Persons, Stops, first_idle}
-use Rattle.auc_book.specs.Seat.{Account}
 use Rattle.auc_phases.specs.Reasons.{reason_for}
 use Rattle.auc_threads.specs.declared.calls.Step.{Step}
 use Rattle.auc_threads.specs.Taking.{AfterTakes, Takes}
 use Rattle.auc_threads.specs.Posting.{PostsAt, first_step}
-use Rattle.auc_threads.specs.Worker.{Rooms, Worker}
+use Rattle.auc_threads.specs.Worker.{Box, Rooms, Round, Taker, Worker}
 
 -- what a shard of the persons does: it hears a letter, or makes a bid
 pub data Act : Type 0 where
@@ -56,41 +55,48 @@ AfterAsks t eps n Step.On = Unit {0}
 AfterAsks t eps n Step.Over = ⊥
 AfterAsks t eps n (Step.Stop why) = CantBid t eps n why
 
-pub record Asks (t : Table) (eps : ℤ) (s : Persons) (old : List Out) (n : Persons) (new : List Out) (step : Step) : Type 0 where
+-- a shard, with the bids that it was asked for so far
+pub record Asker : Type 0 where
+  pub shard : Persons
+  pub bids : List Out
+
+abbrev pub asker : Persons → List Out → Asker
+asker s bids = record { shard = s; bids = bids }
+
+pub record Asks (g : Round) (old new : Asker) (step : Step) : Type 0 where
   pub acts : List Act
-  pub plays : Plays t eps s acts n
+  pub plays : Plays g.table g.eps old.shard acts new.shard
   pub heard : heard_in acts ≡ []
-  pub made : new ≡ old ++ made_in acts
-  pub after : AfterAsks t eps n step
+  pub made : new.bids ≡ old.bids ++ made_in acts
+  pub after : AfterAsks g.table g.eps new.shard step
 
 -- Its shard heard the letters, but for the last one where that doesn't fit.
-pub record ListensTo (t : Table) (eps : ℤ) (s : Persons) (letters : List Letter) (n : Persons) (step : Step) : Type 0 where
+pub record ListensTo (g : Round) (s : Persons) (letters : List Letter) (n : Persons) (step : Step) : Type 0 where
   pub acts : List Act
   pub fault : List Letter
-  pub plays : Plays t eps s acts n
+  pub plays : Plays g.table g.eps s acts n
   pub made : made_in acts ≡ []
   pub letters_are : letters ≡ heard_in acts ++ fault
-  pub after : AfterActs t eps n fault step
+  pub after : AfterActs g.table g.eps n fault step
 
 -- and the worker took them from its box
-pub record Listens (t : Table) (eps : ℤ) (room at : ℕ) (s : Persons) (a : Account Letter) (n : Persons) (b : Account Letter)
-    (step : Step) : Type 0 where
+pub record Listens (g : Round) (x : Box) (old new : Taker Persons) (step : Step) : Type 0 where
   pub letters : List Letter
-  pub took : Takes room at a letters b
-  pub listens : ListensTo t eps s letters n step
+  pub took : Takes x.room x.at old.seat letters new.seat
+  pub listens : ListensTo g old.shard letters new.shard step
   pub taken : AfterTakes took.answers step
 
 -- It bid and heard: it took just these letters from its box, and posted the bids in order, up to the first post that
 -- ends it.
-pub record Buys (t : Table) (eps : ℤ) (r : Rooms) (at : ℕ) (old new : Worker Persons) (step : Step) : Type 0 where
+pub record Buys (g : Round) (r : Rooms) (at : ℕ) (old new : Worker Persons) (step : Step) : Type 0 where
   pub acts : List Act
   pub fault : List Letter
   pub posts_step : Step
   pub acts_step : Step
-  pub plays : Plays t eps old.shard acts new.shard
+  pub plays : Plays g.table g.eps old.shard acts new.shard
   pub posts : PostsAt r.objects old.seats.objects (made_in acts) new.seats.objects posts_step
   pub took : Takes r.persons at old.seats.persons (heard_in acts ++ fault) new.seats.persons
-  pub after : AfterActs t eps new.shard fault acts_step
+  pub after : AfterActs g.table g.eps new.shard fault acts_step
   pub taken : AfterTakes took.answers acts_step
   -- a post that ends the worker comes before what it asked for or took later
   pub is : step ≡ first_step posts_step acts_step

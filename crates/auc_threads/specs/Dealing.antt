@@ -9,11 +9,10 @@ use Rattle.auc_letters.specs.Award.{answers, bid_letter, is_accepted}
 use Rattle.auc_graph.specs.Price.{IsPrice}
 use Rattle.auc_letters.specs.Routing.{price_told}
 use Rattle.auc_objects.specs.Objects.{IsBidIn, Objects, Owns, after_bid, price_of, sale_of}
-use Rattle.auc_book.specs.Seat.{Account}
 use Rattle.auc_threads.specs.declared.calls.Step.{Step}
 use Rattle.auc_threads.specs.Taking.{AfterTakes, Takes}
 use Rattle.auc_threads.specs.Posting.{Says, first_step}
-use Rattle.auc_threads.specs.Worker.{Rooms, Worker}
+use Rattle.auc_threads.specs.Worker.{Box, Rooms, Taker, Worker, box, dealer_of}
 
 -- the shards below n but one, in rising order
 abbrev pub others : ℕ → ℕ → List ℕ
@@ -71,11 +70,10 @@ pub record DealsWith (eps : ℤ) (s : Objects) (letters : List Letter) (said : L
   pub after : AfterLetters t stray step
 
 -- and the worker took them from its box
-pub record Deals (eps : ℤ) (room at : ℕ) (s : Objects) (a : Account Letter) (said : List Out) (t : Objects) (b : Account Letter)
-    (step : Step) : Type 0 where
+pub record Deals (eps : ℤ) (x : Box) (old : Taker Objects) (said : List Out) (new : Taker Objects) (step : Step) : Type 0 where
   pub letters : List Letter
-  pub took : Takes room at a letters b
-  pub dealt : DealsWith eps s letters said t step
+  pub took : Takes x.room x.at old.seat letters new.seat
+  pub dealt : DealsWith eps old.shard letters said new.shard step
   pub taken : AfterTakes took.answers step
 
 -- It dealt with letters, and posted what it had to say of them.
@@ -83,7 +81,7 @@ pub record Serves (eps : ℤ) (r : Rooms) (at : ℕ) (old new : Worker Objects) 
   pub said : List Out
   pub took_step : Step
   pub said_step : Step
-  pub deals : Deals eps r.objects at old.shard old.seats.objects said new.shard new.seats.objects took_step
+  pub deals : Deals eps (box r.objects at) (dealer_of old) said (dealer_of new) took_step
   pub posts : Says r old.seats said new.seats said_step
   -- a post that ends the worker comes before what it took later
   pub is : step ≡ first_step said_step took_step

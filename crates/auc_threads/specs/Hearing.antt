@@ -3,8 +3,8 @@ use Rattle.std.specs.Prelude.{◌≡◌, ◌⊎◌, ℕ, ◌<◌, ℤ, ◌<ℤ�
 use Rattle.auc_letters.specs.declared.letter.Letter.{Letter}
 use Rattle.auc_graph.specs.Table.{Table, row_of}
 use Rattle.auc_persons.specs.Persons.{Persons, NeverFall, copy_of}
-use Rattle.auc_book.specs.Seat.{Account}
 use Rattle.auc_threads.specs.Taking.{Takes}
+use Rattle.auc_threads.specs.Worker.{Box, Taker}
 
 -- the letter tells this price of the object
 abbrev pub Tells : ℕ → ℤ → Letter → Type 0
@@ -39,10 +39,10 @@ pub record HearsOf (s : Persons) (letters : List Letter) (t : Persons) (fell : T
   pub falls : fell → Falls (copy_of s) letters
 
 -- and took them from its box
-pub record Hears (room at : ℕ) (s : Persons) (a : Account Letter) (t : Persons) (b : Account Letter) (fell : Type 0) : Type 0 where
+pub record Hears (x : Box) (old new : Taker Persons) (fell : Type 0) : Type 0 where
   pub letters : List Letter
-  pub took : Takes room at a letters b
-  pub hears : HearsOf s letters t fell
+  pub took : Takes x.room x.at old.seat letters new.seat
+  pub hears : HearsOf old.shard letters new.shard fell
 
 -- some person has no arc
 abbrev pub SomebodyStuck : Table → Type 0

@@ -23,7 +23,7 @@ use Rattle.auc_threads.specs.Hearing.{Hears, SomebodyStuck}
 use Rattle.auc_threads.specs.Placed.{Placed}
 use Rattle.auc_threads.specs.Posting.{Ends, why_of}
 use Rattle.auc_threads.specs.Sales.{Sells}
-use Rattle.auc_threads.specs.Worker.{AreNewSeats, AreSeatsOf, Rooms, Setting, Worker, accounts_of, bought_of, buyer_of, new_buyer, new_seller, seller_of, sold_of, with_hub}
+use Rattle.auc_threads.specs.Worker.{AreNewSeats, AreSeatsOf, Rooms, Round, Setting, Worker, accounts_of, bought_of, box, buyer_of, dealer_of, listener_of, new_buyer, new_seller, round, seller_of, sold_of, with_hub}
 
 -- ---- the objects
 
@@ -50,7 +50,7 @@ pub record IsObjectPromise {O P H : Type 0} (g : Setting) (k : ℕ) (p : Sold O 
 -- what it gives back
 pub record IsObjectResult (g : Setting) (r : Rooms) (k : ℕ) (w : Worker Objects) (why : Option Why) : Type 0 where
   pub seats : AreSeatsOf (g.limits.shards + k) w.seats
-  pub sells : Sells g.eps r.objects (new_seller g k).shard (new_account (g.limits.shards + k)) w.shard w.seats.objects
+  pub sells : Sells g.eps r.objects (dealer_of (new_seller g k)) (dealer_of w)
   pub no_guard : (why ≢ Some Why.Stuck) × (why ≢ Some Why.Fell)
   pub no_bids : why ≢ Some Why.Bids
   pub work : IsObjectWork g.eps r (new_seller g k) w why
@@ -67,14 +67,14 @@ pub record IsBuyerStart (g : Setting) (k : ℕ) (lists : List Listed) (w : Worke
   pub kept : (copies : List ℤ) → Kept g.table copies lists
 
 -- What comes of a worker: it bid and heard, by the box of its shard's number, and at its end tells the hub why.
-pub record IsPersonWork (t : Table) (eps : ℤ) (r : Rooms) (old new : Worker Persons) (why : Option Why) : Type 0 where
+pub record IsPersonWork (g : Round) (r : Rooms) (old new : Worker Persons) (why : Option Why) : Type 0 where
   pub step : Step
-  pub buys : Buys t eps r old.shard.shard old new step
+  pub buys : Buys g r old.shard.shard old new step
   pub ended : step ≢ Step.On
   pub ends : Ends r.hub old.seats.hub step new.seats.hub
   pub why_is : why ≡ why_of step
-  pub hears : Hears r.persons old.shard.shard old.shard old.seats.persons new.shard new.seats.persons (why ≡ Some Why.Fell)
-  pub stuck : why ≡ Some Why.Stuck → SomebodyStuck t
+  pub hears : Hears (box r.persons old.shard.shard) (listener_of old) (listener_of new) (why ≡ Some Why.Fell)
+  pub stuck : why ≡ Some Why.Stuck → SomebodyStuck g.table
 
 pub record IsPersonPromise {O P H : Type 0} (g : Setting) (k : ℕ) (p : Bought O P H) : Type 0 where
   pub at_eps : p.eps ≡ g.eps
@@ -83,7 +83,7 @@ pub record IsPersonPromise {O P H : Type 0} (g : Setting) (k : ℕ) (p : Bought 
 
 pub record IsPersonResult (g : Setting) (r : Rooms) (k : ℕ) (w : Worker Persons) (why : Option Why) : Type 0 where
   pub seats : AreSeatsOf k w.seats
-  pub work : IsPersonWork g.table g.eps r (new_buyer g k) w why
+  pub work : IsPersonWork (round g.table g.eps) r (new_buyer g k) w why
 
 -- ---- all of them
 

@@ -12,7 +12,7 @@ use Rattle.auc_phases.specs.declared.limits.Limits.{Limits}
 use Rattle.auc_threads.specs.declared.settling.Trails.{Trails}
 use Rattle.auc_threads.specs.Counting.{Closes, Counts}
 use Rattle.auc_threads.specs.Starts.{IsObjectWork, IsPersonWork}
-use Rattle.auc_threads.specs.Worker.{Accounts, Rooms, Setting, Worker, new_buyer, new_seller, rooms}
+use Rattle.auc_threads.specs.Worker.{Accounts, Rooms, Setting, Worker, new_buyer, new_seller, rooms, round}
 
 -- The lines of the worker's seat at a mail are noted: the trail has just these, and no other call was turned away,
 -- unless the trail is full.
@@ -35,7 +35,7 @@ audited limits = rooms limits.audit limits.audit limits.audit
 -- no more than the limit.
 pub record IsBuyer (g : Setting) (trails : Trails) (bids k : ℕ) (why : Option Why) : Type 0 where
   pub left : Worker Persons
-  pub work : IsPersonWork g.table g.eps (audited g.limits) (new_buyer g k) left why
+  pub work : IsPersonWork (round g.table g.eps) (audited g.limits) (new_buyer g k) left why
   pub noted : AreNoted g.limits.audit k trails left.seats
   pub counted : length left.seats.objects.lines ≡ bids
   pub few : length left.seats.objects.lines ≤ g.limits.bids

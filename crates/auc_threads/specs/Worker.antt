@@ -28,6 +28,14 @@ setting t limits eps prices = record { table = t; limits = limits; eps = eps; pr
 abbrev pub setting_of : Task → Setting
 setting_of task = setting task.rows.now task.limits.now task.eps task.prices.now
 
+-- the rows and eps by which persons bid
+pub record Round : Type 0 where
+  pub table : Table
+  pub eps : ℤ
+
+abbrev pub round : Table → ℤ → Round
+round t eps = record { table = t; eps = eps }
+
 -- ---- seats
 
 -- what a worker's seats at the three mails tell
@@ -63,7 +71,23 @@ pub record Rooms : Type 0 where
 abbrev pub rooms : ℕ → ℕ → ℕ → Rooms
 rooms objects persons hub = record { objects = objects; persons = persons; hub = hub }
 
+-- a box of a mail whose trails have room for so many lines
+pub record Box : Type 0 where
+  pub room : ℕ
+  pub at : ℕ
+
+abbrev pub box : ℕ → ℕ → Box
+box room at = record { room = room; at = at }
+
 -- ---- workers
+
+-- a shard of this kind, with its worker's seat at the mail that it takes from
+pub record Taker (S : Type 0) : Type 0 where
+  pub shard : S
+  pub seat : Account Letter
+
+abbrev pub taker : {S : Type 0} → S → Account Letter → Taker S
+taker s a = record { shard = s; seat = a }
 
 -- a shard of this kind, with its worker's seats
 pub record Worker (S : Type 0) : Type 0 where
@@ -75,6 +99,13 @@ buyer_of x = record { shard = x.buyer.shard; seats = accounts_of x.seats }
 
 abbrev pub bought_of : {O P H : Type 0} → PersonWork O P H → Worker Persons
 bought_of x = record { shard = x.shard; seats = accounts_of x.seats }
+
+-- with the seat that it hears by, and the one that it takes bids by
+abbrev pub listener_of : Worker Persons → Taker Persons
+listener_of w = taker w.shard w.seats.persons
+
+abbrev pub dealer_of : Worker Objects → Taker Objects
+dealer_of w = taker w.shard w.seats.objects
 
 abbrev pub seller_of : {O P H : Type 0} → ObjectWorker O P H → Worker Objects
 seller_of x = record { shard = x.shard; seats = accounts_of x.seats }

@@ -6,8 +6,9 @@ ghost use Rattle.auc_persons.specs.Candidates.{Kept};
 ghost use Rattle.auc_persons.specs.Persons.{NextBid};
 ghost use Rattle.auc_phases.specs.Shards.{IsPersonShard};
 ghost use Rattle.auc_threads.specs.Taking.{GoesWithin};
-ghost use Rattle.auc_threads.specs.Buying.{Asks};
+ghost use Rattle.auc_threads.specs.Buying.{Asks, asker};
 ghost use Rattle.auc_threads.specs.Hearing.{SomebodyStuck};
+ghost use Rattle.auc_threads.specs.Worker.{round};
 
 use crate::calls::{BATCH, Step};
 use crate::task::Task;
@@ -51,7 +52,8 @@ pub(crate) fn ask_all(
     ensures is { IsPersonShard task.now.rows.now task.now.limits.now.shards number buyer.new.shard }
     ensures kept { Kept task.now.rows.now buyer.new.shard.copies buyer.new.lists }
     ensures copies { buyer.new.shard.copies ≡ buyer.old.shard.copies }
-    ensures asks { Asks task.now.rows.now task.now.eps buyer.old.shard bids.old.items buyer.new.shard bids.new.items result }
+    ensures asks { Asks (round task.now.rows.now task.now.eps) (asker buyer.old.shard bids.old.items)
+        (asker buyer.new.shard bids.new.items) result }
     ensures stuck { result ≡ Step.Stop Why.Stuck → SomebodyStuck task.now.rows.now }
     ensures why { result ≢ Step.Stop Why.Fell }
     ensures reach { All (GoesWithin task.now.limits.now.shards) bids.new.items }

@@ -9,6 +9,7 @@ ghost use Rattle.auc_letters.specs.declared.out.Out.{Out as AnOut};
 ghost use Rattle.auc_mail.specs.declared.call.Taken.{Taken as ATaken};
 ghost use Rattle.auc_threads.specs.Taking.{AfterTake, letter_of};
 ghost use Rattle.auc_threads.specs.Dealing.{Deals, DealsWith, prices_told};
+ghost use Rattle.auc_threads.specs.Worker.{box, dealer_of, seller_of, taker};
 ghost use Rattle.auc_threads.specs.declared.calls.Step.{Step as AStep};
 
 use crate::calls::{BATCH, Step, hold_for};
@@ -133,7 +134,7 @@ fn deal_each<N: MailBrand>(
     requires shards { shard.old.person_shards ≡ task.now.limits.now.shards }
     requires known { number < N.boxes }
     requires none { said.old.items ≡ [] }
-    ensures { Deals task.now.eps N.room number shard.old seat.old said.new.items shard.new seat.new result }
+    ensures { Deals task.now.eps (box N.room number) (taker shard.old seat.old) said.new.items (taker shard.new seat.new) result }
 {
     for _ in 0..BATCH {
         if said.remaining_capacity() < MOST_SAID {
@@ -163,8 +164,8 @@ pub(crate) fn deal_next<O: MailBrand, P: MailBrand, H: MailBrand, R: Wait, G: Ga
     requires shards { worker.old.shard.person_shards ≡ run.now.task.limits.now.shards }
     requires known { number < run.now.task.limits.now.shards }
     requires none { said.old.items ≡ [] }
-    ensures deals { Deals run.now.task.eps O.room number worker.old.shard worker.old.seats.objects said.new.items worker.new.shard
-        worker.new.seats.objects result }
+    ensures deals { Deals run.now.task.eps (box O.room number) (dealer_of (seller_of worker.old)) said.new.items
+        (dealer_of (seller_of worker.new)) result }
     ensures persons { worker.new.seats.persons ≡ worker.old.seats.persons }
     ensures hub { worker.new.seats.hub ≡ worker.old.seats.hub }
 {

@@ -7,6 +7,7 @@ ghost use Rattle.auc_phases.specs.Shards.{IsPersonShard};
 ghost use Rattle.auc_threads.specs.Taking.{AfterTake, letter_of};
 ghost use Rattle.auc_threads.specs.Buying.{Listens, ListensTo};
 ghost use Rattle.auc_threads.specs.Hearing.{Hears, HearsOf};
+ghost use Rattle.auc_threads.specs.Worker.{box, round, taker};
 
 use crate::calls::{Step, hold, hold_for};
 use crate::gate::Gate;
@@ -23,7 +24,7 @@ fn hear_letter(task: &Task, number: u32, shard: &mut PersonShard, letter: Letter
     requires { IsPersonShard task.now.rows.now task.now.limits.now.shards number shard.old }
     ensures is { IsPersonShard task.now.rows.now task.now.limits.now.shards number shard.new }
     ensures hears { HearsOf shard.old (letter ∷ []) shard.new (result ≡ Step.Stop Why.Fell) }
-    ensures listens { ListensTo task.now.rows.now task.now.eps shard.old (letter ∷ []) shard.new result }
+    ensures listens { ListensTo (round task.now.rows.now task.now.eps) shard.old (letter ∷ []) shard.new result }
     ensures goes { (result ≢ Step.Over) × (result ≢ Step.Stop Why.Trail) }
     ensures why { result ≢ Step.Stop Why.Stuck }
 {
@@ -46,7 +47,7 @@ fn hear(
     requires some { taken ≢ Ok ATaken.Empty }
     ensures is { IsPersonShard task.now.rows.now task.now.limits.now.shards number shard.new }
     ensures hears { HearsOf shard.old (letter_of taken) shard.new (result ≡ Step.Stop Why.Fell) }
-    ensures listens { ListensTo task.now.rows.now task.now.eps shard.old (letter_of taken) shard.new result }
+    ensures listens { ListensTo (round task.now.rows.now task.now.eps) shard.old (letter_of taken) shard.new result }
     ensures after { AfterTake taken result }
     ensures why { result ≢ Step.Stop Why.Stuck }
 {
@@ -68,8 +69,9 @@ fn hear_each<N: MailBrand>(
     requires shard { IsPersonShard task.now.rows.now task.now.limits.now.shards number shard.old }
     requires known { number < N.boxes }
     ensures is { IsPersonShard task.now.rows.now task.now.limits.now.shards number shard.new }
-    ensures hears { Hears N.room number shard.old seat.old shard.new seat.new (result ≡ Step.Stop Why.Fell) }
-    ensures listens { Listens task.now.rows.now task.now.eps N.room number shard.old seat.old shard.new seat.new result }
+    ensures hears { Hears (box N.room number) (taker shard.old seat.old) (taker shard.new seat.new) (result ≡ Step.Stop Why.Fell) }
+    ensures listens { Listens (round task.now.rows.now task.now.eps) (box N.room number) (taker shard.old seat.old)
+        (taker shard.new seat.new) result }
     ensures why { result ≢ Step.Stop Why.Stuck }
 {
     for _ in 0..2 * task.rows.persons() {
@@ -98,8 +100,9 @@ pub(crate) fn hear_next<O: MailBrand, P: MailBrand, H: MailBrand, R: Wait, G: Ga
     requires shard { IsPersonShard run.now.task.rows.now run.now.task.limits.now.shards number shard.old }
     requires known { number < run.now.task.limits.now.shards }
     ensures is { IsPersonShard run.now.task.rows.now run.now.task.limits.now.shards number shard.new }
-    ensures hears { Hears P.room number shard.old seat.old shard.new seat.new (result ≡ Step.Stop Why.Fell) }
-    ensures listens { Listens run.now.task.rows.now run.now.task.eps P.room number shard.old seat.old shard.new seat.new result }
+    ensures hears { Hears (box P.room number) (taker shard.old seat.old) (taker shard.new seat.new) (result ≡ Step.Stop Why.Fell) }
+    ensures listens { Listens (round run.now.task.rows.now run.now.task.eps) (box P.room number) (taker shard.old seat.old)
+        (taker shard.new seat.new) result }
     ensures why { result ≢ Step.Stop Why.Stuck }
 {
     let mail = &run.mails.persons;

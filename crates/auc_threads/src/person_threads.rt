@@ -5,7 +5,7 @@ ghost use Rattle.auc_persons.specs.Candidates.{Kept};
 ghost use Rattle.auc_phases.specs.Shards.{IsPersonShard};
 ghost use Rattle.auc_threads.specs.Placed.{Placed};
 ghost use Rattle.auc_threads.specs.Starts.{AreBuyers, HaveBought, IsPersonPromise};
-ghost use Rattle.auc_threads.specs.Worker.{rooms, setting_of};
+ghost use Rattle.auc_threads.specs.Worker.{rooms, round, setting_of};
 
 use crate::gate::Gate;
 use crate::person_worker::{PersonWork, PersonWorker, buy};
@@ -29,7 +29,7 @@ impl<O: MailBrand, P: MailBrand, H: MailBrand> Promise<PersonWork<O, P, H>> for 
     ghost use Rattle.auc_threads.specs.Starts.{IsPersonWork};
     ghost use Rattle.auc_threads.specs.Worker.{bought_of, buyer_of, rooms};
 
-    ghost kept_by = { λ p r. IsPersonWork p.rows.value p.eps (rooms O.room P.room H.room) (buyer_of p.start.value) (bought_of r) r.why };
+    ghost kept_by = { λ p r. IsPersonWork (round p.rows.value p.eps) (rooms O.room P.room H.room) (buyer_of p.start.value) (bought_of r) r.why };
 }
 
 /// Starts a thread for each shard of the persons. False where one couldn't be started; then no more are.

@@ -7,7 +7,7 @@ ghost use Rattle.auc_phases.specs.Shards.{IsPersonShard};
 ghost use Rattle.auc_threads.specs.Buying.{Buys};
 ghost use Rattle.auc_threads.specs.Hearing.{Hears, SomebodyStuck};
 ghost use Rattle.auc_threads.specs.Starts.{IsPersonWork};
-ghost use Rattle.auc_threads.specs.Worker.{bought_of, buyer_of, rooms};
+ghost use Rattle.auc_threads.specs.Worker.{bought_of, box, buyer_of, listener_of, rooms, round};
 
 use crate::bidding::{Buyer, ask_all};
 use crate::calls::{BATCH, Step, send};
@@ -52,10 +52,10 @@ fn serve<O: MailBrand, P: MailBrand, H: MailBrand, R: Wait, G: Gate>(
     requires known { number < run.now.task.limits.now.shards }
     ensures is { IsPersonShard run.now.task.rows.now run.now.task.limits.now.shards number worker.new.buyer.shard }
     ensures kept { Kept run.now.task.rows.now worker.new.buyer.shard.copies worker.new.buyer.lists }
-    ensures hears { Hears P.room number worker.old.buyer.shard worker.old.seats.persons worker.new.buyer.shard worker.new.seats.persons
+    ensures hears { Hears (box P.room number) (listener_of (buyer_of worker.old)) (listener_of (buyer_of worker.new))
         (result ≡ Step.Stop Why.Fell) }
-    ensures buys { Buys run.now.task.rows.now run.now.task.eps (rooms O.room P.room H.room) number (buyer_of worker.old)
-        (buyer_of worker.new) result }
+    ensures buys { Buys (round run.now.task.rows.now run.now.task.eps) (rooms O.room P.room H.room) number
+        (buyer_of worker.old) (buyer_of worker.new) result }
     ensures hub { worker.new.seats.hub ≡ worker.old.seats.hub }
     ensures stuck { result ≡ Step.Stop Why.Stuck → SomebodyStuck run.now.task.rows.now }
 {
@@ -85,8 +85,8 @@ pub(crate) fn buy<O: MailBrand, P: MailBrand, H: MailBrand, R: Wait, G: Gate>(
     requires shard { IsPersonShard run.now.task.rows.now run.now.task.limits.now.shards number worker.buyer.shard }
     requires kept { Kept run.now.task.rows.now worker.buyer.shard.copies worker.buyer.lists }
     requires known { number < run.now.task.limits.now.shards }
-    ensures { IsPersonWork run.now.task.rows.now run.now.task.eps (rooms O.room P.room H.room) (buyer_of worker) (bought_of result)
-        result.why }
+    ensures { IsPersonWork (round run.now.task.rows.now run.now.task.eps) (rooms O.room P.room H.room) (buyer_of worker)
+        (bought_of result) result.why }
 {
     let mut worker = worker;
     let mut bids = ArrayVec::new();

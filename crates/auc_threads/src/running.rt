@@ -41,6 +41,13 @@ pub(crate) struct Works<O: MailBrand, P: MailBrand, H: MailBrand> {
     pub(crate) hub: HubWork<O, P, H>,
 }
 
+/// The threads that were started.
+#[derive(Drop)]
+struct Handles<O: MailBrand, P: MailBrand, H: MailBrand> {
+    persons: Vec<PromisedHandle<PersonWork<O, P, H>, Bought<O, P, H>>>,
+    objects: Vec<PromisedHandle<ObjectWork<O, P, H>, Sold<O, P, H>>>,
+}
+
 /// The workers of the persons, by their seats, each with what its bids are found by, made anew. In a phase no copy of a
 /// price falls, so what is put into them stays right.
 fn person_starts<O: MailBrand, P: MailBrand, H: MailBrand>(
@@ -157,29 +164,28 @@ fn start_all<
     run: &'e PhaseRun<'e, O, P, H>,
     persons: Vec<PersonWorker<O, P, H>>,
     objects: Vec<ObjectWorker<O, P, H>>,
-    person_handles: &mut Vec<PromisedHandle<PersonWork<O, P, H>, Bought<O, P, H>>>,
-    object_handles: &mut Vec<PromisedHandle<ObjectWork<O, P, H>, Sold<O, P, H>>>,
+    handles: &mut Handles<O, P, H>,
 ) -> bool
     requires persons { AreBuyers (setting_of run.now.task) persons.items }
     requires persons_many { vec_len persons ≡ run.now.task.limits.now.shards }
-    requires persons_none { person_handles.old.items ≡ [] }
-    requires persons_room { vec_len persons ≤ vec_capacity person_handles.old }
+    requires persons_none { handles.old.persons.items ≡ [] }
+    requires persons_room { vec_len persons ≤ vec_capacity handles.old.persons }
     requires objects { AreSellers (setting_of run.now.task) objects.items }
     requires objects_many { vec_len objects ≡ run.now.task.limits.now.shards }
-    requires objects_none { object_handles.old.items ≡ [] }
-    requires objects_room { vec_len objects ≤ vec_capacity object_handles.old }
-    ensures persons { Placed (λ k h. IsPersonPromise (setting_of run.now.task) k h.promise) 0 person_handles.new.items }
-    ensures persons_few { vec_len person_handles.new ≤ run.now.task.limits.now.shards }
-    ensures objects { Placed (λ k h. IsObjectPromise (setting_of run.now.task) k h.promise) 0 object_handles.new.items }
-    ensures objects_few { vec_len object_handles.new ≤ run.now.task.limits.now.shards }
-    ensures persons_all { IsTrue result → vec_len person_handles.new ≡ run.now.task.limits.now.shards }
-    ensures objects_all { IsTrue result → vec_len object_handles.new ≡ run.now.task.limits.now.shards }
-    ensures refused { vec_len person_handles.new < run.now.task.limits.now.shards → object_handles.new.items ≡ [] }
+    requires objects_none { handles.old.objects.items ≡ [] }
+    requires objects_room { vec_len objects ≤ vec_capacity handles.old.objects }
+    ensures persons { Placed (λ k h. IsPersonPromise (setting_of run.now.task) k h.promise) 0 handles.new.persons.items }
+    ensures persons_few { vec_len handles.new.persons ≤ run.now.task.limits.now.shards }
+    ensures objects { Placed (λ k h. IsObjectPromise (setting_of run.now.task) k h.promise) 0 handles.new.objects.items }
+    ensures objects_few { vec_len handles.new.objects ≤ run.now.task.limits.now.shards }
+    ensures persons_all { IsTrue result → vec_len handles.new.persons ≡ run.now.task.limits.now.shards }
+    ensures objects_all { IsTrue result → vec_len handles.new.objects ≡ run.now.task.limits.now.shards }
+    ensures refused { vec_len handles.new.persons < run.now.task.limits.now.shards → handles.new.objects.items ≡ [] }
 {
-    if !start_persons(scope, rt, gate, run, persons, person_handles) {
+    if !start_persons(scope, rt, gate, run, persons, &mut handles.persons) {
         return false;
     }
-    start_objects(scope, rt, gate, run, objects, object_handles)
+    start_objects(scope, rt, gate, run, objects, &mut handles.objects)
 }
 
 /// Starts all threads, counts, and waits for them.
@@ -209,8 +215,10 @@ fn run_all<
         objects: object_starts,
         hub: seats,
     } = starts;
-    let mut person_handles = Vec::with_capacity(alloc, shards)?;
-    let mut object_handles = Vec::with_capacity(alloc, shards)?;
+    let mut handles = Handles {
+        persons: Vec::with_capacity(alloc, shards)?,
+        objects: Vec::with_capacity(alloc, shards)?,
+    };
     let mut persons = Vec::with_capacity(alloc, shards)?;
     let mut objects = Vec::with_capacity(alloc, shards)?;
     let is_whole = start_all(
@@ -220,9 +228,12 @@ fn run_all<
         run,
         person_starts,
         object_starts,
-        &mut person_handles,
-        &mut object_handles,
+        &mut handles,
     );
+    let Handles {
+        persons: person_handles,
+        objects: object_handles,
+    } = handles;
     let hub = hub_work(rt, run.mails, persons_count, seats, is_whole);
     join_persons(rt, &run.task, person_handles, &mut persons);
     join_objects(rt, &run.task, object_handles, &mut objects);

@@ -11,8 +11,6 @@
 #[cfg(test)]
 mod certificates;
 #[cfg(test)]
-mod jobs;
-#[cfg(test)]
 mod locked;
 #[cfg(test)]
 mod mails;

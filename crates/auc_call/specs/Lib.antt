@@ -15,4 +15,5 @@ pub mod Entries
 pub mod TableSolving
 pub mod Tried
 pub mod Quick
+pub mod Given
 pub mod Told

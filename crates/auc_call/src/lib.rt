@@ -11,6 +11,7 @@ mod checking;
 mod codes;
 mod driver;
 mod found;
+mod given;
 mod handing;
 mod naming;
 mod picking;
@@ -28,6 +29,7 @@ mod trying;
 
 pub use calls::{check_call, check_hall_call, solve_by_messages_call, solve_call};
 pub use found::Found;
+pub use given::{GivenArcs, GivenTable, Run};
 pub use status::{BRACKET, INFEASIBLE, INVALID, MEMORY, OPTIMAL, REFUSED, SIZES, START};
 pub use table::arcs_are_entries;
 pub use table_call::solve_table_call;

@@ -8,6 +8,7 @@ ghost use Rattle.auc_call.specs.Quick.{IsQuick};
 ghost use Rattle.auc_call.specs.Table.{IsTable, table_arcs};
 ghost use Rattle.auc_call.specs.Tried.{IsPlainPrice, scaled};
 
+use crate::given::Run;
 use crate::trying::try_out;
 use auc_claim::{Pick, cost_of};
 use auc_table::{Table, propose};
@@ -68,37 +69,36 @@ fn put_prices(scale: i64, plain: &[i64], prices: &mut [i64])
 /// cost. Else nothing is written.
 pub(crate) fn solve_quickly(
     alloc: Global,
-    persons: u32,
-    objects: u32,
-    costs: &[i64],
-    stride: usize,
+    table: &Table,
     gap: i64,
     count: usize,
-    start: &[i64],
-    bids: u64,
+    run: &Run,
     choice: &mut [u32],
     prices: &mut [i64],
 ) -> Result<Option<i64>, AllocError>
-    requires problem { IsProblem (problem persons objects (table_arcs objects costs.now stride gap persons)) }
-    requires table { IsTable persons objects stride (length costs.now) }
-    requires choice { length choice.old ≡ persons }
-    requires prices { length prices.old ≡ objects }
-    ensures unstarted { IfOk result (λ o. IfSome o (λ cost. start.now ≡ [])) }
-    ensures quick { IsQuick (problem persons objects (table_arcs objects costs.now stride gap persons)) choice.old
-        choice.new prices.old prices.new result }
+    requires problem { IsProblem (problem table.now.persons table.now.objects
+        (table_arcs table.now.objects table.now.costs.now table.now.stride gap table.now.persons)) }
+    requires table { IsTable table.now.persons table.now.objects table.now.stride (length table.now.costs.now) }
+    requires choice { length choice.old ≡ table.now.persons }
+    requires prices { length prices.old ≡ table.now.objects }
+    ensures unstarted { IfOk result (λ o. IfSome o (λ cost. run.now.start.now ≡ [])) }
+    ensures quick { IsQuick (problem table.now.persons table.now.objects
+        (table_arcs table.now.objects table.now.costs.now table.now.stride gap table.now.persons))
+        choice.old choice.new prices.old prices.new result }
 {
-    if !start.is_empty() {
+    if !run.start.is_empty() {
         return Ok(None);
     }
-    let has_gaps = count < (persons as usize).saturating_mul(objects as usize);
-    let gaps = if has_gaps { Some(gap) } else { None };
-    let table = Table {
+    let Table {
         persons,
         objects,
         stride,
         costs,
-    };
-    let Some(found) = propose(alloc, &table, gaps, looks_of(persons, objects, bids))? else {
+    } = *table;
+    let has_gaps = count < (persons as usize).saturating_mul(objects as usize);
+    let gaps = if has_gaps { Some(gap) } else { None };
+    let looks = looks_of(persons, objects, run.bids);
+    let Some(found) = propose(alloc, table, gaps, looks)? else {
         return Ok(None);
     };
     let Some(picks) = try_out(alloc, persons, objects, costs, stride, gap, &found)? else {

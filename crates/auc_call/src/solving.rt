@@ -1,18 +1,19 @@
 //! A solve over the caller's memory.
 
 ghost use Rattle.std.specs.Prelude.{◌≡◌, IfOk};
-ghost use Rattle.auc_graph.specs.InMemory.{problem_from};
 ghost use Rattle.auc_answers.specs.Answers.{IsAnswer};
 ghost use Rattle.auc_call.specs.Memory.{AreSizes, memory};
 ghost use Rattle.auc_call.specs.Drivers.{IsSolvedBy};
+ghost use Rattle.auc_call.specs.Given.{listed_problem};
 ghost use Rattle.auc_call.specs.Running.{IsAnswerWritten};
 ghost use Rattle.auc_call.specs.Solving.{IsSolved, Runs, Solves};
 
 use crate::driver::{Driver, answer_of};
+use crate::given::{GivenArcs, Run};
 use crate::handing::{hand_bracket, hand_hall, hand_optimal};
 use crate::solved::{Failed, Solved};
 use crate::start::start_fault_by;
-use auc_graph::{Arc, ArcList, objects_or};
+use auc_graph::{ArcList, objects_or};
 use auc_world::Answer;
 use std::alloc::Global;
 
@@ -42,20 +43,21 @@ pub(crate) fn solve_problem(
     alloc: Global,
     driver: Driver,
     problem: &ArcList,
-    start: &[i64],
-    bids: u64,
+    run: &Run,
     choice: &mut [u32],
     prices: &mut [i64],
     set: &mut [u32],
 ) -> Result<Solved, Failed>
     requires sizes { AreSizes problem.now (memory choice.old prices.old set.old) }
-    ensures runs { Runs driver problem.now start.now (memory choice.old prices.old set.old) (memory choice.new prices.new set.new) result }
-    ensures run { IfOk result (IsSolvedBy driver problem.now start.now bids (memory choice.new prices.new set.new)) }
+    ensures runs { Runs driver problem.now run.now.start.now
+        (memory choice.old prices.old set.old) (memory choice.new prices.new set.new) result }
+    ensures run { IfOk result
+        (IsSolvedBy driver problem.now run.now.start.now run.now.bids (memory choice.new prices.new set.new)) }
 {
-    if let Some(fault) = start_fault_by(driver, problem, start) {
+    if let Some(fault) = start_fault_by(driver, problem, run.start) {
         return Err(Failed::Start(fault));
     }
-    let answer = answer_of(alloc, driver, problem, start, bids)?;
+    let answer = answer_of(alloc, driver, problem, run.start, run.bids)?;
     Ok(hand_out(problem, &answer, choice, prices, set))
 }
 
@@ -63,26 +65,23 @@ pub(crate) fn solve_problem(
 pub(crate) fn solve_into(
     alloc: Global,
     driver: Driver,
-    persons: u32,
-    objects: u32,
-    arcs: &[Arc],
-    start: &[i64],
-    bids: u64,
+    given: &GivenArcs,
+    run: &Run,
     choice: &mut [u32],
     prices: &mut [i64],
     set: &mut [u32],
 ) -> Result<Solved, Failed>
-    ensures solves { Solves driver (problem_from persons objects arcs.now) start.now
+    ensures solves { Solves driver (listed_problem given.now) run.now.start.now
         (memory choice.old prices.old set.old) (memory choice.new prices.new set.new) result }
     ensures run { IfOk result
-        (IsSolvedBy driver (problem_from persons objects arcs.now) start.now bids (memory choice.new prices.new set.new)) }
+        (IsSolvedBy driver (listed_problem given.now) run.now.start.now run.now.bids (memory choice.new prices.new set.new)) }
 {
-    let wanted = objects_or(objects, persons) as usize;
-    let places = persons as usize;
+    let wanted = objects_or(given.objects, given.persons) as usize;
+    let places = given.persons as usize;
     if choice.len() != places || prices.len() != wanted || set.len() != places {
         return Err(Failed::Sizes);
     }
-    let arcs = Vec::from_slice(alloc, arcs)?;
-    let problem = ArcList::from_arcs(persons, objects, arcs)?;
-    solve_problem(alloc, driver, &problem, start, bids, choice, prices, set)
+    let arcs = Vec::from_slice(alloc, given.arcs)?;
+    let problem = ArcList::from_arcs(given.persons, given.objects, arcs)?;
+    solve_problem(alloc, driver, &problem, run, choice, prices, set)
 }

@@ -1,22 +1,21 @@
 //! The call over a table.
 
 ghost use Rattle.std.specs.Prelude.{◌≡◌, length, pos};
+ghost use Rattle.auc_call.specs.Given.{tabled_problem};
 ghost use Rattle.auc_call.specs.Memory.{memory};
 ghost use Rattle.auc_call.specs.Start.{start_fault};
 ghost use Rattle.auc_call.specs.Limited.{IsLimitTold};
 ghost use Rattle.auc_call.specs.Naming.{ByObjects};
-ghost use Rattle.auc_call.specs.Table.{table_problem};
 ghost use Rattle.auc_call.specs.Told.{IsTableTold};
 
 use crate::found::Found;
+use crate::given::{GivenTable, Run};
 use crate::table_solving::solve_table_into;
 use crate::telling::tell_solved;
 use std::alloc::Global;
 
-/// Solves as [`solve_call`](crate::solve_call) does, but the problem of a table, which has a row for each person and in
-/// it an entry for each object: the cost of person `i` and object `j` stands at `costs[i * stride + j]`, and an entry
-/// that equals `none` is a gap, which is no arc. The arcs are those of the other entries, row by row. What stands
-/// between rows and after the last one is not looked at.
+/// Solves as [`solve_call`](crate::solve_call) does, but the problem of a table. The arcs are those of the entries that
+/// are no gap, row by row. What stands between rows and after the last one is not looked at.
 ///
 /// After [`OPTIMAL`](crate::OPTIMAL) and [`BRACKET`](crate::BRACKET) `choice` holds for each person his object in place
 /// of his arc. After [`REFUSED`](crate::REFUSED) a cost's `found.place` is that of the entry in a table whose stride is
@@ -32,39 +31,20 @@ use std::alloc::Global;
 /// entry that is no gap.
 pub fn solve_table_call(
     alloc: Global,
-    persons: u32,
-    objects: u32,
-    costs: &[i64],
-    stride: usize,
-    none: i64,
-    start: &[i64],
-    bids: u64,
+    given: &GivenTable,
+    run: &Run,
     choice: &mut [u32],
     prices: &mut [i64],
     hall_objects: &mut [u32],
     found: &mut Found,
 ) -> i32
-    ensures told { IsTableTold (table_problem persons objects costs.now stride none) stride (length costs.now)
-        (start_fault (table_problem persons objects costs.now stride none) start.now) result
-        (memory choice.old prices.old hall_objects.old) (memory choice.new prices.new hall_objects.new)
-        found.old found.new }
-    ensures limit { result ≡ pos 4
-        → ByObjects (table_problem persons objects costs.now stride none).arcs choice.new
-        (λ places. IsLimitTold (table_problem persons objects costs.now stride none) start.now bids
+    ensures told { IsTableTold (tabled_problem given.now) given.now.stride (length given.now.costs.now)
+        (start_fault (tabled_problem given.now) run.now.start.now) result
+        (memory choice.old prices.old hall_objects.old) (memory choice.new prices.new hall_objects.new) found.old found.new }
+    ensures limit { result ≡ pos 4 → ByObjects (tabled_problem given.now).arcs choice.new
+        (λ places. IsLimitTold (tabled_problem given.now) run.now.start.now run.now.bids
         places prices.new found.new.kind found.new.lower found.new.cost) }
 {
-    let solved = solve_table_into(
-        alloc,
-        persons,
-        objects,
-        costs,
-        stride,
-        none,
-        start,
-        bids,
-        choice,
-        prices,
-        hall_objects,
-    );
+    let solved = solve_table_into(alloc, given, run, choice, prices, hall_objects);
     tell_solved(solved, found)
 }

@@ -1,8 +1,9 @@
 //! Each call once, by its statuses.
 
+use crate::given::given_arcs;
 use crate::same::assert_same;
 use auc_call::{
-    BRACKET, Found, INFEASIBLE, INVALID, OPTIMAL, REFUSED, SIZES, START, check_call,
+    BRACKET, Found, INFEASIBLE, INVALID, OPTIMAL, REFUSED, Run, SIZES, START, check_call,
     check_hall_call, solve_call,
 };
 use auc_graph::{Arc, ArcList, ListFault, list_fault};
@@ -60,11 +61,11 @@ fn optimal(rt: HostRuntime) {
     let (mut choice, mut prices, mut objects, mut found) = ([7; 2], [7; 2], [7; 2], NOTHING);
     let status = solve_call(
         rt.alloc(),
-        2,
-        0,
-        &TWO,
-        &[],
-        1000,
+        &given_arcs(2, 0, &TWO),
+        &Run {
+            start: &[],
+            bids: 1000,
+        },
         &mut choice,
         &mut prices,
         &mut objects,
@@ -72,9 +73,23 @@ fn optimal(rt: HostRuntime) {
     );
     assert_same(&rt, (status, choice, objects), (OPTIMAL, [1, 2], [7, 7]));
     assert_same(&rt, found, Found { cost: 3, ..NOTHING });
-    let status = check_call(rt.alloc(), 2, 0, &TWO, &choice, &prices, 3, &mut found);
+    let status = check_call(
+        rt.alloc(),
+        &given_arcs(2, 0, &TWO),
+        &choice,
+        &prices,
+        3,
+        &mut found,
+    );
     assert_same(&rt, status, OPTIMAL);
-    let status = check_call(rt.alloc(), 2, 0, &TWO, &choice, &prices, 4, &mut found);
+    let status = check_call(
+        rt.alloc(),
+        &given_arcs(2, 0, &TWO),
+        &choice,
+        &prices,
+        4,
+        &mut found,
+    );
     assert_same(&rt, (status, found.kind), (INVALID, 4));
 }
 
@@ -84,11 +99,11 @@ fn bracket_and_start(rt: HostRuntime) {
     let (mut choice, mut prices, mut objects, mut found) = ([7; 2], [7; 2], [7; 2], NOTHING);
     let status = solve_call(
         rt.alloc(),
-        2,
-        0,
-        &TWO[..3],
-        &[],
-        0,
+        &given_arcs(2, 0, &TWO[..3]),
+        &Run {
+            start: &[],
+            bids: 0,
+        },
         &mut choice,
         &mut prices,
         &mut objects,
@@ -98,11 +113,11 @@ fn bracket_and_start(rt: HostRuntime) {
     assert!(rt; found.lower <= 3 && 3 <= found.cost);
     let status = solve_call(
         rt.alloc(),
-        2,
-        0,
-        &TWO,
-        &[0, -1],
-        9,
+        &given_arcs(2, 0, &TWO),
+        &Run {
+            start: &[0, -1],
+            bids: 9,
+        },
         &mut choice,
         &mut prices,
         &mut objects,
@@ -116,11 +131,11 @@ fn infeasible(rt: HostRuntime) {
     let (mut choice, mut prices, mut objects, mut found) = ([7; 2], [7; 2], [7; 2], NOTHING);
     let status = solve_call(
         rt.alloc(),
-        2,
-        0,
-        &BOTH,
-        &[],
-        9,
+        &given_arcs(2, 0, &BOTH),
+        &Run {
+            start: &[],
+            bids: 9,
+        },
         &mut choice,
         &mut prices,
         &mut objects,
@@ -131,7 +146,13 @@ fn infeasible(rt: HostRuntime) {
         (status, choice, prices, objects),
         (INFEASIBLE, [0, 1], [7, 7], [1, 7]),
     );
-    let status = check_hall_call(rt.alloc(), 2, 0, &BOTH, &choice, &objects[..1], &mut found);
+    let status = check_hall_call(
+        rt.alloc(),
+        &given_arcs(2, 0, &BOTH),
+        &choice,
+        &objects[..1],
+        &mut found,
+    );
     assert_same(&rt, status, OPTIMAL);
 }
 
@@ -140,11 +161,11 @@ fn refused(rt: HostRuntime) -> Result<(), Fail> {
     let (mut choice, mut prices, mut objects, mut found) = ([7; 2], [7; 2], [7; 2], NOTHING);
     let status = solve_call(
         rt.alloc(),
-        2,
-        3,
-        &TWO,
-        &[],
-        9,
+        &given_arcs(2, 3, &TWO),
+        &Run {
+            start: &[],
+            bids: 9,
+        },
         &mut choice,
         &mut prices,
         &mut objects,
@@ -153,18 +174,22 @@ fn refused(rt: HostRuntime) -> Result<(), Fail> {
     assert_same(&rt, (status, found), (SIZES, NOTHING));
     let status = solve_call(
         rt.alloc(),
-        2,
-        2,
-        &[
-            TWO[0],
-            Arc {
-                cost: 0,
-                person: 1,
-                object: 2,
-            },
-        ],
-        &[],
-        9,
+        &given_arcs(
+            2,
+            2,
+            &[
+                TWO[0],
+                Arc {
+                    cost: 0,
+                    person: 1,
+                    object: 2,
+                },
+            ],
+        ),
+        &Run {
+            start: &[],
+            bids: 9,
+        },
         &mut choice,
         &mut prices,
         &mut objects,

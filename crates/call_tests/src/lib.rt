@@ -5,6 +5,8 @@
 #[cfg(test)]
 mod calls;
 #[cfg(test)]
+mod given;
+#[cfg(test)]
 mod same;
 #[cfg(test)]
 mod searched;

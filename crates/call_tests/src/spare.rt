@@ -1,7 +1,10 @@
 //! More objects than persons, and which of the solvers takes what.
 
+use crate::given::given_arcs;
 use crate::same::assert_same;
-use auc_call::{BRACKET, Found, OPTIMAL, START, check_call, solve_by_messages_call, solve_call};
+use auc_call::{
+    BRACKET, Found, OPTIMAL, Run, START, check_call, solve_by_messages_call, solve_call,
+};
 use auc_graph::Arc;
 use std::test::*;
 
@@ -63,11 +66,8 @@ fn solved_of(rt: &HostRuntime, arcs: &[Arc], start: &[i64], bids: u64) -> Behind
     let (mut choice, mut prices, mut objects, mut found) = ([7; 3], [7; 4], [7; 3], NOTHING);
     let status = solve_call(
         rt.alloc(),
-        3,
-        4,
-        arcs,
-        start,
-        bids,
+        &given_arcs(3, 4, arcs),
+        &Run { start, bids },
         &mut choice,
         &mut prices,
         &mut objects,
@@ -106,9 +106,7 @@ fn least_from_any_start(rt: HostRuntime) {
         let mut found = NOTHING;
         let status = check_call(
             rt.alloc(),
-            3,
-            4,
-            &outlets(),
+            &given_arcs(3, 4, &outlets()),
             &told.choice,
             &told.prices,
             100_000_000,
@@ -164,11 +162,11 @@ fn no_start_by_messages(rt: HostRuntime) {
     let (mut choice, mut prices, mut objects, mut found) = ([7; 3], [7; 4], [7; 3], NOTHING);
     let status = solve_by_messages_call(
         rt.alloc(),
-        3,
-        4,
-        &outlets(),
-        &[0, 0, 0, 0],
-        1000,
+        &given_arcs(3, 4, &outlets()),
+        &Run {
+            start: &[0, 0, 0, 0],
+            bids: 1000,
+        },
         &mut choice,
         &mut prices,
         &mut objects,
@@ -199,11 +197,8 @@ fn by_messages(rt: HostRuntime) {
         let (mut choice, mut prices, mut objects, mut found) = ([7; 2], [7; 2], [7; 2], NOTHING);
         let status = solve_by_messages_call(
             rt.alloc(),
-            2,
-            0,
-            &arcs,
-            start,
-            1000,
+            &given_arcs(2, 0, &arcs),
+            &Run { start, bids: 1000 },
             &mut choice,
             &mut prices,
             &mut objects,

@@ -1,7 +1,9 @@
 //! The call over a table.
 
 use crate::same::assert_same;
-use auc_call::{BRACKET, Found, INFEASIBLE, OPTIMAL, REFUSED, SIZES, START, solve_table_call};
+use auc_call::{
+    BRACKET, Found, GivenTable, INFEASIBLE, OPTIMAL, REFUSED, Run, SIZES, START, solve_table_call,
+};
 use std::test::*;
 
 /// No arc stands where this number does.
@@ -37,20 +39,22 @@ fn solved(
     rt: &HostRuntime,
     costs: &[i64],
     stride: usize,
-    none: i64,
+    gap: i64,
     start: &[i64],
     bids: u64,
 ) -> Behind {
     let (mut choice, mut prices, mut objects, mut found) = ([7; 2], [7; 3], [7; 2], NOTHING);
-    let status = solve_table_call(
-        rt.alloc(),
-        2,
-        3,
+    let given = GivenTable {
+        persons: 2,
+        objects: 3,
         costs,
         stride,
-        none,
-        start,
-        bids,
+        gap,
+    };
+    let status = solve_table_call(
+        rt.alloc(),
+        &given,
+        &Run { start, bids },
         &mut choice,
         &mut prices,
         &mut objects,

@@ -16,7 +16,8 @@ ghost use Rattle.auc_call.specs.Table.{table_problem};
 ghost use Rattle.auc_call.specs.Told.{IsClaimChecked, IsHallChecked, IsListTold, IsTableTold};
 
 use auc_call::{
-    Found, check_call, check_hall_call, solve_by_messages_call, solve_call, solve_table_call,
+    Found, GivenArcs, GivenTable, Run, check_call, check_hall_call, solve_by_messages_call,
+    solve_call, solve_table_call,
 };
 use auc_graph::Arc;
 use std::alloc::Global;
@@ -44,13 +45,15 @@ pub extern "C" fn sigdorf_solve(
         → IsLimitTold (problem_from persons objects arcs.now) start.now bids
         choice.new prices.new found.new.kind found.new.lower found.new.cost }
 {
-    solve_call(
-        alloc,
+    let given = GivenArcs {
         persons,
         objects,
         arcs,
-        start,
-        bids,
+    };
+    solve_call(
+        alloc,
+        &given,
+        &Run { start, bids },
         choice,
         prices,
         hall_objects,
@@ -84,15 +87,17 @@ pub extern "C" fn sigdorf_solve_dense(
         (λ places. IsLimitTold (table_problem persons objects costs.now stride none) start.now bids
         places prices.new found.new.kind found.new.lower found.new.cost) }
 {
-    solve_table_call(
-        alloc,
+    let given = GivenTable {
         persons,
         objects,
         costs,
         stride,
-        none,
-        start,
-        bids,
+        gap: none,
+    };
+    solve_table_call(
+        alloc,
+        &given,
+        &Run { start, bids },
         choice,
         prices,
         hall_objects,
@@ -122,13 +127,15 @@ pub extern "C" fn sigdorf_solve_by_messages(
         → IsRunTold (problem_from persons objects arcs.now) start.now bids
         (memory choice.new prices.new hall_objects.new) result found.old found.new }
 {
-    solve_by_messages_call(
-        alloc,
+    let given = GivenArcs {
         persons,
         objects,
         arcs,
-        start,
-        bids,
+    };
+    solve_by_messages_call(
+        alloc,
+        &given,
+        &Run { start, bids },
         choice,
         prices,
         hall_objects,
@@ -152,7 +159,12 @@ pub extern "C" fn sigdorf_check(
     ensures told { IsClaimChecked (problem_from persons objects arcs.now) choice.now prices.now cost
         result found.old found.new }
 {
-    check_call(alloc, persons, objects, arcs, choice, prices, cost, found)
+    let given = GivenArcs {
+        persons,
+        objects,
+        arcs,
+    };
+    check_call(alloc, &given, choice, prices, cost, found)
 }
 
 /// Checks that these persons together know none but these objects, which are fewer: see [`auc_call::check_hall_call`].
@@ -169,13 +181,10 @@ pub extern "C" fn sigdorf_check_hall(
     ensures told { IsHallChecked (problem_from persons objects arcs.now) hall_persons.now hall_objects.now
         result found.old found.new }
 {
-    check_hall_call(
-        alloc,
+    let given = GivenArcs {
         persons,
         objects,
         arcs,
-        hall_persons,
-        hall_objects,
-        found,
-    )
+    };
+    check_hall_call(alloc, &given, hall_persons, hall_objects, found)
 }

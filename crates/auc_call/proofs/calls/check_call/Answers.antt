@@ -13,7 +13,7 @@ returns c =
     let fits : FitsSigned w32 c.tell_checked.result = search rules in
     let cost : FitsSigned w64 c.args.cost = c.ranges.cost in
     let right = simp to_z-of_z at c.check_at-checked.ensures in
-    let p = problem_from c.args.persons c.args.objects c.args.arcs.now in
+    let p = problem_from c.args.given.now.persons c.args.given.now.objects c.args.given.now.arcs.now in
     let all = claim_told p c.args.choice.now c.args.prices.now c.args.cost c.check_at-checked.result c.args.found.now right in
     record {
       told = simp to_z-of_z (subst (λ (z : ℤ). IsClaimChecked p c.args.choice.now c.args.prices.now c.args.cost z c.args.found.now c.tell_checked.new.found) (sym c.tell_checked.ensures.status)

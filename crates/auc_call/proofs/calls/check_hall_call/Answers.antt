@@ -11,7 +11,7 @@ use Rattle.auc_call.proofs.calls.check_hall_call.Goals as goal
 pub returns : goal.returns
 returns c =
     let fits : FitsSigned w32 c.tell_checked.result = search rules in
-    let p = problem_from c.args.persons c.args.objects c.args.arcs.now in
+    let p = problem_from c.args.given.now.persons c.args.given.now.objects c.args.given.now.arcs.now in
     let all = hall_told p c.args.hall_persons.now c.args.hall_objects.now c.check_hall_at-checked.result c.args.found.now c.check_hall_at-checked.ensures in
     record {
       told = simp to_z-of_z (subst (λ (z : ℤ). IsHallChecked p c.args.hall_persons.now c.args.hall_objects.now z c.args.found.now c.tell_checked.new.found) (sym c.tell_checked.ensures.status)

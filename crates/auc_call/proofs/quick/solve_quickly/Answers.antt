@@ -22,12 +22,12 @@ returns-clause-quick c =
     let show = simp to_z-of_z at told in
     let choice : c.put_objects.new.choice ≡ map (λ (pick : Pick). pick.object) c.in-Some-2.picks.items = c.put_objects.ensures ∙ ap (map (λ (pick : Pick). pick.object)) c.as_slice-2.ensures.value in
     let put = simp to_z-of_z at c.put_prices.ensures in
-    let prices : c.put_prices.new.prices ≡ map (scaled (pos (c.args.persons + 1))) c.in-Some.found.prices.items =
-    put ∙ ap (λ (z : ℤ). map (scaled z) c.as_slice-3.result.now) c.scale_of.ensures ∙ ap (map (scaled (pos (c.args.persons + 1)))) c.as_slice-3.ensures.value in
+    let prices : c.put_prices.new.prices ≡ map (scaled (pos (c.args.table.now.persons + 1))) c.in-Some.found.prices.items =
+    put ∙ ap (λ (z : ℤ). map (scaled z) c.as_slice-3.result.now) c.scale_of.ensures ∙ ap (map (scaled (pos (c.args.table.now.persons + 1)))) c.as_slice-3.ensures.value in
     let sum = c.cost_of.ensures ∙ ap (λ (picks : List Pick). total_cost (chosen 0 picks)) c.as_slice.ensures.value in
     let wide : FitsSigned w128 c.cost_of.result = search rules in
     let same = simp to_z-of_z at c.in-Ok.ensures.1 in
     let cost : c.in-Ok.cost ≡ total_cost (chosen 0 c.in-Some-2.picks.items) = same ∙ sum in
-    simp to_z-of_z (subst (λ (js : List ℕ). ByObjects (table_arcs c.args.objects c.args.costs.now c.args.stride c.args.gap c.args.persons) js (λ places. IsLeastAt (problem c.args.persons c.args.objects (table_arcs c.args.objects c.args.costs.now c.args.stride c.args.gap c.args.persons)) places c.put_prices.new.prices c.in-Ok.cost)) (sym choice)
-    (subst (λ (zs : List ℤ). ByObjects (table_arcs c.args.objects c.args.costs.now c.args.stride c.args.gap c.args.persons) (map (λ (pick : Pick). pick.object) c.in-Some-2.picks.items) (λ places. IsLeastAt (problem c.args.persons c.args.objects (table_arcs c.args.objects c.args.costs.now c.args.stride c.args.gap c.args.persons)) places zs c.in-Ok.cost)) (sym prices)
-    (shown_least c.args.persons c.args.objects c.args.costs.now c.args.stride c.args.gap c.in-Some-2.picks.items c.in-Some.found.prices.items c.requires.problem c.requires.table show c.in-Ok.cost cost)))
+    simp to_z-of_z (subst (λ (js : List ℕ). ByObjects (table_arcs c.args.table.now.objects c.args.table.now.costs.now c.args.table.now.stride c.args.gap c.args.table.now.persons) js (λ places. IsLeastAt (problem c.args.table.now.persons c.args.table.now.objects (table_arcs c.args.table.now.objects c.args.table.now.costs.now c.args.table.now.stride c.args.gap c.args.table.now.persons)) places c.put_prices.new.prices c.in-Ok.cost)) (sym choice)
+    (subst (λ (zs : List ℤ). ByObjects (table_arcs c.args.table.now.objects c.args.table.now.costs.now c.args.table.now.stride c.args.gap c.args.table.now.persons) (map (λ (pick : Pick). pick.object) c.in-Some-2.picks.items) (λ places. IsLeastAt (problem c.args.table.now.persons c.args.table.now.objects (table_arcs c.args.table.now.objects c.args.table.now.costs.now c.args.table.now.stride c.args.gap c.args.table.now.persons)) places zs c.in-Ok.cost)) (sym prices)
+    (shown_least c.args.table.now.persons c.args.table.now.objects c.args.table.now.costs.now c.args.table.now.stride c.args.gap c.in-Some-2.picks.items c.in-Some.found.prices.items c.requires.problem c.requires.table show c.in-Ok.cost cost)))

@@ -15,6 +15,6 @@ returns c =
     let limited = c.in_ok-solved.ensures.run in
     let objects_are = c.name_objects.ensures ∙ ap (λ (xs : List Arc). named xs c.in_ok-solved.solved c.solve_problem.new.choice) c.arcs.ensures.arcs in (
       runs.0,
-      subst (λ (xs : List ℕ). IsTableSolved c.args.problem.now c.args.start.now c.args.bids (memory c.args.choice.now c.args.prices.now c.args.set.now) (memory xs c.solve_problem.new.prices c.solve_problem.new.set) c.in_ok-solved.solved) (sym objects_are)
-          (table_solved c.args.problem.now c.args.start.now c.args.bids (memory c.args.choice.now c.args.prices.now c.args.set.now) (memory c.solve_problem.new.choice c.solve_problem.new.prices c.solve_problem.new.set) c.in_ok-solved.solved runs.1 limited),
+      subst (λ (xs : List ℕ). IsTableSolved c.args.problem.now c.args.run.now.start.now c.args.run.now.bids (memory c.args.choice.now c.args.prices.now c.args.set.now) (memory xs c.solve_problem.new.prices c.solve_problem.new.set) c.in_ok-solved.solved) (sym objects_are)
+          (table_solved c.args.problem.now c.args.run.now.start.now c.args.run.now.bids (memory c.args.choice.now c.args.prices.now c.args.set.now) (memory c.solve_problem.new.choice c.solve_problem.new.prices c.solve_problem.new.set) c.in_ok-solved.solved runs.1 limited),
     )

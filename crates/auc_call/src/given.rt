@@ -1,0 +1,39 @@
+//! What a caller asks: a problem in its memory, and a run.
+
+use auc_graph::Arc;
+
+/// A problem of a list of arcs. Persons and objects are numbered from 0.
+#[derive(Clone, Copy)]
+pub struct GivenArcs<'a> {
+    /// How many persons there are.
+    pub persons: u32,
+    /// How many objects there are; 0 stands for as many as persons.
+    pub objects: u32,
+    /// The arcs.
+    pub arcs: &'a [Arc],
+}
+
+/// A problem of a table, which has a row for each person and in it an entry for each object.
+#[derive(Clone, Copy)]
+pub struct GivenTable<'a> {
+    /// How many rows there are.
+    pub persons: u32,
+    /// How many entries a row has; 0 stands for as many as persons.
+    pub objects: u32,
+    /// The entries: the cost of person `i` and object `j` stands at `costs[i * stride + j]`.
+    pub costs: &'a [i64],
+    /// How many places a row begins after the one before it.
+    pub stride: usize,
+    /// An entry that equals this number is no arc.
+    pub gap: i64,
+}
+
+/// Where a run starts, and how long it may take.
+#[derive(Clone, Copy)]
+pub struct Run<'a> {
+    /// The prices to start from, indexed by object, from 0 to 2^60 on the scale of costs times persons + 1, as an
+    /// earlier call has left them in `prices`. None at all are a start from nothing.
+    pub start: &'a [i64],
+    /// The most bids of a phase.
+    pub bids: u64,
+}
